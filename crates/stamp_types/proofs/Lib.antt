@@ -1,0 +1,6 @@
+pub mod ActContents
+pub mod ChangesEqual
+pub mod Cuts
+pub mod PieceLengths
+pub mod Same
+pub mod WorldLemmas

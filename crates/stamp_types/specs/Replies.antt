@@ -1,0 +1,32 @@
+-- Refusals ("Status and Error Codes" of the Blob service REST reference, 2012-02-12; RFC 9110, sections 15.4.5 and 15.5).
+use Rattle.std.specs.Prelude.{ℕ, Some, List, [], ◌∷◌, ◌++◌, length, codes, if◌then◌else◌}
+use Rattle.stamp_types.specs.Codes.{code_text, code_status, has_error_body}
+use Rattle.stamp_types.specs.Rules.{rule_label}
+use Rattle.stamp_types.specs.declared.code.Code.{Code}
+use Rattle.stamp_types.specs.declared.header.Header.{Header}
+use Rattle.stamp_types.specs.declared.header.Header.TheVariants.{ContentType}
+use Rattle.stamp_types.specs.declared.reply.Reply.{Reply}
+use Rattle.stamp_types.specs.declared.rule.Rule.{Rule}
+
+-- the XML that names the code, and the rule in its message
+unfoldable pub error_body : Code → Rule → List ℕ
+error_body code rule =
+    codes "<?xml version=\"1.0\" encoding=\"utf-8\"?><Error><Code>" ++ code_text code
+    ++ codes "</Code><Message>Refused by rule " ++ rule_label rule ++ codes ".</Message></Error>"
+
+-- a refusal that has these headers and this body
+abbrev pub refusal : Rule → Code → List Header → List ℕ → Reply
+refusal rule code headers body = record {
+  status = code_status code;
+  code = Some code;
+  rule = Some rule;
+  headers = headers;
+  length = length body;
+  body = body;
+}
+
+-- the reply to a request that a rule refuses
+abbrev pub denied : Rule → Code → Reply
+denied rule code =
+    if has_error_body code then refusal rule code (ContentType (codes "application/xml") ∷ []) (error_body code rule)
+    else refusal rule code [] []

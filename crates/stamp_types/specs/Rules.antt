@@ -1,0 +1,42 @@
+-- Rules that refuse requests, as the header x-stamp-rule names them: a letter and a number of this stamp's own.
+use Rattle.std.specs.Prelude.{ℕ, List, codes}
+use Rattle.stamp_types.specs.declared.rule.Rule.{Rule}
+use Rattle.stamp_types.specs.declared.rule.Rule.TheVariants.{F1, F2, F3, F4, F5, F6, F7, F8, K1, K2, K3, K4, K5, S1, S2, S3, S4, S5, S6, S7, S8, S9, S10, S11, P1, P2, O1, O2, O3, O4, O5, O6, M1, N1, N2}
+
+-- the name of a rule
+abbrev pub rule_label : Rule → List ℕ
+rule_label F1 = codes "F1"
+rule_label F2 = codes "F2"
+rule_label F3 = codes "F3"
+rule_label F4 = codes "F4"
+rule_label F5 = codes "F5"
+rule_label F6 = codes "F6"
+rule_label F7 = codes "F7"
+rule_label F8 = codes "F8"
+rule_label K1 = codes "K1"
+rule_label K2 = codes "K2"
+rule_label K3 = codes "K3"
+rule_label K4 = codes "K4"
+rule_label K5 = codes "K5"
+rule_label S1 = codes "S1"
+rule_label S2 = codes "S2"
+rule_label S3 = codes "S3"
+rule_label S4 = codes "S4"
+rule_label S5 = codes "S5"
+rule_label S6 = codes "S6"
+rule_label S7 = codes "S7"
+rule_label S8 = codes "S8"
+rule_label S9 = codes "S9"
+rule_label S10 = codes "S10"
+rule_label S11 = codes "S11"
+rule_label P1 = codes "P1"
+rule_label P2 = codes "P2"
+rule_label O1 = codes "O1"
+rule_label O2 = codes "O2"
+rule_label O3 = codes "O3"
+rule_label O4 = codes "O4"
+rule_label O5 = codes "O5"
+rule_label O6 = codes "O6"
+rule_label M1 = codes "M1"
+rule_label N1 = codes "N1"
+rule_label N2 = codes "N2"

@@ -1,0 +1,193 @@
+-- What the stamp holds, and how a change alters it (Calder et al., SOSP 2011, sections 2 and 5; Blob service REST reference, 2012-02-12).
+-- Content is a parameter: a list of bytes, or the pieces that stand for one.
+use Rattle.std.specs.Prelude.{ℕ, ◌+◌, Bool, false, List, [], ◌∷◌, Option, Some, None, nat_eq, map, find, unwrap_or}
+use Rattle.std.specs.List.{flat_map}
+use Rattle.std.specs.Option.{option_map, option_and_then, option_to_list}
+use Rattle.std.specs.Cmp.Lexicographic.{pointwise}
+use Rattle.std.specs.FinMap as finite
+use Rattle.std.specs.FinMap.{FinMap}
+use Rattle.stamp_values.specs.Order.{name_cmp, key_cmp}
+use Rattle.stamp_values.specs.Maps.{map_values}
+use Rattle.stamp_values.specs.declared.key.Key.{Key}
+use Rattle.stamp_values.specs.declared.block.Taken.{Taken}
+use Rattle.stamp_values.specs.declared.block.Source.{Source}
+use Rattle.stamp_values.specs.declared.block.Source.TheVariants as source
+use Rattle.stamp_types.specs.declared.piece.Piece.{Piece}
+use Rattle.stamp_types.specs.declared.standing.Standing.{Standing}
+use Rattle.stamp_types.specs.declared.committed.Block.{Block}
+use Rattle.stamp_types.specs.declared.committed.Committed.{Committed}
+use Rattle.stamp_types.specs.declared.committed.UncommittedBlock.{UncommittedBlock}
+use Rattle.stamp_types.specs.declared.act.SetContainerMetadata.{SetContainerMetadata}
+use Rattle.stamp_types.specs.declared.act.SetAcl.{SetAcl}
+use Rattle.stamp_types.specs.declared.act.SetMetadata.{SetMetadata}
+use Rattle.stamp_types.specs.declared.act.Act.{Act}
+use Rattle.stamp_types.specs.declared.act.Act.TheVariants as act
+use Rattle.stamp_types.specs.Changes.{KeyedAct}
+
+-- a blob: its committed part, where it has one, and its uncommitted blocks by id
+pub record Blob (C : Type 0) : Type 0 where
+  pub committed : Option (Committed C)
+  pub uncommitted : FinMap name_cmp C
+
+-- one container: how many changes it has seen, the container where it stands, and its blobs by name
+pub record Part (C : Type 0) : Type 0 where
+  pub count : ℕ
+  pub standing : Option Standing
+  pub blobs : FinMap name_cmp (Blob C)
+
+-- the containers by account and name
+abbrev pub World : Type 0 → Type 0
+World C = FinMap key_cmp (Part C)
+
+-- what a name that was never used holds
+abbrev pub no_blob : {C : Type 0} → Blob C
+no_blob = record { committed = None; uncommitted = finite.empty }
+
+-- what a container that never was holds
+abbrev pub no_part : {C : Type 0} → Part C
+no_part = record { count = 0; standing = None; blobs = finite.empty }
+
+-- what the world holds of a container
+abbrev pub part_at : {C : Type 0} → World C → Key → Part C
+part_at w key = unwrap_or (finite.get w key) no_part
+
+-- what a container holds of a blob
+abbrev pub blob_in : {C : Type 0} → Part C → List ℕ → Blob C
+blob_in p name = unwrap_or (finite.get p.blobs name) no_blob
+
+-- ---- blocks that a Put Block List takes over
+
+-- the block has this id; content of Put Blob has none
+abbrev pub has_block_id : {C : Type 0} → List ℕ → Block C → Bool
+has_block_id id block = unwrap_or (option_map (λ other. pointwise nat_eq id other) block.id) false
+
+-- the content of the first committed block of an id
+abbrev pub committed_content : {C : Type 0} → List ℕ → Committed C → Option C
+committed_content id c = option_map (λ block. block.content) (find (has_block_id id) c.blocks)
+
+-- the content of the block of an id, looked for where the list says
+abbrev pub content_from : {C : Type 0} → Source → List ℕ → Blob C → Option C
+content_from source.Uncommitted id b = finite.get b.uncommitted id
+content_from source.Committed id b = option_and_then (committed_content id) b.committed
+
+-- a block of an id
+abbrev pub block_of : {C : Type 0} → List ℕ → C → Block C
+block_of id content = record { id = Some id; content = content }
+
+-- the blocks found, in the list's order
+abbrev pub taken_blocks : {C : Type 0} → Blob C → List Taken → List (Block C)
+taken_blocks b entries = flat_map (λ e. option_to_list (option_map (block_of e.id) (content_from e.from e.id b))) entries
+
+-- ---- content read by a function
+
+-- the same block with its content read by f
+abbrev pub block_value : {C D : Type 0} → (C → D) → Block C → Block D
+block_value f block = record { id = block.id; content = f block.content }
+
+-- the same committed part with each content read by f
+abbrev pub committed_value : {C D : Type 0} → (C → D) → Committed C → Committed D
+committed_value f c = record { etag = c.etag; made = c.made; props = c.props; metadata = c.metadata; blocks = map (block_value f) c.blocks }
+
+-- the same blob with each content read by f
+abbrev pub blob_value : {C D : Type 0} → (C → D) → Blob C → Blob D
+blob_value f b = record { committed = option_map (committed_value f) b.committed; uncommitted = map_values f b.uncommitted }
+
+-- the same container with each content read by f
+abbrev pub part_value : {C D : Type 0} → (C → D) → Part C → Part D
+part_value f p = record { count = p.count; standing = p.standing; blobs = map_values (blob_value f) p.blobs }
+
+-- the same containers with each content read by f
+abbrev pub world_value : {C D : Type 0} → (C → D) → World C → World D
+world_value f w = map_values (part_value f) w
+
+-- ---- changes, with the content that each holds read by f
+
+-- the blobs with this one under the name
+abbrev pub with_blob : {C : Type 0} → Part C → List ℕ → Blob C → FinMap name_cmp (Blob C)
+with_blob p name b = finite.insert p.blobs name b
+
+-- the id of an uncommitted block, and its content read by f
+abbrev pub uncommitted_entry : {C : Type 0} → (List Piece → C) → UncommittedBlock → List ℕ × C
+uncommitted_entry f u = (u.id, f u.content)
+
+-- content that Put Blob wrote: one block without an id
+abbrev pub whole_block : {C : Type 0} → C → Block C
+whole_block content = record { id = None; content = content }
+
+-- the blobs with this committed part in one of them, where there is one
+abbrev pub with_committed : {C : Type 0} → Part C → List ℕ → Option (Committed C) → FinMap name_cmp (Blob C)
+with_committed p name None = p.blobs
+with_committed p name (Some c) = with_blob p name (record { committed = Some c; uncommitted = (blob_in p name).uncommitted })
+
+-- a container with other metadata: level and policies stay
+abbrev pub standing_with_metadata : ℕ → SetContainerMetadata → Standing → Standing
+standing_with_metadata n a s = record { etag = n; made = a.moment; level = s.level; metadata = a.metadata; policies = s.policies }
+
+-- a container with other public access and policies: the metadata stay
+abbrev pub standing_with_acl : ℕ → SetAcl → Standing → Standing
+standing_with_acl n a s = record { etag = n; made = a.moment; level = a.level; metadata = s.metadata; policies = a.policies }
+
+-- a blob with other metadata: what is kept with it and its blocks stay
+abbrev pub committed_with_metadata : {C : Type 0} → ℕ → SetMetadata → Committed C → Committed C
+committed_with_metadata n a c = record { etag = n; made = a.moment; props = c.props; metadata = a.metadata; blocks = c.blocks }
+
+-- the container's blobs as the act leaves them, where it has seen n changes then
+abbrev pub blobs_after : {C : Type 0} → (List Piece → C) → ℕ → Act → Part C → FinMap name_cmp (Blob C)
+blobs_after f n (act.CreateContainer a) p = p.blobs
+blobs_after f n (act.SetContainerMetadata a) p = p.blobs
+blobs_after f n (act.SetAcl a) p = p.blobs
+blobs_after f n act.DeleteContainer p = finite.empty
+blobs_after f n (act.PutBlob a) p =
+    with_blob p a.blob (record {
+      committed = Some (record { etag = n; made = a.moment; props = a.props; metadata = a.metadata; blocks = whole_block (f a.content) ∷ [] });
+      uncommitted = finite.empty;
+    })
+blobs_after f n (act.SetMetadata a) p = with_committed p a.blob (option_map (committed_with_metadata n a) (blob_in p a.blob).committed)
+blobs_after f n (act.DeleteBlob a) p = finite.remove p.blobs a.blob
+blobs_after f n (act.PutBlock a) p =
+    with_blob p a.blob (record {
+      committed = (blob_in p a.blob).committed;
+      uncommitted = finite.insert (blob_in p a.blob).uncommitted a.id (f a.content);
+    })
+blobs_after f n (act.PutBlockList a) p =
+    with_blob p a.blob (record {
+      committed = Some (record { etag = n; made = a.moment; props = a.props; metadata = a.metadata; blocks = taken_blocks (blob_in p a.blob) a.entries });
+      uncommitted = finite.empty;
+    })
+blobs_after f n (act.ContainerRow a) p = p.blobs
+blobs_after f n (act.BlobRow a) p =
+    with_blob p a.blob (record {
+      committed = option_map (committed_value f) a.committed;
+      uncommitted = finite.from_entries (map (uncommitted_entry f) a.uncommitted);
+    })
+
+-- the container itself as the act leaves it, where it has seen n changes then: a blob's change never touches it
+abbrev pub standing_after : ℕ → Act → Option Standing → Option Standing
+standing_after n (act.CreateContainer a) o = Some (record { etag = n; made = a.moment; level = a.level; metadata = a.metadata; policies = [] })
+standing_after n (act.SetContainerMetadata a) o = option_map (standing_with_metadata n a) o
+standing_after n (act.SetAcl a) o = option_map (standing_with_acl n a) o
+standing_after n act.DeleteContainer o = None
+standing_after n (act.ContainerRow a) o = a.standing
+standing_after n other o = o
+
+-- how many changes the container has seen then: each raises the count by one, and rows of a checkpoint are none
+abbrev pub count_after : Act → ℕ → ℕ
+count_after (act.ContainerRow a) n = a.count
+count_after (act.BlobRow a) n = n
+count_after other n = n + 1
+
+-- the container as the act leaves it
+abbrev pub changed : {C : Type 0} → (List Piece → C) → Act → Part C → Part C
+changed f a p = record {
+  count = count_after a p.count;
+  standing = standing_after (p.count + 1) a p.standing;
+  blobs = blobs_after f (p.count + 1) a p;
+}
+
+-- the world as a change of one container leaves it
+abbrev pub changed_in : {C : Type 0} → (List Piece → C) → World C → KeyedAct → World C
+changed_in f w c = finite.insert w c.key (changed f c.act (part_at w c.key))
+
+-- the pieces themselves, where content is pieces
+abbrev pub same_pieces : List Piece → List Piece
+same_pieces ps = ps

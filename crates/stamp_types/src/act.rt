@@ -1,0 +1,158 @@
+//! What changes of a container do.
+ghost use Rattle.std.specs.Prelude.{◌≡◌};
+ghost use Rattle.std.specs.Option.{option_copied};
+
+use crate::committed::{Committed, UncommittedBlock};
+use crate::pieces::Pieces;
+use crate::props::Props;
+use crate::standing::Standing;
+use stamp_values::{BlockId, Items, Level, Metadata, Moment, Policies, Taken, Text};
+use std::alloc::AllocError;
+
+#[derive(Clone, Debug, PartialEq, Eq, Drop)]
+pub struct CreateContainer {
+    pub moment: Moment,
+    pub level: Level,
+    pub metadata: Metadata,
+}
+
+#[derive(Clone, Debug, PartialEq, Eq, Drop)]
+pub struct SetContainerMetadata {
+    pub moment: Moment,
+    pub metadata: Metadata,
+}
+
+#[derive(Clone, Debug, PartialEq, Eq, Drop)]
+pub struct SetAcl {
+    pub moment: Moment,
+    pub level: Level,
+    pub policies: Policies,
+}
+
+#[derive(Clone, Debug, PartialEq, Eq, Drop)]
+pub struct PutBlob {
+    pub blob: Text,
+    pub moment: Moment,
+    pub props: Props,
+    pub metadata: Metadata,
+    pub content: Pieces,
+}
+
+#[derive(Clone, Debug, PartialEq, Eq, Drop)]
+pub struct SetMetadata {
+    pub blob: Text,
+    pub moment: Moment,
+    pub metadata: Metadata,
+}
+
+#[derive(Clone, Debug, PartialEq, Eq, Drop)]
+pub struct DeleteBlob {
+    pub blob: Text,
+}
+
+#[derive(Clone, Debug, PartialEq, Eq, Drop)]
+pub struct PutBlock {
+    pub blob: Text,
+    pub id: BlockId,
+    pub content: Pieces,
+}
+
+/// The blocks of the new content are those of `entries`, in their order.
+#[derive(Clone, Debug, PartialEq, Eq, Drop)]
+pub struct PutBlockList {
+    pub blob: Text,
+    pub moment: Moment,
+    pub props: Props,
+    pub metadata: Metadata,
+    pub entries: Items<Taken>,
+}
+
+/// What stands of a container beside its blobs. `count` is that of its changes so far, also where the
+/// container is gone.
+#[derive(Clone, Debug, PartialEq, Eq, Drop)]
+pub struct ContainerRow {
+    pub count: u64,
+    pub standing: Option<Standing>,
+}
+
+/// What stands in a blob, with its uncommitted blocks by their ids.
+#[derive(Debug, PartialEq, Eq, Drop)]
+pub struct BlobRow {
+    pub blob: Text,
+    pub committed: Option<Committed<Pieces>>,
+    pub uncommitted: Items<UncommittedBlock>,
+}
+
+/// What a change of a container does: what a request did, or one row of a checkpoint.
+#[derive(Debug, PartialEq, Eq, Drop)]
+pub enum Act {
+    CreateContainer(CreateContainer),
+    SetContainerMetadata(SetContainerMetadata),
+    SetAcl(SetAcl),
+    DeleteContainer,
+    PutBlob(PutBlob),
+    SetMetadata(SetMetadata),
+    DeleteBlob(DeleteBlob),
+    PutBlock(PutBlock),
+    PutBlockList(PutBlockList),
+    ContainerRow(ContainerRow),
+    BlobRow(BlobRow),
+}
+
+impl Clone for BlobRow {
+    ghost is_clone = { λ x y. y ≡ x };
+
+    fn clone(&self) -> Result<Self, AllocError> {
+        Ok(Self {
+            blob: self.blob.clone()?,
+            committed: self.committed.clone()?,
+            uncommitted: self.uncommitted.clone()?,
+        })
+    }
+}
+
+impl Clone for Act {
+    ghost is_clone = { λ x y. y ≡ x };
+
+    fn clone(&self) -> Result<Self, AllocError> {
+        match self {
+            Act::CreateContainer(create) => Ok(Act::CreateContainer(create.clone()?)),
+            Act::SetContainerMetadata(set) => Ok(Act::SetContainerMetadata(set.clone()?)),
+            Act::SetAcl(set) => Ok(Act::SetAcl(set.clone()?)),
+            Act::DeleteContainer => Ok(Act::DeleteContainer),
+            Act::PutBlob(put) => Ok(Act::PutBlob(put.clone()?)),
+            Act::SetMetadata(set) => Ok(Act::SetMetadata(set.clone()?)),
+            Act::DeleteBlob(delete) => Ok(Act::DeleteBlob(delete.clone()?)),
+            Act::PutBlock(put) => Ok(Act::PutBlock(put.clone()?)),
+            Act::PutBlockList(put) => Ok(Act::PutBlockList(put.clone()?)),
+            Act::ContainerRow(row) => Ok(Act::ContainerRow(row.clone()?)),
+            Act::BlobRow(row) => Ok(Act::BlobRow(row.clone()?)),
+        }
+    }
+}
+
+impl Act {
+    ghost use Rattle.stamp_types.specs.Changes.{content_of, act_with};
+
+    /// The content that comes with Put Blob and Put Block.
+    pub fn content(&self) -> Option<&Pieces>
+        ensures { option_copied result ≡ content_of self.now }
+    {
+        match self {
+            Act::PutBlob(put) => Some(&put.content),
+            Act::PutBlock(put) => Some(&put.content),
+            _ => None,
+        }
+    }
+
+    /// The same with other content, where the act comes with any.
+    pub fn with_content(self, content: Pieces) -> Self
+        ensures { result ≡ act_with self content }
+    {
+        match self {
+            Act::PutBlob(put) => Act::PutBlob(PutBlob { content, ..put }),
+            Act::PutBlock(put) => Act::PutBlock(PutBlock { content, ..put }),
+            other => other,
+        }
+    }
+}

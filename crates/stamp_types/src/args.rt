@@ -1,0 +1,78 @@
+//! What comes with a request.
+ghost use Rattle.std.specs.Prelude.{◌≡◌, [], None};
+
+use stamp_values::{BlockId, BlockKinds, ByteRange, Condition, Level, Metadata, Text, Visible};
+use std::alloc::Global;
+
+/// The headers that a blob is to keep. One that wasn't sent is empty, the content type too: what
+/// stands for it is chosen where the blob is kept.
+#[derive(Clone, Debug, PartialEq, Eq, Drop)]
+pub struct Kept {
+    pub content_type: Visible,
+    pub encoding: Visible,
+    pub language: Visible,
+    pub cache_control: Visible,
+    /// The value of x-ms-blob-content-md5 alone.
+    pub md5: Option<[u8; 16]>,
+}
+
+/// Which names are to be listed ("List Containers", "List Blobs").
+#[derive(Clone, Debug, PartialEq, Eq, Drop)]
+pub struct Page {
+    /// What each name begins with.
+    pub prefix: Option<Text>,
+    /// Behind what a name stands for all that begin alike.
+    pub delimiter: Option<Text>,
+    /// Where the page before ended.
+    pub marker: Option<Text>,
+    /// The most names that are answered (`maxresults`).
+    pub max: u32,
+    /// Whether the metadata are asked for, too (`include=metadata`).
+    pub metadata: bool,
+}
+
+/// What comes with a request beside its path and its body. What the operation has no use for isn't there.
+#[derive(Clone, Debug, PartialEq, Eq, Drop)]
+pub struct Args {
+    pub if_match: Option<Condition>,
+    pub if_none_match: Option<Condition>,
+    /// The MD5 that the body is to have (Content-MD5).
+    pub content_md5: Option<[u8; 16]>,
+    pub range: Option<ByteRange>,
+    pub kept: Option<Kept>,
+    pub metadata: Metadata,
+    pub level: Option<Level>,
+    pub page: Option<Page>,
+    /// The id of the block that is put.
+    pub block: Option<BlockId>,
+    /// The kinds of blocks that are listed.
+    pub kinds: Option<BlockKinds>,
+}
+
+impl Args {
+    /// Nothing comes with the request.
+    pub fn none(alloc: Global) -> Self
+        ensures conditions { (result.if_match ≡ None) × (result.if_none_match ≡ None) }
+        ensures content_md5 { result.content_md5 ≡ None }
+        ensures range { result.range ≡ None }
+        ensures kept { result.kept ≡ None }
+        ensures metadata { result.metadata ≡ [] }
+        ensures level { result.level ≡ None }
+        ensures page { result.page ≡ None }
+        ensures block { result.block ≡ None }
+        ensures kinds { result.kinds ≡ None }
+    {
+        Self {
+            if_match: None,
+            if_none_match: None,
+            content_md5: None,
+            range: None,
+            kept: None,
+            metadata: Metadata::empty(alloc),
+            level: None,
+            page: None,
+            block: None,
+            kinds: None,
+        }
+    }
+}

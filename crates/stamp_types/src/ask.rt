@@ -1,0 +1,16 @@
+//! What a request asks.
+
+use crate::args::Args;
+use stamp_values::{Credential, Key, Op, Signing, Text};
+
+/// A request without its body. What it signs and the credential need not go with the rest: that is
+/// judged where the request is authorized.
+#[derive(Clone, Debug, PartialEq, Eq, Drop)]
+pub struct Ask {
+    pub op: Op,
+    pub key: Key,
+    pub blob: Option<Text>,
+    pub args: Args,
+    pub signing: Signing,
+    pub credential: Credential,
+}

@@ -1,0 +1,41 @@
+//! The cutting of bytes into pieces.
+ghost use Rattle.std.specs.Prelude.{◌≡◌, ℕ, ◌<◌, ◌≤◌, List, IfOk, length, take, drop};
+ghost use Rattle.stamp_types.specs.declared.piece.Piece.TheVariants as piece;
+ghost use Rattle.stamp_types.specs.Pieces.{held};
+ghost use Rattle.stamp_types.specs.Pieces as pieces;
+
+use crate::piece::Piece;
+use stamp_values::Share;
+use std::alloc::{AllocError, Global};
+
+const SLICE: usize = 4_194_304;
+
+// The piece that begins at `at`: 4,194,304 bytes, or as many as there are.
+fn piece_at(share: &Share, at: usize) -> Result<Piece, AllocError>
+    requires { at < length share.now }
+    ensures { IfOk result (λ p. p ≡ piece.Bytes (take 4194304 (drop at share.now))) }
+{
+    let count = (share.len() - at).min(SLICE);
+    Ok(Piece::Bytes(share.slice(at, at + count)?))
+}
+
+/// Cuts bytes into slices of 4,194,304 bytes and the rest. None of the bytes is copied.
+///
+/// `AllocError` where there is no memory for the list, or the allocation can have no further owner.
+pub(crate) fn cut(alloc: Global, share: &Share) -> Result<Vec<Piece>, AllocError>
+    requires { length share.now ≤ 67108864 }
+    ensures { IfOk result (λ ps. ps.items ≡ pieces.cut share.now) }
+{
+    let mut pieces = Vec::new(alloc);
+    let mut at = 0;
+    while at < share.len() {
+        pieces.push(piece_at(share, at)?)?;
+        at += SLICE;
+    }
+    Ok(pieces)
+}
+
+/// The pieces that bytes are cut into hold these bytes, none more and none less, in their order.
+pub fn cut_pieces_hold_the_bytes()
+    ensures { (bytes : List ℕ) → held (pieces.cut bytes) ≡ bytes }
+{}

@@ -1,0 +1,147 @@
+//! The headers that are kept with a blob.
+ghost use Rattle.std.specs.Prelude.{◌≡◌, ◌↔◌, IsSome, IfSome, IfOk, IsTrue};
+ghost use Rattle.stamp_types.specs.PropsFields.{is_kept_text, is_kept, is_props, type_or_default, md5_or, kept_fields};
+
+use crate::args::Kept;
+use stamp_values::{KEPT_LIMIT, Visible};
+use std::alloc::{AllocError, Global};
+use std::marker::Model;
+
+/// The headers that are kept with a blob. The content type is never empty, and each text has at most
+/// 16,384 bytes.
+#[derive(Debug, PartialEq, Eq, Drop)]
+pub struct Props {
+    content_type: Visible,
+    encoding: Visible,
+    language: Visible,
+    cache_control: Visible,
+    md5: Option<[u8; 16]>,
+}
+
+impl Model for Props {
+    ghost use Rattle.std.specs.Prelude.{IsTrue};
+    ghost use Rattle.stamp_types.specs.PropsFields.{PropsFields, is_props};
+
+    ghost Value = { PropsFields };
+
+    ghost view = { λ p. record { content_type = p.content_type; encoding = p.encoding; language = p.language; cache_control = p.cache_control; md5 = p.md5 } };
+
+    ghost invariant = { λ p. IsTrue (is_props (record { content_type = p.content_type; encoding = p.encoding; language = p.language; cache_control = p.cache_control; md5 = p.md5 })) };
+
+    ghost inverse = { λ v. record { content_type = v.content_type; encoding = v.encoding; language = v.language; cache_control = v.cache_control; md5 = v.md5 } };
+}
+
+impl Clone for Props {
+    ghost is_clone = { λ x y. y ≡ x };
+
+    fn clone(&self) -> Result<Self, AllocError> {
+        Ok(Self {
+            content_type: self.content_type.clone()?,
+            encoding: self.encoding.clone()?,
+            language: self.language.clone()?,
+            cache_control: self.cache_control.clone()?,
+            md5: self.md5,
+        })
+    }
+}
+
+fn is_kept_text(text: &Visible) -> bool
+    ensures { result ≡ is_kept_text text.now }
+{
+    text.as_str().len() <= KEPT_LIMIT
+}
+
+fn type_or_default(alloc: Global, content_type: Visible) -> Result<Visible, AllocError>
+    ensures { IfOk result (λ t. t ≡ type_or_default content_type) }
+{
+    if content_type.as_str().is_empty() {
+        Visible::octet_stream(alloc)
+    } else {
+        Ok(content_type)
+    }
+}
+
+impl Props {
+    /// What a request asks to be kept. An empty content type becomes `application/octet-stream`, and
+    /// where no MD5 is asked for, `otherwise` is kept: that of the body on Put Blob, and none on Put
+    /// Block List.
+    ///
+    /// `AllocError` where there is no memory for the default type.
+    pub fn new(alloc: Global, kept: Kept, otherwise: Option<[u8; 16]>) -> Result<Self, AllocError>
+        requires { IsTrue (is_kept kept) }
+        ensures { IfOk result (λ p. p ≡ kept_fields kept otherwise) }
+    {
+        Ok(Self {
+            content_type: type_or_default(alloc, kept.content_type)?,
+            encoding: kept.encoding,
+            language: kept.language,
+            cache_control: kept.cache_control,
+            md5: kept.md5.or(otherwise),
+        })
+    }
+
+    /// The headers as a record of the log has them, or `None` where the content type is empty, or a text
+    /// has more than 16,384 bytes.
+    pub fn from_parts(
+        content_type: Visible,
+        encoding: Visible,
+        language: Visible,
+        cache_control: Visible,
+        md5: Option<[u8; 16]>,
+    ) -> Option<Self>
+        ensures valid { IsSome result ↔ IsTrue (is_props (record { content_type = content_type; encoding = encoding; language = language; cache_control = cache_control; md5 = md5 })) }
+        ensures value { IfSome result (λ p. p ≡ record { content_type = content_type; encoding = encoding; language = language; cache_control = cache_control; md5 = md5 }) }
+    {
+        if !content_type.as_str().is_empty()
+            && is_kept_text(&content_type)
+            && is_kept_text(&encoding)
+            && is_kept_text(&language)
+            && is_kept_text(&cache_control)
+        {
+            Some(Self {
+                content_type,
+                encoding,
+                language,
+                cache_control,
+                md5,
+            })
+        } else {
+            None
+        }
+    }
+
+    /// Never empty (Content-Type).
+    pub fn content_type(&self) -> &Visible
+        ensures { result.now ≡ self.now.content_type }
+    {
+        &self.content_type
+    }
+
+    /// Content-Encoding.
+    pub fn encoding(&self) -> &Visible
+        ensures { result.now ≡ self.now.encoding }
+    {
+        &self.encoding
+    }
+
+    /// Content-Language.
+    pub fn language(&self) -> &Visible
+        ensures { result.now ≡ self.now.language }
+    {
+        &self.language
+    }
+
+    /// Cache-Control.
+    pub fn cache_control(&self) -> &Visible
+        ensures { result.now ≡ self.now.cache_control }
+    {
+        &self.cache_control
+    }
+
+    /// The 16 bytes of Content-MD5.
+    pub fn md5(&self) -> Option<[u8; 16]>
+        ensures { result ≡ self.now.md5 }
+    {
+        self.md5
+    }
+}

@@ -1,0 +1,75 @@
+//! Replies to requests.
+ghost use Rattle.std.specs.Prelude.{◌≡◌, ◌↔◌, IfOk, IsTrue};
+
+use crate::code::Code;
+use crate::error_body::write_error;
+use crate::header::Header;
+use crate::rule::Rule;
+use crate::status::Status;
+use stamp_values::{Items, Share, Shares, Visible};
+use std::alloc::{AllocError, Global};
+
+/// A reply, but for what the clock and the connection add to it.
+#[derive(Clone, Debug, PartialEq, Eq, Drop)]
+pub struct Reply {
+    pub status: Status,
+    /// The error code, where the request was refused.
+    pub code: Option<Code>,
+    /// The rule that refused the request. A reply with one is a refusal, and no other is.
+    pub rule: Option<Rule>,
+    /// In the order in which they are written.
+    pub headers: Items<Header>,
+    /// The bytes that Content-Length says. The body may have others: none where HEAD leaves it out, or
+    /// where it is fetched later.
+    pub length: u64,
+    pub body: Shares,
+}
+
+fn same_headers(headers: &[Header], others: &[Header]) -> bool
+    ensures { IsTrue result ↔ (headers.now ≡ others.now) }
+{
+    headers == others
+}
+
+impl Reply {
+    ghost use Rattle.stamp_types.specs.Replies.{denied};
+
+    /// The reply to a request that a rule refuses: the error in XML (RFC 7303), and of 304 nothing.
+    ///
+    /// `AllocError` where there is no memory for the error.
+    pub fn denied(alloc: Global, rule: Rule, code: Code) -> Result<Self, AllocError>
+        ensures { IfOk result (λ reply. reply ≡ denied rule code) }
+    {
+        let mut headers = Vec::new(alloc);
+        let mut body = Shares::empty(alloc);
+        if code.has_error_body() {
+            headers.push(Header::ContentType(Visible::xml(alloc)?))?;
+            body.push(Share::new(alloc, write_error(alloc, code, rule)?)?)?;
+        }
+        Ok(Self {
+            status: code.status(),
+            code: Some(code),
+            rule: Some(rule),
+            headers: Items::new(headers),
+            length: body.len() as u64,
+            body,
+        })
+    }
+
+    /// Whether the replies are equal. The bodies are compared last, and by their bytes: how they are cut
+    /// into shares makes no difference.
+    pub fn same(&self, other: &Self) -> bool
+        ensures { IsTrue result ↔ (self.now ≡ other.now) }
+    {
+        if self.status != other.status || self.code != other.code || self.rule != other.rule {
+            return false;
+        }
+        if self.length != other.length {
+            return false;
+        }
+        if !same_headers(self.headers.as_slice(), other.headers.as_slice()) {
+            return false;
+        }
+        self.body.same(&other.body)
+    }
+}

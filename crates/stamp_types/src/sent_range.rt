@@ -1,0 +1,10 @@
+//! Ranges of bytes that are sent.
+
+/// The bytes that a reply of status 206 sends: the first, the last, and how many the blob has. 4, 5
+/// and 6 is `bytes 4-5/6` (RFC 9110, section 14.4).
+#[derive(Clone, Copy, Debug, PartialEq, Eq)]
+pub struct SentRange {
+    pub first: u64,
+    pub last: u64,
+    pub total: u64,
+}

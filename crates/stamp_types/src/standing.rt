@@ -1,0 +1,14 @@
+//! What stands of a container beside its blobs.
+
+use stamp_values::{Level, Metadata, Moment, Policies};
+
+/// What a container has while it stands. `etag` is the count of its changes at which it was made, or its
+/// metadata or its access was last set, and `made` the moment of that (Last-Modified).
+#[derive(Clone, Debug, PartialEq, Eq, Drop)]
+pub struct Standing {
+    pub etag: u64,
+    pub made: Moment,
+    pub level: Level,
+    pub metadata: Metadata,
+    pub policies: Policies,
+}

@@ -1,0 +1,6 @@
+pub mod Entries
+pub mod EtagLemmas
+pub mod Joined
+pub mod MapsLemmas
+pub mod Parts
+pub mod Ranges

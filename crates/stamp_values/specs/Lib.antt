@@ -1,0 +1,13 @@
+pub mod Entries
+pub mod Etags
+pub mod Letters
+pub mod Levels
+pub mod Limits
+pub mod Maps
+pub mod MetadataLists
+pub mod Names
+pub mod Operations
+pub mod Order
+pub mod Policies
+pub mod Shares
+pub mod Texts

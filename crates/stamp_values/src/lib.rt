@@ -1,0 +1,70 @@
+//! The small values of the stamp, and bytes that are shared.
+#![tactic(auto)]
+
+mod block;
+mod block_id;
+mod body;
+mod bytes;
+mod clean;
+mod condition;
+mod etag;
+mod gathering;
+mod items;
+mod key;
+mod letters;
+mod level;
+mod limits;
+mod meta;
+mod metadata;
+mod moment;
+#[cfg(test)]
+mod name_tests;
+mod names;
+mod op;
+#[cfg(test)]
+mod op_tests;
+mod place;
+mod policies;
+mod policy;
+mod share;
+#[cfg(test)]
+mod share_tests;
+mod shares;
+mod signing;
+mod text;
+#[cfg(test)]
+mod value_tests;
+mod verb;
+mod visible;
+
+pub use block::{BlockKinds, Lookup, Source, Taken, Wanted};
+pub use block_id::BlockId;
+pub use body::Body;
+pub use bytes::Bytes;
+pub use clean::{char_count, is_clean, is_visible};
+pub use condition::{ByteRange, Condition};
+pub use etag::{read_etag, write_etag};
+pub use gathering::Gathering;
+pub use items::Items;
+pub use key::Key;
+pub use letters::Letters;
+pub use level::Level;
+pub use limits::{
+    ARGS_LIMIT, BLOB_LIMIT, ENTRIES_LIMIT, KEPT_LIMIT, METADATA_LIMIT, OTHER_BODY_LIMIT,
+    PAGE_LIMIT, PIECE_LIMIT, PIECES_LIMIT, POLICIES_LIMIT, PUT_BLOB_LIMIT, PUT_BLOCK_LIMIT,
+    PUT_BLOCK_LIST_LIMIT, SET_ACL_LIMIT, UNCOMMITTED_LIMIT,
+};
+pub use meta::Meta;
+pub use metadata::Metadata;
+pub use moment::Moment;
+pub use names::{is_account, is_blob, is_container, is_metadata_name, is_policy_id};
+pub use op::Op;
+pub use place::Place;
+pub use policies::Policies;
+pub use policy::Policy;
+pub use share::Share;
+pub use shares::Shares;
+pub use signing::{Credential, Field, Signing};
+pub use text::Text;
+pub use verb::Verb;
+pub use visible::Visible;
