@@ -7,8 +7,6 @@ mod args_len;
 mod ask;
 mod change;
 mod change_fits;
-#[cfg(test)]
-mod change_tests;
 mod code;
 mod committed;
 mod cut;
@@ -21,17 +19,9 @@ mod piece;
 mod pieces;
 mod props;
 mod reply;
-#[cfg(test)]
-mod reply_tests;
 mod request;
-#[cfg(test)]
-mod request_tests;
-#[cfg(test)]
-mod resident;
 mod rule;
 mod same_ask;
-#[cfg(test)]
-mod sample_asks;
 mod sent_range;
 mod standing;
 mod status;

@@ -1,15 +1,9 @@
 //! What no clause says of replies: printed bytes, numbers and names from outside, and that each call
 //! can succeed.
 
-use crate::code::Code;
-use crate::error_body::write_error;
-use crate::header::Header;
-use crate::reply::Reply;
-use crate::rule::Rule;
-use crate::sent_range::SentRange;
-use crate::status::Status;
-use stamp_values::{
-    Items, Letters, Level, Meta, Moment, Share, Shares, Text, Visible, read_etag, write_etag,
+use stamp_types::{
+    Code, Header, Items, Letters, Level, Meta, Moment, Reply, Rule, SentRange, Share, Shares,
+    Status, Text, Visible, read_etag, write_error, write_etag,
 };
 use std::alloc::{AllocError, Global};
 use std::test::Fail;

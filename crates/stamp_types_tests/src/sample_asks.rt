@@ -1,10 +1,8 @@
 //! Requests of each operation for tests.
-
-use crate::args::{Args, Kept, Page};
-use crate::ask::Ask;
-use stamp_values::{
-    BlockId, BlockKinds, ByteRange, Bytes, Condition, Credential, Items, Key, Level, Meta,
-    Metadata, Op, Signing, Text, Verb, Visible,
+use crate::sample_parts::{kept, page};
+use stamp_types::{
+    Args, Ask, BlockId, BlockKinds, ByteRange, Bytes, Condition, Credential, Items, Key, Level,
+    Meta, Metadata, Op, Signing, Text, Verb, Visible,
 };
 use std::alloc::Global;
 use std::test::Fail;
@@ -151,26 +149,6 @@ pub(crate) fn metadata(alloc: Global, name: &str, count: usize) -> Result<Option
         value: long_visible(alloc, count)?,
     })?;
     Ok(Metadata::new(Items::new(metas)))
-}
-
-pub(crate) fn kept(alloc: Global) -> Kept {
-    Kept {
-        content_type: Visible::empty(alloc),
-        encoding: Visible::empty(alloc),
-        language: Visible::empty(alloc),
-        cache_control: Visible::empty(alloc),
-        md5: None,
-    }
-}
-
-pub(crate) fn page() -> Page {
-    Page {
-        prefix: None,
-        delimiter: None,
-        marker: None,
-        max: 5_000,
-        metadata: false,
-    }
 }
 
 pub(crate) fn block_id(alloc: Global, count: usize) -> Result<Option<BlockId>, Fail> {

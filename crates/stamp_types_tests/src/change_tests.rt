@@ -3,20 +3,11 @@ ghost use Rattle.std.specs.Prelude.{◌≡◌, [], ◌∷◌, IfOk, map};
 ghost use Rattle.stamp_types.specs.Pieces.{piece_len};
 ghost use Rattle.stamp_types.specs.Changes.{content_of};
 
-use crate::act::{
-    Act, BlobRow, ContainerRow, CreateContainer, DeleteBlob, PutBlob, PutBlock, PutBlockList,
-    SetAcl, SetContainerMetadata, SetMetadata,
-};
-use crate::args::Kept;
-use crate::change::Change;
-use crate::committed::{Block, Committed, UncommittedBlock};
-use crate::piece::Piece;
-use crate::pieces::Pieces;
-use crate::props::Props;
-use crate::standing::Standing;
-use stamp_values::{
-    BlockId, Bytes, Items, Key, Level, Metadata, Moment, Place, Policies, Share, Source, Taken,
-    Text, Visible,
+use stamp_types::{
+    Act, BlobRow, Block, BlockId, Bytes, Change, Committed, ContainerRow, CreateContainer,
+    DeleteBlob, Items, Kept, Key, Level, Metadata, Moment, Piece, Pieces, Place, Policies, Props,
+    PutBlob, PutBlock, PutBlockList, SetAcl, SetContainerMetadata, SetMetadata, Share, Source,
+    Standing, Taken, Text, UncommittedBlock, Visible,
 };
 use std::alloc::Global;
 use std::process::Abort;

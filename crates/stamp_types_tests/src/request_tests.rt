@@ -1,16 +1,15 @@
 //! What no clause says of requests: that the definitions mean the limits of the reference, that calls
 //! can succeed, and memory.
 
-use crate::args::Kept;
-use crate::ask::Ask;
-use crate::past::Past;
-use crate::request::Request;
 use crate::resident::resident;
 use crate::sample_asks::{
     Operation, PARTS, Part, ask_of, block_id, list_blobs, long, long_visible, metadata, operations,
-    page, put, put_blob, take_out, text,
+    put, put_blob, take_out, text,
 };
-use stamp_values::{Body, ByteRange, Condition, Metadata, Moment, Op, Share};
+use crate::sample_parts::page;
+use stamp_types::{
+    Ask, Body, ByteRange, Condition, Kept, Metadata, Moment, Op, Past, Request, Share,
+};
 use std::alloc::Global;
 use std::test::Fail;
 
