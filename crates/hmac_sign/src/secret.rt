@@ -1,0 +1,34 @@
+//! Keys as they are given to a program or kept in a file.
+ghost use Rattle.std.specs.Prelude.{◌≡◌, ◌≢◌, ℕ, List, Err, IfOk};
+ghost use Rattle.base64.specs.GeneralPurpose.{IsBytes};
+ghost use Rattle.hmac_sign.specs.Signature.{base64_of};
+
+use base64::DecodeAllocError;
+use base64::engine::general_purpose::STANDARD;
+use std::alloc::Global;
+use thiserror::Error;
+
+/// Why a text gave no key.
+#[derive(Clone, Copy, Debug, PartialEq, Eq, Error)]
+pub enum SecretFault {
+    /// The text is the Base64 of no bytes.
+    #[error("the key is not Base64")]
+    NotBase64,
+    /// There was no memory for the key.
+    #[error("out of memory")]
+    NoMemory,
+}
+
+/// The key that the text gives in Base64, padded, with no other byte in it and no bit left over. An empty text is the
+/// empty key.
+///
+/// RFC 4648, section 4; that nothing else is read is its sections 3.1 to 3.5.
+pub fn read_key(alloc: Global, text: &[u8]) -> Result<Vec<u8>, SecretFault>
+    ensures read { IfOk result (λ key. text.now ≡ base64_of key.items) }
+    ensures refused { (result ≡ Err SecretFault.NotBase64) → (key : List ℕ) → IsBytes key → text.now ≢ base64_of key }
+{
+    STANDARD.decode(alloc, text).map_err(|fault| match fault {
+        DecodeAllocError::DecodeError(_) => SecretFault::NotBase64,
+        DecodeAllocError::OutOfMemory => SecretFault::NoMemory,
+    })
+}

@@ -1,0 +1,4 @@
+pub mod Civil
+pub mod Http
+pub mod Iso
+pub mod IsoReader

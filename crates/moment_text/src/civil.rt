@@ -1,0 +1,49 @@
+//! Days and times of day in UTC, and the moments that they are.
+ghost use Rattle.std.specs.Prelude.{◌↔◌, IsSome, IfSome, ◌≡◌, ◌<◌, Some, None, if◌then◌else◌};
+ghost use Rattle.httpdate.specs.Calendar.{IsCivilDate, days_from_civil};
+ghost use Rattle.moment_text.specs.Iso.{is_in_range, ticks_of};
+
+use jiff::civil::Date;
+use stamp_values::Moment;
+
+/// The numbers of a day and of a time of day, whether or not there are such.
+///
+/// The fraction of the second counts steps of 100 ns.
+#[derive(Clone, Copy)]
+pub struct CivilTime {
+    pub year: u32,
+    pub month: u32,
+    pub day: u32,
+    pub hour: u32,
+    pub minute: u32,
+    pub second: u32,
+    pub fraction: u32,
+}
+
+// How many days lie between the start of 1970 and a day, if the calendar has it and its year has four digits.
+fn day_number(year: u32, month: u32, day: u32) -> Option<u64>
+    ensures valid { IsSome result ↔ IsCivilDate year month day }
+    ensures value { IfSome result (λ n. n ≡ days_from_civil year month day) }
+    ensures bound { IfSome result (λ n. n < 2_932_897) }
+{
+    if year < 1970 || year > 9999 || month > 12 || day > 31 {
+        return None;
+    }
+    let Ok(date) = Date::new(year as i16, month as i8, day as i8) else {
+        return None;
+    };
+    Some(date.to_plain().to_unix_epoch_day() as u64)
+}
+
+/// The moment of a day and a time in UTC, or `None` where there is no such day or time, or its year is outside 1970 to 9999.
+pub fn moment_of(time: CivilTime) -> Option<Moment>
+    requires { time.fraction < 10_000_000 }
+    ensures { result ≡ (if is_in_range time then Some (ticks_of time) else None) }
+{
+    let days = day_number(time.year, time.month, time.day)?;
+    if time.hour >= 24 || time.minute >= 60 || time.second >= 60 {
+        return None;
+    }
+    let seconds = days * 86_400 + (time.hour * 3_600 + time.minute * 60 + time.second) as u64;
+    Moment::new((seconds * 10_000_000 + time.fraction as u64) as i64)
+}

@@ -1,0 +1,14 @@
+//! Texts of times as moments, and moments as texts.
+#![tactic(auto)]
+
+mod civil;
+mod digits;
+mod fault;
+mod http_date;
+mod iso;
+#[cfg(test)]
+mod text_tests;
+
+pub use fault::TimeFault;
+pub use http_date::{read_http, write_http};
+pub use iso::read_iso;

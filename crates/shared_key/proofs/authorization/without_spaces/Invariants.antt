@@ -1,0 +1,10 @@
+use Rattle.std.proofs.Common.{◌≡◌, length}
+use Rattle.shared_key.specs.Authorizations.{unspaced}
+use Rattle.shared_key.proofs.authorization.without_spaces.Given as goal
+
+-- what is left gives the answer
+abbrev pub invariant-loop-left : goal.invariant-loop-left
+invariant-loop-left l = unspaced l.left ≡ unspaced l.bytes
+
+abbrev pub decreases-loop-left : goal.decreases-loop-left
+decreases-loop-left l = length l.left

@@ -1,0 +1,77 @@
+//! The string to sign of a request.
+ghost use Rattle.std.specs.Prelude.{◌≡◌, ◌++◌, ◌∷◌, IfOk, OnOk, min};
+ghost use Rattle.std.specs.List.{sum_by};
+ghost use Rattle.shared_key.specs.Rooms.{field_room, room_of};
+ghost use Rattle.shared_key.specs.Strings.{key_string, verb_text, canonicalized_query};
+
+use crate::{headers, query};
+use stamp_values::{Field, Signing, Verb};
+use std::alloc::{AllocError, Global};
+
+fn verb_text(verb: Verb) -> &'static str
+    ensures { result.now ≡ verb_text verb }
+{
+    match verb {
+        Verb::Get => "GET",
+        Verb::Head => "HEAD",
+        Verb::Put => "PUT",
+        Verb::Delete => "DELETE",
+    }
+}
+
+// The room of fields, or all that a number can say.
+fn fields_room(fields: &[Field]) -> usize
+    ensures { result ≡ min (sum_by field_room fields.now) usize.MAX }
+{
+    let mut room = 0usize;
+    for field in fields {
+        room = room
+            .saturating_add(field.name.as_slice().len())
+            .saturating_add(field.value.as_slice().len())
+            .saturating_add(2);
+    }
+    room
+}
+
+// At least the length of the string, so that the string is put together in one allocation.
+fn room(signing: &Signing, account: &[u8]) -> usize
+    ensures { result ≡ min (room_of signing.now account.now) usize.MAX }
+{
+    fields_room(signing.headers.as_slice())
+        .saturating_add(fields_room(signing.query.as_slice()))
+        .saturating_add(account.len())
+        .saturating_add(signing.path.as_slice().len())
+        .saturating_add(32)
+}
+
+fn write_resource(
+    alloc: Global,
+    out: &mut Vec<u8>,
+    signing: &Signing,
+    account: &[u8],
+) -> Result<(), AllocError>
+    ensures { OnOk result (out.new.items ≡ out.old.items ++ 47 ∷ account.now ++ signing.now.path ++ canonicalized_query signing.now.query) }
+{
+    out.push(b'/')?;
+    out.extend_from_slice(account)?;
+    out.extend_from_slice(signing.path.as_slice())?;
+    query::write_canonicalized(alloc, out, signing.query.as_slice())
+}
+
+/// The string to sign of Shared Key (Blob service REST reference, 2012-02-12, Authentication for the
+/// Azure Storage Services, versions 2009-09-19 and later).
+///
+/// All values are bytes, and may be no text. Every header value is written without the spaces and
+/// tabs at its ends; nothing is decoded. Of a header name that was sent twice the first value counts.
+#[tactic(auto, unfolding(crate::specs::Strings::key_string))]
+pub fn key_string(alloc: Global, signing: &Signing, account: &[u8]) -> Result<Vec<u8>, AllocError>
+    ensures { IfOk result (λ string. string.items ≡ key_string signing.now account.now) }
+{
+    let mut out = Vec::with_capacity(alloc, room(signing, account))?;
+    out.extend_from_slice(verb_text(signing.verb).as_bytes())?;
+    out.push(b'\n')?;
+    headers::write_standard(&mut out, signing.headers.as_slice())?;
+    headers::write_canonicalized(alloc, &mut out, signing.headers.as_slice())?;
+    write_resource(alloc, &mut out, signing, account)?;
+    Ok(out)
+}
