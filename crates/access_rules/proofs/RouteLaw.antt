@@ -1,0 +1,232 @@
+-- No rule holds exactly where the request's own route admits it.
+use Rattle.std.proofs.Common.{◌≡◌, ℕ, ◌+◌, ◌≤◌, ◌↔◌, ◌⊎◌, inl, inr, Bool, true, false, cond, not, ◌||◌, List, [], ◌∷◌, Option, Some, None, Result, Ok, Err, refl, sym, ap, ◌∙◌, arith, nat_lt, subst, is_none}
+use Rattle.std.proofs.lemmas.Bool.Decides.{nat_tests}
+use Rattle.std.proofs.lemmas.Slice.Eq.{bytes_eq-Decides}
+use Rattle.std.specs.Prelude.{bytes_eq, option_and_then}
+use Rattle.std.specs.Result.{result_ok}
+use Rattle.stamp_values.specs.declared.level.Level.{Level}
+use Rattle.stamp_values.specs.declared.signing.Credential.{Credential}
+use Rattle.stamp_values.specs.declared.signing.Credential.TheVariants.{Shared, Token, Anonymous}
+use Rattle.stamp_values.specs.Levels.{level_number}
+use Rattle.stamp_types.specs.declared.ask.Ask.{Ask}
+use Rattle.stamp_types.specs.declared.rule.Rule.{Rule}
+use Rattle.stamp_types.specs.declared.rule.Rule.TheVariants.{K1, K2, K3, K4, K5, P1, P2}
+use Rattle.hmac_sign.specs.Signature.{signature_of}
+use Rattle.shared_key.specs.Authorizations.{Claim}
+use Rattle.access_rules.specs.declared.keys.Keys.{Keys}
+use Rattle.access_rules.proofs.ClaimLemmas.{claimed, claims}
+use Rattle.access_rules.specs.Needs.{need_of}
+use Rattle.moment_text.specs.Http.{http_moment}
+use Rattle.access_rules.specs.Parts.{claim_in, keys_for, date_text, date_in, string_of, leeway, is_far, is_signed}
+use Rattle.access_rules.specs.Rules.{Access, first_rule, there, is_lower}
+use Rattle.access_rules.specs.Routes.{ByKey, ByPublic, Admits}
+
+-- ---- keys
+
+-- keys that are found are those of the account
+keys_found : (keys : Option Keys) (account : List ℕ) (pair : Keys) → keys_for keys account ≡ Some pair → (keys ≡ Some pair) × (pair.account ≡ account)
+keys_found None account pair e = cc
+keys_found (Some k) account pair e =
+    elim (bytes_eq k.account account) as (λ b. bytes_eq k.account account ≡ b → cond b (Some k) None ≡ Some pair → (Some k ≡ Some pair) × (pair.account ≡ account)) [
+      | true ↦ λ is h. (h, let same : k ≡ pair = cc in ap (λ (p : Keys). p.account) (sym same) ∙ (bytes_eq-Decides k.account account).0 is)
+      | false ↦ λ is h. cc
+    ] refl e
+
+found_keys : (keys : Option Keys) (account : List ℕ) (pair : Keys) → keys ≡ Some pair → pair.account ≡ account → keys_for keys account ≡ Some pair
+found_keys keys account pair is own =
+    ap (λ k. keys_for k account) is ∙ ap (λ b. cond b (Some pair) None) ((bytes_eq-Decides pair.account account).1 own)
+
+-- ---- the date
+
+ok_is : {A E : Type 0} (r : Result A E) (x : A) → result_ok r ≡ Some x → r ≡ Ok x
+ok_is (Ok y) x e = let same : y ≡ x = cc in ap Ok same
+ok_is (Err f) x e = cc
+
+-- a date that is found is named by a text
+date_found : (text : Option (List ℕ)) (date : ℕ) → option_and_then (λ t. result_ok (http_moment t)) text ≡ Some date → (t : List ℕ) × (text ≡ Some t) × (http_moment t ≡ Ok date)
+date_found None date e = cc
+date_found (Some t) date e = (t, refl, ok_is (http_moment t) date e)
+
+found_date : (text : Option (List ℕ)) (t : List ℕ) (date : ℕ) → text ≡ Some t → http_moment t ≡ Ok date → option_and_then (λ t. result_ok (http_moment t)) text ≡ Some date
+found_date text t date is named = ap (λ o. option_and_then (λ t. result_ok (http_moment t)) o) is ∙ ap result_ok named
+
+-- ---- the tests of the key route
+
+near : (t date : ℕ) → is_far t date ≡ false → (t ≤ date + leeway) × (date ≤ t + leeway)
+near t date h = (grind (arith, nat_tests), grind (arith, nat_tests))
+
+is_near : (t date : ℕ) → t ≤ date + leeway → date ≤ t + leeway → is_far t date ≡ false
+is_near t date p q = grind (arith, nat_tests)
+
+one_of : (a b : Bool) → (a || b) ≡ true → (a ≡ true) ⊎ (b ≡ true)
+one_of true b h = inl refl
+one_of false b h = inr h
+
+or_right : (a : Bool) → (a || true) ≡ true
+or_right true = refl
+or_right false = refl
+
+either : (xs ys zs : List ℕ) → (bytes_eq xs ys || bytes_eq xs zs) ≡ true → (xs ≡ ys) ⊎ (xs ≡ zs)
+either xs ys zs h =
+    elim (one_of (bytes_eq xs ys) (bytes_eq xs zs) h) [
+      | inl e ↦ inl ((bytes_eq-Decides xs ys).0 e)
+      | inr e ↦ inr ((bytes_eq-Decides xs zs).0 e)
+    ]
+
+of_either : (xs ys zs : List ℕ) → (xs ≡ ys) ⊎ (xs ≡ zs) → (bytes_eq xs ys || bytes_eq xs zs) ≡ true
+of_either xs ys zs (inl e) = ap (λ b. b || bytes_eq xs zs) ((bytes_eq-Decides xs ys).1 e)
+of_either xs ys zs (inr e) = ap (λ b. bytes_eq xs ys || b) ((bytes_eq-Decides xs zs).1 e) ∙ or_right (bytes_eq xs ys)
+
+-- the rules of the key route, of what they look at: the claim, whether its account is the path's, the keys, the date,
+-- whether it is far, and whether a pair gives the claim's signature
+abbrev key_rule : Option Claim → (Claim → Bool) → Option Keys → Option ℕ → (ℕ → Bool) → (Keys → Claim → Bool) → Option Rule
+key_rule claim own pair date far signed =
+    cond (is_none claim) (Some K1)
+    (cond (there (λ c. not (own c) || is_none pair) claim) (Some K2)
+    (cond (is_none date) (Some K3)
+    (cond (there far date) (Some K4)
+    (cond (there (λ c. there (λ p. not (signed p c)) pair) claim) (Some K5) None))))
+
+-- what is there and passes where none of them holds
+record Passes (claim : Option Claim) (own : Claim → Bool) (pair : Option Keys) (date : Option ℕ) (far : ℕ → Bool) (signed : Keys → Claim → Bool) : Type 0 where
+  pub the_claim : Claim
+  pub claimed : claim ≡ Some the_claim
+  pub owned : own the_claim ≡ true
+  pub the_pair : Keys
+  pub paired : pair ≡ Some the_pair
+  pub the_date : ℕ
+  pub dated : date ≡ Some the_date
+  pub not_far : far the_date ≡ false
+  pub signs : signed the_pair the_claim ≡ true
+
+three_pass : (a f s : Bool) → cond (not a || false) (Some K2) (cond f (Some K4) (cond (not s) (Some K5) None)) ≡ None → (a ≡ true) × (f ≡ false) × (s ≡ true)
+three_pass false f s h = (cc, cc, cc)
+three_pass true true s h = (cc, cc, cc)
+three_pass true false false h = (cc, cc, cc)
+three_pass true false true h = (refl, refl, refl)
+
+none_refuses : (a f s : Bool) → a ≡ true → f ≡ false → s ≡ true → cond (not a || false) (Some K2) (cond f (Some K4) (cond (not s) (Some K5) None)) ≡ None
+none_refuses a f s p q r = rw (p, q, r) refl
+
+either_refuses : (b : Bool) (r s : Rule) → cond b (Some r) (Some s) ≡ None → ⊥
+either_refuses true r s h = cc
+either_refuses false r s h = cc
+
+refuses : (b : Bool) (r : Rule) (o : Option Rule) → cond (b || true) (Some r) o ≡ None → ⊥
+refuses true r o h = cc
+refuses false r o h = cc
+
+module _ (own : Claim → Bool) (far : ℕ → Bool) (signed : Keys → Claim → Bool) where
+  all_pass : (claim : Option Claim) (pair : Option Keys) (date : Option ℕ) → key_rule claim own pair date far signed ≡ None → Passes claim own pair date far signed
+  all_pass None pair date h = cc
+  all_pass (Some c) None date h = absurd (refuses (not (own c)) K2 _ h)
+  all_pass (Some c) (Some p) None h = absurd (either_refuses (not (own c) || false) K2 K3 h)
+  all_pass (Some c) (Some p) (Some d) h =
+      let tests = three_pass (own c) (far d) (signed p c) h in
+      record { the_claim = c; claimed = refl; owned = tests.0; the_pair = p; paired = refl; the_date = d; dated = refl; not_far = tests.1; signs = tests.2 }
+
+  none_holds : (claim : Option Claim) (pair : Option Keys) (date : Option ℕ) → Passes claim own pair date far signed → key_rule claim own pair date far signed ≡ None
+  none_holds claim pair date p =
+      ap (λ c. key_rule c own pair date far signed) p.claimed
+      ∙ ap (λ k. key_rule (Some p.the_claim) own k date far signed) p.paired
+      ∙ ap (λ d. key_rule (Some p.the_claim) own (Some p.the_pair) d far signed) p.dated
+      ∙ none_refuses (own p.the_claim) (far p.the_date) (signed p.the_pair p.the_claim) p.owned p.not_far p.signs
+
+-- ---- the key route
+
+module _ (keys : Option Keys) (q : Ask) (t : ℕ) where
+  abbrev string : List ℕ
+  string = string_of q
+
+  abbrev own_account : Claim → Bool
+  own_account c = bytes_eq c.account q.key.account
+
+  abbrev signs_it : Keys → Claim → Bool
+  signs_it p c = is_signed p string c.signature
+
+  abbrev KeyPasses : List (List ℕ) → Type 0
+  KeyPasses values = Passes (claim_in values) own_account (keys_for keys q.key.account) (date_in q.signing.headers) (is_far t) signs_it
+
+  in_words : (values : List (List ℕ)) → q.credential ≡ Shared values → KeyPasses values → ByKey keys q t
+  in_words values asks p =
+      let given = claimed values p.the_claim p.claimed in
+      let found = keys_found keys q.key.account p.the_pair p.paired in
+      let day = date_found (date_text q.signing.headers) p.the_date p.dated in
+      let close = near t p.the_date p.not_far in
+      record {
+        value = given.0;
+        once = asks ∙ ap Shared given.1;
+        claim = p.the_claim;
+        reads = given.2;
+        own = (bytes_eq-Decides p.the_claim.account q.key.account).0 p.owned;
+        pair = p.the_pair;
+        given = found.0;
+        known = found.1;
+        text = day.0;
+        dated = day.1;
+        date = p.the_date;
+        names = day.2;
+        behind = close.0;
+        ahead = close.1;
+        signed = either p.the_claim.signature (signature_of p.the_pair.first string) (signature_of p.the_pair.second string) p.signs;
+      }
+
+  in_tests : (values : List (List ℕ)) → q.credential ≡ Shared values → ByKey keys q t → KeyPasses values
+  in_tests values asks b =
+      let same : values ≡ b.value ∷ [] = let e : Shared values ≡ Shared (b.value ∷ []) = sym asks ∙ b.once in cc in
+      record {
+        the_claim = b.claim;
+        claimed = claims values b.value b.claim same b.reads;
+        owned = (bytes_eq-Decides b.claim.account q.key.account).1 b.own;
+        the_pair = b.pair;
+        paired = found_keys keys q.key.account b.pair b.given b.known;
+        the_date = b.date;
+        dated = found_date (date_text q.signing.headers) b.text b.date b.dated b.names;
+        not_far = is_near t b.date b.behind b.ahead;
+        signs = of_either b.claim.signature (signature_of b.pair.first string) (signature_of b.pair.second string) b.signed;
+      }
+
+-- a request as it is, but for its credential
+abbrev pub asking : Ask → Credential → Ask
+asking q credential = record q { credential = credential }
+
+by_key : (keys : Option Keys) (access : Option Access) (q : Ask) (t : ℕ) (values : List (List ℕ)) → (first_rule keys access (asking q (Shared values)) t ≡ None) ↔ ByKey keys (asking q (Shared values)) t
+by_key keys access q t values =
+    let ask = asking q (Shared values) in (
+      λ h. in_words keys ask t values refl (all_pass (own_account keys ask t) (is_far t) (signs_it keys ask t) (claim_in values) (keys_for keys ask.key.account) (date_in ask.signing.headers) h),
+      λ b. none_holds (own_account keys ask t) (is_far t) (signs_it keys ask t) (claim_in values) (keys_for keys ask.key.account) (date_in ask.signing.headers) (in_tests keys ask t values refl b),
+    )
+
+-- ---- the public route
+
+abbrev public_rule : Option Access → Option Level → Option Rule
+public_rule access level = cond (is_none level) (Some P1) (cond (there (is_lower access) level) (Some P2) None)
+
+not_lower : (m n : ℕ) → cond (nat_lt m n) (Some P2) None ≡ None → n ≤ m
+not_lower m n h =
+    elim (nat_lt m n) as (λ b. nat_lt m n ≡ b → cond b (Some P2) None ≡ None → n ≤ m) [
+      | true ↦ λ e h. cc
+      | false ↦ λ e h. grind (arith, nat_tests)
+    ] refl h
+
+enough_is_not_lower : (m n : ℕ) → n ≤ m → cond (nat_lt m n) (Some P2) None ≡ None
+enough_is_not_lower m n h = let e : nat_lt m n ≡ false = grind (arith, nat_tests) in ap (λ b. cond b (Some P2) None) e
+
+by_public : (access : Option Access) (q : Ask) (need : Option Level) → (need_of q.op q.args.kinds).level ≡ need → (public_rule access need ≡ None) ↔ ByPublic access q
+by_public access q None e = (λ h. cc, λ b. let f : None ≡ Some b.need = sym e ∙ b.needed in cc)
+by_public None q (Some need) e = (λ h. cc, λ b. let f = b.stands in cc)
+by_public (Some has) q (Some need) e = (
+  λ h. record { need = need; needed = e; has = has; stands = refl; enough = not_lower (level_number has.level) (level_number need) h },
+  λ b.
+      let same_need : need ≡ b.need = let f : Some need ≡ Some b.need = sym e ∙ b.needed in cc in
+      let same_has : has ≡ b.has = let f = b.stands in cc in
+      enough_is_not_lower (level_number has.level) (level_number need)
+      (subst (λ (l : Level). level_number l ≤ level_number has.level) (sym same_need) (subst (λ (a : Access). level_number b.need ≤ level_number a.level) (sym same_has) b.enough)),
+)
+
+-- ---- each route
+
+pub by_route : (keys : Option Keys) (access : Option Access) (q : Ask) (t : ℕ) (credential : Credential) → (first_rule keys access (asking q credential) t ≡ None) ↔ Admits keys access credential (asking q credential) t
+by_route keys access q t (Shared values) = by_key keys access q t values
+by_route keys access q t Token = (λ h. cc, λ b. absurd b)
+by_route keys access q t Anonymous = by_public access (asking q Anonymous) _ refl

@@ -1,0 +1,4 @@
+pub mod Needs
+pub mod Parts
+pub mod Routes
+pub mod Rules

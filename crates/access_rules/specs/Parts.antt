@@ -1,0 +1,58 @@
+-- The parts of a request that the rules of the key route judge (Blob service REST reference, 2012-02-12, Authentication
+-- for the Azure Storage Services: the headers Authorization, x-ms-date and Date).
+use Rattle.std.specs.Prelude.{ℕ, ◌+◌, Bool, ◌||◌, cond, nat_lt, List, Option, Some, None, option_map, option_and_then, bytes_eq, codes, find}
+use Rattle.std.specs.Option.{option_or}
+use Rattle.std.specs.Result.{result_ok}
+use Rattle.stamp_values.specs.declared.signing.Credential.{Credential}
+use Rattle.stamp_values.specs.declared.signing.Credential.TheVariants.{Shared, Token, Anonymous}
+use Rattle.stamp_values.specs.declared.signing.Field.{Field}
+use Rattle.stamp_types.specs.declared.ask.Ask.{Ask}
+use Rattle.hmac_sign.specs.Signature.{signature_of}
+use Rattle.moment_text.specs.Http.{http_moment}
+use Rattle.shared_key.specs.Authorizations.{Claim}
+use Rattle.shared_key.specs.Readings.{authorization_of}
+use Rattle.shared_key.specs.Strings.{key_string}
+use Rattle.access_rules.specs.declared.keys.Keys.{Keys}
+
+-- the claim that Authorization makes: it was sent once, in its form
+abbrev pub claim_in : List (List ℕ) → Option Claim
+claim_in values = result_ok (authorization_of values)
+
+-- the claim of a request; those of the other routes make none
+abbrev pub claim_of : Credential → Option Claim
+claim_of (Shared values) = claim_in values
+claim_of Token = None
+claim_of Anonymous = None
+
+-- the stamp's keys for the account: keys of another account count as none
+abbrev pub keys_for : Option Keys → List ℕ → Option Keys
+keys_for None account = None
+keys_for (Some pair) account = cond (bytes_eq pair.account account) (Some pair) None
+
+-- the first value that was sent under a name
+abbrev pub value_under : List Field → List ℕ → Option (List ℕ)
+value_under headers name = option_map (λ h. h.value) (find (λ h. bytes_eq h.name name) headers)
+
+-- x-ms-date where it was sent, else Date
+abbrev pub date_text : List Field → Option (List ℕ)
+date_text headers = option_or (value_under headers (codes "x-ms-date")) (value_under headers (codes "date"))
+
+-- the moment that the request's date names
+abbrev pub date_in : List Field → Option ℕ
+date_in headers = option_and_then (λ text. result_ok (http_moment text)) (date_text headers)
+
+-- the string to sign of a request
+abbrev pub string_of : Ask → List ℕ
+string_of q = key_string q.signing q.key.account
+
+-- 900 seconds, in steps of 100 ns
+abbrev pub leeway : ℕ
+leeway = 9_000_000_000
+
+-- the date lies more than 900 seconds behind the moment, or ahead of it
+abbrev pub is_far : ℕ → ℕ → Bool
+is_far moment date = nat_lt (date + leeway) moment || nat_lt (moment + leeway) date
+
+-- one of the keys gives the signature of the string
+abbrev pub is_signed : Keys → List ℕ → List ℕ → Bool
+is_signed pair string signature = bytes_eq signature (signature_of pair.first string) || bytes_eq signature (signature_of pair.second string)

@@ -1,0 +1,81 @@
+//! The verdict on a request.
+ghost use Rattle.std.specs.Prelude.{◌≡◌, ℕ, IfOk, Option, None, option_copied};
+ghost use Rattle.stamp_values.specs.declared.signing.Credential.TheVariants as credential;
+ghost use Rattle.access_rules.specs.declared.keys.Keys.{Keys};
+ghost use Rattle.access_rules.specs.Rules.{verdict_of};
+
+use crate::judgement::{Verdict, Way};
+use crate::keys::Keys;
+use crate::needs::need_of;
+use crate::parts::{claim_in, date_in, is_far, is_signed, keys_for};
+use stamp_types::{Ask, Bytes, Credential, Moment, Request, Rule};
+use std::alloc::{AllocError, Global};
+
+// Each exit is the first rule that holds: those before it were judged and did not.
+fn by_key(
+    alloc: Global,
+    keys: Option<&Keys>,
+    ask: &Ask,
+    values: &[Bytes],
+    now: Moment,
+) -> Result<Verdict, AllocError>
+    requires { ask.now.credential ≡ credential.Shared values.now }
+    ensures { IfOk result (λ v. v ≡ verdict_of (option_copied keys.entry) None ask.now now) }
+{
+    let Some(claim) = claim_in(values) else {
+        return Ok(Verdict::Deny(Rule::K1));
+    };
+    let Some(pair) = keys_for(keys, &ask.key.account) else {
+        return Ok(Verdict::Deny(Rule::K2));
+    };
+    if claim.account != ask.key.account.as_str().as_bytes() {
+        return Ok(Verdict::Deny(Rule::K2));
+    }
+    let Some(date) = date_in(ask.signing.headers.as_slice()) else {
+        return Ok(Verdict::Deny(Rule::K3));
+    };
+    if is_far(now, date) {
+        return Ok(Verdict::Deny(Rule::K4));
+    }
+    if is_signed(alloc, pair, ask, claim.signature)? {
+        Ok(Verdict::Allow(Way::Key))
+    } else {
+        Ok(Verdict::Deny(Rule::K5))
+    }
+}
+
+// No container has a level yet, so that none is ever enough.
+fn by_public(ask: &Ask) -> Verdict
+    requires { ask.now.credential ≡ credential.Anonymous }
+    ensures { (keys : Option Keys) (t : ℕ) → result ≡ verdict_of keys None ask.now t }
+{
+    match need_of(ask.op, ask.args.kinds).level {
+        None => Verdict::Deny(Rule::P1),
+        Some(_) => Verdict::Deny(Rule::P2),
+    }
+}
+
+/// Whether a request may be served at a moment.
+///
+/// `keys` are those that the stamp has for the request's account; `None`, or those of another account, count as none. The
+/// answer is the first rule that holds, in the order K1 to K5, S1, P1, P2, or the request's route where none does. A request
+/// is judged by its own route alone. Every shared access signature is refused by S1, and public access by P1 or P2, since no
+/// container has a level yet.
+///
+/// `AllocError` where there was no memory for the string to sign or a signature; only the key route takes any. Blob service
+/// REST reference, 2012-02-12, Authentication for the Azure Storage Services.
+pub fn verdict(
+    alloc: Global,
+    keys: Option<&Keys>,
+    request: &Request,
+    now: Moment,
+) -> Result<Verdict, AllocError>
+    ensures { IfOk result (λ v. v ≡ verdict_of (option_copied keys.entry) None request.now.ask now) }
+{
+    let ask = request.ask();
+    match &ask.credential {
+        Credential::Shared(values) => by_key(alloc, keys, ask, values.as_slice(), now),
+        Credential::Token => Ok(Verdict::Deny(Rule::S1)),
+        Credential::Anonymous => Ok(by_public(ask)),
+    }
+}

@@ -1,0 +1,23 @@
+//! Who may: what each operation needs, and the first rule of permission that refuses a request.
+#![tactic(auto)]
+
+mod judge;
+mod judgement;
+mod keys;
+mod laws;
+mod needs;
+mod parts;
+#[cfg(test)]
+mod rule_tests;
+#[cfg(test)]
+mod slow_rules;
+#[cfg(test)]
+mod test_requests;
+
+pub use judge::verdict;
+pub use judgement::{Verdict, Way};
+pub use keys::Keys;
+pub use laws::{
+    a_container_that_does_not_stand_is_as_closed, no_rule_holds_exactly_where_the_own_route_admits,
+};
+pub use needs::{Letter, Need, need_of};

@@ -1,0 +1,90 @@
+//! The parts of a request that the rules of the key route judge.
+ghost use Rattle.std.specs.Prelude.{◌≡◌, IfOk, option_copied, option_map, bytes_eq};
+ghost use Rattle.hmac_sign.specs.Signature.{signature_of};
+ghost use Rattle.access_rules.specs.Parts.{claim_in, keys_for, value_under, date_text, date_in, string_of, is_far, is_signed};
+
+use crate::keys::Keys;
+use hmac_sign::sign;
+use moment_text::read_http;
+use shared_key::{Authorization, key_string, read_authorization};
+use stamp_types::{Ask, Bytes, Field, Moment, Text};
+use std::alloc::{AllocError, Global};
+
+/// How far a date may lie from the moment on either side, in steps of 100 ns: 900 seconds. The reference has 15 minutes.
+const LEEWAY: u64 = 9_000_000_000;
+
+/// What Authorization claims, or `None` where it was not sent exactly once in its form.
+pub(crate) fn claim_in(values: &[Bytes]) -> Option<Authorization<'_>>
+    ensures { result ≡ claim_in values.now }
+{
+    read_authorization(values).ok()
+}
+
+/// The keys, where they are those of the account.
+pub(crate) fn keys_for<'a>(keys: Option<&'a Keys>, account: &Text) -> Option<&'a Keys>
+    ensures { option_copied result ≡ keys_for (option_copied keys.entry) account.now }
+{
+    let pair = keys?;
+    if pair.account == *account {
+        Some(pair)
+    } else {
+        None
+    }
+}
+
+fn value_under<'a>(headers: &'a [Field], name: &[u8]) -> Option<&'a [u8]>
+    ensures { option_map (λ value. value.now) result ≡ value_under headers.now name.now }
+{
+    for header in headers {
+        if header.name.as_slice() == name {
+            return Some(header.value.as_slice());
+        }
+    }
+    None
+}
+
+// x-ms-date counts where it was sent, even if it is no date: it is what was signed then.
+fn date_text(headers: &[Field]) -> Option<&[u8]>
+    ensures { option_map (λ text. text.now) result ≡ date_text headers.now }
+{
+    value_under(headers, b"x-ms-date").or(value_under(headers, b"date"))
+}
+
+/// The moment that the request's date names, or `None` where there is no date or none of HTTP.
+pub(crate) fn date_in(headers: &[Field]) -> Option<Moment>
+    ensures { result ≡ date_in headers.now }
+{
+    read_http(date_text(headers)?).ok()
+}
+
+/// Whether the date lies more than 900 seconds behind the moment or ahead of it.
+pub(crate) fn is_far(now: Moment, date: Moment) -> bool
+    ensures { result ≡ is_far now date }
+{
+    let (now, date) = (now.ticks(), date.ticks());
+    date + LEEWAY < now || now + LEEWAY < date
+}
+
+// Signatures are compared as they are written, so that a text that is no Base64 is just another signature.
+fn gives(alloc: Global, key: &Bytes, string: &[u8], signature: &[u8]) -> Result<bool, AllocError>
+    ensures { IfOk result (λ same. same ≡ bytes_eq signature.now (signature_of key.now string.now)) }
+{
+    let text = sign(alloc, key.as_slice(), string)?;
+    Ok(signature == text.as_bytes())
+}
+
+/// Whether one of the keys gives the signature of what the request signs.
+pub(crate) fn is_signed(
+    alloc: Global,
+    keys: &Keys,
+    ask: &Ask,
+    signature: &[u8],
+) -> Result<bool, AllocError>
+    ensures { IfOk result (λ yes. yes ≡ is_signed keys.now (string_of ask.now) signature.now) }
+{
+    let string = key_string(alloc, &ask.signing, ask.key.account.as_str().as_bytes())?;
+    if gives(alloc, &keys.first, &string, signature)? {
+        return Ok(true);
+    }
+    gives(alloc, &keys.second, &string, signature)
+}

@@ -1,0 +1,5 @@
+pub mod BlobLists
+pub mod OneContainer
+pub mod Orderings
+pub mod PutBlocks
+pub mod PutParts

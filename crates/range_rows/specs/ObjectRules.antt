@@ -1,0 +1,88 @@
+-- Rules of the object (Blob service REST reference, 2012-02-12, the pages of the operations, "Status and Error Codes", "Blob Service Error Codes"; RFC 1321).
+use Rattle.std.specs.Prelude.{ℕ, Bool, true, false, ◌&&◌, ◌||◌, not, nat_eq, is_some, is_none, List, [], ◌∷◌, Option, Some, None, find}
+use Rattle.std.specs.Option.{option_and_then}
+use Rattle.std.specs.Cmp.Lexicographic.{pointwise}
+use Rattle.md5.specs.Md5.{md5}
+use Rattle.stamp_values.specs.Operations.{writes}
+use Rattle.stamp_values.specs.declared.op.Op.{Op}
+use Rattle.stamp_values.specs.declared.op.Op.TheVariants as op
+use Rattle.stamp_types.specs.declared.code.Code.{Code}
+use Rattle.stamp_types.specs.declared.code.Code.TheVariants as code
+use Rattle.stamp_types.specs.declared.rule.Rule.{Rule}
+use Rattle.stamp_types.specs.declared.rule.Rule.TheVariants as rule
+use Rattle.stamp_types.specs.declared.ask.Ask.{Ask}
+use Rattle.stamp_types.specs.declared.committed.Committed.{Committed}
+use Rattle.stamp_types.specs.Requests.{Asked}
+use Rattle.stamp_types.specs.World.{Part, blob_in}
+
+-- the largest count: a container that has seen so many changes takes no more
+abbrev pub count_limit : ℕ
+count_limit = 18446744073709551615
+
+-- the operation is on a container that has to stand
+abbrev pub needs_container : Op → Bool
+needs_container op.ListContainers = false
+needs_container op.CreateContainer = false
+needs_container _ = true
+
+-- the operation is on a blob that has to stand; Get Block List has a case of its own
+abbrev pub needs_blob : Op → Bool
+needs_blob op.GetBlob = true
+needs_blob op.BlobProperties = true
+needs_blob op.GetMetadata = true
+needs_blob op.SetMetadata = true
+needs_blob op.DeleteBlob = true
+needs_blob _ = false
+
+-- it is Create Container
+abbrev pub is_create : Op → Bool
+is_create op.CreateContainer = true
+is_create _ = false
+
+-- it is Put Blob
+abbrev pub is_put : Op → Bool
+is_put op.PutBlob = true
+is_put _ = false
+
+-- what stands of the blob that the request names, where it names one
+abbrev pub named_blob : {C : Type 0} → Part C → Ask → Option (Committed C)
+named_blob p a = option_and_then (λ name. (blob_in p name).committed) a.blob
+
+-- the value of x-ms-blob-content-md5
+abbrev pub kept_md5 : Ask → Option (List ℕ)
+kept_md5 a = option_and_then (λ k. k.md5) a.args.kept
+
+-- an MD5 is given, and the body has another
+abbrev pub has_other_md5 : List ℕ → Option (List ℕ) → Bool
+has_other_md5 body None = false
+has_other_md5 body (Some sum) = not (pointwise nat_eq sum (md5 body))
+
+-- the body has another MD5 than Content-MD5 says, or on Put Blob than x-ms-blob-content-md5 says
+abbrev pub is_damaged : Asked → Bool
+is_damaged q = has_other_md5 q.body q.ask.args.content_md5 || (is_put q.ask.op && has_other_md5 q.body (kept_md5 q.ask))
+
+-- whether a rule refuses the request, where the container is as this part of the world says: each rule by itself
+abbrev pub object_holds : {C : Type 0} → Part C → Asked → Rule → Bool
+object_holds p q rule.O1 = needs_container q.ask.op && is_none p.standing
+object_holds p q rule.O2 = is_create q.ask.op && is_some p.standing
+object_holds p q rule.O3 = needs_blob q.ask.op && is_none (named_blob p q.ask)
+object_holds p q rule.O5 = is_damaged q
+object_holds p q rule.O6 = writes q.ask.op && nat_eq p.count count_limit
+object_holds p q _ = false
+
+-- the rules in the order in which the first is sought
+abbrev pub object_rules : List Rule
+object_rules = rule.O1 ∷ rule.O2 ∷ rule.O3 ∷ rule.O5 ∷ rule.O6 ∷ []
+
+-- the first rule that refuses the request
+abbrev pub object_rule : {C : Type 0} → Part C → Asked → Option Rule
+object_rule p q = find (object_holds p q) object_rules
+
+-- the error code of a rule of the object
+abbrev pub object_code : Rule → Option Code
+object_code rule.O1 = Some code.ContainerNotFound
+object_code rule.O2 = Some code.ContainerAlreadyExists
+object_code rule.O3 = Some code.BlobNotFound
+object_code rule.O5 = Some code.Md5Mismatch
+object_code rule.O6 = Some code.InternalError
+object_code _ = None

@@ -1,0 +1,18 @@
+-- The containers of rows that hold one (SOSP 2011, section 5, object table; REST, "Create Container").
+use Rattle.std.specs.Prelude.{ℕ, [], Some}
+use Rattle.std.specs.FinMap as finite
+use Rattle.stamp_values.specs.declared.key.Key.{Key}
+use Rattle.stamp_values.specs.declared.level.Level.TheVariants as level
+use Rattle.stamp_types.specs.World.{Part, World}
+
+-- one container, and no other
+abbrev pub one_part : {C : Type 0} → Key → Part C → World C
+one_part key p = finite.insert finite.empty key p
+
+-- a closed container that was just made: its one change, no metadata, no policies, no blobs
+abbrev pub opening : {C : Type 0} → ℕ → Part C
+opening moment = record {
+  count = 1;
+  standing = Some (record { etag = 1; made = moment; level = level.Closed; metadata = []; policies = [] });
+  blobs = finite.empty;
+}

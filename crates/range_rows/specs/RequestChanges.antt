@@ -1,0 +1,36 @@
+-- What writing requests do ("Put Blob" of the Blob service REST reference, 2012-02-12; RFC 1321).
+use Rattle.std.specs.Prelude.{ℕ, Bool, true, false, List, Option, Some, None}
+use Rattle.std.specs.Option.{option_map, option_and_then}
+use Rattle.md5.specs.Md5.{md5}
+use Rattle.stamp_values.specs.declared.op.Op.{Op}
+use Rattle.stamp_values.specs.declared.op.Op.TheVariants as op
+use Rattle.stamp_types.specs.declared.act.Act.{Act}
+use Rattle.stamp_types.specs.declared.act.Act.TheVariants as act
+use Rattle.stamp_types.specs.declared.act.PutBlob.{PutBlob}
+use Rattle.stamp_types.specs.declared.args.Kept.{Kept}
+use Rattle.stamp_types.specs.Changes.{KeyedAct}
+use Rattle.stamp_types.specs.Pieces.{cut}
+use Rattle.stamp_types.specs.PropsFields.{PropsFields, kept_fields}
+use Rattle.stamp_types.specs.Requests.{Asked}
+
+-- what is kept of the headers that a request asks to be kept, with the body's MD5 where it gives none
+abbrev pub put_props : Asked → Kept → PropsFields
+put_props q kept = kept_fields kept (Some (md5 q.body))
+
+-- the blob gets the body in pieces, the kept headers and the metadata
+abbrev pub put_blob : Asked → ℕ → List ℕ → Kept → PutBlob
+put_blob q t name kept = record { blob = name; moment = t; props = put_props q kept; metadata = q.ask.args.metadata; content = cut q.body }
+
+-- what a request of the operation does at a moment; one that only reads does nothing
+abbrev pub act_by : Op → Asked → ℕ → Option Act
+act_by op.PutBlob q t = option_and_then (λ name. option_map (λ kept. act.PutBlob (put_blob q t name kept)) q.ask.args.kept) q.ask.blob
+act_by _ q t = None
+
+-- what an allowed request changes at a moment, in the container that it names
+abbrev pub change_of : Asked → ℕ → Option KeyedAct
+change_of q t = option_map (λ a. record { key = q.ask.key; act = a }) (act_by q.ask.op q t)
+
+-- the act is that of Put Blob
+abbrev pub is_put_act : Act → Bool
+is_put_act (act.PutBlob a) = true
+is_put_act _ = false

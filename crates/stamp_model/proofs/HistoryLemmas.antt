@@ -1,0 +1,79 @@
+-- A history with one entry more.
+use Rattle.std.proofs.Common.{◌≡◌, ◌≤◌, ◌⊎◌, inl, inr, List, [], ◌∷◌, ◌++◌, refl, sym, ap, ◌∙◌, subst}
+use Rattle.std.proofs.lemmas.List.{append_assoc}
+use Rattle.std.proofs.lemmas.List.Sums.{fold-append}
+use Rattle.stamp_values.specs.declared.key.Key.{Key}
+use Rattle.stamp_types.specs.declared.past.Past.{Past}
+use Rattle.stamp_types.specs.declared.piece.Piece.{Piece}
+use Rattle.stamp_types.specs.World.{Part, World, part_at, same_pieces}
+use Rattle.access_rules.specs.declared.keys.Keys.{Keys}
+use Rattle.stamp_model.specs.Effects.{effect}
+use Rattle.stamp_model.specs.Histories.{pair_of, after_entry, replay_from, StandsBehind, NoneIsLater, IsAccepted, IsLegalFrom}
+use Rattle.stamp_model.proofs.EffectLemmas.{part_at-effect}
+
+no_more : {X : Type 0} (front : List X) (x : X) (rest : List X) → [] ≡ front ++ x ∷ rest → ⊥
+no_more [] x rest h = cc
+no_more (y ∷ front) x rest h = cc
+
+-- what stands in a list with one element more is that element, or stood before
+last_or_before : {X : Type 0} (xs : List X) (e x : X) (front rest : List X) → xs ++ e ∷ [] ≡ front ++ x ∷ rest → ((front ≡ xs) × (x ≡ e)) ⊎ ((left : List X) × (xs ≡ front ++ x ∷ left))
+last_or_before [] e x [] rest h = inl (refl, cc)
+last_or_before [] e x (y ∷ front) rest h = absurd (no_more front x rest cc)
+last_or_before (y ∷ xs) e x [] rest h = let same : y ≡ x = cc in inr (xs, ap (λ z. z ∷ xs) same)
+last_or_before {X} (y ∷ xs) e x (z ∷ front) rest h =
+    let same : y ≡ z = cc in
+    let less : xs ++ e ∷ [] ≡ front ++ x ∷ rest = cc in
+    elim (last_or_before xs e x front rest less) [
+      | inl p ↦ inl ((λ i. sym same i ∷ p.0 i), p.1)
+      | inr p ↦ inr (p.0, λ i. same i ∷ p.1 i)
+    ]
+
+-- the container after one entry more
+pub replay_from-append : (pairs : List Keys) (start : Part (List Piece)) (history : List Past) (e : Past) → replay_from pairs start (history ++ e ∷ []) ≡ after_entry pairs (replay_from pairs start history) e
+replay_from-append pairs start history e = fold-append (after_entry pairs) start history (e ∷ [])
+
+-- the world after the entry's request
+pub part_at-replayed : (pairs : List Keys) (w : World (List Piece)) (start : Part (List Piece)) (history : List Past) (e : Past) → part_at w e.request.ask.key ≡ replay_from pairs start history → part_at (effect (pair_of pairs e.epoch) w e.request e.moment) e.request.ask.key ≡ replay_from pairs start (history ++ e ∷ [])
+part_at-replayed pairs w start history e same =
+    part_at-effect same_pieces (pair_of pairs e.epoch) w e.request e.moment
+    ∙ ap (λ (p : Part (List Piece)). after_entry pairs p e) same
+    ∙ sym (replay_from-append pairs start history e)
+
+module _ (pairs : List Keys) (key : Key) (start : Part (List Piece)) (history : List Past) (e : Past) where
+  accepted_there : IsLegalFrom pairs key start history → IsAccepted pairs key (replay_from pairs start history) e → (front : List Past) (x : Past)
+      → ((front ≡ history) × (x ≡ e)) ⊎ StandsBehind front x history → IsAccepted pairs key (replay_from pairs start front) x
+  accepted_there legal new front x (inl p) =
+      subst (λ (f : List Past). IsAccepted pairs key (replay_from pairs start f) x) (sym p.0)
+      (subst (λ (y : Past). IsAccepted pairs key (replay_from pairs start history) y) (sym p.1) new)
+  accepted_there legal new front x (inr stood) = legal.accepted front x stood
+
+  rising : IsLegalFrom pairs key start history → NoneIsLater e.epoch history → (front between : List Past) (x later : Past)
+      → ((front ++ x ∷ between ≡ history) × (later ≡ e)) ⊎ StandsBehind (front ++ x ∷ between) later history → x.epoch ≤ later.epoch
+  rising legal none front between x later (inl p) =
+      subst (λ (y : Past). x.epoch ≤ y.epoch) (sym p.1) (none front x (between, sym p.0))
+  rising legal none front between x later (inr stood) = legal.epochs front between x later stood
+
+  -- it is legal
+  pub IsLegalFrom-append : IsLegalFrom pairs key start history → NoneIsLater e.epoch history → IsAccepted pairs key (replay_from pairs start history) e → IsLegalFrom pairs key start (history ++ e ∷ [])
+  IsLegalFrom-append legal none new = record {
+    accepted = λ front x stands. accepted_there legal new front x (last_or_before history e x front stands.0 stands.1);
+    epochs = λ front between x later stands. rising legal none front between x later (last_or_before history e later (front ++ x ∷ between) stands.0 stands.1);
+  }
+
+-- what stands in a front part stands in the whole
+still : {X : Type 0} (xs more front : List X) (x : X) → (rest : List X) × (xs ≡ front ++ x ∷ rest) → (rest : List X) × (xs ++ more ≡ front ++ x ∷ rest)
+still {X} xs more front x stands =
+    (stands.0 ++ more, ap (λ (ys : List X). ys ++ more) stands.1 ∙ append_assoc front (x ∷ stands.0) more)
+
+module _ (pairs : List Keys) (key : Key) (start : Part (List Piece)) where
+  pub IsLegalFrom-nil : IsLegalFrom pairs key start []
+  IsLegalFrom-nil = record {
+    accepted = λ front e stands. absurd (no_more front e stands.0 stands.1);
+    epochs = λ front between e later stands. absurd (no_more (front ++ e ∷ between) later stands.0 stands.1);
+  }
+
+  pub IsLegalFrom-front : (history more : List Past) → IsLegalFrom pairs key start (history ++ more) → IsLegalFrom pairs key start history
+  IsLegalFrom-front history more legal = record {
+    accepted = λ front e stands. legal.accepted front e (still history more front e stands);
+    epochs = λ front between e later stands. legal.epochs front between e later (still history more (front ++ e ∷ between) later stands);
+  }

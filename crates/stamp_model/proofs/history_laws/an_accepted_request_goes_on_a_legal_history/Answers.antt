@@ -1,0 +1,8 @@
+use Rattle.stamp_model.proofs.HistoryLemmas.{part_at-replayed, IsLegalFrom-append}
+use Rattle.stamp_model.proofs.history_laws.an_accepted_request_goes_on_a_legal_history.Goals as goal
+
+pub returns-clause-legal : goal.returns-clause-legal
+returns-clause-legal c = λ pairs key start history e legal none new. IsLegalFrom-append pairs key start history e legal none new
+
+pub returns-clause-replay : goal.returns-clause-replay
+returns-clause-replay c = λ pairs w start history e same. part_at-replayed pairs w start history e same

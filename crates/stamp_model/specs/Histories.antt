@@ -1,0 +1,51 @@
+-- The accepted changes of one container (Calder et al., SOSP 2011, section 5, a partition's commit log). What a history is, and
+-- its epochs, are the stamp's own.
+use Rattle.std.specs.Prelude.{◌≡◌, ◌≤◌, ℕ, nat_eq, List, ◌∷◌, ◌++◌, Option, None, IsSome, find}
+use Rattle.std.specs.List.{fold}
+use Rattle.stamp_values.specs.declared.key.Key.{Key}
+use Rattle.stamp_types.specs.declared.past.Past.{Past}
+use Rattle.stamp_types.specs.declared.piece.Piece.{Piece}
+use Rattle.stamp_types.specs.World.{Part, no_part}
+use Rattle.access_rules.specs.declared.keys.Keys.{Keys}
+use Rattle.range_rows.specs.RequestChanges.{change_of}
+use Rattle.stamp_model.specs.Refusals.{refusing_rule}
+use Rattle.stamp_model.specs.Effects.{change}
+
+-- the account's key pair of an epoch
+abbrev pub pair_of : List Keys → ℕ → Option Keys
+pair_of pairs epoch = find (λ pair. nat_eq pair.epoch epoch) pairs
+
+-- the container after an entry, judged by the pair of its epoch
+abbrev pub after_entry : List Keys → Part (List Piece) → Past → Part (List Piece)
+after_entry pairs p e = change (pair_of pairs e.epoch) p e.request e.moment
+
+-- the container after all entries in turn, from what it was before
+abbrev pub replay_from : List Keys → Part (List Piece) → List Past → Part (List Piece)
+replay_from pairs start history = fold (after_entry pairs) start history
+
+-- the container after all entries in turn, from one that never was
+abbrev pub replay : List Keys → List Past → Part (List Piece)
+replay pairs history = replay_from pairs no_part history
+
+-- the entry is in the history, and what is before it there is the front
+abbrev pub StandsBehind : List Past → Past → List Past → Type 0
+StandsBehind front e history = (rest : List Past) × (history ≡ front ++ e ∷ rest)
+
+-- no entry is of a later epoch
+abbrev pub NoneIsLater : ℕ → List Past → Type 0
+NoneIsLater epoch history = (front : List Past) (e : Past) → StandsBehind front e history → e.epoch ≤ epoch
+
+-- the entry changes the container, as it is then: it names it, writes, and no rule refuses it by the pair of its epoch
+pub record IsAccepted (pairs : List Keys) (key : Key) (p : Part (List Piece)) (e : Past) : Type 0 where
+  pub own : e.request.ask.key ≡ key
+  pub writes : IsSome (change_of e.request e.moment)
+  pub allowed : refusing_rule (pair_of pairs e.epoch) p e.request e.moment ≡ None
+
+-- each entry is accepted by what those before it left, and no epoch is lower than one before it
+pub record IsLegalFrom (pairs : List Keys) (key : Key) (start : Part (List Piece)) (history : List Past) : Type 0 where
+  pub accepted : (front : List Past) (e : Past) → StandsBehind front e history → IsAccepted pairs key (replay_from pairs start front) e
+  pub epochs : (front between : List Past) (e later : Past) → StandsBehind (front ++ e ∷ between) later history → e.epoch ≤ later.epoch
+
+-- the same from a container that never was
+abbrev pub IsLegal : List Keys → Key → List Past → Type 0
+IsLegal pairs key history = IsLegalFrom pairs key no_part history

@@ -1,0 +1,4 @@
+pub mod Effects
+pub mod Histories
+pub mod Refusals
+pub mod Responses
