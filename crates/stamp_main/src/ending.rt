@@ -1,6 +1,8 @@
 //! How the program ends, and the exit status that says it.
 ghost use Rattle.std.specs.Prelude.{◌≡◌};
-ghost use Rattle.stamp_main.specs.Ending.{ending_status};
+ghost use Rattle.stamp_main.specs.Ending.{ending_status, run_ending};
+
+use http_front::FrontFault;
 
 /// How the program ended.
 #[derive(Clone, Copy, Debug, PartialEq, Eq)]
@@ -24,9 +26,34 @@ impl Ending {
     }
 }
 
+/// How a run over a reader and a writer ends the program, whatever it answers when all went well.
+pub fn status_of<T>(run: &Result<T, FrontFault>) -> Ending
+    ensures { result ≡ run_ending run.now }
+{
+    match run {
+        Ok(_) => Ending::Done,
+        Err(FrontFault::Read | FrontFault::Write | FrontFault::Turns) => Ending::Fault,
+        Err(FrontFault::NoMemory) => Ending::NoMemory,
+    }
+}
+
 #[cfg(test)]
 mod tests {
     use super::*;
+
+    #[test]
+    fn each_run_has_its_ending(rt: HostRuntime) {
+        let table = [
+            (Ok(7), Ending::Done),
+            (Err(FrontFault::Read), Ending::Fault),
+            (Err(FrontFault::Write), Ending::Fault),
+            (Err(FrontFault::Turns), Ending::Fault),
+            (Err(FrontFault::NoMemory), Ending::NoMemory),
+        ];
+        for (run, ending) in table {
+            assert_eq!(rt; status_of(&run), ending, "{run:?}");
+        }
+    }
 
     #[test]
     fn each_ending_has_its_status(rt: HostRuntime) {

@@ -1,16 +1,26 @@
 //! The storage stamp's program: takes a command from its words, and ends with one of four statuses.
 #![tactic(auto)]
 
-ghost use Rattle.std.specs.Prelude.{◌≡◌, ◌⊎◌};
+ghost use Rattle.std.specs.Prelude.{◌≡◌, ◌≢◌, ◌⊎◌, ℕ, List, IfErr};
+ghost use Rattle.hmac_sign.specs.Signature.{IsBytes};
+ghost use Rattle.stamp_main.specs.declared.ending.Ending.TheVariants.{Done, Fault, NoMemory, Usage};
+ghost use Rattle.stamp_main.specs.Command.{texts_of};
+ghost use Rattle.stamp_main.specs.Signing.{Signed, sign_words};
 
 use command::{Command, read_command};
 use ending::Ending;
-use std::env;
+use signing::run_sign;
+use std::alloc::Global;
+use std::io::{Read, Write};
 use std::process::ExitCode;
 use std::rt::Env;
+use std::{env, io};
 
 mod command;
 mod ending;
+mod signing;
+#[cfg(test)]
+mod signing_tests;
 
 /// What standard error gets, as a line, where the words are no command.
 const USAGE: &str =
@@ -18,43 +28,53 @@ const USAGE: &str =
 
 // The ending is no `Result`: at an `Err` the startup code would write a line of its own.
 fn main(rt: HostRuntime) -> ExitCode {
-    ExitCode::from(run(&rt).status())
+    let ending = match read_words(&rt) {
+        Ok(words) => run(rt.alloc(), &words, &mut rt.reader(), &mut io::writer(&rt)),
+        Err(ending) => ending,
+    };
+    if ending == Ending::Usage {
+        show_usage(&rt);
+    }
+    ExitCode::from(ending.status())
 }
 
-/// Carries out the command that the process's words give, and says how that ended.
+/// The words behind the program's name.
 ///
 /// Words that cannot be read, as where one is not UTF-8, are no command.
-fn run(rt: &(impl Env + AllocGlobal + Eprint)) -> Ending
-    // No command is built yet, so none ends well.
-    ensures { (result ≡ Ending.Usage) ⊎ (result ≡ Ending.NoMemory) }
+fn read_words(rt: &(impl Env + AllocGlobal)) -> Result<Vec<String>, Ending>
+    ensures { IfErr result (λ ending. (ending ≡ Usage) ⊎ (ending ≡ NoMemory)) }
 {
-    let Ok(mut words) = env::args(rt) else {
-        return show_usage(rt);
-    };
+    let mut words = env::args(rt).map_err(|_| Ending::Usage)?;
     let _program = words.next();
-    let Ok(words) = words.collect::<Vec<String>>(rt.alloc()) else {
-        return Ending::NoMemory;
-    };
-    let Some(command) = read_command(&words) else {
-        return show_usage(rt);
-    };
-    match command {
+    words.collect(rt.alloc()).map_err(|_| Ending::NoMemory)
+}
+
+/// Carries out the command that the words give, and says how that ended.
+///
+/// One command is built. The words of the others are answered as no command, and then nothing was read or written.
+fn run<R: Read, W: Write>(alloc: Global, words: &[String], reader: &mut R, writer: &mut W) -> Ending
+    ensures signed { result ≡ Done → (secret : List ℕ) × (texts_of words.now ≡ sign_words secret)
+        × Signed secret (R.remaining reader.old) (W.contents writer.old) (W.contents writer.new) }
+    ensures faulty { result ≡ Fault → (secret : List ℕ) × (texts_of words.now ≡ sign_words secret) }
+    ensures refused { result ≡ Usage → (secret : List ℕ) → IsBytes secret → texts_of words.now ≢ sign_words secret }
+    ensures untouched { result ≡ Usage → (reader.new ≡ reader.old) × (writer.new ≡ writer.old) }
+{
+    match read_command(words) {
+        Some(Command::Sign { key }) => run_sign(alloc, reader, writer, key),
         // Until what it asks for is built, a command is answered as none.
-        Command::Sign { .. } | Command::Replay { .. } | Command::Serve { .. } => show_usage(rt),
+        Some(Command::Replay { .. } | Command::Serve { .. }) => Ending::Usage,
+        None => Ending::Usage,
     }
 }
 
 /// Writes the usage line. Where that fails the exit status has to say it alone.
-fn show_usage(rt: &impl Eprint) -> Ending
-    ensures { result ≡ Ending.Usage }
-{
+fn show_usage(rt: &impl Eprint) {
     let _ = rt.eprintln(USAGE);
-    Ending::Usage
 }
 
 #[cfg(test)]
 mod tests {
-    use super::show_usage;
+    use super::{read_words, show_usage};
     use std::alloc::Global;
     use std::cell::Cell;
     use std::fmt::Display;
@@ -92,7 +112,12 @@ mod tests {
             lines: Cell::new(0),
             usage_lines: Cell::new(0),
         };
-        let _ending = show_usage(&hearer);
+        show_usage(&hearer);
         assert_eq!(rt; (hearer.lines.get(), hearer.usage_lines.get()), (1, 1));
+    }
+
+    #[test]
+    fn words_are_read(rt: HostRuntime) {
+        assert!(rt; read_words(&rt).is_ok());
     }
 }

@@ -1,0 +1,109 @@
+//! `stamp sign`: the signature of a whole input.
+ghost use Rattle.std.specs.Prelude.{◌≡◌, ◌≢◌, ℕ, List, Err, IfOk, IfSome, OnOk, IsOkUnless, IsTrue, IsFalse, ◌≤◌, ◌<◌, ◌*◌, length, string_bytes};
+ghost use Rattle.std.specs.Io.KnownBytes.{Appends, IsAtEnd};
+ghost use Rattle.hmac_sign.specs.Signature.{IsBytes, base64_of};
+ghost use Rattle.http_front.specs.declared.end.FrontFault.TheVariants.{Write, Turns};
+ghost use Rattle.stamp_main.specs.declared.ending.Ending.TheVariants.{Done, Fault, Usage};
+ghost use Rattle.stamp_main.specs.Signing.{Signed, has_written, signature_line};
+
+use crate::ending::{Ending, status_of};
+use hmac_sign::{SecretFault, read_key, sign};
+use http_front::FrontFault;
+use std::alloc::{AllocError, Global};
+use std::io::{Read, Write};
+
+/// The most bytes of one read.
+const READ_SIZE: usize = 8192;
+
+/// The most reads that the program makes of its input.
+const TURNS: u64 = 4_294_967_296;
+
+/// Carries out `stamp sign KEY`: writes the signature of the whole input under the key that `key` gives in Base64.
+///
+/// A text that is no Base64 is answered as wrong usage, and then nothing was read and nothing written. A fault is one of
+/// reader or writer, or the turns were used up.
+pub fn run_sign<R: Read, W: Write>(
+    alloc: Global,
+    reader: &mut R,
+    writer: &mut W,
+    key: &str,
+) -> Ending
+    ensures signed { result ≡ Done → (secret : List ℕ) × (key.now ≡ base64_of secret)
+        × Signed secret (R.remaining reader.old) (W.contents writer.old) (W.contents writer.new) }
+    ensures faulty { result ≡ Fault → (secret : List ℕ) × (key.now ≡ base64_of secret) }
+    ensures refused { result ≡ Usage → (secret : List ℕ) → IsBytes secret → key.now ≢ base64_of secret }
+    ensures untouched { result ≡ Usage → (reader.new ≡ reader.old) × (writer.new ≡ writer.old) }
+{
+    match read_key(alloc, key.as_bytes()) {
+        Ok(secret) => status_of(&sign_on(alloc, reader, writer, &secret, TURNS)),
+        Err(SecretFault::NotBase64) => Ending::Usage,
+        Err(SecretFault::NoMemory) => Ending::NoMemory,
+    }
+}
+
+/// Reads the input to its end, in at most `turns` reads of at most 8,192 bytes, and then writes its signature under the
+/// key, and LF.
+///
+/// Nothing is written before the input has ended: at `Read`, `Turns` and `NoMemory` the writer is as it was. `Turns`
+/// comes once as many reads have been made and none was the end. Any error of a read is `Read`, also one that was
+/// interrupted. At `Write` part of the line may have been written.
+pub fn sign_on<R: Read, W: Write>(
+    alloc: Global,
+    reader: &mut R,
+    writer: &mut W,
+    key: &[u8],
+    turns: u64,
+) -> Result<(), FrontFault>
+    ensures signed { OnOk result (Signed key.now (R.remaining reader.old) (W.contents writer.old) (W.contents writer.new)) }
+    ensures within { OnOk result (IfSome (R.remaining reader.old) (λ input. length input < turns * 8192)) }
+
+    ensures ended { IsTrue (has_written result) → IsAtEnd (R.remaining reader.new) }
+    ensures unwritten { IsFalse (has_written result) → writer.new ≡ writer.old }
+    ensures used_up { result ≡ Err Turns → IfSome (R.remaining reader.old) (λ input. turns ≤ length input) }
+{
+    let input = read_whole(alloc, reader, turns)?;
+    let line = write_line(alloc, key, &input).map_err(|_| FrontFault::NoMemory)?;
+    send(writer, line.as_bytes())
+}
+
+/// The whole of what the reader gives, in at most `turns` reads.
+fn read_whole<R: Read>(alloc: Global, reader: &mut R, turns: u64) -> Result<Vec<u8>, FrontFault>
+    ensures whole { IfOk result (λ input. IfSome (R.remaining reader.old) (λ known. input.items ≡ known)) }
+    ensures ended { OnOk result (IsAtEnd (R.remaining reader.new)) }
+    ensures within { IfOk result (λ input. length input.items < turns * 8192) }
+    ensures reading { result ≢ Err Write }
+    ensures used_up { result ≡ Err Turns → IfSome (R.remaining reader.old) (λ known. turns ≤ length known) }
+{
+    let mut input = Vec::new(alloc);
+    let mut piece = [0; READ_SIZE];
+    for _turn in 0..turns {
+        match reader.read(&mut piece) {
+            Ok(0) => return Ok(input),
+            Ok(n) => input
+                .extend_from_slice(&piece[..n])
+                .map_err(|_| FrontFault::NoMemory)?,
+            Err(_) => return Err(FrontFault::Read),
+        }
+    }
+    Err(FrontFault::Turns)
+}
+
+/// The signature of the input, and LF.
+fn write_line(alloc: Global, key: &[u8], input: &[u8]) -> Result<String, AllocError>
+    ensures { IfOk result (λ line. string_bytes line ≡ signature_line key.now input.now) }
+{
+    let mut line = sign(alloc, key, input)?;
+    line.push('\n')?;
+    Ok(line)
+}
+
+/// Writes all of the bytes, and has the writer pass them on.
+fn send<W: Write>(writer: &mut W, bytes: &[u8]) -> Result<(), FrontFault>
+    ensures sent { OnOk result (Appends (W.contents writer.old) (W.contents writer.new) bytes.now) }
+    ensures failed { IsOkUnless result Write }
+{
+    if writer.write_all(bytes).is_err() || writer.flush().is_err() {
+        return Err(FrontFault::Write);
+    }
+    Ok(())
+}
