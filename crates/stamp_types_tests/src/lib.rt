@@ -12,3 +12,5 @@ mod resident;
 #[cfg(test)]
 mod sample_asks;
 mod sample_parts;
+#[cfg(test)]
+mod sample_values;

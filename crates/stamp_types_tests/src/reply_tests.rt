@@ -1,22 +1,21 @@
 //! What no clause says of replies: printed bytes, numbers and names from outside, and that each call
 //! can succeed.
 
+use crate::sample_values::{meta, moment, share, visible};
 use stamp_types::{
-    Code, Header, Items, Letters, Level, Meta, Moment, Reply, Rule, SentRange, Share, Shares,
-    Status, Text, Visible, read_etag, write_error, write_etag,
+    Change, Code, Header, Items, Letters, Level, Past, Reply, Request, Rule, SentRange, Shares,
+    Status, read_etag, write_error, write_etag,
 };
-use std::alloc::{AllocError, Global};
-use std::test::Fail;
+use std::alloc::Global;
+use std::process::Abort;
 
 fn crosses<T: Send + Sync>() {}
 
 #[test]
 fn threads_may_have_each() {
-    crosses::<Letters>();
-    crosses::<Status>();
-    crosses::<Rule>();
-    crosses::<Code>();
-    crosses::<Header>();
+    crosses::<Change>();
+    crosses::<Request>();
+    crosses::<Past>();
     crosses::<Reply>();
 }
 
@@ -71,26 +70,8 @@ fn letters_are_read_and_written(rt: HostRuntime) {
 #[test]
 fn texts_that_are_no_letters(rt: HostRuntime) {
     for text in ["", "x", "wr", "rr", "R", "rx", "rwdlr", "r ", "rwdlx"] {
-        assert_eq!(rt; Letters::read(text.as_bytes()), None, "at {text}");
+        assert!(rt; Letters::read(text.as_bytes()).is_none(), "at {text}");
     }
-}
-
-#[test]
-fn each_letter_allows_its_own(rt: HostRuntime) {
-    let allowed = |l: Letters| (l.reads(), l.writes(), l.deletes(), l.lists());
-    assert_eq!(rt;
-        Letters::read(b"r").map(allowed),
-        Some((true, false, false, false))
-    );
-    assert_eq!(rt;
-        Letters::read(b"wd").map(allowed),
-        Some((false, true, true, false))
-    );
-    assert_eq!(rt;
-        Letters::read(b"l").map(allowed),
-        Some((false, false, false, true))
-    );
-    assert_eq!(rt; Letters::new(false, false, false, false), None);
 }
 
 // RFC 9110, section 15.
@@ -217,133 +198,89 @@ fn texts_and_statuses_of_codes(rt: HostRuntime) {
 }
 
 #[test]
-fn the_error_of_a_public_read(rt: HostRuntime) -> Result<(), Fail> {
-    let error = write_error(rt.alloc(), Code::ResourceNotFound, Rule::P2)?;
+fn the_error_of_a_public_read(rt: HostRuntime) {
+    let alloc = rt.alloc();
+    let error = write_error(alloc, Code::ResourceNotFound, Rule::P2).expect(&rt, "memory");
     let printed =
         b"<?xml version=\"1.0\" encoding=\"utf-8\"?><Error><Code>ResourceNotFound</Code><Message>Refused by rule P2.</Message></Error>";
-    assert_eq!(rt; error.as_slice(), printed.as_slice());
-    assert_eq!(rt; error.len(), 120);
-    Ok(())
+    assert!(rt; error.as_slice() == printed.as_slice());
+    let reply = Reply::denied(alloc, Rule::P2, Code::ResourceNotFound).expect(&rt, "memory");
+    assert!(rt; reply.status.number() == 404 && reply.length == 120);
+    assert!(rt; reply.body.joined(alloc).expect(&rt, "memory") == error);
+    let xml = Header::ContentType(visible(&rt, alloc, "application/xml"));
+    assert!(rt; reply.headers.as_slice() == [xml].as_slice());
 }
 
 #[test]
-fn lengths_of_errors(rt: HostRuntime) -> Result<(), Fail> {
-    let lengths = [
+fn lengths_of_errors(rt: HostRuntime) {
+    let alloc = rt.alloc();
+    for (rule, code, length) in [
         (Rule::O3, Code::BlobNotFound, 116),
         (Rule::S10, Code::AuthenticationFailed, 125),
         (Rule::F3, Code::InvalidQueryParameterValue, 130),
-    ];
-    for (rule, code, length) in lengths {
-        assert_eq!(rt;
-            write_error(rt.alloc(), code, rule)?.len(),
-            length,
-            "at {rule:?}"
-        );
-        let reply = Reply::denied(rt.alloc(), rule, code)?;
-        assert_eq!(rt; reply.length, length as u64, "at {rule:?}");
-        assert_eq!(rt; reply.body.len(), length, "at {rule:?}");
+        (Rule::O4, Code::NotModified, 0),
+    ] {
+        let reply = Reply::denied(alloc, rule, code).expect(&rt, "memory");
+        assert!(rt; reply.length == length, "at {rule:?}");
     }
-    Ok(())
-}
-
-#[test]
-fn a_refusal_names_its_rule(rt: HostRuntime) -> Result<(), Fail> {
-    let reply = Reply::denied(rt.alloc(), Rule::P2, Code::ResourceNotFound)?;
-    assert_eq!(rt; reply.status.number(), 404);
-    assert_eq!(rt; reply.code, Some(Code::ResourceNotFound));
-    assert_eq!(rt; reply.rule, Some(Rule::P2));
-    let xml = Header::ContentType(Visible::xml(rt.alloc())?);
-    assert_eq!(rt; reply.headers.as_slice(), [xml].as_slice());
-    let error = write_error(rt.alloc(), Code::ResourceNotFound, Rule::P2)?;
-    assert_eq!(rt; reply.body.joined(rt.alloc())?, error);
-    Ok(())
-}
-
-#[test]
-fn not_modified_has_no_content(rt: HostRuntime) -> Result<(), Fail> {
-    let reply = Reply::denied(rt.alloc(), Rule::O4, Code::NotModified)?;
-    assert_eq!(rt; reply.status.number(), 304);
-    assert_eq!(rt; reply.rule, Some(Rule::O4));
-    assert!(rt; reply.headers.as_slice().is_empty());
-    assert_eq!(rt; reply.length, 0);
-    assert!(rt; reply.body.is_empty());
-    Ok(())
-}
-
-fn visible(alloc: Global, text: &str) -> Result<Visible, Fail> {
-    let text = Text::new(String::from_str(alloc, text)?).ok_or("a text")?;
-    Ok(Visible::new(text).ok_or("a visible text")?)
-}
-
-fn meta(alloc: Global, name: &str, value: &str) -> Result<Meta, Fail> {
-    let name = Text::new(String::from_str(alloc, name)?).ok_or("a name")?;
-    Ok(Meta {
-        name,
-        value: visible(alloc, value)?,
-    })
 }
 
 // One header of each kind.
-fn each_header(alloc: Global) -> Result<Vec<Header>, Fail> {
+fn each_header(rt: &impl Abort, alloc: Global) -> [Header; 14] {
     let range = SentRange {
         first: 4,
         last: 5,
         total: 6,
     };
-    let mut headers = Vec::new(alloc);
-    headers.push(Header::ContentType(visible(alloc, "text/plain")?))?;
-    headers.push(Header::ContentEncoding(visible(alloc, "gzip")?))?;
-    headers.push(Header::ContentLanguage(visible(alloc, "en")?))?;
-    headers.push(Header::ContentMd5([7; 16]))?;
-    headers.push(Header::CacheControl(visible(alloc, "no-cache")?))?;
-    headers.push(Header::ContentDisposition(visible(alloc, "inline")?))?;
-    headers.push(Header::ContentRange(range))?;
-    headers.push(Header::Meta(meta(alloc, "colour", "red")?))?;
-    headers.push(Header::BlobType)?;
-    headers.push(Header::AcceptRanges)?;
-    headers.push(Header::PublicAccess(Level::Blob))?;
-    headers.push(Header::BlobLength(6))?;
-    headers.push(Header::Etag(2))?;
-    headers.push(Header::LastModified(Moment::new(1).ok_or("a moment")?))?;
-    Ok(headers)
+    [
+        Header::ContentType(visible(rt, alloc, "text/plain")),
+        Header::ContentEncoding(visible(rt, alloc, "gzip")),
+        Header::ContentLanguage(visible(rt, alloc, "en")),
+        Header::ContentMd5([7; 16]),
+        Header::CacheControl(visible(rt, alloc, "no-cache")),
+        Header::ContentDisposition(visible(rt, alloc, "inline")),
+        Header::ContentRange(range),
+        Header::Meta(meta(rt, alloc, "colour", visible(rt, alloc, "red"))),
+        Header::BlobType,
+        Header::AcceptRanges,
+        Header::PublicAccess(Level::Blob),
+        Header::BlobLength(6),
+        Header::Etag(2),
+        Header::LastModified(moment(rt, alloc)),
+    ]
 }
 
-fn push_copy(alloc: Global, shares: &mut Shares, piece: &[u8]) -> Result<(), AllocError> {
-    let share = Share::new(alloc, piece.to_vec(alloc)?)?;
-    if shares.len() >= 100 || share.len() >= 100 {
-        return Err(AllocError);
-    }
-    shares.push(share)
-}
-
-fn sent(alloc: Global, pieces: &[&[u8]]) -> Result<Reply, Fail> {
-    let mut body = Shares::empty(alloc);
+fn joined(rt: &impl Abort, alloc: Global, pieces: &[&[u8]]) -> Shares {
+    let mut shares = Shares::empty(alloc);
     for piece in pieces {
-        push_copy(alloc, &mut body, piece)?;
+        let share = share(rt, alloc, piece);
+        assert!(rt; shares.len() < 100 && share.len() < 100);
+        shares.push(share).expect(rt, "memory");
     }
-    Ok(Reply {
+    shares
+}
+
+// A reply with all headers and these pieces of its body.
+fn sent(rt: &impl Abort, alloc: Global, pieces: &[&[u8]]) -> Reply {
+    let headers = Vec::from_array(alloc, each_header(rt, alloc)).expect(rt, "memory");
+    Reply {
         status: Status::Partial,
         code: None,
         rule: None,
-        headers: Items::new(each_header(alloc)?),
+        headers: Items::new(headers),
         length: 2,
-        body,
-    })
+        body: joined(rt, alloc, pieces),
+    }
 }
 
 #[test]
-fn replies_are_compared_whole(rt: HostRuntime) -> Result<(), Fail> {
-    let reply = sent(rt.alloc(), &[b"ne"])?;
-    assert!(rt; reply.same(&reply.clone()?));
-    assert!(rt; reply.same(&sent(rt.alloc(), &[b"n", b"", b"e"])?));
-    assert!(rt; reply == sent(rt.alloc(), &[b"n", b"e"])?);
-    assert!(rt; !reply.same(&sent(rt.alloc(), &[b"no"])?));
-    assert!(rt; !reply.same(&Reply::denied(rt.alloc(), Rule::O3, Code::BlobNotFound)?));
-    let mut longer = reply.clone()?;
-    longer.length = 3;
-    assert!(rt; !reply.same(&longer));
-    let mut bare = reply.clone()?;
-    bare.headers = Items::new(Vec::new(rt.alloc()));
-    assert!(rt; !reply.same(&bare));
-    Ok(())
+fn replies_are_copied_and_compared_whole(rt: HostRuntime) {
+    let alloc = rt.alloc();
+    let reply = sent(&rt, alloc, &[b"ne"]);
+    let mut copy = reply.clone().expect(&rt, "memory");
+    assert!(rt; copy.same(&reply) && copy == reply);
+    assert!(rt; reply == sent(&rt, alloc, &[b"n", b"", b"e"]));
+    assert!(rt; reply != sent(&rt, alloc, &[b"no"]));
+    copy.length = 3;
+    assert!(rt; copy != reply);
 }

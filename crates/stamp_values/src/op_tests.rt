@@ -2,171 +2,35 @@
 
 use crate::op::Op;
 
-// Columns: the path names a container, a blob; the operation writes; it has conditions; it is a PUT,
-// whose body may have an MD5; it keeps metadata; the limit of its body.
+// Letters: the path names a container (c), a blob (b); the operation writes (w); it has conditions (i); it is a PUT,
+// whose body may have an MD5 (m); it keeps metadata (k). Behind them is the limit of its body in bytes.
 #[test]
 fn what_each_operation_is_asked_on(rt: HostRuntime) {
-    for (op, container, blob, writes, conditions, md5, metadata, limit) in [
-        (
-            Op::ListContainers,
-            false,
-            false,
-            false,
-            false,
-            false,
-            false,
-            1_048_576,
-        ),
-        (
-            Op::CreateContainer,
-            true,
-            false,
-            true,
-            false,
-            true,
-            true,
-            1_048_576,
-        ),
-        (
-            Op::ContainerProperties,
-            true,
-            false,
-            false,
-            false,
-            false,
-            false,
-            1_048_576,
-        ),
-        (
-            Op::SetContainerMetadata,
-            true,
-            false,
-            true,
-            false,
-            true,
-            true,
-            1_048_576,
-        ),
-        (
-            Op::GetAcl,
-            true,
-            false,
-            false,
-            false,
-            false,
-            false,
-            1_048_576,
-        ),
-        (Op::SetAcl, true, false, true, false, true, false, 65_536),
-        (
-            Op::DeleteContainer,
-            true,
-            false,
-            true,
-            false,
-            false,
-            false,
-            1_048_576,
-        ),
-        (
-            Op::ListBlobs,
-            true,
-            false,
-            false,
-            false,
-            false,
-            false,
-            1_048_576,
-        ),
-        (Op::PutBlob, true, true, true, true, true, true, 67_108_864),
-        (
-            Op::GetBlob,
-            true,
-            true,
-            false,
-            true,
-            false,
-            false,
-            1_048_576,
-        ),
-        (
-            Op::BlobProperties,
-            true,
-            true,
-            false,
-            true,
-            false,
-            false,
-            1_048_576,
-        ),
-        (
-            Op::GetMetadata,
-            true,
-            true,
-            false,
-            true,
-            false,
-            false,
-            1_048_576,
-        ),
-        (
-            Op::SetMetadata,
-            true,
-            true,
-            true,
-            true,
-            true,
-            true,
-            1_048_576,
-        ),
-        (
-            Op::DeleteBlob,
-            true,
-            true,
-            true,
-            true,
-            false,
-            false,
-            1_048_576,
-        ),
-        (
-            Op::PutBlock,
-            true,
-            true,
-            true,
-            false,
-            true,
-            false,
-            4_194_304,
-        ),
-        (
-            Op::PutBlockList,
-            true,
-            true,
-            true,
-            true,
-            true,
-            true,
-            8_388_608,
-        ),
-        (
-            Op::GetBlockList,
-            true,
-            true,
-            false,
-            false,
-            false,
-            false,
-            1_048_576,
-        ),
+    for (op, facts, limit) in [
+        (Op::ListContainers, b"------", 1_048_576),
+        (Op::CreateContainer, b"c-w-mk", 1_048_576),
+        (Op::ContainerProperties, b"c-----", 1_048_576),
+        (Op::SetContainerMetadata, b"c-w-mk", 1_048_576),
+        (Op::GetAcl, b"c-----", 1_048_576),
+        (Op::SetAcl, b"c-w-m-", 65_536),
+        (Op::DeleteContainer, b"c-w---", 1_048_576),
+        (Op::ListBlobs, b"c-----", 1_048_576),
+        (Op::PutBlob, b"cbwimk", 67_108_864),
+        (Op::GetBlob, b"cb-i--", 1_048_576),
+        (Op::BlobProperties, b"cb-i--", 1_048_576),
+        (Op::GetMetadata, b"cb-i--", 1_048_576),
+        (Op::SetMetadata, b"cbwimk", 1_048_576),
+        (Op::DeleteBlob, b"cbwi--", 1_048_576),
+        (Op::PutBlock, b"cbw-m-", 4_194_304),
+        (Op::PutBlockList, b"cbwimk", 8_388_608),
+        (Op::GetBlockList, b"cb----", 1_048_576),
     ] {
-        assert_eq!(rt; op.names_container(), container, "at {op:?}");
-        assert_eq!(rt; op.names_blob(), blob, "at {op:?}");
-        assert_eq!(rt; op.writes(), writes, "at {op:?}");
-        assert_eq!(rt; op.has_conditions(), conditions, "at {op:?}");
-        assert_eq!(rt; op.checks_md5(), md5, "at {op:?}");
-        assert_eq!(rt; op.keeps_metadata(), metadata, "at {op:?}");
-        assert_eq!(rt; op.body_limit(), limit, "at {op:?}");
+        let &[container, blob, writes, conditions, md5, metadata] = facts;
+        let path = op.names_container() == (container == b'c') && op.names_blob() == (blob == b'b');
+        let kind = op.writes() == (writes == b'w') && op.has_conditions() == (conditions == b'i');
+        let kept = op.checks_md5() == (md5 == b'm') && op.keeps_metadata() == (metadata == b'k');
+        assert!(rt; path && kind && kept, "at {op:?}");
+        assert!(rt; op.body_limit() == limit, "at {op:?}");
     }
 }
 

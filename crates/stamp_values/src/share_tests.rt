@@ -1,15 +1,15 @@
 //! What no clause says of shared bytes: that each call can succeed, sums from outside, printed
 //! text, and memory.
 
-ghost use Rattle.std.specs.Prelude.{◌≡◌, IfOk};
+ghost use Rattle.std.specs.Prelude.{◌≡◌};
 
 use crate::body::Body;
 use crate::gathering::Gathering;
 use crate::share::Share;
 use crate::shares::Shares;
-use std::alloc::{AllocError, Global};
+use std::alloc::Global;
 use std::fs;
-use std::test::Fail;
+use std::process::Abort;
 
 const MEBIBYTES: usize = 1024 * 1024;
 
@@ -28,38 +28,26 @@ const SUM_OF_HELLO: [u8; 16] = [
     0x5d, 0x41, 0x40, 0x2a, 0xbc, 0x4b, 0x2a, 0x76, 0xb9, 0x71, 0x9d, 0x91, 0x10, 0x17, 0xc5, 0x92,
 ];
 
-fn share_of(alloc: Global, bytes: &[u8]) -> Result<Share, AllocError>
-    ensures { IfOk result (λ s. s ≡ bytes.now) }
+fn share_of(rt: &impl Abort, alloc: Global, bytes: &[u8]) -> Share
+    ensures { result ≡ bytes.now }
 {
-    Ok(Share::new(alloc, bytes.to_vec(alloc)?)?)
+    let bytes = bytes.to_vec(alloc).expect(rt, "memory");
+    Share::new(alloc, bytes).expect(rt, "memory")
 }
 
-fn body_of(alloc: Global, bytes: &[u8]) -> Result<Body, AllocError> {
-    Ok(Body::of(share_of(alloc, bytes)?))
-}
-
-fn push_copy(alloc: Global, shares: &mut Shares, piece: &[u8]) -> Result<(), AllocError> {
-    let share = share_of(alloc, piece)?;
-    if shares.len() >= MEBIBYTES || share.len() >= MEBIBYTES {
-        return Err(AllocError);
-    }
-    shares.push(share)
+fn body_of(rt: &impl Abort, alloc: Global, bytes: &[u8]) -> Body {
+    Body::of(share_of(rt, alloc, bytes))
 }
 
 // The pieces as shares of one list.
-fn shares_of(alloc: Global, pieces: &[&[u8]]) -> Result<Shares, AllocError> {
+fn shares_of(rt: &impl Abort, alloc: Global, pieces: &[&[u8]]) -> Shares {
     let mut shares = Shares::empty(alloc);
     for piece in pieces {
-        push_copy(alloc, &mut shares, piece)?;
+        let share = share_of(rt, alloc, piece);
+        assert!(rt; shares.len() < MEBIBYTES && share.len() < MEBIBYTES);
+        shares.push(share).expect(rt, "memory");
     }
-    Ok(shares)
-}
-
-fn gathered(mut gathering: Gathering, pieces: &[&[u8]]) -> Result<Gathering, AllocError> {
-    for piece in pieces {
-        gathering.push(piece)?;
-    }
-    Ok(gathering)
+    shares
 }
 
 fn crosses<T: Send + Sync>() {}
@@ -73,158 +61,144 @@ fn threads_may_have_each() {
 }
 
 #[test]
-fn slices_of_slices(rt: HostRuntime) -> Result<(), Fail> {
-    let whole = share_of(rt.alloc(), b"hello world")?;
-    assert_eq!(rt; whole.len(), 11);
-    let end = whole.slice(6, 11)?;
-    assert_eq!(rt; end.as_slice(), b"world".as_slice());
-    assert_eq!(rt; end.len(), 5);
-    let inner = end.slice(1, 4)?;
-    assert_eq!(rt; inner.as_slice(), b"orl".as_slice());
-    assert_eq!(rt; end.slice(5, 5)?, Share::empty());
-    Ok(())
+fn slices_of_slices(rt: HostRuntime) {
+    let alloc = rt.alloc();
+    let whole = share_of(&rt, alloc, b"hello world");
+    let end = whole.slice(6, 11).expect(&rt, "memory");
+    let inner = end.slice(1, 4).expect(&rt, "memory");
+    assert!(rt; end.as_slice() == b"world".as_slice() && inner.as_slice() == b"orl".as_slice());
+    assert!(rt; end.slice(5, 5).expect(&rt, "memory") == Share::empty());
 }
 
 #[test]
-fn shares_are_copied(rt: HostRuntime) -> Result<(), Fail> {
-    let hello = share_of(rt.alloc(), b"hello")?;
-    assert_eq!(rt; hello.share()?, hello);
-    assert_eq!(rt; hello.clone()?, hello);
-    assert!(rt; !hello.same(&Share::empty()));
-    assert_eq!(rt; Share::empty().share()?, share_of(rt.alloc(), b"")?);
-    Ok(())
+fn shares_and_bodies_are_copied(rt: HostRuntime) {
+    let alloc = rt.alloc();
+    let share = share_of(&rt, alloc, b"hello");
+    assert!(rt; share.share().expect(&rt, "memory") == share);
+    assert!(rt; share.clone().expect(&rt, "memory") == share && !share.same(&Share::empty()));
+    let body = Body::of(share);
+    assert!(rt; body.share().expect(&rt, "memory") == body);
+    assert!(rt; body.clone().expect(&rt, "memory") == body && body != Body::empty());
+    assert!(rt; body.into_share().as_slice() == b"hello".as_slice());
 }
 
 #[test]
-fn sums_are_md5(rt: HostRuntime) -> Result<(), Fail> {
+fn sums_are_md5(rt: HostRuntime) {
+    let alloc = rt.alloc();
     assert!(rt; Body::empty().sum() == SUM_OF_NOTHING);
-    assert!(rt; body_of(rt.alloc(), b"abc")?.sum() == SUM_OF_ABC);
-    assert!(rt; body_of(rt.alloc(), b"hello")?.sum() == SUM_OF_HELLO);
-    Ok(())
+    assert!(rt; body_of(&rt, alloc, b"abc").sum() == SUM_OF_ABC);
+    assert!(rt; body_of(&rt, alloc, b"hello").sum() == SUM_OF_HELLO);
+}
+
+// The sum of these pieces, gathered.
+fn gathered_sum(
+    rt: &impl Abort,
+    alloc: Global,
+    gathering: Gathering,
+    pieces: &[&[u8]],
+) -> [u8; 16] {
+    let mut gathering = gathering;
+    for piece in pieces {
+        gathering.push(piece).expect(rt, "memory");
+    }
+    gathering.finish(alloc).expect(rt, "memory").sum()
 }
 
 #[test]
-fn bodies_are_copied(rt: HostRuntime) -> Result<(), Fail> {
-    let hello = body_of(rt.alloc(), b"hello")?;
-    assert_eq!(rt; hello.share()?, hello);
-    assert_eq!(rt; hello.clone()?, body_of(rt.alloc(), b"hello")?);
-    assert!(rt; hello != body_of(rt.alloc(), b"hallo")?);
-    assert_eq!(rt; hello.into_share().as_slice(), b"hello".as_slice());
-    Ok(())
+fn pieces_are_gathered(rt: HostRuntime) {
+    let alloc = rt.alloc();
+    let empty = Gathering::new(alloc);
+    assert!(rt; gathered_sum(&rt, alloc, empty, &[b"a", b"", b"bc"]) == SUM_OF_ABC);
+    let roomy = Gathering::with_room(alloc, 5).expect(&rt, "memory");
+    assert!(rt; gathered_sum(&rt, alloc, roomy, &[b"hel", b"lo"]) == SUM_OF_HELLO);
 }
 
 #[test]
-fn pieces_are_gathered(rt: HostRuntime) -> Result<(), Fail> {
-    let empty = Gathering::new(rt.alloc());
-    let body = gathered(empty, &[b"a", b"", b"bc"])?.finish(rt.alloc())?;
-    assert_eq!(rt; body.as_slice(), b"abc".as_slice());
-    assert!(rt; body.sum() == SUM_OF_ABC);
-    let roomy = Gathering::with_room(rt.alloc(), 5)?;
-    let body = gathered(roomy, &[b"hel", b"lo"])?.finish(rt.alloc())?;
-    assert!(rt; body.sum() == SUM_OF_HELLO);
-    Ok(())
+fn ranges_go_across_shares(rt: HostRuntime) {
+    let alloc = rt.alloc();
+    let shares = shares_of(&rt, alloc, &[b"hello", b"", b" ", b"world"]);
+    assert!(rt; shares.len() == 11);
+    let part = shares.range(alloc, 3, 8).expect(&rt, "memory");
+    assert!(rt; part.as_slice().len() == 3);
+    assert!(rt; part.joined(alloc).expect(&rt, "memory").as_slice() == b"lo wo".as_slice());
 }
 
 #[test]
-fn ranges_go_across_shares(rt: HostRuntime) -> Result<(), Fail> {
-    let shares = shares_of(rt.alloc(), &[b"hello", b"", b" ", b"world"])?;
-    assert_eq!(rt; shares.len(), 11);
-    let part = shares.range(rt.alloc(), 3, 8)?;
-    assert_eq!(rt; part.as_slice().len(), 3);
-    assert_eq!(rt; part.joined(rt.alloc())?.as_slice(), b"lo wo".as_slice());
-    assert!(rt; shares.range(rt.alloc(), 4, 4)?.is_empty());
-    assert_eq!(rt; shares.range(rt.alloc(), 0, 11)?, shares);
-    Ok(())
+fn shares_are_written(rt: HostRuntime) {
+    let alloc = rt.alloc();
+    let shares = shares_of(&rt, alloc, &[b"hello", b"", b" world"]);
+    let mut out = Vec::new(alloc);
+    let copy = shares.clone().expect(&rt, "memory");
+    copy.write_to(&mut out).expect(&rt, "memory");
+    assert!(rt; out.as_slice() == b"hello world".as_slice());
 }
 
 #[test]
-fn shares_are_written(rt: HostRuntime) -> Result<(), Fail> {
-    let shares = shares_of(rt.alloc(), &[b"hello", b"", b" world"])?;
-    assert_eq!(rt; shares.as_slice().len(), 3);
-    let mut out = Vec::new(rt.alloc());
-    shares.clone()?.write_to(&mut out)?;
-    assert_eq!(rt; out.as_slice(), b"hello world".as_slice());
-    Ok(())
-}
-
-#[test]
-fn cuts_are_not_compared(rt: HostRuntime) -> Result<(), Fail> {
-    let whole = shares_of(rt.alloc(), &[b"hello world"])?;
-    let cuts: [(&[&[u8]], bool); 9] = [
-        (&[b"hello", b" world"], true),
+fn cuts_are_not_compared(rt: HostRuntime) {
+    let alloc = rt.alloc();
+    let whole = shares_of(&rt, alloc, &[b"hello world"]);
+    let cuts: [(&[&[u8]], bool); 6] = [
         (&[b"hell", b"", b"o wor", b"ld"], true),
         (&[b"", b"h", b"ello worl", b"d", b""], true),
-        (&[b"hello worl", b"", b"", b"d"], true),
-        (&[b"hello", b" worle"], false),
         (&[b"Hello", b" world"], false),
         (&[b"hello worl"], false),
         (&[b"hello world", b"d"], false),
         (&[], false),
     ];
-    for (i, (pieces, same)) in cuts.iter().enumerate() {
-        let cut = shares_of(rt.alloc(), pieces)?;
-        assert!(rt; (cut == whole) == *same, "at {i}");
-        assert!(rt; whole.same(&cut) == *same, "at {i}");
+    for (pieces, same) in cuts {
+        assert!(rt;
+            whole.same(&shares_of(&rt, alloc, pieces)) == same,
+            "{pieces:?}"
+        );
     }
-    Ok(())
 }
 
 #[test]
-fn lengths_are_printed(rt: HostRuntime) -> Result<(), Fail> {
-    let share = share_of(rt.alloc(), b"abc")?;
-    assert_eq!(rt;
-        format!(in rt.alloc(); "{share:?}")?.as_str(),
-        "Share of 3 bytes"
+fn lengths_are_printed(rt: HostRuntime) {
+    let alloc = rt.alloc();
+    let body = body_of(&rt, alloc, b"abc");
+    let shares = shares_of(&rt, alloc, &[b"ab", b"cd"]);
+    let gathering = Gathering::new(alloc);
+    let share = body.as_share();
+    let printed = format!(in alloc; "{share:?}, {body:?}, {gathering:?}, {shares:?}");
+    assert!(rt;
+        printed.expect(&rt, "memory").as_str()
+            == "Share of 3 bytes, Body of 3 bytes, Gathering of 0 bytes, Shares of 4 bytes"
     );
-    let body = Body::of(share);
-    assert_eq!(rt;
-        format!(in rt.alloc(); "{body:?}")?.as_str(),
-        "Body of 3 bytes"
-    );
-    let gathering = Gathering::new(rt.alloc());
-    assert_eq!(rt;
-        format!(in rt.alloc(); "{gathering:?}")?.as_str(),
-        "Gathering of 0 bytes"
-    );
-    let shares = Shares::empty(rt.alloc());
-    assert_eq!(rt;
-        format!(in rt.alloc(); "{shares:?}")?.as_str(),
-        "Shares of 0 bytes"
-    );
-    Ok(())
 }
 
-// How many kilobytes of the process lie in memory.
-fn resident(rt: &HostRuntime) -> Result<usize, Fail> {
-    let status = fs::read_to_string(rt, "/proc/self/status")?;
-    let mut count = 0;
+// How many kilobytes of the process lie in memory, where the system says so.
+fn resident(rt: &HostRuntime) -> Option<u64> {
+    let status = fs::read_to_string(rt, "/proc/self/status").ok()?;
+    let mut count = None;
     for line in status.as_str().lines() {
         if let Some(rest) = line.strip_prefix("VmRSS:") {
-            count = rest.trim().trim_end_matches(" kB").parse::<usize>()?;
+            count = rest.trim().trim_end_matches(" kB").parse::<u64>().ok();
         }
     }
-    Ok(count)
+    count
 }
 
 #[test]
-fn shares_take_no_memory(rt: HostRuntime) -> Result<(), Fail> {
+fn shares_take_no_memory(rt: HostRuntime) {
+    let alloc = rt.alloc();
     let count = 16 * MEBIBYTES;
-    let body = Body::of(Share::new(rt.alloc(), vec![in rt.alloc(); 7u8; count]?)?);
-    assert_eq!(rt; body.len(), count);
-    let before = resident(&rt)?;
+    let bytes = vec![in alloc; 7u8; count].expect(&rt, "memory");
+    let body = Body::of(Share::new(alloc, bytes).expect(&rt, "memory"));
+    assert!(rt; body.len() == count);
+    let before = resident(&rt).expect(&rt, "a status");
     assert!(rt; before >= 16 * 1024, "the body isn't counted");
-    let mut bodies = Vec::new(rt.alloc());
-    let mut slices = Vec::new(rt.alloc());
+    let mut bodies = Vec::new(alloc);
+    let mut slices = Vec::new(alloc);
     for i in 0..1000 {
-        bodies.push(body.share()?)?;
-        slices.push(body.as_share().slice(i, count - i)?)?;
+        let slice = body.as_share().slice(i, count - i).expect(&rt, "memory");
+        bodies
+            .push(body.share().expect(&rt, "memory"))
+            .expect(&rt, "memory");
+        slices.push(slice).expect(&rt, "memory");
     }
-    let after = resident(&rt)?;
-    assert!(rt;
-        after.saturating_sub(before) < 8 * 1024,
-        "{before} kB before, {after} kB after"
-    );
+    let more = resident(&rt).expect(&rt, "a status").saturating_sub(before);
+    assert!(rt; more < 8 * 1024, "{more} kB more than {before} kB");
     // All of them still stand here.
-    assert_eq!(rt; bodies.len() + slices.len(), 2000);
-    Ok(())
+    assert!(rt; bodies.len() + slices.len() == 2000);
 }

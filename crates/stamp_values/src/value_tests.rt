@@ -14,150 +14,114 @@ use crate::policy::Policy;
 use crate::text::Text;
 use crate::visible::Visible;
 use std::alloc::Global;
-use std::test::Fail;
+use std::process::Abort;
 
-fn text(alloc: Global, text: &str) -> Result<Text, Fail> {
-    Ok(Text::new(String::from_str(alloc, text)?).ok_or("a control character")?)
+fn text(rt: &impl Abort, alloc: Global, text: &str) -> Text {
+    let text = String::from_str(alloc, text).expect(rt, "memory");
+    Text::new(text).expect(rt, "a clean text")
 }
 
-fn long_text(alloc: Global, count: u16) -> Result<Text, Fail> {
-    let mut all = String::new(alloc);
-    for _ in 0..count {
-        all.push_str("a")?;
-    }
-    Ok(Text::new(all).ok_or("a control character")?)
+// The letter `a` so many times.
+fn visible(rt: &impl Abort, alloc: Global, count: usize) -> Visible {
+    let text = "a".repeat(alloc, count).expect(rt, "memory");
+    let text = Text::new(text).expect(rt, "a clean text");
+    Visible::new(text).expect(rt, "a visible text")
 }
 
-fn visible(alloc: Global, value: &str) -> Result<Visible, Fail> {
-    Ok(Visible::new(text(alloc, value)?).ok_or("not printable")?)
-}
-
-fn policy(alloc: Global, id: &str) -> Result<Policy, Fail> {
-    Ok(Policy {
-        id: text(alloc, id)?,
+fn policy(rt: &impl Abort, alloc: Global, id: &str) -> Policy {
+    Policy {
+        id: text(rt, alloc, id),
         start: None,
         expiry: Some(Moment::first()),
         letters: Letters::new(true, false, false, false),
-    })
-}
-
-fn metadata(alloc: Global, names: &[&str]) -> Result<Option<Metadata>, Fail> {
-    let mut metas = Vec::new(alloc);
-    for name in names {
-        metas.push(Meta {
-            name: text(alloc, name)?,
-            value: visible(alloc, "x")?,
-        })?;
     }
-    Ok(Metadata::new(Items::new(metas)))
 }
 
-fn long_metadata(alloc: Global, count: u16) -> Result<Option<Metadata>, Fail> {
+// Metadata of names, which are the words of a text, each with a value of so many letters.
+fn metadata(rt: &impl Abort, alloc: Global, names: &str, count: usize) -> Option<Metadata> {
     let mut metas = Vec::new(alloc);
-    metas.push(Meta {
-        name: text(alloc, "a")?,
-        value: Visible::new(long_text(alloc, count)?).ok_or("not printable")?,
-    })?;
-    Ok(Metadata::new(Items::new(metas)))
+    for name in names.split(' ') {
+        let name = text(rt, alloc, name);
+        let value = visible(rt, alloc, count);
+        metas.push(Meta { name, value }).expect(rt, "memory");
+    }
+    Metadata::new(Items::new(metas))
 }
 
-fn policies(alloc: Global, ids: &[&str]) -> Result<Option<Policies>, Fail> {
+// Policies of ids, which are the words of a text.
+fn policies(rt: &impl Abort, alloc: Global, ids: &str) -> Option<Policies> {
     let mut list = Vec::new(alloc);
-    for id in ids {
-        list.push(policy(alloc, id)?)?;
+    for id in ids.split(' ') {
+        list.push(policy(rt, alloc, id)).expect(rt, "memory");
     }
-    Ok(Policies::new(Items::new(list)))
+    Policies::new(Items::new(list))
 }
 
-fn block_id(alloc: Global, count: u16) -> Result<Option<BlockId>, Fail> {
-    let mut bytes = Vec::new(alloc);
-    for _ in 0..count {
-        bytes.push(0xff)?;
+fn key(rt: &impl Abort, alloc: Global, account: &str, container: &str) -> Key {
+    Key {
+        account: text(rt, alloc, account),
+        container: text(rt, alloc, container),
     }
-    Ok(BlockId::new(Bytes::new(bytes)))
 }
 
 // The numbers are those of GNU date: `date -u -d 2012-10-01 +%s`, times 10,000,000.
 #[test]
-fn moments_reach_from_1970_to_9999(rt: HostRuntime) -> Result<(), Fail> {
+fn moments_reach_from_1970_to_9999(rt: HostRuntime) {
     assert_eq!(rt; Moment::new(-1), None);
     assert_eq!(rt; Moment::new(0), Some(Moment::first()));
-    let last = Moment::new(2_534_023_007_999_999_999).ok_or("the last moment")?;
+    let last = Moment::new(2_534_023_007_999_999_999).expect(&rt, "the last moment");
     assert_eq!(rt; last.ticks(), 2_534_023_007_999_999_999);
     assert_eq!(rt; Moment::new(2_534_023_008_000_000_000), None);
-    let noon = Moment::new(13_490_928_000_000_000).ok_or("a moment")?;
+    let noon = Moment::new(13_490_928_000_000_000).expect(&rt, "a moment");
     assert!(rt; Moment::first() < noon && noon < last);
-    Ok(())
 }
 
 #[test]
-fn texts_have_no_control_characters_and_are_ordered_by_their_bytes(
-    rt: HostRuntime,
-) -> Result<(), Fail> {
+fn texts_have_no_control_characters_and_are_ordered_by_their_bytes(rt: HostRuntime) {
     let alloc = rt.alloc();
-    assert!(rt; Text::new(String::from_str(alloc, "a\tb")?).is_none());
-    let letter = text(alloc, "\u{e9}")?;
-    assert!(rt; letter == letter.clone()?);
-    assert!(rt; text(alloc, "B")? < text(alloc, "a")?);
-    assert!(rt; text(alloc, "z")? < letter);
-    assert_eq!(rt; letter.into_string().as_str(), "\u{e9}");
-    assert_eq!(rt;
-        Visible::octet_stream(alloc)?.as_str(),
-        "application/octet-stream"
-    );
-    assert_eq!(rt; Visible::xml(alloc)?.as_text().as_str(), "application/xml");
-    assert_eq!(rt; Visible::empty(alloc).into_text().as_str(), "");
-    assert!(rt; Visible::new(text(alloc, "\u{e9}")?).is_none());
-    Ok(())
+    assert!(rt; Text::new(String::from_str(alloc, "a\tb").expect(&rt, "memory")).is_none());
+    let letter = text(&rt, alloc, "\u{e9}");
+    assert!(rt; letter == letter.clone().expect(&rt, "memory"));
+    assert!(rt; text(&rt, alloc, "B") < text(&rt, alloc, "a") && text(&rt, alloc, "z") < letter);
+    assert!(rt; Visible::new(letter).is_none());
 }
 
 #[test]
-fn bytes_and_lists_give_back_what_they_hold(rt: HostRuntime) -> Result<(), Fail> {
-    let alloc = rt.alloc();
-    let bytes = Bytes::new(b"\xff\x00".to_vec(alloc)?);
-    assert!(rt; bytes == bytes.clone()?);
-    assert!(rt; Bytes::new(b"\x01\xff".to_vec(alloc)?) < bytes);
-    assert!(rt; bytes.as_slice() == b"\xff\x00".as_slice());
-    assert!(rt; bytes.into_vec().as_slice() == b"\xff\x00".as_slice());
-    let items = Items::new([3, 1].to_vec(alloc)?);
-    assert!(rt; items == items.clone()?);
-    assert!(rt; items.as_slice() == [3, 1].as_slice());
-    assert!(rt; items.into_vec().as_slice() == [3, 1].as_slice());
-    Ok(())
+fn content_types_are_printed(rt: HostRuntime) {
+    let stream = Visible::octet_stream(rt.alloc()).expect(&rt, "memory");
+    assert!(rt; stream.as_str() == "application/octet-stream");
+    let xml = Visible::xml(rt.alloc()).expect(&rt, "memory");
+    assert!(rt; xml.into_text().into_string().as_str() == "application/xml");
 }
 
 #[test]
-fn keys_are_ordered_by_account_and_then_by_container(rt: HostRuntime) -> Result<(), Fail> {
+fn bytes_and_lists_are_copied_and_ordered(rt: HostRuntime) {
     let alloc = rt.alloc();
-    let pics = Key {
-        account: text(alloc, "devstoreaccount1")?,
-        container: text(alloc, "pics")?,
-    };
-    let middle = Key {
-        account: text(alloc, "devstoreaccount1")?,
-        container: text(alloc, "m")?,
-    };
-    let other = Key {
-        account: text(alloc, "other")?,
-        container: text(alloc, "")?,
-    };
-    assert!(rt; middle < pics && pics < other);
-    assert!(rt; pics.same(&pics.clone()?));
-    assert!(rt; !pics.same(&middle));
-    assert!(rt; !pics.same(&other));
-    Ok(())
+    let bytes = Bytes::new(b"\xff\x00".to_vec(alloc).expect(&rt, "memory"));
+    assert!(rt; bytes == bytes.clone().expect(&rt, "memory"));
+    assert!(rt; Bytes::new(b"\x01\xff".to_vec(alloc).expect(&rt, "memory")) < bytes);
+    let items = Items::new([3, 1].to_vec(alloc).expect(&rt, "memory"));
+    assert!(rt; items == items.clone().expect(&rt, "memory"));
 }
 
 #[test]
-fn block_ids_have_1_to_64_bytes(rt: HostRuntime) -> Result<(), Fail> {
+fn keys_are_ordered_by_account_and_then_by_container(rt: HostRuntime) {
     let alloc = rt.alloc();
-    assert!(rt; block_id(alloc, 0)?.is_none());
-    let shortest = block_id(alloc, 1)?.ok_or("one byte")?;
-    let longest = block_id(alloc, 64)?.ok_or("64 bytes")?;
-    assert!(rt; block_id(alloc, 65)?.is_none());
-    assert!(rt; shortest < longest);
-    assert_eq!(rt; longest.as_slice().len(), 64);
-    Ok(())
+    let pics = key(&rt, alloc, "devstoreaccount1", "pics");
+    let middle = key(&rt, alloc, "devstoreaccount1", "m");
+    assert!(rt; middle < pics && pics < key(&rt, alloc, "other", ""));
+    assert!(rt; pics.same(&pics.clone().expect(&rt, "memory")) && !pics.same(&middle));
+}
+
+#[test]
+fn block_ids_have_1_to_64_bytes(rt: HostRuntime) {
+    for (count, good) in [(0, false), (1, true), (64, true), (65, false)] {
+        let bytes = vec![in rt.alloc(); 0xff; count].expect(&rt, "memory");
+        assert!(rt;
+            BlockId::new(Bytes::new(bytes)).is_some() == good,
+            "{count} bytes"
+        );
+    }
 }
 
 #[test]
@@ -169,45 +133,47 @@ fn levels_rise(rt: HostRuntime) {
 }
 
 #[test]
-fn metadata_rise_by_good_names(rt: HostRuntime) -> Result<(), Fail> {
+fn metadata_rise_by_good_names_and_have_at_most_8192_bytes(rt: HostRuntime) {
+    for (names, count, good) in [
+        ("_ a b", 1, true),
+        ("a a", 1, false),
+        ("b a", 1, false),
+        ("A", 1, false),
+        ("", 1, false),
+        ("a", 8191, true),
+        ("a", 8192, false),
+    ] {
+        let metadata = metadata(&rt, rt.alloc(), names, count);
+        assert!(rt; metadata.is_some() == good, "{names} {count}");
+    }
+}
+
+#[test]
+fn at_most_five_policies_with_ids_of_their_own(rt: HostRuntime) {
+    for (ids, good) in [
+        ("b a c d e", true),
+        ("a b c d e f", false),
+        ("a b a", false),
+        ("", false),
+    ] {
+        assert!(rt; policies(&rt, rt.alloc(), ids).is_some() == good, "{ids}");
+    }
+}
+
+#[test]
+fn metadata_and_policies_are_copied(rt: HostRuntime) {
     let alloc = rt.alloc();
-    assert_eq!(rt; Metadata::empty(alloc).as_slice().len(), 0);
-    let three = metadata(alloc, ["_", "a", "b"].as_slice())?.ok_or("good names")?;
-    assert_eq!(rt; three.as_slice().len(), 3);
-    assert!(rt; three == three.clone()?);
-    assert!(rt; metadata(alloc, ["a", "a"].as_slice())?.is_none());
-    assert!(rt; metadata(alloc, ["b", "a"].as_slice())?.is_none());
-    assert!(rt; metadata(alloc, ["A"].as_slice())?.is_none());
-    assert!(rt; metadata(alloc, [""].as_slice())?.is_none());
-    Ok(())
+    let metadata = metadata(&rt, alloc, "a b", 1).expect(&rt, "good names");
+    assert!(rt; metadata == metadata.clone().expect(&rt, "memory"));
+    let policies = policies(&rt, alloc, "b a").expect(&rt, "good ids");
+    assert!(rt; policies == policies.clone().expect(&rt, "memory"));
 }
 
 #[test]
-fn metadata_have_at_most_8192_bytes(rt: HostRuntime) -> Result<(), Fail> {
-    assert!(rt; long_metadata(rt.alloc(), 8191)?.is_some());
-    assert!(rt; long_metadata(rt.alloc(), 8192)?.is_none());
-    Ok(())
-}
-
-#[test]
-fn at_most_five_policies_with_ids_of_their_own(rt: HostRuntime) -> Result<(), Fail> {
-    let alloc = rt.alloc();
-    assert_eq!(rt; Policies::empty(alloc).as_slice().len(), 0);
-    let five = policies(alloc, ["b", "a", "c", "d", "e"].as_slice())?.ok_or("five ids")?;
-    assert_eq!(rt; five.as_slice().len(), 5);
-    assert!(rt; five == five.clone()?);
-    assert!(rt; policies(alloc, ["a", "b", "c", "d", "e", "f"].as_slice())?.is_none());
-    assert!(rt; policies(alloc, ["a", "b", "a"].as_slice())?.is_none());
-    assert!(rt; policies(alloc, [""].as_slice())?.is_none());
-    Ok(())
-}
-
-#[test]
-fn letters_give_at_least_one_permission(rt: HostRuntime) -> Result<(), Fail> {
+fn letters_give_at_least_one_permission(rt: HostRuntime) {
     assert!(rt; Letters::new(false, false, false, false).is_none());
-    let writes = Letters::new(false, true, false, false).ok_or("one letter")?;
+    let writes = Letters::new(false, true, false, false).expect(&rt, "one letter");
     assert!(rt; writes.writes() && !writes.reads() && !writes.deletes() && !writes.lists());
-    let rest = Letters::new(true, false, true, true).ok_or("three letters")?;
+    let rest = Letters::new(true, false, true, true).expect(&rt, "three letters");
     assert!(rt; rest.reads() && !rest.writes() && rest.deletes() && rest.lists());
-    Ok(())
 }
