@@ -1,3 +1,4 @@
+pub mod Allowed
 pub mod BlobLists
 pub mod OneContainer
 pub mod Orderings

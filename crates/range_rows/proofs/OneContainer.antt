@@ -1,12 +1,12 @@
 -- A world of one container.
-use Rattle.std.proofs.Common.{◌≡◌, Bool, true, false, cond, List, ℕ, Option, Some, None, unwrap_or, sym, ap, ◌∙◌, refl}
+use Rattle.std.proofs.Common.{◌≡◌, ◌<◌, Bool, true, false, cond, List, ℕ, Option, Some, None, unwrap_or, sym, ap, ◌∙◌, refl, subst}
 use Rattle.std.specs.Prelude.{IsSome, is_some}
 use Rattle.std.specs.FinMap as finite
 use Rattle.std.specs.Cmp.{eq_by_cmp_equiv}
 use Rattle.std.specs.Ordering.{eq_by_cmp}
 use Rattle.stamp_values.specs.Order.{name_cmp, key_cmp, keys_total, keys_exact}
 use Rattle.stamp_values.specs.declared.key.Key.{Key}
-use Rattle.stamp_types.specs.World.{Part, no_part, no_blob, part_at, blob_in, changed, changed_in}
+use Rattle.stamp_types.specs.World.{Part, World, no_part, no_blob, part_at, blob_in, changed, changed_in}
 use Rattle.stamp_types.specs.declared.piece.Piece.{Piece}
 use Rattle.stamp_types.specs.Changes.{KeyedAct}
 use Rattle.range_rows.specs.Opening.{one_part}
@@ -64,3 +64,15 @@ module _ {C : Type 0} (k : Key) (p : Part C) where
       sym (ap (λ r. finite.insert (one_part k p) c.key (changed f c.act r)) part
       ∙ ap (λ q. finite.insert (one_part k p) q (changed f c.act p)) (sym same)
       ∙ one_part-insert (changed f c.act p))
+
+-- the count of a container that stands is that of the container itself
+pub counted_own : {C : Type 0} (k : Key) (p : Part C) (w : World C) (q : Key) (n : ℕ) → one_part k p ≡ w → IsSome (part_at w q).standing → (part_at w q).count < n → p.count < n
+counted_own k p w q n is stands less =
+    let stands : IsSome (part_at (one_part k p) q).standing = subst (λ v. IsSome (part_at v q).standing) (sym is) stands in
+    subst (λ r. r.count < n) (part_at-own k p q (stands-own k p q stands)) (subst (λ v. (part_at v q).count < n) (sym is) less)
+
+-- a change of a container that stands is one of the container itself
+pub changed_own : {C : Type 0} (f : List Piece → C) (k : Key) (p r : Part C) (w : World C) (c : KeyedAct) → one_part k p ≡ w → IsSome (part_at w c.key).standing → r ≡ changed f c.act p → one_part k r ≡ changed_in f w c
+changed_own f k p r w c is stands now =
+    let stands : IsSome (part_at (one_part k p) c.key).standing = subst (λ v. IsSome (part_at v c.key).standing) (sym is) stands in
+    ap (one_part k) now ∙ changed-one_part k p f c (stands-own k p c.key stands) ∙ ap (λ v. changed_in f v c) is

@@ -66,25 +66,28 @@ impl Blobs {
 
     /// Writes a blob, whether it was there or not. Its uncommitted blocks are dropped.
     ///
-    /// `AllocError` where there is no memory for one more row. The blobs are as they were then.
+    /// `AllocError` where there is no memory for one more row and its name. The blobs are as they were then.
     pub(crate) fn write(
         &mut self,
         alloc: Global,
-        name: Text,
+        name: &Text,
         committed: Committed<Pieces>,
     ) -> Result<(), AllocError>
-        requires name { IsTrue (is_blob name) }
+        requires name { IsTrue (is_blob name.now) }
         requires blocks { IsTrue (are_blocks committed.blocks) }
-        ensures written { OnOk result (self.new ≡ finite.insert self.old name (written committed)) }
+        ensures written { OnOk result (self.new ≡ finite.insert self.old name.now (written committed)) }
         ensures refused { OnErr result (self.new ≡ self.old) }
     {
-        match place_of(&self.rows, &name) {
+        match place_of(&self.rows, name) {
             Some(at) => {
                 let row = &mut self.rows[at];
                 row.write(alloc, committed);
                 Ok(())
             }
-            None => Ok(self.rows.push(Row::new(alloc, name, committed))?),
+            None => {
+                let row = Row::new(alloc, name, committed)?;
+                Ok(self.rows.push(row)?)
+            }
         }
     }
 }

@@ -17,5 +17,4 @@ mod sample_requests;
 mod uncommitted;
 
 pub use object_rules::object_code;
-pub use request_changes::change_of;
 pub use rows::Rows;

@@ -1,9 +1,10 @@
 //! What writing requests do.
-ghost use Rattle.std.specs.Prelude.{◌≡◌, ◌↔◌, ◌≤◌, IfOk, IfSome, IsSome, IsTrue, length};
+ghost use Rattle.std.specs.Prelude.{◌≡◌, ◌<◌, ◌≤◌, IfOk, IsSome, IsTrue, None, Some, length};
 ghost use Rattle.stamp_types.specs.PropsFields.{is_kept};
 ghost use Rattle.stamp_values.specs.declared.op.Op.TheVariants as op;
 ghost use Rattle.range_rows.specs.RequestChanges as changes;
 
+use crate::rows::Rows;
 use stamp_types::{Act, Change, Kept, Moment, Op, Pieces, Props, PutBlob, Request, Text};
 use std::alloc::{AllocError, Global};
 
@@ -50,27 +51,52 @@ fn put_blob(
     })
 }
 
-/// The change that an allowed request makes at the moment: a Put Blob makes one, and no other operation
-/// does so far. Its ETag is given where it is applied.
-///
-/// `AllocError` where there is no memory for the change, or the body can have no further owner.
+// The change that a Put Blob makes.
 #[tactic(auto, using(crate::proofs::PutParts::kept_fits))]
-pub fn change_of(
-    alloc: Global,
-    request: &Request,
-    moment: Moment,
-) -> Result<Option<Change>, AllocError>
-    ensures value { IfOk result (λ change. change ≡ changes.change_of request.now moment) }
-    ensures made { IfOk result (λ change. IsSome change ↔ (request.now.ask.op ≡ op.PutBlob)) }
-    ensures put { IfOk result (λ change. IfSome change (λ c. IsTrue (changes.is_put_act c.act))) }
+fn put_change(alloc: Global, request: &Request, moment: Moment) -> Result<Change, AllocError>
+    requires { request.now.ask.op ≡ op.PutBlob }
+    ensures value { IfOk result (λ change. changes.change_of request.now moment ≡ Some change) }
+    ensures put { IfOk result (λ change. IsTrue (changes.is_put_act change.act)) }
+    ensures key { IfOk result (λ change. change.key ≡ request.now.ask.key) }
 {
     let ask = request.ask();
-    match (ask.op, &ask.blob, &ask.args.kept) {
-        (Op::PutBlob, Some(blob), Some(kept)) => {
+    match (&ask.blob, &ask.args.kept) {
+        (Some(blob), Some(kept)) => {
             let key = ask.key.clone()?;
             let put = put_blob(alloc, request, moment, blob, kept)?;
-            Ok(Change::new(key, Act::PutBlob(put)))
+            match Change::new(key, Act::PutBlob(put)) {
+                Some(change) => Ok(change),
+                None => unreachable!(),
+            }
         }
-        _ => Ok(None),
+        _ => unreachable!(),
+    }
+}
+
+impl Rows {
+    ghost use Rattle.stamp_types.specs.World.{part_at};
+    ghost use Rattle.range_rows.specs.ObjectRules.{object_rule, count_limit};
+
+    /// The change that an allowed Put Blob makes at the moment, with all that `apply` asks of it. Its ETag is
+    /// given where it is applied.
+    ///
+    /// `AllocError` where there is no memory for the change, or the body can have no further owner.
+    #[tactic(auto, using(crate::proofs::Allowed::allowed_stands, crate::proofs::Allowed::allowed_room))]
+    pub fn change(
+        &self,
+        alloc: Global,
+        request: &Request,
+        moment: Moment,
+    ) -> Result<Change, AllocError>
+        requires put { request.now.ask.op ≡ op.PutBlob }
+        requires allowed { object_rule (part_at self.now request.now.ask.key) request.now ≡ None }
+        ensures value { IfOk result (λ change. changes.change_of request.now moment ≡ Some change) }
+        ensures put { IfOk result (λ change. IsTrue (changes.is_put_act change.act)) }
+        ensures standing { IfOk result (λ change. IsSome (part_at self.now change.key).standing) }
+        ensures count { IfOk result (λ change. (part_at self.now change.key).count < count_limit) }
+    {
+        // A count has 64 bits, so below the largest one is all but that one, which O6 refuses.
+        let _count = self.count(&request.ask().key);
+        put_change(alloc, request, moment)
     }
 }

@@ -87,18 +87,20 @@ impl Rows {
         container.blobs().committed(name)
     }
 
-    /// Makes a change of a container that stands, which is a Put Blob.
+    /// Makes a change of a container that stands, which is a Put Blob. The row has copies of the change's texts,
+    /// and shares its content.
     ///
-    /// `AllocError` where there is no memory for it. The rows are as they were then.
-    pub fn apply(&mut self, alloc: Global, change: Change) -> Result<(), AllocError>
-        requires put { IsTrue (is_put_act change.act) }
-        requires standing { IsSome (part_at self.old change.key).standing }
-        requires count { (part_at self.old change.key).count < count_limit }
-        ensures changed { OnOk result (self.new ≡ changed_in same_pieces self.old change) }
+    /// `AllocError` where there is no memory for it, or the content can have no further owner. The rows are as
+    /// they were then.
+    #[tactic(auto, using(crate::proofs::OneContainer::changed_own))]
+    pub fn apply(&mut self, alloc: Global, change: &Change) -> Result<(), AllocError>
+        requires put { IsTrue (is_put_act change.now.act) }
+        requires standing { IsSome (part_at self.old change.now.key).standing }
+        requires count { (part_at self.old change.now.key).count < count_limit }
+        ensures changed { OnOk result (self.new ≡ changed_in same_pieces self.old change.now) }
         ensures refused { OnErr result (self.new ≡ self.old) }
     {
-        let (_key, act) = change.into_parts();
-        self.container.apply(alloc, act)?;
+        self.container.apply(alloc, change.act())?;
         Ok(())
     }
 }

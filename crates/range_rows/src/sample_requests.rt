@@ -1,9 +1,12 @@
 //! Requests and rows for tests.
 
+// What can want memory is made first and each part in a function of its own: an `Ask` that is alive over a `?`
+// costs the prover a minute.
+
 use crate::rows::Rows;
 use stamp_types::{
-    Args, Ask, Body, Bytes, Credential, Items, Kept, Key, Level, Moment, Op, Request, Share,
-    Signing, Text, Verb, Visible,
+    Args, Ask, Body, Bytes, Credential, Items, Kept, Key, Level, Meta, Metadata, Moment, Op,
+    Request, Share, Signing, Text, Verb, Visible,
 };
 use std::alloc::Global;
 use std::test::Fail;
@@ -11,15 +14,28 @@ use std::test::Fail;
 // 2012-10-01T12:00:00Z
 const NOON: i64 = 13_490_928_000_000_000;
 
+pub(crate) type Sum = [u8; 16];
+
+/// A Put Blob. The word is each kept text and the value of its metadata; an empty one is not sent.
+#[derive(Clone, Copy, Debug)]
+pub(crate) struct Upload {
+    pub(crate) container: &'static str,
+    pub(crate) blob: &'static str,
+    pub(crate) word: &'static str,
+    pub(crate) content_md5: Option<Sum>,
+    pub(crate) kept_md5: Option<Sum>,
+    pub(crate) bytes: &'static [u8],
+}
+
 pub(crate) fn moment() -> Result<Moment, Fail> {
     Ok(Moment::new(NOON).ok_or("no moment")?)
 }
 
-pub(crate) fn text(alloc: Global, text: &str) -> Result<Text, Fail> {
+fn text(alloc: Global, text: &str) -> Result<Text, Fail> {
     Ok(Text::new(String::from_str(alloc, text)?).ok_or("an unclean text")?)
 }
 
-pub(crate) fn visible(alloc: Global, letters: &str) -> Result<Visible, Fail> {
+fn visible(alloc: Global, letters: &str) -> Result<Visible, Fail> {
     Ok(Visible::new(text(alloc, letters)?).ok_or("an invisible text")?)
 }
 
@@ -30,27 +46,55 @@ fn key(alloc: Global, container: &str) -> Result<Key, Fail> {
     })
 }
 
-// Headers to keep, of which only the type is sent.
-fn kept(alloc: Global, content_type: &str) -> Result<Kept, Fail> {
+fn kept(alloc: Global, word: &str, md5: Option<Sum>) -> Result<Kept, Fail> {
     Ok(Kept {
-        content_type: visible(alloc, content_type)?,
-        encoding: Visible::empty(alloc),
-        language: Visible::empty(alloc),
-        cache_control: Visible::empty(alloc),
-        md5: None,
+        content_type: visible(alloc, word)?,
+        encoding: visible(alloc, word)?,
+        language: visible(alloc, word)?,
+        cache_control: visible(alloc, word)?,
+        md5,
     })
 }
 
-// An operation on a container; Create Container makes a closed one.
-pub(crate) fn ask(alloc: Global, op: Op, container: &str) -> Result<Ask, Fail> {
-    let mut args = Args::none(alloc);
-    if op == Op::CreateContainer {
-        args.level = Some(Level::Closed);
+fn author(alloc: Global, word: &str) -> Result<Metadata, Fail> {
+    if word.is_empty() {
+        return Ok(Metadata::empty(alloc));
     }
-    Ok(Ask {
+    let name = text(alloc, "author")?;
+    let value = visible(alloc, word)?;
+    let metas = Items::new(vec![in alloc; Meta { name, value }]?);
+    Ok(Metadata::new(metas).ok_or("bad metadata")?)
+}
+
+fn body(alloc: Global, bytes: &[u8]) -> Result<Body, Fail> {
+    Ok(Body::of(Share::new(alloc, bytes.to_vec(alloc)?)?))
+}
+
+fn args(
+    content_md5: Option<Sum>,
+    kept: Option<Kept>,
+    metadata: Metadata,
+    level: Option<Level>,
+) -> Args {
+    Args {
+        if_match: None,
+        if_none_match: None,
+        content_md5,
+        range: None,
+        kept,
+        metadata,
+        level,
+        page: None,
+        block: None,
+        kinds: None,
+    }
+}
+
+fn ask(alloc: Global, op: Op, key: Key, blob: Option<Text>, args: Args) -> Ask {
+    Ask {
         op,
-        key: key(alloc, container)?,
-        blob: None,
+        key,
+        blob,
         args,
         signing: Signing {
             verb: Verb::Put,
@@ -59,29 +103,48 @@ pub(crate) fn ask(alloc: Global, op: Op, container: &str) -> Result<Ask, Fail> {
             query: Items::new(Vec::new(alloc)),
         },
         credential: Credential::Anonymous,
-    })
+    }
 }
 
-// A Put Blob, with the content type that is sent.
-pub(crate) fn put(alloc: Global, container: &str, blob: &str, media: &str) -> Result<Ask, Fail> {
-    let mut ask = ask(alloc, Op::PutBlob, container)?;
-    ask.blob = Some(text(alloc, blob)?);
-    ask.args.kept = Some(kept(alloc, media)?);
-    Ok(ask)
-}
-
-pub(crate) fn get(alloc: Global, container: &str, blob: &str) -> Result<Ask, Fail> {
-    let mut ask = ask(alloc, Op::GetBlob, container)?;
-    ask.blob = Some(text(alloc, blob)?);
-    Ok(ask)
-}
-
-pub(crate) fn request(alloc: Global, ask: Ask, bytes: &[u8]) -> Result<Request, Fail> {
-    let body = Body::of(Share::new(alloc, bytes.to_vec(alloc)?)?);
+fn request(alloc: Global, ask: Ask, body: Body) -> Result<Request, Fail> {
     Ok(Request::new(alloc, ask, body)?.ok_or("a part that doesn't fit")?)
 }
 
-// The closed container `pics`.
+pub(crate) fn put(alloc: Global, put: &Upload) -> Result<Request, Fail> {
+    let key = key(alloc, put.container)?;
+    let blob = text(alloc, put.blob)?;
+    let body = body(alloc, put.bytes)?;
+    let metadata = author(alloc, put.word)?;
+    let kept = kept(alloc, put.word, put.kept_md5)?;
+    let args = args(put.content_md5, Some(kept), metadata, None);
+    request(alloc, ask(alloc, Op::PutBlob, key, Some(blob), args), body)
+}
+
+pub(crate) fn get(alloc: Global, container: &str, blob: &str) -> Result<Request, Fail> {
+    let key = key(alloc, container)?;
+    let blob = text(alloc, blob)?;
+    let args = Args::none(alloc);
+    request(
+        alloc,
+        ask(alloc, Op::GetBlob, key, Some(blob), args),
+        Body::empty(),
+    )
+}
+
+/// An operation on a container; Create Container makes a closed one.
+pub(crate) fn on_container(alloc: Global, op: Op, container: &str) -> Result<Request, Fail> {
+    let key = key(alloc, container)?;
+    let level = if op == Op::CreateContainer {
+        Some(Level::Closed)
+    } else {
+        None
+    };
+    let args = args(None, None, Metadata::empty(alloc), level);
+    request(alloc, ask(alloc, op, key, None, args), Body::empty())
+}
+
+/// The closed container `pics`.
 pub(crate) fn pics(alloc: Global) -> Result<Rows, Fail> {
-    Ok(Rows::new(alloc, key(alloc, "pics")?, moment()?))
+    let moment = moment()?;
+    Ok(Rows::new(alloc, key(alloc, "pics")?, moment))
 }
