@@ -1,1 +1,17 @@
+pub mod AllowedHeads
+pub mod AskLemmas
+pub mod Base64Lemmas
+pub mod Ends
+pub mod FieldLemmas
 pub mod FixedLemmas
+pub mod HeadLaws
+pub mod HeadLemmas
+pub mod Items
+pub mod NumberLemmas
+pub mod StreamLemmas
+pub mod Talks
+pub mod TargetLemmas
+pub mod TextLemmas
+pub mod Transfers
+pub mod Utf8Lemmas
+pub mod ValueLemmas

@@ -1,4 +1,8 @@
 //! How a connection ended, and why it broke off.
+ghost use Rattle.std.specs.Prelude.{◌≡◌};
+ghost use Rattle.http_front.specs.declared.end.FrontFault.TheVariants.{NoMemory};
+
+use std::alloc::AllocError;
 use thiserror::Error;
 
 /// How a connection came to its end.
@@ -25,4 +29,12 @@ pub enum FrontFault {
     /// There was no memory for what had to be kept.
     #[error("out of memory")]
     NoMemory,
+}
+
+impl From<AllocError> for FrontFault {
+    ghost from_gives = { λ _ fault. fault ≡ NoMemory };
+
+    fn from(_error: AllocError) -> Self {
+        FrontFault::NoMemory
+    }
 }

@@ -1,0 +1,226 @@
+-- One item is read.
+use Rattle.std.proofs.Common.{◌≡◌, ℕ, zero, suc, ◌+◌, ◌*◌, ◌<◌, ◌≤◌, List, [], ◌∷◌, ◌++◌, Option, Some, Result, Ok, Err, OnOk, refl, sym, ap, ◌∙◌, append_assoc, append-nil, subst, length, length-append, length-take, length-drop, take, drop, arith, inl, inr}
+use Rattle.std.proofs.lemmas.List.{drop-append-le}
+use Rattle.std.specs.Io.KnownBytes.{Appends}
+use Rattle.std.proofs.KnownBytes.{Consumes-nil, Consumes-trans, Appends-trans}
+use Rattle.http_front.specs.declared.denial.Denial.{Denial}
+use Rattle.http_front.specs.declared.end.FrontFault.{FrontFault}
+use Rattle.http_front.specs.declared.end.FrontFault.TheVariants.{Read, Write, Turns, NoMemory}
+use Rattle.http_front.specs.declared.input.Found.{Found}
+use Rattle.http_front.specs.declared.input.Found.TheVariants as Founds
+use Rattle.http_front.specs.declared.input.Call.{Call}
+use Rattle.http_front.specs.HeadEnds.{head_len}
+use Rattle.http_front.specs.HeadForms.{Form}
+use Rattle.http_front.specs.Heads.{Refuses}
+use Rattle.http_front.specs.Inputs.{Fills, called, Bodies, Joins, Takes}
+use Rattle.http_front.specs.Outcomes.{Told, Served}
+use Rattle.http_front.specs.Streams.{HasHead, HasRequest, HasRefused, IsCutBody, interim}
+use Rattle.http_front.specs.Streams.Tail.{InBody}
+use Rattle.http_front.proofs.Ends.{head_len_bound}
+use Rattle.http_front.proofs.StreamLemmas.{HasHead-more}
+
+-- a list cut at its front, where more came for the front alone
+splits : (k : ℕ) (xs more : List ℕ) → length (take k xs ++ more) ≡ k → xs ++ more ≡ (take k xs ++ more) ++ drop k xs
+splits zero xs [] l = append-nil xs
+splits zero xs (y ∷ more) l = absurd (omega arith)
+splits (suc k) [] more l = sym (append-nil more)
+splits (suc k) (x ∷ xs) more l = ap (λ r. x ∷ r) (splits k xs more (omega arith))
+
+behind_head : (buffer more : List ℕ) (count : ℕ) (form : Form) → HasHead buffer count form → drop count (buffer ++ more) ≡ drop count buffer ++ more
+behind_head buffer more count form has = drop-append-le count buffer more (head_len_bound buffer count has.ends).1
+
+-- no memory for the body's start
+pub bodies_none : (fault : FrontFault) (form : Form) (count : ℕ) (left held held' : Option (List ℕ)) (buffer buffer' : List ℕ) (turns turns' : ℕ)
+    → fault ≡ NoMemory → HasHead buffer count form → Appends held held' (interim form)
+    → Told {T = List ℕ} (Err fault) (Bodies (Err fault) form count left left held held' buffer buffer' turns turns')
+bodies_none NoMemory form count left held held' buffer buffer' turns turns' is has sent = record {
+  more = [];
+  consumed = Consumes-nil left;
+  written = sent;
+  taken = HasHead-more buffer [] count form has;
+  spent = tt;
+}
+bodies_none Read form count left held held' buffer buffer' turns turns' is has sent = absurd (cc)
+bodies_none Turns form count left held held' buffer buffer' turns turns' is has sent = absurd (cc)
+bodies_none Write form count left held held' buffer buffer' turns turns' is has sent = tt
+
+cut_short : (form : Form) (count : ℕ) (buffer more body : List ℕ) → HasHead buffer count form
+    → body ≡ take form.body_len (drop count buffer) ++ more → length body < form.body_len → IsCutBody (buffer ++ more) form
+cut_short form count buffer more body has is short =
+    let size = length-take form.body_len (drop count buffer) in
+    let long = length-append (take form.body_len (drop count buffer)) more in
+    let all = length-append (drop count buffer) more in
+    let whole = ap length is in
+    let behind = ap length (behind_head buffer more count form has) in record {
+      count = count;
+      head = HasHead-more buffer more count form has;
+      short = omega arith;
+    }
+
+spent_all : (start more body : List ℕ) (turns : ℕ) → body ≡ start ++ more → turns + length start ≤ length body → turns ≤ length more
+spent_all start more body turns is h = let size = length-append start more in let whole = ap length is in omega arith
+
+-- the body is cut
+pub bodies_cut : (U : Type 0) (fault : FrontFault) (form : Form) (count k : ℕ) (left left' held held' held'' : Option (List ℕ)) (buffer start body buffer' : List ℕ) (turns turns' : ℕ)
+    → HasHead buffer count form → k ≡ form.body_len → start ≡ take k (drop count buffer) → Appends held held' (interim form)
+    → Told {T = U} (Err fault) (Fills {T = U} (Err fault) left left' start body) → Served {T = U} (Err fault) (length body < k)
+    → Told {T = U} (Err fault) (Appends held' held'' []) → (fault ≡ Turns → turns + length start ≤ length body)
+    → Told {T = List ℕ} (Err fault) (Bodies (Err fault) form count left left' held held'' buffer buffer' turns turns')
+bodies_cut U Read form count k left left' held held' held'' buffer start body buffer' turns turns' has len is sent fills short none ex =
+    let at : start ≡ take form.body_len (drop count buffer) = is ∙ ap (λ n. take n (drop count buffer)) len in record {
+      more = fills.more;
+      consumed = fills.consumed;
+      written = subst (Appends held held'') (append-nil (interim form)) (Appends-trans held held' held'' (interim form) [] sent none);
+      taken = cut_short form count buffer fills.more body has (fills.kept ∙ ap (λ l. l ++ fills.more) at) (omega arith);
+      spent = tt;
+    }
+bodies_cut U Turns form count k left left' held held' held'' buffer start body buffer' turns turns' has len is sent fills short none ex =
+    let at : start ≡ take form.body_len (drop count buffer) = is ∙ ap (λ n. take n (drop count buffer)) len in record {
+      more = fills.more;
+      consumed = fills.consumed;
+      written = subst (Appends held held'') (append-nil (interim form)) (Appends-trans held held' held'' (interim form) [] sent none);
+      taken = cut_short form count buffer fills.more body has (fills.kept ∙ ap (λ l. l ++ fills.more) at) (omega arith);
+      spent = spent_all start fills.more body turns fills.kept (ex refl);
+    }
+bodies_cut U NoMemory form count k left left' held held' held'' buffer start body buffer' turns turns' has len is sent fills short none ex = record {
+  more = fills.more;
+  consumed = fills.consumed;
+  written = subst (Appends held held'') (append-nil (interim form)) (Appends-trans held held' held'' (interim form) [] sent none);
+  taken = HasHead-more buffer fills.more count form has;
+  spent = tt;
+}
+bodies_cut U Write form count k left left' held held' held'' buffer start body buffer' turns turns' has len is sent fills short none ex = tt
+
+-- the body is whole
+pub bodies_whole : (U : Type 0) (u : U) (form : Form) (count k : ℕ) (left left' held held' held'' : Option (List ℕ)) (buffer start body rest : List ℕ) (turns turns' : ℕ)
+    → HasHead buffer count form → k ≡ form.body_len → start ≡ take k (drop count buffer) → rest ≡ drop k (drop count buffer) → Appends held held' (interim form)
+    → Fills {T = U} (Ok u) left left' start body → length body ≡ k → Appends held' held'' [] → turns + length start ≤ turns' + length body
+    → Bodies (Ok body) form count left left' held held'' buffer rest turns turns'
+bodies_whole U u form count k left left' held held' held'' buffer start body rest turns turns' has len is after sent fills whole none spent =
+    let size = length-append start fills.more in
+    let all = ap length fills.kept in
+    let at : body ≡ take k (drop count buffer) ++ fills.more = fills.kept ∙ ap (λ l. l ++ fills.more) is in record {
+      more = fills.more;
+      consumed = fills.consumed;
+      written = subst (Appends held held'') (append-nil (interim form)) (Appends-trans held held' held'' (interim form) [] sent none);
+      taken = record {
+        count = count;
+        head = HasHead-more buffer fills.more count form has;
+        whole = whole ∙ len;
+        parts = behind_head buffer fills.more count form has ∙ splits k (drop count buffer) fills.more (ap length (sym at) ∙ whole)
+            ∙ ap (λ l. l ++ drop k (drop count buffer)) (sym at) ∙ ap (λ l. body ++ l) (sym after);
+      };
+      spent = omega arith;
+    }
+
+pub bodies_less : (form : Form) (count k : ℕ) (buffer rest : List ℕ) (turns turns' : ℕ) → HasHead buffer count form → rest ≡ drop k (drop count buffer) → turns' ≤ turns
+    → turns' * 8193 + length rest < turns * 8193 + length buffer
+bodies_less form count k buffer rest turns turns' has after falls =
+    let bound = head_len_bound buffer count has.ends in
+    let some = bound.0 in
+    let within = bound.1 in
+    let one = length-drop count buffer in
+    let two = length-drop k (drop count buffer) in
+    let size = ap length after in
+    omega arith
+
+-- ---- the item
+
+spends_first : (turns turns' turns'' : ℕ) (buffer buffer' first more : List ℕ) → turns + length buffer ≤ turns' + length buffer' → buffer' ≡ buffer ++ first → turns' ≤ turns'' + length more
+    → turns ≤ turns'' + length (first ++ more)
+spends_first turns turns' turns'' buffer buffer' first more p is q =
+    let one = length-append buffer first in
+    let two = length-append first more in
+    let size = ap length is in
+    omega arith
+
+module _ (U : Type 0) (u : U) (form : Form) (count : ℕ) (left left' left'' held held' held'' : Option (List ℕ)) (buffer headed buffer' : List ℕ) (turns turns' turns'' : ℕ) where
+  joined : (first : Fills {T = U} (Ok u) left left' buffer headed) (more : List ℕ) → headed ++ more ≡ buffer ++ (first.more ++ more)
+  joined first more = ap (λ l. l ++ more) first.kept ∙ append_assoc buffer first.more more
+
+  takes_whole : (body : List ℕ) → Fills {T = U} (Ok u) left left' buffer headed → Appends held held' [] → turns + length buffer ≤ turns' + length headed
+      → Bodies (Ok body) form count left' left'' held' held'' headed buffer' turns' turns''
+      → Takes (Ok (Some (Founds.Called (called form body)))) left left'' held held'' buffer buffer' turns turns''
+  takes_whole body first none spent b = record {
+    more = first.more ++ b.more;
+    consumed = Consumes-trans left left' left'' first.more b.more first.consumed b.consumed;
+    written = interim form;
+    appended = Appends-trans held held' held'' [] (interim form) none b.written;
+    found = (form, body, subst (λ l. HasRequest l form body buffer') (joined first b.more) b.taken, refl, refl);
+    spent = spends_first turns turns' turns'' buffer headed first.more b.more spent first.kept b.spent;
+  }
+
+  takes_starved : (body : List ℕ) (fault : FrontFault) → fault ≡ NoMemory → Fills {T = U} (Ok u) left left' buffer headed → Appends held held' []
+      → Bodies (Ok body) form count left' left'' held' held'' headed buffer' turns' turns''
+      → Told {T = Option Found} (Err fault) (Takes (Err fault) left left'' held held'' buffer buffer' turns turns'')
+  takes_starved body NoMemory is first none b = record {
+    more = first.more ++ b.more;
+    consumed = Consumes-trans left left' left'' first.more b.more first.consumed b.consumed;
+    written = interim form;
+    appended = Appends-trans held held' held'' [] (interim form) none b.written;
+    found = inr (form, b.taken.count, subst (λ l. HasHead l b.taken.count form) (joined first b.more) b.taken.head, refl);
+    spent = tt;
+  }
+  takes_starved body Read is first none b = absurd (cc)
+  takes_starved body Turns is first none b = absurd (cc)
+  takes_starved body Write is first none b = tt
+
+  takes_cut : (fault : FrontFault) → Fills {T = U} (Ok u) left left' buffer headed → Appends held held' [] → turns + length buffer ≤ turns' + length headed
+      → Told {T = List ℕ} (Err fault) (Bodies (Err fault) form count left' left'' held' held'' headed buffer' turns' turns'')
+      → Told {T = Option Found} (Err fault) (Takes (Err fault) left left'' held held'' buffer buffer' turns turns'')
+  takes_cut Read first none spent b = record {
+    more = first.more ++ b.more;
+    consumed = Consumes-trans left left' left'' first.more b.more first.consumed b.consumed;
+    written = interim form;
+    appended = Appends-trans held held' held'' [] (interim form) none b.written;
+    found = (InBody form, subst (λ l. IsCutBody l form) (joined first b.more) b.taken, refl);
+    spent = tt;
+  }
+  takes_cut Turns first none spent b = record {
+    more = first.more ++ b.more;
+    consumed = Consumes-trans left left' left'' first.more b.more first.consumed b.consumed;
+    written = interim form;
+    appended = Appends-trans held held' held'' [] (interim form) none b.written;
+    found = (InBody form, subst (λ l. IsCutBody l form) (joined first b.more) b.taken, refl);
+    spent = let used = b.spent in let all = spends_first turns turns' 0 buffer headed first.more b.more spent first.kept (omega arith) in omega arith;
+  }
+  takes_cut Write first none spent b = tt
+  takes_cut NoMemory first none spent b = record {
+    more = first.more ++ b.more;
+    consumed = Consumes-trans left left' left'' first.more b.more first.consumed b.consumed;
+    written = interim form;
+    appended = Appends-trans held held' held'' [] (interim form) none b.written;
+    found = inr (form, count, subst (λ l. HasHead l count form) (joined first b.more) b.taken, refl);
+    spent = tt;
+  }
+
+  -- what came before the head, and what came of its body
+  pub takes_of : (result : Result (Option Found) FrontFault) (o : Result (List ℕ) FrontFault)
+      → Fills {T = U} (Ok u) left left' buffer headed → Appends held held' [] → turns + length buffer ≤ turns' + length headed
+      → Told o (Bodies o form count left' left'' held' held'' headed buffer' turns' turns'') → Joins form o result
+      → Told result (Takes result left left'' held held'' buffer buffer' turns turns'')
+  takes_of (Ok found) (Ok body) first none spent b j =
+      subst (λ f. Takes (Ok f) left left'' held held'' buffer buffer' turns turns'') (sym j) (takes_whole body first none spent b)
+  takes_of (Err fault) (Ok body) first none spent b j = takes_starved body fault j first none b
+  takes_of result (Err fault) first none spent b j =
+      subst (λ r. Told r (Takes r left left'' held held'' buffer buffer' turns turns'')) (sym j) (takes_cut fault first none spent b)
+
+-- a request takes from the measure
+pub less_of : (P Q : Type 0) (result : Result (Option Found) FrontFault) (o : Result (List ℕ) FrontFault) (form : Form) (call : Call)
+    → OnOk o P → Joins form o result → result ≡ Ok (Some (Founds.Called call)) → (P → Q) → Q
+less_of P Q result (Ok body) form call p j is f = f p
+less_of P Q result (Err fault) form call p j is f = absurd (let h : Err fault ≡ Ok (Some (Founds.Called call)) = sym j ∙ is in cc)
+
+-- a head that is refused
+pub takes_refused : (U : Type 0) (u : U) (denial : Denial) (count : ℕ) (left left' held held' : Option (List ℕ)) (buffer headed : List ℕ) (turns turns' : ℕ)
+    → Fills {T = U} (Ok u) left left' buffer headed → Appends held held' [] → turns + length buffer ≤ turns' + length headed
+    → head_len headed ≡ Some count → Refuses (take count headed) denial
+    → Takes (Ok (Some (Founds.Refused denial))) left left' held held' buffer headed turns turns'
+takes_refused U u denial count left left' held held' buffer headed turns turns' first none spent ends refused = record {
+  more = first.more;
+  consumed = first.consumed;
+  written = [];
+  appended = none;
+  found = (inl (subst (λ l. HasRefused l denial) first.kept (record { count = count; ends = ends; refused = refused })), refl);
+  spent = let size = length-append buffer first.more in let whole = ap length first.kept in omega arith;
+}

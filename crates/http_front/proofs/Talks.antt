@@ -1,0 +1,331 @@
+-- A run so far, and one item more.
+use Rattle.std.proofs.Common.{◌≡◌, ◌≢◌, ℕ, ◌+◌, ◌≤◌, Bool, true, false, List, [], ◌∷◌, ◌++◌, length, length-append, map, flat_map, Option, Some, None, IfSome, Result, Ok, Err, inl, inr, refl, sym, ap, ◌∙◌, subst, arith, append_assoc, append-nil}
+use Rattle.std.proofs.lemmas.List.{map-append}
+use Rattle.std.proofs.lemmas.List.Concat.{flat_map-append}
+use Rattle.std.specs.Io.KnownBytes.{Consumes, Appends, Keeps, IsAtEnd}
+use Rattle.std.proofs.KnownBytes.{Consumes-nil, Consumes-trans, Consumes-whole, Appends-nil, Appends-trans, Appends-kept}
+use Rattle.stamp_types.specs.Requests.{Asked}
+use Rattle.stamp_types.specs.declared.reply.Reply.{Reply}
+use Rattle.http_front.specs.declared.end.End.{End}
+use Rattle.http_front.specs.declared.end.End.TheVariants.{Clean, Closed}
+use Rattle.http_front.specs.declared.end.FrontFault.{FrontFault}
+use Rattle.http_front.specs.declared.end.FrontFault.TheVariants.{Read, Write, Turns, NoMemory}
+use Rattle.http_front.specs.declared.input.Found.{Found}
+use Rattle.http_front.specs.declared.input.Found.TheVariants as Founds
+use Rattle.http_front.specs.Answers.{Answers, Settles}
+use Rattle.http_front.specs.Conversations.{Exchange, item_of, moment_of, bytes_of, Ticks, Replies-to, Replies, EndsAs, Converses, Conversed, Begun, Starved}
+use Rattle.http_front.specs.Conversations.Exchange.{Answered, Turned}
+use Rattle.http_front.specs.Inputs.{Finds, Takes}
+use Rattle.http_front.specs.Outcomes.{Told, Served}
+use Rattle.http_front.specs.Streams.{Item, Tail, Begins, EndsIn, Goes-on, Reads, item_closes, interim, tail_bytes}
+use Rattle.http_front.specs.Streams.Tail.{AtStart, Closing, InHead, InBody}
+use Rattle.http_front.proofs.StreamLemmas.{Begins-more}
+
+ticks_more : {C : Type 0} (gives : C → ℕ → C → Type 0) (a b c : C) (moments : List ℕ) (moment : ℕ)
+    → Ticks gives a moments b → gives b moment c → Ticks gives a (moments ++ moment ∷ []) c
+ticks_more gives a b c [] moment p q = (c, subst (λ x. gives x moment c) p q, refl)
+ticks_more gives a b c (m ∷ moments) moment p q = (p.0, p.1, ticks_more gives p.0 b c moments moment p.2 q)
+
+replies_more : {S : Type 0} (answers : S → Asked → ℕ → Reply → S → Type 0) (a b c : S) (exchanges : List Exchange) (exchange : Exchange)
+    → Replies answers a exchanges b → Replies-to answers b exchange c → Replies answers a (exchanges ++ exchange ∷ []) c
+replies_more answers a b c [] exchange p q = (c, subst (λ x. Replies-to answers x exchange c) p q, refl)
+replies_more answers a b c (e ∷ exchanges) exchange p q = (p.0, p.1, replies_more answers p.0 b c exchanges exchange p.2 q)
+
+-- ---- one exchange
+
+-- An item that stands at the front was answered.
+pub record Step {C S : Type 0} (gives : C → ℕ → C → Type 0) (answers : S → Asked → ℕ → Reply → S → Type 0)
+    (clock clock' : C) (world world' : S) (held held' : Option (List ℕ)) (bytes rest : List ℕ) (closes : Bool) : Type 0 where
+  pub exchange : Exchange
+  pub begins : Begins bytes (item_of exchange) rest
+  pub closing : item_closes (item_of exchange) ≡ closes
+  pub ticked : gives clock (moment_of exchange) clock'
+  pub replied : Replies-to answers world exchange world'
+  pub written : Appends held held' (bytes_of exchange)
+
+pub step_of : {C S : Type 0} (gives : C → ℕ → C → Type 0) (answers : S → Asked → ℕ → Reply → S → Type 0)
+    (clock clock' : C) (world world' : S) (held held' held'' : Option (List ℕ)) (bytes rest written : List ℕ) (found : Found) (closes : Bool)
+    → Finds (Ok (Some found)) bytes rest written → Appends held held' written
+    → Settles gives answers clock clock' world world' held' held'' found closes
+    → Step gives answers clock clock' world world' held held'' bytes rest closes
+unfolding bytes_of
+step_of gives answers clock clock' world world' held held' held'' bytes rest written (Founds.Called call) closes f w s =
+    let a = subst (λ k. Answers gives answers clock clock' world world' held' held'' k) f.3 s.0 in record {
+      exchange = Answered f.0 f.1 a.moment a.reply;
+      begins = f.2;
+      closing = sym (s.1 ∙ rw f.3 refl);
+      ticked = a.ticked;
+      replied = a.replied;
+      written = Appends-trans held held' held'' (interim f.0) _ (subst (Appends held held') f.4 w) a.written;
+    }
+step_of gives answers clock clock' world world' held held' held'' bytes rest written (Founds.Refused denial) closes f w s = record {
+  exchange = Turned denial s.0.moment;
+  begins = f.0;
+  closing = sym s.2;
+  ticked = s.0.ticked;
+  replied = s.1;
+  written = Appends-trans held held' held'' [] _ (subst (Appends held held') f.1 w) s.0.written;
+}
+
+-- ---- the items
+
+-- whatever comes, the items of what was read are those that were answered, and then those of the buffer
+abbrev pub Precede : List ℕ → List Exchange → List ℕ → Type 0
+Precede received exchanges buffer = (future : List ℕ) (items : List Item) (tail : Tail) → Reads (buffer ++ future) items tail
+    → Reads (received ++ future) (map item_of exchanges ++ items) tail
+
+goes_false : (closes : Bool) (items : List Item) (tail : Tail) (P : Type 0) → closes ≡ false → P → Goes-on closes items tail P
+goes_false true items tail P e p = absurd (cc)
+goes_false false items tail P e p = p
+
+goes_true : (closes : Bool) (P : Type 0) → closes ≡ true → Goes-on closes [] Closing P
+goes_true true P e = (refl, refl)
+goes_true false P e = absurd (cc)
+
+item_more : (exchanges : List Exchange) (exchange : Exchange) (items : List Item) → map item_of exchanges ++ item_of exchange ∷ items ≡ map item_of (exchanges ++ exchange ∷ []) ++ items
+item_more exchanges exchange items =
+    sym (append_assoc (map item_of exchanges) (item_of exchange ∷ []) items) ∙ ap (λ l. l ++ items) (sym (map-append item_of exchanges (exchange ∷ [])))
+
+-- with one item more at the front
+put_first : (received buffer more rest future : List ℕ) (exchanges : List Exchange) (exchange : Exchange) (items : List Item) (tail : Tail)
+    → Precede received exchanges buffer → Begins (buffer ++ more) (item_of exchange) rest
+    → Goes-on (item_closes (item_of exchange)) items tail (Reads (rest ++ future) items tail)
+    → Reads ((received ++ more) ++ future) (map item_of (exchanges ++ exchange ∷ []) ++ items) tail
+put_first received buffer more rest future exchanges exchange items tail p begins goes =
+    let front : Reads ((buffer ++ more) ++ future) (item_of exchange ∷ items) tail = (rest ++ future, Begins-more (buffer ++ more) future (item_of exchange) rest begins, goes) in
+    let moved : Reads (buffer ++ (more ++ future)) (item_of exchange ∷ items) tail = subst (λ l. Reads l (item_of exchange ∷ items) tail) (append_assoc buffer more future) front in
+    let read = p (more ++ future) (item_of exchange ∷ items) tail moved in
+    subst (λ l. Reads l (map item_of (exchanges ++ exchange ∷ []) ++ items) tail) (sym (append_assoc received more future))
+    (subst (λ is. Reads (received ++ (more ++ future)) is tail) (item_more exchanges exchange items) read)
+
+precede_step : (received buffer more rest : List ℕ) (exchanges : List Exchange) (exchange : Exchange) → Precede received exchanges buffer
+    → Begins (buffer ++ more) (item_of exchange) rest → item_closes (item_of exchange) ≡ false → Precede (received ++ more) (exchanges ++ exchange ∷ []) rest
+precede_step received buffer more rest exchanges exchange p begins stays future items tail read =
+    put_first received buffer more rest future exchanges exchange items tail p begins (goes_false (item_closes (item_of exchange)) items tail _ stays read)
+
+last_step : (received buffer more rest : List ℕ) (exchanges : List Exchange) (exchange : Exchange) → Precede received exchanges buffer
+    → Begins (buffer ++ more) (item_of exchange) rest → item_closes (item_of exchange) ≡ true
+    → (future : List ℕ) → Reads ((received ++ more) ++ future) (map item_of (exchanges ++ exchange ∷ [])) Closing
+last_step received buffer more rest exchanges exchange p begins closes future =
+    subst (λ is. Reads ((received ++ more) ++ future) is Closing) (append-nil (map item_of (exchanges ++ exchange ∷ [])))
+    (put_first received buffer more rest future exchanges exchange [] Closing p begins (goes_true (item_closes (item_of exchange)) _ closes))
+
+stop_step : (received buffer more : List ℕ) (exchanges : List Exchange) (tail : Tail) → Precede received exchanges buffer → EndsIn (buffer ++ more) tail
+    → Reads (received ++ more) (map item_of exchanges) tail
+stop_step received buffer more exchanges tail p ends = subst (λ is. Reads (received ++ more) is tail) (append-nil (map item_of exchanges)) (p more [] tail ends)
+
+not_closing : (bytes : List ℕ) (tail : Tail) → EndsIn bytes tail → tail ≢ Closing
+not_closing bytes AtStart ends e = cc
+not_closing bytes Closing ends e = ends
+not_closing bytes InHead ends e = cc
+not_closing bytes (InBody form) ends e = cc
+
+-- ---- a run
+
+-- what was read, answered and written
+pub record Said {C S : Type 0} (gives : C → ℕ → C → Type 0) (answers : S → Asked → ℕ → Reply → S → Type 0)
+    (clock clock' : C) (world world' : S) (left left' held held' : Option (List ℕ)) (received : List ℕ) (exchanges : List Exchange) (written : List ℕ) : Type 0 where
+  pub consumed : Consumes left left' received
+  pub moments : Ticks gives clock (map moment_of exchanges) clock'
+  pub replies : Replies answers world exchanges world'
+  pub appended : Appends held held' written
+
+-- what a run has read, answered and written, and what its buffer holds
+pub record Serving {C S : Type 0} (gives : C → ℕ → C → Type 0) (answers : S → Asked → ℕ → Reply → S → Type 0)
+    (clock clock' : C) (world world' : S) (left left' held held' : Option (List ℕ)) (buffer : List ℕ) (turns turns' : ℕ) : Type 0 where
+  pub received : List ℕ
+  pub exchanges : List Exchange
+  pub said : Said gives answers clock clock' world world' left left' held held' received exchanges (flat_map bytes_of exchanges)
+  pub items : Precede received exchanges buffer
+  pub spent : turns ≤ turns' + length received
+
+-- whatever the reader still has
+if_known : (left left' : Option (List ℕ)) (received : List ℕ) (P : List ℕ → Type 0) → Consumes left left' received → ((future : List ℕ) → P (received ++ future)) → IfSome left P
+if_known None left' received P c h = tt
+if_known (Some xs) None received P c h = absurd c
+if_known (Some xs) (Some ys) received P c h = subst P (sym c) (h ys)
+
+module _ {C S : Type 0} (gives : C → ℕ → C → Type 0) (answers : S → Asked → ℕ → Reply → S → Type 0) where
+  pub serving_none : (clock : C) (world : S) (left held : Option (List ℕ)) (buffer : List ℕ) (turns : ℕ) → buffer ≡ []
+      → Serving gives answers clock clock world world left left held held buffer turns turns
+  serving_none clock world left held buffer turns e = record {
+    received = [];
+    exchanges = [];
+    said = record { consumed = Consumes-nil left; moments = refl; replies = refl; appended = Appends-nil held };
+    items = λ future items tail read. subst (λ b. Reads (b ++ future) items tail) e read;
+    spent = omega arith;
+  }
+
+  said_more : (clock clock' clock'' : C) (world world' world'' : S) (left left' left'' held held' held'' : Option (List ℕ))
+      (received more bytes rest : List ℕ) (exchanges : List Exchange) (closes : Bool)
+      → Said gives answers clock clock' world world' left left' held held' received exchanges (flat_map bytes_of exchanges)
+      → Consumes left' left'' more → (step : Step gives answers clock' clock'' world' world'' held' held'' bytes rest closes)
+      → Said gives answers clock clock'' world world'' left left'' held held'' (received ++ more) (exchanges ++ step.exchange ∷ []) (flat_map bytes_of (exchanges ++ step.exchange ∷ []))
+  said_more clock clock' clock'' world world' world'' left left' left'' held held' held'' received more bytes rest exchanges closes said came step = record {
+    consumed = Consumes-trans left left' left'' received more said.consumed came;
+    moments = rw (map-append moment_of exchanges (step.exchange ∷ [])) (ticks_more gives clock clock' clock'' (map moment_of exchanges) (moment_of step.exchange) said.moments step.ticked);
+    replies = replies_more answers world world' world'' exchanges step.exchange said.replies step.replied;
+    appended = subst (Appends held held'')
+        (ap (λ l. flat_map bytes_of exchanges ++ l) (sym (append-nil (bytes_of step.exchange))) ∙ sym (flat_map-append bytes_of exchanges (step.exchange ∷ [])))
+        (Appends-trans held held' held'' (flat_map bytes_of exchanges) (bytes_of step.exchange) said.appended step.written);
+  }
+
+  -- an item that doesn't close
+  pub serving_more : (clock clock' clock'' : C) (world world' world'' : S) (left left' left'' held held' held'' held''' : Option (List ℕ))
+      (buffer buffer' : List ℕ) (turns turns' turns'' : ℕ) (found : Found) (closes : Bool)
+      → Serving gives answers clock clock' world world' left left' held held' buffer turns turns'
+      → Takes (Ok (Some found)) left' left'' held' held'' buffer buffer' turns' turns''
+      → Settles gives answers clock' clock'' world' world'' held'' held''' found closes → closes ≡ false
+      → Serving gives answers clock clock'' world world'' left left'' held held''' buffer' turns turns''
+  serving_more clock clock' clock'' world world' world'' left left' left'' held held' held'' held''' buffer buffer' turns turns' turns'' found closes serving takes settles stays =
+      let step = step_of gives answers clock' clock'' world' world'' held' held'' held''' (buffer ++ takes.more) buffer' takes.written found closes takes.found takes.appended settles in
+      let size = length-append serving.received takes.more in
+      let before = serving.spent in
+      let now = takes.spent in record {
+        received = serving.received ++ takes.more;
+        exchanges = serving.exchanges ++ step.exchange ∷ [];
+        said = said_more clock clock' clock'' world world' world'' left left' left'' held held' held''' serving.received takes.more _ _ serving.exchanges closes serving.said takes.consumed step;
+        items = precede_step serving.received buffer takes.more buffer' serving.exchanges step.exchange serving.items step.begins (step.closing ∙ stays);
+        spent = omega arith;
+      }
+
+  -- an item that closes
+  pub closed : (clock clock' clock'' : C) (world world' world'' : S) (left left' left'' held held' held'' held''' : Option (List ℕ))
+      (buffer buffer' : List ℕ) (turns turns' turns'' : ℕ) (found : Found) (closes : Bool)
+      → Serving gives answers clock clock' world world' left left' held held' buffer turns turns'
+      → Takes (Ok (Some found)) left' left'' held' held'' buffer buffer' turns' turns''
+      → Settles gives answers clock' clock'' world' world'' held'' held''' found closes → closes ≡ true
+      → Conversed gives answers clock clock'' world world'' left left'' held held''' (Ok Closed) turns
+      × IfSome left (Converses gives answers clock clock'' world world'' held held''' (Ok Closed) turns)
+  closed clock clock' clock'' world world' world'' left left' left'' held held' held'' held''' buffer buffer' turns turns' turns'' found closes serving takes settles ends =
+      let step = step_of gives answers clock' clock'' world' world'' held' held'' held''' (buffer ++ takes.more) buffer' takes.written found closes takes.found takes.appended settles in
+      let said = said_more clock clock' clock'' world world' world'' left left' left'' held held' held''' serving.received takes.more _ _ serving.exchanges closes serving.said takes.consumed step in
+      let last = last_step serving.received buffer takes.more buffer' serving.exchanges step.exchange serving.items step.begins (step.closing ∙ ends) in
+      let all : (input : List ℕ) → Reads input (map item_of (serving.exchanges ++ step.exchange ∷ [])) Closing → Converses gives answers clock clock'' world world'' held held''' (Ok Closed) turns input =
+      λ input read. record {
+        exchanges = serving.exchanges ++ step.exchange ∷ [];
+        tail = Closing;
+        items = read;
+        moments = said.moments;
+        replies = said.replies;
+        output = subst (Appends held held''') (sym (append-nil _)) said.appended;
+        ends = refl;
+      } in (
+        record {
+          received = serving.received ++ takes.more;
+          consumed = said.consumed;
+          converses = all _ (subst (λ l. Reads l (map item_of (serving.exchanges ++ step.exchange ∷ [])) Closing) (append-nil _) (last []));
+        },
+        if_known left left'' (serving.received ++ takes.more) _ said.consumed (λ future. all _ (last future)),
+      )
+
+  -- a run that stops where no item is whole
+  stopped : (clock clock' : C) (world world' : S) (left left' left'' held held' held'' : Option (List ℕ)) (buffer more written : List ℕ) (turns turns' : ℕ)
+      (result : Result End FrontFault) (tail : Tail)
+      → (serving : Serving gives answers clock clock' world world' left left' held held' buffer turns turns')
+      → Consumes left' left'' more → Appends held' held'' written → EndsIn (buffer ++ more) tail → written ≡ tail_bytes tail
+      → EndsAs result tail turns (length (serving.received ++ more))
+      → Converses gives answers clock clock' world world' held held'' result turns (serving.received ++ more)
+  stopped clock clock' world world' left left' left'' held held' held'' buffer more written turns turns' result tail serving came went stops is ends = record {
+    exchanges = serving.exchanges;
+    tail = tail;
+    items = stop_step serving.received buffer more serving.exchanges tail serving.items stops;
+    moments = serving.said.moments;
+    replies = serving.said.replies;
+    output = Appends-trans held held' held'' (flat_map bytes_of serving.exchanges) (tail_bytes tail) serving.said.appended (subst (Appends held' held'') is went);
+    ends = ends;
+  }
+
+  pub clean : (clock clock' : C) (world world' : S) (left left' left'' held held' held'' : Option (List ℕ)) (buffer buffer' : List ℕ) (turns turns' turns'' : ℕ)
+      → Serving gives answers clock clock' world world' left left' held held' buffer turns turns'
+      → Takes (Ok None) left' left'' held' held'' buffer buffer' turns' turns'' → IsAtEnd left''
+      → Conversed gives answers clock clock' world world' left left'' held held'' (Ok Clean) turns
+      × IfSome left (Converses gives answers clock clock' world world' held held'' (Ok Clean) turns)
+  clean clock clock' world world' left left' left'' held held' held'' buffer buffer' turns turns' turns'' serving takes ended =
+      let all = stopped clock clock' world world' left left' left'' held held' held'' buffer takes.more takes.written turns turns' (Ok Clean) AtStart serving takes.consumed takes.appended takes.found.0 takes.found.1 refl in
+      let came = Consumes-trans left left' left'' serving.received takes.more serving.said.consumed takes.consumed in (
+        record { received = serving.received ++ takes.more; consumed = came; converses = all },
+        Consumes-whole left left'' (serving.received ++ takes.more) (Converses gives answers clock clock' world world' held held'' (Ok Clean) turns) came ended all,
+      )
+
+  pub cut : (fault : FrontFault) (clock clock' : C) (world world' : S) (left left' left'' held held' held'' : Option (List ℕ)) (buffer buffer' : List ℕ) (turns turns' turns'' : ℕ)
+      → Serving gives answers clock clock' world world' left left' held held' buffer turns turns'
+      → Told {T = Option Found} (Err fault) (Takes (Err fault) left' left'' held' held'' buffer buffer' turns' turns'')
+      → Served {T = End} (Err fault) (Conversed gives answers clock clock' world world' left left'' held held'' (Err fault) turns)
+  cut Read clock clock' world world' left left' left'' held held' held'' buffer buffer' turns turns' turns'' serving takes = record {
+    received = serving.received ++ takes.more;
+    consumed = Consumes-trans left left' left'' serving.received takes.more serving.said.consumed takes.consumed;
+    converses = stopped clock clock' world world' left left' left'' held held' held'' buffer takes.more takes.written turns turns' (Err Read) takes.found.0 serving takes.consumed takes.appended takes.found.1 takes.found.2
+        (not_closing (buffer ++ takes.more) takes.found.0 takes.found.1);
+  }
+  cut Turns clock clock' world world' left left' left'' held held' held'' buffer buffer' turns turns' turns'' serving takes =
+      let size = length-append serving.received takes.more in
+      let before = serving.spent in
+      let now = takes.spent in record {
+        received = serving.received ++ takes.more;
+        consumed = Consumes-trans left left' left'' serving.received takes.more serving.said.consumed takes.consumed;
+        converses = stopped clock clock' world world' left left' left'' held held' held'' buffer takes.more takes.written turns turns' (Err Turns) takes.found.0 serving takes.consumed takes.appended takes.found.1 takes.found.2
+            (not_closing (buffer ++ takes.more) takes.found.0 takes.found.1, omega arith);
+      }
+  cut Write clock clock' world world' left left' left'' held held' held'' buffer buffer' turns turns' turns'' serving takes = tt
+  cut NoMemory clock clock' world world' left left' left'' held held' held'' buffer buffer' turns turns' turns'' serving takes = tt
+
+  -- memory ran out before the answer to what stands at the front
+  starve : (clock clock' : C) (world world' : S) (left left' left'' held held' held'' : Option (List ℕ)) (buffer more written : List ℕ) (turns turns' : ℕ)
+      → Serving gives answers clock clock' world world' left left' held held' buffer turns turns'
+      → Consumes left' left'' more → Appends held' held'' written → Begun (buffer ++ more) written
+      → Starved gives answers clock world left left'' held held'' []
+  starve clock clock' world world' left left' left'' held held' held'' buffer more written turns turns' serving came went begun = record {
+    received = serving.received ++ more;
+    consumed = Consumes-trans left left' left'' serving.received more serving.said.consumed came;
+    exchanges = serving.exchanges;
+    clock_then = clock';
+    moments = serving.said.moments;
+    world_then = world';
+    replies = serving.said.replies;
+    rest = buffer ++ more;
+    items = λ items tail read. serving.items more items tail read;
+    begun = written;
+    begun_is = begun;
+    output = subst (Appends held held'') (sym (append-nil _)) (Appends-trans held held' held'' (flat_map bytes_of serving.exchanges) written serving.said.appended went);
+  }
+
+  pub starve_item : (fault : FrontFault) (clock clock' : C) (world world' : S) (left left' left'' held held' held'' : Option (List ℕ)) (buffer buffer' : List ℕ) (turns turns' turns'' : ℕ)
+      → Serving gives answers clock clock' world world' left left' held held' buffer turns turns'
+      → Told {T = Option Found} (Err fault) (Takes (Err fault) left' left'' held' held'' buffer buffer' turns' turns'')
+      → fault ≡ NoMemory → Starved gives answers clock world left left'' held held'' []
+  starve_item NoMemory clock clock' world world' left left' left'' held held' held'' buffer buffer' turns turns' turns'' serving takes is =
+      starve clock clock' world world' left left' left'' held held' held'' buffer takes.more takes.written turns turns' serving takes.consumed takes.appended takes.found
+  starve_item Read clock clock' world world' left left' left'' held held' held'' buffer buffer' turns turns' turns'' serving takes is = absurd (cc)
+  starve_item Turns clock clock' world world' left left' left'' held held' held'' buffer buffer' turns turns' turns'' serving takes is = absurd (cc)
+  starve_item Write clock clock' world world' left left' left'' held held' held'' buffer buffer' turns turns' turns'' serving takes is = absurd (cc)
+
+  begun_of : (bytes rest written : List ℕ) (found : Found) → Finds (Ok (Some found)) bytes rest written → Begun bytes written
+  begun_of bytes rest written (Founds.Called call) f = inr (f.0, f.2.count, f.2.head, f.4)
+  begun_of bytes rest written (Founds.Refused denial) f = inl f.1
+
+  pub starve_answer : (found : Found) (clock clock' : C) (world world' : S) (left left' left'' held held' held'' : Option (List ℕ)) (buffer buffer' : List ℕ) (turns turns' turns'' : ℕ)
+      → Serving gives answers clock clock' world world' left left' held held' buffer turns turns'
+      → Takes (Ok (Some found)) left' left'' held' held'' buffer buffer' turns' turns''
+      → Starved gives answers clock world left left'' held held'' []
+  starve_answer found clock clock' world world' left left' left'' held held' held'' buffer buffer' turns turns' turns'' serving takes =
+      starve clock clock' world world' left left' left'' held held' held'' buffer takes.more takes.written turns turns' serving takes.consumed takes.appended (begun_of (buffer ++ takes.more) buffer' takes.written found takes.found)
+
+  -- the last words
+  pub starved_last : (clock : C) (world : S) (left left' held held' held'' held''' : Option (List ℕ)) (last : List ℕ)
+      → Starved gives answers clock world left left' held held' [] → Appends held' held'' last → Keeps held'' held'''
+      → Starved gives answers clock world left left' held held''' last
+  starved_last clock world left left' held held' held'' held''' last s went kept = record {
+    received = s.received;
+    consumed = s.consumed;
+    exchanges = s.exchanges;
+    clock_then = s.clock_then;
+    moments = s.moments;
+    world_then = s.world_then;
+    replies = s.replies;
+    rest = s.rest;
+    items = s.items;
+    begun = s.begun;
+    begun_is = s.begun_is;
+    output = Appends-kept held held'' held''' _ (Appends-trans held held' held'' _ last (subst (Appends held held') (append-nil _) s.output) went) kept;
+  }

@@ -1,0 +1,19 @@
+use Rattle.std.proofs.Common.{◌+◌, ◌≤◌, [], length}
+use Rattle.std.specs.Io.KnownBytes.{Appends}
+use Rattle.http_front.proofs.Transfers.{Grows}
+use Rattle.http_front.proofs.input.await_body.Given as goal
+
+abbrev pub invariant-loop-body_len : goal.invariant-loop-body_len
+invariant-loop-body_len g l =
+    let remaining = g.R.Read.remaining in
+    let contents = g.W.Write.contents in
+    record {
+      fills : Grows (remaining l.fn.reader) (remaining l.reader) l.fn.body l.body;
+      held : Appends (contents l.fn.writer) (contents l.writer) [];
+      short : length l.body ≤ l.body_len;
+      falls : l.turns ≤ l.fn.turns;
+      spent : l.fn.turns + length l.fn.body ≤ l.turns + length l.body;
+    }
+
+abbrev pub decreases-loop-body_len : goal.decreases-loop-body_len
+decreases-loop-body_len g l = l.turns

@@ -1,0 +1,20 @@
+use Rattle.std.proofs.Common.{◌+◌, ◌*◌, ◌≤◌, [], length}
+use Rattle.std.specs.Io.KnownBytes.{Appends}
+use Rattle.http_front.specs.HeadEnds.{IsSearched}
+use Rattle.http_front.proofs.Transfers.{Grows}
+use Rattle.http_front.proofs.input.await_head.Given as goal
+
+abbrev pub invariant-loop-n : goal.invariant-loop-n
+invariant-loop-n g l =
+    let remaining = g.R.Read.remaining in
+    let contents = g.W.Write.contents in
+    record {
+      fills : Grows (remaining l.fn.reader) (remaining l.reader) l.fn.buffer.items l.buffer.items;
+      held : Appends (contents l.fn.writer) (contents l.writer) [];
+      searched : IsSearched l.search l.buffer.items;
+      measure : l.turns * 8193 + length l.buffer.items ≤ l.fn.turns * 8193 + length l.fn.buffer.items;
+      spent : l.fn.turns + length l.fn.buffer.items ≤ l.turns + length l.buffer.items;
+    }
+
+abbrev pub decreases-loop-n : goal.decreases-loop-n
+decreases-loop-n g l = l.turns

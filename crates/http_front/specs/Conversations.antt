@@ -1,0 +1,102 @@
+-- What is said over a connection.
+use Rattle.std.specs.Prelude.{◌≡◌, ◌≢◌, ◌⊎◌, ℕ, ◌≤◌, List, [], ◌∷◌, ◌++◌, map, flat_map, length, true, Option, Some, Result, Ok, Err}
+use Rattle.std.specs.Io.KnownBytes.{Consumes, Appends}
+use Rattle.stamp_types.specs.Requests.{Asked}
+use Rattle.stamp_types.specs.Replies.{denied}
+use Rattle.stamp_types.specs.declared.reply.Reply.{Reply}
+use Rattle.http_front.specs.declared.denial.Denial.{Denial}
+use Rattle.http_front.specs.declared.end.End.{End}
+use Rattle.http_front.specs.declared.end.End.TheVariants.{Clean, Closed}
+use Rattle.http_front.specs.declared.end.FrontFault.{FrontFault}
+use Rattle.http_front.specs.declared.end.FrontFault.TheVariants.{Turns}
+use Rattle.http_front.specs.HeadForms.{Form, with_body}
+use Rattle.http_front.specs.ReplyBytes.{reply_bytes}
+use Rattle.http_front.specs.Streams.{Item, Tail, HasHead, Reads, interim, first_bytes, tail_bytes}
+use Rattle.http_front.specs.Streams.Item.{Requested, Refused}
+use Rattle.http_front.specs.Streams.Tail.{AtStart, Closing}
+
+-- an item, the moment that the clock gave for it, and the service's reply to a request
+pub data Exchange : Type 0 where
+  Answered : Form → List ℕ → ℕ → Reply → Exchange
+  Turned : Denial → ℕ → Exchange
+
+-- what was answered
+abbrev pub item_of : Exchange → Item
+item_of (Answered form body moment reply) = Requested form body
+item_of (Turned denial moment) = Refused denial
+
+-- when it was
+abbrev pub moment_of : Exchange → ℕ
+moment_of (Answered form body moment reply) = moment
+moment_of (Turned denial moment) = moment
+
+-- the bytes of the answer
+abbrev pub answer_bytes : Exchange → List ℕ
+answer_bytes (Answered form body moment reply) = reply_bytes reply moment (Some form.ask.signing.verb) form.closes
+answer_bytes (Turned denial moment) = reply_bytes (denied denial.rule denial.code) moment denial.verb true
+
+-- what is written for an item: the interim reply where it is asked for, and the answer
+unfoldable pub bytes_of : Exchange → List ℕ
+bytes_of exchange = first_bytes (item_of exchange) ++ answer_bytes exchange
+
+-- the clock gives these moments in turn
+abbrev pub Ticks : {C : Type 0} → (C → ℕ → C → Type 0) → C → List ℕ → C → Type 0
+Ticks gives old [] new = new ≡ old
+Ticks {C} gives old (moment ∷ moments) new = (mid : C) × gives old moment mid × Ticks gives mid moments new
+
+-- the service gives this reply; of a refusal it hears nothing
+abbrev pub Replies-to : {S : Type 0} → (S → Asked → ℕ → Reply → S → Type 0) → S → Exchange → S → Type 0
+Replies-to answers old (Answered form body moment reply) new = answers old (with_body form body) moment reply new
+Replies-to answers old (Turned denial moment) new = new ≡ old
+
+-- the service gives these replies in turn
+abbrev pub Replies : {S : Type 0} → (S → Asked → ℕ → Reply → S → Type 0) → S → List Exchange → S → Type 0
+Replies answers old [] new = new ≡ old
+Replies {S} answers old (exchange ∷ exchanges) new = (mid : S) × Replies-to answers old exchange mid × Replies answers mid exchanges new
+
+-- how a run ends by where its stream stops, and that its turns were used up
+abbrev pub EndsAs : Result End FrontFault → Tail → ℕ → ℕ → Type 0
+EndsAs (Ok Clean) tail turns count = tail ≡ AtStart
+EndsAs (Ok Closed) tail turns count = tail ≡ Closing
+EndsAs (Err Turns) tail turns count = (tail ≢ Closing) × (turns ≤ count)
+EndsAs (Err fault) tail turns count = tail ≢ Closing
+
+-- The written bytes are the output of the service's replies to the items of the input, each at its moment, and the run ends as
+-- the input does.
+pub record Converses {C S : Type 0} (gives : C → ℕ → C → Type 0) (answers : S → Asked → ℕ → Reply → S → Type 0)
+    (clock clock' : C) (world world' : S) (held held' : Option (List ℕ)) (result : Result End FrontFault) (turns : ℕ) (input : List ℕ) : Type 0 where
+  pub exchanges : List Exchange
+  pub tail : Tail
+  pub items : Reads input (map item_of exchanges) tail
+  pub moments : Ticks gives clock (map moment_of exchanges) clock'
+  pub replies : Replies answers world exchanges world'
+  pub output : Appends held held' (flat_map bytes_of exchanges ++ tail_bytes tail)
+  pub ends : EndsAs result tail turns (length input)
+
+-- What a run took is answered so. Nothing is said where the writer failed or memory ran out.
+pub record Conversed {C S : Type 0} (gives : C → ℕ → C → Type 0) (answers : S → Asked → ℕ → Reply → S → Type 0)
+    (clock clock' : C) (world world' : S) (left left' held held' : Option (List ℕ)) (result : Result End FrontFault) (turns : ℕ) : Type 0 where
+  pub received : List ℕ
+  pub consumed : Consumes left left' received
+  pub converses : Converses gives answers clock clock' world world' held held' result turns received
+
+-- what was written before the answer to what stands at the front: nothing yet, or the interim reply to a head
+abbrev pub Begun : List ℕ → List ℕ → Type 0
+Begun bytes written = (written ≡ []) ⊎ ((form : Form) × (count : ℕ) × HasHead bytes count form × (written ≡ interim form))
+
+-- Memory ran out. What was taken begins with items that were answered in full; behind their output stand what was begun of the
+-- next one, and the words that end the run.
+pub record Starved {C S : Type 0} (gives : C → ℕ → C → Type 0) (answers : S → Asked → ℕ → Reply → S → Type 0)
+    (clock : C) (world : S) (left left' held held' : Option (List ℕ)) (last : List ℕ) : Type 0 where
+  pub received : List ℕ
+  pub consumed : Consumes left left' received
+  pub exchanges : List Exchange
+  pub clock_then : C
+  pub moments : Ticks gives clock (map moment_of exchanges) clock_then
+  pub world_then : S
+  pub replies : Replies answers world exchanges world_then
+  pub rest : List ℕ
+  pub items : (items : List Item) (tail : Tail) → Reads rest items tail → Reads received (map item_of exchanges ++ items) tail
+  pub begun : List ℕ
+  pub begun_is : Begun rest begun
+  pub output : Appends held held' ((flat_map bytes_of exchanges ++ begun) ++ last)

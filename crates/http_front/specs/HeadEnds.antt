@@ -1,0 +1,47 @@
+-- Where the head of a request ends: with the first empty line behind a line that isn't empty (RFC 9112, sections 2.1 and 2.2). A line
+-- ends in CR LF, or in LF alone.
+use Rattle.std.specs.Prelude.{◌≡◌, ℕ, ◌+◌, ◌≤◌, ◌==◌, List, [], ◌∷◌, length, take, Option, Some, None, if◌then◌else◌}
+use Rattle.http_front.specs.Heads.{head_limit}
+use Rattle.http_front.specs.declared.head_end.Place.{Place}
+use Rattle.http_front.specs.declared.head_end.Place.TheVariants.{Opening, OpeningReturn, InLine, LineStart, LineReturn}
+use Rattle.http_front.specs.declared.head_end.Sought.{Sought}
+use Rattle.http_front.specs.declared.head_end.Sought.TheVariants.{Found, Open}
+use Rattle.http_front.specs.declared.head_end.Search.{Search}
+
+-- where a byte leads, or None where the head ends with it
+abbrev pub step : Place → ℕ → Option Place
+step Opening b = if b == 10 then Some Opening else (if b == 13 then Some OpeningReturn else Some InLine)
+step OpeningReturn b = if b == 10 then Some Opening else Some InLine
+step InLine b = if b == 10 then Some LineStart else Some InLine
+step LineStart b = if b == 10 then None else (if b == 13 then Some LineReturn else Some InLine)
+step LineReturn b = if b == 10 then None else Some InLine
+
+-- so many bytes further on
+abbrev pub further : ℕ → Sought → Sought
+further k (Found n) = Found (k + n)
+further k (Open place) = Open place
+
+-- the end, where it comes with this byte, or else what the bytes behind it say
+abbrev pub sought_by : (Place → Sought) → Option Place → Sought
+sought_by behind None = Found 1
+sought_by behind (Some place) = further 1 (behind place)
+
+-- how many of the bytes the head still has, from a place in it
+unfoldable pub sought : Place → List ℕ → Sought
+sought place [] = Open place
+sought place (b ∷ bytes) = sought_by (λ next. sought next bytes) (step place b)
+
+-- the length of a head that was found
+abbrev pub found_len : Sought → Option ℕ
+found_len (Found n) = Some n
+found_len (Open place) = None
+
+-- how many bytes the head at the front has, where it is whole and not too long
+unfoldable pub head_len : List ℕ → Option ℕ
+head_len bytes = found_len (sought Opening (take head_limit bytes))
+
+-- the search has come so far in these bytes
+pub record IsSearched (search : Search) (bytes : List ℕ) : Type 0 where
+  pub within : search.reached ≤ length bytes
+  pub short : search.reached ≤ head_limit
+  pub place : sought Opening (take search.reached bytes) ≡ Open search.place

@@ -1,0 +1,92 @@
+-- What reading one item answers.
+use Rattle.std.specs.Prelude.{◌≡◌, ◌⊎◌, ℕ, ◌+◌, ◌≤◌, List, [], ◌++◌, length, Option, Some, None, Result, Ok, Err}
+use Rattle.std.specs.Io.KnownBytes.{Consumes, Appends}
+use Rattle.http_front.specs.HeadEnds.{head_len}
+use Rattle.http_front.specs.HeadForms.{Form, with_body}
+use Rattle.http_front.specs.Heads.{head_limit}
+use Rattle.http_front.specs.Streams.{Tail, HasHead, HasRequest, IsTooLong, Begins, IsCutBody, EndsIn, interim, tail_bytes}
+use Rattle.http_front.specs.Streams.Item.{Refused}
+use Rattle.http_front.specs.declared.end.FrontFault.{FrontFault}
+use Rattle.http_front.specs.declared.end.FrontFault.TheVariants.{Write, Turns, NoMemory}
+use Rattle.http_front.specs.declared.input.Awaited.{Awaited}
+use Rattle.http_front.specs.declared.input.Awaited.TheVariants.{Head, TooLong, End}
+use Rattle.http_front.specs.declared.input.Call.{Call}
+use Rattle.http_front.specs.declared.input.Found.{Found}
+use Rattle.http_front.specs.declared.input.Found.TheVariants as Founds
+
+-- it holds unless memory ran out
+abbrev pub Kept : {T : Type 0} → Result T FrontFault → Type 0 → Type 0
+Kept (Ok x) P = P
+Kept (Err NoMemory) P = Unit {0}
+Kept (Err fault) P = P
+
+-- the reader gave some bytes, and they were put behind the others, unless there was no memory for them
+pub record Fills {T : Type 0} (result : Result T FrontFault) (left left' : Option (List ℕ)) (bytes bytes' : List ℕ) : Type 0 where
+  pub more : List ℕ
+  pub consumed : Consumes left left' more
+  pub kept : Kept result (bytes' ≡ bytes ++ more)
+
+-- each turn gave a byte, where it was no read that found the end
+abbrev pub Spends : {T : Type 0} → Result T FrontFault → ℕ → ℕ → ℕ → Type 0
+Spends (Ok x) turns turns' count = turns ≤ turns' + count
+Spends (Err Turns) turns turns' count = turns ≤ count
+Spends (Err fault) turns turns' count = Unit {0}
+
+-- what is known of the buffer's head
+abbrev pub Awaits : Result Awaited FrontFault → List ℕ → Type 0
+Awaits (Ok (Head n)) buffer = head_len buffer ≡ Some n
+Awaits (Ok TooLong) buffer = IsTooLong buffer
+Awaits (Ok End) buffer = buffer ≡ []
+Awaits (Err NoMemory) buffer = Unit {0}
+Awaits (Err fault) buffer = (head_len buffer ≡ None) × (length buffer ≤ head_limit)
+
+-- a request as the connection takes it
+abbrev pub called : Form → List ℕ → Call
+called form body = record { request = with_body form body; verb = form.ask.signing.verb; closes = form.closes }
+
+-- what the body of a head that stands at the front came to
+abbrev pub Takes-body : Result (List ℕ) FrontFault → Form → ℕ → List ℕ → List ℕ → Type 0
+Takes-body (Ok body) form count bytes rest = HasRequest bytes form body rest
+Takes-body (Err NoMemory) form count bytes rest = HasHead bytes count form
+Takes-body (Err Write) form count bytes rest = Unit {0}
+Takes-body (Err fault) form count bytes rest = IsCutBody bytes form
+
+-- the interim reply was written where it is asked for, and these bytes were read for the body
+pub record Bodies (result : Result (List ℕ) FrontFault) (form : Form) (count : ℕ) (left left' held held' : Option (List ℕ)) (buffer buffer' : List ℕ) (turns turns' : ℕ) : Type 0 where
+  pub more : List ℕ
+  pub consumed : Consumes left left' more
+  pub written : Appends held held' (interim form)
+  pub taken : Takes-body result form count (buffer ++ more) buffer'
+  pub spent : Spends result turns turns' (length more)
+
+-- a head and its body are found to be a request, unless memory runs out
+abbrev pub Joins : Form → Result (List ℕ) FrontFault → Result (Option Found) FrontFault → Type 0
+Joins form (Ok body) (Ok found) = found ≡ Some (Founds.Called (called form body))
+Joins form (Ok body) (Err fault) = fault ≡ NoMemory
+Joins form (Err fault) result = result ≡ Err fault
+
+-- what stands at the front, what follows it, and what was written before its answer
+abbrev pub Finds : Result (Option Found) FrontFault → List ℕ → List ℕ → List ℕ → Type 0
+Finds (Ok None) bytes rest written = (bytes ≡ []) × (written ≡ [])
+Finds (Ok (Some (Founds.Called call))) bytes rest written =
+    (form : Form) × (body : List ℕ) × HasRequest bytes form body rest × (call ≡ called form body) × (written ≡ interim form)
+Finds (Ok (Some (Founds.Refused denial))) bytes rest written = Begins bytes (Refused denial) rest × (written ≡ [])
+Finds (Err Write) bytes rest written = Unit {0}
+Finds (Err NoMemory) bytes rest written = (written ≡ []) ⊎ ((form : Form) × (count : ℕ) × HasHead bytes count form × (written ≡ interim form))
+Finds (Err fault) bytes rest written = (tail : Tail) × EndsIn bytes tail × (written ≡ tail_bytes tail)
+
+-- it says of turns what `Spends` does, and nothing where the stream ended
+abbrev pub Spends-item : Result (Option Found) FrontFault → ℕ → ℕ → ℕ → Type 0
+Spends-item (Ok (Some found)) turns turns' count = turns ≤ turns' + count
+Spends-item (Ok None) turns turns' count = Unit {0}
+Spends-item (Err Turns) turns turns' count = turns ≤ count
+Spends-item (Err fault) turns turns' count = Unit {0}
+
+-- these bytes came, with them this stands at the front, and this was written before its answer
+pub record Takes (result : Result (Option Found) FrontFault) (left left' held held' : Option (List ℕ)) (buffer buffer' : List ℕ) (turns turns' : ℕ) : Type 0 where
+  pub more : List ℕ
+  pub consumed : Consumes left left' more
+  pub written : List ℕ
+  pub appended : Appends held held' written
+  pub found : Finds result (buffer ++ more) buffer' written
+  pub spent : Spends-item result turns turns' (length more)

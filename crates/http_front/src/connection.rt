@@ -1,0 +1,172 @@
+//! One connection.
+ghost use Rattle.std.specs.Prelude.{◌≡◌, [], Ok, Err, IfOk, OnOk, IfErr, IfSome};
+ghost use Rattle.std.specs.Io.KnownBytes.{Appends};
+ghost use Rattle.http_front.specs.FixedReplies.{out_of_memory_bytes};
+ghost use Rattle.http_front.specs.Outcomes.{Served, IsLate};
+ghost use Rattle.http_front.specs.Conversations.{Conversed, Converses, Starved};
+ghost use Rattle.http_front.specs.Answers.{Answers, Turns-away, Settles};
+ghost use Rattle.http_front.specs.ReplyBytes.{reply_bytes};
+ghost use Rattle.http_front.specs.declared.end.End.{End};
+ghost use Rattle.http_front.specs.declared.end.FrontFault.{FrontFault};
+ghost use Rattle.stamp_types.specs.Replies.{denied};
+
+use crate::denial::Denial;
+use crate::end::{End, FrontFault};
+use crate::fixed_replies::out_of_memory_reply;
+use crate::input::{Call, Found, next_item};
+use crate::output::send;
+use crate::reply_bytes::{sends_body, write_head};
+use crate::service::{Clock, Service};
+use stamp_types::{Moment, Reply, Verb};
+use std::alloc::Global;
+use std::io::{Read, Write};
+
+// Writes a reply: its head, and then each share of its body, none of which is copied.
+#[tactic(auto, unfolding(crate::specs::ReplyBytes::reply_bytes))]
+fn send_reply<W: Write>(
+    alloc: Global,
+    writer: &mut W,
+    reply: &Reply,
+    moment: Moment,
+    verb: Option<Verb>,
+    close: bool,
+) -> Result<(), FrontFault>
+    ensures sent { OnOk result (Appends (W.contents writer.old) (W.contents writer.new) (reply_bytes reply.now moment verb close)) }
+    ensures starved { result ≡ Err FrontFault.NoMemory → writer.new ≡ writer.old }
+    ensures late { IfErr result IsLate }
+{
+    let head = write_head(alloc, reply, moment, close)?;
+    send(writer, &head)?;
+    if !sends_body(reply.status, verb) {
+        return Ok(());
+    }
+    reply.body.write_to(writer).map_err(|_| FrontFault::Write)
+}
+
+// Answers a request, at the moment that the clock gives.
+fn answer_call<W: Write, C: Clock, S: Service>(
+    alloc: Global,
+    writer: &mut W,
+    clock: &mut C,
+    service: &mut S,
+    call: Call,
+) -> Result<(), FrontFault>
+    ensures answered { OnOk result (Answers C.gives S.answers clock.old clock.new (S.world service.old) (S.world service.new)
+        (W.contents writer.old) (W.contents writer.new) call) }
+    ensures starved { result ≡ Err FrontFault.NoMemory → writer.new ≡ writer.old }
+    ensures late { IfErr result IsLate }
+{
+    let moment = clock.now();
+    let Call {
+        request,
+        verb,
+        closes,
+    } = call;
+    let reply = service.answer(alloc, request, moment)?;
+    send_reply(alloc, writer, &reply, moment, Some(verb), closes)
+}
+
+// Says how a head is refused, at the moment that the clock gives.
+fn answer_denial<W: Write, C: Clock>(
+    alloc: Global,
+    writer: &mut W,
+    clock: &mut C,
+    denial: Denial,
+) -> Result<(), FrontFault>
+    ensures answered { OnOk result (Turns-away C.gives clock.old clock.new (W.contents writer.old) (W.contents writer.new) denial) }
+    ensures starved { result ≡ Err FrontFault.NoMemory → writer.new ≡ writer.old }
+    ensures late { IfErr result IsLate }
+{
+    let moment = clock.now();
+    let reply = Reply::denied(alloc, denial.rule, denial.code)?;
+    send_reply(alloc, writer, &reply, moment, denial.verb, true)
+}
+
+// Answers an item, and says whether it ends the connection.
+fn answer_item<W: Write, C: Clock, S: Service>(
+    alloc: Global,
+    writer: &mut W,
+    clock: &mut C,
+    service: &mut S,
+    found: Found,
+) -> Result<bool, FrontFault>
+    ensures answered { IfOk result (λ closes. Settles C.gives S.answers clock.old clock.new (S.world service.old) (S.world service.new)
+        (W.contents writer.old) (W.contents writer.new) found closes) }
+    ensures starved { result ≡ Err FrontFault.NoMemory → writer.new ≡ writer.old }
+    ensures late { IfErr result IsLate }
+{
+    match found {
+        Found::Called(call) => {
+            let closes = call.closes;
+            answer_call(alloc, writer, clock, service, call)?;
+            Ok(closes)
+        }
+        Found::Refused(denial) => {
+            answer_denial(alloc, writer, clock, denial)?;
+            Ok(true)
+        }
+    }
+}
+
+// Reads, answers and writes until the connection ends.
+fn converse<R: Read, W: Write, C: Clock, S: Service>(
+    alloc: Global,
+    reader: &mut R,
+    writer: &mut W,
+    clock: &mut C,
+    service: &mut S,
+    turns: u64,
+) -> Result<End, FrontFault>
+    ensures conversed { Served result (Conversed C.gives S.answers clock.old clock.new (S.world service.old) (S.world service.new)
+        (R.remaining reader.old) (R.remaining reader.new) (W.contents writer.old) (W.contents writer.new) result turns) }
+    ensures whole { OnOk result (IfSome (R.remaining reader.old) (Converses C.gives S.answers clock.old clock.new
+        (S.world service.old) (S.world service.new) (W.contents writer.old) (W.contents writer.new) result turns)) }
+    ensures starved { result ≡ Err FrontFault.NoMemory → Starved C.gives S.answers clock.old (S.world service.old)
+        (R.remaining reader.old) (R.remaining reader.new) (W.contents writer.old) (W.contents writer.new) [] }
+{
+    let mut buffer = Vec::new(alloc);
+    let mut left = turns;
+    loop {
+        match next_item(alloc, reader, writer, &mut buffer, &mut left)? {
+            None => return Ok(End::Clean),
+            Some(found) => {
+                if answer_item(alloc, writer, clock, service, found)? {
+                    return Ok(End::Closed);
+                }
+            }
+        }
+    }
+}
+
+/// Serves one connection: reads, answers and writes until it ends. One read asks for at most 8,192 bytes; `turns` is how
+/// many reads are made at most, that which finds the end among them.
+///
+/// The clock is read once for each item, when it is whole. Where there is no memory for a head, an answer or a reply, nothing
+/// of that reply is written but the fixed bytes that say so, and the run ends with `NoMemory`.
+pub fn run<R: Read, W: Write, C: Clock, S: Service>(
+    alloc: Global,
+    reader: &mut R,
+    writer: &mut W,
+    clock: &mut C,
+    service: &mut S,
+    turns: u64,
+) -> Result<End, FrontFault>
+    // What is written is the output of the service's replies to the items of what was read, each at its moment.
+    ensures conversed { Served result (Conversed C.gives S.answers clock.old clock.new (S.world service.old) (S.world service.new)
+        (R.remaining reader.old) (R.remaining reader.new) (W.contents writer.old) (W.contents writer.new) result turns) }
+    // It is that of the whole input, however it was cut into reads.
+    ensures whole { OnOk result (IfSome (R.remaining reader.old) (Converses C.gives S.answers clock.old clock.new
+        (S.world service.old) (S.world service.new) (W.contents writer.old) (W.contents writer.new) result turns)) }
+    // Where memory ran out, the items before are answered in full, and what is said last is that alone.
+    ensures starved { result ≡ Err FrontFault.NoMemory → Starved C.gives S.answers clock.old (S.world service.old)
+        (R.remaining reader.old) (R.remaining reader.new) (W.contents writer.old) (W.contents writer.new) out_of_memory_bytes }
+{
+    let ended = converse(alloc, reader, writer, clock, service, turns);
+    if ended == Err(FrontFault::NoMemory) {
+        send(writer, out_of_memory_reply())?;
+    }
+    if ended != Err(FrontFault::Write) && writer.flush().is_err() {
+        return Err(FrontFault::Write);
+    }
+    ended
+}

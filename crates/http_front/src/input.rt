@@ -1,0 +1,325 @@
+//! Reads one item of a stream at a time.
+ghost use Rattle.std.specs.Prelude.{◌≡◌, ◌≢◌, true, false, None, Some, ℕ, ◌+◌, ◌*◌, ◌<◌, ◌≤◌, [], Ok, Err, IfOk, OnOk, IfErr, IsOkUnless, length, take, drop};
+ghost use Rattle.std.specs.Io.KnownBytes.{Consumes, Appends, IsAtEnd};
+ghost use Rattle.http_front.specs.HeadForms.{Form, with_body};
+ghost use Rattle.http_front.specs.HeadRules.{no_head};
+ghost use Rattle.http_front.specs.Inputs.{Fills, Awaits, Bodies, Joins, Takes};
+ghost use Rattle.http_front.specs.Outcomes.{Told, Served};
+ghost use Rattle.http_front.specs.Streams.{HasHead, interim};
+ghost use Rattle.http_front.specs.declared.end.FrontFault.{FrontFault};
+ghost use Rattle.http_front.specs.declared.input.Awaited.{Awaited};
+ghost use Rattle.http_front.specs.declared.input.Call.{Call};
+ghost use Rattle.http_front.specs.declared.input.Found.{Found};
+
+use crate::denial::{Denial, HeadFault};
+use crate::end::FrontFault;
+use crate::fixed_replies::interim_reply;
+use crate::head::{Head, read_head};
+use crate::head_end::{HEAD_LIMIT, Search};
+use crate::output::send;
+use stamp_types::{Code, Gathering, Request, Rule, Verb};
+use std::alloc::{AllocError, Global};
+use std::io::{Read, Write};
+
+/// The most bytes that one read asks for.
+const READ_SIZE: usize = 8192;
+
+/// What came of waiting for a head.
+pub(crate) enum Awaited {
+    /// A head of so many bytes stands at the front.
+    Head(usize),
+    TooLong,
+    /// Nothing stands there, and nothing will come.
+    End,
+}
+
+/// A request, and what its head says of the reply.
+#[derive(Drop)]
+pub(crate) struct Call {
+    pub(crate) request: Request,
+    pub(crate) verb: Verb,
+    pub(crate) closes: bool,
+}
+
+/// An item.
+#[derive(Drop)]
+pub(crate) enum Found {
+    Called(Call),
+    Refused(Denial),
+}
+
+// One read. What was written goes out before it, since the client may wait for that.
+fn read_piece<R: Read, W: Write>(
+    reader: &mut R,
+    writer: &mut W,
+    piece: &mut [u8],
+    turns: &mut u64,
+) -> Result<usize, FrontFault>
+    ensures within { IfOk result (λ n. n ≤ length piece.new) }
+    ensures read { IfOk result (λ n. Consumes (R.remaining reader.old) (R.remaining reader.new) (take n piece.new)) }
+    ensures failed { IfErr result (λ _. Told result (Consumes (R.remaining reader.old) (R.remaining reader.new) [])) }
+    ensures end { result ≡ Ok 0 → 0 < length piece.old → IsAtEnd (R.remaining reader.new) }
+    ensures held { Told result (Appends (W.contents writer.old) (W.contents writer.new) []) }
+    ensures turn { OnOk result (turns.new + 1 ≡ turns.old) }
+    ensures exhausted { result ≡ Err FrontFault.Turns → turns.old ≡ 0 }
+    ensures memory { result ≢ Err FrontFault.NoMemory }
+{
+    if *turns == 0 {
+        return Err(FrontFault::Turns);
+    }
+    if writer.flush().is_err() {
+        return Err(FrontFault::Write);
+    }
+    *turns -= 1;
+    reader.read(piece).map_err(|_| FrontFault::Read)
+}
+
+// One read into the buffer, and whether it gave a byte.
+fn fill<R: Read, W: Write>(
+    reader: &mut R,
+    writer: &mut W,
+    buffer: &mut Vec<u8>,
+    turns: &mut u64,
+) -> Result<bool, FrontFault>
+    ensures fills { Told result (Fills result (R.remaining reader.old) (R.remaining reader.new) buffer.old.items buffer.new.items) }
+    ensures failed { IfErr result (λ _. Served result (buffer.new.items ≡ buffer.old.items)) }
+    ensures end { result ≡ Ok false → IsAtEnd (R.remaining reader.new) × (buffer.new.items ≡ buffer.old.items) }
+    ensures grown { result ≡ Ok true → length buffer.old.items < length buffer.new.items }
+    ensures size { OnOk result (length buffer.new.items ≤ length buffer.old.items + 8192) }
+    ensures held { Told result (Appends (W.contents writer.old) (W.contents writer.new) []) }
+    ensures turn { OnOk result (turns.new + 1 ≡ turns.old) }
+    ensures exhausted { result ≡ Err FrontFault.Turns → turns.old ≡ 0 }
+{
+    let mut piece = [0; READ_SIZE];
+    let n = read_piece(reader, writer, &mut piece, turns)?;
+    buffer.extend_from_slice(&piece[..n])?;
+    Ok(n > 0)
+}
+
+// Reads until a head is whole, or there can be none. Each byte is looked at once, however they come.
+fn await_head<R: Read, W: Write>(
+    reader: &mut R,
+    writer: &mut W,
+    buffer: &mut Vec<u8>,
+    turns: &mut u64,
+) -> Result<Awaited, FrontFault>
+    ensures fills { Told result (Fills result (R.remaining reader.old) (R.remaining reader.new) buffer.old.items buffer.new.items) }
+    ensures head { Told result (Awaits result buffer.new.items) }
+    ensures end { result ≡ Ok Awaited.End → IsAtEnd (R.remaining reader.new) }
+    ensures held { Told result (Appends (W.contents writer.old) (W.contents writer.new) []) }
+    ensures measure { OnOk result (turns.new * 8193 + length buffer.new.items ≤ turns.old * 8193 + length buffer.old.items) }
+    ensures spent { IfOk result (λ awaited. awaited ≢ Awaited.End → turns.old + length buffer.old.items ≤ turns.new + length buffer.new.items) }
+    ensures exhausted { result ≡ Err FrontFault.Turns → turns.old + length buffer.old.items ≤ length buffer.new.items }
+{
+    let mut search = Search::new();
+    loop {
+        if let Some(n) = search.look(buffer) {
+            return Ok(Awaited::Head(n));
+        }
+        if buffer.len() > HEAD_LIMIT {
+            return Ok(Awaited::TooLong);
+        }
+        if !fill(reader, writer, buffer, turns)? {
+            return if buffer.is_empty() {
+                Ok(Awaited::End)
+            } else {
+                Err(FrontFault::Read)
+            };
+        }
+    }
+}
+
+// One read of no more than is missing into the body, and whether it gave a byte.
+fn gather<R: Read, W: Write>(
+    reader: &mut R,
+    writer: &mut W,
+    body: &mut Gathering,
+    missing: u64,
+    turns: &mut u64,
+) -> Result<bool, FrontFault>
+    requires { 0 < missing }
+    ensures fills { Told result (Fills result (R.remaining reader.old) (R.remaining reader.new) body.old body.new) }
+    ensures failed { IfErr result (λ _. Served result (body.new ≡ body.old)) }
+    ensures end { result ≡ Ok false → IsAtEnd (R.remaining reader.new) × (body.new ≡ body.old) }
+    ensures grown { result ≡ Ok true → length body.old < length body.new }
+    ensures size { OnOk result (length body.new ≤ length body.old + missing) }
+    ensures held { Told result (Appends (W.contents writer.old) (W.contents writer.new) []) }
+    ensures turn { OnOk result (turns.new + 1 ≡ turns.old) }
+    ensures exhausted { result ≡ Err FrontFault.Turns → turns.old ≡ 0 }
+{
+    let mut piece = [0; READ_SIZE];
+    let most = missing.min(READ_SIZE as u64) as usize;
+    let n = read_piece(reader, writer, &mut piece[..most], turns)?;
+    body.push(&piece[..n])?;
+    Ok(n > 0)
+}
+
+// Reads until the body is whole.
+fn await_body<R: Read, W: Write>(
+    reader: &mut R,
+    writer: &mut W,
+    body: &mut Gathering,
+    body_len: u64,
+    turns: &mut u64,
+) -> Result<(), FrontFault>
+    requires { length body.old ≤ body_len }
+    ensures fills { Told result (Fills result (R.remaining reader.old) (R.remaining reader.new) body.old body.new) }
+    ensures whole { OnOk result (length body.new ≡ body_len) }
+    ensures cut { IfErr result (λ _. Served result (length body.new < body_len)) }
+    ensures held { Told result (Appends (W.contents writer.old) (W.contents writer.new) []) }
+    ensures falls { OnOk result (turns.new ≤ turns.old) }
+    ensures spent { OnOk result (turns.old + length body.old ≤ turns.new + length body.new) }
+    ensures exhausted { result ≡ Err FrontFault.Turns → turns.old + length body.old ≤ length body.new }
+{
+    loop {
+        let missing = body_len - body.len() as u64;
+        if missing == 0 {
+            return Ok(());
+        }
+        if !gather(reader, writer, body, missing, turns)? {
+            return Err(FrontFault::Read);
+        }
+    }
+}
+
+// Takes so many bytes off the front.
+fn drop_front(buffer: &mut Vec<u8>, count: usize)
+    requires { count ≤ length buffer.old.items }
+    ensures { buffer.new.items ≡ drop count buffer.old.items }
+{
+    let rest = buffer.len() - count;
+    buffer.copy_within(count.., 0);
+    buffer.truncate(rest);
+}
+
+// Takes the head off the front, and what is there of its body.
+fn take_start(
+    alloc: Global,
+    buffer: &mut Vec<u8>,
+    count: usize,
+    body_len: u64,
+) -> Result<Gathering, FrontFault>
+    requires { count ≤ length buffer.old.items }
+    ensures body { IfOk result (λ body. body ≡ take body_len (drop count buffer.old.items)) }
+    ensures rest { OnOk result (buffer.new.items ≡ drop body_len (drop count buffer.old.items)) }
+    ensures fault { IsOkUnless result FrontFault.NoMemory }
+{
+    let here = body_len.min((buffer.len() - count) as u64) as usize;
+    let mut body = Gathering::new(alloc);
+    body.push(&buffer[count..count + here])?;
+    drop_front(buffer, count + here);
+    Ok(body)
+}
+
+// Writes the interim reply where the head asks for it (RFC 9110, section 10.1.1).
+#[tactic(auto, unfolding(crate::specs::Streams::interim))]
+fn send_interim<W: Write>(writer: &mut W, head: &Head) -> Result<(), FrontFault>
+    ensures sent { OnOk result (Appends (W.contents writer.old) (W.contents writer.new) (interim head.now)) }
+    ensures fault { IsOkUnless result FrontFault.Write }
+{
+    if head.expects() {
+        send(writer, interim_reply())
+    } else {
+        send(writer, b"")
+    }
+}
+
+// Reads the body of a head that stands at the front, and takes both off.
+fn read_body<R: Read, W: Write>(
+    alloc: Global,
+    reader: &mut R,
+    writer: &mut W,
+    buffer: &mut Vec<u8>,
+    turns: &mut u64,
+    head: &Head,
+    count: usize,
+) -> Result<Gathering, FrontFault>
+    requires { HasHead buffer.old.items count head.now }
+    ensures bodies { Told result (Bodies result head.now count (R.remaining reader.old) (R.remaining reader.new)
+        (W.contents writer.old) (W.contents writer.new) buffer.old.items buffer.new.items turns.old turns.new) }
+    ensures measure { OnOk result (turns.new * 8193 + length buffer.new.items < turns.old * 8193 + length buffer.old.items) }
+{
+    send_interim(writer, head)?;
+    let body_len = head.body_len();
+    let mut body = take_start(alloc, buffer, count, body_len)?;
+    await_body(reader, writer, &mut body, body_len, turns)?;
+    Ok(body)
+}
+
+// The request of a head and its body.
+fn request_of(alloc: Global, head: Head, body: Gathering) -> Result<Request, FrontFault>
+    requires { length body ≡ head.body_len }
+    ensures request { IfOk result (λ request. request ≡ with_body head body) }
+    ensures fault { IsOkUnless result FrontFault.NoMemory }
+{
+    match body.finish(alloc) {
+        Ok(body) => head
+            .with_body(alloc, body)
+            .map_err(|_| FrontFault::NoMemory),
+        Err(_) => Err(FrontFault::NoMemory),
+    }
+}
+
+// What a head and its body are found to be, where the body came.
+fn join(
+    alloc: Global,
+    head: Head,
+    body: Result<Gathering, FrontFault>,
+) -> Result<Option<Found>, FrontFault>
+    requires { IfOk body (λ body. length body ≡ head.body_len) }
+    ensures { Joins head body result }
+{
+    let verb = head.verb();
+    let closes = head.closes();
+    let body = match body {
+        Ok(body) => body,
+        Err(fault) => return Err(fault),
+    };
+    let request = request_of(alloc, head, body)?;
+    Ok(Some(Found::Called(Call {
+        request,
+        verb,
+        closes,
+    })))
+}
+
+// How a head is refused that is too long.
+fn too_long() -> Denial
+    ensures { result ≡ no_head }
+{
+    let code = Code::InvalidInput;
+    Denial {
+        rule: Rule::F1,
+        status: code.status(),
+        code,
+        verb: None,
+    }
+}
+
+/// Reads the next item, and takes a request off the buffer. `None` where the stream ended before it.
+pub(crate) fn next_item<R: Read, W: Write>(
+    alloc: Global,
+    reader: &mut R,
+    writer: &mut W,
+    buffer: &mut Vec<u8>,
+    turns: &mut u64,
+) -> Result<Option<Found>, FrontFault>
+    ensures takes { Told result (Takes result (R.remaining reader.old) (R.remaining reader.new)
+        (W.contents writer.old) (W.contents writer.new) buffer.old.items buffer.new.items turns.old turns.new) }
+    ensures end { result ≡ Ok None → IsAtEnd (R.remaining reader.new) }
+    ensures measure { (call : Call) → result ≡ Ok (Some (Found.Called call)) →
+        turns.new * 8193 + length buffer.new.items < turns.old * 8193 + length buffer.old.items }
+{
+    let count = match await_head(reader, writer, buffer, turns)? {
+        Awaited::Head(count) => count,
+        Awaited::TooLong => return Ok(Some(Found::Refused(too_long()))),
+        Awaited::End => return Ok(None),
+    };
+    let head = match read_head(alloc, &buffer[..count]) {
+        Ok(head) => head,
+        Err(HeadFault::Denied(denial)) => return Ok(Some(Found::Refused(denial))),
+        Err(HeadFault::NoMemory) => return Err(FrontFault::NoMemory),
+    };
+    let body = read_body(alloc, reader, writer, buffer, turns, &head, count);
+    join(alloc, head, body)
+}

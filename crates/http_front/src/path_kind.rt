@@ -1,0 +1,14 @@
+//! What a path names.
+
+/// What a path names, by how many parts it has. Whether the parts are good names is another question.
+#[derive(Clone, Copy, Debug, PartialEq, Eq)]
+pub enum PathKind {
+    /// No account.
+    Root,
+    /// An account.
+    Account,
+    /// A container of an account.
+    Container,
+    /// A blob in a container.
+    Blob,
+}

@@ -1,0 +1,39 @@
+//! What a connection stands between.
+ghost use Rattle.std.specs.Prelude.{◌≡◌, ℕ, IfOk};
+ghost use Rattle.stamp_types.specs.Requests.{Asked};
+ghost use Rattle.stamp_types.specs.declared.reply.Reply.{Reply};
+
+use stamp_types::{Moment, Reply, Request};
+use std::alloc::{AllocError, Global};
+
+/// Answers requests.
+pub trait Service {
+    /// What its replies depend on.
+    ghost World: { Type 0 };
+
+    ghost world: { Self → World };
+
+    /// From the first world, this may be the reply to the request at the moment, and lead to the other world.
+    ghost answers: { World → Asked → ℕ → Reply → World → Type 0 };
+
+    /// The reply to the request, which is judged at `moment`.
+    ///
+    /// `AllocError` where there is no memory for the change or the reply; a change may stand then.
+    fn answer(
+        &mut self,
+        alloc: Global,
+        request: Request,
+        moment: Moment,
+    ) -> Result<Reply, AllocError>
+        ensures { IfOk result (λ reply. answers (world self.old) request moment reply (world self.new)) };
+}
+
+/// Tells the moment.
+pub trait Clock {
+    /// From the first state, the clock may give this moment and go on to the other.
+    ghost gives: { Self → ℕ → Self → Type 0 };
+
+    /// The moment at which what was just read is judged.
+    fn now(&mut self) -> Moment
+        ensures { gives self.old result self.new };
+}
