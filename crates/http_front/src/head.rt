@@ -4,6 +4,7 @@ ghost use Rattle.std.specs.Str.{IsUtf8};
 ghost use Rattle.http_front.specs.HeadForms.{form_of};
 ghost use Rattle.http_front.specs.HeadForms as head_forms;
 ghost use Rattle.http_front.specs.HeadRules.{denial_of};
+ghost use Rattle.http_front.specs.HeadRules as head_rules;
 ghost use Rattle.http_front.specs.Heads.{Accepts, Refuses};
 ghost use Rattle.http_front.specs.Targets.{origin_of, query_of};
 ghost use Rattle.http_front.specs.declared.denial.Denial.{Denial};
@@ -18,7 +19,7 @@ use crate::head_rules::{denial, op, verb};
 use crate::header_rules::body_len;
 use crate::parsed_head::ParsedHead;
 use crate::target::{origin, query};
-use stamp_types::{Ask, Body, Code, Field, Request, Rule, Status, Verb};
+use stamp_types::{Ask, Body, Code, Field, Request, Rule, Verb};
 use std::alloc::{AllocError, Global};
 use std::marker::Model;
 
@@ -98,13 +99,18 @@ fn body_by(verb: Verb, body: Body) -> Body
     }
 }
 
-// How bytes are refused that are no head.
-const NO_HEAD: Denial = Denial {
-    rule: Rule::F1,
-    status: Status::BadRequest,
-    code: Code::InvalidInput,
-    verb: None,
-};
+/// How bytes are refused that are no head.
+pub(crate) fn no_head() -> Denial
+    ensures { result ≡ head_rules.no_head }
+{
+    let code = Code::InvalidInput;
+    Denial {
+        rule: Rule::F1,
+        status: code.status(),
+        code,
+        verb: None,
+    }
+}
 
 // The form of a head that no rule refuses.
 fn form(alloc: Global, head: ParsedHead, query: Vec<Field>) -> Result<Head, AllocError>
@@ -155,7 +161,7 @@ pub fn read_head(alloc: Global, text: &[u8]) -> Result<Head, HeadFault>
     ensures denied { (denial : Denial) → result ≡ Err (fault.Denied denial) → Refuses text.now denial }
 {
     let Some(head) = parse_head(alloc, text).map_err(|_| HeadFault::NoMemory)? else {
-        return Err(HeadFault::Denied(NO_HEAD));
+        return Err(HeadFault::Denied(no_head()));
     };
     judged(alloc, head)
 }

@@ -63,7 +63,6 @@ pub fn values_under(alloc: Global, fields: &[Field], name: &str) -> Result<Vec<B
 }
 
 /// Whether the bytes are a text in UTF-8 (RFC 3629).
-
 pub fn is_utf8(bytes: &[u8]) -> bool
     ensures { result ≡ heads.is_utf8 bytes.now }
 {

@@ -5,14 +5,12 @@ ghost use Rattle.httparse.specs.Spans.{IsWithin, IsHeaderWithin, IsRequestWithin
 ghost use Rattle.http_front.specs.Heads.{IsHead, IsNoHead, parsed_of, version_of};
 ghost use Rattle.http_front.specs.HeadSpans.{field_at, parts_at};
 
+use crate::head_end::HEAD_LIMIT;
 use crate::parsed_head::{ParsedHead, Version};
 use httparse::Status;
 use httparse::spans::{EMPTY_HEADER_SPAN, HeaderSpan, RequestSpans, Span, parse_request};
 use stamp_types::{Bytes, Field, Items};
 use std::alloc::{AllocError, Global};
-
-// The bytes that a head has at most.
-const HEAD_LIMIT: usize = 16_384;
 
 // The header lines that a head has at most.
 const FIELDS_LIMIT: usize = 64;

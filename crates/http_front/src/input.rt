@@ -2,7 +2,6 @@
 ghost use Rattle.std.specs.Prelude.{◌≡◌, ◌≢◌, true, false, None, Some, ℕ, ◌+◌, ◌*◌, ◌<◌, ◌≤◌, [], Ok, Err, IfOk, OnOk, IfErr, IsOkUnless, length, take, drop};
 ghost use Rattle.std.specs.Io.KnownBytes.{Consumes, Appends, IsAtEnd};
 ghost use Rattle.http_front.specs.HeadForms.{Form, with_body};
-ghost use Rattle.http_front.specs.HeadRules.{no_head};
 ghost use Rattle.http_front.specs.Inputs.{Fills, Awaits, Bodies, Joins, Takes};
 ghost use Rattle.http_front.specs.Outcomes.{Told, Served};
 ghost use Rattle.http_front.specs.Streams.{HasHead, interim};
@@ -14,10 +13,10 @@ ghost use Rattle.http_front.specs.declared.input.Found.{Found};
 use crate::denial::{Denial, HeadFault};
 use crate::end::FrontFault;
 use crate::fixed_replies::interim_reply;
-use crate::head::{Head, read_head};
+use crate::head::{Head, no_head, read_head};
 use crate::head_end::{HEAD_LIMIT, Search};
 use crate::output::send;
-use stamp_types::{Code, Gathering, Request, Rule, Verb};
+use stamp_types::{Gathering, Request, Verb};
 use std::alloc::{AllocError, Global};
 use std::io::{Read, Write};
 
@@ -283,19 +282,6 @@ fn join(
     })))
 }
 
-// How a head is refused that is too long.
-fn too_long() -> Denial
-    ensures { result ≡ no_head }
-{
-    let code = Code::InvalidInput;
-    Denial {
-        rule: Rule::F1,
-        status: code.status(),
-        code,
-        verb: None,
-    }
-}
-
 /// Reads the next item, and takes a request off the buffer. `None` where the stream ended before it.
 pub(crate) fn next_item<R: Read, W: Write>(
     alloc: Global,
@@ -312,7 +298,7 @@ pub(crate) fn next_item<R: Read, W: Write>(
 {
     let count = match await_head(reader, writer, buffer, turns)? {
         Awaited::Head(count) => count,
-        Awaited::TooLong => return Ok(Some(Found::Refused(too_long()))),
+        Awaited::TooLong => return Ok(Some(Found::Refused(no_head()))),
         Awaited::End => return Ok(None),
     };
     let head = match read_head(alloc, &buffer[..count]) {
