@@ -1,6 +1,7 @@
 pub mod AllowedHeads
 pub mod AskLemmas
 pub mod Base64Lemmas
+pub mod ClosedWorlds
 pub mod Ends
 pub mod FieldLemmas
 pub mod FixedLemmas

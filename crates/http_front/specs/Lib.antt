@@ -11,6 +11,7 @@ pub mod HeaderLines
 pub mod Heads
 pub mod Inputs
 pub mod Outcomes
+pub mod PlainAnswers
 pub mod ReplyBytes
 pub mod Streams
 pub mod Targets

@@ -27,6 +27,9 @@ mod names;
 mod output;
 mod parsed_head;
 mod path_kind;
+mod plain;
+#[cfg(test)]
+mod plain_tests;
 mod query_rules;
 mod reply_bytes;
 #[cfg(test)]
@@ -42,5 +45,6 @@ pub use denial::{Denial, HeadFault};
 pub use end::{End, FrontFault};
 pub use head::{Head, read_head};
 pub use head_laws::a_head_is_read_in_one_way;
+pub use plain::{Plain, PlainFault};
 pub use service::{Clock, Service};
 pub use stream_laws::a_stream_is_read_in_one_way;

@@ -4,3 +4,4 @@ pub mod OneContainer
 pub mod Orderings
 pub mod PutBlocks
 pub mod PutParts
+pub mod PutReplies

@@ -25,9 +25,9 @@ abbrev pub line_of : (List ℕ → Header) → List ℕ → List Header
 line_of make [] = []
 line_of make (b ∷ bs) = make (b ∷ bs) ∷ []
 
--- when the blob was last written
-abbrev pub dated : {C : Type 0} → Committed C → List Header
-dated c = header.Etag c.etag ∷ header.LastModified c.made ∷ []
+-- which change wrote last, and when
+abbrev pub dated : ℕ → ℕ → List Header
+dated etag made = header.Etag etag ∷ header.LastModified made ∷ []
 
 -- the kept headers of a blob
 abbrev pub kept_lines : PropsFields → List Header
@@ -37,7 +37,7 @@ kept_lines k =
 
 -- the headers of a blob that is read
 abbrev pub read_headers : {C : Type 0} → Committed C → List Header
-read_headers c = kept_lines c.props ++ map header.Meta c.metadata ++ header.BlobType ∷ header.AcceptRanges ∷ dated c
+read_headers c = kept_lines c.props ++ map header.Meta c.metadata ++ header.BlobType ∷ header.AcceptRanges ∷ dated c.etag c.made
 
 -- the bytes that blocks hold themselves, in their order
 abbrev pub blocks_held : List (Block (List Piece)) → List ℕ
@@ -47,9 +47,9 @@ blocks_held bs = flat_map (λ b. held b.content) bs
 abbrev pub success : Status → List Header → ℕ → List ℕ → Reply
 success s headers length body = record { status = s; code = None; rule = None; headers = headers; length = length; body = body }
 
--- the reply to Put Blob, of the MD5 of what came and the blob as it stands then
-abbrev pub put_reply : {C : Type 0} → List ℕ → Committed C → Reply
-put_reply sum c = success status.Created (header.ContentMd5 sum ∷ dated c) 0 []
+-- the reply to Put Blob, of the MD5 of what came, and of the ETag and the moment that the blob has then
+abbrev pub put_reply : List ℕ → ℕ → ℕ → Reply
+put_reply sum etag made = success status.Created (header.ContentMd5 sum ∷ dated etag made) 0 []
 
 -- the reply to Get Blob: all of the blob
 abbrev pub get_reply : Committed (List Piece) → Reply
@@ -57,7 +57,7 @@ get_reply c = success status.Success (read_headers c) (blocks_len c.blocks) (blo
 
 -- the reply of an operation that has one so far, where the blob stands so after it
 abbrev pub reply_by : Op → Asked → Committed (List Piece) → Option Reply
-reply_by op.PutBlob q c = Some (put_reply (md5 q.body) c)
+reply_by op.PutBlob q c = Some (put_reply (md5 q.body) c.etag c.made)
 reply_by op.GetBlob q c = Some (get_reply c)
 reply_by _ q c = None
 

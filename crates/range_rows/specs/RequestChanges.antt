@@ -12,6 +12,8 @@ use Rattle.stamp_types.specs.Changes.{KeyedAct}
 use Rattle.stamp_types.specs.Pieces.{cut}
 use Rattle.stamp_types.specs.PropsFields.{PropsFields, kept_fields}
 use Rattle.stamp_types.specs.Requests.{Asked}
+use Rattle.stamp_types.specs.World.{Part, changed}
+use Rattle.stamp_types.specs.declared.piece.Piece.{Piece}
 
 -- what is kept of the headers that a request asks to be kept, with the body's MD5 where it gives none
 abbrev pub put_props : Asked → Kept → PropsFields
@@ -34,3 +36,8 @@ change_of q t = option_map (λ a. record { key = q.ask.key; act = a }) (act_by q
 abbrev pub is_put_act : Act → Bool
 is_put_act (act.PutBlob a) = true
 is_put_act _ = false
+
+-- the container after a change that is made; else it stays
+abbrev pub part_after : {C : Type 0} → (List Piece → C) → Option KeyedAct → Part C → Part C
+part_after f None p = p
+part_after f (Some c) p = changed f c.act p

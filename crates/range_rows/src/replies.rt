@@ -1,5 +1,6 @@
 //! Replies to requests that were allowed.
-ghost use Rattle.std.specs.Prelude.{◌≡◌, ◌+◌, ◌^◌, ◌<◌, ◌≤◌, ◌++◌, IfOk, IsTrue, OnOk, length, map};
+ghost use Rattle.std.specs.Prelude.{◌≡◌, ◌+◌, ◌^◌, ◌<◌, ◌≤◌, ◌++◌, IfOk, IsTrue, None, OnOk, Some, length, map};
+ghost use Rattle.stamp_values.specs.declared.op.Op.TheVariants as op;
 ghost use Rattle.std.specs.Option.{option_to_list};
 ghost use Rattle.stamp_types.specs.declared.header.Header.TheVariants as header;
 ghost use Rattle.stamp_types.specs.Changes.{are_blocks, blocks_len};
@@ -8,8 +9,8 @@ ghost use Rattle.range_rows.specs.ObjectReplies as replies;
 
 use crate::rows::Rows;
 use stamp_types::{
-    Block, Committed, Header, Items, Meta, Op, Piece, Pieces, Props, Reply, Request, Shares,
-    Status, Visible,
+    Block, Committed, Header, Items, Meta, Moment, Op, Piece, Pieces, Props, Reply, Request,
+    Shares, Status, Visible,
 };
 use std::alloc::{AllocError, Global};
 
@@ -71,12 +72,12 @@ fn push_metadata(headers: &mut Vec<Header>, metas: &[Meta]) -> Result<(), AllocE
     Ok(())
 }
 
-// Puts behind the headers when the blob was last written.
-fn push_dates(headers: &mut Vec<Header>, blob: &Committed<Pieces>) -> Result<(), AllocError>
-    ensures { OnOk result (headers.new.items ≡ headers.old.items ++ replies.dated blob.now) }
+// Puts behind the headers which change wrote last, and when.
+fn push_dates(headers: &mut Vec<Header>, etag: u64, made: Moment) -> Result<(), AllocError>
+    ensures { OnOk result (headers.new.items ≡ headers.old.items ++ replies.dated etag made) }
 {
-    headers.push(Header::Etag(blob.etag))?;
-    headers.push(Header::LastModified(blob.made))?;
+    headers.push(Header::Etag(etag))?;
+    headers.push(Header::LastModified(made))?;
     Ok(())
 }
 
@@ -88,15 +89,15 @@ fn read_headers(alloc: Global, blob: &Committed<Pieces>) -> Result<Vec<Header>, 
     push_metadata(&mut headers, blob.metadata.as_slice())?;
     headers.push(Header::BlobType)?;
     headers.push(Header::AcceptRanges)?;
-    push_dates(&mut headers, blob)?;
+    push_dates(&mut headers, blob.etag, blob.made)?;
     Ok(headers)
 }
 
-fn put_reply(alloc: Global, sum: [u8; 16], blob: &Committed<Pieces>) -> Result<Reply, AllocError>
-    ensures { IfOk result (λ reply. reply ≡ replies.put_reply sum blob.now) }
+fn put_reply(alloc: Global, sum: [u8; 16], etag: u64, made: Moment) -> Result<Reply, AllocError>
+    ensures { IfOk result (λ reply. reply ≡ replies.put_reply sum etag made) }
 {
     let mut headers = vec![in alloc; Header::ContentMd5(sum)]?;
-    push_dates(&mut headers, blob)?;
+    push_dates(&mut headers, etag, made)?;
     Ok(Reply {
         status: Status::Created,
         code: None,
@@ -169,23 +170,55 @@ fn get_reply(alloc: Global, blob: &Committed<Pieces>) -> Result<Reply, AllocErro
 }
 
 impl Rows {
-    ghost use Rattle.stamp_types.specs.World.{part_at};
+    ghost use Rattle.stamp_types.specs.World.{part_at, same_pieces};
+    ghost use Rattle.range_rows.specs.ObjectRules.{object_rule};
+    ghost use Rattle.range_rows.specs.RequestChanges.{change_of, part_after};
 
-    /// The reply to a request that was allowed and whose change, where it makes one, was applied. Put Blob and
-    /// Get Blob have one so far; `None` comes for other operations, and where the blob doesn't stand.
+    // The reply to a Put Blob that was allowed: the ETag is that of the change that it makes.
+    #[tactic(auto, using(crate::proofs::Allowed::allowed_room, crate::proofs::PutReplies::reply_of_put))]
+    fn put_answer(
+        &self,
+        alloc: Global,
+        request: &Request,
+        moment: Moment,
+    ) -> Result<Reply, AllocError>
+        requires put { request.now.ask.op ≡ op.PutBlob }
+        requires allowed { object_rule (part_at self.now request.now.ask.key) request.now ≡ None }
+        ensures { IfOk result (λ reply. replies.reply_of (part_after same_pieces (change_of request.now moment) (part_at self.now request.now.ask.key)) request.now ≡ Some reply) }
+    {
+        let ask = request.ask();
+        match (&ask.blob, &ask.args.kept) {
+            (Some(_), Some(_)) => {
+                let etag = self.count(&ask.key) + 1;
+                let reply = put_reply(alloc, request.body().sum(), etag, moment)?;
+                Ok(reply)
+            }
+            _ => unreachable!(),
+        }
+    }
+
+    /// The reply to a request that was allowed at the moment, as the container is once its change, where it makes
+    /// one, is applied; the change has not been yet. Put Blob and Get Blob have one so far; `None` comes for other
+    /// operations.
     ///
     /// The body has shares of the content, of which no byte is copied; of content that is placed in a stream
     /// only the length is there. A range is not looked at: the whole blob is answered (RFC 9110, section 14.2).
     ///
     /// `AllocError` where there is no memory for the headers and the list of shares, or the content can have
     /// no further owner.
-    pub fn reply(&self, alloc: Global, request: &Request) -> Result<Option<Reply>, AllocError>
-        ensures { IfOk result (λ reply. reply ≡ replies.reply_of (part_at self.now request.now.ask.key) request.now) }
+    pub fn reply(
+        &self,
+        alloc: Global,
+        request: &Request,
+        moment: Moment,
+    ) -> Result<Option<Reply>, AllocError>
+        requires allowed { object_rule (part_at self.now request.now.ask.key) request.now ≡ None }
+        ensures { IfOk result (λ reply. reply ≡ replies.reply_of (part_after same_pieces (change_of request.now moment) (part_at self.now request.now.ask.key)) request.now) }
     {
         let ask = request.ask();
         match (ask.op, self.named_blob(ask)) {
-            (Op::PutBlob, Some(blob)) => {
-                let reply = put_reply(alloc, request.body().sum(), blob)?;
+            (Op::PutBlob, _) => {
+                let reply = self.put_answer(alloc, request, moment)?;
                 Ok(Some(reply))
             }
             (Op::GetBlob, Some(blob)) => {

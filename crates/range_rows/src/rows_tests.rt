@@ -304,14 +304,27 @@ fn is_as(alloc: Global, reply: &Reply, exchange: &Turn) -> Result<bool, Fail> {
     Ok(lines && body && has_head(reply, exchange))
 }
 
-// Whether the request changes what it changes, and is answered so.
+// The reply to a request that no rule of the object refuses, before its change.
+fn reply_to(alloc: Global, rows: &Rows, request: &Request) -> Result<Reply, Fail> {
+    let moment = moment()?;
+    if rows.object_rule(request).is_some() {
+        return Err(Fail::from("the request is refused"));
+    }
+    rows.reply(alloc, request, moment)?
+        .ok_or_else(|| Fail::from("no reply"))
+}
+
+// Whether the request is answered so; then its change is made.
 fn is_answered_so(alloc: Global, rows: &mut Rows, exchange: &Turn) -> Result<bool, Fail> {
     let request = request_of(alloc, exchange)?;
+    let so = {
+        let reply = reply_to(alloc, rows, &request)?;
+        is_as(alloc, &reply, exchange)
+    };
     if exchange.op == Op::PutBlob {
         change(alloc, rows, &request)?;
     }
-    let reply = rows.reply(alloc, &request)?.ok_or("no reply")?;
-    is_as(alloc, &reply, exchange)
+    so
 }
 
 #[test]

@@ -17,9 +17,9 @@ use Rattle.stamp_types.specs.declared.rule.Rule.{Rule}
 use Rattle.stamp_types.specs.Requests.{Asked}
 use Rattle.stamp_types.specs.World.{Part, World, part_at, same_pieces}
 use Rattle.access_rules.specs.declared.keys.Keys.{Keys}
-use Rattle.range_rows.specs.RequestChanges.{put_blob, act_by}
+use Rattle.range_rows.specs.RequestChanges.{put_blob, act_by, part_after}
 use Rattle.stamp_model.specs.Refusals.{refusing_rule}
-use Rattle.stamp_model.specs.Effects.{unless_refused, part_after, effect}
+use Rattle.stamp_model.specs.Effects.{unless_refused, effect}
 use Rattle.stamp_model.proofs.EffectLemmas.{on_key, part_at-effect, part_at-effect_others}
 
 module _ (p : Part (List Piece)) (q : Asked) (t : ℕ) where

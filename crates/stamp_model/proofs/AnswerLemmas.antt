@@ -27,9 +27,10 @@ use Rattle.access_rules.specs.declared.keys.Keys.{Keys}
 use Rattle.access_rules.specs.Rules.{first_rule}
 use Rattle.range_rows.specs.ObjectReplies.{reply_by}
 use Rattle.range_rows.specs.ObjectRules.{needs_blob, named_blob, object_holds, object_rule, object_rules}
-use Rattle.range_rows.specs.RequestChanges.{put_blob, act_by, change_of}
+use Rattle.range_rows.specs.RequestChanges.{put_blob, act_by, change_of, part_after}
+use Rattle.range_rows.proofs.PutReplies.{blob_in-put}
 use Rattle.stamp_model.specs.Refusals.{access_of, refusing_rule, code_of}
-use Rattle.stamp_model.specs.Effects.{unless_refused, part_after}
+use Rattle.stamp_model.specs.Effects.{unless_refused}
 use Rattle.stamp_model.specs.Responses.{response, reply_in}
 use Rattle.stamp_model.proofs.EffectLemmas.{on_key}
 use Rattle.stamp_model.proofs.RuleLemmas.{refusing_rule-has_code}
@@ -60,16 +61,6 @@ put_there : (q : Asked) (c : Option (Committed (List Piece))) → is_some c ≡ 
 put_there q None h = h
 put_there q (Some c) h = refl
 
-chosen : {X : Type 0} (b : Bool) (x : X) (o : Option X) (d : X) → b ≡ true → unwrap_or (cond b (Some x) o) d ≡ x
-chosen true x o d h = refl
-chosen false x o d h = cc
-
--- a blob that was put stands
-stands_when_put : (a : PutBlob) (p : Part (List Piece)) → is_some (blob_in (changed same_pieces (act.PutBlob a) p) a.blob).committed ≡ true
-stands_when_put a p =
-    ap (λ (o : Option (Blob (List Piece))). is_some (unwrap_or o no_blob).committed) (finite.get-insert names_total p.blobs a.blob _ a.blob)
-    ∙ ap (λ (b : Blob (List Piece)). is_some b.committed) (chosen (eq_by_cmp name_cmp a.blob a.blob) _ (finite.get p.blobs a.blob) no_blob ((eq_by_cmp_equiv names_total).refl a.blob))
-
 module _ (p : Part (List Piece)) (q : Asked) (t : ℕ) where
   abbrev after_act : Option Act → Part (List Piece)
   after_act a = part_after same_pieces (option_map (on_key q.ask.key) a) p
@@ -81,7 +72,7 @@ module _ (p : Part (List Piece)) (q : Asked) (t : ℕ) where
       → is_some (named blob (after_act (option_and_then (λ name. option_map (λ kept. act.PutBlob (put_blob q t name kept)) kept) blob))) ≡ true
   put None kept b k = b
   put (Some name) None b k = cc
-  put (Some name) (Some kept) b k = stands_when_put (put_blob q t name kept) p
+  put (Some name) (Some kept) b k = ap (λ (o : Option (Committed (List Piece))). is_some o) (blob_in-put (put_blob q t name kept) p)
 
   abbrev Answered : Op → Type 0
   Answered o = is_some (option_and_then (reply_by o q) (named q.ask.blob (after_act (act_by o q t)))) ≡ true

@@ -10,9 +10,9 @@ use Rattle.stamp_types.specs.Requests.{Asked}
 use Rattle.stamp_types.specs.World.{Part, World, part_at}
 use Rattle.stamp_types.proofs.WorldLemmas.{part_at-changed_in, part_at-changed_in_others}
 use Rattle.access_rules.specs.declared.keys.Keys.{Keys}
-use Rattle.range_rows.specs.RequestChanges.{act_by, change_of}
+use Rattle.range_rows.specs.RequestChanges.{act_by, change_of, part_after}
 use Rattle.stamp_model.specs.Refusals.{refusing_rule}
-use Rattle.stamp_model.specs.Effects.{unless_refused, part_after, world_after, change_as, effect_as}
+use Rattle.stamp_model.specs.Effects.{unless_refused, world_after, change_as, effect_as}
 
 -- an act on a container
 abbrev pub on_key : Key → Act → KeyedAct

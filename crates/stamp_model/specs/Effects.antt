@@ -5,9 +5,9 @@ use Rattle.stamp_types.specs.declared.piece.Piece.{Piece}
 use Rattle.stamp_types.specs.declared.rule.Rule.{Rule}
 use Rattle.stamp_types.specs.Changes.{KeyedAct}
 use Rattle.stamp_types.specs.Requests.{Asked}
-use Rattle.stamp_types.specs.World.{Part, World, part_at, changed, changed_in, same_pieces}
+use Rattle.stamp_types.specs.World.{Part, World, part_at, changed_in, same_pieces}
 use Rattle.access_rules.specs.declared.keys.Keys.{Keys}
-use Rattle.range_rows.specs.RequestChanges.{change_of}
+use Rattle.range_rows.specs.RequestChanges.{change_of, part_after}
 use Rattle.stamp_model.specs.Refusals.{refusing_rule}
 
 -- the change, where no rule refuses it
@@ -18,11 +18,6 @@ unless_refused (Some rule) change = None
 -- the change that a request makes: that of its operation, where nothing refuses
 abbrev pub accepted : {C : Type 0} → Option Keys → Part C → Asked → ℕ → Option KeyedAct
 accepted keys p q t = unless_refused (refusing_rule keys p q t) (change_of q t)
-
--- the container after a change that is made; else it stays
-abbrev pub part_after : {C : Type 0} → (List Piece → C) → Option KeyedAct → Part C → Part C
-part_after f None p = p
-part_after f (Some c) p = changed f c.act p
 
 -- the containers after a change that is made; else they stay
 abbrev pub world_after : {C : Type 0} → (List Piece → C) → Option KeyedAct → World C → World C
