@@ -1,7 +1,7 @@
 -- Where heads end, when more bytes come.
 use Rattle.std.proofs.Common.{◌≡◌, ℕ, zero, suc, ◌+◌, ◌-◌, ◌<◌, ◌≤◌, min, List, [], ◌∷◌, ◌++◌, length, take, drop, get_or, Option, Some, None, refl, sym, ap, ◌∙◌, subst, arith, length-take, length-append}
 use Rattle.std.proofs.lemmas.List.{take-append-le, take_all}
-use Rattle.http_front.specs.Heads.{head_limit}
+use Rattle.request_form.specs.Heads.{head_limit}
 use Rattle.http_front.specs.HeadEnds.{step, further, sought_by, sought, found_len, head_len, IsSearched}
 use Rattle.http_front.specs.declared.head_end.Place.{Place}
 use Rattle.http_front.specs.declared.head_end.Place.TheVariants.{Opening}

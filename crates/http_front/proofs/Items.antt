@@ -3,15 +3,15 @@ use Rattle.std.proofs.Common.{◌≡◌, ℕ, zero, suc, ◌+◌, ◌*◌, ◌<�
 use Rattle.std.proofs.lemmas.List.{drop-append-le}
 use Rattle.std.specs.Io.KnownBytes.{Appends}
 use Rattle.std.proofs.KnownBytes.{Consumes-nil, Consumes-trans, Appends-trans}
-use Rattle.http_front.specs.declared.denial.Denial.{Denial}
+use Rattle.request_form.specs.declared.denial.Denial.{Denial}
 use Rattle.http_front.specs.declared.end.FrontFault.{FrontFault}
 use Rattle.http_front.specs.declared.end.FrontFault.TheVariants.{Read, Write, Turns, NoMemory}
 use Rattle.http_front.specs.declared.input.Found.{Found}
 use Rattle.http_front.specs.declared.input.Found.TheVariants as Founds
 use Rattle.http_front.specs.declared.input.Call.{Call}
 use Rattle.http_front.specs.HeadEnds.{head_len}
-use Rattle.http_front.specs.HeadForms.{Form}
-use Rattle.http_front.specs.Heads.{Refuses}
+use Rattle.request_form.specs.HeadForms.{Form}
+use Rattle.request_form.specs.Heads.{Refuses}
 use Rattle.http_front.specs.Inputs.{Fills, called, Bodies, Joins, Takes}
 use Rattle.http_front.specs.Outcomes.{Told, Served}
 use Rattle.http_front.specs.Streams.{HasHead, HasRequest, HasRefused, IsCutBody, interim}

@@ -3,11 +3,11 @@ use Rattle.std.proofs.Common.{◌≡◌, inl, inr, ℕ, ◌<◌, ◌≤◌, Bool
 use Rattle.std.proofs.lemmas.List.{take-append-le, drop-append-le}
 use Rattle.httparse.specs.Grammar.{RequestHead}
 use Rattle.httparse.proofs.GrammarLemmas.{request_unique}
-use Rattle.http_front.specs.declared.denial.Denial.{Denial}
+use Rattle.request_form.specs.declared.denial.Denial.{Denial}
 use Rattle.http_front.specs.HeadEnds.{head_len}
-use Rattle.http_front.specs.HeadForms.{Form, form_of}
-use Rattle.http_front.specs.HeadRules.{denial_of}
-use Rattle.http_front.specs.Heads.{Accepts, Refuses, IsHead, parsed_of}
+use Rattle.request_form.specs.HeadForms.{Form, form_of}
+use Rattle.request_form.specs.HeadRules.{denial_of}
+use Rattle.request_form.specs.Heads.{Accepts, Refuses, IsHead, parsed_of}
 use Rattle.http_front.specs.Streams.{Item, Tail, HasHead, HasRequest, HasRefused, Begins, item_closes, EndsIn, Goes-on, Reads}
 use Rattle.http_front.specs.Streams.Item.{Requested, Refused}
 use Rattle.http_front.specs.Streams.Tail.{AtStart, Closing, InHead, InBody}

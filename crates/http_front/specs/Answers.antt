@@ -4,11 +4,11 @@ use Rattle.std.specs.Io.KnownBytes.{Appends}
 use Rattle.stamp_types.specs.Requests.{Asked}
 use Rattle.stamp_types.specs.Replies.{denied}
 use Rattle.stamp_types.specs.declared.reply.Reply.{Reply}
-use Rattle.http_front.specs.declared.denial.Denial.{Denial}
+use Rattle.request_form.specs.declared.denial.Denial.{Denial}
 use Rattle.http_front.specs.declared.input.Call.{Call}
 use Rattle.http_front.specs.declared.input.Found.{Found}
 use Rattle.http_front.specs.declared.input.Found.TheVariants as Founds
-use Rattle.http_front.specs.ReplyBytes.{reply_bytes}
+use Rattle.reply_form.specs.ReplyBytes.{reply_bytes}
 
 -- the clock gave one moment, the service one reply for it, and this was written
 pub record Answers {C S : Type 0} (gives : C → ℕ → C → Type 0) (answers : S → Asked → ℕ → Reply → S → Type 0)

@@ -4,13 +4,13 @@ use Rattle.std.specs.Io.KnownBytes.{Consumes, Appends}
 use Rattle.stamp_types.specs.Requests.{Asked}
 use Rattle.stamp_types.specs.Replies.{denied}
 use Rattle.stamp_types.specs.declared.reply.Reply.{Reply}
-use Rattle.http_front.specs.declared.denial.Denial.{Denial}
+use Rattle.request_form.specs.declared.denial.Denial.{Denial}
 use Rattle.http_front.specs.declared.end.End.{End}
 use Rattle.http_front.specs.declared.end.End.TheVariants.{Clean, Closed}
 use Rattle.http_front.specs.declared.end.FrontFault.{FrontFault}
 use Rattle.http_front.specs.declared.end.FrontFault.TheVariants.{Turns}
-use Rattle.http_front.specs.HeadForms.{Form, with_body}
-use Rattle.http_front.specs.ReplyBytes.{reply_bytes}
+use Rattle.request_form.specs.HeadForms.{Form, with_body}
+use Rattle.reply_form.specs.ReplyBytes.{reply_bytes}
 use Rattle.http_front.specs.Streams.{Item, Tail, HasHead, Reads, interim, first_bytes, tail_bytes}
 use Rattle.http_front.specs.Streams.Item.{Requested, Refused}
 use Rattle.http_front.specs.Streams.Tail.{AtStart, Closing}

@@ -1,7 +1,7 @@
 -- Where the head of a request ends: with the first empty line behind a line that isn't empty (RFC 9112, sections 2.1 and 2.2). A line
 -- ends in CR LF, or in LF alone.
 use Rattle.std.specs.Prelude.{◌≡◌, ℕ, ◌+◌, ◌≤◌, ◌==◌, List, [], ◌∷◌, length, take, Option, Some, None, if◌then◌else◌}
-use Rattle.http_front.specs.Heads.{head_limit}
+use Rattle.request_form.specs.Heads.{head_limit}
 use Rattle.http_front.specs.declared.head_end.Place.{Place}
 use Rattle.http_front.specs.declared.head_end.Place.TheVariants.{Opening, OpeningReturn, InLine, LineStart, LineReturn}
 use Rattle.http_front.specs.declared.head_end.Sought.{Sought}

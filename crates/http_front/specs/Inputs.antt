@@ -2,8 +2,8 @@
 use Rattle.std.specs.Prelude.{◌≡◌, ◌⊎◌, ℕ, ◌+◌, ◌≤◌, List, [], ◌++◌, length, Option, Some, None, Result, Ok, Err}
 use Rattle.std.specs.Io.KnownBytes.{Consumes, Appends}
 use Rattle.http_front.specs.HeadEnds.{head_len}
-use Rattle.http_front.specs.HeadForms.{Form, with_body}
-use Rattle.http_front.specs.Heads.{head_limit}
+use Rattle.request_form.specs.HeadForms.{Form, with_body}
+use Rattle.request_form.specs.Heads.{head_limit}
 use Rattle.http_front.specs.Streams.{Tail, HasHead, HasRequest, IsTooLong, Begins, IsCutBody, EndsIn, interim, tail_bytes}
 use Rattle.http_front.specs.Streams.Item.{Refused}
 use Rattle.http_front.specs.declared.end.FrontFault.{FrontFault}

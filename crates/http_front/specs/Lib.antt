@@ -1,17 +1,7 @@
 pub mod Answers
-pub mod BlobNames
 pub mod Conversations
-pub mod FixedReplies
 pub mod HeadEnds
-pub mod HeadFields
-pub mod HeadForms
-pub mod HeadRules
-pub mod HeadSpans
-pub mod HeaderLines
-pub mod Heads
 pub mod Inputs
 pub mod Outcomes
 pub mod PlainAnswers
-pub mod ReplyBytes
 pub mod Streams
-pub mod Targets

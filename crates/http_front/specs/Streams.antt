@@ -1,12 +1,12 @@
 -- The items of a stream of bytes: heads, each with the body that its length announces, up to the one that closes (RFC 9112,
 -- sections 2.1, 6.3, 9.3 and 9.6; RFC 9110, section 10.1.1).
 use Rattle.std.specs.Prelude.{◌≡◌, ◌⊎◌, ℕ, ◌<◌, ◌≤◌, Bool, true, false, List, [], ◌∷◌, ◌++◌, length, take, drop, Some, None, if◌then◌else◌}
-use Rattle.http_front.specs.declared.denial.Denial.{Denial}
-use Rattle.http_front.specs.FixedReplies.{interim_bytes}
+use Rattle.request_form.specs.declared.denial.Denial.{Denial}
+use Rattle.reply_form.specs.FixedReplies.{interim_bytes}
 use Rattle.http_front.specs.HeadEnds.{head_len}
-use Rattle.http_front.specs.HeadForms.{Form}
-use Rattle.http_front.specs.HeadRules.{no_head}
-use Rattle.http_front.specs.Heads.{Accepts, Refuses, head_limit}
+use Rattle.request_form.specs.HeadForms.{Form}
+use Rattle.request_form.specs.HeadRules.{no_head}
+use Rattle.request_form.specs.Heads.{Accepts, Refuses, head_limit}
 
 -- a request with its body, or a head that is refused
 pub data Item : Type 0 where

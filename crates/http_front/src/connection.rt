@@ -1,28 +1,27 @@
 //! One connection.
 ghost use Rattle.std.specs.Prelude.{◌≡◌, [], Ok, Err, IfOk, OnOk, IfErr, IfSome};
 ghost use Rattle.std.specs.Io.KnownBytes.{Appends};
-ghost use Rattle.http_front.specs.FixedReplies.{out_of_memory_bytes};
+ghost use Rattle.reply_form.specs.FixedReplies.{out_of_memory_bytes};
 ghost use Rattle.http_front.specs.Outcomes.{Served, IsLate};
 ghost use Rattle.http_front.specs.Conversations.{Conversed, Converses, Starved};
 ghost use Rattle.http_front.specs.Answers.{Answers, Turns-away, Settles};
-ghost use Rattle.http_front.specs.ReplyBytes.{reply_bytes};
+ghost use Rattle.reply_form.specs.ReplyBytes.{reply_bytes};
 ghost use Rattle.http_front.specs.declared.end.End.{End};
 ghost use Rattle.http_front.specs.declared.end.FrontFault.{FrontFault};
 ghost use Rattle.stamp_types.specs.Replies.{denied};
 
-use crate::denial::Denial;
 use crate::end::{End, FrontFault};
-use crate::fixed_replies::out_of_memory_reply;
 use crate::input::{Call, Found, next_item};
 use crate::output::send;
-use crate::reply_bytes::{sends_body, write_head};
 use crate::service::{Clock, Service};
+use reply_form::{out_of_memory_reply, sends_body, write_head};
+use request_form::Denial;
 use stamp_types::{Moment, Reply, Verb};
 use std::alloc::Global;
 use std::io::{Read, Write};
 
 // Writes a reply: its head, and then each share of its body, none of which is copied.
-#[tactic(auto, unfolding(crate::specs::ReplyBytes::reply_bytes))]
+#[tactic(auto, unfolding(reply_form::specs::ReplyBytes::reply_bytes))]
 fn send_reply<W: Write>(
     alloc: Global,
     writer: &mut W,

@@ -3,8 +3,8 @@ ghost use Rattle.std.specs.Prelude.{⊤};
 
 use crate::connection::run;
 use crate::end::{End, FrontFault};
-use crate::fixed_replies::out_of_memory_reply;
 use crate::service::{Clock, Service};
+use reply_form::out_of_memory_reply;
 use stamp_types::{Code, Moment, Reply, Request, Rule};
 use std::alloc::{AllocError, Global};
 use std::io;

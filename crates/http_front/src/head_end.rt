@@ -2,8 +2,7 @@
 ghost use Rattle.std.specs.Prelude.{◌≡◌, None};
 ghost use Rattle.http_front.specs.HeadEnds.{step, sought, head_len, IsSearched};
 
-/// The most bytes of a head.
-pub(crate) const HEAD_LIMIT: usize = 16_384;
+use request_form::HEAD_LIMIT;
 
 /// A place in a head.
 #[derive(Clone, Copy, Debug, PartialEq, Eq)]

@@ -1,7 +1,7 @@
 //! Reads one item of a stream at a time.
 ghost use Rattle.std.specs.Prelude.{◌≡◌, ◌≢◌, true, false, None, Some, ℕ, ◌+◌, ◌*◌, ◌<◌, ◌≤◌, [], Ok, Err, IfOk, OnOk, IfErr, IsOkUnless, length, take, drop};
 ghost use Rattle.std.specs.Io.KnownBytes.{Consumes, Appends, IsAtEnd};
-ghost use Rattle.http_front.specs.HeadForms.{Form, with_body};
+ghost use Rattle.request_form.specs.HeadForms.{Form, with_body};
 ghost use Rattle.http_front.specs.Inputs.{Fills, Awaits, Bodies, Joins, Takes};
 ghost use Rattle.http_front.specs.Outcomes.{Told, Served};
 ghost use Rattle.http_front.specs.Streams.{HasHead, interim};
@@ -10,12 +10,11 @@ ghost use Rattle.http_front.specs.declared.input.Awaited.{Awaited};
 ghost use Rattle.http_front.specs.declared.input.Call.{Call};
 ghost use Rattle.http_front.specs.declared.input.Found.{Found};
 
-use crate::denial::{Denial, HeadFault};
 use crate::end::FrontFault;
-use crate::fixed_replies::interim_reply;
-use crate::head::{Head, no_head, read_head};
-use crate::head_end::{HEAD_LIMIT, Search};
+use crate::head_end::Search;
 use crate::output::send;
+use reply_form::interim_reply;
+use request_form::{Denial, HEAD_LIMIT, Head, HeadFault, no_head, read_head};
 use stamp_types::{Gathering, Request, Verb};
 use std::alloc::{AllocError, Global};
 use std::io::{Read, Write};

@@ -11,10 +11,10 @@ ghost use Rattle.http_front.specs.PlainAnswers.{Held, Held-answers, held_first, 
 ghost use Rattle.http_front.specs.declared.plain.PlainFault.{PlainFault};
 ghost use Rattle.http_front.specs.declared.plain.PlainFault.TheVariants.{NoMemory};
 
-use crate::names::account_ok;
 use crate::service::Service;
 use access_rules::{Keys, Verdict, verdict};
 use range_rows::{Rows, object_code};
+use request_form::account_ok;
 use stamp_types::{Code, Key, Moment, Op, Reply, Request, Rule, Text};
 use std::alloc::{AllocError, Global};
 use std::marker::Model;

@@ -1,6 +1,6 @@
 use Rattle.std.proofs.Common.{Err, take, sym, ap, length-take-le}
 use Rattle.http_front.specs.declared.input.Awaited.{Awaited}
-use Rattle.http_front.specs.Heads.{Refuses}
+use Rattle.request_form.specs.Heads.{Refuses}
 use Rattle.http_front.proofs.Ends.{head_len_bound}
 use Rattle.http_front.proofs.Items.{takes_of, takes_refused}
 use Rattle.http_front.proofs.input.next_item.Goals as goal

@@ -1,7 +1,0 @@
-use Rattle.std.proofs.Common.{◌≡◌, ◌++◌, take, flat_map}
-use Rattle.http_front.specs.HeaderLines.{header_line}
-use Rattle.http_front.proofs.header_line.append_headers.Given as goal
-
--- the lines so far are there
-abbrev pub invariant-loop-header : goal.invariant-loop-header
-invariant-loop-header l = l.out.items ≡ l.initial.out.items ++ flat_map header_line (take l.header-index l.headers)

@@ -1,0 +1,3 @@
+pub mod FixedReplies
+pub mod HeaderLines
+pub mod ReplyBytes

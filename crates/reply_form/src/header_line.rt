@@ -1,0 +1,133 @@
+//! Header lines of replies.
+ghost use Rattle.std.specs.Prelude.{◌≡◌, ◌++◌, IfOk, OnOk, codes, decimal, flat_map, string_bytes};
+ghost use Rattle.reply_form.specs.HeaderLines.{line, md5_text, level_line, range_text, header_line};
+
+use base64::engine::general_purpose::STANDARD;
+use itoa::Buffer;
+use moment_text::write_http;
+use stamp_types::{Header, Level, Meta, SentRange, write_etag};
+use std::alloc::{AllocError, Global};
+
+/// Puts a line behind `out`: the name, a colon and a space, the value, CR LF (RFC 9112, section 5).
+///
+/// `AllocError` where there is no memory for it.
+#[tactic(auto, unfolding(crate::specs::HeaderLines::line))]
+pub fn append_line(out: &mut Vec<u8>, name: &str, value: &[u8]) -> Result<(), AllocError>
+    ensures { OnOk result (out.new.items ≡ out.old.items ++ line name.now value.now) }
+{
+    out.extend_from_slice(name.as_bytes())?;
+    out.extend_from_slice(b": ")?;
+    out.extend_from_slice(value)?;
+    out.extend_from_slice(b"\r\n")
+}
+
+/// Puts a line behind `out` whose value is a number in decimal.
+///
+/// `AllocError` where there is no memory for it.
+pub fn append_number_line(out: &mut Vec<u8>, name: &str, number: u64) -> Result<(), AllocError>
+    ensures { OnOk result (out.new.items ≡ out.old.items ++ line name.now (decimal number)) }
+{
+    let mut digits = Buffer::new();
+    append_line(out, name, digits.format(number).as_bytes())
+}
+
+// Metadata, whose names stand behind a prefix.
+#[tactic(auto, unfolding(crate::specs::HeaderLines::line))]
+fn append_meta(out: &mut Vec<u8>, meta: &Meta) -> Result<(), AllocError>
+    ensures { OnOk result (out.new.items ≡ out.old.items ++ line (codes "x-ms-meta-" ++ meta.now.name) meta.now.value) }
+{
+    out.extend_from_slice(b"x-ms-meta-")?;
+    append_line(out, meta.name.as_str(), meta.value.as_str().as_bytes())
+}
+
+// A number in decimal, and a mark in front of it.
+fn append_marked(out: &mut Vec<u8>, mark: &str, number: u64) -> Result<(), AllocError>
+    ensures { OnOk result (out.new.items ≡ out.old.items ++ mark.now ++ decimal number) }
+{
+    let mut digits = Buffer::new();
+    out.extend_from_slice(mark.as_bytes())?;
+    out.extend_from_slice(digits.format(number).as_bytes())
+}
+
+// Which bytes of the blob are sent (RFC 9110, section 14.4).
+#[tactic(auto, unfolding(crate::specs::HeaderLines::line))]
+fn append_range(out: &mut Vec<u8>, range: SentRange) -> Result<(), AllocError>
+    ensures { OnOk result (out.new.items ≡ out.old.items ++ line (codes "Content-Range") (range_text range)) }
+{
+    append_marked(out, "Content-Range: bytes ", range.first)?;
+    append_marked(out, "-", range.last)?;
+    append_marked(out, "/", range.total)?;
+    out.extend_from_slice(b"\r\n")
+}
+
+// The level of a container that isn't closed.
+fn append_level(out: &mut Vec<u8>, level: Level) -> Result<(), AllocError>
+    ensures { OnOk result (out.new.items ≡ out.old.items ++ level_line level) }
+{
+    match level {
+        Level::Closed => Ok(()),
+        Level::Blob => append_line(out, "x-ms-blob-public-access", b"blob"),
+        Level::Container => append_line(out, "x-ms-blob-public-access", b"container"),
+    }
+}
+
+// An MD5 in Base64 (RFC 1864; RFC 4648, section 4).
+#[tactic(auto, unfolding(crate::specs::HeaderLines::md5_text))]
+fn md5_text(alloc: Global, md5: &[u8; 16]) -> Result<String, AllocError>
+    ensures { IfOk result (λ text. string_bytes text ≡ md5_text md5.now) }
+{
+    STANDARD.encode(alloc, md5)
+}
+
+fn append_md5(alloc: Global, out: &mut Vec<u8>, md5: &[u8; 16]) -> Result<(), AllocError>
+    ensures { OnOk result (out.new.items ≡ out.old.items ++ line (codes "Content-MD5") (md5_text md5.now)) }
+{
+    let text = md5_text(alloc, md5)?;
+    append_line(out, "Content-MD5", text.as_bytes())
+}
+
+/// Puts a header's line behind `out`. The level of a closed container has none.
+///
+/// `AllocError` where there is no memory for it.
+pub fn append_header(alloc: Global, out: &mut Vec<u8>, header: &Header) -> Result<(), AllocError>
+    ensures { OnOk result (out.new.items ≡ out.old.items ++ header_line header.now) }
+{
+    match header {
+        Header::ContentType(value) => append_line(out, "Content-Type", value.as_str().as_bytes()),
+        Header::ContentEncoding(value) => {
+            append_line(out, "Content-Encoding", value.as_str().as_bytes())
+        }
+        Header::ContentLanguage(value) => {
+            append_line(out, "Content-Language", value.as_str().as_bytes())
+        }
+        Header::ContentMd5(md5) => append_md5(alloc, out, md5),
+        Header::CacheControl(value) => append_line(out, "Cache-Control", value.as_str().as_bytes()),
+        Header::ContentDisposition(value) => {
+            append_line(out, "Content-Disposition", value.as_str().as_bytes())
+        }
+        Header::ContentRange(range) => append_range(out, *range),
+        Header::Meta(meta) => append_meta(out, meta),
+        Header::BlobType => append_line(out, "x-ms-blob-type", b"BlockBlob"),
+        Header::AcceptRanges => append_line(out, "Accept-Ranges", b"bytes"),
+        Header::PublicAccess(level) => append_level(out, *level),
+        Header::BlobLength(length) => append_number_line(out, "x-ms-blob-content-length", *length),
+        Header::Etag(count) => append_line(out, "ETag", &write_etag(*count)),
+        Header::LastModified(moment) => append_line(out, "Last-Modified", &write_http(*moment)),
+    }
+}
+
+/// Puts the lines of the headers behind `out`, in their order.
+///
+/// `AllocError` where there is no memory for them.
+pub fn append_headers(
+    alloc: Global,
+    out: &mut Vec<u8>,
+    headers: &[Header],
+) -> Result<(), AllocError>
+    ensures { OnOk result (out.new.items ≡ out.old.items ++ flat_map header_line headers.now) }
+{
+    for header in headers {
+        append_header(alloc, out, header)?;
+    }
+    Ok(())
+}

@@ -1,0 +1,182 @@
+//! Replies as bytes.
+ghost use Rattle.std.specs.Prelude.{◌≡◌, ◌++◌, IfOk, OnOk, codes};
+ghost use Rattle.std.specs.List.{concat};
+ghost use Rattle.moment_text.specs.Http.{http_text};
+ghost use Rattle.reply_form.specs.HeaderLines.{line, header_line};
+ghost use Rattle.reply_form.specs.ReplyBytes.{phrase, status_line, rule_line, connection_line, length_line, is_not_modified, is_head, sends_body, head_bytes, reply_bytes};
+
+use crate::header_line::{append_headers, append_line, append_number_line};
+use http::StatusCode;
+use itoa::Buffer;
+use moment_text::write_http;
+use stamp_types::{Moment, Reply, Rule, Share, Status, Verb};
+use std::alloc::{AllocError, Global};
+
+// Room for a head with a few headers. A longer one makes the list grow.
+const HEAD_ROOM: usize = 512;
+
+// The standard phrase of a status (RFC 9110, section 15).
+#[tactic(auto, unfolding(crate::specs::ReplyBytes::phrase))]
+fn phrase(status: Status) -> &'static str
+    ensures { result.now ≡ phrase status }
+{
+    let Ok(code) = StatusCode::from_u16(status.number()) else {
+        return "";
+    };
+    code.canonical_reason().unwrap_or("")
+}
+
+#[tactic(auto, unfolding(crate::specs::ReplyBytes::status_line))]
+fn append_status_line(out: &mut Vec<u8>, status: Status) -> Result<(), AllocError>
+    ensures { OnOk result (out.new.items ≡ out.old.items ++ status_line status) }
+{
+    let mut digits = Buffer::new();
+    out.extend_from_slice(b"HTTP/1.1 ")?;
+    out.extend_from_slice(digits.format(status.number()).as_bytes())?;
+    out.extend_from_slice(b" ")?;
+    out.extend_from_slice(phrase(status).as_bytes())?;
+    out.extend_from_slice(b"\r\n")
+}
+
+fn append_rule(out: &mut Vec<u8>, rule: Option<Rule>) -> Result<(), AllocError>
+    ensures { OnOk result (out.new.items ≡ out.old.items ++ rule_line rule) }
+{
+    match rule {
+        Some(rule) => append_line(out, "x-stamp-rule", rule.label().as_bytes()),
+        None => Ok(()),
+    }
+}
+
+fn append_connection(out: &mut Vec<u8>, close: bool) -> Result<(), AllocError>
+    ensures { OnOk result (out.new.items ≡ out.old.items ++ connection_line close) }
+{
+    if close {
+        append_line(out, "Connection", b"close")
+    } else {
+        Ok(())
+    }
+}
+
+// The length of the body that a GET has, which HEAD is told too (RFC 9110, section 9.3.2).
+fn append_length(out: &mut Vec<u8>, status: Status, length: u64) -> Result<(), AllocError>
+    ensures { OnOk result (out.new.items ≡ out.old.items ++ length_line status length) }
+{
+    if is_not_modified(status) {
+        return Ok(());
+    }
+    append_number_line(out, "Content-Length", length)
+}
+
+fn append_date(out: &mut Vec<u8>, moment: Moment) -> Result<(), AllocError>
+    ensures { OnOk result (out.new.items ≡ out.old.items ++ line (codes "Date") (http_text moment)) }
+{
+    append_line(out, "Date", &write_http(moment))
+}
+
+// The version of the Blob service that is spoken.
+fn append_version(out: &mut Vec<u8>) -> Result<(), AllocError>
+    ensures { OnOk result (out.new.items ≡ out.old.items ++ line (codes "x-ms-version") (codes "2012-02-12")) }
+{
+    append_line(out, "x-ms-version", b"2012-02-12")
+}
+
+// The lines that each reply has.
+fn append_opening(out: &mut Vec<u8>, status: Status, moment: Moment) -> Result<(), AllocError>
+    ensures { OnOk result (out.new.items ≡ out.old.items ++ status_line status ++ line (codes "Date") (http_text moment) ++ line (codes "x-ms-version") (codes "2012-02-12")) }
+{
+    append_status_line(out, status)?;
+    append_date(out, moment)?;
+    append_version(out)?;
+    Ok(())
+}
+
+#[tactic(auto, unfolding(crate::specs::ReplyBytes::head_bytes))]
+fn append_head(
+    alloc: Global,
+    out: &mut Vec<u8>,
+    reply: &Reply,
+    moment: Moment,
+    close: bool,
+) -> Result<(), AllocError>
+    ensures { OnOk result (out.new.items ≡ out.old.items ++ head_bytes reply.now moment close) }
+{
+    append_opening(out, reply.status, moment)?;
+    append_rule(out, reply.rule)?;
+    append_headers(alloc, out, reply.headers.as_slice())?;
+    append_connection(out, close)?;
+    append_length(out, reply.status, reply.length)?;
+    out.extend_from_slice(b"\r\n")?;
+    Ok(())
+}
+
+fn is_not_modified(status: Status) -> bool
+    ensures { result ≡ is_not_modified status }
+{
+    matches!(status, Status::NotModified)
+}
+
+fn is_head(verb: Option<Verb>) -> bool
+    ensures { result ≡ is_head verb }
+{
+    matches!(verb, Some(Verb::Head))
+}
+
+/// Whether a reply of the status to a request of the verb sends its body: not with 304, and not to HEAD
+/// (RFC 9110, sections 9.3.2 and 15.4.5).
+///
+/// `verb` is `None` where the method is none that the stamp serves, or the head can't be read.
+pub fn sends_body(status: Status, verb: Option<Verb>) -> bool
+    ensures { result ≡ sends_body status verb }
+{
+    !(is_not_modified(status) || is_head(verb))
+}
+
+fn append_shares(out: &mut Vec<u8>, shares: &[Share]) -> Result<(), AllocError>
+    ensures { OnOk result (out.new.items ≡ out.old.items ++ concat shares.now) }
+{
+    for share in shares {
+        out.extend_from_slice(share.as_slice())?;
+    }
+    Ok(())
+}
+
+/// A reply up to the empty line, for a caller that writes the shares of the body itself, where
+/// `sends_body` says so: nothing of it is copied then. The order of the lines is the product's own choice.
+///
+/// `moment` is when the request was judged, `close` whether the connection ends behind the reply.
+/// `AllocError` where there is no memory for the bytes.
+pub fn write_head(
+    alloc: Global,
+    reply: &Reply,
+    moment: Moment,
+    close: bool,
+) -> Result<Vec<u8>, AllocError>
+    ensures { IfOk result (λ bytes. bytes.items ≡ head_bytes reply.now moment close) }
+{
+    let mut out = Vec::with_capacity(alloc, HEAD_ROOM)?;
+    append_head(alloc, &mut out, reply, moment, close)?;
+    Ok(out)
+}
+
+/// A reply as it is sent: its head, and its body where `sends_body` says so (RFC 9110, section 15).
+///
+/// `moment` is when the request was judged, `close` whether the connection ends behind the
+/// reply. `AllocError` where there is no memory for the bytes.
+#[tactic(auto, unfolding(crate::specs::ReplyBytes::reply_bytes))]
+pub fn write_reply(
+    alloc: Global,
+    reply: &Reply,
+    moment: Moment,
+    verb: Option<Verb>,
+    close: bool,
+) -> Result<Vec<u8>, AllocError>
+    ensures { IfOk result (λ bytes. bytes.items ≡ reply_bytes reply.now moment verb close) }
+{
+    let mut out = write_head(alloc, reply, moment, close)?;
+    if !sends_body(reply.status, verb) {
+        return Ok(out);
+    }
+    out.reserve_exact(reply.body.len())?;
+    append_shares(&mut out, reply.body.as_slice())?;
+    Ok(out)
+}

@@ -1,0 +1,11 @@
+pub mod AllowedHeads
+pub mod AskLemmas
+pub mod Base64Lemmas
+pub mod FieldLemmas
+pub mod HeadLaws
+pub mod HeadLemmas
+pub mod NumberLemmas
+pub mod TargetLemmas
+pub mod TextLemmas
+pub mod Utf8Lemmas
+pub mod ValueLemmas

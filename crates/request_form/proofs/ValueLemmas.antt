@@ -1,0 +1,156 @@
+-- Values that were sent under a name.
+use Rattle.std.proofs.Common.{◌≡◌, ℕ, ◌+◌, ◌≤◌, Bool, true, false, not, ◌&&◌, ◌||◌, cond, List, [], ◌∷◌, length, find, sum_by, Option, Some, None, Result, Ok, Err, option_map, bytes_eq, codes, IfSome, IfOk, refl, sym, ap, ◌∙◌, arith, true≢false}
+use Rattle.std.proofs.lemmas.Bool.{and_parts, or_parts, not-false}
+use Rattle.std.proofs.lemmas.List.Sums.{sum_by-cons}
+use Rattle.std.proofs.lemmas.Slice.Eq.{bytes_eq-Decides}
+use Rattle.std.specs.List.{list_any}
+use Rattle.std.specs.Option.{option_map_or, option_or, is_some}
+use Rattle.base64.specs.Engines.{standard}
+use Rattle.base64.specs.GeneralPurpose.{decoded_of}
+use Rattle.stamp_types.specs.Requests.{given_len, kept_len}
+use Rattle.stamp_types.specs.declared.args.Kept.{Kept}
+use Rattle.stamp_values.specs.Texts.{is_visible}
+use Rattle.stamp_values.specs.declared.signing.Field.{Field}
+use Rattle.request_form.specs.HeadFields.{has_name, value_under, has_bad, is_md5}
+use Rattle.request_form.specs.HeadForms.{md5_under, kept_of}
+use Rattle.request_form.specs.HeadRules.{kept_value, has_bad_kept}
+
+-- the first value is good where none is bad
+pub good_first : (test : List ℕ → Bool) (name : List ℕ) (fields : List Field) (v : List ℕ) → has_bad fields name test ≡ false → value_under fields name ≡ Some v → test v ≡ true
+unfolding has_bad value_under
+good_first test name [] v none found = absurd (cc)
+good_first test name (f ∷ fs) v none found = by_name (bytes_eq f.name name) refl (good_first test name fs v parts.1)
+  where
+    parts : ((has_name name f && not (test f.value)) ≡ false) × (list_any (λ g. has_name name g && not (test g.value)) fs ≡ false)
+    parts = or_parts _ _ none
+
+    by_name : (b : Bool) → bytes_eq f.name name ≡ b → (option_map (λ g. g.value) (find (has_name name) fs) ≡ Some v → test v ≡ true) → test v ≡ true
+    by_name true e behind =
+        let here : not (test f.value) ≡ false = rw e at parts.0 in
+        let same : Some f.value ≡ Some v = rw e at found in
+        let value : f.value ≡ v = cc in
+        rw (← value) (not-false (test f.value) here)
+    by_name false e behind = behind (rw e at found)
+
+-- the MD5 that was read is the one that was sent
+pub md5_read : {E : Type 0} (v : List ℕ) (r : Result (Option (List ℕ)) E) → IfOk r (λ o. is_some o ≡ is_md5 v) → IfOk r (λ o. IfSome o (λ sum. decoded_of standard v ≡ Some sum))
+    → is_md5 v ≡ true → IfOk r (λ o. o ≡ decoded_of standard v)
+md5_read v (Err e) found value good = tt
+md5_read v (Ok (Some sum)) found value good = sym value
+md5_read v (Ok None) found value good = absurd (true≢false (sym (found ∙ good)))
+
+-- the four values that may be kept are visible
+pub record KeepsVisible (fields : List Field) : Type 0 where
+  pub content_type : is_visible (kept_value fields (codes "x-ms-blob-content-type") (codes "content-type")) ≡ true
+  pub encoding : is_visible (kept_value fields (codes "x-ms-blob-content-encoding") (codes "content-encoding")) ≡ true
+  pub language : is_visible (kept_value fields (codes "x-ms-blob-content-language") (codes "content-language")) ≡ true
+  pub cache_control : is_visible (kept_value fields (codes "x-ms-blob-cache-control") (codes "cache-control")) ≡ true
+
+pub keeps_visible : (fields : List Field) → has_bad_kept fields ≡ false → KeepsVisible fields
+unfolding has_bad_kept
+keeps_visible fields none =
+    let all = and_parts _ _ (not-false _ none) in
+    let three = and_parts _ _ all.0 in
+    let two = and_parts _ _ three.0 in
+    record { content_type = two.0; encoding = two.1; language = three.1; cache_control = all.1 }
+
+-- a value that was sent under a name is one of those that are counted
+under_short : (test : List ℕ → Bool) (name : List ℕ) → test name ≡ true → (fields : List Field) → given_len (value_under fields name) ≤ sum_by (λ f. cond (test f.name) (length f.value) 0) fields
+unfolding value_under
+under_short test name passes [] = omega arith
+under_short test name passes (f ∷ fs) = by_name (bytes_eq f.name name) refl (under_short test name passes fs)
+  where
+    more : sum_by (λ g. cond (test g.name) (length g.value) 0) (f ∷ fs) ≡ cond (test f.name) (length f.value) 0 + sum_by (λ g. cond (test g.name) (length g.value) 0) fs
+    more = sum_by-cons (λ g. cond (test g.name) (length g.value) 0) f fs
+
+    by_name : (b : Bool) → bytes_eq f.name name ≡ b → given_len (option_map (λ g. g.value) (find (has_name name) fs)) ≤ sum_by (λ g. cond (test g.name) (length g.value) 0) fs
+        → given_len (option_map (λ g. g.value) (find (has_name name) (f ∷ fs))) ≤ sum_by (λ g. cond (test g.name) (length g.value) 0) (f ∷ fs)
+    by_name true e behind =
+        let same : f.name ≡ name = (bytes_eq-Decides f.name name).0 e in
+        let counted : test f.name ≡ true = ap test same ∙ passes in
+        rw (e, more, counted) (omega arith)
+    by_name false e behind = rw (e, more) (omega arith)
+
+-- of two values the one that counts is no longer than what bounds both
+either_short : (m : ℕ) (a b : Option (List ℕ)) → given_len a ≤ m → given_len b ≤ m → length (option_map_or (λ v. v) (option_or a b) []) ≤ m
+either_short m None None x y = omega arith
+either_short m None (Some v) x y = y
+either_short m (Some v) b x y = x
+
+-- the headers that each of the four kept values may come from
+abbrev is_type : List ℕ → Bool
+is_type n = bytes_eq n (codes "x-ms-blob-content-type") || bytes_eq n (codes "content-type")
+
+abbrev is_encoding : List ℕ → Bool
+is_encoding n = bytes_eq n (codes "x-ms-blob-content-encoding") || bytes_eq n (codes "content-encoding")
+
+abbrev is_language : List ℕ → Bool
+is_language n = bytes_eq n (codes "x-ms-blob-content-language") || bytes_eq n (codes "content-language")
+
+abbrev is_cache : List ℕ → Bool
+is_cache n = bytes_eq n (codes "x-ms-blob-cache-control") || bytes_eq n (codes "cache-control")
+
+-- a name that is one of two passes no test that both fail
+alone : (test : List ℕ → Bool) (own plain n : List ℕ) → test own ≡ false → test plain ≡ false → (bytes_eq n own || bytes_eq n plain) ≡ true → test n ≡ false
+alone test own plain n first second e = by_own (bytes_eq n own) refl
+  where
+    by_own : (b : Bool) → bytes_eq n own ≡ b → test n ≡ false
+    by_own true t = ap test ((bytes_eq-Decides n own).0 t) ∙ first
+    by_own false t = ap test ((bytes_eq-Decides n plain).0 (rw t at e)) ∙ second
+
+-- of four counts of which one at most counts
+one_counts : (a b c d : Bool) (n : ℕ) → (a ≡ true → b ≡ false) → (a ≡ true → c ≡ false) → (a ≡ true → d ≡ false) → (b ≡ true → c ≡ false) → (b ≡ true → d ≡ false) → (c ≡ true → d ≡ false)
+    → cond a n 0 + cond b n 0 + cond c n 0 + cond d n 0 ≤ n
+one_counts true b c d n ab ac ad bc bd cd = rw (ab refl, ac refl, ad refl) (omega arith)
+one_counts false true c d n ab ac ad bc bd cd = rw (bc refl, bd refl) (omega arith)
+one_counts false false true d n ab ac ad bc bd cd = rw (cd refl) (omega arith)
+one_counts false false false true n ab ac ad bc bd cd = omega arith
+one_counts false false false false n ab ac ad bc bd cd = omega arith
+
+-- how long the value of a header is that passes
+abbrev counted : (List ℕ → Bool) → Field → ℕ
+counted test f = cond (test f.name) (length f.value) 0
+
+name_counts : (f : Field) → counted is_type f + counted is_encoding f + counted is_language f + counted is_cache f ≤ length f.value
+name_counts f =
+    one_counts (is_type f.name) (is_encoding f.name) (is_language f.name) (is_cache f.name) (length f.value)
+    (alone is_encoding (codes "x-ms-blob-content-type") (codes "content-type") f.name refl refl)
+    (alone is_language (codes "x-ms-blob-content-type") (codes "content-type") f.name refl refl)
+    (alone is_cache (codes "x-ms-blob-content-type") (codes "content-type") f.name refl refl)
+    (alone is_language (codes "x-ms-blob-content-encoding") (codes "content-encoding") f.name refl refl)
+    (alone is_cache (codes "x-ms-blob-content-encoding") (codes "content-encoding") f.name refl refl)
+    (alone is_cache (codes "x-ms-blob-content-language") (codes "content-language") f.name refl refl)
+
+sums_count : (v w x y z : Field → ℕ) → ((f : Field) → v f + w f + x f + y f ≤ z f) → (fields : List Field) → sum_by v fields + sum_by w fields + sum_by x fields + sum_by y fields ≤ sum_by z fields
+sums_count v w x y z each [] = omega arith
+sums_count v w x y z each (f ∷ fs) =
+    let here = each f in
+    let behind = sums_count v w x y z each fs in
+    rw (sum_by-cons v f fs, sum_by-cons w f fs, sum_by-cons x f fs, sum_by-cons y f fs, sum_by-cons z f fs) (omega arith)
+
+value_counts : (own plain : List ℕ) (test : List ℕ → Bool) (fields : List Field) → test own ≡ true → test plain ≡ true → length (kept_value fields own plain) ≤ sum_by (counted test) fields
+unfolding kept_value
+value_counts own plain test fields o p =
+    either_short (sum_by (counted test) fields) (value_under fields own) (value_under fields plain) (under_short test own o fields) (under_short test plain p fields)
+
+-- the four kept values are no longer than all values together
+pub kept_short : (fields : List Field) → kept_len (Some (kept_of fields)) ≤ sum_by (λ f. length f.value) fields
+unfolding kept_of
+kept_short fields =
+    let a = value_counts (codes "x-ms-blob-content-type") (codes "content-type") is_type fields refl refl in
+    let b = value_counts (codes "x-ms-blob-content-encoding") (codes "content-encoding") is_encoding fields refl refl in
+    let c = value_counts (codes "x-ms-blob-content-language") (codes "content-language") is_language fields refl refl in
+    let d = value_counts (codes "x-ms-blob-cache-control") (codes "cache-control") is_cache fields refl refl in
+    let all = sums_count (counted is_type) (counted is_encoding) (counted is_language) (counted is_cache) (λ f. length f.value) name_counts fields in
+    omega arith
+
+-- headers to keep of equal parts
+pub same_kept : (fields : List Field) (k : Kept)
+    → k.content_type ≡ kept_value fields (codes "x-ms-blob-content-type") (codes "content-type")
+    → k.encoding ≡ kept_value fields (codes "x-ms-blob-content-encoding") (codes "content-encoding")
+    → k.language ≡ kept_value fields (codes "x-ms-blob-content-language") (codes "content-language")
+    → k.cache_control ≡ kept_value fields (codes "x-ms-blob-cache-control") (codes "cache-control")
+    → k.md5 ≡ md5_under fields (codes "x-ms-blob-content-md5")
+    → k ≡ kept_of fields
+unfolding kept_of
+same_kept fields k a b c d e = λ i. record { content_type = a i; encoding = b i; language = c i; cache_control = d i; md5 = e i }

@@ -1,0 +1,25 @@
+-- The name of a blob in a path (Blob service REST reference, 2012-02-12, Naming and Referencing Containers, Blobs, and Metadata;
+-- RFC 3986, section 2.1; RFC 3629).
+use Rattle.std.specs.Prelude.{◌≡◌, ℕ, not, nat_lt, if◌then◌else◌, List, Result, Ok, Err}
+use Rattle.percent_encoding.specs.Percent.{percent_decode}
+use Rattle.stamp_values.specs.Texts.{is_clean, char_count}
+use Rattle.request_form.specs.Targets.{is_nothing}
+use Rattle.request_form.specs.HeadFields.{is_utf8}
+use Rattle.request_form.specs.declared.names.NameFault.{NameFault}
+use Rattle.request_form.specs.declared.names.NameFault.TheVariants as fault
+
+-- the name, or why it is none: one to 1,024 characters in UTF-8, none of them a control character
+unfoldable pub decoded_name : List ℕ → Result (List ℕ) NameFault
+decoded_name name =
+    if is_nothing name then Err fault.Empty
+    else (if not (is_utf8 name) then Err fault.NotUtf8
+    else (if nat_lt 1024 (char_count name) then Err fault.TooLong else (if not (is_clean name) then Err fault.Control else Ok name)))
+
+-- the name that a path has behind the container, decoded
+abbrev pub name_of : List ℕ → Result (List ℕ) NameFault
+name_of rest = decoded_name (percent_decode rest)
+
+-- the fault is that of the name; want of memory may take its place
+abbrev pub FaultOf : List ℕ → NameFault → Type 0
+FaultOf rest fault.NoMemory = Unit {0}
+FaultOf rest other = name_of rest ≡ Err other

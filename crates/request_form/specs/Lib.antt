@@ -1,0 +1,7 @@
+pub mod BlobNames
+pub mod HeadFields
+pub mod HeadForms
+pub mod HeadRules
+pub mod HeadSpans
+pub mod Heads
+pub mod Targets

@@ -1,0 +1,158 @@
+//! What the header lines of a head say.
+ghost use Rattle.std.specs.Prelude.{◌≡◌, IfOk, IfSome, Some, is_some, option_map, true};
+ghost use Rattle.std.specs.Str.Parse.{digits_value};
+ghost use Rattle.std.specs.List.{list_all};
+ghost use Rattle.stamp_values.specs.Names.{is_digit};
+ghost use Rattle.base64.specs.Engines.{standard};
+ghost use Rattle.base64.specs.GeneralPurpose.{decoded_of};
+ghost use Rattle.request_form.specs.HeadFields as heads;
+
+use base64::DecodeAllocError;
+use base64::engine::general_purpose::STANDARD;
+use stamp_types::{Bytes, Field};
+use std::alloc::{AllocError, Global};
+
+/// Whether a header of the name was sent.
+#[tactic(auto, unfolding(crate::specs::HeadFields::is_sent))]
+pub fn is_sent(fields: &[Field], name: &str) -> bool
+    ensures { result ≡ heads.is_sent fields.now name.now }
+{
+    fields
+        .iter()
+        .any(|field| field.name.as_slice() == name.as_bytes())
+}
+
+/// Whether it was sent more than once.
+#[tactic(auto, unfolding(crate::specs::HeadFields::is_twice))]
+pub fn is_twice(fields: &[Field], name: &[u8]) -> bool
+    ensures { result ≡ heads.is_twice fields.now name.now }
+{
+    1 < fields
+        .iter()
+        .filter(|field| field.name.as_slice() == name)
+        .count()
+}
+
+/// The first value that was sent under the name.
+#[tactic(auto, unfolding(crate::specs::HeadFields::value_under))]
+pub fn value_under<'a>(fields: &'a [Field], name: &str) -> Option<&'a [u8]>
+    ensures { option_map (λ v. v.now) result ≡ heads.value_under fields.now name.now }
+{
+    for field in fields {
+        if field.name.as_slice() == name.as_bytes() {
+            return Some(field.value.as_slice());
+        }
+    }
+    None
+}
+
+/// A copy of each value that was sent under the name, in their order.
+///
+/// `AllocError` where there is no memory for them.
+#[tactic(auto, unfolding(crate::specs::HeadFields::values_under))]
+pub fn values_under(alloc: Global, fields: &[Field], name: &str) -> Result<Vec<Bytes>, AllocError>
+    ensures { IfOk result (λ values. values.items ≡ heads.values_under fields.now name.now) }
+{
+    let mut values = Vec::new(alloc);
+    for field in fields {
+        if field.name.as_slice() == name.as_bytes() {
+            values.push(field.value.clone()?)?;
+        }
+    }
+    Ok(values)
+}
+
+/// Whether the bytes are a text in UTF-8 (RFC 3629).
+pub fn is_utf8(bytes: &[u8]) -> bool
+    ensures { result ≡ heads.is_utf8 bytes.now }
+{
+    str::from_utf8(bytes).is_ok()
+}
+
+fn are_digits(text: &[u8]) -> bool
+    ensures { result ≡ list_all is_digit text.now }
+{
+    text.iter().all(|byte| byte.is_ascii_digit())
+}
+
+/// Whether the text is 1 to 19 digits.
+#[tactic(auto, unfolding(crate::specs::HeadFields::is_number))]
+pub fn is_number(text: &[u8]) -> bool
+    ensures { result ≡ heads.is_number text.now }
+{
+    (1..=19).contains(&text.len()) && are_digits(text)
+}
+
+/// The number that the digits write, below 10^19.
+pub fn number(digits: &[u8]) -> u64
+    requires { heads.is_number digits.now ≡ true }
+    ensures { result ≡ digits_value 10 digits.now }
+{
+    let mut number = 0;
+    for digit in digits {
+        number = number * 10 + u64::from(*digit - b'0');
+    }
+    number
+}
+
+/// The bytes that a text is the strict Base64 of (RFC 4648, section 4).
+///
+/// `AllocError` where there is no memory for them.
+fn decoded_base64(alloc: Global, text: &[u8]) -> Result<Option<Vec<u8>>, AllocError>
+    ensures { IfOk result (λ o. option_map (λ v. v.items) o ≡ decoded_of standard text.now) }
+{
+    match STANDARD.decode(alloc, text) {
+        Ok(bytes) => Ok(Some(bytes)),
+        Err(DecodeAllocError::DecodeError(_)) => Ok(None),
+        Err(DecodeAllocError::OutOfMemory) => Err(AllocError),
+    }
+}
+
+/// Whether the text is the strict Base64 of so many bytes.
+///
+/// `AllocError` where there is no memory for them.
+#[tactic(auto, unfolding(crate::specs::HeadFields::is_base64_within))]
+pub fn is_base64_within(
+    alloc: Global,
+    least: usize,
+    most: usize,
+    text: &[u8],
+) -> Result<bool, AllocError>
+    ensures { IfOk result (λ b. b ≡ heads.is_base64_within least most text.now) }
+{
+    match decoded_base64(alloc, text)? {
+        Some(bytes) => Ok((least..=most).contains(&bytes.len())),
+        None => Ok(false),
+    }
+}
+
+/// The MD5 that a text is the strict Base64 of (RFC 1864), or `None` where it is none.
+///
+/// `AllocError` where there is no memory for its bytes.
+#[tactic(auto, unfolding(crate::specs::HeadFields::is_base64_within))]
+pub fn md5_of(alloc: Global, text: &[u8]) -> Result<Option<[u8; 16]>, AllocError>
+    ensures test { IfOk result (λ o. is_some o ≡ heads.is_md5 text.now) }
+    ensures value { IfOk result (λ o. IfSome o (λ md5. decoded_of standard text.now ≡ Some md5)) }
+{
+    let Some(bytes) = decoded_base64(alloc, text)? else {
+        return Ok(None);
+    };
+    match bytes.as_slice().as_array::<16>() {
+        Some(md5) => Ok(Some(*md5)),
+        None => Ok(None),
+    }
+}
+
+/// Whether the name is that of a header of the service's own.
+pub fn is_ms(name: &[u8]) -> bool
+    ensures { result ≡ heads.is_ms name.now }
+{
+    name.starts_with(b"x-ms-".as_slice())
+}
+
+/// Whether the name is that of a header of metadata.
+pub fn is_meta(name: &[u8]) -> bool
+    ensures { result ≡ heads.is_meta name.now }
+{
+    name.starts_with(b"x-ms-meta-".as_slice())
+}

@@ -1,0 +1,12 @@
+//! Laws of heads. Each is the contract of a function that does nothing.
+ghost use Rattle.std.specs.Prelude.{◌≡◌, ℕ, List};
+ghost use Rattle.request_form.specs.HeadForms.{Form};
+ghost use Rattle.request_form.specs.Heads.{Accepts, Refuses};
+ghost use Rattle.request_form.specs.declared.denial.Denial.{Denial};
+
+/// Bytes are a head that asks for one thing, or a head that is refused in one way, or no head.
+pub fn a_head_is_read_in_one_way()
+    ensures form { (text : List ℕ) (a b : Form) → Accepts text a → Accepts text b → a ≡ b }
+    ensures either { (text : List ℕ) (a : Form) (d : Denial) → Accepts text a → Refuses text d → ⊥ }
+    ensures denial { (text : List ℕ) (d e : Denial) → Refuses text d → Refuses text e → d ≡ e }
+{}
