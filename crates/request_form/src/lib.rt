@@ -19,6 +19,8 @@ mod names;
 mod parsed_head;
 mod path_kind;
 mod query_rules;
+#[cfg(test)]
+mod request_forms_tests;
 mod target;
 #[cfg(test)]
 mod target_tests;
