@@ -24,11 +24,11 @@ chosen true x o d h = refl
 chosen false x o d h = cc
 
 -- what readers see of a blob that the change of this number put
-abbrev pub written : ℕ → PutBlob → Committed (List Piece)
-written n a = record { etag = n; made = a.moment; props = a.props; metadata = a.metadata; blocks = whole_block a.content ∷ [] }
+abbrev pub put_committed : ℕ → PutBlob → Committed (List Piece)
+put_committed n a = record { etag = n; made = a.moment; props = a.props; metadata = a.metadata; blocks = whole_block a.content ∷ [] }
 
 -- a blob that was put stands so
-pub blob_in-put : (a : PutBlob) (p : Part (List Piece)) → (blob_in (changed same_pieces (act.PutBlob a) p) a.blob).committed ≡ Some (written (p.count + 1) a)
+pub blob_in-put : (a : PutBlob) (p : Part (List Piece)) → (blob_in (changed same_pieces (act.PutBlob a) p) a.blob).committed ≡ Some (put_committed (p.count + 1) a)
 blob_in-put a p =
     ap (λ (o : Option (Blob (List Piece))). (unwrap_or o no_blob).committed) (finite.get-insert names_total p.blobs a.blob _ a.blob)
     ∙ ap (λ (b : Blob (List Piece)). b.committed) (chosen (eq_by_cmp name_cmp a.blob a.blob) _ (finite.get p.blobs a.blob) no_blob ((eq_by_cmp_equiv names_total).refl a.blob))
