@@ -29,7 +29,7 @@ open_of : (s : Sought) (place : Place) → further 1 s ≡ Open place → s ≡ 
 open_of (Found n) place e = absurd (cc)
 open_of (Open other) place e = e
 
-found_of : (s : Sought) (n : ℕ) → further 1 s ≡ Found n → (m : ℕ) × (s ≡ Found m) × (n ≡ 1 + m)
+pub found_of : (s : Sought) (n : ℕ) → further 1 s ≡ Found n → (m : ℕ) × (s ≡ Found m) × (n ≡ 1 + m)
 found_of (Found m) n e = (m, refl, cc)
 found_of (Open place) n e = absurd (cc)
 
@@ -78,7 +78,7 @@ pub sought_bound : (start : Place) (bytes : List ℕ) (n : ℕ) → sought start
 sought_bound start [] n e = absurd (let h : Open start ≡ Found n = sym (sought_nil start) ∙ e in cc)
 sought_bound start (b ∷ bytes) n e = bound_by bytes n _ (λ next m h. sought_bound next bytes m h) (sym (sought_cons start b bytes _ refl) ∙ e)
 
-found_is : (s : Sought) (n : ℕ) → found_len s ≡ Some n → s ≡ Found n
+pub found_is : (s : Sought) (n : ℕ) → found_len s ≡ Some n → s ≡ Found n
 found_is (Found m) n e = cc
 found_is (Open place) n e = absurd (cc)
 
@@ -112,7 +112,7 @@ take_min zero xs = ap (λ n. take n xs) {y = 0} (omega arith)
 take_min (suc k) [] = ap (λ n. take {A = ℕ} n []) {y = 0} (omega arith)
 take_min (suc k) (x ∷ xs) = ap (λ n. take n (x ∷ xs)) {y = suc (min (length xs) k)} (omega arith) ∙ ap (λ l. x ∷ l) (take_min k xs)
 
-take_parts : (i j : ℕ) (xs : List ℕ) → take (i + j) xs ≡ take i xs ++ take j (drop i xs)
+pub take_parts : (i j : ℕ) (xs : List ℕ) → take (i + j) xs ≡ take i xs ++ take j (drop i xs)
 take_parts zero j xs = ap (λ n. take n xs) {y = j} (omega arith)
 take_parts (suc i) zero [] = ap (λ n. take {A = ℕ} n []) {y = suc i} (omega arith)
 take_parts (suc i) (suc j) [] = ap (λ n. take {A = ℕ} n []) {y = suc (i + suc j)} (omega arith)

@@ -1,6 +1,6 @@
 -- One item is read.
-use Rattle.std.proofs.Common.{◌≡◌, ℕ, zero, suc, ◌+◌, ◌*◌, ◌<◌, ◌≤◌, List, [], ◌∷◌, ◌++◌, Option, Some, Result, Ok, Err, OnOk, refl, sym, ap, ◌∙◌, append_assoc, append-nil, subst, length, length-append, length-take, length-drop, take, drop, arith, inl, inr}
-use Rattle.std.proofs.lemmas.List.{drop-append-le}
+use Rattle.std.proofs.Common.{◌≡◌, ℕ, ◌+◌, ◌*◌, ◌<◌, ◌≤◌, List, [], ◌++◌, Option, Some, Result, Ok, Err, OnOk, refl, sym, ap, ◌∙◌, append_assoc, append-nil, subst, length, length-append, length-take, length-drop, take, drop, arith, inl, inr}
+use Rattle.std.proofs.lemmas.List.{drop-append-le, drop_all, take-append-drop}
 use Rattle.std.specs.Io.KnownBytes.{Appends}
 use Rattle.std.proofs.KnownBytes.{Consumes-nil, Consumes-trans, Appends-trans}
 use Rattle.request_form.specs.declared.denial.Denial.{Denial}
@@ -19,12 +19,9 @@ use Rattle.http_front.specs.Streams.Tail.{InBody}
 use Rattle.http_front.proofs.Ends.{head_len_bound}
 use Rattle.http_front.proofs.StreamLemmas.{HasHead-more}
 
--- a list cut at its front, where more came for the front alone
-splits : (k : ℕ) (xs more : List ℕ) → length (take k xs ++ more) ≡ k → xs ++ more ≡ (take k xs ++ more) ++ drop k xs
-splits zero xs [] l = append-nil xs
-splits zero xs (y ∷ more) l = absurd (omega arith)
-splits (suc k) [] more l = sym (append-nil more)
-splits (suc k) (x ∷ xs) more l = ap (λ r. x ∷ r) (splits k xs more (omega arith))
+-- where less is there than was to be taken, nothing is left
+pub drop_short : (k : ℕ) (xs : List ℕ) → length (take k xs) < k → drop k xs ≡ []
+drop_short k xs short = let size = length-take k xs in drop_all k xs (omega arith)
 
 behind_head : (buffer more : List ℕ) (count : ℕ) (form : Form) → HasHead buffer count form → drop count (buffer ++ more) ≡ drop count buffer ++ more
 behind_head buffer more count form has = drop-append-le count buffer more (head_len_bound buffer count has.ends).1
@@ -44,12 +41,12 @@ bodies_none Read form count left held held' buffer buffer' turns turns' is has s
 bodies_none Turns form count left held held' buffer buffer' turns turns' is has sent = absurd (cc)
 bodies_none Write form count left held held' buffer buffer' turns turns' is has sent = tt
 
-cut_short : (form : Form) (count : ℕ) (buffer more body : List ℕ) → HasHead buffer count form
-    → body ≡ take form.body_len (drop count buffer) ++ more → length body < form.body_len → IsCutBody (buffer ++ more) form
-cut_short form count buffer more body has is short =
-    let size = length-take form.body_len (drop count buffer) in
-    let long = length-append (take form.body_len (drop count buffer)) more in
+cut_short : (form : Form) (count : ℕ) (buffer here there more : List ℕ) → HasHead buffer count form
+    → here ≡ drop count buffer → there ≡ here ++ more → length there < form.body_len → IsCutBody (buffer ++ more) form
+cut_short form count buffer here there more has at is short =
+    let long = length-append here more in
     let all = length-append (drop count buffer) more in
+    let first = ap length at in
     let whole = ap length is in
     let behind = ap length (behind_head buffer more count form has) in record {
       count = count;
@@ -57,49 +54,46 @@ cut_short form count buffer more body has is short =
       short = omega arith;
     }
 
-spent_all : (start more body : List ℕ) (turns : ℕ) → body ≡ start ++ more → turns + length start ≤ length body → turns ≤ length more
-spent_all start more body turns is h = let size = length-append start more in let whole = ap length is in omega arith
+spent_all : (here there more : List ℕ) (turns : ℕ) → there ≡ here ++ more → turns + length here ≤ length there → turns ≤ length more
+spent_all here there more turns is h = let size = length-append here more in let whole = ap length is in omega arith
 
--- the body is cut
-pub bodies_cut : (U : Type 0) (fault : FrontFault) (form : Form) (count k : ℕ) (left left' held held' held'' : Option (List ℕ)) (buffer start body buffer' : List ℕ) (turns turns' : ℕ)
-    → HasHead buffer count form → k ≡ form.body_len → start ≡ take k (drop count buffer) → Appends held held' (interim form)
-    → Told {T = U} (Err fault) (Fills {T = U} (Err fault) left left' start body) → Served {T = U} (Err fault) (length body < k)
-    → Told {T = U} (Err fault) (Appends held' held'' []) → (fault ≡ Turns → turns + length start ≤ length body)
+-- The body is cut: `here` was there of what stands behind the head, and `there` came of it.
+pub bodies_cut : (U : Type 0) (fault : FrontFault) (form : Form) (count k : ℕ) (left left' held held' held'' : Option (List ℕ)) (buffer here there buffer' : List ℕ) (turns turns' : ℕ)
+    → HasHead buffer count form → k ≡ form.body_len → here ≡ drop count buffer → Appends held held' (interim form)
+    → Told {T = U} (Err fault) (Fills {T = U} (Err fault) left left' here there) → Served {T = U} (Err fault) (length there < k)
+    → Told {T = U} (Err fault) (Appends held' held'' []) → (fault ≡ Turns → turns + length here ≤ length there)
     → Told {T = List ℕ} (Err fault) (Bodies (Err fault) form count left left' held held'' buffer buffer' turns turns')
-bodies_cut U Read form count k left left' held held' held'' buffer start body buffer' turns turns' has len is sent fills short none ex =
-    let at : start ≡ take form.body_len (drop count buffer) = is ∙ ap (λ n. take n (drop count buffer)) len in record {
-      more = fills.more;
-      consumed = fills.consumed;
-      written = subst (Appends held held'') (append-nil (interim form)) (Appends-trans held held' held'' (interim form) [] sent none);
-      taken = cut_short form count buffer fills.more body has (fills.kept ∙ ap (λ l. l ++ fills.more) at) (omega arith);
-      spent = tt;
-    }
-bodies_cut U Turns form count k left left' held held' held'' buffer start body buffer' turns turns' has len is sent fills short none ex =
-    let at : start ≡ take form.body_len (drop count buffer) = is ∙ ap (λ n. take n (drop count buffer)) len in record {
-      more = fills.more;
-      consumed = fills.consumed;
-      written = subst (Appends held held'') (append-nil (interim form)) (Appends-trans held held' held'' (interim form) [] sent none);
-      taken = cut_short form count buffer fills.more body has (fills.kept ∙ ap (λ l. l ++ fills.more) at) (omega arith);
-      spent = spent_all start fills.more body turns fills.kept (ex refl);
-    }
-bodies_cut U NoMemory form count k left left' held held' held'' buffer start body buffer' turns turns' has len is sent fills short none ex = record {
+bodies_cut U Read form count k left left' held held' held'' buffer here there buffer' turns turns' has len at sent fills short none ex = record {
+  more = fills.more;
+  consumed = fills.consumed;
+  written = subst (Appends held held'') (append-nil (interim form)) (Appends-trans held held' held'' (interim form) [] sent none);
+  taken = cut_short form count buffer here there fills.more has at fills.kept (omega arith);
+  spent = tt;
+}
+bodies_cut U Turns form count k left left' held held' held'' buffer here there buffer' turns turns' has len at sent fills short none ex = record {
+  more = fills.more;
+  consumed = fills.consumed;
+  written = subst (Appends held held'') (append-nil (interim form)) (Appends-trans held held' held'' (interim form) [] sent none);
+  taken = cut_short form count buffer here there fills.more has at fills.kept (omega arith);
+  spent = spent_all here there fills.more turns fills.kept (ex refl);
+}
+bodies_cut U NoMemory form count k left left' held held' held'' buffer here there buffer' turns turns' has len at sent fills short none ex = record {
   more = fills.more;
   consumed = fills.consumed;
   written = subst (Appends held held'') (append-nil (interim form)) (Appends-trans held held' held'' (interim form) [] sent none);
   taken = HasHead-more buffer fills.more count form has;
   spent = tt;
 }
-bodies_cut U Write form count k left left' held held' held'' buffer start body buffer' turns turns' has len is sent fills short none ex = tt
+bodies_cut U Write form count k left left' held held' held'' buffer here there buffer' turns turns' has len at sent fills short none ex = tt
 
--- the body is whole
-pub bodies_whole : (U : Type 0) (u : U) (form : Form) (count k : ℕ) (left left' held held' held'' : Option (List ℕ)) (buffer start body rest : List ℕ) (turns turns' : ℕ)
-    → HasHead buffer count form → k ≡ form.body_len → start ≡ take k (drop count buffer) → rest ≡ drop k (drop count buffer) → Appends held held' (interim form)
-    → Fills {T = U} (Ok u) left left' start body → length body ≡ k → Appends held' held'' [] → turns + length start ≤ turns' + length body
+-- The body is whole: `here` was there of what stands behind the head, and the body and what follows it came of it.
+pub bodies_whole : (U : Type 0) (u : U) (form : Form) (count k : ℕ) (left left' held held' held'' : Option (List ℕ)) (buffer here body rest : List ℕ) (turns turns' : ℕ)
+    → HasHead buffer count form → k ≡ form.body_len → here ≡ drop count buffer → Appends held held' (interim form)
+    → Fills {T = U} (Ok u) left left' here (body ++ rest) → length body ≡ k → Appends held' held'' [] → turns + length here ≤ turns' + length (body ++ rest)
     → Bodies (Ok body) form count left left' held held'' buffer rest turns turns'
-bodies_whole U u form count k left left' held held' held'' buffer start body rest turns turns' has len is after sent fills whole none spent =
-    let size = length-append start fills.more in
-    let all = ap length fills.kept in
-    let at : body ≡ take k (drop count buffer) ++ fills.more = fills.kept ∙ ap (λ l. l ++ fills.more) is in record {
+bodies_whole U u form count k left left' held held' held'' buffer here body rest turns turns' has len at sent fills whole none spent =
+    let size = length-append here fills.more in
+    let all = ap length fills.kept in record {
       more = fills.more;
       consumed = fills.consumed;
       written = subst (Appends held held'') (append-nil (interim form)) (Appends-trans held held' held'' (interim form) [] sent none);
@@ -107,22 +101,25 @@ bodies_whole U u form count k left left' held held' held'' buffer start body res
         count = count;
         head = HasHead-more buffer fills.more count form has;
         whole = whole ∙ len;
-        parts = behind_head buffer fills.more count form has ∙ splits k (drop count buffer) fills.more (ap length (sym at) ∙ whole)
-            ∙ ap (λ l. l ++ drop k (drop count buffer)) (sym at) ∙ ap (λ l. body ++ l) (sym after);
+        parts = behind_head buffer fills.more count form has ∙ ap (λ l. l ++ fills.more) (sym at) ∙ sym fills.kept;
       };
       spent = omega arith;
     }
 
-pub bodies_less : (form : Form) (count k : ℕ) (buffer rest : List ℕ) (turns turns' : ℕ) → HasHead buffer count form → rest ≡ drop k (drop count buffer) → turns' ≤ turns
-    → turns' * 8193 + length rest < turns * 8193 + length buffer
-bodies_less form count k buffer rest turns turns' has after falls =
+pub bodies_less : (form : Form) (count k : ℕ) (buffer after rest : List ℕ) (turns turns' : ℕ) → HasHead buffer count form → after ≡ drop k (drop count buffer)
+    → turns' * 8193 + length rest ≤ turns * 8193 + length after → turns' * 8193 + length rest < turns * 8193 + length buffer
+bodies_less form count k buffer after rest turns turns' has is falls =
     let bound = head_len_bound buffer count has.ends in
     let some = bound.0 in
     let within = bound.1 in
     let one = length-drop count buffer in
     let two = length-drop k (drop count buffer) in
-    let size = ap length after in
+    let size = ap length is in
     omega arith
+
+-- what was taken for the body and what is left are what stood behind the head
+pub starts : (count k : ℕ) (buffer start after : List ℕ) → start ≡ take k (drop count buffer) → after ≡ drop k (drop count buffer) → start ++ after ≡ drop count buffer
+starts count k buffer start after p q = ap (λ l. l ++ after) p ∙ ap (λ l. take k (drop count buffer) ++ l) q ∙ take-append-drop k (drop count buffer)
 
 -- ---- the item
 

@@ -1,5 +1,6 @@
 pub mod ClosedWorlds
 pub mod Ends
+pub mod HeadLines
 pub mod Items
 pub mod StreamLemmas
 pub mod Talks

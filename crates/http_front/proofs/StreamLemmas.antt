@@ -39,7 +39,7 @@ one_denial text denial other (inr p) (inr q) = p.1 ∙ sym q.1
 
 -- ---- so is what stands at the front
 
-append_parts : (a b c d : List ℕ) → length a ≡ length b → a ++ c ≡ b ++ d → (a ≡ b) × (c ≡ d)
+pub append_parts : (a b c d : List ℕ) → length a ≡ length b → a ++ c ≡ b ++ d → (a ≡ b) × (c ≡ d)
 append_parts [] [] c d l e = (refl, e)
 append_parts [] (y ∷ b) c d l e = absurd (omega arith)
 append_parts (x ∷ a) [] c d l e = absurd (omega arith)

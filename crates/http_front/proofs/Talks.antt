@@ -50,21 +50,21 @@ pub step_of : {C S : Type 0} (gives : C → ℕ → C → Type 0) (answers : S �
     → Step gives answers clock clock' world world' held held'' bytes rest closes
 unfolding bytes_of
 step_of gives answers clock clock' world world' held held' held'' bytes rest written (Founds.Called call) closes f w s =
-    let a = subst (λ k. Answers gives answers clock clock' world world' held' held'' k) f.3 s.0 in record {
-      exchange = Answered f.0 f.1 a.moment a.reply;
+    let a = subst (λ k. Answers answers world world' held' held'' k s.moment) f.3 s.settled.0 in record {
+      exchange = Answered f.0 f.1 s.moment a.reply;
       begins = f.2;
-      closing = sym (s.1 ∙ rw f.3 refl);
-      ticked = a.ticked;
+      closing = sym (s.settled.1 ∙ rw f.3 refl);
+      ticked = s.ticked;
       replied = a.replied;
       written = Appends-trans held held' held'' (interim f.0) _ (subst (Appends held held') f.4 w) a.written;
     }
 step_of gives answers clock clock' world world' held held' held'' bytes rest written (Founds.Refused denial) closes f w s = record {
-  exchange = Turned denial s.0.moment;
+  exchange = Turned denial s.moment;
   begins = f.0;
-  closing = sym s.2;
-  ticked = s.0.ticked;
-  replied = s.1;
-  written = Appends-trans held held' held'' [] _ (subst (Appends held held') f.1 w) s.0.written;
+  closing = sym s.settled.2;
+  ticked = s.ticked;
+  replied = s.settled.1;
+  written = Appends-trans held held' held'' [] _ (subst (Appends held held') f.1 w) s.settled.0;
 }
 
 -- ---- the items

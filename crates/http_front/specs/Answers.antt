@@ -10,25 +10,24 @@ use Rattle.http_front.specs.declared.input.Found.{Found}
 use Rattle.http_front.specs.declared.input.Found.TheVariants as Founds
 use Rattle.reply_form.specs.ReplyBytes.{reply_bytes}
 
--- the clock gave one moment, the service one reply for it, and this was written
-pub record Answers {C S : Type 0} (gives : C → ℕ → C → Type 0) (answers : S → Asked → ℕ → Reply → S → Type 0)
-    (clock clock' : C) (world world' : S) (held held' : Option (List ℕ)) (call : Call) : Type 0 where
-  pub moment : ℕ
+-- the service gave one reply at this moment, and this was written
+pub record Answers {S : Type 0} (answers : S → Asked → ℕ → Reply → S → Type 0) (world world' : S) (held held' : Option (List ℕ)) (call : Call) (moment : ℕ) : Type 0 where
   pub reply : Reply
-  pub ticked : gives clock moment clock'
   pub replied : answers world call.request moment reply world'
   pub written : Appends held held' (reply_bytes reply moment (Some call.verb) call.closes)
 
--- the clock gave one moment, and the refusal was written
-pub record Turns-away {C : Type 0} (gives : C → ℕ → C → Type 0) (clock clock' : C) (held held' : Option (List ℕ)) (denial : Denial) : Type 0 where
-  pub moment : ℕ
-  pub ticked : gives clock moment clock'
-  pub written : Appends held held' (reply_bytes (denied denial.rule denial.code) moment denial.verb true)
+-- the refusal was written, and that it closes
+abbrev pub Turns-away : Option (List ℕ) → Option (List ℕ) → Denial → ℕ → Type 0
+Turns-away held held' denial moment = Appends held held' (reply_bytes (denied denial.rule denial.code) moment denial.verb true)
 
 -- an item was answered; of a refusal the service hears nothing, and it closes
-abbrev pub Settles : {C S : Type 0} → (C → ℕ → C → Type 0) → (S → Asked → ℕ → Reply → S → Type 0)
-    → C → C → S → S → Option (List ℕ) → Option (List ℕ) → Found → Bool → Type 0
-Settles gives answers clock clock' world world' held held' (Founds.Called call) closes =
-    Answers gives answers clock clock' world world' held held' call × (closes ≡ call.closes)
-Settles gives answers clock clock' world world' held held' (Founds.Refused denial) closes =
-    Turns-away gives clock clock' held held' denial × (world' ≡ world) × (closes ≡ true)
+abbrev pub Settled : {S : Type 0} → (S → Asked → ℕ → Reply → S → Type 0) → S → S → Option (List ℕ) → Option (List ℕ) → Found → Bool → ℕ → Type 0
+Settled answers world world' held held' (Founds.Called call) closes moment = Answers answers world world' held held' call moment × (closes ≡ call.closes)
+Settled answers world world' held held' (Founds.Refused denial) closes moment = Turns-away held held' denial moment × (world' ≡ world) × (closes ≡ true)
+
+-- the clock gave one moment, and an item was answered at it
+pub record Settles {C S : Type 0} (gives : C → ℕ → C → Type 0) (answers : S → Asked → ℕ → Reply → S → Type 0)
+    (clock clock' : C) (world world' : S) (held held' : Option (List ℕ)) (found : Found) (closes : Bool) : Type 0 where
+  pub moment : ℕ
+  pub ticked : gives clock moment clock'
+  pub settled : Settled answers world world' held held' found closes moment

@@ -1,12 +1,43 @@
 -- Where the head of a request ends: with the first empty line behind a line that isn't empty (RFC 9112, sections 2.1 and 2.2). A line
 -- ends in CR LF, or in LF alone.
-use Rattle.std.specs.Prelude.{◌≡◌, ℕ, ◌+◌, ◌≤◌, ◌==◌, List, [], ◌∷◌, length, take, Option, Some, None, if◌then◌else◌}
+use Rattle.std.specs.Prelude.{◌≡◌, ◌≢◌, ℕ, ◌+◌, ◌≤◌, ◌==◌, List, [], ◌∷◌, ◌++◌, length, take, flat_map, All, Option, Some, None, if◌then◌else◌}
 use Rattle.request_form.specs.Heads.{head_limit}
 use Rattle.http_front.specs.declared.head_end.Place.{Place}
 use Rattle.http_front.specs.declared.head_end.Place.TheVariants.{Opening, OpeningReturn, InLine, LineStart, LineReturn}
 use Rattle.http_front.specs.declared.head_end.Sought.{Sought}
 use Rattle.http_front.specs.declared.head_end.Sought.TheVariants.{Found, Open}
 use Rattle.http_front.specs.declared.head_end.Search.{Search}
+
+-- an empty line: LF, or CR LF
+pub data EmptyLine : Type 0 where
+  Feed : EmptyLine
+  ReturnFeed : EmptyLine
+
+-- its bytes
+abbrev pub empty_line : EmptyLine → List ℕ
+empty_line Feed = 10 ∷ []
+empty_line ReturnFeed = 13 ∷ 10 ∷ []
+
+-- A line that isn't empty, without the LF that ends it: it is neither nothing nor the CR of a line's end alone.
+pub record Line : Type 0 where
+  pub text : List ℕ
+  pub unbroken : All (λ b. b ≢ 10) text
+  pub some : text ≢ []
+  pub not_return : text ≢ 13 ∷ []
+
+-- its bytes
+abbrev pub line_bytes : Line → List ℕ
+line_bytes line = line.text ++ 10 ∷ []
+
+-- the bytes are empty lines, if any, then lines that aren't empty, at least one, and then an empty line
+pub record IsHeadInLines (head : List ℕ) : Type 0 where
+  pub blank : List EmptyLine
+  pub first : Line
+  pub others : List Line
+  pub last : EmptyLine
+  pub parts : head ≡ flat_map empty_line blank ++ (line_bytes first ++ (flat_map line_bytes others ++ empty_line last))
+
+-- ---- the same as a walk over the bytes
 
 -- where a byte leads, or None where the head ends with it
 abbrev pub step : Place → ℕ → Option Place

@@ -51,7 +51,7 @@ Takes-body (Err NoMemory) form count bytes rest = HasHead bytes count form
 Takes-body (Err Write) form count bytes rest = Unit {0}
 Takes-body (Err fault) form count bytes rest = IsCutBody bytes form
 
--- the interim reply was written where it is asked for, and these bytes were read for the body
+-- the interim reply was written where it is asked for, and these bytes came while the body was awaited
 pub record Bodies (result : Result (List ℕ) FrontFault) (form : Form) (count : ℕ) (left left' held held' : Option (List ℕ)) (buffer buffer' : List ℕ) (turns turns' : ℕ) : Type 0 where
   pub more : List ℕ
   pub consumed : Consumes left left' more

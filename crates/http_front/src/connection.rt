@@ -10,6 +10,7 @@ ghost use Rattle.http_front.specs.declared.end.End.{End};
 ghost use Rattle.http_front.specs.declared.end.FrontFault.{FrontFault};
 ghost use Rattle.stamp_types.specs.Replies.{denied};
 
+use crate::buffer::Buffer;
 use crate::end::{End, FrontFault};
 use crate::input::{Call, Found, next_item};
 use crate::output::send;
@@ -42,20 +43,18 @@ fn send_reply<W: Write>(
     reply.body.write_to(writer).map_err(|_| FrontFault::Write)
 }
 
-// Answers a request, at the moment that the clock gives.
-fn answer_call<W: Write, C: Clock, S: Service>(
+// Answers a request at a moment.
+fn answer_call<W: Write, S: Service>(
     alloc: Global,
     writer: &mut W,
-    clock: &mut C,
     service: &mut S,
     call: Call,
+    moment: Moment,
 ) -> Result<(), FrontFault>
-    ensures answered { OnOk result (Answers C.gives S.answers clock.old clock.new (S.world service.old) (S.world service.new)
-        (W.contents writer.old) (W.contents writer.new) call) }
+    ensures answered { OnOk result (Answers S.answers (S.world service.old) (S.world service.new) (W.contents writer.old) (W.contents writer.new) call moment) }
     ensures starved { result ≡ Err FrontFault.NoMemory → writer.new ≡ writer.old }
     ensures late { IfErr result IsLate }
 {
-    let moment = clock.now();
     let Call {
         request,
         verb,
@@ -65,23 +64,22 @@ fn answer_call<W: Write, C: Clock, S: Service>(
     send_reply(alloc, writer, &reply, moment, Some(verb), closes)
 }
 
-// Says how a head is refused, at the moment that the clock gives.
-fn answer_denial<W: Write, C: Clock>(
+// Says at a moment how a head is refused.
+fn answer_denial<W: Write>(
     alloc: Global,
     writer: &mut W,
-    clock: &mut C,
     denial: Denial,
+    moment: Moment,
 ) -> Result<(), FrontFault>
-    ensures answered { OnOk result (Turns-away C.gives clock.old clock.new (W.contents writer.old) (W.contents writer.new) denial) }
+    ensures answered { OnOk result (Turns-away (W.contents writer.old) (W.contents writer.new) denial moment) }
     ensures starved { result ≡ Err FrontFault.NoMemory → writer.new ≡ writer.old }
     ensures late { IfErr result IsLate }
 {
-    let moment = clock.now();
     let reply = Reply::denied(alloc, denial.rule, denial.code)?;
     send_reply(alloc, writer, &reply, moment, denial.verb, true)
 }
 
-// Answers an item, and says whether it ends the connection.
+// Answers an item at the one moment that the clock gives for it, and says whether it ends the connection.
 fn answer_item<W: Write, C: Clock, S: Service>(
     alloc: Global,
     writer: &mut W,
@@ -94,14 +92,15 @@ fn answer_item<W: Write, C: Clock, S: Service>(
     ensures starved { result ≡ Err FrontFault.NoMemory → writer.new ≡ writer.old }
     ensures late { IfErr result IsLate }
 {
+    let moment = clock.now();
     match found {
         Found::Called(call) => {
             let closes = call.closes;
-            answer_call(alloc, writer, clock, service, call)?;
+            answer_call(alloc, writer, service, call, moment)?;
             Ok(closes)
         }
         Found::Refused(denial) => {
-            answer_denial(alloc, writer, clock, denial)?;
+            answer_denial(alloc, writer, denial, moment)?;
             Ok(true)
         }
     }
@@ -123,7 +122,7 @@ fn converse<R: Read, W: Write, C: Clock, S: Service>(
     ensures starved { result ≡ Err FrontFault.NoMemory → Starved C.gives S.answers clock.old (S.world service.old)
         (R.remaining reader.old) (R.remaining reader.new) (W.contents writer.old) (W.contents writer.new) [] }
 {
-    let mut buffer = Vec::new(alloc);
+    let mut buffer = Buffer::new(alloc);
     let mut left = turns;
     loop {
         match next_item(alloc, reader, writer, &mut buffer, &mut left)? {

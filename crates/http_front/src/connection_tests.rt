@@ -130,7 +130,9 @@ fn the_cutting_does_not_matter_and_reads_are_counted(rt: HostRuntime) {
         (1, 200, 158, Ok(End::Closed)),
         (1, 200, 157, Err(FrontFault::Turns)),
         (1, 157, 200, Err(FrontFault::Read)),
-        (7, 200, 200, Ok(End::Closed)),
+        // A read isn't cut at the end of a head or of a body: 158 bytes are 23 reads of 7.
+        (7, 23, 23, Ok(End::Closed)),
+        (7, 23, 22, Err(FrontFault::Turns)),
     ];
     for (most, reads, turns, ended) in table {
         let mut out = Vec::new(rt.alloc());

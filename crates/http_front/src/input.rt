@@ -1,5 +1,5 @@
 //! Reads one item of a stream at a time.
-ghost use Rattle.std.specs.Prelude.{◌≡◌, ◌≢◌, true, false, None, Some, ℕ, ◌+◌, ◌*◌, ◌<◌, ◌≤◌, [], Ok, Err, IfOk, OnOk, IfErr, IsOkUnless, length, take, drop};
+ghost use Rattle.std.specs.Prelude.{◌≡◌, ◌≢◌, true, false, None, Some, ℕ, ◌+◌, ◌*◌, ◌<◌, ◌≤◌, [], ◌++◌, Ok, Err, IfOk, OnOk, IfErr, IsOkUnless, length, take, drop};
 ghost use Rattle.std.specs.Io.KnownBytes.{Consumes, Appends, IsAtEnd};
 ghost use Rattle.request_form.specs.HeadForms.{Form, with_body};
 ghost use Rattle.http_front.specs.Inputs.{Fills, Awaits, Bodies, Joins, Takes};
@@ -10,6 +10,7 @@ ghost use Rattle.http_front.specs.declared.input.Awaited.{Awaited};
 ghost use Rattle.http_front.specs.declared.input.Call.{Call};
 ghost use Rattle.http_front.specs.declared.input.Found.{Found};
 
+use crate::buffer::Buffer;
 use crate::end::FrontFault;
 use crate::head_end::Search;
 use crate::output::send;
@@ -76,21 +77,21 @@ fn read_piece<R: Read, W: Write>(
 fn fill<R: Read, W: Write>(
     reader: &mut R,
     writer: &mut W,
-    buffer: &mut Vec<u8>,
+    buffer: &mut Buffer,
     turns: &mut u64,
 ) -> Result<bool, FrontFault>
-    ensures fills { Told result (Fills result (R.remaining reader.old) (R.remaining reader.new) buffer.old.items buffer.new.items) }
-    ensures failed { IfErr result (λ _. Served result (buffer.new.items ≡ buffer.old.items)) }
-    ensures end { result ≡ Ok false → IsAtEnd (R.remaining reader.new) × (buffer.new.items ≡ buffer.old.items) }
-    ensures grown { result ≡ Ok true → length buffer.old.items < length buffer.new.items }
-    ensures size { OnOk result (length buffer.new.items ≤ length buffer.old.items + 8192) }
+    ensures fills { Told result (Fills result (R.remaining reader.old) (R.remaining reader.new) buffer.old buffer.new) }
+    ensures failed { IfErr result (λ _. Served result (buffer.new ≡ buffer.old)) }
+    ensures end { result ≡ Ok false → IsAtEnd (R.remaining reader.new) × (buffer.new ≡ buffer.old) }
+    ensures grown { result ≡ Ok true → length buffer.old < length buffer.new }
+    ensures size { OnOk result (length buffer.new ≤ length buffer.old + 8192) }
     ensures held { Told result (Appends (W.contents writer.old) (W.contents writer.new) []) }
     ensures turn { OnOk result (turns.new + 1 ≡ turns.old) }
     ensures exhausted { result ≡ Err FrontFault.Turns → turns.old ≡ 0 }
 {
     let mut piece = [0; READ_SIZE];
     let n = read_piece(reader, writer, &mut piece, turns)?;
-    buffer.extend_from_slice(&piece[..n])?;
+    buffer.push(&piece[..n])?;
     Ok(n > 0)
 }
 
@@ -98,20 +99,20 @@ fn fill<R: Read, W: Write>(
 fn await_head<R: Read, W: Write>(
     reader: &mut R,
     writer: &mut W,
-    buffer: &mut Vec<u8>,
+    buffer: &mut Buffer,
     turns: &mut u64,
 ) -> Result<Awaited, FrontFault>
-    ensures fills { Told result (Fills result (R.remaining reader.old) (R.remaining reader.new) buffer.old.items buffer.new.items) }
-    ensures head { Told result (Awaits result buffer.new.items) }
+    ensures fills { Told result (Fills result (R.remaining reader.old) (R.remaining reader.new) buffer.old buffer.new) }
+    ensures head { Told result (Awaits result buffer.new) }
     ensures end { result ≡ Ok Awaited.End → IsAtEnd (R.remaining reader.new) }
     ensures held { Told result (Appends (W.contents writer.old) (W.contents writer.new) []) }
-    ensures measure { OnOk result (turns.new * 8193 + length buffer.new.items ≤ turns.old * 8193 + length buffer.old.items) }
-    ensures spent { IfOk result (λ awaited. awaited ≢ Awaited.End → turns.old + length buffer.old.items ≤ turns.new + length buffer.new.items) }
-    ensures exhausted { result ≡ Err FrontFault.Turns → turns.old + length buffer.old.items ≤ length buffer.new.items }
+    ensures measure { OnOk result (turns.new * 8193 + length buffer.new ≤ turns.old * 8193 + length buffer.old) }
+    ensures spent { IfOk result (λ awaited. awaited ≢ Awaited.End → turns.old + length buffer.old ≤ turns.new + length buffer.new) }
+    ensures exhausted { result ≡ Err FrontFault.Turns → turns.old + length buffer.old ≤ length buffer.new }
 {
     let mut search = Search::new();
     loop {
-        if let Some(n) = search.look(buffer) {
+        if let Some(n) = search.look(buffer.as_slice()) {
             return Ok(Awaited::Head(n));
         }
         if buffer.len() > HEAD_LIMIT {
@@ -127,85 +128,95 @@ fn await_head<R: Read, W: Write>(
     }
 }
 
-// One read of no more than is missing into the body, and whether it gave a byte.
+// Gives a body the front of a piece, as much as it misses, and the buffer the rest.
+fn deal(
+    body: &mut Gathering,
+    buffer: &mut Buffer,
+    piece: &[u8],
+    missing: u64,
+) -> Result<(), AllocError>
+    ensures body { OnOk result (body.new ≡ body.old ++ take missing piece.now) }
+    ensures rest { OnOk result (buffer.new ≡ buffer.old ++ drop missing piece.now) }
+{
+    let here = missing.min(piece.len() as u64) as usize;
+    body.push(&piece[..here])?;
+    buffer.push(&piece[here..])
+}
+
+// One read for the body, and whether it gave a byte. What comes behind the body waits in the buffer.
 fn gather<R: Read, W: Write>(
     reader: &mut R,
     writer: &mut W,
     body: &mut Gathering,
+    buffer: &mut Buffer,
     missing: u64,
     turns: &mut u64,
 ) -> Result<bool, FrontFault>
-    requires { 0 < missing }
-    ensures fills { Told result (Fills result (R.remaining reader.old) (R.remaining reader.new) body.old body.new) }
-    ensures failed { IfErr result (λ _. Served result (body.new ≡ body.old)) }
-    ensures end { result ≡ Ok false → IsAtEnd (R.remaining reader.new) × (body.new ≡ body.old) }
+    requires missing { 0 < missing }
+    requires none { buffer.old ≡ [] }
+    ensures fills { Told result (Fills result (R.remaining reader.old) (R.remaining reader.new) (body.old ++ buffer.old) (body.new ++ buffer.new)) }
+    ensures failed { IfErr result (λ _. Served result ((body.new ≡ body.old) × (buffer.new ≡ []))) }
+    ensures end { result ≡ Ok false → IsAtEnd (R.remaining reader.new) × (body.new ≡ body.old) × (buffer.new ≡ []) }
     ensures grown { result ≡ Ok true → length body.old < length body.new }
     ensures size { OnOk result (length body.new ≤ length body.old + missing) }
+    ensures waiting { OnOk result (length body.new < length body.old + missing → buffer.new ≡ []) }
+    ensures room { OnOk result (length buffer.new ≤ 8192) }
     ensures held { Told result (Appends (W.contents writer.old) (W.contents writer.new) []) }
     ensures turn { OnOk result (turns.new + 1 ≡ turns.old) }
     ensures exhausted { result ≡ Err FrontFault.Turns → turns.old ≡ 0 }
 {
     let mut piece = [0; READ_SIZE];
-    let most = missing.min(READ_SIZE as u64) as usize;
-    let n = read_piece(reader, writer, &mut piece[..most], turns)?;
-    body.push(&piece[..n])?;
+    let n = read_piece(reader, writer, &mut piece, turns)?;
+    deal(body, buffer, &piece[..n], missing)?;
     Ok(n > 0)
 }
 
-// Reads until the body is whole.
+// Reads until the body is whole, and no further.
 fn await_body<R: Read, W: Write>(
     reader: &mut R,
     writer: &mut W,
     body: &mut Gathering,
+    buffer: &mut Buffer,
     body_len: u64,
     turns: &mut u64,
 ) -> Result<(), FrontFault>
-    requires { length body.old ≤ body_len }
-    ensures fills { Told result (Fills result (R.remaining reader.old) (R.remaining reader.new) body.old body.new) }
+    requires short { length body.old ≤ body_len }
+    requires waiting { length body.old < body_len → buffer.old ≡ [] }
+    ensures fills { Told result (Fills result (R.remaining reader.old) (R.remaining reader.new) (body.old ++ buffer.old) (body.new ++ buffer.new)) }
     ensures whole { OnOk result (length body.new ≡ body_len) }
-    ensures cut { IfErr result (λ _. Served result (length body.new < body_len)) }
+    ensures cut { IfErr result (λ _. Served result (length (body.new ++ buffer.new) < body_len)) }
     ensures held { Told result (Appends (W.contents writer.old) (W.contents writer.new) []) }
-    ensures falls { OnOk result (turns.new ≤ turns.old) }
-    ensures spent { OnOk result (turns.old + length body.old ≤ turns.new + length body.new) }
-    ensures exhausted { result ≡ Err FrontFault.Turns → turns.old + length body.old ≤ length body.new }
+    ensures measure { OnOk result (turns.new * 8193 + length buffer.new ≤ turns.old * 8193 + length buffer.old) }
+    ensures spent { OnOk result (turns.old + length (body.old ++ buffer.old) ≤ turns.new + length (body.new ++ buffer.new)) }
+    ensures exhausted { result ≡ Err FrontFault.Turns → turns.old + length (body.old ++ buffer.old) ≤ length (body.new ++ buffer.new) }
 {
     loop {
         let missing = body_len - body.len() as u64;
         if missing == 0 {
             return Ok(());
         }
-        if !gather(reader, writer, body, missing, turns)? {
+        if !gather(reader, writer, body, buffer, missing, turns)? {
             return Err(FrontFault::Read);
         }
     }
 }
 
-// Takes so many bytes off the front.
-fn drop_front(buffer: &mut Vec<u8>, count: usize)
-    requires { count ≤ length buffer.old.items }
-    ensures { buffer.new.items ≡ drop count buffer.old.items }
-{
-    let rest = buffer.len() - count;
-    buffer.copy_within(count.., 0);
-    buffer.truncate(rest);
-}
-
-// Takes the head off the front, and what is there of its body.
+// Takes the head off the front, and what is there of its body. The body gets its whole room here, so that it is never moved.
 fn take_start(
     alloc: Global,
-    buffer: &mut Vec<u8>,
+    buffer: &mut Buffer,
     count: usize,
     body_len: u64,
 ) -> Result<Gathering, FrontFault>
-    requires { count ≤ length buffer.old.items }
-    ensures body { IfOk result (λ body. body ≡ take body_len (drop count buffer.old.items)) }
-    ensures rest { OnOk result (buffer.new.items ≡ drop body_len (drop count buffer.old.items)) }
+    requires { count ≤ length buffer.old }
+    ensures body { IfOk result (λ body. body ≡ take body_len (drop count buffer.old)) }
+    ensures rest { OnOk result (buffer.new ≡ drop body_len (drop count buffer.old)) }
     ensures fault { IsOkUnless result FrontFault.NoMemory }
 {
     let here = body_len.min((buffer.len() - count) as u64) as usize;
-    let mut body = Gathering::new(alloc);
-    body.push(&buffer[count..count + here])?;
-    drop_front(buffer, count + here);
+    let mut body = Gathering::with_room(alloc, body_len as usize)?;
+    body.push(&buffer.as_slice()[count..count + here])?;
+    buffer.skip(count + here);
     Ok(body)
 }
 
@@ -227,20 +238,20 @@ fn read_body<R: Read, W: Write>(
     alloc: Global,
     reader: &mut R,
     writer: &mut W,
-    buffer: &mut Vec<u8>,
+    buffer: &mut Buffer,
     turns: &mut u64,
     head: &Head,
     count: usize,
 ) -> Result<Gathering, FrontFault>
-    requires { HasHead buffer.old.items count head.now }
+    requires { HasHead buffer.old count head.now }
     ensures bodies { Told result (Bodies result head.now count (R.remaining reader.old) (R.remaining reader.new)
-        (W.contents writer.old) (W.contents writer.new) buffer.old.items buffer.new.items turns.old turns.new) }
-    ensures measure { OnOk result (turns.new * 8193 + length buffer.new.items < turns.old * 8193 + length buffer.old.items) }
+        (W.contents writer.old) (W.contents writer.new) buffer.old buffer.new turns.old turns.new) }
+    ensures measure { OnOk result (turns.new * 8193 + length buffer.new < turns.old * 8193 + length buffer.old) }
 {
     send_interim(writer, head)?;
     let body_len = head.body_len();
     let mut body = take_start(alloc, buffer, count, body_len)?;
-    await_body(reader, writer, &mut body, body_len, turns)?;
+    await_body(reader, writer, &mut body, buffer, body_len, turns)?;
     Ok(body)
 }
 
@@ -286,21 +297,21 @@ pub(crate) fn next_item<R: Read, W: Write>(
     alloc: Global,
     reader: &mut R,
     writer: &mut W,
-    buffer: &mut Vec<u8>,
+    buffer: &mut Buffer,
     turns: &mut u64,
 ) -> Result<Option<Found>, FrontFault>
     ensures takes { Told result (Takes result (R.remaining reader.old) (R.remaining reader.new)
-        (W.contents writer.old) (W.contents writer.new) buffer.old.items buffer.new.items turns.old turns.new) }
+        (W.contents writer.old) (W.contents writer.new) buffer.old buffer.new turns.old turns.new) }
     ensures end { result ≡ Ok None → IsAtEnd (R.remaining reader.new) }
     ensures measure { (call : Call) → result ≡ Ok (Some (Found.Called call)) →
-        turns.new * 8193 + length buffer.new.items < turns.old * 8193 + length buffer.old.items }
+        turns.new * 8193 + length buffer.new < turns.old * 8193 + length buffer.old }
 {
     let count = match await_head(reader, writer, buffer, turns)? {
         Awaited::Head(count) => count,
         Awaited::TooLong => return Ok(Some(Found::Refused(no_head()))),
         Awaited::End => return Ok(None),
     };
-    let head = match read_head(alloc, &buffer[..count]) {
+    let head = match read_head(alloc, &buffer.as_slice()[..count]) {
         Ok(head) => head,
         Err(HeadFault::Denied(denial)) => return Ok(Some(Found::Refused(denial))),
         Err(HeadFault::NoMemory) => return Err(FrontFault::NoMemory),

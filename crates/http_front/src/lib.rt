@@ -1,6 +1,7 @@
 //! Connections: bytes in, bytes out, over any reader, writer, clock and service.
 #![tactic(auto)]
 
+mod buffer;
 mod connection;
 #[cfg(test)]
 mod connection_tests;
@@ -19,4 +20,4 @@ pub use end::{End, FrontFault};
 pub use plain::{Plain, PlainFault};
 pub use request_form::{Denial, Head, HeadFault, a_head_is_read_in_one_way, read_head};
 pub use service::{Clock, Service};
-pub use stream_laws::a_stream_is_read_in_one_way;
+pub use stream_laws::{a_head_ends_with_its_first_empty_line, a_stream_is_read_in_one_way};

@@ -188,9 +188,9 @@ fn a_put_and_a_get_are_answered_however_they_are_cut(rt: HostRuntime) -> Result<
             rest: &input,
             next: first,
             others: 8192,
-            reads: 4,
+            reads: 3,
         };
-        let so = ends_so(rt.alloc(), cut, 4, Ok(End::Clean), &output)?;
+        let so = ends_so(rt.alloc(), cut, 3, Ok(End::Clean), &output)?;
         assert!(rt; so, "{first} bytes and the others");
     }
     let bytes = Cut {

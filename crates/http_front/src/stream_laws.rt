@@ -1,6 +1,16 @@
 //! Laws of streams. Each is the contract of a function that does nothing.
-ghost use Rattle.std.specs.Prelude.{◌≡◌, ℕ, List};
+ghost use Rattle.std.specs.Prelude.{◌≡◌, ◌↔◌, ◌≤◌, ◌++◌, ℕ, List, Some, length, take};
+ghost use Rattle.http_front.specs.HeadEnds.{IsHeadInLines, head_len};
+ghost use Rattle.request_form.specs.Heads.{head_limit};
 ghost use Rattle.http_front.specs.Streams.{Item, Tail, Reads};
+
+/// A head is found at the front of some bytes exactly where so many of them, and no more than the limit, are lines that end with
+/// the first empty one behind one that isn't empty; lines end in CR LF or in LF alone (RFC 9112, sections 2.1 and 2.2). No such
+/// lines begin with other such lines.
+pub fn a_head_ends_with_its_first_empty_line()
+    ensures len { (bytes : List ℕ) (n : ℕ) → (head_len bytes ≡ Some n) ↔ ((n ≤ length bytes) × (n ≤ head_limit) × IsHeadInLines (take n bytes)) }
+    ensures first { (head other more rest : List ℕ) → IsHeadInLines head → IsHeadInLines other → head ++ more ≡ other ++ rest → head ≡ other }
+{}
 
 /// A stream of bytes has one list of items, and stops in one way.
 pub fn a_stream_is_read_in_one_way()

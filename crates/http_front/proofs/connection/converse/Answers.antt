@@ -5,7 +5,7 @@ use Rattle.http_front.proofs.Talks.{serving_none, serving_more, closed, clean, c
 use Rattle.http_front.proofs.connection.converse.Goals as goal
 
 pub loop-buffer-init : goal.loop-buffer-init
-loop-buffer-init g c = serving_none g.C.Clock.gives g.S.Service.answers _ _ _ _ c.new-buffer.result.items _ c.new-buffer.ensures.items
+loop-buffer-init g c = serving_none g.C.Clock.gives g.S.Service.answers _ _ _ _ c.new-buffer.result _ c.new-buffer.ensures
 
 pub loop-buffer-preserved : goal.loop-buffer-preserved
 loop-buffer-preserved g c =

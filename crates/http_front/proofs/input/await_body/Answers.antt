@@ -1,4 +1,4 @@
-use Rattle.std.proofs.Common.{Bool}
+use Rattle.std.proofs.Common.{Bool, ◌++◌}
 use Rattle.std.proofs.lemmas.Result.{err_from_is_err_and}
 use Rattle.http_front.proofs.Transfers.{Fills-at_err}
 use Rattle.http_front.proofs.input.await_body.Goals as goal
@@ -6,4 +6,4 @@ use Rattle.http_front.proofs.input.await_body.Goals as goal
 pub returns-in_err-gather-clause-fills : goal.returns-in_err-gather-clause-fills
 returns-in_err-gather-clause-fills g c =
     let p = err_from_is_err_and c.from_residual.result c.from_residual.ensures.1 in
-    rw (p.1, p.2) (Fills-at_err Bool (Unit {0}) c.in_err-gather.field-0.0 _ _ _ _ _ _ c.loop-body_len.invariant.fills c.in_err-gather.ensures.fills)
+    rw (p.1, p.2) (Fills-at_err Bool (Unit {0}) c.in_err-gather.field-0.0 _ _ _ _ _ (c.gather.new.body ++ c.gather.new.buffer) c.loop-body_len.invariant.fills c.in_err-gather.ensures.fills)

@@ -1,4 +1,4 @@
-use Rattle.std.proofs.Common.{◌+◌, ◌≤◌, [], length}
+use Rattle.std.proofs.Common.{◌≡◌, ◌+◌, ◌*◌, ◌<◌, ◌≤◌, [], ◌++◌, length}
 use Rattle.std.specs.Io.KnownBytes.{Appends}
 use Rattle.http_front.proofs.Transfers.{Grows}
 use Rattle.http_front.proofs.input.await_body.Given as goal
@@ -8,11 +8,12 @@ invariant-loop-body_len g l =
     let remaining = g.R.Read.remaining in
     let contents = g.W.Write.contents in
     record {
-      fills : Grows (remaining l.fn.reader) (remaining l.reader) l.fn.body l.body;
+      fills : Grows (remaining l.fn.reader) (remaining l.reader) (l.fn.body ++ l.fn.buffer) (l.body ++ l.buffer);
       held : Appends (contents l.fn.writer) (contents l.writer) [];
       short : length l.body ≤ l.body_len;
-      falls : l.turns ≤ l.fn.turns;
-      spent : l.fn.turns + length l.fn.body ≤ l.turns + length l.body;
+      waiting : length l.body < l.body_len → l.buffer ≡ [];
+      measure : l.turns * 8193 + length l.buffer ≤ l.fn.turns * 8193 + length l.fn.buffer;
+      spent : l.fn.turns + length (l.fn.body ++ l.fn.buffer) ≤ l.turns + length (l.body ++ l.buffer);
     }
 
 abbrev pub decreases-loop-body_len : goal.decreases-loop-body_len

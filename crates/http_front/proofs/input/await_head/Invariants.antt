@@ -9,11 +9,11 @@ invariant-loop-n g l =
     let remaining = g.R.Read.remaining in
     let contents = g.W.Write.contents in
     record {
-      fills : Grows (remaining l.fn.reader) (remaining l.reader) l.fn.buffer.items l.buffer.items;
+      fills : Grows (remaining l.fn.reader) (remaining l.reader) l.fn.buffer l.buffer;
       held : Appends (contents l.fn.writer) (contents l.writer) [];
-      searched : IsSearched l.search l.buffer.items;
-      measure : l.turns * 8193 + length l.buffer.items ≤ l.fn.turns * 8193 + length l.fn.buffer.items;
-      spent : l.fn.turns + length l.fn.buffer.items ≤ l.turns + length l.buffer.items;
+      searched : IsSearched l.search l.buffer;
+      measure : l.turns * 8193 + length l.buffer ≤ l.fn.turns * 8193 + length l.fn.buffer;
+      spent : l.fn.turns + length l.fn.buffer ≤ l.turns + length l.buffer;
     }
 
 abbrev pub decreases-loop-n : goal.decreases-loop-n
