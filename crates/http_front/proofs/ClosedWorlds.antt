@@ -1,5 +1,5 @@
 -- What a service holds whose containers are all closed.
-use Rattle.std.proofs.Common.{◌≡◌, ℕ, Bool, true, false, cond, ◌&&◌, ◌⊎◌, inl, inr, List, [], ◌∷◌, Option, Some, None, Result, Ok, Err, IfOk, OnOk, OnErr, refl, sym, ap, ◌∙◌, subst, unwrap_or}
+use Rattle.std.proofs.Common.{◌≡◌, ℕ, Bool, true, false, cond, ◌&&◌, ◌⊎◌, inl, inr, List, Option, Some, None, Result, Ok, Err, IfOk, OnOk, OnErr, refl, sym, ap, ◌∙◌, subst, unwrap_or}
 use Rattle.std.specs.Prelude.{is_some}
 use Rattle.std.specs.declared.alloc.AllocError.{AllocError}
 use Rattle.std.specs.FinMap as finite
@@ -9,7 +9,6 @@ use Rattle.stamp_values.specs.Order.{key_cmp, keys_total}
 use Rattle.stamp_values.specs.declared.key.Key.{Key}
 use Rattle.stamp_values.specs.declared.block.BlockKinds.{BlockKinds}
 use Rattle.stamp_values.specs.declared.block.BlockKinds.TheVariants as kinds
-use Rattle.stamp_values.specs.declared.level.Level.{Level}
 use Rattle.stamp_values.specs.declared.op.Op.{Op}
 use Rattle.stamp_values.specs.declared.op.Op.TheVariants as op
 use Rattle.stamp_types.specs.declared.ask.Ask.{Ask}
@@ -28,8 +27,8 @@ use Rattle.access_rules.specs.declared.judgement.Way.{Way}
 use Rattle.access_rules.specs.declared.keys.Keys.{Keys}
 use Rattle.access_rules.specs.Needs.{need_of, of_block_list}
 use Rattle.access_rules.specs.Rules.{Access, closed, there, is_lower, holds, on_public, first_rule, verdict_by, verdict_of, way_of}
-use Rattle.range_rows.specs.ObjectReplies.{reply_by, reply_of}
-use Rattle.range_rows.specs.ObjectRules.{named_blob, object_rule}
+use Rattle.range_rows.specs.ObjectReplies.{reply_of}
+use Rattle.range_rows.specs.ObjectRules.{object_rule}
 use Rattle.range_rows.specs.Opening.{one_part, opening}
 use Rattle.range_rows.specs.RequestChanges.{act_by, change_of, part_after}
 use Rattle.stamp_model.specs.Effects.{unless_refused, world_after, effect}
@@ -39,7 +38,7 @@ use Rattle.stamp_model.proofs.AccessLemmas.{standing-effect}
 use Rattle.stamp_model.proofs.EffectLemmas.{on_key, effect-refused}
 use Rattle.stamp_model.proofs.AnswerLemmas.{reply_in-served}
 use Rattle.stamp_model.proofs.RuleLemmas.{refusing_rule-has_code}
-use Rattle.http_front.specs.PlainAnswers.{Held, AreClosed, Held-answers, held_first, held_reply, held_after}
+use Rattle.http_front.specs.PlainAnswers.{Held, AreClosed, Held-answers, held_reply, held_after}
 
 -- ---- the world at first
 

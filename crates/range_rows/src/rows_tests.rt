@@ -314,17 +314,25 @@ fn reply_to(alloc: Global, rows: &Rows, request: &Request) -> Result<Reply, Fail
         .ok_or_else(|| Fail::from("no reply"))
 }
 
+// Whether the reply is as the exchange says.
+fn replies_so(
+    alloc: Global,
+    rows: &Rows,
+    request: &Request,
+    exchange: &Turn,
+) -> Result<bool, Fail> {
+    let reply = reply_to(alloc, rows, request)?;
+    is_as(alloc, &reply, exchange)
+}
+
 // Whether the request is answered so; then its change is made.
 fn is_answered_so(alloc: Global, rows: &mut Rows, exchange: &Turn) -> Result<bool, Fail> {
     let request = request_of(alloc, exchange)?;
-    let so = {
-        let reply = reply_to(alloc, rows, &request)?;
-        is_as(alloc, &reply, exchange)
-    };
+    let so = replies_so(alloc, rows, &request, exchange)?;
     if exchange.op == Op::PutBlob {
         change(alloc, rows, &request)?;
     }
-    so
+    Ok(so)
 }
 
 #[test]

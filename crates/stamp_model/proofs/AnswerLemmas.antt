@@ -1,19 +1,14 @@
 -- A request that fits its operation, and is served, has a reply.
-use Rattle.std.proofs.Common.{◌≡◌, ℕ, Bool, true, false, cond, not, ◌&&◌, ◌⊎◌, inl, inr, List, [], ◌∷◌, Option, Some, None, refl, sym, ap, ◌∙◌, subst, unwrap_or}
+use Rattle.std.proofs.Common.{◌≡◌, ℕ, Bool, true, false, cond, not, ◌&&◌, ◌⊎◌, inl, inr, List, [], ◌∷◌, Option, Some, None, refl, sym, ap, ◌∙◌, subst}
 use Rattle.std.proofs.lemmas.Bool.{and_parts}
 use Rattle.std.specs.Prelude.{find, is_some, is_none}
 use Rattle.std.specs.List.{list_all}
 use Rattle.std.specs.Option.{option_map, option_and_then}
-use Rattle.std.specs.Ordering.{eq_by_cmp}
-use Rattle.std.specs.Cmp.{eq_by_cmp_equiv}
-use Rattle.std.specs.FinMap as finite
-use Rattle.stamp_values.specs.Order.{name_cmp, names_total}
 use Rattle.stamp_values.specs.Operations.{names_blob, keeps_headers}
 use Rattle.stamp_values.specs.declared.op.Op.{Op}
 use Rattle.stamp_values.specs.declared.op.Op.TheVariants as op
 use Rattle.stamp_types.specs.declared.act.Act.{Act}
 use Rattle.stamp_types.specs.declared.act.Act.TheVariants as act
-use Rattle.stamp_types.specs.declared.act.PutBlob.{PutBlob}
 use Rattle.stamp_types.specs.declared.args.Kept.{Kept}
 use Rattle.stamp_types.specs.declared.code.Code.{Code}
 use Rattle.stamp_types.specs.declared.committed.Committed.{Committed}
@@ -22,7 +17,7 @@ use Rattle.stamp_types.specs.declared.reply.Reply.{Reply}
 use Rattle.stamp_types.specs.declared.rule.Rule.{Rule}
 use Rattle.stamp_types.specs.Replies.{denied}
 use Rattle.stamp_types.specs.Requests.{Asked, IsAsk}
-use Rattle.stamp_types.specs.World.{Part, Blob, no_blob, blob_in, changed, same_pieces}
+use Rattle.stamp_types.specs.World.{Part, blob_in, same_pieces}
 use Rattle.access_rules.specs.declared.keys.Keys.{Keys}
 use Rattle.access_rules.specs.Rules.{first_rule}
 use Rattle.range_rows.specs.ObjectReplies.{reply_by}

@@ -1,4 +1,4 @@
-use Rattle.std.proofs.Common.{rules, sym, ◌∙◌}
+use Rattle.std.proofs.Common.{rules}
 use Rattle.http_front.proofs.ClosedWorlds.{object_rule_allowed, unanswered}
 use Rattle.http_front.proofs.plain.Plain.allowed.Goals as goal
 

@@ -1,4 +1,4 @@
-use Rattle.std.proofs.Common.{rules, ◌≡◌, ◌∙◌}
+use Rattle.std.proofs.Common.{rules, ◌∙◌}
 use Rattle.http_front.proofs.ClosedWorlds.{refusal_denied, refusal_allowed}
 use Rattle.http_front.proofs.plain.Plain.refusal.Goals as goal
 

@@ -1,4 +1,4 @@
-use Rattle.std.proofs.Common.{rules, ◌≡◌, Some, sym, ap, ◌∙◌}
+use Rattle.std.proofs.Common.{rules, Some, ap, ◌∙◌}
 use Rattle.stamp_types.specs.World.{part_at}
 use Rattle.range_rows.proofs.PutReplies.{reply_of_put}
 use Rattle.range_rows.proofs.rows.Rows.put_answer.Goals as goal
