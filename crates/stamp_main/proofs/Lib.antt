@@ -1,1 +1,3 @@
 pub mod CommandLemmas
+pub mod ReplayLemmas
+pub mod RunLemmas

@@ -1,3 +1,5 @@
 pub mod Command
 pub mod Ending
+pub mod Replays
+pub mod Runs
 pub mod Signing

@@ -1,14 +1,14 @@
 //! The storage stamp's program: takes a command from its words, and ends with one of four statuses.
 #![tactic(auto)]
 
-ghost use Rattle.std.specs.Prelude.{◌≡◌, ◌≢◌, ◌⊎◌, ℕ, List, IfErr};
-ghost use Rattle.hmac_sign.specs.Signature.{IsBytes};
+ghost use Rattle.std.specs.Prelude.{◌≡◌, ◌⊎◌, IfErr};
 ghost use Rattle.stamp_main.specs.declared.ending.Ending.TheVariants.{Done, Fault, NoMemory, Usage};
 ghost use Rattle.stamp_main.specs.Command.{texts_of};
-ghost use Rattle.stamp_main.specs.Signing.{Signed, sign_words};
+ghost use Rattle.stamp_main.specs.Runs.{Has-done, Is-asked};
 
 use command::{Command, read_command};
 use ending::Ending;
+use replay::run_replay;
 use signing::run_sign;
 use std::alloc::Global;
 use std::io::{Read, Write};
@@ -18,9 +18,17 @@ use std::{env, io};
 
 mod command;
 mod ending;
+mod replay;
+mod replay_laws;
+#[cfg(test)]
+mod replay_tests;
 mod signing;
 #[cfg(test)]
 mod signing_tests;
+mod words;
+
+/// The most reads that the program makes of its input.
+const TURNS: u64 = 4_294_967_296;
 
 /// What standard error gets, as a line, where the words are no command.
 const USAGE: &str =
@@ -51,18 +59,27 @@ fn read_words(rt: &(impl Env + AllocGlobal)) -> Result<Vec<String>, Ending>
 
 /// Carries out the command that the words give, and says how that ended.
 ///
-/// One command is built. The words of the others are answered as no command, and then nothing was read or written.
+/// Two commands are built. The words of `serve` are answered as no command, and then nothing was read or written.
 fn run<R: Read, W: Write>(alloc: Global, words: &[String], reader: &mut R, writer: &mut W) -> Ending
-    ensures signed { result ≡ Done → (secret : List ℕ) × (texts_of words.now ≡ sign_words secret)
-        × Signed secret (R.remaining reader.old) (W.contents writer.old) (W.contents writer.new) }
-    ensures faulty { result ≡ Fault → (secret : List ℕ) × (texts_of words.now ≡ sign_words secret) }
-    ensures refused { result ≡ Usage → (secret : List ℕ) → IsBytes secret → texts_of words.now ≢ sign_words secret }
+    ensures done { result ≡ Done → Has-done (texts_of words.now) (R.remaining reader.old) (W.contents writer.old) (W.contents writer.new) }
+    ensures faulty { result ≡ Fault → Is-asked (texts_of words.now) }
+    ensures refused { result ≡ Usage → ¬ Is-asked (texts_of words.now) }
     ensures untouched { result ≡ Usage → (reader.new ≡ reader.old) × (writer.new ≡ writer.old) }
 {
     match read_command(words) {
         Some(Command::Sign { key }) => run_sign(alloc, reader, writer, key),
+        Some(
+            Command::Replay {
+                moment,
+                account,
+                first_key,
+                second_key,
+            },
+        ) => run_replay(
+            alloc, reader, writer, moment, account, first_key, second_key,
+        ),
         // Until what it asks for is built, a command is answered as none.
-        Some(Command::Replay { .. } | Command::Serve { .. }) => Ending::Usage,
+        Some(Command::Serve { .. }) => Ending::Usage,
         None => Ending::Usage,
     }
 }
@@ -74,11 +91,13 @@ fn show_usage(rt: &impl Eprint) {
 
 #[cfg(test)]
 mod tests {
-    use super::{read_words, show_usage};
-    use std::alloc::Global;
+    use super::{read_words, run, show_usage};
+    use crate::ending::Ending;
+    use std::alloc::{AllocError, Global};
     use std::cell::Cell;
     use std::fmt::Display;
     use std::io;
+    use std::test::Fail;
 
     /// A standard error that counts its lines, and knows the usage line.
     #[derive(Drop)]
@@ -114,6 +133,35 @@ mod tests {
         };
         show_usage(&hearer);
         assert_eq!(rt; (hearer.lines.get(), hearer.usage_lines.get()), (1, 1));
+    }
+
+    fn words_in(alloc: Global, line: &str) -> Result<Vec<String>, AllocError> {
+        line.split(' ')
+            .map(|word| String::from_str(alloc, word))
+            .try_collect(alloc)
+    }
+
+    #[test]
+    fn sign_and_replay_are_carried_out(rt: HostRuntime) -> Result<(), Fail> {
+        let table = [
+            ("sign SmVmZQ==", Ending::Done),
+            (
+                "replay 2012-10-01T12:00:00Z devstoreaccount1 a2V5MQ== a2V5Mg==",
+                Ending::Done,
+            ),
+            (
+                "serve 127.0.0.1:10000 4 devstoreaccount1 a2V5MQ== a2V5Mg==",
+                Ending::Usage,
+            ),
+            ("help", Ending::Usage),
+        ];
+        for (line, ending) in table {
+            let words = words_in(rt.alloc(), line)?;
+            let mut out = Vec::new(rt.alloc());
+            let ended = run(rt.alloc(), &words, &mut b"".as_slice(), &mut out);
+            assert!(rt; ended == ending, "{line}");
+        }
+        Ok(())
     }
 
     #[test]

@@ -6,17 +6,16 @@ ghost use Rattle.http_front.specs.declared.end.FrontFault.TheVariants.{Write, Tu
 ghost use Rattle.stamp_main.specs.declared.ending.Ending.TheVariants.{Done, Fault, Usage};
 ghost use Rattle.stamp_main.specs.Signing.{Signed, has_written, signature_line};
 
+use crate::TURNS;
 use crate::ending::{Ending, status_of};
-use hmac_sign::{SecretFault, read_key, sign};
+use crate::words::read_secret;
+use hmac_sign::sign;
 use http_front::FrontFault;
 use std::alloc::{AllocError, Global};
 use std::io::{Read, Write};
 
 /// The most bytes of one read.
 const READ_SIZE: usize = 8192;
-
-/// The most reads that the program makes of its input.
-const TURNS: u64 = 4_294_967_296;
 
 /// Carries out `stamp sign KEY`: writes the signature of the whole input under the key that `key` gives in Base64.
 ///
@@ -28,16 +27,15 @@ pub fn run_sign<R: Read, W: Write>(
     writer: &mut W,
     key: &str,
 ) -> Ending
-    ensures signed { result ≡ Done → (secret : List ℕ) × (key.now ≡ base64_of secret)
+    ensures signed { result ≡ Done → (secret : List ℕ) × IsBytes secret × (key.now ≡ base64_of secret)
         × Signed secret (R.remaining reader.old) (W.contents writer.old) (W.contents writer.new) }
-    ensures faulty { result ≡ Fault → (secret : List ℕ) × (key.now ≡ base64_of secret) }
+    ensures faulty { result ≡ Fault → (secret : List ℕ) × IsBytes secret × (key.now ≡ base64_of secret) }
     ensures refused { result ≡ Usage → (secret : List ℕ) → IsBytes secret → key.now ≢ base64_of secret }
     ensures untouched { result ≡ Usage → (reader.new ≡ reader.old) × (writer.new ≡ writer.old) }
 {
-    match read_key(alloc, key.as_bytes()) {
-        Ok(secret) => status_of(&sign_on(alloc, reader, writer, &secret, TURNS)),
-        Err(SecretFault::NotBase64) => Ending::Usage,
-        Err(SecretFault::NoMemory) => Ending::NoMemory,
+    match read_secret(alloc, key) {
+        Ok(secret) => status_of(&sign_on(alloc, reader, writer, secret.as_slice(), TURNS)),
+        Err(ending) => ending,
     }
 }
 

@@ -1,0 +1,150 @@
+-- Lemmas on replays: what a connection writes at one moment, and the words that ask for it.
+use Rattle.std.proofs.Common.{◌≡◌, ℕ, List, [], ◌∷◌, ◌++◌, true, map, flat_map, Option, Some, None, IfSome, OnOk, Result, Ok, Err, refl, sym, ap, ◌∙◌, subst}
+use Rattle.std.specs.Io.KnownBytes.{Appends}
+use Rattle.stamp_values.specs.Names.{is_account}
+use Rattle.stamp_values.specs.Texts.{is_clean}
+use Rattle.access_rules.specs.declared.keys.Keys.{Keys}
+use Rattle.http_front.specs.declared.end.End.{End}
+use Rattle.http_front.specs.declared.end.FrontFault.{FrontFault}
+use Rattle.http_front.specs.declared.end.FrontFault.TheVariants.{Read, Write, Turns, NoMemory}
+use Rattle.http_front.specs.Conversations.{Exchange, item_of, moment_of, bytes_of, Ticks, Replies-to, Replies, Converses, Conversed, Starved}
+use Rattle.http_front.specs.Conversations.Exchange.{Answered, Turned}
+use Rattle.reply_form.specs.FixedReplies.{out_of_memory_bytes}
+use Rattle.request_form.specs.HeadForms.{with_body}
+use Rattle.http_front.specs.Outcomes.{Served}
+use Rattle.http_front.specs.PlainAnswers.{Held, Held-answers, held_first, held_reply}
+use Rattle.reply_form.specs.ReplyBytes.{reply_bytes}
+use Rattle.http_front.specs.Streams.{Item, Tail, Reads, interim, tail_bytes}
+use Rattle.http_front.proofs.StreamLemmas.{reads_one}
+use Rattle.request_form.proofs.TextLemmas.{account_visible, visible_clean}
+use Rattle.stamp_main.specs.declared.replay.Still.{Still}
+use Rattle.stamp_main.specs.Replays.{answer_of, held_behind, output_of, replay_output, Replays, Replayed, Starves}
+
+-- an account's name has no control characters
+pub account_clean : (t : List ℕ) → is_account t ≡ true → is_clean t ≡ true
+account_clean t good = visible_clean t (account_visible t good)
+
+-- ---- what is written at one moment
+
+-- the clock stands still
+abbrev pub Stands : Still → ℕ → Still → Type 0
+Stands still moment new = (moment ≡ still.moment) × (new ≡ still)
+
+-- what is written for an item, and what is held behind it
+item_step : (h h' : Held) (t : ℕ) (e : Exchange) → moment_of e ≡ t → Replies-to Held-answers h e h'
+    → (bytes_of e ≡ answer_of h t (item_of e)) × (h' ≡ held_behind h t (item_of e))
+unfolding bytes_of answer_of held_behind
+item_step h h' t (Answered form body moment reply) told replied = (
+  ap (λ r. interim form ++ reply_bytes r moment (Some form.ask.signing.verb) form.closes) replied.0
+      ∙ ap (λ m. interim form ++ reply_bytes (held_reply h (with_body form body) m) m (Some form.ask.signing.verb) form.closes) told,
+  rw (sym told) replied.1,
+)
+item_step h h' t (Turned denial moment) told replied = (rw told refl, replied)
+
+-- what is written for the items in turn
+output_is : (h h' : Held) (c c' : Still) (es : List Exchange) → Ticks Stands c (map moment_of es) c' → Replies Held-answers h es h'
+    → flat_map bytes_of es ≡ output_of h c.moment (map item_of es)
+output_is h h' c c' [] ticks replies = refl
+output_is h h' c c' (e ∷ es) ticks replies =
+    let step = item_step h replies.0 c.moment e ticks.1.0 replies.1 in
+    let rest = output_is replies.0 h' ticks.0 c' es ticks.2 replies.2 in
+    let moved : flat_map bytes_of es ≡ output_of (held_behind h c.moment (item_of e)) c.moment (map item_of es) =
+    rest ∙ ap (λ (s : Still). output_of replies.0 s.moment (map item_of es)) ticks.1.1 ∙ ap (λ g. output_of g c.moment (map item_of es)) step.1 in
+    ap (λ l. l ++ flat_map bytes_of es) step.0 ∙ ap (λ l. answer_of h c.moment (item_of e) ++ l) moved
+
+module _ (keys : Keys) (t : ℕ) (c' : Still) (h' : Held) where
+  -- a connection's output is the replay's
+  replays_of : (held held' : Option (List ℕ)) (result : Result End FrontFault) (turns : ℕ) (input : List ℕ)
+      → Converses Stands Held-answers (record { moment = t }) c' (held_first keys t) h' held held' result turns input
+      → Replays keys t held held' result turns input
+  unfolding replay_output
+  replays_of held held' result turns input c = record {
+    items = map item_of c.exchanges;
+    tail = c.tail;
+    reads = c.items;
+    output = subst (λ l. Appends held held' (l ++ tail_bytes c.tail)) (output_is (held_first keys t) h' (record { moment = t }) c' c.exchanges c.moments c.replies) c.output;
+    ends = c.ends;
+  }
+
+  replayed_of : (left left' held held' : Option (List ℕ)) (result : Result End FrontFault) (turns : ℕ)
+      → Conversed Stands Held-answers (record { moment = t }) c' (held_first keys t) h' left left' held held' result turns
+      → Replayed keys t left left' held held' result turns
+  replayed_of left left' held held' result turns c = record {
+    received = c.received;
+    consumed = c.consumed;
+    replays = replays_of held held' result turns c.received c.converses;
+  }
+
+  served_map : {T : Type 0} (r : Result T FrontFault) (P Q : Type 0) → (P → Q) → Served r P → Served r Q
+  served_map (Ok x) P Q f p = f p
+  served_map (Err Read) P Q f p = f p
+  served_map (Err Turns) P Q f p = f p
+  served_map (Err Write) P Q f p = p
+  served_map (Err NoMemory) P Q f p = p
+
+  replayed_served : (left left' held held' : Option (List ℕ)) (result : Result End FrontFault) (turns : ℕ)
+      → Served result (Conversed Stands Held-answers (record { moment = t }) c' (held_first keys t) h' left left' held held' result turns)
+      → Served result (Replayed keys t left left' held held' result turns)
+  replayed_served left left' held held' result turns =
+      served_map result _ _ (replayed_of left left' held held' result turns)
+
+  if_some : (left : Option (List ℕ)) (P Q : List ℕ → Type 0) → ((l : List ℕ) → P l → Q l) → IfSome left P → IfSome left Q
+  if_some (Some l) P Q f p = f l p
+  if_some None P Q f p = p
+
+  on_ok : {T : Type 0} (r : Result T FrontFault) (P Q : Type 0) → (P → Q) → OnOk r P → OnOk r Q
+  on_ok (Ok x) P Q f p = f p
+  on_ok (Err e) P Q f p = p
+
+  replays_whole : (left held held' : Option (List ℕ)) (result : Result End FrontFault) (turns : ℕ)
+      → OnOk result (IfSome left (Converses Stands Held-answers (record { moment = t }) c' (held_first keys t) h' held held' result turns))
+      → OnOk result (IfSome left (Replays keys t held held' result turns))
+  replays_whole left held held' result turns =
+      on_ok result _ _ (if_some left _ _ (replays_of held held' result turns))
+
+-- the output of a run for which memory ran out
+starves_of : (keys : Keys) (t : ℕ) (left left' held held' : Option (List ℕ))
+    → Starved Stands Held-answers (record { moment = t }) (held_first keys t) left left' held held' out_of_memory_bytes
+    → Starves keys t left left' held held'
+starves_of keys t left left' held held' s = record {
+  received = s.received;
+  consumed = s.consumed;
+  items = map item_of s.exchanges;
+  rest = s.rest;
+  reads = s.items;
+  begun = s.begun;
+  begun_is = s.begun_is;
+  output = subst (λ l. Appends held held' ((l ++ s.begun) ++ out_of_memory_bytes))
+      (output_is (held_first keys t) s.world_then (record { moment = t }) s.clock_then s.exchanges s.moments s.replies) s.output;
+}
+
+-- ---- the three clauses of a run, by a service and a clock that are those of the replay at first
+
+pub replayed_by : (keys : Keys) (t : ℕ) (c c' : Still) (h h' : Held) (left left' held held' : Option (List ℕ)) (result : Result End FrontFault) (turns : ℕ)
+    → h ≡ held_first keys t → c ≡ record { moment = t }
+    → Served result (Conversed Stands Held-answers c c' h h' left left' held held' result turns)
+    → Served result (Replayed keys t left left' held held' result turns)
+replayed_by keys t c c' h h' left left' held held' result turns first stands conversed =
+    replayed_served keys t c' h' left left' held held' result turns (rw (first, stands) at conversed)
+
+pub whole_by : (keys : Keys) (t : ℕ) (c c' : Still) (h h' : Held) (left held held' : Option (List ℕ)) (result : Result End FrontFault) (turns : ℕ)
+    → h ≡ held_first keys t → c ≡ record { moment = t }
+    → OnOk result (IfSome left (Converses Stands Held-answers c c' h h' held held' result turns))
+    → OnOk result (IfSome left (Replays keys t held held' result turns))
+whole_by keys t c c' h h' left held held' result turns first stands whole =
+    replays_whole keys t c' h' left held held' result turns (rw (first, stands) at whole)
+
+pub starved_by : (keys : Keys) (t : ℕ) (c : Still) (h : Held) (left left' held held' : Option (List ℕ))
+    → h ≡ held_first keys t → c ≡ record { moment = t }
+    → Starved Stands Held-answers c h left left' held held' out_of_memory_bytes
+    → Starves keys t left left' held held'
+starved_by keys t c h left left' held held' first stands starved =
+    starves_of keys t left left' held held' (rw (first, stands) at starved)
+
+-- ---- what is written for an input is one
+
+pub output_one : (keys : Keys) (t : ℕ) (bytes : List ℕ) (items others : List Item) (tail other : Tail)
+    → Reads bytes items tail → Reads bytes others other → replay_output keys t items tail ≡ replay_output keys t others other
+output_one keys t bytes items others tail other p q =
+    let same = reads_one bytes items others tail other p q in
+    ap (λ l. replay_output keys t l tail) same.0 ∙ ap (λ e. replay_output keys t others e) same.1

@@ -1,0 +1,96 @@
+-- What `stamp replay` writes: the bytes of its input answered in turn, as the model says, by a clock that stands still (Blob
+-- service REST reference, 2012-02-12; RFC 9112, section 9.3).
+use Rattle.std.specs.Prelude.{◌≡◌, ℕ, List, [], ◌∷◌, ◌++◌, length, true, Option, Some, IfSome, Result, Ok, codes}
+use Rattle.std.specs.Io.KnownBytes.{Consumes, Appends}
+use Rattle.stamp_values.specs.Names.{is_account}
+use Rattle.stamp_types.specs.Replies.{denied}
+use Rattle.moment_text.specs.IsoReader.{iso_moment}
+use Rattle.hmac_sign.specs.Signature.{IsBytes, base64_of}
+use Rattle.access_rules.specs.declared.keys.Keys.{Keys}
+use Rattle.http_front.specs.declared.end.End.{End}
+use Rattle.http_front.specs.declared.end.FrontFault.{FrontFault}
+use Rattle.http_front.specs.Conversations.{Begun, EndsAs}
+use Rattle.reply_form.specs.FixedReplies.{out_of_memory_bytes}
+use Rattle.request_form.specs.HeadForms.{with_body}
+use Rattle.http_front.specs.PlainAnswers.{Held, held_first, held_reply, held_after}
+use Rattle.reply_form.specs.ReplyBytes.{reply_bytes}
+use Rattle.http_front.specs.Streams.{Item, Tail, Reads, interim, tail_bytes}
+use Rattle.http_front.specs.Streams.Item.{Requested, Refused}
+
+-- the account's keys, which were never replaced
+abbrev pub keys_of : List ℕ → List ℕ → List ℕ → Keys
+keys_of account first second = record { account = account; first = first; second = second; epoch = 0 }
+
+-- what is written for an item, answered at the moment: ahead of a request's reply the interim one, where it is asked for
+unfoldable pub answer_of : Held → ℕ → Item → List ℕ
+answer_of h t (Requested form body) =
+    interim form ++ reply_bytes (held_reply h (with_body form body) t) t (Some form.ask.signing.verb) form.closes
+answer_of h t (Refused denial) = reply_bytes (denied denial.rule denial.code) t denial.verb true
+
+-- what is held behind an item; a head that is refused changes nothing
+unfoldable pub held_behind : Held → ℕ → Item → Held
+held_behind h t (Requested form body) = held_after h (with_body form body) t
+held_behind h t (Refused denial) = h
+
+-- what is written for items in turn, each answered at the moment
+abbrev pub output_of : Held → ℕ → List Item → List ℕ
+output_of h t [] = []
+output_of h t (item ∷ items) = answer_of h t item ++ output_of (held_behind h t item) t items
+
+-- what a replay writes for a stream of these items that stops so
+unfoldable pub replay_output : Keys → ℕ → List Item → Tail → List ℕ
+replay_output keys t items tail = output_of (held_first keys t) t items ++ tail_bytes tail
+
+-- What was written is the input's output, and the run ended as the input does.
+pub record Replays (keys : Keys) (moment : ℕ) (held held' : Option (List ℕ)) (result : Result End FrontFault) (turns : ℕ) (input : List ℕ) : Type 0 where
+  pub items : List Item
+  pub tail : Tail
+  pub reads : Reads input items tail
+  pub output : Appends held held' (replay_output keys moment items tail)
+  pub ends : EndsAs result tail turns (length input)
+
+-- That holds of the bytes that the run took.
+pub record Replayed (keys : Keys) (moment : ℕ) (left left' held held' : Option (List ℕ)) (result : Result End FrontFault) (turns : ℕ) : Type 0 where
+  pub received : List ℕ
+  pub consumed : Consumes left left' received
+  pub replays : Replays keys moment held held' result turns received
+
+-- Memory ran out. What was taken begins with items that were answered in full; behind their output stand what was begun of the
+-- next one, and the bytes that say so.
+pub record Starves (keys : Keys) (moment : ℕ) (left left' held held' : Option (List ℕ)) : Type 0 where
+  pub received : List ℕ
+  pub consumed : Consumes left left' received
+  pub items : List Item
+  pub rest : List ℕ
+  pub reads : (more : List Item) (tail : Tail) → Reads rest more tail → Reads received (items ++ more) tail
+  pub begun : List ℕ
+  pub begun_is : Begun rest begun
+  pub output : Appends held held' ((output_of (held_first keys moment) moment items ++ begun) ++ out_of_memory_bytes)
+
+-- the words of a replay
+abbrev pub replay_line : List ℕ → List ℕ → List ℕ → List ℕ → List (List ℕ)
+replay_line moment account first second = codes "replay" ∷ moment ∷ account ∷ first ∷ second ∷ []
+
+-- the words ask for a replay at the time, by the keys
+pub record Asks-replay (words : List (List ℕ)) (time : ℕ) (keys : Keys) : Type 0 where
+  pub moment : List ℕ
+  pub line : words ≡ replay_line moment keys.account (base64_of keys.first) (base64_of keys.second)
+  pub told : iso_moment moment ≡ Ok time
+  pub named : is_account keys.account ≡ true
+  pub first_bytes : IsBytes keys.first
+  pub second_bytes : IsBytes keys.second
+  pub unreplaced : keys.epoch ≡ 0
+
+-- the words ask for a replay
+abbrev pub Is-replay : List (List ℕ) → Type 0
+Is-replay words = (time : ℕ) × (keys : Keys) × Asks-replay words time keys
+
+-- the most reads that the program makes of its input
+abbrev pub turn_limit : ℕ
+turn_limit = 4294967296
+
+-- the words asked for a replay, and what was written is the output of the whole input, where that is known
+abbrev pub Has-replayed : List (List ℕ) → Option (List ℕ) → Option (List ℕ) → Option (List ℕ) → Type 0
+Has-replayed words left held held' =
+    (time : ℕ) × (keys : Keys) × Asks-replay words time keys
+    × (ended : End) × IfSome left (Replays keys time held held' (Ok ended) turn_limit)

@@ -1,0 +1,112 @@
+//! `stamp replay`: one connection over a whole input, answered at one moment.
+ghost use Rattle.std.specs.Prelude.{◌≡◌, ◌⊎◌, Err, OnOk, IfSome, IsTrue};
+ghost use Rattle.stamp_values.specs.Names.{is_account};
+ghost use Rattle.http_front.specs.Outcomes.{Served};
+ghost use Rattle.http_front.specs.declared.end.FrontFault.TheVariants.{NoMemory};
+ghost use Rattle.stamp_main.specs.declared.ending.Ending.TheVariants.{Done, Fault, Usage};
+ghost use Rattle.stamp_main.specs.Replays.{Has-replayed, Is-replay, Replays, Replayed, Starves, keys_of, replay_line};
+
+use crate::TURNS;
+use crate::ending::{Ending, status_of};
+use crate::words::{Asked, read_asked};
+use access_rules::Keys;
+use http_front::{Clock, End, FrontFault, Plain, PlainFault, run};
+use stamp_types::{Bytes, Moment, Text};
+use std::alloc::Global;
+use std::io::{Read, Write};
+
+/// A clock that always tells the same moment.
+#[derive(Drop)]
+pub struct Still {
+    pub moment: Moment,
+}
+
+impl Clock for Still {
+    ghost gives = { λ still moment new. (moment ≡ still.moment) × (new ≡ still) };
+
+    fn now(&mut self) -> Moment {
+        self.moment
+    }
+}
+
+/// Serves one connection by an account's keys, its container `pics` made first, as if all of it came at the moment. One read asks
+/// for at most 8,192 bytes; `turns` is how many reads are made at most.
+///
+/// Where there is no memory for that container, nothing was read or written.
+#[tactic(auto, using(crate::proofs::ReplayLemmas::replayed_by, crate::proofs::ReplayLemmas::whole_by, crate::proofs::ReplayLemmas::starved_by))]
+pub fn replay_on<R: Read, W: Write>(
+    alloc: Global,
+    reader: &mut R,
+    writer: &mut W,
+    moment: Moment,
+    account: Text,
+    first: Bytes,
+    second: Bytes,
+    turns: u64,
+) -> Result<End, FrontFault>
+    requires { IsTrue (is_account account) }
+    // What is written is a function of the bytes that were read, the moment, the account and the keys.
+    ensures replayed { Served result (Replayed (keys_of account first second) moment (R.remaining reader.old) (R.remaining reader.new)
+        (W.contents writer.old) (W.contents writer.new) result turns) }
+    // These are the whole input, however it was cut into reads.
+    ensures whole { OnOk result (IfSome (R.remaining reader.old) (Replays (keys_of account first second) moment
+        (W.contents writer.old) (W.contents writer.new) result turns)) }
+    // Where memory ran out, the items before are answered in full, and what is said last is that alone.
+    ensures starved { result ≡ Err NoMemory → ((reader.new ≡ reader.old) × (writer.new ≡ writer.old))
+        ⊎ Starves (keys_of account first second) moment (R.remaining reader.old) (R.remaining reader.new)
+        (W.contents writer.old) (W.contents writer.new) }
+{
+    let keys = Keys {
+        account,
+        first,
+        second,
+        epoch: 0,
+    };
+    match Plain::new(alloc, keys, moment) {
+        Ok(mut service) => {
+            run(
+                alloc,
+                reader,
+                writer,
+                &mut Still { moment },
+                &mut service,
+                turns,
+            )
+        }
+        Err(PlainFault::NoMemory) => Err(FrontFault::NoMemory),
+        Err(PlainFault::Account) => unreachable!(),
+    }
+}
+
+/// Carries out `stamp replay MOMENT ACCOUNT KEY1 KEY2`: answers the whole input as one connection, at the moment and by the keys
+/// that these words give.
+///
+/// Where a word is bad it is answered as wrong usage, and then nothing was read and nothing written. A fault is one of reader or
+/// writer, or the turns were used up.
+pub fn run_replay<R: Read, W: Write>(
+    alloc: Global,
+    reader: &mut R,
+    writer: &mut W,
+    moment: &str,
+    account: &str,
+    first: &str,
+    second: &str,
+) -> Ending
+    ensures replayed { result ≡ Done → Has-replayed (replay_line moment.now account.now first.now second.now)
+        (R.remaining reader.old) (W.contents writer.old) (W.contents writer.new) }
+    ensures faulty { result ≡ Fault → Is-replay (replay_line moment.now account.now first.now second.now) }
+    ensures refused { result ≡ Usage → ¬ Is-replay (replay_line moment.now account.now first.now second.now) }
+    ensures untouched { result ≡ Usage → (reader.new ≡ reader.old) × (writer.new ≡ writer.old) }
+{
+    match read_asked(alloc, moment, account, first, second) {
+        Ok(
+            Asked {
+                moment,
+                account,
+                first,
+                second,
+            },
+        ) => status_of(&replay_on(alloc, reader, writer, moment, account, first, second, TURNS)),
+        Err(ending) => ending,
+    }
+}

@@ -1,0 +1,105 @@
+//! The words of commands, read as values.
+ghost use Rattle.std.specs.Prelude.{◌≡◌, ◌≢◌, ◌⊎◌, ℕ, List, [], ◌∷◌, IfOk, IfErr, Err, Ok, true};
+ghost use Rattle.stamp_values.specs.Names as names;
+ghost use Rattle.moment_text.specs.IsoReader.{iso_moment};
+ghost use Rattle.hmac_sign.specs.Signature.{IsBytes, base64_of};
+ghost use Rattle.stamp_main.specs.declared.ending.Ending.TheVariants.{NoMemory, Usage};
+ghost use Rattle.stamp_main.specs.Replays.{Asks-replay, Is-replay, keys_of, replay_line};
+
+use crate::ending::Ending;
+use hmac_sign::{SecretFault, read_key};
+use moment_text::{TimeFault, read_iso};
+use stamp_types::{Bytes, Moment, Text, is_account};
+use std::alloc::Global;
+
+/// The moment, and the account with its pair of keys, by which a stream is replayed.
+#[derive(Drop)]
+pub struct Asked {
+    pub moment: Moment,
+    pub account: Text,
+    pub first: Bytes,
+    pub second: Bytes,
+}
+
+/// Reads the four words behind `replay`.
+///
+/// `Usage` where the first is no time of the accepted shapes, the second no account's name, or the third or fourth no padded Base64;
+/// `NoMemory` where memory ran out before that was found.
+pub fn read_asked(
+    alloc: Global,
+    moment: &str,
+    account: &str,
+    first: &str,
+    second: &str,
+) -> Result<Asked, Ending>
+    ensures read { IfOk result (λ asked. Asks-replay (replay_line moment.now account.now first.now second.now)
+        asked.moment (keys_of asked.account asked.first asked.second)) }
+    ensures refused { IfErr result (λ ending. ending ≡ Usage → ¬ Is-replay (replay_line moment.now account.now first.now second.now)) }
+    ensures failed { IfErr result (λ ending. (ending ≡ Usage) ⊎ (ending ≡ NoMemory)) }
+{
+    let moment = read_moment(moment)?;
+    let account = read_account(alloc, account)?;
+    let first = read_secret(alloc, first)?;
+    let second = read_secret(alloc, second)?;
+    Ok(Asked {
+        moment,
+        account,
+        first,
+        second,
+    })
+}
+
+// The moment of a time that is written in one of the accepted shapes.
+fn read_moment(text: &str) -> Result<Moment, Ending>
+    ensures read { IfOk result (λ moment. iso_moment text.now ≡ Ok moment) }
+    ensures refused { result ≡ Err Usage → (time : ℕ) → iso_moment text.now ≢ Ok time }
+    ensures failed { IfErr result (λ ending. (ending ≡ Usage) ⊎ (ending ≡ NoMemory)) }
+{
+    match read_iso(text.as_bytes()) {
+        Ok(moment) => Ok(moment),
+        Err(TimeFault::NoMemory) => Err(Ending::NoMemory),
+        Err(TimeFault::Form | TimeFault::Range) => Err(Ending::Usage),
+    }
+}
+
+// An account's name.
+#[tactic(auto, using(crate::proofs::ReplayLemmas::account_clean))]
+fn read_account(alloc: Global, name: &str) -> Result<Text, Ending>
+    ensures read { IfOk result (λ text. (text ≡ name.now) × (names.is_account name.now ≡ true)) }
+    ensures refused { result ≡ Err Usage → names.is_account name.now ≢ true }
+    ensures failed { IfErr result (λ ending. (ending ≡ Usage) ⊎ (ending ≡ NoMemory)) }
+{
+    if !is_account(name.as_bytes()) {
+        return Err(Ending::Usage);
+    }
+    let Ok(name) = String::from_str(alloc, name) else {
+        return Err(Ending::NoMemory);
+    };
+    match Text::new(name) {
+        Some(text) => Ok(text),
+        None => unreachable!(),
+    }
+}
+
+/// Reads a key that is given in Base64.
+///
+/// `Usage` where the text is no padded Base64, `NoMemory` where there is no memory for the key.
+pub fn read_secret(alloc: Global, text: &str) -> Result<Bytes, Ending>
+    ensures read { IfOk result (λ key. (text.now ≡ base64_of key) × IsBytes key) }
+    ensures refused { result ≡ Err Usage → (key : List ℕ) → IsBytes key → text.now ≢ base64_of key }
+    ensures failed { IfErr result (λ ending. (ending ≡ Usage) ⊎ (ending ≡ NoMemory)) }
+{
+    match read_key(alloc, text.as_bytes()) {
+        Ok(key) => {
+            are_bytes(&key);
+            Ok(Bytes::new(key))
+        }
+        Err(SecretFault::NotBase64) => Err(Ending::Usage),
+        Err(SecretFault::NoMemory) => Err(Ending::NoMemory),
+    }
+}
+
+// Tells contracts what the type says: each of the bytes is below 256.
+fn are_bytes(bytes: &[u8])
+    ensures { IsBytes bytes.now }
+{}
