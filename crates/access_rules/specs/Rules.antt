@@ -76,6 +76,14 @@ access_rules = K1 ∷ K2 ∷ K3 ∷ K4 ∷ K5 ∷ S1 ∷ P1 ∷ P2 ∷ []
 abbrev pub first_rule : Option Keys → Option Access → Ask → ℕ → Option Rule
 first_rule keys access q t = find (holds keys access q t) access_rules
 
+-- the rules of the key route that are judged without the signature
+abbrev pub rules_before_signature : List Rule
+rules_before_signature = K1 ∷ K2 ∷ K3 ∷ K4 ∷ []
+
+-- the signature has to be worked out: the request asks by a key, and none of the rules before K5 holds
+abbrev pub wants_signature : Option Keys → Option Access → Ask → ℕ → Bool
+wants_signature keys access q t = on_key q.credential && is_none (find (holds keys access q t) rules_before_signature)
+
 -- the route by which a request asks
 abbrev pub way_of : Credential → Way
 way_of (credential.Shared values) = way.Key

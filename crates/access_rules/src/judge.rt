@@ -1,8 +1,8 @@
 //! The verdict on a request.
-ghost use Rattle.std.specs.Prelude.{◌≡◌, ℕ, IfOk, Option, None, option_copied};
+ghost use Rattle.std.specs.Prelude.{◌≡◌, ℕ, IfOk, IsErr, IsTrue, Option, None, option_copied};
 ghost use Rattle.stamp_values.specs.declared.signing.Credential.TheVariants as credential;
 ghost use Rattle.access_rules.specs.declared.keys.Keys.{Keys};
-ghost use Rattle.access_rules.specs.Rules.{verdict_of};
+ghost use Rattle.access_rules.specs.Rules.{verdict_of, wants_signature};
 
 use crate::judgement::{Verdict, Way};
 use crate::keys::Keys;
@@ -20,7 +20,8 @@ fn by_key(
     now: Moment,
 ) -> Result<Verdict, AllocError>
     requires { ask.now.credential ≡ credential.Shared values.now }
-    ensures { IfOk result (λ v. v ≡ verdict_of (option_copied keys.entry) None ask.now now) }
+    ensures value { IfOk result (λ v. v ≡ verdict_of (option_copied keys.entry) None ask.now now) }
+    ensures memory { IsErr result → IsTrue (wants_signature (option_copied keys.entry) None ask.now now) }
 {
     let Some(claim) = claim_in(values) else {
         return Ok(Verdict::Deny(Rule::K1));
@@ -62,15 +63,16 @@ fn by_public(ask: &Ask) -> Verdict
 /// is judged by its own route alone. Every shared access signature is refused by S1, and public access by P1 or P2, since no
 /// container has a level yet.
 ///
-/// `AllocError` where there was no memory for the string to sign or a signature; only the key route takes any. Blob service
-/// REST reference, 2012-02-12, Authentication for the Azure Storage Services.
+/// `AllocError` where there was no memory for the string to sign or a signature; only the key route takes any, and only where
+/// none of K1 to K4 holds. Blob service REST reference, 2012-02-12, Authentication for the Azure Storage Services.
 pub fn verdict(
     alloc: Global,
     keys: Option<&Keys>,
     request: &Request,
     now: Moment,
 ) -> Result<Verdict, AllocError>
-    ensures { IfOk result (λ v. v ≡ verdict_of (option_copied keys.entry) None request.now.ask now) }
+    ensures value { IfOk result (λ v. v ≡ verdict_of (option_copied keys.entry) None request.now.ask now) }
+    ensures memory { IsErr result → IsTrue (wants_signature (option_copied keys.entry) None request.now.ask now) }
 {
     let ask = request.ask();
     match &ask.credential {

@@ -1,5 +1,5 @@
 //! Replies to requests that were allowed.
-ghost use Rattle.std.specs.Prelude.{◌≡◌, ◌+◌, ◌^◌, ◌<◌, ◌≤◌, ◌++◌, IfOk, IsTrue, None, OnOk, Some, length, map};
+ghost use Rattle.std.specs.Prelude.{◌≡◌, ◌⊎◌, ◌+◌, ◌^◌, ◌<◌, ◌≤◌, ◌++◌, IfOk, IsErr, IsTrue, None, OnOk, Some, length, map};
 ghost use Rattle.stamp_values.specs.declared.op.Op.TheVariants as op;
 ghost use Rattle.std.specs.Option.{option_to_list};
 ghost use Rattle.stamp_types.specs.declared.header.Header.TheVariants as header;
@@ -213,7 +213,8 @@ impl Rows {
         moment: Moment,
     ) -> Result<Option<Reply>, AllocError>
         requires allowed { object_rule (part_at self.now request.now.ask.key) request.now ≡ None }
-        ensures { IfOk result (λ reply. reply ≡ replies.reply_of (part_after same_pieces (change_of request.now moment) (part_at self.now request.now.ask.key)) request.now) }
+        ensures value { IfOk result (λ reply. reply ≡ replies.reply_of (part_after same_pieces (change_of request.now moment) (part_at self.now request.now.ask.key)) request.now) }
+        ensures memory { IsErr result → (request.now.ask.op ≡ op.PutBlob) ⊎ (request.now.ask.op ≡ op.GetBlob) }
     {
         let ask = request.ask();
         match (ask.op, self.named_blob(ask)) {

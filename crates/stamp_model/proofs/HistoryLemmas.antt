@@ -39,6 +39,12 @@ part_at-replayed pairs w start history e same =
     ∙ ap (λ (p : Part (List Piece)). after_entry pairs p e) same
     ∙ sym (replay_from-append pairs start history e)
 
+-- the world after an accepted entry's request, which names the container of the history
+pub part_at-accepted : (pairs : List Keys) (key : Key) (w : World (List Piece)) (start : Part (List Piece)) (history : List Past) (e : Past) → IsAccepted pairs key (replay_from pairs start history) e → part_at w key ≡ replay_from pairs start history → part_at (effect (pair_of pairs e.epoch) w e.request e.moment) key ≡ replay_from pairs start (history ++ e ∷ [])
+part_at-accepted pairs key w start history e new =
+    subst (λ (k : Key). part_at w k ≡ replay_from pairs start history → part_at (effect (pair_of pairs e.epoch) w e.request e.moment) k ≡ replay_from pairs start (history ++ e ∷ [])) new.own
+    (part_at-replayed pairs w start history e)
+
 module _ (pairs : List Keys) (key : Key) (start : Part (List Piece)) (history : List Past) (e : Past) where
   accepted_there : IsLegalFrom pairs key start history → IsAccepted pairs key (replay_from pairs start history) e → (front : List Past) (x : Past)
       → ((front ≡ history) × (x ≡ e)) ⊎ StandsBehind front x history → IsAccepted pairs key (replay_from pairs start front) x

@@ -1,7 +1,9 @@
 pub mod AccessLemmas
 pub mod AnswerLemmas
 pub mod ContentLemmas
+pub mod CountLemmas
 pub mod EffectLemmas
 pub mod HistoryLemmas
+pub mod PublicLemmas
 pub mod ReplyLemmas
 pub mod RuleLemmas

@@ -1,18 +1,29 @@
 //! Laws of the accepted changes of a container. Each is the contract of a function that does nothing.
-ghost use Rattle.std.specs.Prelude.{◌≡◌, ℕ, List, [], ◌∷◌, ◌++◌};
+ghost use Rattle.std.specs.Prelude.{◌≡◌, ℕ, ◌+◌, List, [], ◌∷◌, ◌++◌, Some, length};
 ghost use Rattle.stamp_values.specs.declared.key.Key.{Key};
 ghost use Rattle.stamp_types.specs.declared.past.Past.{Past};
 ghost use Rattle.stamp_types.specs.declared.piece.Piece.{Piece};
 ghost use Rattle.stamp_types.specs.World.{Part, World, part_at};
 ghost use Rattle.access_rules.specs.declared.keys.Keys.{Keys};
 ghost use Rattle.stamp_model.specs.Effects.{effect};
-ghost use Rattle.stamp_model.specs.Histories.{IsLegalFrom, IsAccepted, NoneIsLater, pair_of, replay_from};
+ghost use Rattle.stamp_model.specs.Histories.{IsLegal, IsLegalFrom, IsAccepted, NoneIsLater, after_entry, pair_of, replay, replay_from};
 
 /// A legal history with a request behind it that is accepted there, of no earlier epoch, is legal. Where the stamp holds of
-/// the container what the history replays to, it holds after the request's effect what the longer one does.
+/// the container what the history replays to, it holds after the request's effect what the longer one does. That is so of
+/// the container whose history it is, since an accepted request names no other.
 pub fn an_accepted_request_goes_on_a_legal_history()
     ensures legal { (pairs : List Keys) (key : Key) (start : Part (List Piece)) (history : List Past) (e : Past) → IsLegalFrom pairs key start history → NoneIsLater e.epoch history → IsAccepted pairs key (replay_from pairs start history) e → IsLegalFrom pairs key start (history ++ e ∷ []) }
     ensures replay { (pairs : List Keys) (w : World (List Piece)) (start : Part (List Piece)) (history : List Past) (e : Past) → part_at w e.request.ask.key ≡ replay_from pairs start history → part_at (effect (pair_of pairs e.epoch) w e.request e.moment) e.request.ask.key ≡ replay_from pairs start (history ++ e ∷ []) }
+    ensures own { (pairs : List Keys) (key : Key) (w : World (List Piece)) (start : Part (List Piece)) (history : List Past) (e : Past) → IsAccepted pairs key (replay_from pairs start history) e → part_at w key ≡ replay_from pairs start history → part_at (effect (pair_of pairs e.epoch) w e.request e.moment) key ≡ replay_from pairs start (history ++ e ∷ []) }
+{}
+
+/// An accepted request is one change of its container, so that a legal history has as many entries as the container has seen
+/// changes since its start: all of them, where it begins with a container that never was. The pair by which an entry is judged is one of its own epoch.
+pub fn each_entry_is_one_change()
+    ensures one { (pairs : List Keys) (key : Key) (p : Part (List Piece)) (e : Past) → IsAccepted pairs key p e → (after_entry pairs p e).count ≡ p.count + 1 }
+    ensures counted { (pairs : List Keys) (key : Key) (start : Part (List Piece)) (history : List Past) → IsLegalFrom pairs key start history → (replay_from pairs start history).count ≡ start.count + length history }
+    ensures all { (pairs : List Keys) (key : Key) (history : List Past) → IsLegal pairs key history → (replay pairs history).count ≡ length history }
+    ensures epoch { (pairs : List Keys) (epoch : ℕ) (pair : Keys) → pair_of pairs epoch ≡ Some pair → pair.epoch ≡ epoch }
 {}
 
 /// A history of no entries is legal, and so is each front part of a legal one.

@@ -1,13 +1,20 @@
 //! Laws of effects and replies. Each is the contract of a function that does nothing.
-ghost use Rattle.std.specs.Prelude.{◌≡◌, ◌≢◌, ◌⊎◌, ℕ, List, Option, Some, None, IsSome, find};
+ghost use Rattle.std.specs.Prelude.{◌≡◌, ◌≢◌, ◌≤◌, ◌⊎◌, ℕ, List, Option, Some, None, IsSome, find};
 ghost use Rattle.stamp_values.specs.declared.key.Key.{Key};
+ghost use Rattle.stamp_values.specs.declared.level.Level.{Level};
+ghost use Rattle.stamp_values.specs.declared.level.Level.TheVariants as level;
 ghost use Rattle.stamp_values.specs.declared.op.Op.TheVariants as op;
+ghost use Rattle.stamp_values.specs.declared.signing.Credential.TheVariants.{Anonymous};
+ghost use Rattle.stamp_values.specs.Levels.{level_number};
 ghost use Rattle.stamp_types.specs.declared.piece.Piece.{Piece};
 ghost use Rattle.stamp_types.specs.declared.reply.Reply.{Reply};
 ghost use Rattle.stamp_types.specs.declared.rule.Rule.{Rule};
+ghost use Rattle.stamp_types.specs.declared.standing.Standing.{Standing};
+ghost use Rattle.stamp_types.specs.declared.status.Status.TheVariants.{NotFound};
 ghost use Rattle.stamp_types.specs.Requests.{Asked, IsAsk};
 ghost use Rattle.stamp_types.specs.World.{Part, World, part_at, world_value};
 ghost use Rattle.access_rules.specs.declared.keys.Keys.{Keys};
+ghost use Rattle.access_rules.specs.Needs.{need_of};
 ghost use Rattle.access_rules.specs.Routes.{Admits};
 ghost use Rattle.range_rows.specs.ObjectRules.{object_rule};
 ghost use Rattle.range_rows.specs.ObjectReplies.{reply_of};
@@ -46,6 +53,15 @@ pub fn success_is_where_the_own_route_admits()
     ensures unopposed { (keys : Option Keys) (w : World (List Piece)) (q : Asked) (t : ℕ) (r : Reply) → reply keys w q t ≡ Some r → r.rule ≡ None → object_rule (part_at w q.ask.key) q ≡ None }
     ensures served { (keys : Option Keys) (w : World (List Piece)) (q : Asked) (t : ℕ) → Admits keys (access_of (part_at w q.ask.key)) q.ask.credential q.ask t → object_rule (part_at w q.ask.key) q ≡ None → rule_named (reply keys w q t) ≡ None }
     ensures answered { (keys : Option Keys) (w : World (List Piece)) (q : Asked) (t : ℕ) → Admits keys (access_of (part_at w q.ask.key)) q.ask.credential q.ask t → object_rule (part_at w q.ask.key) q ≡ None → reply keys w q t ≡ reply_of (part_at (effect keys w q t) q.ask.key) q }
+{}
+
+/// A request without a credential gets a reply that names no rule only of a container that stands, and whose level is enough
+/// for the operation. Refused by a rule it is answered that there is no such resource (404), and of a container that does not
+/// stand the same as of a closed one.
+pub fn public_access_is_what_the_container_gives()
+    ensures given { (keys : Option Keys) (w : World (List Piece)) (q : Asked) (t : ℕ) (r : Reply) → q.ask.credential ≡ Anonymous → reply keys w q t ≡ Some r → r.rule ≡ None → (need : Level) × (s : Standing) × ((need_of q.ask.op q.ask.args.kinds).level ≡ Some need) × ((part_at w q.ask.key).standing ≡ Some s) × (level_number need ≤ level_number s.level) }
+    ensures same { (keys : Option Keys) (w v : World (List Piece)) (q : Asked) (t : ℕ) (s : Standing) → q.ask.credential ≡ Anonymous → (part_at w q.ask.key).standing ≡ None → (part_at v q.ask.key).standing ≡ Some s → s.level ≡ level.Closed → reply keys w q t ≡ reply keys v q t }
+    ensures status { (keys : Option Keys) (w : World (List Piece)) (q : Asked) (t : ℕ) (r : Reply) → q.ask.credential ≡ Anonymous → (part_at w q.ask.key).standing ≡ None → reply keys w q t ≡ Some r → r.status ≡ NotFound }
 {}
 
 /// A request to put or to get a blob that fits its operation has a reply. Requests for other operations are refused where they

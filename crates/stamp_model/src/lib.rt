@@ -6,10 +6,12 @@ mod laws;
 
 pub use history_laws::{
     a_front_part_of_a_legal_history_is_legal, an_accepted_request_goes_on_a_legal_history,
+    each_entry_is_one_change,
 };
 pub use laws::{
     a_refused_request_changes_nothing, a_request_that_is_served_has_a_reply,
     an_effect_reaches_its_own_container_alone, an_own_container_decides_effect_and_reply,
     containers_stay_as_they_stand, content_is_read_before_or_after_a_request,
-    success_is_where_the_own_route_admits, the_refusal_is_the_first_rule_of_all,
+    public_access_is_what_the_container_gives, success_is_where_the_own_route_admits,
+    the_refusal_is_the_first_rule_of_all,
 };

@@ -1,4 +1,5 @@
 pub mod ActContents
+pub mod ActLaws
 pub mod ChangesEqual
 pub mod Cuts
 pub mod PieceLengths

@@ -1,3 +1,4 @@
+pub mod ActKinds
 pub mod Changes
 pub mod Codes
 pub mod Pieces

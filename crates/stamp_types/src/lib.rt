@@ -39,7 +39,8 @@ pub use cut::cut_pieces_hold_the_bytes;
 pub use error_body::write_error;
 pub use header::Header;
 pub use laws::{
-    a_change_reaches_its_own_container_alone, content_is_read_before_or_after_a_change,
+    a_change_reaches_its_own_container_alone, access_is_what_was_set_last,
+    content_is_read_before_or_after_a_change, each_change_is_counted,
 };
 pub use past::Past;
 pub use piece::Piece;
