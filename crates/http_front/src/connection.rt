@@ -15,15 +15,18 @@ use crate::end::{End, FrontFault};
 use crate::input::{Call, Found, next_item};
 use crate::output::send;
 use crate::service::{Clock, Service};
-use reply_form::{out_of_memory_reply, sends_body, write_head};
+use reply_form::{out_of_memory_reply, sends_body, write_head, write_reply};
 use request_form::Denial;
 use stamp_types::{Moment, Reply, Verb};
 use std::alloc::Global;
 use std::io::{Read, Write};
 
-// Writes a reply: its head, and then each share of its body, none of which is copied.
+/// The most bytes of a body that goes out with its head, in one write.
+const SMALL_BODY: usize = 4096;
+
+// Writes the head of a reply, and then each share of its body, none of which is copied.
 #[tactic(auto, unfolding(reply_form::specs::ReplyBytes::reply_bytes))]
-fn send_reply<W: Write>(
+fn send_in_shares<W: Write>(
     alloc: Global,
     writer: &mut W,
     reply: &Reply,
@@ -41,6 +44,26 @@ fn send_reply<W: Write>(
         return Ok(());
     }
     reply.body.write_to(writer).map_err(|_| FrontFault::Write)
+}
+
+// Writes a reply, a small one in one write.
+fn send_reply<W: Write>(
+    alloc: Global,
+    writer: &mut W,
+    reply: &Reply,
+    moment: Moment,
+    verb: Option<Verb>,
+    close: bool,
+) -> Result<(), FrontFault>
+    ensures sent { OnOk result (Appends (W.contents writer.old) (W.contents writer.new) (reply_bytes reply.now moment verb close)) }
+    ensures starved { result ≡ Err FrontFault.NoMemory → writer.new ≡ writer.old }
+    ensures late { IfErr result IsLate }
+{
+    if reply.body.len() > SMALL_BODY {
+        return send_in_shares(alloc, writer, reply, moment, verb, close);
+    }
+    let bytes = write_reply(alloc, reply, moment, verb, close)?;
+    send(writer, &bytes)
 }
 
 // Answers a request at a moment.
