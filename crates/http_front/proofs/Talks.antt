@@ -1,5 +1,5 @@
 -- A run so far, and one item more.
-use Rattle.std.proofs.Common.{◌≡◌, ◌≢◌, ℕ, ◌+◌, ◌≤◌, Bool, true, false, List, [], ◌∷◌, ◌++◌, length, length-append, map, flat_map, Option, Some, None, IfSome, Result, Ok, Err, inl, inr, refl, sym, ap, ◌∙◌, subst, arith, append_assoc, append-nil}
+use Rattle.std.proofs.Common.{◌≡◌, ◌≢◌, ℕ, ◌+◌, ◌*◌, ◌≤◌, Bool, true, false, List, [], ◌∷◌, ◌++◌, length, length-append, map, flat_map, Option, Some, None, IfSome, Result, Ok, Err, inl, inr, refl, sym, ap, ◌∙◌, subst, arith, append_assoc, append-nil}
 use Rattle.std.proofs.lemmas.List.{map-append}
 use Rattle.std.proofs.lemmas.List.Concat.{flat_map-append}
 use Rattle.std.specs.Io.KnownBytes.{Consumes, Appends, Keeps, IsAtEnd}
@@ -138,6 +138,12 @@ pub record Serving {C S : Type 0} (gives : C → ℕ → C → Type 0) (answers 
   pub said : Said gives answers clock clock' world world' left left' held held' received exchanges (flat_map bytes_of exchanges)
   pub items : Precede received exchanges buffer
   pub spent : turns ≤ turns' + length received
+  pub within : length received + turns' * 8192 ≤ turns * 8192
+
+-- what was read so far, and what came then
+within_more : (received more : List ℕ) (turns turns' left : ℕ) → length received + turns' * 8192 ≤ turns * 8192 → length more + left ≤ turns' * 8192
+    → length (received ++ more) ≤ turns * 8192
+within_more received more turns turns' left before now = let size = length-append received more in omega arith
 
 -- whatever the reader still has
 if_known : (left left' : Option (List ℕ)) (received : List ℕ) (P : List ℕ → Type 0) → Consumes left left' received → ((future : List ℕ) → P (received ++ future)) → IfSome left P
@@ -154,6 +160,7 @@ module _ {C S : Type 0} (gives : C → ℕ → C → Type 0) (answers : S → As
     said = record { consumed = Consumes-nil left; moments = refl; replies = refl; appended = Appends-nil held };
     items = λ future items tail read. subst (λ b. Reads (b ++ future) items tail) e read;
     spent = omega arith;
+    within = omega arith;
   }
 
   said_more : (clock clock' clock'' : C) (world world' world'' : S) (left left' left'' held held' held'' : Option (List ℕ))
@@ -181,12 +188,15 @@ module _ {C S : Type 0} (gives : C → ℕ → C → Type 0) (answers : S → As
       let step = step_of gives answers clock' clock'' world' world'' held' held'' held''' (buffer ++ takes.more) buffer' takes.written found closes takes.found takes.appended settles in
       let size = length-append serving.received takes.more in
       let before = serving.spent in
-      let now = takes.spent in record {
+      let now = takes.spent in
+      let within_before = serving.within in
+      let within_now = takes.within in record {
         received = serving.received ++ takes.more;
         exchanges = serving.exchanges ++ step.exchange ∷ [];
         said = said_more clock clock' clock'' world world' world'' left left' left'' held held' held''' serving.received takes.more _ _ serving.exchanges closes serving.said takes.consumed step;
         items = precede_step serving.received buffer takes.more buffer' serving.exchanges step.exchange serving.items step.begins (step.closing ∙ stays);
         spent = omega arith;
+        within = omega arith;
       }
 
   -- an item that closes
@@ -214,6 +224,7 @@ module _ {C S : Type 0} (gives : C → ℕ → C → Type 0) (answers : S → As
         record {
           received = serving.received ++ takes.more;
           consumed = said.consumed;
+          within = within_more serving.received takes.more turns turns' (turns'' * 8192) serving.within takes.within;
           converses = all _ (subst (λ l. Reads l (map item_of (serving.exchanges ++ step.exchange ∷ [])) Closing) (append-nil _) (last []));
         },
         if_known left left'' (serving.received ++ takes.more) _ said.consumed (λ future. all _ (last future)),
@@ -244,7 +255,12 @@ module _ {C S : Type 0} (gives : C → ℕ → C → Type 0) (answers : S → As
   clean clock clock' world world' left left' left'' held held' held'' buffer buffer' turns turns' turns'' serving takes ended =
       let all = stopped clock clock' world world' left left' left'' held held' held'' buffer takes.more takes.written turns turns' (Ok Clean) AtStart serving takes.consumed takes.appended takes.found.0 takes.found.1 refl in
       let came = Consumes-trans left left' left'' serving.received takes.more serving.said.consumed takes.consumed in (
-        record { received = serving.received ++ takes.more; consumed = came; converses = all },
+        record {
+          received = serving.received ++ takes.more;
+          consumed = came;
+          within = within_more serving.received takes.more turns turns' (turns'' * 8192) serving.within takes.within;
+          converses = all;
+        },
         Consumes-whole left left'' (serving.received ++ takes.more) (Converses gives answers clock clock' world world' held held'' (Ok Clean) turns) came ended all,
       )
 
@@ -255,6 +271,7 @@ module _ {C S : Type 0} (gives : C → ℕ → C → Type 0) (answers : S → As
   cut Read clock clock' world world' left left' left'' held held' held'' buffer buffer' turns turns' turns'' serving takes = record {
     received = serving.received ++ takes.more;
     consumed = Consumes-trans left left' left'' serving.received takes.more serving.said.consumed takes.consumed;
+    within = let came = takes.within in within_more serving.received takes.more turns turns' 0 serving.within (omega arith);
     converses = stopped clock clock' world world' left left' left'' held held' held'' buffer takes.more takes.written turns turns' (Err Read) takes.found.0 serving takes.consumed takes.appended takes.found.1 takes.found.2
         (not_closing (buffer ++ takes.more) takes.found.0 takes.found.1);
   }
@@ -264,6 +281,7 @@ module _ {C S : Type 0} (gives : C → ℕ → C → Type 0) (answers : S → As
       let now = takes.spent in record {
         received = serving.received ++ takes.more;
         consumed = Consumes-trans left left' left'' serving.received takes.more serving.said.consumed takes.consumed;
+        within = let came = takes.within in within_more serving.received takes.more turns turns' 0 serving.within (omega arith);
         converses = stopped clock clock' world world' left left' left'' held held' held'' buffer takes.more takes.written turns turns' (Err Turns) takes.found.0 serving takes.consumed takes.appended takes.found.1 takes.found.2
             (not_closing (buffer ++ takes.more) takes.found.0 takes.found.1, omega arith);
       }

@@ -1,5 +1,5 @@
 -- What is said over a connection.
-use Rattle.std.specs.Prelude.{◌≡◌, ◌≢◌, ◌⊎◌, ℕ, ◌≤◌, List, [], ◌∷◌, ◌++◌, map, flat_map, length, true, Option, Some, Result, Ok, Err}
+use Rattle.std.specs.Prelude.{◌≡◌, ◌≢◌, ◌⊎◌, ℕ, ◌*◌, ◌≤◌, List, [], ◌∷◌, ◌++◌, map, flat_map, length, true, Option, Some, Result, Ok, Err}
 use Rattle.std.specs.Io.KnownBytes.{Consumes, Appends}
 use Rattle.stamp_types.specs.Requests.{Asked}
 use Rattle.stamp_types.specs.Replies.{denied}
@@ -73,11 +73,13 @@ pub record Converses {C S : Type 0} (gives : C → ℕ → C → Type 0) (answer
   pub output : Appends held held' (flat_map bytes_of exchanges ++ tail_bytes tail)
   pub ends : EndsAs result tail turns (length input)
 
--- What a run took is answered so. Nothing is said where the writer failed or memory ran out.
+-- What a run took is answered so, and is at most 8,192 bytes for each turn. Nothing is said where the writer failed or memory ran
+-- out.
 pub record Conversed {C S : Type 0} (gives : C → ℕ → C → Type 0) (answers : S → Asked → ℕ → Reply → S → Type 0)
     (clock clock' : C) (world world' : S) (left left' held held' : Option (List ℕ)) (result : Result End FrontFault) (turns : ℕ) : Type 0 where
   pub received : List ℕ
   pub consumed : Consumes left left' received
+  pub within : length received ≤ turns * 8192
   pub converses : Converses gives answers clock clock' world world' held held' result turns received
 
 -- what was written before the answer to what stands at the front: nothing yet, or the interim reply to a head

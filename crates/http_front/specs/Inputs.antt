@@ -1,5 +1,5 @@
 -- What reading one item answers.
-use Rattle.std.specs.Prelude.{◌≡◌, ◌⊎◌, ℕ, ◌+◌, ◌≤◌, List, [], ◌++◌, length, Option, Some, None, Result, Ok, Err}
+use Rattle.std.specs.Prelude.{◌≡◌, ◌⊎◌, ℕ, ◌+◌, ◌*◌, ◌≤◌, List, [], ◌++◌, length, Option, Some, None, Result, Ok, Err}
 use Rattle.std.specs.Io.KnownBytes.{Consumes, Appends}
 use Rattle.http_front.specs.HeadEnds.{head_len}
 use Rattle.request_form.specs.HeadForms.{Form, with_body}
@@ -32,6 +32,13 @@ Spends (Ok x) turns turns' count = turns ≤ turns' + count
 Spends (Err Turns) turns turns' count = turns ≤ count
 Spends (Err fault) turns turns' count = Unit {0}
 
+-- at most 8,192 bytes came for each turn that was used, and where it broke off for each that was left before
+abbrev pub Within : {T : Type 0} → Result T FrontFault → ℕ → ℕ → ℕ → Type 0
+Within (Ok x) turns turns' count = count + turns' * 8192 ≤ turns * 8192
+Within (Err Write) turns turns' count = Unit {0}
+Within (Err NoMemory) turns turns' count = Unit {0}
+Within (Err fault) turns turns' count = count ≤ turns * 8192
+
 -- what is known of the buffer's head
 abbrev pub Awaits : Result Awaited FrontFault → List ℕ → Type 0
 Awaits (Ok (Head n)) buffer = head_len buffer ≡ Some n
@@ -58,6 +65,7 @@ pub record Bodies (result : Result (List ℕ) FrontFault) (form : Form) (count :
   pub written : Appends held held' (interim form)
   pub taken : Takes-body result form count (buffer ++ more) buffer'
   pub spent : Spends result turns turns' (length more)
+  pub within : Within result turns turns' (length more)
 
 -- a head and its body are found to be a request, unless memory runs out
 abbrev pub Joins : Form → Result (List ℕ) FrontFault → Result (Option Found) FrontFault → Type 0
@@ -90,3 +98,4 @@ pub record Takes (result : Result (Option Found) FrontFault) (left left' held he
   pub appended : Appends held held' written
   pub found : Finds result (buffer ++ more) buffer' written
   pub spent : Spends-item result turns turns' (length more)
+  pub within : Within result turns turns' (length more)

@@ -107,6 +107,8 @@ fn await_head<R: Read, W: Write>(
     ensures end { result ≡ Ok Awaited.End → IsAtEnd (R.remaining reader.new) }
     ensures held { Told result (Appends (W.contents writer.old) (W.contents writer.new) []) }
     ensures measure { OnOk result (turns.new * 8193 + length buffer.new ≤ turns.old * 8193 + length buffer.old) }
+    ensures within { OnOk result (length buffer.new + turns.new * 8192 ≤ length buffer.old + turns.old * 8192) }
+    ensures within_fault { IfErr result (λ _. Served result (length buffer.new ≤ length buffer.old + turns.old * 8192)) }
     ensures spent { IfOk result (λ awaited. awaited ≢ Awaited.End → turns.old + length buffer.old ≤ turns.new + length buffer.new) }
     ensures exhausted { result ≡ Err FrontFault.Turns → turns.old + length buffer.old ≤ length buffer.new }
 {
@@ -161,6 +163,7 @@ fn gather<R: Read, W: Write>(
     ensures size { OnOk result (length body.new ≤ length body.old + missing) }
     ensures waiting { OnOk result (length body.new < length body.old + missing → buffer.new ≡ []) }
     ensures room { OnOk result (length buffer.new ≤ 8192) }
+    ensures within { OnOk result (length (body.new ++ buffer.new) ≤ length (body.old ++ buffer.old) + 8192) }
     ensures held { Told result (Appends (W.contents writer.old) (W.contents writer.new) []) }
     ensures turn { OnOk result (turns.new + 1 ≡ turns.old) }
     ensures exhausted { result ≡ Err FrontFault.Turns → turns.old ≡ 0 }
@@ -187,6 +190,8 @@ fn await_body<R: Read, W: Write>(
     ensures cut { IfErr result (λ _. Served result (length (body.new ++ buffer.new) < body_len)) }
     ensures held { Told result (Appends (W.contents writer.old) (W.contents writer.new) []) }
     ensures measure { OnOk result (turns.new * 8193 + length buffer.new ≤ turns.old * 8193 + length buffer.old) }
+    ensures within { OnOk result (length (body.new ++ buffer.new) + turns.new * 8192 ≤ length (body.old ++ buffer.old) + turns.old * 8192) }
+    ensures within_fault { IfErr result (λ _. Served result (length (body.new ++ buffer.new) ≤ length (body.old ++ buffer.old) + turns.old * 8192)) }
     ensures spent { OnOk result (turns.old + length (body.old ++ buffer.old) ≤ turns.new + length (body.new ++ buffer.new)) }
     ensures exhausted { result ≡ Err FrontFault.Turns → turns.old + length (body.old ++ buffer.old) ≤ length (body.new ++ buffer.new) }
 {

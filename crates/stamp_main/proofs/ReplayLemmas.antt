@@ -72,6 +72,7 @@ module _ (keys : Keys) (t : ℕ) (c' : Still) (h' : Held) where
   replayed_of left left' held held' result turns c = record {
     received = c.received;
     consumed = c.consumed;
+    within = c.within;
     replays = replays_of held held' result turns c.received c.converses;
   }
 

@@ -1,6 +1,6 @@
 -- What `stamp replay` writes: the bytes of its input answered in turn, as the model says, by a clock that stands still (Blob
 -- service REST reference, 2012-02-12; RFC 9112, section 9.3).
-use Rattle.std.specs.Prelude.{◌≡◌, ℕ, List, [], ◌∷◌, ◌++◌, length, true, Option, Some, IfSome, Result, Ok, codes}
+use Rattle.std.specs.Prelude.{◌≡◌, ℕ, ◌*◌, ◌≤◌, List, [], ◌∷◌, ◌++◌, length, true, Option, Some, IfSome, Result, Ok, codes}
 use Rattle.std.specs.Io.KnownBytes.{Consumes, Appends}
 use Rattle.stamp_values.specs.Names.{is_account}
 use Rattle.stamp_types.specs.Replies.{denied}
@@ -49,10 +49,11 @@ pub record Replays (keys : Keys) (moment : ℕ) (held held' : Option (List ℕ))
   pub output : Appends held held' (replay_output keys moment items tail)
   pub ends : EndsAs result tail turns (length input)
 
--- That holds of the bytes that the run took.
+-- That holds of the bytes that the run took, at most 8,192 for each turn.
 pub record Replayed (keys : Keys) (moment : ℕ) (left left' held held' : Option (List ℕ)) (result : Result End FrontFault) (turns : ℕ) : Type 0 where
   pub received : List ℕ
   pub consumed : Consumes left left' received
+  pub within : length received ≤ turns * 8192
   pub replays : Replays keys moment held held' result turns received
 
 -- Memory ran out. What was taken begins with items that were answered in full; behind their output stand what was begun of the

@@ -13,6 +13,7 @@ invariant-loop-body_len g l =
       short : length l.body ≤ l.body_len;
       waiting : length l.body < l.body_len → l.buffer ≡ [];
       measure : l.turns * 8193 + length l.buffer ≤ l.fn.turns * 8193 + length l.fn.buffer;
+      within : length (l.body ++ l.buffer) + l.turns * 8192 ≤ length (l.fn.body ++ l.fn.buffer) + l.fn.turns * 8192;
       spent : l.fn.turns + length (l.fn.body ++ l.fn.buffer) ≤ l.turns + length (l.body ++ l.buffer);
     }
 

@@ -12,6 +12,7 @@ loop-n-init g c = record {
   held = Appends-nil _;
   searched = searched_none c.new-search.result _ c.new-search.ensures;
   measure = omega arith;
+  within = omega arith;
   spent = omega arith;
 }
 

@@ -13,6 +13,7 @@ invariant-loop-n g l =
       held : Appends (contents l.fn.writer) (contents l.writer) [];
       searched : IsSearched l.search l.buffer;
       measure : l.turns * 8193 + length l.buffer ≤ l.fn.turns * 8193 + length l.fn.buffer;
+      within : length l.buffer + l.turns * 8192 ≤ length l.fn.buffer + l.fn.turns * 8192;
       spent : l.fn.turns + length l.fn.buffer ≤ l.turns + length l.buffer;
     }
 

@@ -19,7 +19,7 @@ returns-in_err-await_body-clause-bodies g c =
     rw (p.1, p.2) (bodies_cut (Unit {0}) c.in_err-await_body.field-0.0 c.args.head.now c.args.count c.body_len-body_len.result _ _ _ _ _
     c.args.buffer.now (c.in_ok-body.body ++ c.take_start.new.buffer) (c.await_body.new.body ++ c.await_body.new.buffer) c.await_body.new.buffer c.args.turns.now c.await_body.new.turns
     c.requires c.body_len-body_len.ensures at c.in_ok-send_interim.ensures.sent c.in_err-await_body.ensures.fills
-    c.in_err-await_body.ensures.cut c.in_err-await_body.ensures.held (λ e. c.in_err-await_body.ensures.exhausted (ap Err e)))
+    c.in_err-await_body.ensures.cut c.in_err-await_body.ensures.held c.in_err-await_body.ensures.within_fault (λ e. c.in_err-await_body.ensures.exhausted (ap Err e)))
 
 pub returns-clause-bodies : goal.returns-clause-bodies
 returns-clause-bodies g c =
@@ -27,7 +27,7 @@ returns-clause-bodies g c =
     bodies_whole (Unit {0}) _ c.args.head.now c.args.count c.body_len-body_len.result _ _ _ _ _
     c.args.buffer.now (c.in_ok-body.body ++ c.take_start.new.buffer) c.await_body.new.body c.await_body.new.buffer c.args.turns.now c.await_body.new.turns
     c.requires c.body_len-body_len.ensures at c.in_ok-send_interim.ensures.sent
-    c.in_ok-await_body.ensures.fills c.in_ok-await_body.ensures.whole c.in_ok-await_body.ensures.held c.in_ok-await_body.ensures.spent
+    c.in_ok-await_body.ensures.fills c.in_ok-await_body.ensures.whole c.in_ok-await_body.ensures.held c.in_ok-await_body.ensures.spent c.in_ok-await_body.ensures.within
 
 pub returns-clause-measure : goal.returns-clause-measure
 returns-clause-measure g c =
