@@ -11,7 +11,8 @@ use Rattle.stamp_types.specs.Requests.{Asked}
 use Rattle.stamp_types.specs.World.{Part}
 use Rattle.range_rows.specs.ObjectRules.{needs_container, object_holds, object_rule, object_rules, count_limit}
 
-none_passes : {X : Type 0} (test : X → Bool) (xs : List X) → find test xs ≡ None → list_all (λ x. not (test x)) xs ≡ true
+-- where none is found, none passes
+pub none_passes : {X : Type 0} (test : X → Bool) (xs : List X) → find test xs ≡ None → list_all (λ x. not (test x)) xs ≡ true
 none_passes test [] h = refl
 none_passes test (x ∷ xs) h =
     elim (test x) as (λ b. cond b (Some x) (find test xs) ≡ None → (not b && list_all (λ x. not (test x)) xs) ≡ true) [

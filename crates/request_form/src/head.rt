@@ -99,7 +99,7 @@ fn body_by(verb: Verb, body: Body) -> Body
     }
 }
 
-/// How bytes are refused that are no head.
+/// How bytes are refused that are no head: by F1, as bad input (400), with no verb, since none was read.
 pub fn no_head() -> Denial
     ensures { result ≡ head_rules.no_head }
 {

@@ -1,8 +1,7 @@
 -- A request that fits its operation, and is served, has a reply.
-use Rattle.std.proofs.Common.{◌≡◌, ℕ, Bool, true, false, cond, not, ◌&&◌, ◌⊎◌, inl, inr, List, [], ◌∷◌, Option, Some, None, refl, sym, ap, ◌∙◌, subst}
+use Rattle.std.proofs.Common.{◌≡◌, ℕ, true, not, ◌&&◌, ◌⊎◌, inl, inr, List, Option, Some, None, refl, sym, ap, ◌∙◌, subst}
 use Rattle.std.proofs.lemmas.Bool.{and_parts}
-use Rattle.std.specs.Prelude.{find, is_some, is_none}
-use Rattle.std.specs.List.{list_all}
+use Rattle.std.specs.Prelude.{is_some, is_none}
 use Rattle.std.specs.Option.{option_map, option_and_then}
 use Rattle.stamp_values.specs.Operations.{names_blob, keeps_headers}
 use Rattle.stamp_values.specs.declared.op.Op.{Op}
@@ -23,6 +22,7 @@ use Rattle.access_rules.specs.Rules.{first_rule}
 use Rattle.range_rows.specs.ObjectReplies.{reply_by}
 use Rattle.range_rows.specs.ObjectRules.{needs_blob, named_blob, object_holds, object_rule, object_rules}
 use Rattle.range_rows.specs.RequestChanges.{put_blob, act_by, change_of, part_after}
+use Rattle.range_rows.proofs.Allowed.{none_passes}
 use Rattle.range_rows.proofs.PutReplies.{blob_in-put}
 use Rattle.stamp_model.specs.Refusals.{access_of, refusing_rule, code_of}
 use Rattle.stamp_model.specs.Effects.{unless_refused}
@@ -30,15 +30,6 @@ use Rattle.stamp_model.specs.Responses.{response, reply_in}
 use Rattle.stamp_model.proofs.EffectLemmas.{on_key}
 use Rattle.stamp_model.proofs.RuleLemmas.{refusing_rule-has_code}
 use Rattle.stamp_model.proofs.ReplyLemmas.{neither}
-
--- where none is found, none passes
-none_passes : {X : Type 0} (test : X → Bool) (xs : List X) → find test xs ≡ None → list_all (λ x. not (test x)) xs ≡ true
-none_passes test [] h = refl
-none_passes test (x ∷ xs) h =
-    elim (test x) as (λ b. cond b (Some x) (find test xs) ≡ None → (not b && list_all (λ x. not (test x)) xs) ≡ true) [
-      | true ↦ λ h. cc
-      | false ↦ λ h. none_passes test xs h
-    ] h
 
 refusal_there : (r : Rule) (code : Option Code) → is_some code ≡ true → is_some (option_map (denied r) code) ≡ true
 refusal_there r None h = cc
