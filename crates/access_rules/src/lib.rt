@@ -10,8 +10,6 @@ mod parts;
 #[cfg(test)]
 mod rule_tests;
 #[cfg(test)]
-mod slow_rules;
-#[cfg(test)]
 mod test_requests;
 
 pub use judge::verdict;

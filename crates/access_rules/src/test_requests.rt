@@ -6,60 +6,38 @@ use stamp_types::{
     Signing, Text, Verb, Visible,
 };
 use std::alloc::Global;
-use std::test::Fail;
+use std::process::Abort;
 
-/// A Put Blob under the account's key: the values of Authorization, the headers that date it, the account of the keys that
-/// the stamp has, the moment, and what is to be answered.
-#[derive(Clone, Copy, Debug)]
-pub(crate) struct Case {
-    pub values: &'static [&'static str],
-    pub dates: &'static [(&'static str, &'static str)],
-    pub keys: Option<&'static str>,
-    pub moment: i64,
-    pub verdict: Verdict,
+fn text(rt: &impl Abort, alloc: Global, text: &str) -> Text {
+    let text = String::from_str(alloc, text).expect(rt, "memory");
+    Text::new(text).expect(rt, "no control character")
 }
 
-fn text(alloc: Global, text: &str) -> Result<Text, Fail> {
-    Ok(Text::new(String::from_str(alloc, text)?).ok_or("a control character")?)
+fn bytes(rt: &impl Abort, alloc: Global, text: &str) -> Bytes {
+    Bytes::new(text.as_bytes().to_vec(alloc).expect(rt, "memory"))
 }
 
-fn bytes(alloc: Global, text: &str) -> Result<Bytes, Fail> {
-    Ok(Bytes::new(text.as_bytes().to_vec(alloc)?))
+fn push(rt: &impl Abort, alloc: Global, headers: &mut Vec<Field>, name: &str, value: &str) {
+    let field = Field {
+        name: bytes(rt, alloc, name),
+        value: bytes(rt, alloc, value),
+    };
+    headers.push(field).expect(rt, "memory");
 }
 
-fn push(alloc: Global, headers: &mut Vec<Field>, name: &str, value: &str) -> Result<(), Fail> {
-    headers.push(Field {
-        name: bytes(alloc, name)?,
-        value: bytes(alloc, value)?,
-    })?;
-    Ok(())
-}
-
-/// What `PUT /devstoreaccount1/pics/a.txt` of five bytes signs, dated so.
-pub(crate) fn signing(
-    alloc: Global,
-    dates: &[(&'static str, &'static str)],
-) -> Result<Signing, Fail> {
+// What `PUT /devstoreaccount1/pics/a.txt` of five bytes signs, with one header more.
+fn signing(rt: &impl Abort, alloc: Global, name: &str, value: &str) -> Signing {
     let mut headers = Vec::new(alloc);
-    push(alloc, &mut headers, "content-length", "5")?;
-    push(alloc, &mut headers, "x-ms-blob-type", "BlockBlob")?;
-    push(alloc, &mut headers, "x-ms-version", "2012-02-12")?;
-    for (name, value) in dates {
-        push(alloc, &mut headers, *name, *value)?;
-    }
-    Ok(Signing {
+    push(rt, alloc, &mut headers, "content-length", "5");
+    push(rt, alloc, &mut headers, "x-ms-blob-type", "BlockBlob");
+    push(rt, alloc, &mut headers, "x-ms-version", "2012-02-12");
+    push(rt, alloc, &mut headers, name, value);
+    Signing {
         verb: Verb::Put,
         headers: Items::new(headers),
-        path: bytes(alloc, "/devstoreaccount1/pics/a.txt")?,
+        path: bytes(rt, alloc, "/devstoreaccount1/pics/a.txt"),
         query: Items::new(Vec::new(alloc)),
-    })
-}
-
-fn key(alloc: Global) -> Result<Key, Fail> {
-    Ok(Key {
-        account: text(alloc, "devstoreaccount1")?,
-        container: text(alloc, "pics")?,
-    })
+    }
 }
 
 fn args(alloc: Global, op: Op, kinds: Option<BlockKinds>) -> Args {
@@ -77,76 +55,72 @@ fn args(alloc: Global, op: Op, kinds: Option<BlockKinds>) -> Args {
     args
 }
 
-fn dated_ask(
+// The verdict on a request for the blob `a.txt`, dated by this header.
+fn judged(
+    rt: &impl Abort,
     alloc: Global,
     op: Op,
     kinds: Option<BlockKinds>,
     credential: Credential,
-    dates: &[(&'static str, &'static str)],
-) -> Result<Ask, Fail> {
-    let key = key(alloc)?;
-    let blob = Some(text(alloc, "a.txt")?);
-    let signing = signing(alloc, dates)?;
-    let args = args(alloc, op, kinds);
-    Ok(Ask {
-        op,
-        key,
-        blob,
-        args,
-        signing,
-        credential,
-    })
-}
-
-/// A request on the blob `a.txt` without a date.
-pub(crate) fn ask_of(
-    alloc: Global,
-    op: Op,
-    kinds: Option<BlockKinds>,
-    credential: Credential,
-) -> Result<Ask, Fail> {
-    dated_ask(alloc, op, kinds, credential, &[])
-}
-
-/// The verdict on what is asked, at the moment of that many steps.
-pub(crate) fn judged(
-    alloc: Global,
+    (name, value): (&str, &str),
     keys: Option<&Keys>,
-    ask: Ask,
     ticks: i64,
-) -> Result<Verdict, Fail> {
-    let request = Request::new(alloc, ask, Body::empty())?.ok_or("a part that doesn't fit")?;
-    let now = Moment::new(ticks).ok_or("no moment")?;
-    Ok(verdict(alloc, keys, &request, now)?)
-}
-
-fn shared(alloc: Global, values: &[&'static str]) -> Result<Credential, Fail> {
-    let mut sent = Vec::new(alloc);
-    for value in values {
-        sent.push(bytes(alloc, *value)?)?;
-    }
-    Ok(Credential::Shared(Items::new(sent)))
-}
-
-fn keys_of(alloc: Global, account: &str) -> Result<Keys, Fail> {
-    Ok(Keys {
-        account: text(alloc, account)?,
-        first: bytes(alloc, "key1")?,
-        second: bytes(alloc, "key2")?,
-        epoch: 0,
-    })
-}
-
-fn ask_for(alloc: Global, case: &Case) -> Result<Ask, Fail> {
-    let credential = shared(alloc, case.values)?;
-    dated_ask(alloc, Op::PutBlob, None, credential, case.dates)
-}
-
-/// The verdict on a case.
-pub(crate) fn key_verdict(alloc: Global, case: &Case) -> Result<Verdict, Fail> {
-    let Some(account) = case.keys else {
-        return judged(alloc, None, ask_for(alloc, case)?, case.moment);
+) -> Verdict {
+    let ask = Ask {
+        op,
+        key: Key {
+            account: text(rt, alloc, "devstoreaccount1"),
+            container: text(rt, alloc, "pics"),
+        },
+        blob: Some(text(rt, alloc, "a.txt")),
+        args: args(alloc, op, kinds),
+        signing: signing(rt, alloc, name, value),
+        credential,
     };
-    let keys = keys_of(alloc, account)?;
-    judged(alloc, Some(&keys), ask_for(alloc, case)?, case.moment)
+    let request = Request::new(alloc, ask, Body::empty()).expect(rt, "memory");
+    let request = request.expect(rt, "parts that fit");
+    let now = Moment::new(ticks).expect(rt, "a moment");
+    verdict(alloc, keys, &request, now).expect(rt, "memory")
+}
+
+/// The verdict on a Put Blob with this Authorization, where the stamp has the keys of the account.
+pub(crate) fn key_verdict(
+    rt: &impl Abort,
+    alloc: Global,
+    authorization: &str,
+    date: (&str, &str),
+    account: &str,
+    ticks: i64,
+) -> Verdict {
+    let mut sent = Vec::new(alloc);
+    sent.push(bytes(rt, alloc, authorization))
+        .expect(rt, "memory");
+    let keys = Keys {
+        account: text(rt, alloc, account),
+        first: bytes(rt, alloc, "key1"),
+        second: bytes(rt, alloc, "key2"),
+        epoch: 0,
+    };
+    let credential = Credential::Shared(Items::new(sent));
+    judged(
+        rt,
+        alloc,
+        Op::PutBlob,
+        None,
+        credential,
+        date,
+        Some(&keys),
+        ticks,
+    )
+}
+
+/// The verdict on a request without an Authorization.
+pub(crate) fn other_verdict(
+    rt: &impl Abort,
+    alloc: Global,
+    op: Op,
+    kinds: Option<BlockKinds>,
+    credential: Credential,
+) -> Verdict {
+    judged(rt, alloc, op, kinds, credential, ("x-ms-date", ""), None, 0)
 }

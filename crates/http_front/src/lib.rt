@@ -3,15 +3,11 @@
 
 mod buffer;
 mod connection;
-#[cfg(test)]
-mod connection_tests;
 mod end;
 mod head_end;
 mod input;
 mod output;
 mod plain;
-#[cfg(test)]
-mod plain_tests;
 mod service;
 mod stream_laws;
 

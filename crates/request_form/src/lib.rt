@@ -10,20 +10,12 @@ mod head_form;
 mod head_laws;
 mod head_parts;
 mod head_rules;
-#[cfg(test)]
-mod head_rules_tests;
-#[cfg(test)]
-mod head_tests;
 mod header_rules;
 mod names;
 mod parsed_head;
 mod path_kind;
 mod query_rules;
-#[cfg(test)]
-mod request_forms_tests;
 mod target;
-#[cfg(test)]
-mod target_tests;
 
 pub use denial::{Denial, HeadFault};
 pub use head::{Head, no_head, read_head};

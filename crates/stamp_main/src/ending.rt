@@ -36,35 +36,3 @@ pub fn status_of<T>(run: &Result<T, FrontFault>) -> Ending
         Err(FrontFault::NoMemory) => Ending::NoMemory,
     }
 }
-
-#[cfg(test)]
-mod tests {
-    use super::*;
-
-    #[test]
-    fn each_run_has_its_ending(rt: HostRuntime) {
-        let table = [
-            (Ok(7), Ending::Done),
-            (Err(FrontFault::Read), Ending::Fault),
-            (Err(FrontFault::Write), Ending::Fault),
-            (Err(FrontFault::Turns), Ending::Fault),
-            (Err(FrontFault::NoMemory), Ending::NoMemory),
-        ];
-        for (run, ending) in table {
-            assert_eq!(rt; status_of(&run), ending, "{run:?}");
-        }
-    }
-
-    #[test]
-    fn each_ending_has_its_status(rt: HostRuntime) {
-        let table = [
-            (Ending::Done, 0),
-            (Ending::Usage, 2),
-            (Ending::Fault, 3),
-            (Ending::NoMemory, 4),
-        ];
-        for (ending, status) in table {
-            assert_eq!(rt; ending.status(), status, "{ending:?}");
-        }
-    }
-}

@@ -18,6 +18,8 @@ use std::{env, io};
 
 mod command;
 mod ending;
+#[cfg(test)]
+mod pieces;
 mod replay;
 mod replay_laws;
 #[cfg(test)]
@@ -141,25 +143,61 @@ mod tests {
             .try_collect(alloc)
     }
 
+    // What is written for these words, where the input has no bytes, and how the program ends.
     #[test]
-    fn sign_and_replay_are_carried_out(rt: HostRuntime) -> Result<(), Fail> {
-        let table = [
-            ("sign SmVmZQ==", Ending::Done),
+    fn the_words_are_read_first(rt: HostRuntime) -> Result<(), Fail> {
+        let table: [(&str, Ending, &[u8]); 12] = [
             (
-                "replay 2012-10-01T12:00:00Z devstoreaccount1 a2V5MQ== a2V5Mg==",
+                "sign SmVmZQ==",
                 Ending::Done,
+                b"kjWYym1krypdunnc0CGooP5cX1V1Ga2q8K1TLUUG3TA=\n",
             ),
             (
-                "serve 127.0.0.1:10000 4 devstoreaccount1 a2V5MQ== a2V5Mg==",
-                Ending::Usage,
+                "replay 2012-10-01T12:00:00Z account1 a2V5MQ== a2V5Mg==",
+                Ending::Done,
+                b"",
             ),
-            ("help", Ending::Usage),
+            ("replay 2012-10-01 account1  ", Ending::Done, b""),
+            (
+                "serve 127.0.0.1:10000 4 account1 a2V5MQ== a2V5Mg==",
+                Ending::Usage,
+                b"",
+            ),
+            ("", Ending::Usage, b""),
+            ("Sign SmVmZQ==", Ending::Usage, b""),
+            ("sign SmVmZQ", Ending::Usage, b""),
+            (
+                "replay 2012-10-32T12:00:00Z account1 a2V5MQ== a2V5Mg==",
+                Ending::Usage,
+                b"",
+            ),
+            (
+                "replay 12:00 account1 a2V5MQ== a2V5Mg==",
+                Ending::Usage,
+                b"",
+            ),
+            (
+                "replay 2012-10-01T12:00:00Z Account a2V5MQ== a2V5Mg==",
+                Ending::Usage,
+                b"",
+            ),
+            (
+                "replay 2012-10-01T12:00:00Z account1 a2V5MQ a2V5Mg==",
+                Ending::Usage,
+                b"",
+            ),
+            (
+                "replay 2012-10-01T12:00:00Z account1 a2V5MQ== a2V5Mg=!",
+                Ending::Usage,
+                b"",
+            ),
         ];
-        for (line, ending) in table {
+        for (line, ending, output) in table {
             let words = words_in(rt.alloc(), line)?;
             let mut out = Vec::new(rt.alloc());
             let ended = run(rt.alloc(), &words, &mut b"".as_slice(), &mut out);
             assert!(rt; ended == ending, "{line}");
+            assert!(rt; out.as_slice() == output, "{line}");
         }
         Ok(())
     }

@@ -27,7 +27,7 @@ access_by_act n (act.ContainerRow a) o h = cc
 access_by_act n (act.SetContainerMetadata a) o h = same_access n a o
 access_by_act n other o h = refl
 
-module _ (f : List Piece → List ℕ) (p : Part (List ℕ)) where
+module _ {C : Type 0} (f : List Piece → C) (p : Part C) where
   -- each change but a row of a checkpoint raises the count by one
   pub count-changed : (a : Act) → is_row a ≡ false → (changed f a p).count ≡ p.count + 1
   count-changed a h = count_by_act a p.count h

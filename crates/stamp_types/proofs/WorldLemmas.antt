@@ -28,7 +28,7 @@ map-chain : {X Y Z : Type 0} (g : Y → Z) (f : X → Y) (xs : List X) → map g
 map-chain g f [] = refl
 map-chain g f (x ∷ xs) = ap (λ ys. g (f x) ∷ ys) (map-chain g f xs)
 
-map-append : {X Y : Type 0} (f : X → Y) (xs ys : List X) → map f (xs ++ ys) ≡ map f xs ++ map f ys
+pub map-append : {X Y : Type 0} (f : X → Y) (xs ys : List X) → map f (xs ++ ys) ≡ map f xs ++ map f ys
 map-append f [] ys = refl
 map-append f (x ∷ xs) ys = ap (λ zs. f x ∷ zs) (map-append f xs ys)
 
@@ -142,7 +142,7 @@ module _ {D : Type 0} (f : List Piece → D) where
       (changed-part_value c.act (part_at w c.key) ∙ ap (changed f c.act) (sym (part_at-world_value f w c.key)))
 
 -- what a change does to the container that it names, and to the others
-tied : (o : Ordering) → is_eq o ≡ true → o ≡ Equal
+pub tied : (o : Ordering) → is_eq o ≡ true → o ≡ Equal
 tied Less h = cc
 tied Equal h = refl
 tied Greater h = cc

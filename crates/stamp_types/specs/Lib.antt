@@ -1,6 +1,7 @@
 pub mod ActKinds
 pub mod Changes
 pub mod Codes
+pub mod EffectKinds
 pub mod Pieces
 pub mod PropsFields
 pub mod Replies
@@ -9,6 +10,7 @@ pub mod Rules
 pub mod SameParts
 pub mod SameRequests
 pub mod Statuses
+pub mod WorkedChanges
 pub mod World
 pub mod WorldCodes
 pub use Rattle.stamp_values.specs.Entries

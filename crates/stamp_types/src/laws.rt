@@ -1,5 +1,5 @@
 //! Laws of the world and of changes. Each is the contract of a function that does nothing.
-ghost use Rattle.std.specs.Prelude.{◌≡◌, ◌≢◌, ℕ, ◌+◌, List, Some, None, false, option_map};
+ghost use Rattle.std.specs.Prelude.{◌≡◌, ◌≢◌, ℕ, ◌+◌, List, [], Some, None, false, option_map};
 ghost use Rattle.std.specs.FinMap as finite;
 ghost use Rattle.stamp_types.specs.World.{Part, World, part_at, part_value, world_value, changed, changed_in, same_pieces};
 ghost use Rattle.stamp_types.specs.ActKinds.{is_row, sets_access, who_may};
@@ -7,6 +7,7 @@ ghost use Rattle.stamp_types.specs.Changes.{KeyedAct};
 ghost use Rattle.stamp_values.specs.declared.key.Key.{Key};
 ghost use Rattle.stamp_types.specs.declared.act.Act.{Act};
 ghost use Rattle.stamp_types.specs.declared.act.Act.TheVariants as act;
+ghost use Rattle.stamp_types.specs.declared.act.CreateContainer.{CreateContainer};
 ghost use Rattle.stamp_types.specs.declared.act.SetAcl.{SetAcl};
 ghost use Rattle.stamp_types.specs.declared.piece.Piece.{Piece};
 ghost use Rattle.stamp_types.specs.declared.standing.Standing.{Standing};
@@ -18,20 +19,21 @@ pub fn content_is_read_before_or_after_a_change()
 {}
 
 /// A change reaches its own container, and no other.
-pub fn a_change_reaches_its_own_container_alone()
-    ensures own { (f : List Piece → List ℕ) (w : World (List ℕ)) (c : KeyedAct) → part_at (changed_in f w c) c.key ≡ changed f c.act (part_at w c.key) }
-    ensures others { (f : List Piece → List ℕ) (w : World (List ℕ)) (c : KeyedAct) (k : Key) → k ≢ c.key → part_at (changed_in f w c) k ≡ part_at w k }
+pub fn a_change_reaches_its_own_container_alone<C>()
+    ensures own { (f : List Piece → C) (w : World C) (c : KeyedAct) → part_at (changed_in f w c) c.key ≡ changed f c.act (part_at w c.key) }
+    ensures others { (f : List Piece → C) (w : World C) (c : KeyedAct) (k : Key) → k ≢ c.key → part_at (changed_in f w c) k ≡ part_at w k }
 {}
 
 /// Each change raises the count of its container by one, but for rows of a checkpoint.
-pub fn each_change_is_counted()
-    ensures { (f : List Piece → List ℕ) (a : Act) (p : Part (List ℕ)) → is_row a ≡ false → (changed f a p).count ≡ p.count + 1 }
+pub fn each_change_is_counted<C>()
+    ensures { (f : List Piece → C) (a : Act) (p : Part C) → is_row a ≡ false → (changed f a p).count ≡ p.count + 1 }
 {}
 
-/// Level and policies are altered by the changes that set them, and by no other: a container has those that were set last, and
-/// nothing stands of one that was deleted.
-pub fn access_is_what_was_set_last()
-    ensures stays { (f : List Piece → List ℕ) (a : Act) (p : Part (List ℕ)) → sets_access a ≡ false → option_map who_may (changed f a p).standing ≡ option_map who_may p.standing }
-    ensures set { (f : List Piece → List ℕ) (a : SetAcl) (p : Part (List ℕ)) (s : Standing) → p.standing ≡ Some s → option_map who_may (changed f (act.SetAcl a) p).standing ≡ Some (a.level, a.policies) }
-    ensures deleted { (f : List Piece → List ℕ) (p : Part (List ℕ)) → ((changed f act.DeleteContainer p).standing ≡ None) × ((changed f act.DeleteContainer p).blobs ≡ finite.empty) }
+/// Level and policies are altered by the changes that set them, and by no other. A new container has the level that was asked for and
+/// no policies, a container has what was set last, and nothing is left of one that was deleted.
+pub fn access_is_what_was_set_last<C>()
+    ensures stays { (f : List Piece → C) (a : Act) (p : Part C) → sets_access a ≡ false → option_map who_may (changed f a p).standing ≡ option_map who_may p.standing }
+    ensures created { (f : List Piece → C) (a : CreateContainer) (p : Part C) → option_map who_may (changed f (act.CreateContainer a) p).standing ≡ Some (a.level, []) }
+    ensures set { (f : List Piece → C) (a : SetAcl) (p : Part C) (s : Standing) → p.standing ≡ Some s → option_map who_may (changed f (act.SetAcl a) p).standing ≡ Some (a.level, a.policies) }
+    ensures deleted { (f : List Piece → C) (p : Part C) → ((changed f act.DeleteContainer p).standing ≡ None) × ((changed f act.DeleteContainer p).blobs ≡ finite.empty) }
 {}

@@ -10,6 +10,7 @@ mod change_fits;
 mod code;
 mod committed;
 mod cut;
+mod effect_laws;
 mod error_body;
 mod fits;
 mod header;
@@ -25,23 +26,43 @@ mod same_ask;
 mod sent_range;
 mod standing;
 mod status;
+mod worked_changes;
 
-pub use act::{
-    Act, BlobRow, ContainerRow, CreateContainer, DeleteBlob, PutBlob, PutBlock, PutBlockList,
-    SetAcl, SetContainerMetadata, SetMetadata,
-};
-pub use args::{Args, Kept, Page};
+pub use act::Act;
+pub use act::BlobRow;
+pub use act::ContainerRow;
+pub use act::CreateContainer;
+pub use act::DeleteBlob;
+pub use act::PutBlob;
+pub use act::PutBlock;
+pub use act::PutBlockList;
+pub use act::SetAcl;
+pub use act::SetContainerMetadata;
+pub use act::SetMetadata;
+pub use args::Args;
+pub use args::Kept;
+pub use args::Page;
 pub use ask::Ask;
 pub use change::Change;
 pub use code::Code;
-pub use committed::{Block, Committed, UncommittedBlock};
+pub use committed::Block;
+pub use committed::Committed;
+pub use committed::UncommittedBlock;
 pub use cut::cut_pieces_hold_the_bytes;
+pub use effect_laws::a_blob_change_reaches_its_own_blob_alone;
+pub use effect_laws::a_change_is_counted_and_dated;
+pub use effect_laws::a_commit_takes_blocks_that_were_there;
+pub use effect_laws::a_deleted_blob_is_as_one_that_never_was;
+pub use effect_laws::a_stored_blob_is_what_its_row_says;
+pub use effect_laws::an_uncommitted_block_is_not_seen;
+pub use effect_laws::set_metadata_changes_metadata_alone;
+pub use effect_laws::what_is_replaced_leaves_no_trace;
 pub use error_body::write_error;
 pub use header::Header;
-pub use laws::{
-    a_change_reaches_its_own_container_alone, access_is_what_was_set_last,
-    content_is_read_before_or_after_a_change, each_change_is_counted,
-};
+pub use laws::a_change_reaches_its_own_container_alone;
+pub use laws::access_is_what_was_set_last;
+pub use laws::content_is_read_before_or_after_a_change;
+pub use laws::each_change_is_counted;
 pub use past::Past;
 pub use piece::Piece;
 pub use pieces::Pieces;
@@ -50,14 +71,61 @@ pub use reply::Reply;
 pub use request::Request;
 pub use rule::Rule;
 pub use sent_range::SentRange;
-pub use stamp_values::{
-    ARGS_LIMIT, BLOB_LIMIT, BlockId, BlockKinds, Body, ByteRange, Bytes, Condition, Credential,
-    ENTRIES_LIMIT, Field, Gathering, Items, KEPT_LIMIT, Key, Letters, Level, Lookup,
-    METADATA_LIMIT, Meta, Metadata, Moment, OTHER_BODY_LIMIT, Op, PAGE_LIMIT, PIECE_LIMIT,
-    PIECES_LIMIT, POLICIES_LIMIT, PUT_BLOB_LIMIT, PUT_BLOCK_LIMIT, PUT_BLOCK_LIST_LIMIT, Place,
-    Policies, Policy, SET_ACL_LIMIT, Share, Shares, Signing, Source, Taken, Text,
-    UNCOMMITTED_LIMIT, Verb, Visible, Wanted, char_count, is_account, is_blob, is_clean,
-    is_container, is_metadata_name, is_policy_id, is_visible, read_etag, write_etag,
-};
+pub use stamp_values::ARGS_LIMIT;
+pub use stamp_values::BLOB_LIMIT;
+pub use stamp_values::BlockId;
+pub use stamp_values::BlockKinds;
+pub use stamp_values::Body;
+pub use stamp_values::ByteRange;
+pub use stamp_values::Bytes;
+pub use stamp_values::Condition;
+pub use stamp_values::Credential;
+pub use stamp_values::ENTRIES_LIMIT;
+pub use stamp_values::Field;
+pub use stamp_values::Gathering;
+pub use stamp_values::Items;
+pub use stamp_values::KEPT_LIMIT;
+pub use stamp_values::Key;
+pub use stamp_values::Letters;
+pub use stamp_values::Level;
+pub use stamp_values::Lookup;
+pub use stamp_values::METADATA_LIMIT;
+pub use stamp_values::Meta;
+pub use stamp_values::Metadata;
+pub use stamp_values::Moment;
+pub use stamp_values::OTHER_BODY_LIMIT;
+pub use stamp_values::Op;
+pub use stamp_values::PAGE_LIMIT;
+pub use stamp_values::PIECE_LIMIT;
+pub use stamp_values::PIECES_LIMIT;
+pub use stamp_values::POLICIES_LIMIT;
+pub use stamp_values::PUT_BLOB_LIMIT;
+pub use stamp_values::PUT_BLOCK_LIMIT;
+pub use stamp_values::PUT_BLOCK_LIST_LIMIT;
+pub use stamp_values::Place;
+pub use stamp_values::Policies;
+pub use stamp_values::Policy;
+pub use stamp_values::SET_ACL_LIMIT;
+pub use stamp_values::Share;
+pub use stamp_values::Shares;
+pub use stamp_values::Signing;
+pub use stamp_values::Source;
+pub use stamp_values::Taken;
+pub use stamp_values::Text;
+pub use stamp_values::UNCOMMITTED_LIMIT;
+pub use stamp_values::Verb;
+pub use stamp_values::Visible;
+pub use stamp_values::Wanted;
+pub use stamp_values::char_count;
+pub use stamp_values::is_account;
+pub use stamp_values::is_blob;
+pub use stamp_values::is_clean;
+pub use stamp_values::is_container;
+pub use stamp_values::is_metadata_name;
+pub use stamp_values::is_policy_id;
+pub use stamp_values::is_visible;
+pub use stamp_values::read_etag;
+pub use stamp_values::write_etag;
 pub use standing::Standing;
 pub use status::Status;
+pub use worked_changes::worked_changes_end_as_written;

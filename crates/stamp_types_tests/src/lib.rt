@@ -1,4 +1,4 @@
-//! Tests of the value types at their limits, and the requests that they are made of.
+//! Tests of the value types.
 #![tactic(auto)]
 
 #[cfg(test)]
@@ -10,7 +10,11 @@ mod request_tests;
 #[cfg(test)]
 mod resident;
 #[cfg(test)]
-mod sample_asks;
+mod sample_changes;
 mod sample_parts;
 #[cfg(test)]
 mod sample_values;
+#[cfg(test)]
+mod share_tests;
+#[cfg(test)]
+mod value_tests;

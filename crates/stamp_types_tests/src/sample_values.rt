@@ -1,5 +1,10 @@
-//! Small values for tests. A test ends where memory is wanting, so none of these gives an error.
-use stamp_types::{BlockId, Bytes, Items, Key, Meta, Metadata, Moment, Share, Text, Visible};
+//! Small values for tests. A test ends if it is out of memory, so none of these returns an error.
+ghost use Rattle.std.specs.Prelude.{◌≡◌};
+
+use stamp_types::{
+    BlockId, Bytes, Items, Key, Meta, Metadata, Moment, Policies, Policy, Share, Shares, Text,
+    Visible,
+};
 use std::alloc::Global;
 use std::process::Abort;
 
@@ -8,32 +13,28 @@ pub(crate) fn text(rt: &impl Abort, alloc: Global, text: &str) -> Text {
     Text::new(text).expect(rt, "a clean text")
 }
 
-// A text of so many letters.
-pub(crate) fn long(rt: &impl Abort, alloc: Global, letter: &str, count: usize) -> Text {
-    let text = letter.repeat(alloc, count).expect(rt, "memory");
-    Text::new(text).expect(rt, "a clean text")
-}
-
 pub(crate) fn visible(rt: &impl Abort, alloc: Global, value: &str) -> Visible {
     Visible::new(text(rt, alloc, value)).expect(rt, "a visible text")
 }
 
-pub(crate) fn long_visible(rt: &impl Abort, alloc: Global, count: usize) -> Visible {
-    Visible::new(long(rt, alloc, "v", count)).expect(rt, "a visible text")
+// Metadata of one name and its value.
+pub(crate) fn metadata(rt: &impl Abort, alloc: Global) -> Metadata {
+    let name = text(rt, alloc, "colour");
+    let value = visible(rt, alloc, "red");
+    let metas = vec![in alloc; Meta { name, value }].expect(rt, "memory");
+    Metadata::new(Items::new(metas)).expect(rt, "good metadata")
 }
 
-pub(crate) fn meta(rt: &impl Abort, alloc: Global, name: &str, value: Visible) -> Meta {
-    Meta {
-        name: text(rt, alloc, name),
-        value,
-    }
-}
-
-// Metadata of the name `a` and a value of so many letters.
-pub(crate) fn metadata(rt: &impl Abort, alloc: Global, count: usize) -> Metadata {
-    let meta = meta(rt, alloc, "a", long_visible(rt, alloc, count));
-    let metas = vec![in alloc; meta].expect(rt, "memory");
-    Metadata::new(Items::new(metas)).expect(rt, "short metadata")
+// One stored policy, which gives an expiry alone.
+pub(crate) fn policies(rt: &impl Abort, alloc: Global) -> Policies {
+    let policy = Policy {
+        id: text(rt, alloc, "read-only"),
+        start: None,
+        expiry: Some(moment(rt)),
+        letters: None,
+    };
+    let policies = vec![in alloc; policy].expect(rt, "memory");
+    Policies::new(Items::new(policies)).expect(rt, "good policies")
 }
 
 pub(crate) fn key(rt: &impl Abort, alloc: Global, account: &str, container: &str) -> Key {
@@ -43,8 +44,9 @@ pub(crate) fn key(rt: &impl Abort, alloc: Global, account: &str, container: &str
     }
 }
 
-pub(crate) fn moment(rt: &impl Abort, alloc: Global) -> Moment {
-    Moment::new(13_000_000_000_000_000).expect(rt, "a moment")
+// `date -u -d 2012-10-01T12:00 +%s`, times 10,000,000.
+pub(crate) fn moment(rt: &impl Abort) -> Moment {
+    Moment::new(13_490_928_000_000_000).expect(rt, "a moment")
 }
 
 pub(crate) fn block_id(rt: &impl Abort, alloc: Global, bytes: &[u8]) -> BlockId {
@@ -52,7 +54,9 @@ pub(crate) fn block_id(rt: &impl Abort, alloc: Global, bytes: &[u8]) -> BlockId 
     BlockId::new(Bytes::new(bytes)).expect(rt, "an id")
 }
 
-pub(crate) fn share(rt: &impl Abort, alloc: Global, bytes: &[u8]) -> Share {
+pub(crate) fn share(rt: &impl Abort, alloc: Global, bytes: &[u8]) -> Share
+    ensures { result ≡ bytes.now }
+{
     let bytes = bytes.to_vec(alloc).expect(rt, "memory");
     Share::new(alloc, bytes).expect(rt, "memory")
 }
@@ -61,4 +65,15 @@ pub(crate) fn share(rt: &impl Abort, alloc: Global, bytes: &[u8]) -> Share {
 pub(crate) fn long_share(rt: &impl Abort, alloc: Global, count: usize) -> Share {
     let bytes = vec![in alloc; 7; count].expect(rt, "memory");
     Share::new(alloc, bytes).expect(rt, "memory")
+}
+
+// The pieces as shares of one list.
+pub(crate) fn shares(rt: &impl Abort, alloc: Global, pieces: &[&[u8]]) -> Shares {
+    let mut shares = Shares::empty(alloc);
+    for piece in pieces {
+        let share = share(rt, alloc, piece);
+        assert!(rt; shares.len() < 100 && share.len() < 100);
+        shares.push(share).expect(rt, "memory");
+    }
+    shares
 }

@@ -17,23 +17,15 @@ mod limits;
 mod meta;
 mod metadata;
 mod moment;
-#[cfg(test)]
-mod name_tests;
 mod names;
 mod op;
-#[cfg(test)]
-mod op_tests;
 mod place;
 mod policies;
 mod policy;
 mod share;
-#[cfg(test)]
-mod share_tests;
 mod shares;
 mod signing;
 mod text;
-#[cfg(test)]
-mod value_tests;
 mod verb;
 mod visible;
 

@@ -1,0 +1,128 @@
+"""The crates of this repository: what they stand on, digests of their files, and copies of the tree that `rt ci` proves."""
+import hashlib
+import os
+import re
+import shutil
+import signal
+import subprocess
+import tempfile
+from contextlib import contextmanager
+from pathlib import Path
+
+ROOT = Path(__file__).resolve().parent.parent
+PROGRAM = "stamp_main"
+# What a proof reads of a crate.
+SOURCES = ("src", "specs", "proofs")
+
+
+def lines_of_crates(root=ROOT):
+    """For each crate of a tree its line of crates.txt, in the order of that file."""
+    text = (root / "crates.txt").read_text(encoding="utf-8")
+    lines = [line.partition("#")[0].strip() for line in text.splitlines()]
+    return {line.partition(":")[0].split()[0]: line for line in lines if line}
+
+
+def with_crates_below(names):
+    """These crates and all crates of the repository that they stand on, in the order of crates.txt."""
+    lines, wanted, left = lines_of_crates(), set(), [*names]
+    while left:
+        name = left.pop()
+        if name in lines and name not in wanted:
+            wanted.add(name)
+            left += lines[name].partition(":")[2].split()
+    return [name for name in lines if name in wanted]
+
+
+def digest_of(names, parts, first="", root=ROOT):
+    """The digest of the lines of these crates in crates.txt, and of the names and contents of all files in these parts of them."""
+    whole, lines = hashlib.sha256(first.encode()), lines_of_crates(root)
+    for name in names:
+        whole.update(f"{lines[name]}\n".encode())
+        for file in sorted(it for part in parts for it in (root / "crates" / name / part).rglob("*") if it.is_file()):
+            whole.update(f"{file.relative_to(root)}\n{hashlib.sha256(file.read_bytes()).hexdigest()}\n".encode())
+    return whole.hexdigest()
+
+
+def digest_of_program(root=ROOT):
+    """The digest of all that the program is built from in a tree, the toolchain apart."""
+    return digest_of(with_crates_below([PROGRAM]), SOURCES, (root / "HANDLES").read_text(encoding="utf-8"), root)
+
+
+def edits_of(name, root=ROOT):
+    """The must-fail edits of a crate of a tree."""
+    return sorted((root / "crates" / name / "must-fail").glob("*.edit"))
+
+
+def end_on_signal(number, _frame):
+    raise SystemExit(128 + number)
+
+
+@contextmanager
+def copy_of_tree(crates, with_edits):
+    """A copy of the tree, outside of it, that has these crates alone, and the must-fail edits of some of them alone.
+
+    It is removed at the end, whatever ends this run, so that the tree stays as it is."""
+    for number in (signal.SIGTERM, signal.SIGHUP):
+        signal.signal(number, end_on_signal)
+
+    def left_out(folder, names):
+        at = Path(folder)
+        if at == ROOT:
+            return {".git"} & {*names}
+        if at == ROOT / "crates":
+            return {*names} - {*crates}
+        is_tried = at.name in with_edits
+        return ({"out"} if is_tried else {"out", "must-fail"}) & {*names} if at.parent == ROOT / "crates" else set()
+
+    with tempfile.TemporaryDirectory(prefix="stamp-prove-", ignore_cleanup_errors=True) as room:
+        copy = Path(room) / "stamp"
+        shutil.copytree(ROOT, copy, ignore=left_out, symlinks=True)
+        lines = lines_of_crates()
+        (copy / "crates.txt").write_text("".join(f"{lines[name]}\n" for name in crates), encoding="utf-8")
+        yield copy
+
+
+def prove(copy, hear):
+    """Proves, tests and runs what a copy of the tree has, by `rt ci`, and hands on each line that it prints but the last one.
+
+    Returns the numbers of the last line, passed and failed; at least one failed if the exit status is not 0."""
+    how = {"stdin": subprocess.DEVNULL, "stdout": subprocess.PIPE, "stderr": subprocess.STDOUT, "text": True, "errors": "replace"}
+    process, counts = subprocess.Popen(["rt", "ci"], cwd=copy, **how), None
+    try:
+        for line in process.stdout:
+            counts = re.fullmatch(r"(\d+) passed, (\d+) failed\n", line)
+            if not counts:
+                hear(line)
+        status = process.wait()
+    finally:
+        if process.poll() is None:
+            process.terminate()
+            process.wait()
+    passed, failed = map(int, counts.groups()) if counts else (0, 1)
+    return passed, max(failed, int(status != 0))
+
+
+def program_of(copy):
+    """The program as a copy of the tree has it after a proof."""
+    return copy / "crates" / PROGRAM / "out" / PROGRAM
+
+
+def version_of_toolchain():
+    return subprocess.run(["rt", "version"], stdout=subprocess.PIPE, text=True, check=True).stdout.strip()
+
+
+def kept_program(digest):
+    """Where a program that was built here from the sources of this digest is kept."""
+    return ROOT / "crates" / PROGRAM / "out" / "by_sources" / digest / PROGRAM
+
+
+def keep_program(copy):
+    """Keeps the program that was built in a copy of the tree under the digest of the copy, and drops older ones. Returns where it is."""
+    kept = kept_program(digest_of_program(copy))
+    shutil.rmtree(kept.parent.parent, ignore_errors=True)
+    new = kept.parent.with_suffix(".new")
+    new.mkdir(parents=True)
+    shutil.copy(program_of(copy), new / PROGRAM)
+    # Moved into its place whole, so that no other call finds a part of it.
+    os.rename(new, kept.parent)
+    return kept

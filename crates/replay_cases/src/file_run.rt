@@ -1,0 +1,97 @@
+//! Runs the cases of one file.
+
+use crate::case::Case;
+use crate::cases_file::CasesFile;
+use crate::line_fault::LineFault;
+use crate::report::write_difference;
+use crate::running::find_difference;
+use crate::tally::Tally;
+use http_front::PlainFault;
+use std::alloc::Global;
+use std::io::Write;
+use thiserror::Error;
+
+/// Why the cases of a file were not run to its end.
+#[derive(Clone, Copy, Debug, PartialEq, Eq, Error)]
+pub enum Why {
+    /// The line is refused.
+    #[error("{0}")]
+    Line(LineFault),
+    /// The service could not be made.
+    #[error("{0}")]
+    Service(PlainFault),
+    /// The line for a case that differs could not be written.
+    #[error("a write failed")]
+    Write,
+    /// There are more cases than can be counted.
+    #[error("too many cases")]
+    TooMany,
+}
+
+/// The number of the line at which it came to that.
+#[derive(Clone, Copy, Debug, PartialEq, Eq, Error)]
+#[error("{line}: {why}")]
+pub struct Fault {
+    pub line: usize,
+    pub why: Why,
+}
+
+// Runs a case, writes a line if it differs, and says whether it holds.
+fn run_case<W: Write>(alloc: Global, writer: &mut W, file: &str, case: &Case) -> Result<bool, Why> {
+    let moment = case.made_at().ok_or(Why::Line(LineFault::NoMoment))?;
+    match find_difference(alloc, case, moment).map_err(Why::Service)? {
+        Some(difference) => {
+            write_difference(writer, file, case, &difference).map_err(|_| Why::Write)?;
+            Ok(false)
+        }
+        None => Ok(true),
+    }
+}
+
+// Reads a line, and runs the case that it ends, if it ends one.
+fn run_line<W: Write>(
+    alloc: Global,
+    writer: &mut W,
+    file: &str,
+    cases: &mut CasesFile,
+    line: &str,
+    number: usize,
+    tally: Tally,
+) -> Result<Tally, Why> {
+    match cases.take_line(line, number).map_err(Why::Line)? {
+        Some(case) => {
+            let holds = run_case(alloc, writer, file, &case)?;
+            tally.with(holds).ok_or(Why::TooMany)
+        }
+        None => Ok(tally),
+    }
+}
+
+/// Runs the cases of the text of a file, writes a line for each that differs, and counts them.
+pub fn run_text<W: Write>(
+    alloc: Global,
+    writer: &mut W,
+    file: &str,
+    text: &str,
+    tally: Tally,
+) -> Result<Tally, Fault> {
+    let mut cases = CasesFile::new(alloc);
+    let mut number = 0usize;
+    let mut tally = tally;
+    for line in text.split('\n') {
+        number = number.saturating_add(1);
+        match run_line(alloc, writer, file, &mut cases, line, number, tally) {
+            Ok(counted) => tally = counted,
+            Err(why) => {
+                return Err(Fault { line: number, why });
+            }
+        }
+    }
+    match cases.open_line() {
+        Some(line) => Err(Fault {
+            line,
+            why: Why::Line(LineFault::NoEnd),
+        }),
+        None => Ok(tally),
+    }
+}

@@ -1,0 +1,124 @@
+//! The words of lines, and the values that their texts give.
+
+use crate::line_fault::LineFault;
+use hmac_sign::{SecretFault, read_key};
+use http_front::{End, FrontFault};
+use moment_text::read_iso;
+use stamp_types::{Bytes, Moment, Text, is_account};
+use std::alloc::Global;
+
+/// How a line gives bytes: as a text, by the name of a text, or as a count and the text that is repeated.
+#[derive(Clone, Copy, Debug, PartialEq, Eq)]
+pub enum Form {
+    Plain,
+    Named,
+    Repeated,
+}
+
+/// The word that a line begins with.
+#[derive(Clone, Copy, Debug, PartialEq, Eq)]
+pub enum Word {
+    Account,
+    Keys,
+    Made,
+    Text,
+    Is,
+    Case,
+    Moment,
+    Send(Form),
+    Want(Form),
+    Reads,
+    Piece,
+    End,
+}
+
+/// The word that is written so.
+pub fn read_word(word: &str) -> Option<Word> {
+    match word {
+        "account" => Some(Word::Account),
+        "keys" => Some(Word::Keys),
+        "made" => Some(Word::Made),
+        "text" => Some(Word::Text),
+        "is" => Some(Word::Is),
+        "case" => Some(Word::Case),
+        "moment" => Some(Word::Moment),
+        "send" => Some(Word::Send(Form::Plain)),
+        "send-text" => Some(Word::Send(Form::Named)),
+        "send-repeat" => Some(Word::Send(Form::Repeated)),
+        "want" => Some(Word::Want(Form::Plain)),
+        "want-text" => Some(Word::Want(Form::Named)),
+        "want-repeat" => Some(Word::Want(Form::Repeated)),
+        "reads" => Some(Word::Reads),
+        "piece" => Some(Word::Piece),
+        "end" => Some(Word::End),
+        _ => None,
+    }
+}
+
+/// The number that the text is in decimal.
+pub fn read_number(text: &str) -> Result<u64, LineFault> {
+    text.parse::<u64>().map_err(|_| LineFault::Number)
+}
+
+/// The same, as a count of bytes or of repetitions.
+pub fn read_count(text: &str) -> Result<usize, LineFault> {
+    text.parse::<usize>().map_err(|_| LineFault::Number)
+}
+
+/// The moment that the text is in one of the accepted shapes.
+pub fn read_moment(text: &str) -> Result<Moment, LineFault> {
+    read_iso(text.as_bytes()).map_err(|_| LineFault::Moment)
+}
+
+/// The account that has this name.
+pub fn read_account(alloc: Global, text: &str) -> Result<Text, LineFault> {
+    if !is_account(text.as_bytes()) {
+        return Err(LineFault::Account);
+    }
+    let name = String::from_str(alloc, text)?;
+    Text::new(name).ok_or(LineFault::Account)
+}
+
+// The key that is given in Base64, or as `-` if it has no bytes.
+fn read_secret(alloc: Global, text: &str) -> Result<Bytes, LineFault> {
+    if text.is_empty() {
+        return Err(LineFault::Keys);
+    }
+    let text = if text == "-" { "" } else { text };
+    match read_key(alloc, text.as_bytes()) {
+        Ok(key) => Ok(Bytes::new(key)),
+        Err(SecretFault::NotBase64) => Err(LineFault::Keys),
+        Err(SecretFault::NoMemory) => Err(LineFault::NoMemory),
+    }
+}
+
+/// The two keys of an account.
+pub fn read_keys(alloc: Global, text: &str) -> Result<(Bytes, Bytes), LineFault> {
+    let (first, second) = text.split_once(' ').ok_or(LineFault::Keys)?;
+    let first = read_secret(alloc, first)?;
+    let second = read_secret(alloc, second)?;
+    Ok((first, second))
+}
+
+/// How a connection ends that ends so.
+pub fn read_end(text: &str) -> Result<Result<End, FrontFault>, LineFault> {
+    match text {
+        "clean" => Ok(Ok(End::Clean)),
+        "closed" => Ok(Ok(End::Closed)),
+        "read" => Ok(Err(FrontFault::Read)),
+        "turns" => Ok(Err(FrontFault::Turns)),
+        _ => Err(LineFault::End),
+    }
+}
+
+fn is_name_byte(byte: u8) -> bool {
+    matches!(byte, b'a'..=b'z' | b'0'..=b'9' | b'_')
+}
+
+/// The name of a case or of a text.
+pub fn read_name(alloc: Global, text: &str) -> Result<String, LineFault> {
+    if text.is_empty() || !text.as_bytes().iter().all(|byte| is_name_byte(*byte)) {
+        return Err(LineFault::Name);
+    }
+    Ok(String::from_str(alloc, text)?)
+}

@@ -1,0 +1,139 @@
+//! Runs a case against the service over memory.
+ghost use Rattle.std.specs.Prelude.{◌≡◌, ◌↔◌, IsTrue};
+
+use crate::case::Case;
+use http_front::{Clock, End, FrontFault, Plain, PlainFault, run};
+use stamp_types::Moment;
+use std::alloc::Global;
+use std::io;
+use std::io::Read;
+
+/// How many bytes a read gives at most, for an input of any length.
+const LARGE_PIECE: usize = 8192;
+
+/// How many bytes a read gives at most when an input of at most `SMALL_INPUT` bytes is read again.
+const SMALL_PIECES: [usize; 2] = [7, 1];
+
+const SMALL_INPUT: usize = 65_536;
+
+/// Gives at most `most` bytes a read.
+#[derive(Drop)]
+struct Pieces<'a> {
+    rest: &'a [u8],
+    most: usize,
+}
+
+impl Read for Pieces<'_> {
+    fn read(&mut self, buf: &mut [u8]) -> io::Result<usize> {
+        let n = self.most.min(buf.len());
+        self.rest.read(&mut buf[..n])
+    }
+}
+
+/// Gives its moments in turn, and the last one from then on.
+#[derive(Drop)]
+struct Moments<'a> {
+    left: &'a [Moment],
+    last: Moment,
+}
+
+impl Clock for Moments<'_> {
+    ghost gives = { λ _ moment new. moment ≡ new.last };
+
+    fn now(&mut self) -> Moment {
+        if let Some((first, left)) = self.left.split_first() {
+            self.last = *first;
+            self.left = left;
+        }
+        self.last
+    }
+}
+
+/// What a run wrote, and how it ended.
+#[derive(Drop)]
+pub struct Outcome {
+    pub written: Vec<u8>,
+    pub ended: Result<End, FrontFault>,
+}
+
+/// How many bytes a read gave in a run that was not as its case wants it, and that run.
+#[derive(Drop)]
+pub struct Difference {
+    pub piece: usize,
+    pub outcome: Outcome,
+}
+
+// The service that a case runs against.
+fn make_service(alloc: Global, case: &Case, moment: Moment) -> Result<Plain, PlainFault> {
+    Plain::new(alloc, case.keys.clone()?, moment)
+}
+
+// Runs the case with reads of this many bytes.
+fn run_once(
+    alloc: Global,
+    case: &Case,
+    moment: Moment,
+    piece: usize,
+) -> Result<Outcome, PlainFault> {
+    let mut service = make_service(alloc, case, moment)?;
+    let mut written = Vec::with_capacity(alloc, case.wanted.len())?;
+    let mut reader = Pieces {
+        rest: &case.sent,
+        most: piece,
+    };
+    let mut clock = Moments {
+        left: &case.moments,
+        last: moment,
+    };
+    let ended = run(
+        alloc,
+        &mut reader,
+        &mut written,
+        &mut clock,
+        &mut service,
+        case.reads,
+    );
+    Ok(Outcome { written, ended })
+}
+
+/// Whether the run is as the case wants it.
+pub fn holds(case: &Case, outcome: &Outcome) -> bool
+    ensures { IsTrue result ↔
+        ((outcome.now.ended ≡ case.now.end) × (outcome.now.written.items ≡ case.now.wanted.items)) }
+{
+    outcome.ended == case.end && outcome.written == case.wanted
+}
+
+// The run with reads of this many bytes, if it is not as the case wants it.
+fn difference_in(
+    alloc: Global,
+    case: &Case,
+    moment: Moment,
+    piece: usize,
+) -> Result<Option<Difference>, PlainFault> {
+    let outcome = run_once(alloc, case, moment, piece)?;
+    if holds(case, &outcome) {
+        return Ok(None);
+    }
+    Ok(Some(Difference { piece, outcome }))
+}
+
+/// Runs the case in each way of reading, and gives the first run that is not as it wants it.
+pub fn find_difference(
+    alloc: Global,
+    case: &Case,
+    moment: Moment,
+) -> Result<Option<Difference>, PlainFault> {
+    let large = case.piece.unwrap_or(LARGE_PIECE);
+    let difference = difference_in(alloc, case, moment, large)?;
+    if difference.is_some() || case.piece.is_some() || case.sent.len() > SMALL_INPUT {
+        return Ok(difference);
+    }
+    for piece in SMALL_PIECES {
+        let difference = difference_in(alloc, case, moment, piece)?;
+        if difference.is_some() {
+            return Ok(difference);
+        }
+    }
+    Ok(None)
+}

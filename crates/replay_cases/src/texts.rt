@@ -1,0 +1,110 @@
+//! The texts of lines, and the bytes that they stand for.
+ghost use Rattle.std.specs.Prelude.{◌≡◌, ◌<◌, ◌++◌, ◌∷◌, Err, IfSome, IfNone, None, OnOk, IsSomeAnd, length};
+ghost use Rattle.std.specs.List.{repeat};
+ghost use Rattle.std.specs.Option.{option_map};
+ghost use Rattle.replay_cases.specs.Texts as texts;
+ghost use Rattle.replay_cases.specs.Texts.{bytes_from, bytes_of};
+ghost use Rattle.replay_cases.specs.Texts.Place.{Escape, Hex};
+ghost use Rattle.replay_cases.specs.declared.line_fault.LineFault.{LineFault};
+
+use crate::line_fault::LineFault;
+
+// The value of a hexadecimal digit, of which those above 9 are lower case.
+fn digit_value(digit: u8) -> Option<u8>
+    ensures value { result ≡ texts.digit_value digit }
+    ensures small { IfSome result (λ value. value < 16) }
+{
+    match digit {
+        b'0'..=b'9' => Some(digit - b'0'),
+        b'a'..=b'f' => Some(digit - b'a' + 10),
+        _ => None,
+    }
+}
+
+// The byte that two hexadecimal digits stand for, and what comes after them.
+fn hex_byte(text: &[u8]) -> Option<(u8, &[u8])>
+    ensures read { IfSome result (λ p. bytes_from Hex text.now ≡ option_map (λ bs. p.0 ∷ bs) (bytes_of p.1.now)) }
+    ensures shorter { IfSome result (λ p. length p.1.now < length text.now) }
+    ensures refused { IfNone result (bytes_from Hex text.now ≡ None) }
+{
+    let (high, rest) = text.split_first()?;
+    let high = digit_value(*high)?;
+    let (low, rest) = rest.split_first()?;
+    let low = digit_value(*low)?;
+    Some((high * 16 + low, rest))
+}
+
+// The byte that is written with this letter after a backslash.
+fn escaped_byte(letter: u8) -> Option<u8>
+    ensures { result ≡ texts.escaped_byte letter }
+{
+    match letter {
+        b'r' => Some(b'\r'),
+        b'n' => Some(b'\n'),
+        b't' => Some(b'\t'),
+        b'\\' => Some(b'\\'),
+        b's' => Some(b' '),
+        _ => None,
+    }
+}
+
+// The byte that is written after a backslash, and what comes after it.
+fn escape(text: &[u8]) -> Option<(u8, &[u8])>
+    ensures read { IfSome result (λ p. bytes_from Escape text.now ≡ option_map (λ bs. p.0 ∷ bs) (bytes_of p.1.now)) }
+    ensures shorter { IfSome result (λ p. length p.1.now < length text.now) }
+    ensures refused { IfNone result (bytes_from Escape text.now ≡ None) }
+{
+    let (letter, rest) = text.split_first()?;
+    if *letter == b'x' {
+        return hex_byte(rest);
+    }
+    Some((escaped_byte(*letter)?, rest))
+}
+
+// The byte that a text begins with, and what comes after it.
+fn next_byte(text: &[u8]) -> Option<(u8, &[u8])>
+    requires { 0 < length text.now }
+    ensures read { IfSome result (λ p. bytes_of text.now ≡ option_map (λ bs. p.0 ∷ bs) (bytes_of p.1.now)) }
+    ensures shorter { IfSome result (λ p. length p.1.now < length text.now) }
+    ensures refused { IfNone result (bytes_of text.now ≡ None) }
+{
+    let (first, rest) = text.split_first()?;
+    if *first == b'\\' {
+        return escape(rest);
+    }
+    Some((*first, rest))
+}
+
+/// Adds the bytes that the text stands for.
+///
+/// After an `Err` those before the bad escape were added.
+#[tactic(auto, using(crate::proofs::TextLemmas::after_step, crate::proofs::TextLemmas::after_all, crate::proofs::TextLemmas::after_none))]
+pub fn add_text(bytes: &mut Vec<u8>, text: &str) -> Result<(), LineFault>
+    ensures added { OnOk result (IsSomeAnd (bytes_of text.now) (λ more. bytes.new.items ≡ bytes.old.items ++ more)) }
+    ensures refused { result ≡ Err LineFault.Escape → bytes_of text.now ≡ None }
+{
+    let mut left = text.as_bytes();
+    while !left.is_empty() {
+        let Some((byte, after)) = next_byte(left) else {
+            return Err(LineFault::Escape);
+        };
+        bytes.push(byte)?;
+        left = after;
+    }
+    Ok(())
+}
+
+/// Adds the bytes so many times.
+///
+/// `Number` if they are too many to be counted.
+#[tactic(auto, using(crate::proofs::TextLemmas::repeat_next))]
+pub fn add_times(bytes: &mut Vec<u8>, count: usize, once: &[u8]) -> Result<(), LineFault>
+    ensures added { OnOk result (bytes.new.items ≡ bytes.old.items ++ repeat count once.now) }
+{
+    let more = once.len().checked_mul(count).ok_or(LineFault::Number)?;
+    bytes.reserve(more)?;
+    for _ in 0..count {
+        bytes.extend_from_slice(once)?;
+    }
+    Ok(())
+}

@@ -1,0 +1,41 @@
+//! A reader and a writer for tests, which give way at a chosen call.
+use std::io;
+use std::io::{ErrorKind, Read, Write};
+
+/// Gives so many bytes a read, and fails at the read after the last that it may make.
+#[derive(Drop)]
+pub(crate) struct Pieces<'a> {
+    pub rest: &'a [u8],
+    pub most: usize,
+    pub reads: u64,
+}
+
+impl Read for Pieces<'_> {
+    fn read(&mut self, buf: &mut [u8]) -> io::Result<usize> {
+        if self.reads == 0 {
+            return Err(io::Error::from(ErrorKind::BrokenPipe));
+        }
+        self.reads -= 1;
+        let n = self.most.min(buf.len());
+        self.rest.read(&mut buf[..n])
+    }
+}
+
+/// Takes bytes or refuses them, and does not pass them on.
+#[derive(Drop)]
+pub(crate) struct Stuck {
+    pub takes: bool,
+}
+
+impl Write for Stuck {
+    fn write(&mut self, buf: &[u8]) -> io::Result<usize> {
+        if self.takes {
+            return Ok(buf.len());
+        }
+        Err(io::Error::from(ErrorKind::BrokenPipe))
+    }
+
+    fn flush(&mut self) -> io::Result<()> {
+        Err(io::Error::from(ErrorKind::BrokenPipe))
+    }
+}

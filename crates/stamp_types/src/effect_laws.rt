@@ -1,0 +1,90 @@
+//! Laws of what each change leaves, what it takes away and what is new. Each is the contract of a function that does nothing.
+ghost use Rattle.std.specs.Prelude.{◌≡◌, ◌≢◌, ℕ, ◌+◌, List, [], ◌∷◌, ◌++◌, All, Some, None, false, map, option_map};
+ghost use Rattle.std.specs.FinMap as finite;
+ghost use Rattle.stamp_types.specs.ActKinds.{is_row, who_may};
+ghost use Rattle.stamp_types.specs.World.{Blob, Part, blob_in, changed, committed_value, content_from};
+ghost use Rattle.stamp_types.specs.EffectKinds.{AreThere, EtagsAtMost, blob_dated, blob_named, blob_stamp, blocks_and_props, container_dated, container_stamp, listed_content, props_and_metadata, stamp_if};
+ghost use Rattle.stamp_types.specs.declared.act.Act.{Act};
+ghost use Rattle.stamp_types.specs.declared.act.Act.TheVariants as act;
+ghost use Rattle.stamp_types.specs.declared.act.BlobRow.{BlobRow};
+ghost use Rattle.stamp_types.specs.declared.act.DeleteBlob.{DeleteBlob};
+ghost use Rattle.stamp_types.specs.declared.act.PutBlob.{PutBlob};
+ghost use Rattle.stamp_types.specs.declared.act.PutBlock.{PutBlock};
+ghost use Rattle.stamp_types.specs.declared.act.PutBlockList.{PutBlockList};
+ghost use Rattle.stamp_types.specs.declared.act.SetAcl.{SetAcl};
+ghost use Rattle.stamp_types.specs.declared.act.SetContainerMetadata.{SetContainerMetadata};
+ghost use Rattle.stamp_types.specs.declared.act.SetMetadata.{SetMetadata};
+ghost use Rattle.stamp_types.specs.declared.committed.Block.{Block};
+ghost use Rattle.stamp_types.specs.declared.committed.Committed.{Committed};
+ghost use Rattle.stamp_types.specs.declared.piece.Piece.{Piece};
+ghost use Rattle.stamp_values.specs.declared.block.Source.TheVariants as source;
+
+/// A change of a blob reaches that blob alone. The container with its ETag, its moment, its access and its metadata stays, and so
+/// does each blob of another name.
+pub fn a_blob_change_reaches_its_own_blob_alone<C>()
+    ensures container { (f : List Piece → C) (a : Act) (p : Part C) (name : List ℕ) → blob_named a ≡ Some name → (changed f a p).standing ≡ p.standing }
+    ensures others { (f : List Piece → C) (a : Act) (p : Part C) (name other : List ℕ) → blob_named a ≡ Some name → other ≢ name → finite.get (changed f a p).blobs other ≡ finite.get p.blobs other }
+{}
+
+/// What Put Blob wrote is the same whatever the blob was before: one block without an id, and no uncommitted block. After Set
+/// Container Metadata none of the old metadata is left, and access and blobs stay.
+pub fn what_is_replaced_leaves_no_trace<C>()
+    ensures blob { (f : List Piece → C) (a : PutBlob) (p q : Part C) → p.count ≡ q.count → blob_in (changed f (act.PutBlob a) p) a.blob ≡ blob_in (changed f (act.PutBlob a) q) a.blob }
+    ensures content { (f : List Piece → C) (a : PutBlob) (p : Part C) → option_map (λ c. map (λ block. block.id) c.blocks) (blob_in (changed f (act.PutBlob a) p) a.blob).committed ≡ Some (None ∷ []) }
+    ensures bytes { (f : List Piece → C) (a : PutBlob) (p : Part C) → option_map (λ c. map (λ block. block.content) c.blocks) (blob_in (changed f (act.PutBlob a) p) a.blob).committed ≡ Some (f a.content ∷ []) }
+    ensures uncommitted { (f : List Piece → C) (a : PutBlob) (p : Part C) → (blob_in (changed f (act.PutBlob a) p) a.blob).uncommitted ≡ finite.empty }
+    ensures metadata { (f : List Piece → C) (a : SetContainerMetadata) (p : Part C) → option_map (λ s. s.metadata) (changed f (act.SetContainerMetadata a) p).standing ≡ option_map (λ s. a.metadata) p.standing }
+    ensures access { (f : List Piece → C) (a : SetContainerMetadata) (p : Part C) → option_map who_may (changed f (act.SetContainerMetadata a) p).standing ≡ option_map who_may p.standing }
+    ensures blobs { (f : List Piece → C) (a : SetContainerMetadata) (p : Part C) → (changed f (act.SetContainerMetadata a) p).blobs ≡ p.blobs }
+{}
+
+/// Set Blob Metadata leaves the blocks of a blob, what is kept with it and its uncommitted blocks. Its metadata, its ETag and its
+/// moment are new. A blob without a committed part stays as it is, and no blob appears.
+pub fn set_metadata_changes_metadata_alone<C>()
+    ensures stays { (f : List Piece → C) (a : SetMetadata) (p : Part C) → option_map blocks_and_props (blob_in (changed f (act.SetMetadata a) p) a.blob).committed ≡ option_map blocks_and_props (blob_in p a.blob).committed }
+    ensures new { (f : List Piece → C) (a : SetMetadata) (p : Part C) → option_map (λ c. c.metadata) (blob_in (changed f (act.SetMetadata a) p) a.blob).committed ≡ option_map (λ c. a.metadata) (blob_in p a.blob).committed }
+    ensures uncommitted { (f : List Piece → C) (a : SetMetadata) (p : Part C) → (blob_in (changed f (act.SetMetadata a) p) a.blob).uncommitted ≡ (blob_in p a.blob).uncommitted }
+    ensures absent { (f : List Piece → C) (a : SetMetadata) (p : Part C) → (blob_in p a.blob).committed ≡ None → (changed f (act.SetMetadata a) p).blobs ≡ p.blobs }
+{}
+
+/// A blob that was deleted is as one that never was, and so is each blob of a container that was deleted. The count goes on.
+pub fn a_deleted_blob_is_as_one_that_never_was<C>()
+    ensures blob { (f : List Piece → C) (a : DeleteBlob) (p : Part C) → finite.get (changed f (act.DeleteBlob a) p).blobs a.blob ≡ None }
+    ensures container { (f : List Piece → C) (p : Part C) (name : List ℕ) → finite.get (changed f act.DeleteContainer p).blobs name ≡ None }
+    ensures gone { (f : List Piece → C) (p : Part C) → (changed f act.DeleteContainer p).standing ≡ None }
+    ensures counted { (f : List Piece → C) (p : Part C) → (changed f act.DeleteContainer p).count ≡ p.count + 1 }
+{}
+
+/// Put Block leaves what readers of the blob see. Its id has the new content, and each other id what it had.
+pub fn an_uncommitted_block_is_not_seen<C>()
+    ensures seen { (f : List Piece → C) (a : PutBlock) (p : Part C) → (blob_in (changed f (act.PutBlock a) p) a.blob).committed ≡ (blob_in p a.blob).committed }
+    ensures new { (f : List Piece → C) (a : PutBlock) (p : Part C) → finite.get (blob_in (changed f (act.PutBlock a) p) a.blob).uncommitted a.id ≡ Some (f a.content) }
+    ensures others { (f : List Piece → C) (a : PutBlock) (p : Part C) (id : List ℕ) → id ≢ a.id → finite.get (blob_in (changed f (act.PutBlock a) p) a.blob).uncommitted id ≡ finite.get (blob_in p a.blob).uncommitted id }
+{}
+
+/// Each block that Put Block List commits has the id of its entry, and the content of the uncommitted block of that id or of the
+/// first committed one, as the entry says. Nothing else of the old committed part is left, and no block stays uncommitted.
+pub fn a_commit_takes_blocks_that_were_there<C>()
+    ensures ids { (f : List Piece → C) (a : PutBlockList) (p : Part C) → AreThere (blob_in p a.blob) a.entries → option_map (λ c. map (λ block. block.id) c.blocks) (blob_in (changed f (act.PutBlockList a) p) a.blob).committed ≡ Some (map (λ e. Some e.id) a.entries) }
+    ensures contents { (f : List Piece → C) (a : PutBlockList) (p : Part C) → AreThere (blob_in p a.blob) a.entries → option_map (λ c. map (λ block. Some block.content) c.blocks) (blob_in (changed f (act.PutBlockList a) p) a.blob).committed ≡ Some (map (λ e. content_from e.from e.id (blob_in p a.blob)) a.entries) }
+    ensures uncommitted { (b : Blob C) (id : List ℕ) → content_from source.Uncommitted id b ≡ finite.get b.uncommitted id }
+    ensures committed { (b : Blob C) (c : Committed C) (before after : List (Block C)) (block : Block C) (id : List ℕ) → b.committed ≡ Some c → c.blocks ≡ before ++ block ∷ after → block.id ≡ Some id → All (λ other. other.id ≢ Some id) before → content_from source.Committed id b ≡ Some block.content }
+    ensures old { (f : List Piece → C) (a : PutBlockList) (p : Part C) → option_map props_and_metadata (blob_in (changed f (act.PutBlockList a) p) a.blob).committed ≡ Some (a.props, a.metadata) }
+    ensures left { (f : List Piece → C) (a : PutBlockList) (p : Part C) → (blob_in (changed f (act.PutBlockList a) p) a.blob).uncommitted ≡ finite.empty }
+{}
+
+/// What a change gives an ETag has the container's new count and the moment of the change. No ETag is over the count after a change
+/// if none was before it. Changes of the container alone leave its blobs.
+pub fn a_change_is_counted_and_dated<C>()
+    ensures container { (f : List Piece → C) (a : Act) (p : Part C) (t : ℕ) → container_dated a ≡ Some t → option_map container_stamp (changed f a p).standing ≡ stamp_if (p.count + 1) t (changed f a p).standing }
+    ensures blobs { (f : List Piece → C) (a : Act) (p : Part C) (t : ℕ) → container_dated a ≡ Some t → (changed f a p).blobs ≡ p.blobs }
+    ensures blob { (f : List Piece → C) (a : Act) (p : Part C) (name : List ℕ) (t : ℕ) → blob_named a ≡ Some name → blob_dated a ≡ Some t → option_map blob_stamp (blob_in (changed f a p) name).committed ≡ stamp_if (p.count + 1) t (blob_in (changed f a p) name).committed }
+    ensures bounded { (f : List Piece → C) (a : Act) (p : Part C) → is_row a ≡ false → EtagsAtMost p.count p → EtagsAtMost (p.count + 1) (changed f a p) }
+    ensures acl { (f : List Piece → C) (a : SetAcl) (p : Part C) → option_map (λ s. s.metadata) (changed f (act.SetAcl a) p).standing ≡ option_map (λ s. s.metadata) p.standing }
+{}
+
+/// The row of a blob gives exactly its committed part and its uncommitted blocks.
+pub fn a_stored_blob_is_what_its_row_says<C>()
+    ensures committed { (f : List Piece → C) (a : BlobRow) (p : Part C) → (blob_in (changed f (act.BlobRow a) p) a.blob).committed ≡ option_map (committed_value f) a.committed }
+    ensures uncommitted { (f : List Piece → C) (a : BlobRow) (p : Part C) (id : List ℕ) → finite.get (blob_in (changed f (act.BlobRow a) p) a.blob).uncommitted id ≡ listed_content f id a.uncommitted }
+{}
