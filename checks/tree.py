@@ -82,11 +82,23 @@ def copy_of_tree(crates, with_edits):
         yield copy
 
 
+def proofs_at_once():
+    """How many proofs may run at a time: one for each processor and each 4 GB of memory that is free."""
+    free = int(re.search(r"MemAvailable:\s+(\d+) kB", Path("/proc/meminfo").read_text()).group(1)) * 1024
+    limit = Path("/sys/fs/cgroup/memory.max")
+    if limit.is_file() and limit.read_text().strip().isdigit():
+        free = min(free, int(limit.read_text()))
+    return max(1, min(len(os.sched_getaffinity(0)), free // 4_000_000_000))
+
+
 def prove(copy, hear):
     """Proves, tests and runs what a copy of the tree has, by `rt ci`, and hands on each line that it prints but the last one.
 
+    Each proof gets one process, since several for one proof cost more processor time together (docs/gate.md).
+
     Returns the numbers of the last line, passed and failed; at least one failed if the exit status is not 0."""
-    how = {"stdin": subprocess.DEVNULL, "stdout": subprocess.PIPE, "stderr": subprocess.STDOUT, "text": True, "errors": "replace"}
+    environment = {"RT_JOBS": str(proofs_at_once()), **os.environ}
+    how = {"env": environment, "stdin": subprocess.DEVNULL, "stdout": subprocess.PIPE, "stderr": subprocess.STDOUT, "text": True, "errors": "replace"}
     process, counts = subprocess.Popen(["rt", "ci"], cwd=copy, **how), None
     try:
         for line in process.stdout:

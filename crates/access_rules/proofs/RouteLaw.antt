@@ -4,6 +4,7 @@ use Rattle.std.proofs.lemmas.Bool.Decides.{nat_tests}
 use Rattle.std.proofs.lemmas.Slice.Eq.{bytes_eq-Decides}
 use Rattle.std.specs.Prelude.{bytes_eq, option_and_then}
 use Rattle.std.specs.Result.{result_ok}
+use Rattle.stamp_values.specs.declared.acl.Acl.{Acl}
 use Rattle.stamp_values.specs.declared.level.Level.{Level}
 use Rattle.stamp_values.specs.declared.signing.Credential.{Credential}
 use Rattle.stamp_values.specs.declared.signing.Credential.TheVariants.{Shared, Token, Anonymous}
@@ -18,7 +19,7 @@ use Rattle.access_rules.proofs.ClaimLemmas.{claimed, claims}
 use Rattle.access_rules.specs.Needs.{need_of}
 use Rattle.moment_text.specs.Http.{http_moment}
 use Rattle.access_rules.specs.Parts.{claim_in, keys_for, date_text, date_in, string_of, leeway, is_far, is_signed}
-use Rattle.access_rules.specs.Rules.{Access, first_rule, there, is_lower}
+use Rattle.access_rules.specs.Rules.{first_rule, there, is_lower}
 use Rattle.access_rules.specs.Routes.{ByKey, ByPublic, Admits}
 
 -- ---- keys
@@ -190,8 +191,8 @@ module _ (keys : Option Keys) (q : Ask) (t : ℕ) where
 abbrev pub asking : Ask → Credential → Ask
 asking q credential = record q { credential = credential }
 
-by_key : (keys : Option Keys) (access : Option Access) (q : Ask) (t : ℕ) (values : List (List ℕ)) → (first_rule keys access (asking q (Shared values)) t ≡ None) ↔ ByKey keys (asking q (Shared values)) t
-by_key keys access q t values =
+by_key : (keys : Option Keys) (acl : Option Acl) (q : Ask) (t : ℕ) (values : List (List ℕ)) → (first_rule keys acl (asking q (Shared values)) t ≡ None) ↔ ByKey keys (asking q (Shared values)) t
+by_key keys acl q t values =
     let ask = asking q (Shared values) in (
       λ h. in_words keys ask t values refl (all_pass (own_account keys ask t) (is_far t) (signs_it keys ask t) (claim_in values) (keys_for keys ask.key.account) (date_in ask.signing.headers) h),
       λ b. none_holds (own_account keys ask t) (is_far t) (signs_it keys ask t) (claim_in values) (keys_for keys ask.key.account) (date_in ask.signing.headers) (in_tests keys ask t values refl b),
@@ -199,8 +200,8 @@ by_key keys access q t values =
 
 -- ---- the public route
 
-abbrev public_rule : Option Access → Option Level → Option Rule
-public_rule access level = cond (is_none level) (Some P1) (cond (there (is_lower access) level) (Some P2) None)
+abbrev public_rule : Option Acl → Option Level → Option Rule
+public_rule acl level = cond (is_none level) (Some P1) (cond (there (is_lower acl) level) (Some P2) None)
 
 not_lower : (m n : ℕ) → cond (nat_lt m n) (Some P2) None ≡ None → n ≤ m
 not_lower m n h =
@@ -212,8 +213,8 @@ not_lower m n h =
 enough_is_not_lower : (m n : ℕ) → n ≤ m → cond (nat_lt m n) (Some P2) None ≡ None
 enough_is_not_lower m n h = let e : nat_lt m n ≡ false = grind (arith, nat_tests) in ap (λ b. cond b (Some P2) None) e
 
-by_public : (access : Option Access) (q : Ask) (need : Option Level) → (need_of q.op q.args.kinds).level ≡ need → (public_rule access need ≡ None) ↔ ByPublic access q
-by_public access q None e = (λ h. cc, λ b. let f : None ≡ Some b.need = sym e ∙ b.needed in cc)
+by_public : (acl : Option Acl) (q : Ask) (need : Option Level) → (need_of q.op q.args.kinds).level ≡ need → (public_rule acl need ≡ None) ↔ ByPublic acl q
+by_public acl q None e = (λ h. cc, λ b. let f : None ≡ Some b.need = sym e ∙ b.needed in cc)
 by_public None q (Some need) e = (λ h. cc, λ b. let f = b.stands in cc)
 by_public (Some has) q (Some need) e = (
   λ h. record { need = need; needed = e; has = has; stands = refl; enough = not_lower (level_number has.level) (level_number need) h },
@@ -221,12 +222,12 @@ by_public (Some has) q (Some need) e = (
       let same_need : need ≡ b.need = let f : Some need ≡ Some b.need = sym e ∙ b.needed in cc in
       let same_has : has ≡ b.has = let f = b.stands in cc in
       enough_is_not_lower (level_number has.level) (level_number need)
-      (subst (λ (l : Level). level_number l ≤ level_number has.level) (sym same_need) (subst (λ (a : Access). level_number b.need ≤ level_number a.level) (sym same_has) b.enough)),
+      (subst (λ (l : Level). level_number l ≤ level_number has.level) (sym same_need) (subst (λ (a : Acl). level_number b.need ≤ level_number a.level) (sym same_has) b.enough)),
 )
 
 -- ---- each route
 
-pub by_route : (keys : Option Keys) (access : Option Access) (q : Ask) (t : ℕ) (credential : Credential) → (first_rule keys access (asking q credential) t ≡ None) ↔ Admits keys access credential (asking q credential) t
-by_route keys access q t (Shared values) = by_key keys access q t values
-by_route keys access q t Token = (λ h. cc, λ b. absurd b)
-by_route keys access q t Anonymous = by_public access (asking q Anonymous) _ refl
+pub by_route : (keys : Option Keys) (acl : Option Acl) (q : Ask) (t : ℕ) (credential : Credential) → (first_rule keys acl (asking q credential) t ≡ None) ↔ Admits keys acl credential (asking q credential) t
+by_route keys acl q t (Shared values) = by_key keys acl q t values
+by_route keys acl q t Token = (λ h. cc, λ b. absurd b)
+by_route keys acl q t Anonymous = by_public acl (asking q Anonymous) _ refl

@@ -1,6 +1,7 @@
 -- Who may, in the words of each route (Blob service REST reference, 2012-02-12, Authentication for the Azure Storage
 -- Services: by an account's key; Set Container ACL: by public access).
 use Rattle.std.specs.Prelude.{◌≡◌, ℕ, ◌+◌, ◌≤◌, List, [], ◌∷◌, Option, Some, Ok, ◌⊎◌}
+use Rattle.stamp_values.specs.declared.acl.Acl.{Acl}
 use Rattle.stamp_values.specs.declared.level.Level.{Level}
 use Rattle.stamp_values.specs.declared.signing.Credential.{Credential}
 use Rattle.stamp_values.specs.declared.signing.Credential.TheVariants.{Shared, Token, Anonymous}
@@ -12,7 +13,6 @@ use Rattle.shared_key.specs.Authorizations.{Claim, Authorizes}
 use Rattle.access_rules.specs.declared.keys.Keys.{Keys}
 use Rattle.access_rules.specs.Needs.{need_of}
 use Rattle.access_rules.specs.Parts.{date_text, string_of, leeway}
-use Rattle.access_rules.specs.Rules.{Access}
 
 -- Authorization was sent once and claims the path's account, whose keys the stamp has; the request is dated within 900
 -- seconds of the moment; and one of the keys gives the signature
@@ -34,15 +34,15 @@ pub record ByKey (keys : Option Keys) (q : Ask) (t : ℕ) : Type 0 where
   pub signed : (claim.signature ≡ signature_of pair.first (string_of q)) ⊎ (claim.signature ≡ signature_of pair.second (string_of q))
 
 -- a level of public access is enough for the operation, and the container stands and has it
-pub record ByPublic (access : Option Access) (q : Ask) : Type 0 where
+pub record ByPublic (acl : Option Acl) (q : Ask) : Type 0 where
   pub need : Level
   pub needed : (need_of q.op q.args.kinds).level ≡ Some need
-  pub has : Access
-  pub stands : access ≡ Some has
+  pub has : Acl
+  pub stands : acl ≡ Some has
   pub enough : level_number need ≤ level_number has.level
 
 -- the request's own route admits it; by a shared access signature nothing is allowed yet
-abbrev pub Admits : Option Keys → Option Access → Credential → Ask → ℕ → Type 0
-Admits keys access (Shared values) q t = ByKey keys q t
-Admits keys access Token q t = ⊥
-Admits keys access Anonymous q t = ByPublic access q
+abbrev pub Admits : Option Keys → Option Acl → Credential → Ask → ℕ → Type 0
+Admits keys acl (Shared values) q t = ByKey keys q t
+Admits keys acl Token q t = ⊥
+Admits keys acl Anonymous q t = ByPublic acl q

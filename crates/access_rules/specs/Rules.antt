@@ -3,8 +3,7 @@
 -- stamp's own.
 use Rattle.std.specs.Prelude.{ℕ, Bool, true, false, not, ◌&&◌, ◌||◌, nat_lt, List, [], ◌∷◌, Option, Some, None, is_none, bytes_eq, find}
 use Rattle.stamp_values.specs.declared.level.Level.{Level}
-use Rattle.stamp_values.specs.declared.level.Level.TheVariants as level
-use Rattle.stamp_values.specs.declared.policy.Policy.{Policy}
+use Rattle.stamp_values.specs.declared.acl.Acl.{Acl}
 use Rattle.stamp_values.specs.declared.signing.Credential.{Credential}
 use Rattle.stamp_values.specs.declared.signing.Credential.TheVariants as credential
 use Rattle.stamp_values.specs.Levels.{level_number}
@@ -18,15 +17,6 @@ use Rattle.access_rules.specs.declared.judgement.Way.TheVariants as way
 use Rattle.access_rules.specs.declared.keys.Keys.{Keys}
 use Rattle.access_rules.specs.Needs.{need_of}
 use Rattle.access_rules.specs.Parts.{claim_of, keys_for, date_in, string_of, is_far, is_signed}
-
--- what a container that stands says about who may
-pub record Access : Type 0 where
-  pub level : Level
-  pub policies : List Policy
-
--- a container that lets no one in without a credential
-abbrev pub closed : Access
-closed = record { level = level.Closed; policies = [] }
 
 -- the request asks by an account's key
 abbrev pub on_key : Credential → Bool
@@ -52,43 +42,43 @@ there test None = false
 there test (Some part) = test part
 
 -- the container gives less than the level, or it does not stand
-abbrev pub is_lower : Option Access → Level → Bool
+abbrev pub is_lower : Option Acl → Level → Bool
 is_lower None need = true
-is_lower (Some access) need = nat_lt (level_number access.level) (level_number need)
+is_lower (Some acl) need = nat_lt (level_number acl.level) (level_number need)
 
 -- the rule holds; one about a part that is not there does not
-abbrev pub holds : Option Keys → Option Access → Ask → ℕ → Rule → Bool
-holds keys access q t K1 = on_key q.credential && is_none (claim_of q.credential)
-holds keys access q t K2 = on_key q.credential && there (λ claim. not (bytes_eq claim.account q.key.account) || is_none (keys_for keys q.key.account)) (claim_of q.credential)
-holds keys access q t K3 = on_key q.credential && is_none (date_in q.signing.headers)
-holds keys access q t K4 = on_key q.credential && there (is_far t) (date_in q.signing.headers)
-holds keys access q t K5 = on_key q.credential && there (λ claim. there (λ pair. not (is_signed pair (string_of q) claim.signature)) (keys_for keys q.key.account)) (claim_of q.credential)
-holds keys access q t S1 = on_token q.credential
-holds keys access q t P1 = on_public q.credential && is_none (need_of q.op q.args.kinds).level
-holds keys access q t P2 = on_public q.credential && there (is_lower access) (need_of q.op q.args.kinds).level
-holds keys access q t other = false
+abbrev pub holds : Option Keys → Option Acl → Ask → ℕ → Rule → Bool
+holds keys acl q t K1 = on_key q.credential && is_none (claim_of q.credential)
+holds keys acl q t K2 = on_key q.credential && there (λ claim. not (bytes_eq claim.account q.key.account) || is_none (keys_for keys q.key.account)) (claim_of q.credential)
+holds keys acl q t K3 = on_key q.credential && is_none (date_in q.signing.headers)
+holds keys acl q t K4 = on_key q.credential && there (is_far t) (date_in q.signing.headers)
+holds keys acl q t K5 = on_key q.credential && there (λ claim. there (λ pair. not (is_signed pair (string_of q) claim.signature)) (keys_for keys q.key.account)) (claim_of q.credential)
+holds keys acl q t S1 = on_token q.credential
+holds keys acl q t P1 = on_public q.credential && is_none (need_of q.op q.args.kinds).level
+holds keys acl q t P2 = on_public q.credential && there (is_lower acl) (need_of q.op q.args.kinds).level
+holds keys acl q t other = false
 
 -- the rules of permission in their order
 abbrev pub access_rules : List Rule
 access_rules = K1 ∷ K2 ∷ K3 ∷ K4 ∷ K5 ∷ S1 ∷ P1 ∷ P2 ∷ []
 
 -- the first rule that holds
-abbrev pub first_rule : Option Keys → Option Access → Ask → ℕ → Option Rule
-first_rule keys access q t = find (holds keys access q t) access_rules
+abbrev pub first_rule : Option Keys → Option Acl → Ask → ℕ → Option Rule
+first_rule keys acl q t = find (holds keys acl q t) access_rules
 
 -- the rules of the key route that are judged without the signature
 abbrev pub rules_before_signature : List Rule
 rules_before_signature = K1 ∷ K2 ∷ K3 ∷ K4 ∷ []
 
 -- the signature has to be worked out: the request asks by a key, and none of the rules before K5 holds
-abbrev pub wants_signature : Option Keys → Option Access → Ask → ℕ → Bool
-wants_signature keys access q t = on_key q.credential && is_none (find (holds keys access q t) rules_before_signature)
+abbrev pub wants_signature : Option Keys → Option Acl → Ask → ℕ → Bool
+wants_signature keys acl q t = on_key q.credential && is_none (find (holds keys acl q t) rules_before_signature)
 
 -- the route by which a request asks
 abbrev pub way_of : Credential → Way
-way_of (credential.Shared values) = way.Key
+way_of (credential.Shared values) = way.Shared
 way_of credential.Token = way.Token
-way_of credential.Anonymous = way.Public
+way_of credential.Anonymous = way.Anonymous
 
 -- the rule refuses; where there is none the route allows
 abbrev pub verdict_by : Option Rule → Way → Verdict
@@ -96,5 +86,5 @@ verdict_by None way = Allow way
 verdict_by (Some rule) way = Deny rule
 
 -- the first rule that holds refuses, and where none holds the request is allowed by its route
-abbrev pub verdict_of : Option Keys → Option Access → Ask → ℕ → Verdict
-verdict_of keys access q t = verdict_by (first_rule keys access q t) (way_of q.credential)
+abbrev pub verdict_of : Option Keys → Option Acl → Ask → ℕ → Verdict
+verdict_of keys acl q t = verdict_by (first_rule keys acl q t) (way_of q.credential)

@@ -39,7 +39,7 @@ fn by_key(
         return Ok(Verdict::Deny(Rule::K4));
     }
     if is_signed(alloc, pair, ask, claim.signature)? {
-        Ok(Verdict::Allow(Way::Key))
+        Ok(Verdict::Allow(Way::Shared))
     } else {
         Ok(Verdict::Deny(Rule::K5))
     }

@@ -2,15 +2,15 @@
 
 use stamp_types::Rule;
 
-/// By which route a request was allowed.
+/// By which route a request was allowed: that of its credential.
 #[derive(Clone, Copy, Debug, PartialEq, Eq)]
 pub enum Way {
     /// By an account's key (Authorization: SharedKey).
-    Key,
+    Shared,
     /// By a shared access signature.
     Token,
-    /// By public access.
-    Public,
+    /// By public access, with no credential.
+    Anonymous,
 }
 
 /// Whether a request may be served.

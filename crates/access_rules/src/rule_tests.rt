@@ -21,7 +21,7 @@ const SECOND: &str = "SharedKey devstoreaccount1:O9UZNW452QDPdLw1F6p3ZC4NHU5qWVz
 
 const OF_PLAIN: &str = "SharedKey devstoreaccount1:ePRVCZLPt7I+xXfjP5/XGitY47nxn8CnHH9IT3/CirM=";
 
-const ALLOW: Verdict = Verdict::Allow(Way::Key);
+const ALLOW: Verdict = Verdict::Allow(Way::Shared);
 
 const K2: Verdict = Verdict::Deny(Rule::K2);
 

@@ -3,7 +3,7 @@ ghost use Rattle.std.specs.Prelude.{⊤};
 
 use http_front::{Clock, End, FrontFault, Service, run};
 use reply_form::out_of_memory_reply;
-use stamp_types::{Code, Moment, Reply, Request, Rule};
+use stamp_types::{Code, Moment, Refusal, Reply, Request, Rule};
 use std::alloc::{AllocError, Global};
 use std::cell::Cell;
 use std::io;
@@ -138,6 +138,8 @@ impl Service for Closed {
 
     ghost answers = { λ old asked moment reply new. ⊤ };
 
+    ghost starves = { λ old new. ⊤ };
+
     fn answer(
         &mut self,
         alloc: Global,
@@ -147,7 +149,13 @@ impl Service for Closed {
         if self.starved {
             return Err(AllocError);
         }
-        Reply::denied(alloc, Rule::P2, Code::ResourceNotFound)
+        Reply::denied(
+            alloc,
+            Refusal {
+                rule: Rule::P2,
+                code: Code::ResourceNotFound,
+            },
+        )
     }
 }
 

@@ -3,7 +3,8 @@
 use crate::sample_parts::sent_range;
 use reply_form::{interim_reply, out_of_memory_reply, write_head, write_reply};
 use stamp_types::{
-    Code, Header, Items, Level, Meta, Moment, Reply, Rule, Shares, Status, Text, Verb, Visible,
+    Code, Header, Items, Level, Meta, Moment, Refusal, Reply, Rule, Shares, Status, Text, Verb,
+    Visible,
 };
 use std::alloc::Global;
 use std::process::Abort;
@@ -57,7 +58,14 @@ fn assert_written(
 
 #[test]
 fn a_denial_to_each_verb(rt: HostRuntime) {
-    let reply = Reply::denied(rt.alloc(), Rule::P2, Code::ResourceNotFound).expect(&rt, "memory");
+    let reply = Reply::denied(
+        rt.alloc(),
+        Refusal {
+            rule: Rule::P2,
+            code: Code::ResourceNotFound,
+        },
+    )
+    .expect(&rt, "memory");
     let cases = [
         (Some(Verb::Get), false, P2, XML),
         (None, false, P2, XML),
@@ -73,7 +81,14 @@ fn a_denial_to_each_verb(rt: HostRuntime) {
 
 #[test]
 fn not_modified_has_no_length(rt: HostRuntime) {
-    let reply = Reply::denied(rt.alloc(), Rule::O4, Code::NotModified).expect(&rt, "memory");
+    let reply = Reply::denied(
+        rt.alloc(),
+        Refusal {
+            rule: Rule::O4,
+            code: Code::NotModified,
+        },
+    )
+    .expect(&rt, "memory");
     assert_written(&rt, rt.alloc(), &reply, Some(Verb::Get), false, O4, "");
 }
 

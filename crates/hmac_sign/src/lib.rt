@@ -2,11 +2,13 @@
 #![tactic(auto)]
 
 mod code;
+mod laws;
 mod secret;
 mod signature;
 #[cfg(test)]
 mod vector_tests;
 
 pub use code::hmac;
+pub use laws::different_bytes_have_different_texts;
 pub use secret::{SecretFault, read_key};
 pub use signature::sign;

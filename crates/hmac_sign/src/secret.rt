@@ -25,6 +25,7 @@ pub enum SecretFault {
 /// RFC 4648, section 4; that nothing else is read is its sections 3.1 to 3.5.
 pub fn read_key(alloc: Global, text: &[u8]) -> Result<Vec<u8>, SecretFault>
     ensures read { IfOk result (λ key. text.now ≡ base64_of key.items) }
+    ensures bytes { IfOk result (λ key. IsBytes key.items) }
     ensures refused { (result ≡ Err SecretFault.NotBase64) → (key : List ℕ) → IsBytes key → text.now ≢ base64_of key }
 {
     STANDARD.decode(alloc, text).map_err(|fault| match fault {

@@ -1,7 +1,9 @@
-pub mod ClosedWorlds
+pub mod PlainLemmas
 pub mod Ends
+pub mod Fronts
 pub mod HeadLines
 pub mod Items
+pub mod Readings
 pub mod StreamLemmas
 pub mod Talks
 pub mod Transfers

@@ -1,24 +1,27 @@
 -- A run so far, and one item more.
-use Rattle.std.proofs.Common.{◌≡◌, ◌≢◌, ℕ, ◌+◌, ◌*◌, ◌≤◌, Bool, true, false, List, [], ◌∷◌, ◌++◌, length, length-append, map, flat_map, Option, Some, None, IfSome, Result, Ok, Err, inl, inr, refl, sym, ap, ◌∙◌, subst, arith, append_assoc, append-nil}
+use Rattle.std.proofs.Common.{◌≡◌, ◌≢◌, ℕ, ◌+◌, ◌*◌, ◌≤◌, Bool, true, false, List, [], ◌∷◌, ◌++◌, length, length-append, map, flat_map, Option, Some, None, IfSome, Result, Ok, Err, inl, inr, refl, sym, ap, ◌∙◌, subst, arith, append-nil}
 use Rattle.std.proofs.lemmas.List.{map-append}
 use Rattle.std.proofs.lemmas.List.Concat.{flat_map-append}
-use Rattle.std.specs.Io.KnownBytes.{Consumes, Appends, Keeps, IsAtEnd}
-use Rattle.std.proofs.KnownBytes.{Consumes-nil, Consumes-trans, Consumes-whole, Appends-nil, Appends-trans, Appends-kept}
+use Rattle.std.specs.Io.KnownBytes.{Consumes, Appends, IsAtEnd}
+use Rattle.std.proofs.KnownBytes.{Consumes-nil, Consumes-trans, Consumes-whole, Appends-nil, Appends-trans}
 use Rattle.stamp_types.specs.Requests.{Asked}
 use Rattle.stamp_types.specs.declared.reply.Reply.{Reply}
 use Rattle.http_front.specs.declared.end.End.{End}
 use Rattle.http_front.specs.declared.end.End.TheVariants.{Clean, Closed}
 use Rattle.http_front.specs.declared.end.FrontFault.{FrontFault}
 use Rattle.http_front.specs.declared.end.FrontFault.TheVariants.{Read, Write, Turns, NoMemory}
+use Rattle.http_front.specs.declared.input.Call.{Call}
 use Rattle.http_front.specs.declared.input.Found.{Found}
 use Rattle.http_front.specs.declared.input.Found.TheVariants as Founds
-use Rattle.http_front.specs.Answers.{Answers, Settles}
-use Rattle.http_front.specs.Conversations.{Exchange, item_of, moment_of, bytes_of, Ticks, Replies-to, Replies, EndsAs, Converses, Conversed, Begun, Starved}
+use Rattle.http_front.specs.Answers.{Abandons, Answers, Gives-up, Settles}
+use Rattle.http_front.specs.Conversations.{Exchange, item_of, moment_of, bytes_of, Ticks, Replies-to, Replies, EndsAs, Converses, Conversed, Begun, Breaks-off, Falls-silent, Starved}
 use Rattle.http_front.specs.Conversations.Exchange.{Answered, Turned}
 use Rattle.http_front.specs.Inputs.{Finds, Takes}
 use Rattle.http_front.specs.Outcomes.{Told, Served}
-use Rattle.http_front.specs.Streams.{Item, Tail, Begins, EndsIn, Goes-on, Reads, item_closes, interim, tail_bytes}
+use Rattle.http_front.specs.Streams.{Tail, Begins, EndsIn, Reads, Reads-front, item_closes, interim, tail_bytes}
+use Rattle.http_front.specs.Streams.Item.{Requested, Refused}
 use Rattle.http_front.specs.Streams.Tail.{AtStart, Closing, InHead, InBody}
+use Rattle.http_front.proofs.Fronts.{front_more, front_item, front_then, goes_true}
 use Rattle.http_front.proofs.StreamLemmas.{Begins-more}
 
 ticks_more : {C : Type 0} (gives : C → ℕ → C → Type 0) (a b c : C) (moments : List ℕ) (moment : ℕ)
@@ -69,50 +72,28 @@ step_of gives answers clock clock' world world' held held' held'' bytes rest wri
 
 -- ---- the items
 
--- whatever comes, the items of what was read are those that were answered, and then those of the buffer
-abbrev pub Precede : List ℕ → List Exchange → List ℕ → Type 0
-Precede received exchanges buffer = (future : List ℕ) (items : List Item) (tail : Tail) → Reads (buffer ++ future) items tail
-    → Reads (received ++ future) (map item_of exchanges ++ items) tail
+front_step : (received buffer more rest : List ℕ) (exchanges : List Exchange) (exchange : Exchange) → Reads-front received (map item_of exchanges) buffer
+    → Begins (buffer ++ more) (item_of exchange) rest → item_closes (item_of exchange) ≡ false
+    → Reads-front (received ++ more) (map item_of (exchanges ++ exchange ∷ [])) rest
+front_step received buffer more rest exchanges exchange p begins stays =
+    subst (λ is. Reads-front (received ++ more) is rest) (sym (map-append item_of exchanges (exchange ∷ [])))
+    (front_item (received ++ more) (map item_of exchanges) (buffer ++ more) (item_of exchange) rest (front_more received more (map item_of exchanges) buffer p) begins stays)
 
-goes_false : (closes : Bool) (items : List Item) (tail : Tail) (P : Type 0) → closes ≡ false → P → Goes-on closes items tail P
-goes_false true items tail P e p = absurd (cc)
-goes_false false items tail P e p = p
-
-goes_true : (closes : Bool) (P : Type 0) → closes ≡ true → Goes-on closes [] Closing P
-goes_true true P e = (refl, refl)
-goes_true false P e = absurd (cc)
-
-item_more : (exchanges : List Exchange) (exchange : Exchange) (items : List Item) → map item_of exchanges ++ item_of exchange ∷ items ≡ map item_of (exchanges ++ exchange ∷ []) ++ items
-item_more exchanges exchange items =
-    sym (append_assoc (map item_of exchanges) (item_of exchange ∷ []) items) ∙ ap (λ l. l ++ items) (sym (map-append item_of exchanges (exchange ∷ [])))
-
--- with one item more at the front
-put_first : (received buffer more rest future : List ℕ) (exchanges : List Exchange) (exchange : Exchange) (items : List Item) (tail : Tail)
-    → Precede received exchanges buffer → Begins (buffer ++ more) (item_of exchange) rest
-    → Goes-on (item_closes (item_of exchange)) items tail (Reads (rest ++ future) items tail)
-    → Reads ((received ++ more) ++ future) (map item_of (exchanges ++ exchange ∷ []) ++ items) tail
-put_first received buffer more rest future exchanges exchange items tail p begins goes =
-    let front : Reads ((buffer ++ more) ++ future) (item_of exchange ∷ items) tail = (rest ++ future, Begins-more (buffer ++ more) future (item_of exchange) rest begins, goes) in
-    let moved : Reads (buffer ++ (more ++ future)) (item_of exchange ∷ items) tail = subst (λ l. Reads l (item_of exchange ∷ items) tail) (append_assoc buffer more future) front in
-    let read = p (more ++ future) (item_of exchange ∷ items) tail moved in
-    subst (λ l. Reads l (map item_of (exchanges ++ exchange ∷ []) ++ items) tail) (sym (append_assoc received more future))
-    (subst (λ is. Reads (received ++ (more ++ future)) is tail) (item_more exchanges exchange items) read)
-
-precede_step : (received buffer more rest : List ℕ) (exchanges : List Exchange) (exchange : Exchange) → Precede received exchanges buffer
-    → Begins (buffer ++ more) (item_of exchange) rest → item_closes (item_of exchange) ≡ false → Precede (received ++ more) (exchanges ++ exchange ∷ []) rest
-precede_step received buffer more rest exchanges exchange p begins stays future items tail read =
-    put_first received buffer more rest future exchanges exchange items tail p begins (goes_false (item_closes (item_of exchange)) items tail _ stays read)
-
-last_step : (received buffer more rest : List ℕ) (exchanges : List Exchange) (exchange : Exchange) → Precede received exchanges buffer
+last_step : (received buffer more rest : List ℕ) (exchanges : List Exchange) (exchange : Exchange) → Reads-front received (map item_of exchanges) buffer
     → Begins (buffer ++ more) (item_of exchange) rest → item_closes (item_of exchange) ≡ true
     → (future : List ℕ) → Reads ((received ++ more) ++ future) (map item_of (exchanges ++ exchange ∷ [])) Closing
 last_step received buffer more rest exchanges exchange p begins closes future =
-    subst (λ is. Reads ((received ++ more) ++ future) is Closing) (append-nil (map item_of (exchanges ++ exchange ∷ [])))
-    (put_first received buffer more rest future exchanges exchange [] Closing p begins (goes_true (item_closes (item_of exchange)) _ closes))
+    let came = front_more received more (map item_of exchanges) buffer p in
+    let all = front_more (received ++ more) future (map item_of exchanges) (buffer ++ more) came in
+    subst (λ is. Reads ((received ++ more) ++ future) is Closing) (sym (map-append item_of exchanges (exchange ∷ [])))
+    (front_then ((received ++ more) ++ future) (map item_of exchanges) ((buffer ++ more) ++ future) (item_of exchange ∷ []) Closing all
+    (rest ++ future, Begins-more (buffer ++ more) future (item_of exchange) rest begins, goes_true (item_closes (item_of exchange)) _ closes))
 
-stop_step : (received buffer more : List ℕ) (exchanges : List Exchange) (tail : Tail) → Precede received exchanges buffer → EndsIn (buffer ++ more) tail
-    → Reads (received ++ more) (map item_of exchanges) tail
-stop_step received buffer more exchanges tail p ends = subst (λ is. Reads (received ++ more) is tail) (append-nil (map item_of exchanges)) (p more [] tail ends)
+stop_step : (received buffer more : List ℕ) (exchanges : List Exchange) (tail : Tail) → Reads-front received (map item_of exchanges) buffer
+    → EndsIn (buffer ++ more) tail → Reads (received ++ more) (map item_of exchanges) tail
+stop_step received buffer more exchanges tail p ends =
+    subst (λ is. Reads (received ++ more) is tail) (append-nil (map item_of exchanges))
+    (front_then (received ++ more) (map item_of exchanges) (buffer ++ more) [] tail (front_more received more (map item_of exchanges) buffer p) ends)
 
 not_closing : (bytes : List ℕ) (tail : Tail) → EndsIn bytes tail → tail ≢ Closing
 not_closing bytes AtStart ends e = cc
@@ -136,7 +117,7 @@ pub record Serving {C S : Type 0} (gives : C → ℕ → C → Type 0) (answers 
   pub received : List ℕ
   pub exchanges : List Exchange
   pub said : Said gives answers clock clock' world world' left left' held held' received exchanges (flat_map bytes_of exchanges)
-  pub items : Precede received exchanges buffer
+  pub items : Reads-front received (map item_of exchanges) buffer
   pub spent : turns ≤ turns' + length received
   pub within : length received + turns' * 8192 ≤ turns * 8192
 
@@ -158,7 +139,7 @@ module _ {C S : Type 0} (gives : C → ℕ → C → Type 0) (answers : S → As
     received = [];
     exchanges = [];
     said = record { consumed = Consumes-nil left; moments = refl; replies = refl; appended = Appends-nil held };
-    items = λ future items tail read. subst (λ b. Reads (b ++ future) items tail) e read;
+    items = e;
     spent = omega arith;
     within = omega arith;
   }
@@ -194,7 +175,7 @@ module _ {C S : Type 0} (gives : C → ℕ → C → Type 0) (answers : S → As
         received = serving.received ++ takes.more;
         exchanges = serving.exchanges ++ step.exchange ∷ [];
         said = said_more clock clock' clock'' world world' world'' left left' left'' held held' held''' serving.received takes.more _ _ serving.exchanges closes serving.said takes.consumed step;
-        items = precede_step serving.received buffer takes.more buffer' serving.exchanges step.exchange serving.items step.begins (step.closing ∙ stays);
+        items = front_step serving.received buffer takes.more buffer' serving.exchanges step.exchange serving.items step.begins (step.closing ∙ stays);
         spent = omega arith;
         within = omega arith;
       }
@@ -288,12 +269,20 @@ module _ {C S : Type 0} (gives : C → ℕ → C → Type 0) (answers : S → As
   cut Write clock clock' world world' left left' left'' held held' held'' buffer buffer' turns turns' turns'' serving takes = tt
   cut NoMemory clock clock' world world' left left' left'' held held' held'' buffer buffer' turns turns' turns'' serving takes = tt
 
-  -- memory ran out before the answer to what stands at the front
-  starve : (clock clock' : C) (world world' : S) (left left' left'' held held' held'' : Option (List ℕ)) (buffer more written : List ℕ) (turns turns' : ℕ)
+-- ---- memory ran out
+
+begun_of : (bytes rest written : List ℕ) (found : Found) → Finds (Ok (Some found)) bytes rest written → Begun bytes written
+begun_of bytes rest written (Founds.Called call) f = inr (f.0, f.2.count, f.2.head, f.4)
+begun_of bytes rest written (Founds.Refused denial) f = inl f.1
+
+module _ {C S : Type 0} (gives : C → ℕ → C → Type 0) (answers : S → Asked → ℕ → Reply → S → Type 0) (starves : S → S → Type 0) where
+  -- at what stands at the front
+  starve : (clock clock' clock'' : C) (world world' world'' : S) (left left' left'' held held' held'' : Option (List ℕ)) (buffer more written : List ℕ) (turns turns' : ℕ)
       → Serving gives answers clock clock' world world' left left' held held' buffer turns turns'
       → Consumes left' left'' more → Appends held' held'' written → Begun (buffer ++ more) written
-      → Starved gives answers clock world left left'' held held'' []
-  starve clock clock' world world' left left' left'' held held' held'' buffer more written turns turns' serving came went begun = record {
+      → Breaks-off gives answers starves clock' clock'' world' world'' (buffer ++ more) written
+      → Starved gives answers starves clock clock'' world world'' left left'' held held'' []
+  starve clock clock' clock'' world world' world'' left left' left'' held held' held'' buffer more written turns turns' serving came went begun breaks = record {
     received = serving.received ++ more;
     consumed = Consumes-trans left left' left'' serving.received more serving.said.consumed came;
     exchanges = serving.exchanges;
@@ -302,48 +291,50 @@ module _ {C S : Type 0} (gives : C → ℕ → C → Type 0) (answers : S → As
     world_then = world';
     replies = serving.said.replies;
     rest = buffer ++ more;
-    items = λ items tail read. serving.items more items tail read;
+    items = front_more serving.received more (map item_of serving.exchanges) buffer serving.items;
     begun = written;
     begun_is = begun;
+    breaks_off = breaks;
     output = subst (Appends held held'') (sym (append-nil _)) (Appends-trans held held' held'' (flat_map bytes_of serving.exchanges) written serving.said.appended went);
   }
 
   pub starve_item : (fault : FrontFault) (clock clock' : C) (world world' : S) (left left' left'' held held' held'' : Option (List ℕ)) (buffer buffer' : List ℕ) (turns turns' turns'' : ℕ)
       → Serving gives answers clock clock' world world' left left' held held' buffer turns turns'
       → Told {T = Option Found} (Err fault) (Takes (Err fault) left' left'' held' held'' buffer buffer' turns' turns'')
-      → fault ≡ NoMemory → Starved gives answers clock world left left'' held held'' []
+      → fault ≡ NoMemory → Starved gives answers starves clock clock' world world' left left'' held held'' []
   starve_item NoMemory clock clock' world world' left left' left'' held held' held'' buffer buffer' turns turns' turns'' serving takes is =
-      starve clock clock' world world' left left' left'' held held' held'' buffer takes.more takes.written turns turns' serving takes.consumed takes.appended takes.found
+      starve clock clock' clock' world world' world' left left' left'' held held' held'' buffer takes.more takes.written turns turns' serving takes.consumed takes.appended takes.found (inl (refl, refl))
   starve_item Read clock clock' world world' left left' left'' held held' held'' buffer buffer' turns turns' turns'' serving takes is = absurd (cc)
   starve_item Turns clock clock' world world' left left' left'' held held' held'' buffer buffer' turns turns' turns'' serving takes is = absurd (cc)
   starve_item Write clock clock' world world' left left' left'' held held' held'' buffer buffer' turns turns' turns'' serving takes is = absurd (cc)
 
-  begun_of : (bytes rest written : List ℕ) (found : Found) → Finds (Ok (Some found)) bytes rest written → Begun bytes written
-  begun_of bytes rest written (Founds.Called call) f = inr (f.0, f.2.count, f.2.head, f.4)
-  begun_of bytes rest written (Founds.Refused denial) f = inl f.1
+  silent_of : (clock clock' : C) (world world' : S) (bytes rest written : List ℕ) (found : Found) → Finds (Ok (Some found)) bytes rest written
+      → Abandons gives answers starves clock clock' world world' found → Falls-silent gives answers starves clock clock' world world' bytes written
+  silent_of clock clock' world world' bytes rest written (Founds.Called call) f a = record {
+    item = Requested f.0 f.1;
+    rest = rest;
+    begins = f.2;
+    first = f.4;
+    moment = a.moment;
+    ticked = a.ticked;
+    left = subst (λ (k : Call). Gives-up answers starves world world' k.request a.moment) f.3 a.left;
+  }
+  silent_of clock clock' world world' bytes rest written (Founds.Refused denial) f a = record {
+    item = Refused denial;
+    rest = rest;
+    begins = f.0;
+    first = f.1;
+    moment = a.moment;
+    ticked = a.ticked;
+    left = a.left;
+  }
 
-  pub starve_answer : (found : Found) (clock clock' : C) (world world' : S) (left left' left'' held held' held'' : Option (List ℕ)) (buffer buffer' : List ℕ) (turns turns' turns'' : ℕ)
+  pub starve_answer : (found : Found) (clock clock' clock'' : C) (world world' world'' : S) (left left' left'' held held' held'' : Option (List ℕ)) (buffer buffer' : List ℕ) (turns turns' turns'' : ℕ)
       → Serving gives answers clock clock' world world' left left' held held' buffer turns turns'
       → Takes (Ok (Some found)) left' left'' held' held'' buffer buffer' turns' turns''
-      → Starved gives answers clock world left left'' held held'' []
-  starve_answer found clock clock' world world' left left' left'' held held' held'' buffer buffer' turns turns' turns'' serving takes =
-      starve clock clock' world world' left left' left'' held held' held'' buffer takes.more takes.written turns turns' serving takes.consumed takes.appended (begun_of (buffer ++ takes.more) buffer' takes.written found takes.found)
-
-  -- the last words
-  pub starved_last : (clock : C) (world : S) (left left' held held' held'' held''' : Option (List ℕ)) (last : List ℕ)
-      → Starved gives answers clock world left left' held held' [] → Appends held' held'' last → Keeps held'' held'''
-      → Starved gives answers clock world left left' held held''' last
-  starved_last clock world left left' held held' held'' held''' last s went kept = record {
-    received = s.received;
-    consumed = s.consumed;
-    exchanges = s.exchanges;
-    clock_then = s.clock_then;
-    moments = s.moments;
-    world_then = s.world_then;
-    replies = s.replies;
-    rest = s.rest;
-    items = s.items;
-    begun = s.begun;
-    begun_is = s.begun_is;
-    output = Appends-kept held held'' held''' _ (Appends-trans held held' held'' _ last (subst (Appends held held') (append-nil _) s.output) went) kept;
-  }
+      → Abandons gives answers starves clock' clock'' world' world'' found
+      → Starved gives answers starves clock clock'' world world'' left left'' held held'' []
+  starve_answer found clock clock' clock'' world world' world'' left left' left'' held held' held'' buffer buffer' turns turns' turns'' serving takes abandons =
+      starve clock clock' clock'' world world' world'' left left' left'' held held' held'' buffer takes.more takes.written turns turns' serving takes.consumed takes.appended
+      (begun_of (buffer ++ takes.more) buffer' takes.written found takes.found)
+      (inr (silent_of clock' clock'' world' world'' (buffer ++ takes.more) buffer' takes.written found takes.found abandons))

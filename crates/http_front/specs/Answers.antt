@@ -1,5 +1,5 @@
 -- What answering one item does.
-use Rattle.std.specs.Prelude.{◌≡◌, ℕ, Bool, List, true, Some, Option}
+use Rattle.std.specs.Prelude.{◌≡◌, ◌⊎◌, ℕ, Bool, List, true, Some, Option}
 use Rattle.std.specs.Io.KnownBytes.{Appends}
 use Rattle.stamp_types.specs.Requests.{Asked}
 use Rattle.stamp_types.specs.Replies.{denied}
@@ -9,6 +9,7 @@ use Rattle.http_front.specs.declared.input.Call.{Call}
 use Rattle.http_front.specs.declared.input.Found.{Found}
 use Rattle.http_front.specs.declared.input.Found.TheVariants as Founds
 use Rattle.reply_form.specs.ReplyBytes.{reply_bytes}
+use Rattle.http_front.specs.Streams.{refusal_of}
 
 -- the service gave one reply at this moment, and this was written
 pub record Answers {S : Type 0} (answers : S → Asked → ℕ → Reply → S → Type 0) (world world' : S) (held held' : Option (List ℕ)) (call : Call) (moment : ℕ) : Type 0 where
@@ -18,7 +19,7 @@ pub record Answers {S : Type 0} (answers : S → Asked → ℕ → Reply → S �
 
 -- the refusal was written, and that it closes
 abbrev pub Turns-away : Option (List ℕ) → Option (List ℕ) → Denial → ℕ → Type 0
-Turns-away held held' denial moment = Appends held held' (reply_bytes (denied denial.rule denial.code) moment denial.verb true)
+Turns-away held held' denial moment = Appends held held' (reply_bytes (denied (refusal_of denial)) moment denial.verb true)
 
 -- an item was answered; of a refusal the service hears nothing, and it closes
 abbrev pub Settled : {S : Type 0} → (S → Asked → ℕ → Reply → S → Type 0) → S → S → Option (List ℕ) → Option (List ℕ) → Found → Bool → ℕ → Type 0
@@ -31,3 +32,19 @@ pub record Settles {C S : Type 0} (gives : C → ℕ → C → Type 0) (answers 
   pub moment : ℕ
   pub ticked : gives clock moment clock'
   pub settled : Settled answers world world' held held' found closes moment
+
+-- a request wasn't answered: the service gave no reply and left this world, or gave one that wasn't written in full
+abbrev pub Gives-up : {S : Type 0} → (S → Asked → ℕ → Reply → S → Type 0) → (S → S → Type 0) → S → S → Asked → ℕ → Type 0
+Gives-up answers starves world world' request moment = starves world world' ⊎ ((reply : Reply) × answers world request moment reply world')
+
+-- an item wasn't answered; of a refusal the service hears nothing
+abbrev pub Given-up : {S : Type 0} → (S → Asked → ℕ → Reply → S → Type 0) → (S → S → Type 0) → S → S → Found → ℕ → Type 0
+Given-up answers starves world world' (Founds.Called call) moment = Gives-up answers starves world world' call.request moment
+Given-up answers starves world world' (Founds.Refused denial) moment = world' ≡ world
+
+-- the clock gave one moment, and an item wasn't answered at it
+pub record Abandons {C S : Type 0} (gives : C → ℕ → C → Type 0) (answers : S → Asked → ℕ → Reply → S → Type 0) (starves : S → S → Type 0)
+    (clock clock' : C) (world world' : S) (found : Found) : Type 0 where
+  pub moment : ℕ
+  pub ticked : gives clock moment clock'
+  pub left : Given-up answers starves world world' found moment

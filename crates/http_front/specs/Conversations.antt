@@ -11,7 +11,8 @@ use Rattle.http_front.specs.declared.end.FrontFault.{FrontFault}
 use Rattle.http_front.specs.declared.end.FrontFault.TheVariants.{Turns}
 use Rattle.request_form.specs.HeadForms.{Form, with_body}
 use Rattle.reply_form.specs.ReplyBytes.{reply_bytes}
-use Rattle.http_front.specs.Streams.{Item, Tail, HasHead, Reads, interim, first_bytes, tail_bytes}
+use Rattle.http_front.specs.Answers.{Gives-up}
+use Rattle.http_front.specs.Streams.{Item, Tail, HasHead, Begins, Reads, Reads-front, interim, first_bytes, tail_bytes, refusal_of}
 use Rattle.http_front.specs.Streams.Item.{Requested, Refused}
 use Rattle.http_front.specs.Streams.Tail.{AtStart, Closing}
 
@@ -33,7 +34,7 @@ moment_of (Turned denial moment) = moment
 -- the bytes of the answer
 abbrev pub answer_bytes : Exchange → List ℕ
 answer_bytes (Answered form body moment reply) = reply_bytes reply moment (Some form.ask.signing.verb) form.closes
-answer_bytes (Turned denial moment) = reply_bytes (denied denial.rule denial.code) moment denial.verb true
+answer_bytes (Turned denial moment) = reply_bytes (denied (refusal_of denial)) moment denial.verb true
 
 -- what is written for an item: the interim reply where it is asked for, and the answer
 unfoldable pub bytes_of : Exchange → List ℕ
@@ -86,10 +87,32 @@ pub record Conversed {C S : Type 0} (gives : C → ℕ → C → Type 0) (answer
 abbrev pub Begun : List ℕ → List ℕ → Type 0
 Begun bytes written = (written ≡ []) ⊎ ((form : Form) × (count : ℕ) × HasHead bytes count form × (written ≡ interim form))
 
--- Memory ran out. What was taken begins with items that were answered in full; behind their output stand what was begun of the
+-- memory ran out at the answer to an item, at this moment; of a refusal the service hears nothing
+abbrev pub Leaves : {S : Type 0} → (S → Asked → ℕ → Reply → S → Type 0) → (S → S → Type 0) → S → S → Item → ℕ → Type 0
+Leaves answers starves world world' (Requested form body) moment = Gives-up answers starves world world' (with_body form body) moment
+Leaves answers starves world world' (Refused denial) moment = world' ≡ world
+
+-- An item stands at the front, and before its answer this was written. The clock gave one moment for it, and the answer was not written.
+pub record Falls-silent {C S : Type 0} (gives : C → ℕ → C → Type 0) (answers : S → Asked → ℕ → Reply → S → Type 0) (starves : S → S → Type 0)
+    (clock clock' : C) (world world' : S) (bytes written : List ℕ) : Type 0 where
+  pub item : Item
+  pub rest : List ℕ
+  pub begins : Begins bytes item rest
+  pub first : written ≡ first_bytes item
+  pub moment : ℕ
+  pub ticked : gives clock moment clock'
+  pub left : Leaves answers starves world world' item moment
+
+-- clock and service are as they were, since memory ran out before an item was found; or as the answer to one left them
+abbrev pub Breaks-off : {C S : Type 0} → (C → ℕ → C → Type 0) → (S → Asked → ℕ → Reply → S → Type 0) → (S → S → Type 0)
+    → C → C → S → S → List ℕ → List ℕ → Type 0
+Breaks-off gives answers starves clock clock' world world' bytes written =
+    ((clock' ≡ clock) × (world' ≡ world)) ⊎ Falls-silent gives answers starves clock clock' world world' bytes written
+
+-- Memory ran out. What was taken begins with items that were answered in full; after their output come what was begun of the
 -- next one, and the words that end the run.
-pub record Starved {C S : Type 0} (gives : C → ℕ → C → Type 0) (answers : S → Asked → ℕ → Reply → S → Type 0)
-    (clock : C) (world : S) (left left' held held' : Option (List ℕ)) (last : List ℕ) : Type 0 where
+pub record Starved {C S : Type 0} (gives : C → ℕ → C → Type 0) (answers : S → Asked → ℕ → Reply → S → Type 0) (starves : S → S → Type 0)
+    (clock clock' : C) (world world' : S) (left left' held held' : Option (List ℕ)) (last : List ℕ) : Type 0 where
   pub received : List ℕ
   pub consumed : Consumes left left' received
   pub exchanges : List Exchange
@@ -98,7 +121,8 @@ pub record Starved {C S : Type 0} (gives : C → ℕ → C → Type 0) (answers 
   pub world_then : S
   pub replies : Replies answers world exchanges world_then
   pub rest : List ℕ
-  pub items : (items : List Item) (tail : Tail) → Reads rest items tail → Reads received (map item_of exchanges ++ items) tail
+  pub items : Reads-front received (map item_of exchanges) rest
   pub begun : List ℕ
   pub begun_is : Begun rest begun
+  pub breaks_off : Breaks-off gives answers starves clock_then clock' world_then world' rest begun
   pub output : Appends held held' ((flat_map bytes_of exchanges ++ begun) ++ last)

@@ -1,28 +1,38 @@
 -- What a service over one account's rows holds and answers (Calder et al., SOSP 2011, section 5; Blob service REST reference,
 -- 2012-02-12, the page of each operation).
-use Rattle.std.specs.Prelude.{◌≡◌, ◌⊎◌, ℕ, List, Some, None, codes, refl, unwrap_or}
+use Rattle.std.specs.Prelude.{◌≡◌, ◌⊎◌, ℕ, List, true, Option, Some, None, codes, refl}
 use Rattle.std.specs.Coded.{Coded, code_by, coded_ℕ, coded×}
+use Rattle.std.specs.List.{flat_map}
+use Rattle.std.specs.Option.{option_or}
+use Rattle.stamp_values.specs.Acls.{closed_acl}
 use Rattle.stamp_values.specs.declared.key.Key.{Key}
-use Rattle.stamp_types.specs.declared.code.Code.TheVariants as code
 use Rattle.stamp_types.specs.declared.piece.Piece.{Piece}
+use Rattle.stamp_types.specs.declared.refusal.Refusal.{Refusal}
 use Rattle.stamp_types.specs.declared.reply.Reply.{Reply}
-use Rattle.stamp_types.specs.declared.rule.Rule.TheVariants as rule
-use Rattle.stamp_types.specs.Replies.{denied}
+use Rattle.stamp_types.specs.Contents.{EachWorldContent}
+use Rattle.stamp_types.specs.Pieces.{held, is_held, piece_bytes, pieces_len}
 use Rattle.stamp_types.specs.Requests.{Asked}
-use Rattle.stamp_types.specs.World.{World, part_at}
+use Rattle.stamp_types.specs.World.{Part, World, part_at, part_value, world_value, same_pieces}
 use Rattle.stamp_types.specs.WorldCodes.{text_code}
 use Rattle.access_rules.specs.declared.keys.Keys.{Keys}
-use Rattle.access_rules.specs.Rules.{closed}
+use Rattle.range_rows.specs.declared.answer.Span.{Span}
 use Rattle.range_rows.specs.BlobRows.{rows_code}
+use Rattle.range_rows.specs.ObjectReplies.{span_bytes}
+use Rattle.range_rows.specs.ObjectRules.{object_refusal}
 use Rattle.range_rows.specs.Opening.{one_part, opening}
-use Rattle.stamp_model.specs.Effects.{effect}
-use Rattle.stamp_model.specs.Refusals.{access_of}
+use Rattle.stamp_model.specs.Effects.{effect, effect_as}
+use Rattle.stamp_model.specs.Refusals.{acl_of, refusal, unserved_refusal}
 use Rattle.stamp_model.specs.Responses.{reply}
 
--- an account's keys, and the containers that are held
+-- an account's keys, and the containers that the stamp holds
 pub record Held : Type 0 where
   pub keys : Keys
-  pub world : World (List Piece)
+  pub world : World (List ℕ)
+
+-- an account's keys, and the containers as rows hold them: their content in pieces
+pub record HeldRows : Type 0 where
+  pub keys : Keys
+  pub rows : World (List Piece)
 
 -- the code of keys
 abbrev pub keys_code : Coded Keys
@@ -30,21 +40,49 @@ keys_code =
     code_by ((List ℕ × List ℕ) × (List ℕ × ℕ)) (coded× (coded× text_code text_code) (coded× text_code coded_ℕ))
     (λ k. ((k.account, k.first), (k.second, k.epoch))) (λ p. record { account = p.0.0; first = p.0.1; second = p.1.0; epoch = p.1.1 }) (λ _. refl)
 
--- the code of what is held
-abbrev pub held_code : Coded Held
-held_code = code_by (Keys × World (List Piece)) (coded× keys_code rows_code) (λ h. (h.keys, h.world)) (λ p. record { keys = p.0; world = p.1 }) (λ _. refl)
+-- the code of what rows hold
+abbrev pub rows_held_code : Coded HeldRows
+rows_held_code = code_by (Keys × World (List Piece)) (coded× keys_code rows_code) (λ h. (h.keys, h.rows)) (λ p. record { keys = p.0; rows = p.1 }) (λ _. refl)
 
--- each container that stands lets no one in without a credential
+-- each container that exists lets no one in without a credential
 abbrev pub AreClosed : World (List Piece) → Type 0
-AreClosed w = (k : Key) → (access_of (part_at w k) ≡ None) ⊎ (access_of (part_at w k) ≡ Some closed)
+AreClosed w = (k : Key) → (acl_of (part_at w k) ≡ None) ⊎ (acl_of (part_at w k) ≡ Some closed_acl)
 
--- what is held at first: the container `pics` of the keys' account, made at the moment
+-- each content is held in memory, and none is a place in a stream
+abbrev pub AreHeld : World (List Piece) → Type 0
+AreHeld w = EachWorldContent (λ ps. is_held ps ≡ true) w
+
+-- what rows hold at first: the container `pics` of the keys' account, made at the moment
+abbrev pub rows_first : Keys → ℕ → HeldRows
+rows_first keys t = record { keys = keys; rows = one_part (record { account = keys.account; container = codes "pics" }) (opening t) }
+
+-- what is held at first, in bytes
 abbrev pub held_first : Keys → ℕ → Held
 held_first keys t = record { keys = keys; world = one_part (record { account = keys.account; container = codes "pics" }) (opening t) }
 
--- the reply; an operation that isn't served yet is refused as a head that asks for it is
+-- what rows hold, in bytes
+abbrev pub held_of : HeldRows → Held
+held_of h = record { keys = h.keys; world = world_value held h.rows }
+
+-- the refusal of a request that is permitted, read off the sizes that rows say
+abbrev pub object_or_unserved : Part (List Piece) → Asked → Option Refusal
+object_or_unserved p q = option_or (object_refusal (part_value pieces_len p) q) (unserved_refusal q.ask.op)
+
+-- the refusal of a request, read off the sizes that the rows say
+abbrev pub row_refusal : HeldRows → Asked → ℕ → Option Refusal
+row_refusal h q t = refusal (Some h.keys) (part_value pieces_len (part_at h.rows q.ask.key)) q t
+
+-- what rows hold after a request
+abbrev pub rows_after : HeldRows → Asked → ℕ → HeldRows
+rows_after h q t = record { keys = h.keys; rows = effect_as pieces_len same_pieces (Some h.keys) h.rows q t }
+
+-- the bytes of spans whose pieces are held in memory
+abbrev pub bytes_held : List Span → List ℕ
+bytes_held spans = flat_map (span_bytes piece_bytes) spans
+
+-- the reply to a request
 abbrev pub held_reply : Held → Asked → ℕ → Reply
-held_reply h q t = unwrap_or (reply (Some h.keys) h.world q t) (denied rule.F3 code.InvalidQueryParameterValue)
+held_reply h q t = reply (Some h.keys) h.world q t None
 
 -- what is held after a request
 abbrev pub held_after : Held → Asked → ℕ → Held

@@ -1,6 +1,7 @@
 -- The items of a stream of bytes: heads, each with the body that its length announces, up to the one that closes (RFC 9112,
 -- sections 2.1, 6.3, 9.3 and 9.6; RFC 9110, section 10.1.1).
 use Rattle.std.specs.Prelude.{◌≡◌, ◌⊎◌, ℕ, ◌<◌, ◌≤◌, Bool, true, false, List, [], ◌∷◌, ◌++◌, length, take, drop, Some, None, if◌then◌else◌}
+use Rattle.stamp_types.specs.declared.refusal.Refusal.{Refusal}
 use Rattle.request_form.specs.declared.denial.Denial.{Denial}
 use Rattle.reply_form.specs.FixedReplies.{interim_bytes}
 use Rattle.http_front.specs.HeadEnds.{head_len}
@@ -12,6 +13,10 @@ use Rattle.request_form.specs.Heads.{Accepts, Refuses, head_limit}
 pub data Item : Type 0 where
   Requested : Form → List ℕ → Item
   Refused : Denial → Item
+
+-- the refusal that a refused head is answered by
+abbrev pub refusal_of : Denial → Refusal
+refusal_of denial = record { rule = denial.rule; code = denial.code }
 
 -- where a stream stops behind its last item
 pub data Tail : Type 0 where
@@ -81,6 +86,11 @@ Goes-on false items tail more = more
 abbrev pub Reads : List ℕ → List Item → Tail → Type 0
 Reads bytes [] tail = EndsIn bytes tail
 Reads bytes (item ∷ items) tail = (rest : List ℕ) × Begins bytes item rest × Goes-on (item_closes item) items tail (Reads rest items tail)
+
+-- the items stand at the front in turn, none of them closes, and these bytes follow
+abbrev pub Reads-front : List ℕ → List Item → List ℕ → Type 0
+Reads-front bytes [] rest = rest ≡ bytes
+Reads-front bytes (item ∷ items) rest = (next : List ℕ) × Begins bytes item next × (item_closes item ≡ false) × Reads-front next items rest
 
 -- what is written before the body of a request that waits for it
 unfoldable pub interim : Form → List ℕ

@@ -1,10 +1,10 @@
 //! One connection.
-ghost use Rattle.std.specs.Prelude.{◌≡◌, [], Ok, Err, IfOk, OnOk, IfErr, IfSome};
+ghost use Rattle.std.specs.Prelude.{◌≡◌, [], Ok, Err, IfOk, OnOk, OnErr, IfErr, IfSome};
 ghost use Rattle.std.specs.Io.KnownBytes.{Appends};
 ghost use Rattle.reply_form.specs.FixedReplies.{out_of_memory_bytes};
 ghost use Rattle.http_front.specs.Outcomes.{Served, IsLate};
 ghost use Rattle.http_front.specs.Conversations.{Conversed, Converses, Starved};
-ghost use Rattle.http_front.specs.Answers.{Answers, Turns-away, Settles};
+ghost use Rattle.http_front.specs.Answers.{Abandons, Answers, Gives-up, Settles, Turns-away};
 ghost use Rattle.reply_form.specs.ReplyBytes.{reply_bytes};
 ghost use Rattle.http_front.specs.declared.end.End.{End};
 ghost use Rattle.http_front.specs.declared.end.FrontFault.{FrontFault};
@@ -17,7 +17,7 @@ use crate::output::send;
 use crate::service::{Clock, Service};
 use reply_form::{out_of_memory_reply, sends_body, write_head, write_reply};
 use request_form::Denial;
-use stamp_types::{Moment, Reply, Verb};
+use stamp_types::{Moment, Refusal, Reply, Verb};
 use std::alloc::Global;
 use std::io::{Read, Write};
 
@@ -75,6 +75,7 @@ fn answer_call<W: Write, S: Service>(
     moment: Moment,
 ) -> Result<(), FrontFault>
     ensures answered { OnOk result (Answers S.answers (S.world service.old) (S.world service.new) (W.contents writer.old) (W.contents writer.new) call moment) }
+    ensures left { OnErr result (Gives-up S.answers S.starves (S.world service.old) (S.world service.new) call.request moment) }
     ensures starved { result ≡ Err FrontFault.NoMemory → writer.new ≡ writer.old }
     ensures late { IfErr result IsLate }
 {
@@ -98,7 +99,11 @@ fn answer_denial<W: Write>(
     ensures starved { result ≡ Err FrontFault.NoMemory → writer.new ≡ writer.old }
     ensures late { IfErr result IsLate }
 {
-    let reply = Reply::denied(alloc, denial.rule, denial.code)?;
+    let refusal = Refusal {
+        rule: denial.rule,
+        code: denial.code,
+    };
+    let reply = Reply::denied(alloc, refusal)?;
     send_reply(alloc, writer, &reply, moment, denial.verb, true)
 }
 
@@ -112,6 +117,7 @@ fn answer_item<W: Write, C: Clock, S: Service>(
 ) -> Result<bool, FrontFault>
     ensures answered { IfOk result (λ closes. Settles C.gives S.answers clock.old clock.new (S.world service.old) (S.world service.new)
         (W.contents writer.old) (W.contents writer.new) found closes) }
+    ensures left { OnErr result (Abandons C.gives S.answers S.starves clock.old clock.new (S.world service.old) (S.world service.new) found) }
     ensures starved { result ≡ Err FrontFault.NoMemory → writer.new ≡ writer.old }
     ensures late { IfErr result IsLate }
 {
@@ -142,8 +148,9 @@ fn converse<R: Read, W: Write, C: Clock, S: Service>(
         (R.remaining reader.old) (R.remaining reader.new) (W.contents writer.old) (W.contents writer.new) result turns) }
     ensures whole { OnOk result (IfSome (R.remaining reader.old) (Converses C.gives S.answers clock.old clock.new
         (S.world service.old) (S.world service.new) (W.contents writer.old) (W.contents writer.new) result turns)) }
-    ensures starved { result ≡ Err FrontFault.NoMemory → Starved C.gives S.answers clock.old (S.world service.old)
-        (R.remaining reader.old) (R.remaining reader.new) (W.contents writer.old) (W.contents writer.new) [] }
+    ensures starved { result ≡ Err FrontFault.NoMemory → Starved C.gives S.answers S.starves clock.old clock.new
+        (S.world service.old) (S.world service.new) (R.remaining reader.old) (R.remaining reader.new)
+        (W.contents writer.old) (W.contents writer.new) [] }
 {
     let mut buffer = Buffer::new(alloc);
     let mut left = turns;
@@ -178,9 +185,11 @@ pub fn run<R: Read, W: Write, C: Clock, S: Service>(
     // It is that of the whole input, however it was cut into reads.
     ensures whole { OnOk result (IfSome (R.remaining reader.old) (Converses C.gives S.answers clock.old clock.new
         (S.world service.old) (S.world service.new) (W.contents writer.old) (W.contents writer.new) result turns)) }
-    // Where memory ran out, the items before are answered in full, and what is said last is that alone.
-    ensures starved { result ≡ Err FrontFault.NoMemory → Starved C.gives S.answers clock.old (S.world service.old)
-        (R.remaining reader.old) (R.remaining reader.new) (W.contents writer.old) (W.contents writer.new) out_of_memory_bytes }
+    // If memory ran out, the items before are answered in full, and what is said last is that alone. Clock and service are as the
+    // last of those items left them, or as the item left them whose answer was not written.
+    ensures starved { result ≡ Err FrontFault.NoMemory → Starved C.gives S.answers S.starves clock.old clock.new
+        (S.world service.old) (S.world service.new) (R.remaining reader.old) (R.remaining reader.new)
+        (W.contents writer.old) (W.contents writer.new) out_of_memory_bytes }
 {
     let ended = converse(alloc, reader, writer, clock, service, turns);
     if ended == Err(FrontFault::NoMemory) {

@@ -3,6 +3,7 @@
 
 mod buffer;
 mod connection;
+mod content;
 mod end;
 mod head_end;
 mod input;
@@ -14,6 +15,10 @@ mod stream_laws;
 pub use connection::run;
 pub use end::{End, FrontFault};
 pub use plain::{Plain, PlainFault};
-pub use request_form::{Denial, Head, HeadFault, a_head_is_read_in_one_way, read_head};
+pub use request_form::{
+    Denial, Head, HeadFault, a_head_is_read_in_one_way, each_head_is_accepted_or_refused, read_head,
+};
 pub use service::{Clock, Service};
-pub use stream_laws::{a_head_ends_with_its_first_empty_line, a_stream_is_read_in_one_way};
+pub use stream_laws::{
+    a_head_ends_with_its_first_empty_line, a_stream_is_read_in_one_way, each_stream_is_read,
+};

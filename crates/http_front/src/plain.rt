@@ -1,21 +1,21 @@
 //! The service over the rows of one account.
-ghost use Rattle.std.specs.Prelude.{◌≡◌, false, None, Some, Err, IfOk, IsSome, IsTrue, OnErr, OnOk, codes};
-ghost use Rattle.std.specs.Option.{option_map};
+ghost use Rattle.std.specs.Prelude.{◌≡◌, false, None, Some, Err, IfOk, IsTrue, OnErr, OnOk, codes};
 ghost use Rattle.stamp_values.specs.declared.op.Op.TheVariants as op;
 ghost use Rattle.stamp_values.specs.Names.{is_account};
 ghost use Rattle.stamp_types.specs.Replies.{denied};
-ghost use Rattle.stamp_types.specs.World.{part_at};
+ghost use Rattle.range_rows.specs.RequestChanges.{reading_of};
 ghost use Rattle.stamp_model.specs.Refusals as refusals;
-ghost use Rattle.stamp_model.specs.Refusals.{refusing_rule};
-ghost use Rattle.http_front.specs.PlainAnswers.{Held, Held-answers, held_first, held_after};
+ghost use Rattle.http_front.specs.PlainAnswers.{AreHeld, Held, Held-answers, held_first, held_of, held_reply, object_or_unserved, row_refusal, rows_after, rows_first};
+ghost use Rattle.stamp_types.specs.World.{part_at};
 ghost use Rattle.http_front.specs.declared.plain.PlainFault.{PlainFault};
 ghost use Rattle.http_front.specs.declared.plain.PlainFault.TheVariants.{NoMemory};
 
+use crate::content::reply_with_content;
 use crate::service::Service;
 use access_rules::{Keys, Verdict, verdict};
-use range_rows::{Rows, object_code};
+use range_rows::{Reading, Rows, read_request};
 use request_form::account_ok;
-use stamp_types::{Code, Key, Moment, Op, Reply, Request, Rule, Text};
+use stamp_types::{Code, Key, Moment, Op, Refusal, Reply, Request, Rule, Text};
 use std::alloc::{AllocError, Global};
 use std::marker::Model;
 use thiserror::Error;
@@ -52,45 +52,40 @@ impl From<AllocError> for PlainFault {
 }
 
 impl Model for Plain {
-    ghost use Rattle.http_front.specs.PlainAnswers.{Held, held_code, AreClosed};
+    ghost use Rattle.http_front.specs.PlainAnswers.{HeldRows, rows_held_code, AreClosed, AreHeld};
 
-    ghost Value = { Held };
+    ghost Value = { HeldRows };
 
-    ghost coded = { held_code };
+    ghost coded = { rows_held_code };
 
-    ghost view = { λ p. record { keys = p.keys; world = p.rows } };
+    ghost view = { λ p. record { keys = p.keys; rows = p.rows } };
 
-    // No operation opens a container so far, and permission is judged as by a closed one.
-    ghost invariant = { λ p. AreClosed p.rows };
+    // No operation opens a container so far, and permission is judged as by a closed one. Content is held in memory.
+    ghost invariant = { λ p. AreClosed p.rows × AreHeld p.rows };
 }
 
-// The error code of a rule of permission or of the object.
-fn code_of(rule: Rule) -> Option<Code>
-    ensures { result ≡ refusals.code_of rule }
+// The refusal by a rule of permission.
+fn access_refusal(rule: Rule) -> Refusal
+    ensures { result ≡ refusals.access_refusal rule }
 {
-    match rule {
-        Rule::K1 => Some(Code::InvalidAuthenticationInfo),
-        Rule::K2 | Rule::K3 | Rule::K4 | Rule::K5 | Rule::S1 => Some(Code::AuthenticationFailed),
-        Rule::P1 | Rule::P2 => Some(Code::ResourceNotFound),
-        other => object_code(other),
-    }
+    let code = match rule {
+        Rule::K1 => Code::InvalidAuthenticationInfo,
+        Rule::P1 | Rule::P2 => Code::ResourceNotFound,
+        _ => Code::AuthenticationFailed,
+    };
+    Refusal { rule, code }
 }
 
-// The refusal of an operation that isn't served yet.
-fn unserved(alloc: Global) -> Result<Reply, AllocError>
-    ensures { IfOk result (λ reply. reply ≡ denied Rule.F3 Code.InvalidQueryParameterValue) }
+// The refusal of an operation that is not served yet.
+fn unserved_refusal(op: Op) -> Option<Refusal>
+    ensures { result ≡ refusals.unserved_refusal op }
 {
-    Reply::denied(alloc, Rule::F3, Code::InvalidQueryParameterValue)
-}
-
-// What is answered where a rule refuses that has a code.
-fn refused(alloc: Global, rule: Rule) -> Result<Reply, AllocError>
-    requires { IsSome (refusals.code_of rule) }
-    ensures { IfOk result (λ reply. option_map (denied rule) (refusals.code_of rule) ≡ Some reply) }
-{
-    match code_of(rule) {
-        Some(code) => Reply::denied(alloc, rule, code),
-        None => unreachable!(),
+    match op {
+        Op::PutBlob | Op::GetBlob => None,
+        _ => Some(Refusal {
+            rule: Rule::F3,
+            code: Code::InvalidQueryParameterValue,
+        }),
     }
 }
 
@@ -110,10 +105,11 @@ impl Plain {
     /// The service of the keys' account, which holds one closed container, `pics`, made at the moment by the first of its
     /// changes.
     ///
-    /// `Account` where the keys are those of no good name of an account, `NoMemory` where there is no memory for the rows.
-    #[tactic(auto, using(crate::proofs::ClosedWorlds::first_closed))]
+    /// `Account` if the keys are those of a name that no account can have, `NoMemory` if there is no memory for the rows.
+    #[tactic(auto, using(crate::proofs::PlainLemmas::first_closed, crate::proofs::PlainLemmas::first_held))]
     pub fn new(alloc: Global, keys: Keys, moment: Moment) -> Result<Self, PlainFault>
-        ensures value { IfOk result (λ plain. plain ≡ held_first keys moment) }
+        ensures value { IfOk result (λ plain. plain ≡ rows_first keys moment) }
+        ensures held { IfOk result (λ plain. held_of plain ≡ held_first keys moment) }
         ensures named { IfOk result (λ _. IsTrue (is_account keys.account)) }
         ensures account { result ≡ Err PlainFault.Account → is_account keys.account ≡ false }
     {
@@ -127,73 +123,115 @@ impl Plain {
         })
     }
 
-    // The first rule that refuses the request, of permission and of the object, where one does.
-    #[tactic(auto, using(crate::proofs::ClosedWorlds::refusal_denied, crate::proofs::ClosedWorlds::refusal_allowed))]
+    // The refusal of a request that is permitted.
+    fn object_refusal(
+        &self,
+        alloc: Global,
+        request: &Request,
+        reading: &Reading,
+    ) -> Result<Option<Refusal>, AllocError>
+        requires { reading.now ≡ reading_of request.now }
+        ensures { IfOk result (λ refusal. refusal ≡ object_or_unserved (part_at self.now.rows request.now.ask.key) request.now) }
+    {
+        match self.rows.object_rule(alloc, request, reading)? {
+            Some(refusal) => Ok(Some(refusal)),
+            None => Ok(unserved_refusal(request.ask().op)),
+        }
+    }
+
+    // The refusal of a request, if it has one: by permission, or else by the object, or else since it is not served.
+    #[tactic(auto, using(crate::proofs::PlainLemmas::refusal_denied, crate::proofs::PlainLemmas::refusal_allowed))]
     fn refusal(
         &self,
         alloc: Global,
         request: &Request,
+        reading: &Reading,
         moment: Moment,
-    ) -> Result<Option<Rule>, AllocError>
-        ensures { IfOk result (λ rule. rule ≡ refusing_rule (Some self.now.keys) (part_at self.now.world request.now.ask.key) request.now moment) }
+    ) -> Result<Option<Refusal>, AllocError>
+        requires { reading.now ≡ reading_of request.now }
+        ensures refusal { IfOk result (λ refusal. refusal ≡ row_refusal self.now request.now moment) }
+        ensures held { AreHeld self.now.rows }
     {
         match verdict(alloc, Some(&self.keys), request, moment)? {
-            Verdict::Deny(rule) => Ok(Some(rule)),
-            Verdict::Allow(_) => Ok(self.rows.object_rule(request)),
+            Verdict::Deny(rule) => Ok(Some(access_refusal(rule))),
+            Verdict::Allow(_) => self.object_refusal(alloc, request, reading),
         }
     }
 
-    // Makes the change of a Put Blob that no rule refuses.
-    #[tactic(auto, using(crate::proofs::ClosedWorlds::object_rule_allowed, crate::proofs::ClosedWorlds::closed_kept, crate::proofs::ClosedWorlds::held_after_put))]
-    fn keep(&mut self, alloc: Global, request: &Request, moment: Moment) -> Result<(), AllocError>
+    // Makes the change of a Put Blob that nothing refuses.
+    #[tactic(auto, using(crate::proofs::PlainLemmas::unopposed, crate::proofs::PlainLemmas::rows_after_put))]
+    fn keep(
+        &mut self,
+        alloc: Global,
+        request: &Request,
+        reading: &Reading,
+        moment: Moment,
+    ) -> Result<(), AllocError>
         requires put { request.now.ask.op ≡ op.PutBlob }
-        requires allowed { refusing_rule (Some self.old.keys) (part_at self.old.world request.now.ask.key) request.now moment ≡ None }
-        ensures kept { OnOk result (self.new ≡ held_after self.old request.now moment) }
+        requires allowed { row_refusal self.old request.now moment ≡ None }
+        requires read { reading.now ≡ reading_of request.now }
+        ensures kept { OnOk result (self.new ≡ rows_after self.old request.now moment) }
         ensures refused { OnErr result (self.new ≡ self.old) }
     {
-        let change = self.rows.change(alloc, request, moment)?;
+        let change = self.rows.change(alloc, request, reading, moment)?;
         let kept = self.rows.apply(alloc, &change);
         drop(change);
         kept
     }
 
-    // The reply to a request that no rule refuses, and its change.
-    #[tactic(auto, using(crate::proofs::ClosedWorlds::object_rule_allowed, crate::proofs::ClosedWorlds::held_reply_allowed, crate::proofs::ClosedWorlds::held_after_read, crate::proofs::ClosedWorlds::answered_put))]
+    // The reply to a request that nothing refuses.
+    #[tactic(auto, using(crate::proofs::PlainLemmas::unopposed, crate::proofs::PlainLemmas::served))]
+    fn reply(
+        &self,
+        alloc: Global,
+        request: &Request,
+        reading: &Reading,
+        moment: Moment,
+    ) -> Result<Reply, AllocError>
+        requires allowed { row_refusal self.now request.now moment ≡ None }
+        requires read { reading.now ≡ reading_of request.now }
+        ensures { IfOk result (λ reply. reply ≡ held_reply (held_of self.now) request.now moment) }
+    {
+        let answer = self.rows.reply(alloc, request, reading, moment)?;
+        reply_with_content(answer)
+    }
+
+    // The reply to a request that nothing refuses, and its change. The reply comes first, so that nothing is changed if there is
+    // no memory for it.
     fn allowed(
         &mut self,
         alloc: Global,
         request: &Request,
+        reading: &Reading,
         moment: Moment,
     ) -> Result<Reply, AllocError>
-        requires allowed { refusing_rule (Some self.old.keys) (part_at self.old.world request.now.ask.key) request.now moment ≡ None }
-        ensures answered { IfOk result (λ reply. Held-answers self.old request.now moment reply self.new) }
+        requires allowed { row_refusal self.old request.now moment ≡ None }
+        requires read { reading.now ≡ reading_of request.now }
+        ensures replied { IfOk result (λ reply. reply ≡ held_reply (held_of self.old) request.now moment) }
+        ensures changed { OnOk result (self.new ≡ rows_after self.old request.now moment) }
         ensures unchanged { OnErr result (self.new ≡ self.old) }
     {
-        let op = request.ask().op;
-        let reply = match self.rows.reply(alloc, request, moment)? {
-            Some(reply) => reply,
-            None => return unserved(alloc),
-        };
-        if op == Op::PutBlob {
-            self.keep(alloc, request, moment)?;
+        let reply = self.reply(alloc, request, reading, moment)?;
+        if request.ask().op == Op::PutBlob {
+            self.keep(alloc, request, reading, moment)?;
         }
         Ok(reply)
     }
 
-    // The reply to a request, and its change where no rule refuses it.
-    #[tactic(auto, using(crate::proofs::ClosedWorlds::answers_refused, crate::proofs::ClosedWorlds::code_of_refusing))]
+    // The reply to a request, and its change if nothing refuses it.
     fn judged(
         &mut self,
         alloc: Global,
         request: &Request,
         moment: Moment,
     ) -> Result<Reply, AllocError>
-        ensures answered { IfOk result (λ reply. Held-answers self.old request.now moment reply self.new) }
+        ensures answered { IfOk result (λ reply. Held-answers (held_of self.old) request.now moment reply (held_of self.new)) }
         ensures unchanged { OnErr result (self.new ≡ self.old) }
     {
-        match self.refusal(alloc, request, moment)? {
-            Some(rule) => refused(alloc, rule),
-            None => self.allowed(alloc, request, moment),
+        let reading = read_request(request);
+        match self.refusal(alloc, request, &reading, moment)? {
+            Some(refusal) => Reply::denied(alloc, refusal),
+            None => self.allowed(alloc, request, &reading, moment),
         }
     }
 }
@@ -201,20 +239,22 @@ impl Plain {
 impl Service for Plain {
     ghost World = { Held };
 
-    ghost world = { λ plain. plain };
+    ghost world = { λ plain. held_of plain };
 
     ghost answers = { Held-answers };
 
+    ghost starves = { λ old new. new ≡ old };
+
     /// The reply of the model, and its change.
     ///
-    /// `AllocError` where there is no memory for the change or the reply. Nothing is changed then.
+    /// `AllocError` if there is no memory for the change or the reply. Nothing is changed then.
     fn answer(
         &mut self,
         alloc: Global,
         request: Request,
         moment: Moment,
     ) -> Result<Reply, AllocError>
-        ensures answered { IfOk result (λ reply. Held-answers self.old request moment reply self.new) }
+        ensures answered { IfOk result (λ reply. Held-answers (held_of self.old) request moment reply (held_of self.new)) }
         ensures unchanged { OnErr result (self.new ≡ self.old) }
     {
         self.judged(alloc, &request, moment)

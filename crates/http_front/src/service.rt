@@ -1,5 +1,5 @@
 //! What a connection stands between.
-ghost use Rattle.std.specs.Prelude.{◌≡◌, ℕ, IfOk};
+ghost use Rattle.std.specs.Prelude.{◌≡◌, ℕ, IfOk, OnErr};
 ghost use Rattle.stamp_types.specs.Requests.{Asked};
 ghost use Rattle.stamp_types.specs.declared.reply.Reply.{Reply};
 
@@ -16,16 +16,20 @@ pub trait Service {
     /// From the first world, this may be the reply to the request at the moment, and lead to the other world.
     ghost answers: { World → Asked → ℕ → Reply → World → Type 0 };
 
+    /// From the first world, the other may be left if memory runs out at a request.
+    ghost starves: { World → World → Type 0 };
+
     /// The reply to the request, which is judged at `moment`.
     ///
-    /// `AllocError` where there is no memory for the change or the reply; a change may stand then.
+    /// `AllocError` if there is no memory for the change or the reply.
     fn answer(
         &mut self,
         alloc: Global,
         request: Request,
         moment: Moment,
     ) -> Result<Reply, AllocError>
-        ensures { IfOk result (λ reply. answers (world self.old) request moment reply (world self.new)) };
+        ensures answered { IfOk result (λ reply. answers (world self.old) request moment reply (world self.new)) }
+        ensures starved { OnErr result (starves (world self.old) (world self.new)) };
 }
 
 /// Tells the moment.

@@ -1,17 +1,21 @@
--- What it says of a container that no rule of the object refuses a request.
-use Rattle.std.proofs.Common.{◌≡◌, ◌<◌, Bool, true, false, cond, not, ◌&&◌, List, [], ◌∷◌, Option, Some, None, nat_eq, arith, refl, subst}
+-- What it says of a container that the object does not refuse a request.
+use Rattle.std.proofs.Common.{◌≡◌, ◌<◌, ℕ, Bool, true, false, cond, not, ◌&&◌, List, [], ◌∷◌, Option, Some, None, nat_eq, arith, refl, ap, ◌∙◌, subst}
 use Rattle.std.proofs.lemmas.Bool.{and_parts}
 use Rattle.std.specs.Prelude.{IsSome, is_none, find}
 use Rattle.std.specs.List.{list_all}
+use Rattle.std.specs.Option.{option_map}
 use Rattle.stamp_values.specs.Operations.{writes}
 use Rattle.stamp_values.specs.declared.op.Op.{Op}
 use Rattle.stamp_values.specs.declared.op.Op.TheVariants as op
-use Rattle.stamp_types.specs.declared.rule.Rule.TheVariants as rule
+use Rattle.stamp_types.specs.declared.piece.Piece.{Piece}
+use Rattle.stamp_types.specs.Pieces.{pieces_len}
 use Rattle.stamp_types.specs.Requests.{Asked}
-use Rattle.stamp_types.specs.World.{Part}
-use Rattle.range_rows.specs.ObjectRules.{needs_container, object_holds, object_rule, object_rules, count_limit}
+use Rattle.stamp_types.specs.World.{Part, committed_value, part_value}
+use Rattle.range_rows.specs.ObjectRules.{needs_container, needs_blob, named_blob, cause_holds, causes, object_refusal, count_limit}
+use Rattle.range_rows.specs.ObjectRules.Cause.{ContainerIsAbsent, BlobIsAbsent, BodyIsDamaged, CountIsFull}
+use Rattle.range_rows.proofs.AnswerLemmas.{named_blob-part_value}
 
--- where none is found, none passes
+-- if none is found, none passes
 pub none_passes : {X : Type 0} (test : X → Bool) (xs : List X) → find test xs ≡ None → list_all (λ x. not (test x)) xs ≡ true
 none_passes test [] h = refl
 none_passes test (x ∷ xs) h =
@@ -20,31 +24,44 @@ none_passes test (x ∷ xs) h =
       | false ↦ λ h. none_passes test xs h
     ] h
 
+none_mapped : {X Y : Type 0} (f : X → Y) (o : Option X) → option_map f o ≡ None → o ≡ None
+none_mapped f None h = refl
+none_mapped f (Some x) h = cc
+
 there : {X : Type 0} (o : Option X) → not (is_none o) ≡ true → IsSome o
 there None h = h
 there (Some x) h = refl
 
-fifth : (a b c d e : Bool) → (a && (b && (c && (d && (e && true))))) ≡ true → e ≡ true
-fifth true true true true true h = refl
-fifth true true true true false h = h
-fifth true true true false e h = cc
-fifth true true false d e h = cc
-fifth true false c d e h = cc
-fifth false b c d e h = cc
+module _ (p : Part ℕ) (q : Asked) (free : object_refusal p q ≡ None) where
+  none_holds : list_all (λ c. not (cause_holds p q c)) causes ≡ true
+  none_holds = none_passes (cause_holds p q) causes (none_mapped _ (find (cause_holds p q) causes) free)
 
-module _ {C : Type 0} (p : Part C) (q : Asked) (put : q.ask.op ≡ op.PutBlob) (free : object_rule p q ≡ None) where
-  none_holds : list_all (λ r. not (object_holds p q r)) object_rules ≡ true
-  none_holds = none_passes (object_holds p q) object_rules free
+  no_absence : not (cause_holds p q ContainerIsAbsent) ≡ true
+  no_absence = (and_parts _ _ none_holds).0
 
-  -- the container of an allowed Put Blob stands
-  pub allowed_stands : IsSome p.standing
-  allowed_stands =
-      let first = (and_parts _ _ none_holds).0 in
-      there p.standing (subst (λ (o : Op). not (needs_container o && is_none p.standing) ≡ true) put first)
+  after_existence : list_all (λ c. not (cause_holds p q c)) (BlobIsAbsent ∷ BodyIsDamaged ∷ CountIsFull ∷ []) ≡ true
+  after_existence = (and_parts _ _ (and_parts _ _ none_holds).1).1
+
+  after_damage : list_all (λ c. not (cause_holds p q c)) (CountIsFull ∷ []) ≡ true
+  after_damage = (and_parts _ _ (and_parts _ _ after_existence).1).1
+
+  -- the container of an allowed Put Blob exists
+  pub allowed_exists : q.ask.op ≡ op.PutBlob → IsSome p.standing
+  allowed_exists put = there p.standing (subst (λ (o : Op). not (needs_container o && is_none p.standing) ≡ true) put no_absence)
 
   -- and takes one more change
-  pub allowed_room : p.count < 18446744073709551616 → p.count < count_limit
-  allowed_room within =
-      let last = fifth (not (object_holds p q rule.O1)) (not (object_holds p q rule.O2)) (not (object_holds p q rule.O3)) (not (object_holds p q rule.O5)) (not (object_holds p q rule.O6)) none_holds in
-      let below : not (nat_eq p.count count_limit) ≡ true = subst (λ (o : Op). not (writes o && nat_eq p.count count_limit) ≡ true) put last in
+  pub allowed_room : q.ask.op ≡ op.PutBlob → p.count < 18446744073709551616 → p.count < count_limit
+  allowed_room put within =
+      let below : not (nat_eq p.count count_limit) ≡ true = subst (λ (o : Op). not (writes o && nat_eq p.count count_limit) ≡ true) put (and_parts _ _ after_damage).0 in
       grind arith
+
+  -- readers see the blob of an allowed Get Blob
+  pub read_there : q.ask.op ≡ op.GetBlob → IsSome (named_blob p q.ask)
+  read_there get = there (named_blob p q.ask) (subst (λ (o : Op). not (needs_blob o && is_none (named_blob p q.ask)) ≡ true) get (and_parts _ _ after_existence).0)
+
+-- the blob of an allowed Get Blob is there
+pub allowed_blob : (p : Part (List Piece)) (q : Asked) → q.ask.op ≡ op.GetBlob → object_refusal (part_value pieces_len p) q ≡ None → named_blob p q.ask ≡ None → ⊥
+allowed_blob p q get free none =
+    let read : IsSome (named_blob (part_value pieces_len p) q.ask) = read_there (part_value pieces_len p) q free get in
+    let is_none_there : named_blob (part_value pieces_len p) q.ask ≡ None = named_blob-part_value pieces_len p q.ask ∙ ap (option_map (committed_value pieces_len)) none in
+    cc

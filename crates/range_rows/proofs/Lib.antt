@@ -1,7 +1,8 @@
 pub mod Allowed
+pub mod AnswerLemmas
 pub mod BlobLists
 pub mod OneContainer
 pub mod Orderings
 pub mod PutBlocks
 pub mod PutParts
-pub mod PutReplies
+pub mod SpanLemmas

@@ -1,11 +1,12 @@
 -- Replies to allowed requests (Blob service REST reference, 2012-02-12, "Put Blob", "Get Blob"; RFC 9110, sections 8.8 and 15.3).
-use Rattle.std.specs.Prelude.{ℕ, List, [], ◌∷◌, ◌++◌, Option, Some, None, map}
+-- A reply is a frame, which is read off the sizes of content, and the content that goes out with it.
+use Rattle.std.specs.Prelude.{◌≡◌, ℕ, ◌-◌, Bool, true, false, ◌&&◌, nat_le, All, List, [], ◌∷◌, ◌++◌, length, None, map, sum_by, slice_range, unwrap_or}
 use Rattle.std.specs.List.{flat_map}
-use Rattle.std.specs.Option.{option_and_then, option_to_list}
+use Rattle.std.specs.Option.{option_to_list}
 use Rattle.md5.specs.Md5.{md5}
 use Rattle.stamp_values.specs.declared.op.Op.{Op}
 use Rattle.stamp_values.specs.declared.op.Op.TheVariants as op
-use Rattle.stamp_types.specs.declared.committed.Block.{Block}
+use Rattle.stamp_types.specs.declared.ask.Ask.{Ask}
 use Rattle.stamp_types.specs.declared.committed.Committed.{Committed}
 use Rattle.stamp_types.specs.declared.header.Header.{Header}
 use Rattle.stamp_types.specs.declared.header.Header.TheVariants as header
@@ -13,14 +14,20 @@ use Rattle.stamp_types.specs.declared.piece.Piece.{Piece}
 use Rattle.stamp_types.specs.declared.reply.Reply.{Reply}
 use Rattle.stamp_types.specs.declared.status.Status.{Status}
 use Rattle.stamp_types.specs.declared.status.Status.TheVariants as status
-use Rattle.stamp_types.specs.Changes.{blocks_len}
-use Rattle.stamp_types.specs.Pieces.{held}
+use Rattle.stamp_types.specs.Pieces.{piece_len}
 use Rattle.stamp_types.specs.PropsFields.{PropsFields}
 use Rattle.stamp_types.specs.Requests.{Asked}
-use Rattle.stamp_types.specs.World.{Part}
+use Rattle.stamp_types.specs.World.{Part, part_value}
+use Rattle.range_rows.specs.declared.answer.Span.{Span}
 use Rattle.range_rows.specs.ObjectRules.{named_blob}
 
--- a header of a text, which has no line where the text is empty
+-- the operations that are answered so far; any other is refused
+abbrev pub is_served : Op → Bool
+is_served op.PutBlob = true
+is_served op.GetBlob = true
+is_served _ = false
+
+-- a header of a text, which has no line if the text is empty
 abbrev pub line_of : (List ℕ → Header) → List ℕ → List Header
 line_of make [] = []
 line_of make (b ∷ bs) = make (b ∷ bs) ∷ []
@@ -39,28 +46,88 @@ kept_lines k =
 abbrev pub read_headers : {C : Type 0} → Committed C → List Header
 read_headers c = kept_lines c.props ++ map header.Meta c.metadata ++ header.BlobType ∷ header.AcceptRanges ∷ dated c.etag c.made
 
--- the bytes that blocks hold themselves, in their order
-abbrev pub blocks_held : List (Block (List Piece)) → List ℕ
-blocks_held bs = flat_map (λ b. held b.content) bs
-
--- a reply that refuses nothing
-abbrev pub success : Status → List Header → ℕ → List ℕ → Reply
-success s headers length body = record { status = s; code = None; rule = None; headers = headers; length = length; body = body }
+-- a reply that refuses nothing, and has no body of its own
+abbrev pub success : Status → List Header → ℕ → Reply
+success s headers length = record { status = s; code = None; rule = None; headers = headers; length = length; body = [] }
 
 -- the reply to Put Blob, of the MD5 of what came, and of the ETag and the moment that the blob has then
 abbrev pub put_reply : List ℕ → ℕ → ℕ → Reply
-put_reply sum etag made = success status.Created (header.ContentMd5 sum ∷ dated etag made) 0 []
+put_reply sum etag made = success status.Created (header.ContentMd5 sum ∷ dated etag made) 0
 
--- the reply to Get Blob: all of the blob
-abbrev pub get_reply : Committed (List Piece) → Reply
-get_reply c = success status.Success (read_headers c) (blocks_len c.blocks) (blocks_held c.blocks)
+-- the frame of the reply to Get Blob: the length is that of all blocks
+abbrev pub get_frame : Committed ℕ → Reply
+get_frame c = success status.Success (read_headers c) (sum_by (λ b. b.content) c.blocks)
 
--- the reply of an operation that has one so far, where the blob stands so after it
-abbrev pub reply_by : Op → Asked → Committed (List Piece) → Option Reply
-reply_by op.PutBlob q c = Some (put_reply (md5 q.body) c.etag c.made)
-reply_by op.GetBlob q c = Some (get_reply c)
-reply_by _ q c = None
+-- a blob without a byte. If no rule refuses a request and its blob does not exist, it is answered as of this one; no caller
+-- can make such a request.
+abbrev pub empty_blob : {C : Type 0} → Committed C
+empty_blob = record {
+  etag = 0;
+  made = 0;
+  props = record { content_type = []; encoding = []; language = []; cache_control = []; md5 = None };
+  metadata = [];
+  blocks = [];
+}
+
+-- what readers see of the blob that a request names
+abbrev pub blob_read : {C : Type 0} → Part C → Ask → Committed C
+blob_read p a = unwrap_or (named_blob p a) empty_blob
+
+-- the frame of the reply of an operation, if the blob is so after it
+abbrev pub frame_by : Op → Asked → Committed ℕ → Reply
+frame_by op.PutBlob q c = put_reply (md5 q.body) c.etag c.made
+frame_by op.GetBlob q c = get_frame c
+frame_by _ q c = success status.Success [] 0
+
+-- the frame of the reply to a request that was allowed, and has changed what it may
+abbrev pub frame : Part ℕ → Asked → Reply
+frame p q = frame_by q.ask.op q (blob_read p q.ask)
+
+-- the content that goes out: on Get Blob all of the blob
+abbrev pub content_by : {C : Type 0} → Op → Committed (List C) → List C
+content_by op.GetBlob c = flat_map (λ b. b.content) c.blocks
+content_by _ c = []
+
+-- the content that goes out with the reply to a request
+abbrev pub content_sent : {C : Type 0} → Part (List C) → Asked → List C
+content_sent p q = content_by q.ask.op (blob_read p q.ask)
+
+-- how many bytes content has
+abbrev pub byte_count : List ℕ → ℕ
+byte_count bytes = length bytes
+
+-- the container with the sizes of its content
+abbrev pub sizes : Part (List ℕ) → Part ℕ
+sizes p = part_value byte_count p
+
+-- the reply with these bytes after what it has of its own
+abbrev pub with_content : Reply → List ℕ → Reply
+with_content r bytes = record r { body = r.body ++ bytes }
 
 -- the reply to a request that was allowed, and has changed what it may
-abbrev pub reply_of : Part (List Piece) → Asked → Option Reply
-reply_of p q = option_and_then (reply_by q.ask.op q) (named_blob p q.ask)
+abbrev pub reply_of : Part (List ℕ) → Asked → Reply
+reply_of p q = with_content (frame (sizes p) q) (content_sent p q)
+
+-- a piece from its first byte to its last
+abbrev pub whole_span : Piece → Span
+whole_span piece = record { piece = piece; from = 0; to = piece_len piece }
+
+-- what of which pieces goes out with the reply to a request, in this order
+abbrev pub spans : Part (List Piece) → Asked → List Span
+spans p q = map whole_span (content_sent p q)
+
+-- the bytes of a span, if this is how pieces are read
+abbrev pub span_bytes : (Piece → List ℕ) → Span → List ℕ
+span_bytes read s = slice_range (read s.piece) s.from s.to
+
+-- the piece has the bytes of the span
+abbrev pub is_within : Span → Bool
+is_within s = nat_le s.from s.to && nat_le s.to (piece_len s.piece)
+
+-- how many bytes spans have together
+abbrev pub spans_len : List Span → ℕ
+spans_len ss = sum_by (λ s. s.to - s.from) ss
+
+-- each piece is read as so many bytes as it has
+abbrev pub ReadsWhole : (Piece → List ℕ) → List Piece → Type 0
+ReadsWhole read ps = All (λ piece. length (read piece) ≡ piece_len piece) ps

@@ -1,13 +1,14 @@
 -- Rules of the object (Blob service REST reference, 2012-02-12, the pages of the operations, "Status and Error Codes", "Blob Service Error Codes"; RFC 1321).
+-- They are stated over a container whose content is its size: no rule depends on a byte of it.
 use Rattle.std.specs.Prelude.{ℕ, Bool, true, false, ◌&&◌, ◌||◌, not, nat_eq, is_some, is_none, List, [], ◌∷◌, Option, Some, None, find}
-use Rattle.std.specs.Option.{option_and_then}
+use Rattle.std.specs.Option.{option_map, option_and_then}
 use Rattle.std.specs.Cmp.Lexicographic.{pointwise}
 use Rattle.md5.specs.Md5.{md5}
 use Rattle.stamp_values.specs.Operations.{writes}
 use Rattle.stamp_values.specs.declared.op.Op.{Op}
 use Rattle.stamp_values.specs.declared.op.Op.TheVariants as op
-use Rattle.stamp_types.specs.declared.code.Code.{Code}
 use Rattle.stamp_types.specs.declared.code.Code.TheVariants as code
+use Rattle.stamp_types.specs.declared.refusal.Refusal.{Refusal}
 use Rattle.stamp_types.specs.declared.rule.Rule.{Rule}
 use Rattle.stamp_types.specs.declared.rule.Rule.TheVariants as rule
 use Rattle.stamp_types.specs.declared.ask.Ask.{Ask}
@@ -19,13 +20,13 @@ use Rattle.stamp_types.specs.World.{Part, blob_in}
 abbrev pub count_limit : ℕ
 count_limit = 18446744073709551615
 
--- the operation is on a container that has to stand
+-- the operation is on a container that has to exist
 abbrev pub needs_container : Op → Bool
 needs_container op.ListContainers = false
 needs_container op.CreateContainer = false
 needs_container _ = true
 
--- the operation is on a blob that has to stand; Get Block List has a case of its own
+-- the operation is on a blob that has to exist; Get Block List has a case of its own
 abbrev pub needs_blob : Op → Bool
 needs_blob op.GetBlob = true
 needs_blob op.BlobProperties = true
@@ -44,7 +45,7 @@ abbrev pub is_put : Op → Bool
 is_put op.PutBlob = true
 is_put _ = false
 
--- what stands of the blob that the request names, where it names one
+-- what readers see of the blob that the request names, if it names one
 abbrev pub named_blob : {C : Type 0} → Part C → Ask → Option (Committed C)
 named_blob p a = option_and_then (λ name. (blob_in p name).committed) a.blob
 
@@ -61,28 +62,47 @@ has_other_md5 body (Some sum) = not (pointwise nat_eq sum (md5 body))
 abbrev pub is_damaged : Asked → Bool
 is_damaged q = has_other_md5 q.body q.ask.args.content_md5 || (is_put q.ask.op && has_other_md5 q.body (kept_md5 q.ask))
 
--- whether a rule refuses the request, where the container is as this part of the world says: each rule by itself
-abbrev pub object_holds : {C : Type 0} → Part C → Asked → Rule → Bool
-object_holds p q rule.O1 = needs_container q.ask.op && is_none p.standing
-object_holds p q rule.O2 = is_create q.ask.op && is_some p.standing
-object_holds p q rule.O3 = needs_blob q.ask.op && is_none (named_blob p q.ask)
-object_holds p q rule.O5 = is_damaged q
-object_holds p q rule.O6 = writes q.ask.op && nat_eq p.count count_limit
+-- why the object refuses a request
+pub data Cause : Type 0 where
+  ContainerIsAbsent : Cause
+  ContainerExists : Cause
+  BlobIsAbsent : Cause
+  BodyIsDamaged : Cause
+  CountIsFull : Cause
+
+-- whether a cause exists, if the container is as this part of the world says: each cause by itself
+abbrev pub cause_holds : Part ℕ → Asked → Cause → Bool
+cause_holds p q ContainerIsAbsent = needs_container q.ask.op && is_none p.standing
+cause_holds p q ContainerExists = is_create q.ask.op && is_some p.standing
+cause_holds p q BlobIsAbsent = needs_blob q.ask.op && is_none (named_blob p q.ask)
+cause_holds p q BodyIsDamaged = is_damaged q
+cause_holds p q CountIsFull = writes q.ask.op && nat_eq p.count count_limit
+
+-- the causes in the order in which the first is sought
+abbrev pub causes : List Cause
+causes = ContainerIsAbsent ∷ ContainerExists ∷ BlobIsAbsent ∷ BodyIsDamaged ∷ CountIsFull ∷ []
+
+-- the rule and the error code by which a cause is told
+abbrev pub cause_refusal : Cause → Refusal
+cause_refusal ContainerIsAbsent = record { rule = rule.O1; code = code.ContainerNotFound }
+cause_refusal ContainerExists = record { rule = rule.O2; code = code.ContainerAlreadyExists }
+cause_refusal BlobIsAbsent = record { rule = rule.O3; code = code.BlobNotFound }
+cause_refusal BodyIsDamaged = record { rule = rule.O5; code = code.Md5Mismatch }
+cause_refusal CountIsFull = record { rule = rule.O6; code = code.InternalError }
+
+-- the refusal by the first cause that exists
+abbrev pub object_refusal : Part ℕ → Asked → Option Refusal
+object_refusal p q = option_map cause_refusal (find (cause_holds p q) causes)
+
+-- a rule of the object holds if one of its causes exists
+abbrev pub object_holds : Part ℕ → Asked → Rule → Bool
+object_holds p q rule.O1 = cause_holds p q ContainerIsAbsent
+object_holds p q rule.O2 = cause_holds p q ContainerExists
+object_holds p q rule.O3 = cause_holds p q BlobIsAbsent
+object_holds p q rule.O5 = cause_holds p q BodyIsDamaged
+object_holds p q rule.O6 = cause_holds p q CountIsFull
 object_holds p q _ = false
 
--- the rules in the order in which the first is sought
+-- the rules of the object in their order
 abbrev pub object_rules : List Rule
 object_rules = rule.O1 ∷ rule.O2 ∷ rule.O3 ∷ rule.O5 ∷ rule.O6 ∷ []
-
--- the first rule that refuses the request
-abbrev pub object_rule : {C : Type 0} → Part C → Asked → Option Rule
-object_rule p q = find (object_holds p q) object_rules
-
--- the error code of a rule of the object
-abbrev pub object_code : Rule → Option Code
-object_code rule.O1 = Some code.ContainerNotFound
-object_code rule.O2 = Some code.ContainerAlreadyExists
-object_code rule.O3 = Some code.BlobNotFound
-object_code rule.O5 = Some code.Md5Mismatch
-object_code rule.O6 = Some code.InternalError
-object_code _ = None

@@ -2,7 +2,7 @@
 use Rattle.std.specs.Prelude.{ℕ, [], Some}
 use Rattle.std.specs.FinMap as finite
 use Rattle.stamp_values.specs.declared.key.Key.{Key}
-use Rattle.stamp_values.specs.declared.level.Level.TheVariants as level
+use Rattle.stamp_values.specs.Acls.{closed_acl}
 use Rattle.stamp_types.specs.World.{Part, World}
 
 -- one container, and no other
@@ -13,6 +13,6 @@ one_part key p = finite.insert finite.empty key p
 abbrev pub opening : {C : Type 0} → ℕ → Part C
 opening moment = record {
   count = 1;
-  standing = Some (record { etag = 1; made = moment; level = level.Closed; metadata = []; policies = [] });
+  standing = Some (record { etag = 1; made = moment; acl = closed_acl; metadata = [] });
   blobs = finite.empty;
 }

@@ -14,8 +14,14 @@ use Rattle.stamp_types.specs.PropsFields.{PropsFields, kept_fields}
 use Rattle.stamp_types.specs.Requests.{Asked}
 use Rattle.stamp_types.specs.World.{Part, changed}
 use Rattle.stamp_types.specs.declared.piece.Piece.{Piece}
+use Rattle.range_rows.specs.declared.reading.Reading.{Reading}
+use Rattle.range_rows.specs.declared.reading.Reading.TheVariants as reading
 
--- what is kept of the headers that a request asks to be kept, with the body's MD5 where it gives none
+-- what the body of a request says beside its bytes: nothing, of the operations that are served so far
+abbrev pub reading_of : Asked → Reading
+reading_of q = reading.Nothing
+
+-- what is kept of the headers that a request asks to be kept, with the body's MD5 if it gives none
 abbrev pub put_props : Asked → Kept → PropsFields
 put_props q kept = kept_fields kept (Some (md5 q.body))
 
@@ -23,14 +29,14 @@ put_props q kept = kept_fields kept (Some (md5 q.body))
 abbrev pub put_blob : Asked → ℕ → List ℕ → Kept → PutBlob
 put_blob q t name kept = record { blob = name; moment = t; props = put_props q kept; metadata = q.ask.args.metadata; content = cut q.body }
 
--- what a request of the operation does at a moment; one that only reads does nothing
-abbrev pub act_by : Op → Asked → ℕ → Option Act
-act_by op.PutBlob q t = option_and_then (λ name. option_map (λ kept. act.PutBlob (put_blob q t name kept)) q.ask.args.kept) q.ask.blob
-act_by _ q t = None
+-- what a request of the operation does to a container at a moment; one that only reads does nothing
+abbrev pub act_by : Op → Part ℕ → Asked → ℕ → Option Act
+act_by op.PutBlob p q t = option_and_then (λ name. option_map (λ kept. act.PutBlob (put_blob q t name kept)) q.ask.args.kept) q.ask.blob
+act_by _ p q t = None
 
--- what an allowed request changes at a moment, in the container that it names
-abbrev pub change_of : Asked → ℕ → Option KeyedAct
-change_of q t = option_map (λ a. record { key = q.ask.key; act = a }) (act_by q.ask.op q t)
+-- what an allowed request changes at a moment, in the container that it names; sizes of content suffice to say it
+abbrev pub change_of : Part ℕ → Asked → ℕ → Option KeyedAct
+change_of p q t = option_map (λ a. record { key = q.ask.key; act = a }) (act_by q.ask.op p q t)
 
 -- the act is that of Put Blob
 abbrev pub is_put_act : Act → Bool

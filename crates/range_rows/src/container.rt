@@ -8,7 +8,7 @@ ghost use Rattle.stamp_types.specs.World.{whole_block};
 
 use crate::blobs::Blobs;
 use stamp_types::{
-    Act, Block, Committed, Items, Level, Metadata, Moment, Pieces, Policies, PutBlob, Standing,
+    Acl, Act, Block, Committed, Items, Level, Metadata, Moment, Pieces, Policies, PutBlob, Standing,
 };
 use std::alloc::{AllocError, Global};
 use std::marker::Model;
@@ -77,9 +77,11 @@ impl Container {
             standing: Standing {
                 etag: 1,
                 made: moment,
-                level: Level::Closed,
+                acl: Acl {
+                    level: Level::Closed,
+                    policies: Policies::empty(alloc),
+                },
                 metadata: Metadata::empty(alloc),
-                policies: Policies::empty(alloc),
             },
             blobs: Blobs::none(alloc),
         }

@@ -2,10 +2,13 @@
 //! what allowed requests change and are answered.
 #![tactic(auto)]
 
+mod answer;
+mod answer_laws;
 mod blobs;
 mod container;
 mod object_rules;
 mod place;
+mod reading;
 mod replies;
 mod request_changes;
 mod row;
@@ -16,5 +19,7 @@ mod rows_tests;
 mod sample_requests;
 mod uncommitted;
 
-pub use object_rules::object_code;
+pub use answer::{Answer, Span};
+pub use answer_laws::spans_say_what_content_goes_out;
+pub use reading::{Reading, read_request};
 pub use rows::Rows;

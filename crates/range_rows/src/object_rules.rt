@@ -1,19 +1,22 @@
 //! The rules of the object.
-ghost use Rattle.std.specs.Prelude.{◌≡◌, ◌<◌, IsNone, IsSome, IsTrue};
+ghost use Rattle.std.specs.Prelude.{◌≡◌, IfOk, IsErr, IsTrue, is_none};
 ghost use Rattle.std.specs.Option.{option_copied};
+ghost use Rattle.stamp_values.specs.declared.op.Op.TheVariants as op;
 ghost use Rattle.range_rows.specs.ObjectRules as rules;
 
+use crate::reading::Reading;
 use crate::rows::Rows;
-use stamp_types::{Ask, Body, Code, Committed, Op, Pieces, Request, Rule};
+use stamp_types::{Ask, Body, Code, Committed, Op, Pieces, Refusal, Request, Rule};
+use std::alloc::{AllocError, Global};
 
-// Whether the container has to stand.
+// Whether the container has to exist.
 fn needs_container(op: Op) -> bool
     ensures { result ≡ rules.needs_container op }
 {
     !matches!(op, Op::ListContainers | Op::CreateContainer)
 }
 
-// Whether the blob has to stand.
+// Whether the blob has to exist.
 fn needs_blob(op: Op) -> bool
     ensures { result ≡ rules.needs_blob op }
 {
@@ -53,24 +56,17 @@ fn is_damaged(request: &Request) -> bool
         || (ask.op == Op::PutBlob && has_other_md5(body, kept_md5(ask)))
 }
 
-/// The error code of a rule of the object; other rules have none here.
-pub fn object_code(rule: Rule) -> Option<Code>
-    ensures { result ≡ rules.object_code rule }
+fn refused(rule: Rule, code: Code) -> Refusal
+    ensures { result ≡ record { rule = rule; code = code } }
 {
-    match rule {
-        Rule::O1 => Some(Code::ContainerNotFound),
-        Rule::O2 => Some(Code::ContainerAlreadyExists),
-        Rule::O3 => Some(Code::BlobNotFound),
-        Rule::O5 => Some(Code::Md5Mismatch),
-        Rule::O6 => Some(Code::InternalError),
-        _ => None,
-    }
+    Refusal { rule, code }
 }
 
 impl Rows {
-    ghost use Rattle.stamp_types.specs.World.{part_at};
+    ghost use Rattle.stamp_types.specs.World.{part_at, part_value};
+    ghost use Rattle.stamp_types.specs.Pieces.{pieces_len};
     ghost use Rattle.stamp_types.specs.Changes.{is_committed};
-    ghost use Rattle.stamp_values.specs.Operations.{writes};
+    ghost use Rattle.range_rows.specs.RequestChanges.{reading_of};
 
     /// What readers see of the blob that the request names, where it names one.
     pub(crate) fn named_blob(&self, ask: &Ask) -> Option<&Committed<Pieces>>
@@ -83,29 +79,52 @@ impl Rows {
         }
     }
 
-    /// The first rule of the object that refuses the request, where one does. Reads no byte of its body.
-    pub fn object_rule(&self, request: &Request) -> Option<Rule>
-        ensures rule { result ≡ rules.object_rule (part_at self.now request.now.ask.key) request.now }
-        ensures stands { IsNone result → IsTrue (rules.needs_container request.now.ask.op) → IsSome (part_at self.now request.now.ask.key).standing }
-        ensures room { IsNone result → IsTrue (writes request.now.ask.op) → (part_at self.now request.now.ask.key).count < rules.count_limit }
+    // Whether the blob that the request names is absent, or it names none.
+    #[tactic(auto, using(crate::proofs::AnswerLemmas::absent_by_either_reading))]
+    fn lacks_blob(&self, ask: &Ask) -> bool
+        ensures { result ≡ is_none (rules.named_blob (part_value pieces_len (part_at self.now ask.now.key)) ask.now) }
+    {
+        self.named_blob(ask).is_none()
+    }
+
+    // The first cause for which the object refuses the request, with its rule and code.
+    fn refusal(&self, request: &Request) -> Option<Refusal>
+        ensures { result ≡ rules.object_refusal (part_value pieces_len (part_at self.now request.now.ask.key)) request.now }
     {
         let ask = request.ask();
-        let stands = self.container(&ask.key).is_some();
-        if needs_container(ask.op) && !stands {
-            return Some(Rule::O1);
+        let exists = self.container(&ask.key).is_some();
+        if needs_container(ask.op) && !exists {
+            return Some(refused(Rule::O1, Code::ContainerNotFound));
         }
-        if ask.op == Op::CreateContainer && stands {
-            return Some(Rule::O2);
+        if ask.op == Op::CreateContainer && exists {
+            return Some(refused(Rule::O2, Code::ContainerAlreadyExists));
         }
-        if needs_blob(ask.op) && self.named_blob(ask).is_none() {
-            return Some(Rule::O3);
+        if needs_blob(ask.op) && self.lacks_blob(ask) {
+            return Some(refused(Rule::O3, Code::BlobNotFound));
         }
         if is_damaged(request) {
-            return Some(Rule::O5);
+            return Some(refused(Rule::O5, Code::Md5Mismatch));
         }
         if ask.op.writes() && self.count(&ask.key) == u64::MAX {
-            return Some(Rule::O6);
+            return Some(refused(Rule::O6, Code::InternalError));
         }
         None
+    }
+
+    /// The refusal of a request by the object, if it has one: the first cause in the order of the rules, with its rule and code.
+    /// `reading` is what the request's body says. Reads no byte of that body.
+    ///
+    /// `AllocError` comes only on Put Block List, if there is no memory to look its blocks up.
+    pub fn object_rule(
+        &self,
+        _alloc: Global,
+        request: &Request,
+        _reading: &Reading,
+    ) -> Result<Option<Refusal>, AllocError>
+        requires { _reading.now ≡ reading_of request.now }
+        ensures rule { IfOk result (λ refusal. refusal ≡ rules.object_refusal (part_value pieces_len (part_at self.now request.now.ask.key)) request.now) }
+        ensures memory { IsErr result → request.now.ask.op ≡ op.PutBlockList }
+    {
+        Ok(self.refusal(request))
     }
 }

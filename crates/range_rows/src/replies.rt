@@ -1,12 +1,17 @@
 //! Replies to requests that were allowed.
-ghost use Rattle.std.specs.Prelude.{◌≡◌, ◌⊎◌, ◌+◌, ◌^◌, ◌<◌, ◌≤◌, ◌++◌, IfOk, IsErr, IsTrue, None, OnOk, Some, length, map};
+ghost use Rattle.std.specs.Prelude.{◌≡◌, ◌+◌, ◌^◌, ◌<◌, ◌≤◌, [], ◌++◌, IfOk, IsTrue, None, OnOk, Some, length, map};
+ghost use Rattle.std.specs.List.{flat_map, list_all};
+ghost use Rattle.stamp_values.specs.Limits.{blob_limit};
 ghost use Rattle.stamp_values.specs.declared.op.Op.TheVariants as op;
 ghost use Rattle.std.specs.Option.{option_to_list};
 ghost use Rattle.stamp_types.specs.declared.header.Header.TheVariants as header;
 ghost use Rattle.stamp_types.specs.Changes.{are_blocks, blocks_len};
-ghost use Rattle.stamp_types.specs.Pieces.{held};
+ghost use Rattle.stamp_types.specs.Pieces.{pieces_len};
+ghost use Rattle.stamp_types.specs.World.{committed_value};
 ghost use Rattle.range_rows.specs.ObjectReplies as replies;
 
+use crate::answer::{Answer, Span};
+use crate::reading::Reading;
 use crate::rows::Rows;
 use stamp_types::{
     Block, Committed, Header, Items, Meta, Moment, Op, Piece, Pieces, Props, Reply, Request,
@@ -50,7 +55,7 @@ fn push_md5(headers: &mut Vec<Header>, sum: Option<[u8; 16]>) -> Result<(), Allo
     Ok(())
 }
 
-// Puts the lines of the kept headers behind the headers, but for those that are empty.
+// Puts the lines of the kept headers after the headers, but for those that are empty.
 fn push_kept(headers: &mut Vec<Header>, props: &Props) -> Result<(), AllocError>
     ensures { OnOk result (headers.new.items ≡ headers.old.items ++ replies.kept_lines props.now) }
 {
@@ -62,7 +67,7 @@ fn push_kept(headers: &mut Vec<Header>, props: &Props) -> Result<(), AllocError>
     Ok(())
 }
 
-// Puts a line for each name behind the headers.
+// Puts a line for each name after the headers.
 fn push_metadata(headers: &mut Vec<Header>, metas: &[Meta]) -> Result<(), AllocError>
     ensures { OnOk result (headers.new.items ≡ headers.old.items ++ map header.Meta metas.now) }
 {
@@ -72,7 +77,7 @@ fn push_metadata(headers: &mut Vec<Header>, metas: &[Meta]) -> Result<(), AllocE
     Ok(())
 }
 
-// Puts behind the headers which change wrote last, and when.
+// Puts after the headers which change wrote last, and when.
 fn push_dates(headers: &mut Vec<Header>, etag: u64, made: Moment) -> Result<(), AllocError>
     ensures { OnOk result (headers.new.items ≡ headers.old.items ++ replies.dated etag made) }
 {
@@ -108,33 +113,31 @@ fn put_reply(alloc: Global, sum: [u8; 16], etag: u64, made: Moment) -> Result<Re
     })
 }
 
-// Puts behind the shares those of the pieces that hold their bytes.
-fn push_pieces(shares: &mut Shares, pieces: &[Piece]) -> Result<(), AllocError>
-    requires { length (shares.old ++ held pieces.now) < 2 ^ 64 }
-    ensures { OnOk result (shares.new ≡ shares.old ++ held pieces.now) }
+// Puts the whole of each piece after the spans. No byte is copied.
+fn push_spans(spans: &mut Vec<Span>, pieces: &[Piece]) -> Result<(), AllocError>
+    ensures { OnOk result (spans.new.items ≡ spans.old.items ++ map replies.whole_span pieces.now) }
 {
-    let mut left = pieces;
-    while let [first, rest @ ..] = left {
-        if let Piece::Bytes(share) = first {
-            shares.push(share.share()?)?;
-        }
-        left = rest;
+    for piece in pieces {
+        spans.push(Span {
+            piece: piece.clone()?,
+            from: 0,
+            to: piece.len(),
+        })?;
     }
     Ok(())
 }
 
-// The shares of the blocks, in their order.
-fn body_of(alloc: Global, blocks: &[Block<Pieces>]) -> Result<Shares, AllocError>
-    requires { length (replies.blocks_held blocks.now) < 2 ^ 64 }
-    ensures { IfOk result (λ body. body ≡ replies.blocks_held blocks.now) }
+// The pieces of the blocks, in their order.
+fn spans_of(alloc: Global, blocks: &[Block<Pieces>]) -> Result<Vec<Span>, AllocError>
+    ensures { IfOk result (λ spans. spans.items ≡ flat_map (λ b. map replies.whole_span b.content) blocks.now) }
 {
-    let mut body = Shares::empty(alloc);
+    let mut spans = Vec::new(alloc);
     let mut left = blocks;
     while let [first, rest @ ..] = left {
-        push_pieces(&mut body, first.content.as_slice())?;
+        push_spans(&mut spans, first.content.as_slice())?;
         left = rest;
     }
-    Ok(body)
+    Ok(spans)
 }
 
 // How many bytes the blocks have together.
@@ -151,82 +154,99 @@ fn total_len(blocks: &[Block<Pieces>]) -> u64
     total
 }
 
-#[tactic(auto, using(crate::proofs::PutParts::held_within))]
-fn get_reply(alloc: Global, blob: &Committed<Pieces>) -> Result<Reply, AllocError>
+#[tactic(auto, using(crate::proofs::PutParts::within_blob, crate::proofs::AnswerLemmas::sizes_of_blocks))]
+fn get_frame(alloc: Global, blob: &Committed<Pieces>) -> Result<Reply, AllocError>
     requires { IsTrue (are_blocks blob.now.blocks) }
-    ensures { IfOk result (λ reply. reply ≡ replies.get_reply blob.now) }
+    ensures { IfOk result (λ reply. reply ≡ replies.get_frame (committed_value pieces_len blob.now)) }
 {
     let headers = read_headers(alloc, blob)?;
-    let blocks = blob.blocks.as_slice();
-    let body = body_of(alloc, blocks)?;
     Ok(Reply {
         status: Status::Success,
         code: None,
         rule: None,
         headers: Items::new(headers),
-        length: total_len(blocks),
-        body,
+        length: total_len(blob.blocks.as_slice()),
+        body: Shares::empty(alloc),
+    })
+}
+
+// The answer to a Get Blob, of all of the blob.
+#[tactic(auto, using(crate::proofs::AnswerLemmas::spans_of_blocks, crate::proofs::SpanLemmas::whole_within, crate::proofs::SpanLemmas::spans_len_of_blocks, crate::proofs::PutParts::within_blob))]
+fn get_answer(alloc: Global, blob: &Committed<Pieces>) -> Result<Answer, AllocError>
+    requires { IsTrue (are_blocks blob.now.blocks) }
+    ensures frame { IfOk result (λ answer. answer.frame ≡ replies.get_frame (committed_value pieces_len blob.now)) }
+    ensures spans { IfOk result (λ answer. answer.spans ≡ map replies.whole_span (flat_map (λ b. b.content) blob.now.blocks)) }
+    ensures within { IfOk result (λ answer. IsTrue (list_all replies.is_within answer.spans)) }
+    ensures short { IfOk result (λ answer. replies.spans_len answer.spans ≤ blob_limit) }
+{
+    let frame = get_frame(alloc, blob)?;
+    let spans = spans_of(alloc, blob.blocks.as_slice())?;
+    Ok(Answer {
+        frame,
+        spans: Items::new(spans),
     })
 }
 
 impl Rows {
-    ghost use Rattle.stamp_types.specs.World.{part_at, same_pieces};
-    ghost use Rattle.range_rows.specs.ObjectRules.{object_rule};
-    ghost use Rattle.range_rows.specs.RequestChanges.{change_of, part_after};
+    ghost use Rattle.stamp_types.specs.World.{part_at, part_value, same_pieces};
+    ghost use Rattle.range_rows.specs.ObjectRules.{object_refusal};
+    ghost use Rattle.range_rows.specs.RequestChanges.{change_of, part_after, reading_of};
 
-    // The reply to a Put Blob that was allowed: the ETag is that of the change that it makes.
-    #[tactic(auto, using(crate::proofs::Allowed::allowed_room, crate::proofs::PutReplies::reply_of_put))]
+    // The answer to a Put Blob that was allowed: the ETag is that of the change that it makes.
+    #[tactic(auto, using(crate::proofs::Allowed::allowed_room, crate::proofs::AnswerLemmas::frame_of_put, crate::proofs::AnswerLemmas::spans_of_put))]
     fn put_answer(
         &self,
         alloc: Global,
         request: &Request,
         moment: Moment,
-    ) -> Result<Reply, AllocError>
+    ) -> Result<Answer, AllocError>
         requires put { request.now.ask.op ≡ op.PutBlob }
-        requires allowed { object_rule (part_at self.now request.now.ask.key) request.now ≡ None }
-        ensures { IfOk result (λ reply. replies.reply_of (part_after same_pieces (change_of request.now moment) (part_at self.now request.now.ask.key)) request.now ≡ Some reply) }
+        requires allowed { object_refusal (part_value pieces_len (part_at self.now request.now.ask.key)) request.now ≡ None }
+        ensures frame { IfOk result (λ answer. answer.frame ≡ replies.frame (part_after pieces_len (change_of (part_value pieces_len (part_at self.now request.now.ask.key)) request.now moment) (part_value pieces_len (part_at self.now request.now.ask.key))) request.now) }
+        ensures spans { IfOk result (λ answer. answer.spans ≡ []) }
     {
         let ask = request.ask();
         match (&ask.blob, &ask.args.kept) {
             (Some(_), Some(_)) => {
                 let etag = self.count(&ask.key) + 1;
-                let reply = put_reply(alloc, request.body().sum(), etag, moment)?;
-                Ok(reply)
+                let frame = put_reply(alloc, request.body().sum(), etag, moment)?;
+                Ok(Answer {
+                    frame,
+                    spans: Items::new(Vec::new(alloc)),
+                })
             }
             _ => unreachable!(),
         }
     }
 
-    /// The reply to a request that was allowed at the moment, as the container is once its change, where it makes
-    /// one, is applied; the change has not been yet. Put Blob and Get Blob have one so far; `None` comes for other
-    /// operations.
+    /// The answer to a request that was allowed at the moment, as the container is once its change, if it makes one, is applied;
+    /// the change has not been yet. Put Blob and Get Blob are answered so far. `reading` is what the request's body says.
     ///
-    /// The body has shares of the content, of which no byte is copied; of content that is placed in a stream
-    /// only the length is there. A range is not looked at: the whole blob is answered (RFC 9110, section 14.2).
+    /// The answer has shares of the content, of which no byte is copied, or its places in streams: whoever sends it reads
+    /// them. A range is not looked at: the whole blob is answered (RFC 9110, section 14.2).
     ///
-    /// `AllocError` where there is no memory for the headers and the list of shares, or the content can have
-    /// no further owner.
+    /// `AllocError` if there is no memory for the headers and the list of spans, or the content can have no further owner.
+    #[tactic(auto, using(crate::proofs::Allowed::allowed_blob, crate::proofs::AnswerLemmas::frame_of_get, crate::proofs::AnswerLemmas::spans_of_get, crate::proofs::AnswerLemmas::spans_of_put))]
     pub fn reply(
         &self,
         alloc: Global,
         request: &Request,
+        _reading: &Reading,
         moment: Moment,
-    ) -> Result<Option<Reply>, AllocError>
-        requires allowed { object_rule (part_at self.now request.now.ask.key) request.now ≡ None }
-        ensures value { IfOk result (λ reply. reply ≡ replies.reply_of (part_after same_pieces (change_of request.now moment) (part_at self.now request.now.ask.key)) request.now) }
-        ensures memory { IsErr result → (request.now.ask.op ≡ op.PutBlob) ⊎ (request.now.ask.op ≡ op.GetBlob) }
+    ) -> Result<Answer, AllocError>
+        requires served { IsTrue (replies.is_served request.now.ask.op) }
+        requires allowed { object_refusal (part_value pieces_len (part_at self.now request.now.ask.key)) request.now ≡ None }
+        requires read { _reading.now ≡ reading_of request.now }
+        ensures frame { IfOk result (λ answer. answer.frame ≡ replies.frame (part_after pieces_len (change_of (part_value pieces_len (part_at self.now request.now.ask.key)) request.now moment) (part_value pieces_len (part_at self.now request.now.ask.key))) request.now) }
+        ensures within { IfOk result (λ answer. IsTrue (list_all replies.is_within answer.spans)) }
+        ensures short { IfOk result (λ answer. replies.spans_len answer.spans ≤ blob_limit) }
+        ensures spans { IfOk result (λ answer. answer.spans ≡ replies.spans (part_after same_pieces (change_of (part_value pieces_len (part_at self.now request.now.ask.key)) request.now moment) (part_at self.now request.now.ask.key)) request.now) }
     {
         let ask = request.ask();
         match (ask.op, self.named_blob(ask)) {
-            (Op::PutBlob, _) => {
-                let reply = self.put_answer(alloc, request, moment)?;
-                Ok(Some(reply))
-            }
-            (Op::GetBlob, Some(blob)) => {
-                let reply = get_reply(alloc, blob)?;
-                Ok(Some(reply))
-            }
-            _ => Ok(None),
+            (Op::PutBlob, _) => self.put_answer(alloc, request, moment),
+            (Op::GetBlob, Some(blob)) => get_answer(alloc, blob),
+            _ => unreachable!(),
         }
     }
 }

@@ -1,9 +1,11 @@
 //! What writing requests do.
-ghost use Rattle.std.specs.Prelude.{◌≡◌, ◌<◌, ◌≤◌, IfOk, IsSome, IsTrue, None, Some, length};
+ghost use Rattle.std.specs.Prelude.{◌≡◌, ◌<◌, ◌≤◌, ℕ, IfOk, IsSome, IsTrue, None, Some, length};
+ghost use Rattle.stamp_types.specs.World.{Part};
 ghost use Rattle.stamp_types.specs.PropsFields.{is_kept};
 ghost use Rattle.stamp_values.specs.declared.op.Op.TheVariants as op;
 ghost use Rattle.range_rows.specs.RequestChanges as changes;
 
+use crate::reading::Reading;
 use crate::rows::Rows;
 use stamp_types::{Act, Change, Kept, Moment, Op, Pieces, Props, PutBlob, Request, Text};
 use std::alloc::{AllocError, Global};
@@ -55,7 +57,7 @@ fn put_blob(
 #[tactic(auto, using(crate::proofs::PutParts::kept_fits))]
 fn put_change(alloc: Global, request: &Request, moment: Moment) -> Result<Change, AllocError>
     requires { request.now.ask.op ≡ op.PutBlob }
-    ensures value { IfOk result (λ change. changes.change_of request.now moment ≡ Some change) }
+    ensures value { IfOk result (λ change. (p : Part ℕ) → changes.change_of p request.now moment ≡ Some change) }
     ensures put { IfOk result (λ change. IsTrue (changes.is_put_act change.act)) }
     ensures key { IfOk result (λ change. change.key ≡ request.now.ask.key) }
 {
@@ -74,28 +76,31 @@ fn put_change(alloc: Global, request: &Request, moment: Moment) -> Result<Change
 }
 
 impl Rows {
-    ghost use Rattle.stamp_types.specs.World.{part_at};
-    ghost use Rattle.range_rows.specs.ObjectRules.{object_rule, count_limit};
+    ghost use Rattle.stamp_types.specs.World.{part_at, part_value};
+    ghost use Rattle.stamp_types.specs.Pieces.{pieces_len};
+    ghost use Rattle.range_rows.specs.ObjectRules.{object_refusal, count_limit};
 
-    /// The change that an allowed Put Blob makes at the moment, with all that `apply` asks of it. Its ETag is
-    /// given where it is applied.
+    /// The change that an allowed Put Blob makes at the moment, with all that `apply` asks of it. `reading` is what the request's
+    /// body says. The ETag is given when the change is applied.
     ///
-    /// `AllocError` where there is no memory for the change, or the body can have no further owner.
-    #[tactic(auto, using(crate::proofs::Allowed::allowed_stands, crate::proofs::Allowed::allowed_room))]
+    /// `AllocError` if there is no memory for the change, or the body can have no further owner.
+    #[tactic(auto, using(crate::proofs::Allowed::allowed_exists, crate::proofs::Allowed::allowed_room))]
     pub fn change(
         &self,
         alloc: Global,
         request: &Request,
+        _reading: &Reading,
         moment: Moment,
     ) -> Result<Change, AllocError>
         requires put { request.now.ask.op ≡ op.PutBlob }
-        requires allowed { object_rule (part_at self.now request.now.ask.key) request.now ≡ None }
-        ensures value { IfOk result (λ change. changes.change_of request.now moment ≡ Some change) }
+        requires allowed { object_refusal (part_value pieces_len (part_at self.now request.now.ask.key)) request.now ≡ None }
+        requires read { _reading.now ≡ changes.reading_of request.now }
+        ensures value { IfOk result (λ change. changes.change_of (part_value pieces_len (part_at self.now request.now.ask.key)) request.now moment ≡ Some change) }
         ensures put { IfOk result (λ change. IsTrue (changes.is_put_act change.act)) }
         ensures standing { IfOk result (λ change. IsSome (part_at self.now change.key).standing) }
         ensures count { IfOk result (λ change. (part_at self.now change.key).count < count_limit) }
     {
-        // A count has 64 bits, so below the largest one is all but that one, which O6 refuses.
+        // A count has 64 bits, so each is below the largest one but that one, which O6 refuses.
         let _count = self.count(&request.ask().key);
         put_change(alloc, request, moment)
     }

@@ -1,9 +1,11 @@
 //! What no clause says of rows: that the rules mean the reference's, that each call can succeed, and that no body is copied.
 //! Printed replies, with their lines, are cases of `replay_cases`.
 
+use crate::answer::{Answer, Span};
+use crate::reading::read_request;
 use crate::rows::Rows;
 use crate::sample_requests::{Sum, body, moment, pics, request};
-use stamp_types::{Body, Header, Op, Reply, Request, Rule, Shares, Status};
+use stamp_types::{Body, Header, Items, Op, Piece, Request, Rule, Status};
 use std::alloc::Global;
 use std::fs;
 use std::process::Abort;
@@ -31,7 +33,7 @@ fn rules() -> [(Op, &'static str, Option<Sum>, u64, Option<Rule>); 10] {
         (Op::PutBlob, "pics", None, LAST - 1, None),
         (Op::PutBlob, "pics", ZEROS, 1, Some(Rule::O5)),
         (Op::PutBlob, "pics", None, LAST, Some(Rule::O6)),
-        // Where several rules hold the first is named.
+        // If several rules hold the first is named.
         (Op::PutBlob, "pics", ZEROS, LAST, Some(Rule::O5)),
         (Op::PutBlob, "jam", ZEROS, LAST, Some(Rule::O1)),
     ]
@@ -43,59 +45,68 @@ fn the_first_rule_that_holds_is_named(rt: HostRuntime) {
         let mut rows = pics(&rt, rt.alloc());
         rows.set_count(count);
         let request = request(&rt, rt.alloc(), op, container, "a.txt", sum, Body::empty());
-        assert!(rt;
-            rows.object_rule(&request) == rule,
-            "{op:?} {container} {count}"
-        );
+        let refusal = rows.object_rule(rt.alloc(), &request, &read_request(&request));
+        let named = refusal.expect(&rt, "memory").map(|refusal| refusal.rule);
+        assert!(rt; named == rule, "{op:?} {container} {count}");
     }
 }
 
-// Makes the change of a Put Blob. `drop` lets the change go, since its eleven kinds in this body would cost the
-// prover minutes.
+// Makes the change of a Put Blob. `drop` lets it go, since its eleven kinds in this body would cost the prover minutes.
 fn change(rt: &impl Abort, alloc: Global, rows: &mut Rows, request: &Request) {
     assert!(rt; request.ask().op == Op::PutBlob);
-    assert!(rt; rows.object_rule(request).is_none());
-    let change = rows.change(alloc, request, moment(rt)).expect(rt, "memory");
+    let reading = read_request(request);
+    let refusal = rows.object_rule(alloc, request, &reading);
+    assert!(rt; refusal.expect(rt, "memory").is_none());
+    let change = rows.change(alloc, request, &reading, moment(rt));
+    let change = change.expect(rt, "memory");
     let applied = rows.apply(alloc, &change);
     drop(change);
     applied.expect(rt, "memory");
 }
 
-// The reply, which has this status and length.
-fn reply(
+// The answer, whose frame has this status and length, and no body.
+fn answer(
     rt: &impl Abort,
     alloc: Global,
     rows: &Rows,
     request: &Request,
     status: Status,
     length: u64,
-) -> Reply {
-    assert!(rt; rows.object_rule(request).is_none());
-    let reply = rows.reply(alloc, request, moment(rt)).expect(rt, "memory");
-    let reply = reply.expect(rt, "a reply");
-    assert!(rt; reply.status == status && reply.length == length);
-    reply
+) -> Answer {
+    assert!(rt; matches!(request.ask().op, Op::PutBlob | Op::GetBlob));
+    let reading = read_request(request);
+    let refusal = rows.object_rule(alloc, request, &reading);
+    assert!(rt; refusal.expect(rt, "memory").is_none());
+    let answer = rows.reply(alloc, request, &reading, moment(rt));
+    let answer = answer.expect(rt, "memory");
+    let frame = &answer.frame;
+    assert!(rt; frame.status == status && frame.length == length && frame.body.is_empty());
+    answer
 }
 
 fn put(rt: &impl Abort, alloc: Global, rows: &mut Rows, blob: &str, body: Body) {
     let request = request(rt, alloc, Op::PutBlob, "pics", blob, None, body);
-    let reply = reply(rt, alloc, rows, &request, Status::Created, 0);
-    drop(reply);
+    let answer = answer(rt, alloc, rows, &request, Status::Created, 0);
+    assert!(rt; answer.spans.as_slice().is_empty());
     change(rt, alloc, rows, &request);
 }
 
-// The body of the reply, where the metadata stands on its line, after the type and the MD5.
-fn body_of(rt: &impl Abort, reply: Reply) -> Shares {
-    let headers = reply.headers.as_slice();
+// What goes out of a blob of so many bytes. The metadata is on its line, after the type and the MD5.
+fn read(rt: &impl Abort, alloc: Global, rows: &Rows, blob: &str, length: u64) -> Items<Span> {
+    let request = request(rt, alloc, Op::GetBlob, "pics", blob, None, Body::empty());
+    let answer = answer(rt, alloc, rows, &request, Status::Success, length);
+    let headers = answer.frame.headers.as_slice();
     assert!(rt; headers.len() == 7 && matches!(headers[2], Header::Meta(_)));
-    reply.body
+    answer.spans
 }
 
-// The content of a blob of so many bytes.
-fn read(rt: &impl Abort, alloc: Global, rows: &Rows, blob: &str, length: u64) -> Shares {
-    let request = request(rt, alloc, Op::GetBlob, "pics", blob, None, Body::empty());
-    let reply = reply(rt, alloc, rows, &request, Status::Success, length);
-    body_of(rt, reply)
+// Whether the spans are one, of all of a piece that holds these bytes.
+fn is_whole(spans: &Items<Span>, bytes: &[u8]) -> bool {
+    let [span] = spans.as_slice() else {
+        return false;
+    };
+    let held = matches!(&span.piece, Piece::Bytes(share) if share.as_slice() == bytes);
+    held && span.from == 0 && span.to == bytes.len() as u64
 }
 
 fn name(rt: &impl Abort, alloc: Global, number: u64) -> String {
@@ -110,23 +121,17 @@ fn a_hundred_blobs_are_read_back(rt: HostRuntime) {
     for number in 0..100 {
         let name = name(&rt, alloc, number);
         let bytes = name.as_bytes().to_vec(alloc).expect(&rt, "memory");
-        put(
-            &rt,
-            alloc,
-            &mut rows,
-            name.as_str(),
-            body(&rt, alloc, bytes),
-        );
+        let body = body(&rt, alloc, bytes);
+        put(&rt, alloc, &mut rows, name.as_str(), body);
     }
     for number in 0..100 {
         let name = name(&rt, alloc, number);
-        let shares = read(&rt, alloc, &rows, name.as_str(), name.len() as u64);
-        let read = shares.joined(alloc).expect(&rt, "memory");
-        assert!(rt; read.as_slice() == name.as_bytes(), "{number}");
+        let spans = read(&rt, alloc, &rows, name.as_str(), name.len() as u64);
+        assert!(rt; is_whole(&spans, name.as_bytes()), "{number}");
     }
 }
 
-// How many kilobytes of the process lie in memory, where the system says so.
+// How many kilobytes of the process are in memory, if the system says so.
 fn resident(rt: &HostRuntime) -> Option<u64> {
     let status = fs::read_to_string(rt, "/proc/self/status").ok()?;
     let mut count = None;
@@ -140,29 +145,24 @@ fn resident(rt: &HostRuntime) -> Option<u64> {
 
 const MIB: usize = 1024 * 1024;
 
-// One body of 1 MiB under a hundred names, and a hundred replies with it, all owned at once.
+// One body of 1 MiB under a hundred names, and a hundred answers with it, all owned at once.
 #[test]
-fn rows_and_replies_share_a_body(rt: HostRuntime) {
+fn rows_and_answers_share_a_body(rt: HostRuntime) {
     let alloc = rt.alloc();
     let body = body(&rt, alloc, vec![in alloc; 7; MIB].expect(&rt, "memory"));
     let mut rows = pics(&rt, alloc);
-    let mut replies = Vec::new(alloc);
+    let mut answers = Vec::new(alloc);
     let before = resident(&rt).expect(&rt, "a status");
     for number in 0..100 {
         let name = name(&rt, alloc, number);
-        put(
-            &rt,
-            alloc,
-            &mut rows,
-            name.as_str(),
-            body.share().expect(&rt, "memory"),
-        );
-        let shares = read(&rt, alloc, &rows, name.as_str(), MIB as u64);
-        replies.push(shares).expect(&rt, "memory");
+        let body = body.share().expect(&rt, "memory");
+        put(&rt, alloc, &mut rows, name.as_str(), body);
+        let spans = read(&rt, alloc, &rows, name.as_str(), MIB as u64);
+        answers.push(spans).expect(&rt, "memory");
     }
     let more = resident(&rt).expect(&rt, "a status").saturating_sub(before);
     assert!(rt; more < 16 * 1024, "{more} kB more than {before} kB");
     // All of them are still owned here.
-    assert!(rt; replies.iter().all(|shares| shares.len() == MIB));
+    assert!(rt; answers.iter().all(|spans| is_whole(spans, body.as_slice())));
     drop(rows);
 }

@@ -19,7 +19,7 @@ impl Model for Uncommitted {
     ghost use Rattle.stamp_types.specs.declared.piece.Piece.{Piece};
     ghost use Rattle.stamp_types.specs.Changes.{are_uncommitted};
     ghost use Rattle.stamp_types.specs.World.{uncommitted_entry, same_pieces};
-    ghost use Rattle.range_rows.specs.BlobRows.{blocks_code};
+    ghost use Rattle.stamp_types.specs.ContentCodes.{blocks_code};
 
     ghost Value = { FinMap name_cmp (List Piece) };
 

@@ -2,6 +2,7 @@ pub mod AllowedHeads
 pub mod AskLemmas
 pub mod Base64Lemmas
 pub mod FieldLemmas
+pub mod HeadDecisions
 pub mod HeadLaws
 pub mod HeadLemmas
 pub mod NumberLemmas

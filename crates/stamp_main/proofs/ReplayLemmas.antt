@@ -4,6 +4,7 @@ use Rattle.std.specs.Io.KnownBytes.{Appends}
 use Rattle.stamp_values.specs.Names.{is_account}
 use Rattle.stamp_values.specs.Texts.{is_clean}
 use Rattle.access_rules.specs.declared.keys.Keys.{Keys}
+use Rattle.stamp_model.specs.Runs.{replies_to}
 use Rattle.http_front.specs.declared.end.End.{End}
 use Rattle.http_front.specs.declared.end.FrontFault.{FrontFault}
 use Rattle.http_front.specs.declared.end.FrontFault.TheVariants.{Read, Write, Turns, NoMemory}
@@ -15,10 +16,12 @@ use Rattle.http_front.specs.Outcomes.{Served}
 use Rattle.http_front.specs.PlainAnswers.{Held, Held-answers, held_first, held_reply}
 use Rattle.reply_form.specs.ReplyBytes.{reply_bytes}
 use Rattle.http_front.specs.Streams.{Item, Tail, Reads, interim, tail_bytes}
+use Rattle.http_front.specs.Streams.Item.{Requested, Refused}
+use Rattle.http_front.proofs.Readings.{reading_of}
 use Rattle.http_front.proofs.StreamLemmas.{reads_one}
 use Rattle.request_form.proofs.TextLemmas.{account_visible, visible_clean}
 use Rattle.stamp_main.specs.declared.replay.Still.{Still}
-use Rattle.stamp_main.specs.Replays.{answer_of, held_behind, output_of, replay_output, Replays, Replayed, Starves}
+use Rattle.stamp_main.specs.Replays.{answer_of, held_behind, output_of, replay_output, requests_of, written_for, Is-output, Replays, Replayed, Starves}
 
 -- an account's name has no control characters
 pub account_clean : (t : List ℕ) → is_account t ≡ true → is_clean t ≡ true
@@ -104,10 +107,10 @@ module _ (keys : Keys) (t : ℕ) (c' : Still) (h' : Held) where
       on_ok result _ _ (if_some left _ _ (replays_of held held' result turns))
 
 -- the output of a run for which memory ran out
-starves_of : (keys : Keys) (t : ℕ) (left left' held held' : Option (List ℕ))
-    → Starved Stands Held-answers (record { moment = t }) (held_first keys t) left left' held held' out_of_memory_bytes
+starves_of : (starves : Held → Held → Type 0) (keys : Keys) (t : ℕ) (c' : Still) (h' : Held) (left left' held held' : Option (List ℕ))
+    → Starved Stands Held-answers starves (record { moment = t }) c' (held_first keys t) h' left left' held held' out_of_memory_bytes
     → Starves keys t left left' held held'
-starves_of keys t left left' held held' s = record {
+starves_of starves keys t c' h' left left' held held' s = record {
   received = s.received;
   consumed = s.consumed;
   items = map item_of s.exchanges;
@@ -135,17 +138,35 @@ pub whole_by : (keys : Keys) (t : ℕ) (c c' : Still) (h h' : Held) (left held h
 whole_by keys t c c' h h' left held held' result turns first stands whole =
     replays_whole keys t c' h' left held held' result turns (rw (first, stands) at whole)
 
-pub starved_by : (keys : Keys) (t : ℕ) (c : Still) (h : Held) (left left' held held' : Option (List ℕ))
+pub starved_by : (starves : Held → Held → Type 0) (keys : Keys) (t : ℕ) (c c' : Still) (h h' : Held) (left left' held held' : Option (List ℕ))
     → h ≡ held_first keys t → c ≡ record { moment = t }
-    → Starved Stands Held-answers c h left left' held held' out_of_memory_bytes
+    → Starved Stands Held-answers starves c c' h h' left left' held held' out_of_memory_bytes
     → Starves keys t left left' held held'
-starved_by keys t c h left left' held held' first stands starved =
-    starves_of keys t left left' held held' (rw (first, stands) at starved)
+starved_by starves keys t c c' h h' left left' held held' first stands starved =
+    starves_of starves keys t c' h' left left' held held' (rw (first, stands) at starved)
 
 -- ---- what is written for an input is one
 
-pub output_one : (keys : Keys) (t : ℕ) (bytes : List ℕ) (items others : List Item) (tail other : Tail)
+output_one : (keys : Keys) (t : ℕ) (bytes : List ℕ) (items others : List Item) (tail other : Tail)
     → Reads bytes items tail → Reads bytes others other → replay_output keys t items tail ≡ replay_output keys t others other
 output_one keys t bytes items others tail other p q =
     let same = reads_one bytes items others tail other p q in
     ap (λ l. replay_output keys t l tail) same.0 ∙ ap (λ e. replay_output keys t others e) same.1
+
+pub one_output : (keys : Keys) (t : ℕ) (input output other : List ℕ) → Is-output keys t input output → Is-output keys t input other → output ≡ other
+one_output keys t input output other p q = p.3 ∙ output_one keys t input p.0 q.0 p.1 q.1 p.2 q.2 ∙ sym q.3
+
+pub some_output : (keys : Keys) (t : ℕ) (input : List ℕ) → (output : List ℕ) × Is-output keys t input output
+some_output keys t input = let read = reading_of input in (replay_output keys t read.0 read.1, (read.0, read.1, read.2, refl))
+
+-- ---- what is written is by the replies of the model
+
+written : (h : Held) (t : ℕ) (items : List Item) → output_of h t items ≡ written_for t items (replies_to (Some h.keys) h.world (requests_of t items))
+unfolding answer_of held_behind
+written h t [] = refl
+written h t (Requested form body ∷ items) = ap (λ l. answer_of h t (Requested form body) ++ l) (written (held_behind h t (Requested form body)) t items)
+written h t (Refused denial ∷ items) = ap (λ l. answer_of h t (Refused denial) ++ l) (written h t items)
+
+pub replay_output-written : (keys : Keys) (t : ℕ) (items : List Item) (tail : Tail) → replay_output keys t items tail ≡ written_for t items (replies_to (Some keys) (held_first keys t).world (requests_of t items)) ++ tail_bytes tail
+unfolding replay_output
+replay_output-written keys t items tail = ap (λ l. l ++ tail_bytes tail) (written (held_first keys t) t items)

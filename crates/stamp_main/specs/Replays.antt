@@ -1,12 +1,14 @@
 -- What `stamp replay` writes: the bytes of its input answered in turn, as the model says, by a clock that stands still (Blob
 -- service REST reference, 2012-02-12; RFC 9112, section 9.3).
-use Rattle.std.specs.Prelude.{◌≡◌, ℕ, ◌*◌, ◌≤◌, List, [], ◌∷◌, ◌++◌, length, true, Option, Some, IfSome, Result, Ok, codes}
+use Rattle.std.specs.Prelude.{◌≡◌, ℕ, ◌*◌, ◌≤◌, List, [], ◌∷◌, ◌++◌, length, true, Option, Some, IfSome, OnOk, Result, Ok, codes}
 use Rattle.std.specs.Io.KnownBytes.{Consumes, Appends}
 use Rattle.stamp_values.specs.Names.{is_account}
+use Rattle.stamp_types.specs.declared.reply.Reply.{Reply}
 use Rattle.stamp_types.specs.Replies.{denied}
 use Rattle.moment_text.specs.IsoReader.{iso_moment}
 use Rattle.hmac_sign.specs.Signature.{IsBytes, base64_of}
 use Rattle.access_rules.specs.declared.keys.Keys.{Keys}
+use Rattle.stamp_model.specs.Runs.{Timed}
 use Rattle.http_front.specs.declared.end.End.{End}
 use Rattle.http_front.specs.declared.end.FrontFault.{FrontFault}
 use Rattle.http_front.specs.Conversations.{Begun, EndsAs}
@@ -14,8 +16,10 @@ use Rattle.reply_form.specs.FixedReplies.{out_of_memory_bytes}
 use Rattle.request_form.specs.HeadForms.{with_body}
 use Rattle.http_front.specs.PlainAnswers.{Held, held_first, held_reply, held_after}
 use Rattle.reply_form.specs.ReplyBytes.{reply_bytes}
-use Rattle.http_front.specs.Streams.{Item, Tail, Reads, interim, tail_bytes}
+use Rattle.http_front.specs.Streams.{Item, Tail, Reads, Reads-front, interim, tail_bytes, refusal_of}
 use Rattle.http_front.specs.Streams.Item.{Requested, Refused}
+use Rattle.stamp_main.specs.declared.ending.Ending.{Ending}
+use Rattle.stamp_main.specs.Ending.{run_ending}
 
 -- the account's keys, which were never replaced
 abbrev pub keys_of : List ℕ → List ℕ → List ℕ → Keys
@@ -25,7 +29,7 @@ keys_of account first second = record { account = account; first = first; second
 unfoldable pub answer_of : Held → ℕ → Item → List ℕ
 answer_of h t (Requested form body) =
     interim form ++ reply_bytes (held_reply h (with_body form body) t) t (Some form.ask.signing.verb) form.closes
-answer_of h t (Refused denial) = reply_bytes (denied denial.rule denial.code) t denial.verb true
+answer_of h t (Refused denial) = reply_bytes (denied (refusal_of denial)) t denial.verb true
 
 -- what is held behind an item; a head that is refused changes nothing
 unfoldable pub held_behind : Held → ℕ → Item → Held
@@ -40,6 +44,24 @@ output_of h t (item ∷ items) = answer_of h t item ++ output_of (held_behind h 
 -- what a replay writes for a stream of these items that stops so
 unfoldable pub replay_output : Keys → ℕ → List Item → Tail → List ℕ
 replay_output keys t items tail = output_of (held_first keys t) t items ++ tail_bytes tail
+
+-- the requests among items in turn, each at the moment
+abbrev pub requests_of : ℕ → List Item → List Timed
+requests_of t [] = []
+requests_of t (Requested form body ∷ items) = record { request = with_body form body; moment = t } ∷ requests_of t items
+requests_of t (Refused denial ∷ items) = requests_of t items
+
+-- what is written for items in turn at the moment, if these are the replies to the requests among them
+abbrev pub written_for : ℕ → List Item → List Reply → List ℕ
+written_for t [] replies = []
+written_for t (Requested form body ∷ items) [] = written_for t items []
+written_for t (Requested form body ∷ items) (r ∷ replies) =
+    (interim form ++ reply_bytes r t (Some form.ask.signing.verb) form.closes) ++ written_for t items replies
+written_for t (Refused denial ∷ items) replies = reply_bytes (denied (refusal_of denial)) t denial.verb true ++ written_for t items replies
+
+-- what a replay writes for an input: that for the items of the input
+abbrev pub Is-output : Keys → ℕ → List ℕ → List ℕ → Type 0
+Is-output keys t input output = (items : List Item) × (tail : Tail) × Reads input items tail × (output ≡ replay_output keys t items tail)
 
 -- What was written is the input's output, and the run ended as the input does.
 pub record Replays (keys : Keys) (moment : ℕ) (held held' : Option (List ℕ)) (result : Result End FrontFault) (turns : ℕ) (input : List ℕ) : Type 0 where
@@ -56,14 +78,14 @@ pub record Replayed (keys : Keys) (moment : ℕ) (left left' held held' : Option
   pub within : length received ≤ turns * 8192
   pub replays : Replays keys moment held held' result turns received
 
--- Memory ran out. What was taken begins with items that were answered in full; behind their output stand what was begun of the
+-- Memory ran out. What was taken begins with items that were answered in full; after their output come what was begun of the
 -- next one, and the bytes that say so.
 pub record Starves (keys : Keys) (moment : ℕ) (left left' held held' : Option (List ℕ)) : Type 0 where
   pub received : List ℕ
   pub consumed : Consumes left left' received
   pub items : List Item
   pub rest : List ℕ
-  pub reads : (more : List Item) (tail : Tail) → Reads rest more tail → Reads received (items ++ more) tail
+  pub reads : Reads-front received items rest
   pub begun : List ℕ
   pub begun_is : Begun rest begun
   pub output : Appends held held' ((output_of (held_first keys moment) moment items ++ begun) ++ out_of_memory_bytes)
@@ -90,8 +112,12 @@ Is-replay words = (time : ℕ) × (keys : Keys) × Asks-replay words time keys
 abbrev pub turn_limit : ℕ
 turn_limit = 4294967296
 
--- the words asked for a replay, and what was written is the output of the whole input, where that is known
-abbrev pub Has-replayed : List (List ℕ) → Option (List ℕ) → Option (List ℕ) → Option (List ℕ) → Type 0
-Has-replayed words left held held' =
-    (time : ℕ) × (keys : Keys) × Asks-replay words time keys
-    × (ended : End) × IfSome left (Replays keys time held held' (Ok ended) turn_limit)
+-- the words asked for a replay, which ended so: what was read is answered, and if it ended well that is the whole input
+abbrev pub Has-replayed : List (List ℕ) → Ending → Option (List ℕ) → Option (List ℕ) → Option (List ℕ) → Option (List ℕ) → Type 0
+Has-replayed words ending left left' held held' =
+    (time : ℕ) × (keys : Keys) × Asks-replay words time keys × (result : Result End FrontFault) × (ending ≡ run_ending result)
+    × Replayed keys time left left' held held' result turn_limit × OnOk result (IfSome left (Replays keys time held held' result turn_limit))
+
+-- the words asked for a replay, and memory ran out while it was made
+abbrev pub Has-starved : List (List ℕ) → Option (List ℕ) → Option (List ℕ) → Option (List ℕ) → Option (List ℕ) → Type 0
+Has-starved words left left' held held' = (time : ℕ) × (keys : Keys) × Asks-replay words time keys × Starves keys time left left' held held'

@@ -8,13 +8,17 @@ use http_front::FrontFault;
 #[derive(Clone, Copy, Debug, PartialEq, Eq)]
 pub enum Ending {
     /// The command was carried out to its end.
-    Done = 0,
+    Done,
     /// The words were no command.
-    Usage = 2,
-    /// A read, a write or the listener failed, or the program's turns were used up.
-    Fault = 3,
+    Usage,
+    /// A read failed, or the input ended inside a request.
+    ReadFault,
+    /// A write failed.
+    WriteFault,
+    /// All reads that the program may make were made, and the input had not ended.
+    TurnsUsedUp,
     /// There was no memory for what had to be kept.
-    NoMemory = 4,
+    NoMemory,
 }
 
 impl Ending {
@@ -22,7 +26,12 @@ impl Ending {
     pub fn status(self) -> u8
         ensures { result ≡ ending_status self }
     {
-        self as u8
+        match self {
+            Ending::Done => 0,
+            Ending::Usage => 2,
+            Ending::ReadFault | Ending::WriteFault | Ending::TurnsUsedUp => 3,
+            Ending::NoMemory => 4,
+        }
     }
 }
 
@@ -32,7 +41,9 @@ pub fn status_of<T>(run: &Result<T, FrontFault>) -> Ending
 {
     match run {
         Ok(_) => Ending::Done,
-        Err(FrontFault::Read | FrontFault::Write | FrontFault::Turns) => Ending::Fault,
+        Err(FrontFault::Read) => Ending::ReadFault,
+        Err(FrontFault::Write) => Ending::WriteFault,
+        Err(FrontFault::Turns) => Ending::TurnsUsedUp,
         Err(FrontFault::NoMemory) => Ending::NoMemory,
     }
 }

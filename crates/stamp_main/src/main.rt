@@ -2,9 +2,9 @@
 #![tactic(auto)]
 
 ghost use Rattle.std.specs.Prelude.{◌≡◌, ◌⊎◌, IfErr};
-ghost use Rattle.stamp_main.specs.declared.ending.Ending.TheVariants.{Done, Fault, NoMemory, Usage};
+ghost use Rattle.stamp_main.specs.declared.ending.Ending.TheVariants.{NoMemory, Usage};
 ghost use Rattle.stamp_main.specs.Command.{texts_of};
-ghost use Rattle.stamp_main.specs.Runs.{Has-done, Is-asked};
+ghost use Rattle.stamp_main.specs.Runs.{Outcome};
 
 use command::{Command, read_command};
 use ending::Ending;
@@ -59,14 +59,13 @@ fn read_words(rt: &(impl Env + AllocGlobal)) -> Result<Vec<String>, Ending>
     words.collect(rt.alloc()).map_err(|_| Ending::NoMemory)
 }
 
-/// Carries out the command that the words give, and says how that ended.
+/// Carries out the command that the words give, and says how that ended. What was written is known at every ending but a failed
+/// write.
 ///
 /// Two commands are built. The words of `serve` are answered as no command, and then nothing was read or written.
+#[tactic(auto, using(crate::proofs::RunLemmas::sign_outcome, crate::proofs::RunLemmas::replay_outcome, crate::proofs::RunLemmas::unasked_serve))]
 fn run<R: Read, W: Write>(alloc: Global, words: &[String], reader: &mut R, writer: &mut W) -> Ending
-    ensures done { result ≡ Done → Has-done (texts_of words.now) (R.remaining reader.old) (W.contents writer.old) (W.contents writer.new) }
-    ensures faulty { result ≡ Fault → Is-asked (texts_of words.now) }
-    ensures refused { result ≡ Usage → ¬ Is-asked (texts_of words.now) }
-    ensures untouched { result ≡ Usage → (reader.new ≡ reader.old) × (writer.new ≡ writer.old) }
+    ensures outcome { Outcome R.remaining W.contents (texts_of words.now) reader.old reader.new writer.old writer.new result }
 {
     match read_command(words) {
         Some(Command::Sign { key }) => run_sign(alloc, reader, writer, key),

@@ -2,9 +2,10 @@
 ghost use Rattle.std.specs.Prelude.{◌≡◌, ◌⊎◌, Err, OnOk, IfSome, IsTrue};
 ghost use Rattle.stamp_values.specs.Names.{is_account};
 ghost use Rattle.http_front.specs.Outcomes.{Served};
-ghost use Rattle.http_front.specs.declared.end.FrontFault.TheVariants.{NoMemory};
-ghost use Rattle.stamp_main.specs.declared.ending.Ending.TheVariants.{Done, Fault, Usage};
-ghost use Rattle.stamp_main.specs.Replays.{Has-replayed, Is-replay, Replays, Replayed, Starves, keys_of, replay_line};
+ghost use Rattle.http_front.specs.declared.end.FrontFault.TheVariants as faults;
+ghost use Rattle.stamp_main.specs.declared.ending.Ending.TheVariants.{Usage, WriteFault, NoMemory};
+ghost use Rattle.stamp_main.specs.Ending.{is_answered};
+ghost use Rattle.stamp_main.specs.Replays.{Has-replayed, Has-starved, Is-replay, Replays, Replayed, Starves, keys_of, replay_line};
 
 use crate::TURNS;
 use crate::ending::{Ending, status_of};
@@ -52,7 +53,7 @@ pub fn replay_on<R: Read, W: Write>(
     ensures whole { OnOk result (IfSome (R.remaining reader.old) (Replays (keys_of account first second) moment
         (W.contents writer.old) (W.contents writer.new) result turns)) }
     // Where memory ran out, the items before are answered in full, and what is said last is that alone.
-    ensures starved { result ≡ Err NoMemory → ((reader.new ≡ reader.old) × (writer.new ≡ writer.old))
+    ensures starved { result ≡ Err faults.NoMemory → ((reader.new ≡ reader.old) × (writer.new ≡ writer.old))
         ⊎ Starves (keys_of account first second) moment (R.remaining reader.old) (R.remaining reader.new)
         (W.contents writer.old) (W.contents writer.new) }
 {
@@ -81,8 +82,8 @@ pub fn replay_on<R: Read, W: Write>(
 /// Carries out `stamp replay MOMENT ACCOUNT KEY1 KEY2`: answers the whole input as one connection, at the moment and by the keys
 /// that these words give.
 ///
-/// Where a word is bad it is answered as wrong usage, and then nothing was read and nothing written. A fault is one of reader or
-/// writer, or the turns were used up.
+/// Where a word is bad it is answered as wrong usage, and then nothing was read and nothing written. What was written is known at
+/// every ending but a failed write.
 pub fn run_replay<R: Read, W: Write>(
     alloc: Global,
     reader: &mut R,
@@ -92,9 +93,12 @@ pub fn run_replay<R: Read, W: Write>(
     first: &str,
     second: &str,
 ) -> Ending
-    ensures replayed { result ≡ Done → Has-replayed (replay_line moment.now account.now first.now second.now)
-        (R.remaining reader.old) (W.contents writer.old) (W.contents writer.new) }
-    ensures faulty { result ≡ Fault → Is-replay (replay_line moment.now account.now first.now second.now) }
+    ensures replayed { IsTrue (is_answered result) → Has-replayed (replay_line moment.now account.now first.now second.now) result
+        (R.remaining reader.old) (R.remaining reader.new) (W.contents writer.old) (W.contents writer.new) }
+    ensures starved { result ≡ NoMemory → ((reader.new ≡ reader.old) × (writer.new ≡ writer.old))
+        ⊎ Has-starved (replay_line moment.now account.now first.now second.now)
+        (R.remaining reader.old) (R.remaining reader.new) (W.contents writer.old) (W.contents writer.new) }
+    ensures asked { result ≡ WriteFault → Is-replay (replay_line moment.now account.now first.now second.now) }
     ensures refused { result ≡ Usage → ¬ Is-replay (replay_line moment.now account.now first.now second.now) }
     ensures untouched { result ≡ Usage → (reader.new ≡ reader.old) × (writer.new ≡ writer.old) }
 {

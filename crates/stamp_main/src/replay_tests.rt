@@ -27,8 +27,8 @@ fn pieces_do_not_matter(rt: HostRuntime) {
     let table = [
         (1, 2000, Ending::Done, OUTPUT),
         (8192, 2, Ending::Done, OUTPUT),
-        (1, 200, Ending::Fault, b""),
-        (8192, 1, Ending::Fault, OUTPUT),
+        (1, 200, Ending::ReadFault, b""),
+        (8192, 1, Ending::ReadFault, OUTPUT),
     ];
     for (most, reads, ending, output) in table {
         let mut reader = Pieces {
@@ -65,6 +65,6 @@ fn a_writer_that_fails_is_told(rt: HostRuntime) {
             KEY1,
             KEY2,
         );
-        assert!(rt; ended == Ending::Fault, "{takes}");
+        assert!(rt; ended == Ending::WriteFault, "{takes}");
     }
 }

@@ -1,10 +1,11 @@
 //! `stamp sign`: the signature of a whole input.
-ghost use Rattle.std.specs.Prelude.{◌≡◌, ◌≢◌, ℕ, List, Err, IfOk, IfSome, OnOk, IsOkUnless, IsTrue, IsFalse, ◌≤◌, ◌<◌, ◌*◌, length, string_bytes};
+ghost use Rattle.std.specs.Prelude.{◌≡◌, ◌≢◌, ◌⊎◌, Err, Ok, IfOk, IfSome, OnOk, IsOkUnless, IsTrue, IsFalse, ◌≤◌, ◌<◌, ◌*◌, length, string_bytes};
 ghost use Rattle.std.specs.Io.KnownBytes.{Appends, IsAtEnd};
-ghost use Rattle.hmac_sign.specs.Signature.{IsBytes, base64_of};
 ghost use Rattle.http_front.specs.declared.end.FrontFault.TheVariants.{Write, Turns};
-ghost use Rattle.stamp_main.specs.declared.ending.Ending.TheVariants.{Done, Fault, Usage};
-ghost use Rattle.stamp_main.specs.Signing.{Signed, has_written, signature_line};
+ghost use Rattle.stamp_main.specs.declared.ending.Ending.TheVariants.{Done, Usage, TurnsUsedUp, NoMemory};
+ghost use Rattle.stamp_main.specs.Ending.{has_written, is_fault, run_ending};
+ghost use Rattle.stamp_main.specs.Replays.{turn_limit};
+ghost use Rattle.stamp_main.specs.Signing.{Has-signed, Is-sign, Signed, sign_line, signature_line};
 
 use crate::TURNS;
 use crate::ending::{Ending, status_of};
@@ -19,19 +20,22 @@ const READ_SIZE: usize = 8192;
 
 /// Carries out `stamp sign KEY`: writes the signature of the whole input under the key that `key` gives in Base64.
 ///
-/// A text that is no Base64 is answered as wrong usage, and then nothing was read and nothing written. A fault is one of
-/// reader or writer, or the turns were used up.
+/// A text that is not Base64 is answered as wrong usage, and then nothing was read. What was written is known at every ending but
+/// a failed write: the line at `Done`, and else nothing.
 pub fn run_sign<R: Read, W: Write>(
     alloc: Global,
     reader: &mut R,
     writer: &mut W,
     key: &str,
 ) -> Ending
-    ensures signed { result ≡ Done → (secret : List ℕ) × IsBytes secret × (key.now ≡ base64_of secret)
-        × Signed secret (R.remaining reader.old) (W.contents writer.old) (W.contents writer.new) }
-    ensures faulty { result ≡ Fault → (secret : List ℕ) × IsBytes secret × (key.now ≡ base64_of secret) }
-    ensures refused { result ≡ Usage → (secret : List ℕ) → IsBytes secret → key.now ≢ base64_of secret }
-    ensures untouched { result ≡ Usage → (reader.new ≡ reader.old) × (writer.new ≡ writer.old) }
+    ensures signed { result ≡ Done → Has-signed (sign_line key.now) (R.remaining reader.old) (W.contents writer.old) (W.contents writer.new) }
+    ensures unwritten { IsFalse (has_written result) → writer.new ≡ writer.old }
+    ensures ended { IsTrue (has_written result) → IsAtEnd (R.remaining reader.new) }
+    ensures used_up { result ≡ TurnsUsedUp → IfSome (R.remaining reader.old) (λ input. turn_limit ≤ length input) }
+    ensures asked { IsTrue (is_fault result) → Is-sign (sign_line key.now) }
+    ensures starved { result ≡ NoMemory → (reader.new ≡ reader.old) ⊎ Is-sign (sign_line key.now) }
+    ensures refused { result ≡ Usage → ¬ Is-sign (sign_line key.now) }
+    ensures unread { result ≡ Usage → reader.new ≡ reader.old }
 {
     match read_secret(alloc, key) {
         Ok(secret) => status_of(&sign_on(alloc, reader, writer, secret.as_slice(), TURNS)),
@@ -54,9 +58,8 @@ pub fn sign_on<R: Read, W: Write>(
 ) -> Result<(), FrontFault>
     ensures signed { OnOk result (Signed key.now (R.remaining reader.old) (W.contents writer.old) (W.contents writer.new)) }
     ensures within { OnOk result (IfSome (R.remaining reader.old) (λ input. length input < turns * 8192)) }
-
-    ensures ended { IsTrue (has_written result) → IsAtEnd (R.remaining reader.new) }
-    ensures unwritten { IsFalse (has_written result) → writer.new ≡ writer.old }
+    ensures ended { IsTrue (has_written (run_ending result)) → IsAtEnd (R.remaining reader.new) }
+    ensures unwritten { IsFalse (has_written (run_ending result)) → writer.new ≡ writer.old }
     ensures used_up { result ≡ Err Turns → IfSome (R.remaining reader.old) (λ input. turns ≤ length input) }
 {
     let input = read_whole(alloc, reader, turns)?;

@@ -1,12 +1,13 @@
 -- A history with one entry more.
-use Rattle.std.proofs.Common.{◌≡◌, ◌≤◌, ◌⊎◌, inl, inr, List, [], ◌∷◌, ◌++◌, refl, sym, ap, ◌∙◌, subst}
+use Rattle.std.proofs.Common.{◌≡◌, ℕ, ◌≤◌, ◌⊎◌, inl, inr, List, [], ◌∷◌, ◌++◌, refl, sym, ap, ◌∙◌, subst}
 use Rattle.std.proofs.lemmas.List.{append_assoc}
 use Rattle.std.proofs.lemmas.List.Sums.{fold-append}
 use Rattle.stamp_values.specs.declared.key.Key.{Key}
 use Rattle.stamp_types.specs.declared.past.Past.{Past}
-use Rattle.stamp_types.specs.declared.piece.Piece.{Piece}
-use Rattle.stamp_types.specs.World.{Part, World, part_at, same_pieces}
+use Rattle.stamp_types.specs.Pieces.{held}
+use Rattle.stamp_types.specs.World.{Part, World, part_at}
 use Rattle.access_rules.specs.declared.keys.Keys.{Keys}
+use Rattle.range_rows.specs.ObjectReplies.{byte_count}
 use Rattle.stamp_model.specs.Effects.{effect}
 use Rattle.stamp_model.specs.Histories.{pair_of, after_entry, replay_from, StandsBehind, NoneIsLater, IsAccepted, IsLegalFrom}
 use Rattle.stamp_model.proofs.EffectLemmas.{part_at-effect}
@@ -29,23 +30,23 @@ last_or_before {X} (y ∷ xs) e x (z ∷ front) rest h =
     ]
 
 -- the container after one entry more
-pub replay_from-append : (pairs : List Keys) (start : Part (List Piece)) (history : List Past) (e : Past) → replay_from pairs start (history ++ e ∷ []) ≡ after_entry pairs (replay_from pairs start history) e
+pub replay_from-append : (pairs : List Keys) (start : Part (List ℕ)) (history : List Past) (e : Past) → replay_from pairs start (history ++ e ∷ []) ≡ after_entry pairs (replay_from pairs start history) e
 replay_from-append pairs start history e = fold-append (after_entry pairs) start history (e ∷ [])
 
 -- the world after the entry's request
-pub part_at-replayed : (pairs : List Keys) (w : World (List Piece)) (start : Part (List Piece)) (history : List Past) (e : Past) → part_at w e.request.ask.key ≡ replay_from pairs start history → part_at (effect (pair_of pairs e.epoch) w e.request e.moment) e.request.ask.key ≡ replay_from pairs start (history ++ e ∷ [])
+pub part_at-replayed : (pairs : List Keys) (w : World (List ℕ)) (start : Part (List ℕ)) (history : List Past) (e : Past) → part_at w e.request.ask.key ≡ replay_from pairs start history → part_at (effect (pair_of pairs e.epoch) w e.request e.moment) e.request.ask.key ≡ replay_from pairs start (history ++ e ∷ [])
 part_at-replayed pairs w start history e same =
-    part_at-effect same_pieces (pair_of pairs e.epoch) w e.request e.moment
-    ∙ ap (λ (p : Part (List Piece)). after_entry pairs p e) same
+    part_at-effect byte_count held (pair_of pairs e.epoch) w e.request e.moment
+    ∙ ap (λ (p : Part (List ℕ)). after_entry pairs p e) same
     ∙ sym (replay_from-append pairs start history e)
 
 -- the world after an accepted entry's request, which names the container of the history
-pub part_at-accepted : (pairs : List Keys) (key : Key) (w : World (List Piece)) (start : Part (List Piece)) (history : List Past) (e : Past) → IsAccepted pairs key (replay_from pairs start history) e → part_at w key ≡ replay_from pairs start history → part_at (effect (pair_of pairs e.epoch) w e.request e.moment) key ≡ replay_from pairs start (history ++ e ∷ [])
+pub part_at-accepted : (pairs : List Keys) (key : Key) (w : World (List ℕ)) (start : Part (List ℕ)) (history : List Past) (e : Past) → IsAccepted pairs key (replay_from pairs start history) e → part_at w key ≡ replay_from pairs start history → part_at (effect (pair_of pairs e.epoch) w e.request e.moment) key ≡ replay_from pairs start (history ++ e ∷ [])
 part_at-accepted pairs key w start history e new =
     subst (λ (k : Key). part_at w k ≡ replay_from pairs start history → part_at (effect (pair_of pairs e.epoch) w e.request e.moment) k ≡ replay_from pairs start (history ++ e ∷ [])) new.own
     (part_at-replayed pairs w start history e)
 
-module _ (pairs : List Keys) (key : Key) (start : Part (List Piece)) (history : List Past) (e : Past) where
+module _ (pairs : List Keys) (key : Key) (start : Part (List ℕ)) (history : List Past) (e : Past) where
   accepted_there : IsLegalFrom pairs key start history → IsAccepted pairs key (replay_from pairs start history) e → (front : List Past) (x : Past)
       → ((front ≡ history) × (x ≡ e)) ⊎ StandsBehind front x history → IsAccepted pairs key (replay_from pairs start front) x
   accepted_there legal new front x (inl p) =
@@ -71,7 +72,7 @@ still : {X : Type 0} (xs more front : List X) (x : X) → (rest : List X) × (xs
 still {X} xs more front x stands =
     (stands.0 ++ more, ap (λ (ys : List X). ys ++ more) stands.1 ∙ append_assoc front (x ∷ stands.0) more)
 
-module _ (pairs : List Keys) (key : Key) (start : Part (List Piece)) where
+module _ (pairs : List Keys) (key : Key) (start : Part (List ℕ)) where
   pub IsLegalFrom-nil : IsLegalFrom pairs key start []
   IsLegalFrom-nil = record {
     accepted = λ front e stands. absurd (no_more front e stands.0 stands.1);

@@ -5,5 +5,7 @@ pub mod CountLemmas
 pub mod EffectLemmas
 pub mod HistoryLemmas
 pub mod PublicLemmas
+pub mod PutLemmas
 pub mod ReplyLemmas
 pub mod RuleLemmas
+pub mod RunLemmas

@@ -1,76 +1,121 @@
--- The rule that a reply names, and when it names none.
-use Rattle.std.proofs.Common.{◌≡◌, ℕ, Bool, true, false, List, Option, Some, None, refl, sym, ap, ◌∙◌}
-use Rattle.std.specs.Prelude.{is_some, if◌then◌else◌}
-use Rattle.std.specs.Option.{option_map, option_and_then, option_or}
+-- A reply names the rule that refuses its request, and otherwise none.
+use Rattle.std.proofs.Common.{◌≡◌, ℕ, Bool, true, false, List, Option, Some, None, refl, sym, ap, ◌∙◌, if◌then◌else◌}
+use Rattle.std.specs.Option.{option_map, option_or}
+use Rattle.stamp_values.specs.declared.key.Key.{Key}
 use Rattle.stamp_values.specs.declared.op.Op.{Op}
 use Rattle.stamp_values.specs.declared.op.Op.TheVariants as op
-use Rattle.stamp_types.specs.declared.code.Code.{Code}
 use Rattle.stamp_types.specs.declared.committed.Committed.{Committed}
-use Rattle.stamp_types.specs.declared.piece.Piece.{Piece}
+use Rattle.stamp_types.specs.declared.refusal.Refusal.{Refusal}
 use Rattle.stamp_types.specs.declared.reply.Reply.{Reply}
 use Rattle.stamp_types.specs.declared.rule.Rule.{Rule}
+use Rattle.stamp_types.specs.declared.rule.Rule.TheVariants.{F3}
+use Rattle.stamp_types.specs.declared.code.Code.TheVariants.{InvalidQueryParameterValue}
 use Rattle.stamp_types.specs.Codes.{has_error_body}
+use Rattle.stamp_types.specs.Pieces.{held}
 use Rattle.stamp_types.specs.Replies.{denied}
 use Rattle.stamp_types.specs.Requests.{Asked}
-use Rattle.stamp_types.specs.World.{Part, World, part_at, same_pieces}
+use Rattle.stamp_types.specs.World.{Part, World, part_at}
 use Rattle.access_rules.specs.declared.keys.Keys.{Keys}
 use Rattle.access_rules.specs.Routes.{Admits}
 use Rattle.access_rules.specs.Rules.{first_rule}
 use Rattle.access_rules.proofs.RouteLaw.{by_route}
-use Rattle.range_rows.specs.ObjectReplies.{reply_by, reply_of}
-use Rattle.range_rows.specs.ObjectRules.{named_blob, object_rule}
-use Rattle.stamp_model.specs.Refusals.{access_of, refusing_rule, code_of}
+use Rattle.range_rows.specs.ObjectReplies.{is_served, byte_count, sizes, blob_read, frame_by, reply_of}
+use Rattle.range_rows.specs.ObjectRules.{object_refusal}
+use Rattle.stamp_model.specs.Refusals.{acl_of, access_refusal, unserved_refusal, refusal, refusing_rule}
 use Rattle.stamp_model.specs.Effects.{change, effect}
-use Rattle.stamp_model.specs.Responses.{response, reply, rule_named}
-use Rattle.stamp_model.proofs.EffectLemmas.{part_at-effect}
-use Rattle.stamp_model.proofs.RuleLemmas.{refusing_rule-has_code}
+use Rattle.stamp_model.specs.Responses.{response, reply}
+use Rattle.stamp_model.proofs.EffectLemmas.{part_at-effect, effect-refused}
 
 either_names : (b : Bool) (x y : Reply) (rule : Option Rule) → x.rule ≡ rule → y.rule ≡ rule → (if b then x else y).rule ≡ rule
 either_names true x y rule first second = first
 either_names false x y rule first second = second
 
-refusal_names : (rule : Rule) (code : Option Code) → is_some code ≡ true → rule_named (option_map (denied rule) code) ≡ Some rule
-refusal_names rule None h = cc
-refusal_names rule (Some code) h = either_names (has_error_body code) _ _ (Some rule) refl refl
+-- the reply to a refusal names its rule
+pub denied-names : (r : Refusal) → (denied r).rule ≡ Some r.rule
+denied-names r = either_names (has_error_body r.code) _ _ (Some r.rule) refl refl
 
-success_by : (o : Op) (q : Asked) (c : Committed (List Piece)) → rule_named (reply_by o q c) ≡ None
-success_by op.PutBlob q c = refl
-success_by op.GetBlob q c = refl
-success_by other q c = refl
+frame_names_none : (o : Op) (q : Asked) (c : Committed ℕ) → (frame_by o q c).rule ≡ None
+frame_names_none op.PutBlob q c = refl
+frame_names_none op.GetBlob q c = refl
+frame_names_none other q c = refl
 
-success_names_none : (o : Op) (q : Asked) (c : Option (Committed (List Piece))) → rule_named (option_and_then (reply_by o q) c) ≡ None
-success_names_none o q None = refl
-success_names_none o q (Some c) = success_by o q c
+names : (r : Option Refusal) (p : Part (List ℕ)) (q : Asked) → (response r p q).rule ≡ option_map (λ r. r.rule) r
+names None p q = frame_names_none q.ask.op q (blob_read (sizes p) q.ask)
+names (Some r) p q = denied-names r
 
-names : (rule : Option Rule) (p : Part (List Piece)) (q : Asked) → ((r : Rule) → rule ≡ Some r → is_some (code_of r) ≡ true) → rule_named (response rule p q) ≡ rule
-names None p q has = success_names_none q.ask.op q (named_blob p q.ask)
-names (Some r) p q has = refusal_names r (code_of r) (has r refl)
+-- nothing is left of three
+pub none_of_three : (a b c : Option Refusal) → option_or a (option_or b c) ≡ None → (a ≡ None) × (b ≡ None) × (c ≡ None)
+none_of_three None None c h = (refl, refl, h)
+none_of_three None (Some r) c h = cc
+none_of_three (Some r) b c h = cc
 
--- no rule of either kind
-pub neither : (a b : Option Rule) → option_or a b ≡ None → (a ≡ None) × (b ≡ None)
-neither None b h = (refl, h)
-neither (Some r) b h = cc
+unmapped : {X Y : Type 0} (f : X → Y) (o : Option X) → option_map f o ≡ None → o ≡ None
+unmapped f None h = refl
+unmapped f (Some x) h = cc
 
-module _ (keys : Option Keys) (w : World (List Piece)) (q : Asked) (t : ℕ) where
-  abbrev own_part : Part (List Piece)
+-- a rule is named by a refusal
+pub mapped : (o : Option Refusal) (rule : Rule) → option_map (λ r. r.rule) o ≡ Some rule → (r : Refusal) × (o ≡ Some r)
+mapped None rule h = cc
+mapped (Some r) rule h = (r, refl)
+
+served_if : (b : Bool) (r : Refusal) → (if b then None else Some r) ≡ None → b ≡ true
+served_if true r h = refl
+served_if false r h = cc
+
+abbrev last_refusal : Bool → Option Refusal
+last_refusal b = if b then None else Some (record { rule = F3; code = InvalidQueryParameterValue })
+
+unserved_none : (b : Bool) → b ≡ true → last_refusal b ≡ None
+unserved_none true h = refl
+unserved_none false h = cc
+
+-- what it says of a request that nothing refuses it
+pub record IsUnrefused (keys : Option Keys) (p : Part ℕ) (q : Asked) (t : ℕ) : Type 0 where
+  pub permitted : first_rule keys (acl_of p) q.ask t ≡ None
+  pub unopposed : object_refusal p q ≡ None
+  pub served : is_served q.ask.op ≡ true
+
+pub unrefused : (keys : Option Keys) (p : Part ℕ) (q : Asked) (t : ℕ) → refusal keys p q t ≡ None → IsUnrefused keys p q t
+unrefused keys p q t h =
+    let parts = none_of_three (option_map access_refusal (first_rule keys (acl_of p) q.ask t)) (object_refusal p q) (unserved_refusal q.ask.op) h in
+    record {
+      permitted = unmapped access_refusal (first_rule keys (acl_of p) q.ask t) parts.0;
+      unopposed = parts.1;
+      served = served_if (is_served q.ask.op) _ parts.2;
+    }
+
+module _ (keys : Option Keys) (w : World (List ℕ)) (q : Asked) (t : ℕ) (bound : Option Key) where
+  abbrev own_part : Part (List ℕ)
   own_part = part_at w q.ask.key
 
   -- a reply names the rule that refuses
-  pub rule_named-reply : rule_named (reply keys w q t) ≡ refusing_rule keys own_part q t
-  rule_named-reply = names (refusing_rule keys own_part q t) _ q (refusing_rule-has_code keys own_part q t)
+  pub rule-reply : (reply keys w q t bound).rule ≡ refusing_rule keys (sizes own_part) q t
+  rule-reply = names (refusal keys (sizes own_part) q t) _ q
 
-  -- where it names none, no rule holds
-  pub reply-unrefused : (r : Reply) → reply keys w q t ≡ Some r → r.rule ≡ None → (first_rule keys (access_of own_part) q.ask t ≡ None) × (object_rule own_part q ≡ None)
-  reply-unrefused r is none =
-      neither (first_rule keys (access_of own_part) q.ask t) (object_rule own_part q) (sym rule_named-reply ∙ ap rule_named is ∙ none)
+  -- if it names none, nothing refuses
+  pub reply-unrefused : (reply keys w q t bound).rule ≡ None → refusal keys (sizes own_part) q t ≡ None
+  reply-unrefused none = unmapped (λ (r : Refusal). r.rule) (refusal keys (sizes own_part) q t) (sym rule-reply ∙ none)
 
-  -- the own route admits, and no rule of the object holds
-  pub refusing_rule-admitted : Admits keys (access_of own_part) q.ask.credential q.ask t → object_rule own_part q ≡ None → refusing_rule keys own_part q t ≡ None
-  refusing_rule-admitted admits free =
-      ap (λ (o : Option Rule). option_or o (object_rule own_part q)) ((by_route keys (access_of own_part) q.ask t q.ask.credential).1 admits) ∙ free
+  -- the own route admits, the object does not refuse, and the operation is served
+  pub refusal-admitted : Admits keys (acl_of own_part) q.ask.credential q.ask t → object_refusal (sizes own_part) q ≡ None → is_served q.ask.op ≡ true → refusal keys (sizes own_part) q t ≡ None
+  refusal-admitted admits free served =
+      ap (λ (o : Option Rule). option_or (option_map access_refusal o) (option_or (object_refusal (sizes own_part) q) (unserved_refusal q.ask.op)))
+      ((by_route keys (acl_of own_part) q.ask t q.ask.credential).1 admits)
+      ∙ ap (λ (o : Option Refusal). option_or o (unserved_refusal q.ask.op)) free
+      ∙ unserved_none (is_served q.ask.op) served
 
   -- the reply is what the operation answers of the container as it is then
-  pub reply-admitted : refusing_rule keys own_part q t ≡ None → reply keys w q t ≡ reply_of (part_at (effect keys w q t) q.ask.key) q
+  pub reply-admitted : refusal keys (sizes own_part) q t ≡ None → reply keys w q t bound ≡ reply_of (part_at (effect keys w q t) q.ask.key) q
   reply-admitted free =
-      ap (λ (o : Option Rule). response o (change keys own_part q t) q) free
-      ∙ ap (λ (p : Part (List Piece)). reply_of p q) (sym (part_at-effect same_pieces keys w q t))
+      ap (λ (o : Option Refusal). response o (change keys own_part q t) q) free
+      ∙ ap (λ (p : Part (List ℕ)). reply_of p q) (sym (part_at-effect byte_count held keys w q t))
+
+  -- if the reply names a rule, all stays
+  pub effect-named : (rule : Rule) → (reply keys w q t bound).rule ≡ Some rule → effect keys w q t ≡ w
+  effect-named rule named =
+      let there = mapped (refusal keys (sizes own_part) q t) rule (sym rule-reply ∙ named) in
+      effect-refused byte_count held keys w q t there.0 there.1
+
+  -- if it names none, the own route admits
+  pub reply-admits : (reply keys w q t bound).rule ≡ None → Admits keys (acl_of own_part) q.ask.credential q.ask t
+  reply-admits none = (by_route keys (acl_of own_part) q.ask t q.ask.credential).0 (unrefused keys (sizes own_part) q t (reply-unrefused none)).permitted

@@ -1,17 +1,22 @@
--- The first rule of two lists, and that each rule has a code.
-use Rattle.std.proofs.Common.{◌≡◌, ℕ, Bool, true, false, cond, not, ◌||◌, List, [], ◌∷◌, Option, Some, refl, sym, ap, ◌∙◌}
+-- The first rule of all lists.
+use Rattle.std.proofs.Common.{◌≡◌, ℕ, Bool, true, false, cond, not, ◌||◌, List, [], ◌∷◌, ◌++◌, Option, Some, None, refl, sym, ap, ◌∙◌}
 use Rattle.std.proofs.lemmas.Bool.{and_parts}
 use Rattle.std.proofs.lemmas.List.Folds.{find-append}
-use Rattle.std.specs.Prelude.{find, is_some}
+use Rattle.std.specs.Prelude.{find, if◌then◌else◌}
 use Rattle.std.specs.List.{list_all}
-use Rattle.std.specs.Option.{option_or}
+use Rattle.std.specs.Option.{option_map, option_or}
+use Rattle.stamp_types.specs.declared.code.Code.TheVariants.{InvalidQueryParameterValue}
+use Rattle.stamp_types.specs.declared.refusal.Refusal.{Refusal}
 use Rattle.stamp_types.specs.declared.rule.Rule.{Rule}
+use Rattle.stamp_types.specs.declared.rule.Rule.TheVariants.{F3, O1, O2, O3, O5, O6}
 use Rattle.stamp_types.specs.Requests.{Asked}
 use Rattle.stamp_types.specs.World.{Part}
 use Rattle.access_rules.specs.declared.keys.Keys.{Keys}
-use Rattle.access_rules.specs.Rules.{holds, access_rules}
-use Rattle.range_rows.specs.ObjectRules.{object_holds, object_rules}
-use Rattle.stamp_model.specs.Refusals.{access_of, refusing_rule, refuses, rules_in_order, code_of}
+use Rattle.access_rules.specs.Rules.{holds, access_rules, first_rule}
+use Rattle.range_rows.specs.ObjectReplies.{is_served}
+use Rattle.range_rows.specs.ObjectRules.{cause_holds, cause_refusal, object_holds, object_refusal, object_rules}
+use Rattle.range_rows.specs.ObjectRules.Cause.{ContainerIsAbsent, ContainerExists, BlobIsAbsent, BodyIsDamaged, CountIsFull}
+use Rattle.stamp_model.specs.Refusals.{acl_of, access_refusal, unserved_refusal, is_unserved, refusing_rule, refuses, rules_in_order}
 
 or_none : (a b : Bool) → not b ≡ true → (a || b) ≡ a
 or_none true b h = refl
@@ -37,25 +42,57 @@ module _ {X : Type 0} where
       let both = and_parts (not (a x)) (list_all (λ x. not (a x)) xs) h in
       λ i. cond (none_or (a x) (b x) both.0 i) (Some x) (find-second_alone a b xs both.1 i)
 
-  -- what is found is like all elements
-  found_has : (test has : X → Bool) (xs : List X) (x : X) → list_all has xs ≡ true → find test xs ≡ Some x → has x ≡ true
-  found_has test has [] x all h = cc
-  found_has test has (y ∷ ys) x all h =
-      let both = and_parts (has y) (list_all has ys) all in
-      elim (test y) as (λ b. cond b (Some y) (find test ys) ≡ Some x → has x ≡ true) [
-        | true ↦ λ h. let same : y ≡ x = cc in ap has (sym same) ∙ both.0
-        | false ↦ λ h. found_has test has ys x both.1 h
-      ] h
+-- ---- the rule of a refusal
 
--- the rule that refuses is the first of all that holds
-pub refusing_rule-first : (keys : Option Keys) {C : Type 0} (p : Part C) (q : Asked) (t : ℕ) → refusing_rule keys p q t ≡ find (refuses keys p q t) rules_in_order
-refusing_rule-first keys p q t =
-    let by_access = holds keys (access_of p) q.ask t in
-    let by_object = object_holds p q in
-    sym (find-append (refuses keys p q t) access_rules object_rules
-    ∙ (λ i. option_or (find-first_alone by_access by_object access_rules refl i) (find-second_alone by_access by_object object_rules refl i)))
+joined : (a b : Option Refusal) → option_map (λ r. r.rule) (option_or a b) ≡ option_or (option_map (λ r. r.rule) a) (option_map (λ r. r.rule) b)
+joined None b = refl
+joined (Some r) b = refl
 
--- and it has a code
-pub refusing_rule-has_code : (keys : Option Keys) {C : Type 0} (p : Part C) (q : Asked) (t : ℕ) (rule : Rule) → refusing_rule keys p q t ≡ Some rule → is_some (code_of rule) ≡ true
-refusing_rule-has_code keys p q t rule h =
-    found_has (refuses keys p q t) (λ r. is_some (code_of r)) rules_in_order rule refl (sym (refusing_rule-first keys p q t) ∙ h)
+of_permission : (o : Option Rule) → option_map (λ r. r.rule) (option_map access_refusal o) ≡ o
+of_permission None = refl
+of_permission (Some r) = refl
+
+of_object : (a b c d e : Bool) → option_map (λ r. r.rule) (option_map cause_refusal
+    (cond a (Some ContainerIsAbsent) (cond b (Some ContainerExists) (cond c (Some BlobIsAbsent) (cond d (Some BodyIsDamaged) (cond e (Some CountIsFull) None))))))
+    ≡ cond a (Some O1) (cond b (Some O2) (cond c (Some O3) (cond d (Some O5) (cond e (Some O6) None))))
+of_object true b c d e = refl
+of_object false true c d e = refl
+of_object false false true d e = refl
+of_object false false false true e = refl
+of_object false false false false true = refl
+of_object false false false false false = refl
+
+of_unserved : (b : Bool) → option_map (λ (r : Refusal). r.rule) (if b then None else Some (record { rule = F3; code = InvalidQueryParameterValue })) ≡ cond (not b) (Some F3) None
+of_unserved true = refl
+of_unserved false = refl
+
+-- the rule by which the object refuses is the first of its rules that holds
+pub object_rule-first : (p : Part ℕ) (q : Asked) → option_map (λ r. r.rule) (object_refusal p q) ≡ find (object_holds p q) object_rules
+object_rule-first p q = of_object (cause_holds p q ContainerIsAbsent) (cause_holds p q ContainerExists) (cause_holds p q BlobIsAbsent) (cause_holds p q BodyIsDamaged) (cause_holds p q CountIsFull)
+
+module _ (keys : Option Keys) (p : Part ℕ) (q : Asked) (t : ℕ) where
+  abbrev by_access : Rule → Bool
+  by_access = holds keys (acl_of p) q.ask t
+
+  abbrev by_object : Rule → Bool
+  by_object = object_holds p q
+
+  in_parts : refusing_rule keys p q t ≡ option_or (first_rule keys (acl_of p) q.ask t) (option_or (find by_object object_rules) (find (is_unserved q) (F3 ∷ [])))
+  in_parts =
+      joined (option_map access_refusal (first_rule keys (acl_of p) q.ask t)) (option_or (object_refusal p q) (unserved_refusal q.ask.op))
+      ∙ (λ i. option_or (of_permission (first_rule keys (acl_of p) q.ask t) i) (joined (object_refusal p q) (unserved_refusal q.ask.op) i))
+      ∙ (λ i. option_or (first_rule keys (acl_of p) q.ask t) (option_or (object_rule-first p q i) (of_unserved (is_served q.ask.op) i)))
+
+  of_lower : find (λ r. by_object r || is_unserved q r) (object_rules ++ F3 ∷ []) ≡ option_or (find by_object object_rules) (find (is_unserved q) (F3 ∷ []))
+  of_lower =
+      find-append (λ r. by_object r || is_unserved q r) object_rules (F3 ∷ [])
+      ∙ (λ i. option_or (find-first_alone by_object (is_unserved q) object_rules refl i) (find-second_alone by_object (is_unserved q) (F3 ∷ []) refl i))
+
+  -- the rule that refuses is the first of all that holds
+  pub refusing_rule-first : refusing_rule keys p q t ≡ find (refuses keys p q t) rules_in_order
+  refusing_rule-first =
+      let lower : Rule → Bool = λ r. by_object r || is_unserved q r in
+      in_parts
+      ∙ sym (find-append (refuses keys p q t) access_rules (object_rules ++ F3 ∷ [])
+      ∙ (λ i. option_or (find-first_alone by_access lower access_rules refl i) (find-second_alone by_access lower (object_rules ++ F3 ∷ []) refl i))
+      ∙ ap (λ (o : Option Rule). option_or (first_rule keys (acl_of p) q.ask t) o) of_lower)

@@ -4,11 +4,11 @@ use Rattle.std.specs.Prelude.{◌≡◌, ◌≤◌, ℕ, nat_eq, List, ◌∷◌
 use Rattle.std.specs.List.{fold}
 use Rattle.stamp_values.specs.declared.key.Key.{Key}
 use Rattle.stamp_types.specs.declared.past.Past.{Past}
-use Rattle.stamp_types.specs.declared.piece.Piece.{Piece}
 use Rattle.stamp_types.specs.World.{Part, no_part}
 use Rattle.access_rules.specs.declared.keys.Keys.{Keys}
+use Rattle.range_rows.specs.ObjectReplies.{sizes}
 use Rattle.range_rows.specs.RequestChanges.{change_of}
-use Rattle.stamp_model.specs.Refusals.{refusing_rule}
+use Rattle.stamp_model.specs.Refusals.{refusal}
 use Rattle.stamp_model.specs.Effects.{change}
 
 -- the account's key pair of an epoch
@@ -16,15 +16,15 @@ abbrev pub pair_of : List Keys → ℕ → Option Keys
 pair_of pairs epoch = find (λ pair. nat_eq pair.epoch epoch) pairs
 
 -- the container after an entry, judged by the pair of its epoch
-abbrev pub after_entry : List Keys → Part (List Piece) → Past → Part (List Piece)
+abbrev pub after_entry : List Keys → Part (List ℕ) → Past → Part (List ℕ)
 after_entry pairs p e = change (pair_of pairs e.epoch) p e.request e.moment
 
 -- the container after all entries in turn, from what it was before
-abbrev pub replay_from : List Keys → Part (List Piece) → List Past → Part (List Piece)
+abbrev pub replay_from : List Keys → Part (List ℕ) → List Past → Part (List ℕ)
 replay_from pairs start history = fold (after_entry pairs) start history
 
 -- the container after all entries in turn, from one that never was
-abbrev pub replay : List Keys → List Past → Part (List Piece)
+abbrev pub replay : List Keys → List Past → Part (List ℕ)
 replay pairs history = replay_from pairs no_part history
 
 -- the entry is in the history, and what is before it there is the front
@@ -35,14 +35,14 @@ StandsBehind front e history = (rest : List Past) × (history ≡ front ++ e ∷
 abbrev pub NoneIsLater : ℕ → List Past → Type 0
 NoneIsLater epoch history = (front : List Past) (e : Past) → StandsBehind front e history → e.epoch ≤ epoch
 
--- the entry changes the container, as it is then: it names it, writes, and no rule refuses it by the pair of its epoch
-pub record IsAccepted (pairs : List Keys) (key : Key) (p : Part (List Piece)) (e : Past) : Type 0 where
+-- the entry changes the container, as it is then: it names it, writes, and nothing refuses it by the pair of its epoch
+pub record IsAccepted (pairs : List Keys) (key : Key) (p : Part (List ℕ)) (e : Past) : Type 0 where
   pub own : e.request.ask.key ≡ key
-  pub writes : IsSome (change_of e.request e.moment)
-  pub allowed : refusing_rule (pair_of pairs e.epoch) p e.request e.moment ≡ None
+  pub writes : IsSome (change_of (sizes p) e.request e.moment)
+  pub allowed : refusal (pair_of pairs e.epoch) (sizes p) e.request e.moment ≡ None
 
 -- each entry is accepted by what those before it left, and no epoch is lower than one before it
-pub record IsLegalFrom (pairs : List Keys) (key : Key) (start : Part (List Piece)) (history : List Past) : Type 0 where
+pub record IsLegalFrom (pairs : List Keys) (key : Key) (start : Part (List ℕ)) (history : List Past) : Type 0 where
   pub accepted : (front : List Past) (e : Past) → StandsBehind front e history → IsAccepted pairs key (replay_from pairs start front) e
   pub epochs : (front between : List Past) (e later : Past) → StandsBehind (front ++ e ∷ between) later history → e.epoch ≤ later.epoch
 

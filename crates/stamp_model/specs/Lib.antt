@@ -2,3 +2,4 @@ pub mod Effects
 pub mod Histories
 pub mod Refusals
 pub mod Responses
+pub mod Runs

@@ -1,41 +1,57 @@
--- Which rule refuses a request (Blob service REST reference, 2012-02-12, Status and Error Codes, Blob Service Error Codes).
--- The rules, their order and the codes of the rules of permission are the stamp's own.
-use Rattle.std.specs.Prelude.{ℕ, Bool, ◌||◌, List, ◌++◌, Option, Some}
+-- Which rule refuses a request, and with which code (Blob service REST reference, 2012-02-12, Status and Error Codes, Blob
+-- Service Error Codes). The rules, their order and the codes of the rules of permission are the stamp's own.
+use Rattle.std.specs.Prelude.{ℕ, Bool, false, not, ◌||◌, List, [], ◌∷◌, ◌++◌, Option, Some, None, if◌then◌else◌}
 use Rattle.std.specs.Option.{option_map, option_or}
+use Rattle.stamp_values.specs.declared.acl.Acl.{Acl}
+use Rattle.stamp_values.specs.declared.op.Op.{Op}
 use Rattle.stamp_types.specs.declared.code.Code.{Code}
 use Rattle.stamp_types.specs.declared.code.Code.TheVariants as code
+use Rattle.stamp_types.specs.declared.refusal.Refusal.{Refusal}
 use Rattle.stamp_types.specs.declared.rule.Rule.{Rule}
-use Rattle.stamp_types.specs.declared.rule.Rule.TheVariants.{K1, K2, K3, K4, K5, S1, P1, P2}
+use Rattle.stamp_types.specs.declared.rule.Rule.TheVariants as rule
 use Rattle.stamp_types.specs.Requests.{Asked}
 use Rattle.stamp_types.specs.World.{Part}
 use Rattle.access_rules.specs.declared.keys.Keys.{Keys}
-use Rattle.access_rules.specs.Rules.{Access, holds, access_rules, first_rule}
-use Rattle.range_rows.specs.ObjectRules.{object_holds, object_rules, object_rule, object_code}
+use Rattle.access_rules.specs.Rules.{holds, access_rules, first_rule}
+use Rattle.range_rows.specs.ObjectReplies.{is_served}
+use Rattle.range_rows.specs.ObjectRules.{object_holds, object_rules, object_refusal}
 
--- what a container says about who may, where it stands
-abbrev pub access_of : {C : Type 0} → Part C → Option Access
-access_of p = option_map (λ s. record { level = s.level; policies = s.policies }) p.standing
+-- what a container says of who may, if it exists
+abbrev pub acl_of : {C : Type 0} → Part C → Option Acl
+acl_of p = option_map (λ s. s.acl) p.standing
 
--- the rule that refuses: the first of permission, and where none holds the first of the object
-abbrev pub refusing_rule : {C : Type 0} → Option Keys → Part C → Asked → ℕ → Option Rule
-refusing_rule keys p q t = option_or (first_rule keys (access_of p) q.ask t) (object_rule p q)
+-- the error code of a rule of permission
+abbrev pub access_code : Rule → Code
+access_code rule.K1 = code.InvalidAuthenticationInfo
+access_code rule.P1 = code.ResourceNotFound
+access_code rule.P2 = code.ResourceNotFound
+access_code _ = code.AuthenticationFailed
 
--- the rule holds, of permission or of the object
-abbrev pub refuses : {C : Type 0} → Option Keys → Part C → Asked → ℕ → Rule → Bool
-refuses keys p q t rule = holds keys (access_of p) q.ask t rule || object_holds p q rule
+-- the refusal by a rule of permission
+abbrev pub access_refusal : Rule → Refusal
+access_refusal r = record { rule = r; code = access_code r }
+
+-- an operation that is not served yet is refused last, as a head is that asks for no operation
+abbrev pub unserved_refusal : Op → Option Refusal
+unserved_refusal o = if is_served o then None else Some (record { rule = rule.F3; code = code.InvalidQueryParameterValue })
+
+-- the refusal of a request: by permission, or else by the object, or else since it is not served
+abbrev pub refusal : Option Keys → Part ℕ → Asked → ℕ → Option Refusal
+refusal keys p q t = option_or (option_map access_refusal (first_rule keys (acl_of p) q.ask t)) (option_or (object_refusal p q) (unserved_refusal q.ask.op))
+
+-- the rule that refuses
+abbrev pub refusing_rule : Option Keys → Part ℕ → Asked → ℕ → Option Rule
+refusing_rule keys p q t = option_map (λ r. r.rule) (refusal keys p q t)
+
+-- the rule of operations that are not served yet holds
+abbrev pub is_unserved : Asked → Rule → Bool
+is_unserved q rule.F3 = not (is_served q.ask.op)
+is_unserved q _ = false
+
+-- the rule holds, of permission or of the object, or since the operation is not served
+abbrev pub refuses : Option Keys → Part ℕ → Asked → ℕ → Rule → Bool
+refuses keys p q t r = holds keys (acl_of p) q.ask t r || (object_holds p q r || is_unserved q r)
 
 -- all rules in the order in which they are told
 abbrev pub rules_in_order : List Rule
-rules_in_order = access_rules ++ object_rules
-
--- the error code of a rule; the status follows the code
-abbrev pub code_of : Rule → Option Code
-code_of K1 = Some code.InvalidAuthenticationInfo
-code_of K2 = Some code.AuthenticationFailed
-code_of K3 = Some code.AuthenticationFailed
-code_of K4 = Some code.AuthenticationFailed
-code_of K5 = Some code.AuthenticationFailed
-code_of S1 = Some code.AuthenticationFailed
-code_of P1 = Some code.ResourceNotFound
-code_of P2 = Some code.ResourceNotFound
-code_of other = object_code other
+rules_in_order = access_rules ++ object_rules ++ rule.F3 ∷ []

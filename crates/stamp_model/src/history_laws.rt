@@ -2,7 +2,6 @@
 ghost use Rattle.std.specs.Prelude.{◌≡◌, ℕ, ◌+◌, List, [], ◌∷◌, ◌++◌, Some, length};
 ghost use Rattle.stamp_values.specs.declared.key.Key.{Key};
 ghost use Rattle.stamp_types.specs.declared.past.Past.{Past};
-ghost use Rattle.stamp_types.specs.declared.piece.Piece.{Piece};
 ghost use Rattle.stamp_types.specs.World.{Part, World, part_at};
 ghost use Rattle.access_rules.specs.declared.keys.Keys.{Keys};
 ghost use Rattle.stamp_model.specs.Effects.{effect};
@@ -12,22 +11,22 @@ ghost use Rattle.stamp_model.specs.Histories.{IsLegal, IsLegalFrom, IsAccepted, 
 /// the container what the history replays to, it holds after the request's effect what the longer one does. That is so of
 /// the container whose history it is, since an accepted request names no other.
 pub fn an_accepted_request_goes_on_a_legal_history()
-    ensures legal { (pairs : List Keys) (key : Key) (start : Part (List Piece)) (history : List Past) (e : Past) → IsLegalFrom pairs key start history → NoneIsLater e.epoch history → IsAccepted pairs key (replay_from pairs start history) e → IsLegalFrom pairs key start (history ++ e ∷ []) }
-    ensures replay { (pairs : List Keys) (w : World (List Piece)) (start : Part (List Piece)) (history : List Past) (e : Past) → part_at w e.request.ask.key ≡ replay_from pairs start history → part_at (effect (pair_of pairs e.epoch) w e.request e.moment) e.request.ask.key ≡ replay_from pairs start (history ++ e ∷ []) }
-    ensures own { (pairs : List Keys) (key : Key) (w : World (List Piece)) (start : Part (List Piece)) (history : List Past) (e : Past) → IsAccepted pairs key (replay_from pairs start history) e → part_at w key ≡ replay_from pairs start history → part_at (effect (pair_of pairs e.epoch) w e.request e.moment) key ≡ replay_from pairs start (history ++ e ∷ []) }
+    ensures legal { (pairs : List Keys) (key : Key) (start : Part (List ℕ)) (history : List Past) (e : Past) → IsLegalFrom pairs key start history → NoneIsLater e.epoch history → IsAccepted pairs key (replay_from pairs start history) e → IsLegalFrom pairs key start (history ++ e ∷ []) }
+    ensures replay { (pairs : List Keys) (w : World (List ℕ)) (start : Part (List ℕ)) (history : List Past) (e : Past) → part_at w e.request.ask.key ≡ replay_from pairs start history → part_at (effect (pair_of pairs e.epoch) w e.request e.moment) e.request.ask.key ≡ replay_from pairs start (history ++ e ∷ []) }
+    ensures own { (pairs : List Keys) (key : Key) (w : World (List ℕ)) (start : Part (List ℕ)) (history : List Past) (e : Past) → IsAccepted pairs key (replay_from pairs start history) e → part_at w key ≡ replay_from pairs start history → part_at (effect (pair_of pairs e.epoch) w e.request e.moment) key ≡ replay_from pairs start (history ++ e ∷ []) }
 {}
 
 /// An accepted request is one change of its container, so that a legal history has as many entries as the container has seen
 /// changes since its start: all of them, where it begins with a container that never was. The pair by which an entry is judged is one of its own epoch.
 pub fn each_entry_is_one_change()
-    ensures one { (pairs : List Keys) (key : Key) (p : Part (List Piece)) (e : Past) → IsAccepted pairs key p e → (after_entry pairs p e).count ≡ p.count + 1 }
-    ensures counted { (pairs : List Keys) (key : Key) (start : Part (List Piece)) (history : List Past) → IsLegalFrom pairs key start history → (replay_from pairs start history).count ≡ start.count + length history }
+    ensures one { (pairs : List Keys) (key : Key) (p : Part (List ℕ)) (e : Past) → IsAccepted pairs key p e → (after_entry pairs p e).count ≡ p.count + 1 }
+    ensures counted { (pairs : List Keys) (key : Key) (start : Part (List ℕ)) (history : List Past) → IsLegalFrom pairs key start history → (replay_from pairs start history).count ≡ start.count + length history }
     ensures all { (pairs : List Keys) (key : Key) (history : List Past) → IsLegal pairs key history → (replay pairs history).count ≡ length history }
     ensures epoch { (pairs : List Keys) (epoch : ℕ) (pair : Keys) → pair_of pairs epoch ≡ Some pair → pair.epoch ≡ epoch }
 {}
 
 /// A history of no entries is legal, and so is each front part of a legal one.
 pub fn a_front_part_of_a_legal_history_is_legal()
-    ensures none { (pairs : List Keys) (key : Key) (start : Part (List Piece)) → IsLegalFrom pairs key start [] }
-    ensures front { (pairs : List Keys) (key : Key) (start : Part (List Piece)) (history more : List Past) → IsLegalFrom pairs key start (history ++ more) → IsLegalFrom pairs key start history }
+    ensures none { (pairs : List Keys) (key : Key) (start : Part (List ℕ)) → IsLegalFrom pairs key start [] }
+    ensures front { (pairs : List Keys) (key : Key) (start : Part (List ℕ)) (history more : List Past) → IsLegalFrom pairs key start (history ++ more) → IsLegalFrom pairs key start history }
 {}

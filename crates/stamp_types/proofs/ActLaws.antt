@@ -7,19 +7,19 @@ use Rattle.stamp_types.specs.declared.act.SetAcl.{SetAcl}
 use Rattle.stamp_types.specs.declared.act.SetContainerMetadata.{SetContainerMetadata}
 use Rattle.stamp_types.specs.declared.piece.Piece.{Piece}
 use Rattle.stamp_types.specs.declared.standing.Standing.{Standing}
-use Rattle.stamp_types.specs.ActKinds.{is_row, sets_access, who_may}
+use Rattle.stamp_types.specs.ActKinds.{is_row, sets_access}
 use Rattle.stamp_types.specs.World.{Part, changed, standing_after, standing_with_acl, standing_with_metadata, count_after}
 
 count_by_act : (a : Act) (n : ℕ) → is_row a ≡ false → count_after a n ≡ n + 1
 count_by_act (act.ContainerRow a) n h = cc
-count_by_act (act.BlobRow a) n h = cc
+count_by_act (act.StoredBlob a) n h = cc
 count_by_act other n h = refl
 
-same_access : (n : ℕ) (a : SetContainerMetadata) (o : Option Standing) → option_map who_may (option_map (standing_with_metadata n a) o) ≡ option_map who_may o
+same_access : (n : ℕ) (a : SetContainerMetadata) (o : Option Standing) → option_map (λ (s : Standing). s.acl) (option_map (standing_with_metadata n a) o) ≡ option_map (λ s. s.acl) o
 same_access n a None = refl
 same_access n a (Some s) = refl
 
-access_by_act : (n : ℕ) (a : Act) (o : Option Standing) → sets_access a ≡ false → option_map who_may (standing_after n a o) ≡ option_map who_may o
+access_by_act : (n : ℕ) (a : Act) (o : Option Standing) → sets_access a ≡ false → option_map (λ (s : Standing). s.acl) (standing_after n a o) ≡ option_map (λ s. s.acl) o
 access_by_act n (act.CreateContainer a) o h = cc
 access_by_act n (act.SetAcl a) o h = cc
 access_by_act n act.DeleteContainer o h = cc
@@ -33,9 +33,9 @@ module _ {C : Type 0} (f : List Piece → C) (p : Part C) where
   count-changed a h = count_by_act a p.count h
 
   -- no change alters who may, but those that set it
-  pub access-changed : (a : Act) → sets_access a ≡ false → option_map who_may (changed f a p).standing ≡ option_map who_may p.standing
+  pub access-changed : (a : Act) → sets_access a ≡ false → option_map (λ s. s.acl) (changed f a p).standing ≡ option_map (λ s. s.acl) p.standing
   access-changed a h = access_by_act (p.count + 1) a p.standing h
 
   -- what is set stands
-  pub access-set : (a : SetAcl) (s : Standing) → p.standing ≡ Some s → option_map who_may (changed f (act.SetAcl a) p).standing ≡ Some (a.level, a.policies)
-  access-set a s h = ap (λ (o : Option Standing). option_map who_may (option_map (standing_with_acl (p.count + 1) a) o)) h
+  pub access-set : (a : SetAcl) (s : Standing) → p.standing ≡ Some s → option_map (λ s. s.acl) (changed f (act.SetAcl a) p).standing ≡ Some a.acl
+  access-set a s h = ap (λ (o : Option Standing). option_map (λ s. s.acl) (option_map (standing_with_acl (p.count + 1) a) o)) h

@@ -19,6 +19,7 @@ use Rattle.stamp_values.specs.declared.key.Key.{Key}
 use Rattle.stamp_values.specs.declared.meta.Meta.{Meta}
 use Rattle.stamp_values.specs.declared.place.Place.{Place}
 use Rattle.stamp_values.specs.declared.policy.Policy.{Policy}
+use Rattle.stamp_values.specs.declared.acl.Acl.{Acl}
 use Rattle.stamp_types.specs.declared.standing.Standing.{Standing}
 use Rattle.stamp_types.specs.declared.piece.Piece.{Piece}
 use Rattle.stamp_types.specs.declared.piece.Piece.TheVariants as pieces
@@ -34,7 +35,7 @@ use Rattle.stamp_types.specs.declared.act.DeleteBlob.{DeleteBlob}
 use Rattle.stamp_types.specs.declared.act.PutBlock.{PutBlock}
 use Rattle.stamp_types.specs.declared.act.PutBlockList.{PutBlockList}
 use Rattle.stamp_types.specs.declared.act.ContainerRow.{ContainerRow}
-use Rattle.stamp_types.specs.declared.act.BlobRow.{BlobRow}
+use Rattle.stamp_types.specs.declared.act.StoredBlob.{StoredBlob}
 use Rattle.stamp_types.specs.declared.act.Act.{Act}
 use Rattle.stamp_types.specs.declared.act.Act.TheVariants as acts
 use Rattle.stamp_values.specs.Letters.{Permissions}
@@ -92,6 +93,14 @@ policy_decides a b =
     Decides-like _ (λ e i. record { id = e.0 i; start = e.1.0 i; expiry = e.1.1.0 i; letters = e.1.1.1 i })
     (λ e. (λ i. (e i).id, (λ i. (e i).start, (λ i. (e i).expiry, λ i. (e i).letters))))
     (Decides-and _ _ (bytes_eq-Decides a.id b.id) (Decides-and _ _ (options_decide Decides-eqb a.start b.start) (Decides-and _ _ (options_decide Decides-eqb a.expiry b.expiry) (options_decide letters_decide a.letters b.letters))))
+
+abbrev acl_eq : Acl → Acl → Bool
+acl_eq a b = sameb level.the_type a.level b.level && pointwise policy_eq a.policies b.policies
+
+acl_decides : (a b : Acl) → Decides (acl_eq a b) (a ≡ b)
+acl_decides a b =
+    Decides-like _ (λ e i. record { level = e.0 i; policies = e.1 i }) (λ e. (λ i. (e i).level, λ i. (e i).policies))
+    (Decides-and _ _ (level_decides a.level b.level) (lists_decide policy_decides a.policies b.policies))
 
 abbrev props_eq : PropsFields → PropsFields → Bool
 props_eq a b =
@@ -158,13 +167,13 @@ committed_decides a b =
 
 abbrev standing_eq : Standing → Standing → Bool
 standing_eq a b =
-    nat_eq a.etag b.etag && (nat_eq a.made b.made && (sameb level.the_type a.level b.level && (pointwise meta_eq a.metadata b.metadata && pointwise policy_eq a.policies b.policies)))
+    nat_eq a.etag b.etag && (nat_eq a.made b.made && (pointwise meta_eq a.metadata b.metadata && acl_eq a.acl b.acl))
 
 standing_decides : (a b : Standing) → Decides (standing_eq a b) (a ≡ b)
 standing_decides a b =
-    Decides-like _ (λ e i. record { etag = e.0 i; made = e.1.0 i; level = e.1.1.0 i; metadata = e.1.1.1.0 i; policies = e.1.1.1.1 i })
-    (λ e. (λ i. (e i).etag, (λ i. (e i).made, (λ i. (e i).level, (λ i. (e i).metadata, λ i. (e i).policies)))))
-    (Decides-and _ _ (Decides-eqb a.etag b.etag) (Decides-and _ _ (Decides-eqb a.made b.made) (Decides-and _ _ (level_decides a.level b.level) (Decides-and _ _ (lists_decide meta_decides a.metadata b.metadata) (lists_decide policy_decides a.policies b.policies)))))
+    Decides-like _ (λ e i. record { etag = e.0 i; made = e.1.0 i; metadata = e.1.1.0 i; acl = e.1.1.1 i })
+    (λ e. (λ i. (e i).etag, (λ i. (e i).made, (λ i. (e i).metadata, λ i. (e i).acl))))
+    (Decides-and _ _ (Decides-eqb a.etag b.etag) (Decides-and _ _ (Decides-eqb a.made b.made) (Decides-and _ _ (lists_decide meta_decides a.metadata b.metadata) (acl_decides a.acl b.acl))))
 
 abbrev create_eq : CreateContainer → CreateContainer → Bool
 create_eq a b = nat_eq a.moment b.moment && (sameb level.the_type a.level b.level && pointwise meta_eq a.metadata b.metadata)
@@ -182,13 +191,13 @@ set_container_decides a b =
     Decides-like _ (λ e i. record { moment = e.0 i; metadata = e.1 i }) (λ e. (λ i. (e i).moment, λ i. (e i).metadata))
     (Decides-and _ _ (Decides-eqb a.moment b.moment) (lists_decide meta_decides a.metadata b.metadata))
 
-abbrev acl_eq : SetAcl → SetAcl → Bool
-acl_eq a b = nat_eq a.moment b.moment && (sameb level.the_type a.level b.level && pointwise policy_eq a.policies b.policies)
+abbrev set_acl_eq : SetAcl → SetAcl → Bool
+set_acl_eq a b = nat_eq a.moment b.moment && acl_eq a.acl b.acl
 
-acl_decides : (a b : SetAcl) → Decides (acl_eq a b) (a ≡ b)
-acl_decides a b =
-    Decides-like _ (λ e i. record { moment = e.0 i; level = e.1.0 i; policies = e.1.1 i }) (λ e. (λ i. (e i).moment, (λ i. (e i).level, λ i. (e i).policies)))
-    (Decides-and _ _ (Decides-eqb a.moment b.moment) (Decides-and _ _ (level_decides a.level b.level) (lists_decide policy_decides a.policies b.policies)))
+set_acl_decides : (a b : SetAcl) → Decides (set_acl_eq a b) (a ≡ b)
+set_acl_decides a b =
+    Decides-like _ (λ e i. record { moment = e.0 i; acl = e.1 i }) (λ e. (λ i. (e i).moment, λ i. (e i).acl))
+    (Decides-and _ _ (Decides-eqb a.moment b.moment) (acl_decides a.acl b.acl))
 
 abbrev put_blob_eq : PutBlob → PutBlob → Bool
 put_blob_eq a b =
@@ -237,12 +246,12 @@ container_row_decides a b =
     Decides-like _ (λ e i. record { count = e.0 i; standing = e.1 i }) (λ e. (λ i. (e i).count, λ i. (e i).standing))
     (Decides-and _ _ (Decides-eqb a.count b.count) (options_decide standing_decides a.standing b.standing))
 
-abbrev blob_row_eq : BlobRow → BlobRow → Bool
-blob_row_eq a b =
+abbrev stored_blob_eq : StoredBlob → StoredBlob → Bool
+stored_blob_eq a b =
     bytes_eq a.blob b.blob && (option_eq committed_eq a.committed b.committed && pointwise uncommitted_eq a.uncommitted b.uncommitted)
 
-blob_row_decides : (a b : BlobRow) → Decides (blob_row_eq a b) (a ≡ b)
-blob_row_decides a b =
+stored_blob_decides : (a b : StoredBlob) → Decides (stored_blob_eq a b) (a ≡ b)
+stored_blob_decides a b =
     Decides-like _ (λ e i. record { blob = e.0 i; committed = e.1.0 i; uncommitted = e.1.1 i }) (λ e. (λ i. (e i).blob, (λ i. (e i).committed, λ i. (e i).uncommitted)))
     (Decides-and _ _ (bytes_eq-Decides a.blob b.blob) (Decides-and _ _ (options_decide committed_decides a.committed b.committed) (lists_decide uncommitted_decides a.uncommitted b.uncommitted)))
 
@@ -252,7 +261,7 @@ act_eq = (act_impl.eq-value).it
 act_decides : (a b : Act) → Decides (act_eq a b) (a ≡ b)
 act_decides (acts.CreateContainer a) (acts.CreateContainer b) = Decides-like _ (λ e i. acts.CreateContainer (e i)) (λ e. cc) (create_decides a b)
 act_decides (acts.SetContainerMetadata a) (acts.SetContainerMetadata b) = Decides-like _ (λ e i. acts.SetContainerMetadata (e i)) (λ e. cc) (set_container_decides a b)
-act_decides (acts.SetAcl a) (acts.SetAcl b) = Decides-like _ (λ e i. acts.SetAcl (e i)) (λ e. cc) (acl_decides a b)
+act_decides (acts.SetAcl a) (acts.SetAcl b) = Decides-like _ (λ e i. acts.SetAcl (e i)) (λ e. cc) (set_acl_decides a b)
 act_decides acts.DeleteContainer acts.DeleteContainer = (λ e. refl, λ e. refl)
 act_decides (acts.PutBlob a) (acts.PutBlob b) = Decides-like _ (λ e i. acts.PutBlob (e i)) (λ e. cc) (put_blob_decides a b)
 act_decides (acts.SetMetadata a) (acts.SetMetadata b) = Decides-like _ (λ e i. acts.SetMetadata (e i)) (λ e. cc) (set_metadata_decides a b)
@@ -260,7 +269,7 @@ act_decides (acts.DeleteBlob a) (acts.DeleteBlob b) = Decides-like _ (λ e i. ac
 act_decides (acts.PutBlock a) (acts.PutBlock b) = Decides-like _ (λ e i. acts.PutBlock (e i)) (λ e. cc) (put_block_decides a b)
 act_decides (acts.PutBlockList a) (acts.PutBlockList b) = Decides-like _ (λ e i. acts.PutBlockList (e i)) (λ e. cc) (put_block_list_decides a b)
 act_decides (acts.ContainerRow a) (acts.ContainerRow b) = Decides-like _ (λ e i. acts.ContainerRow (e i)) (λ e. cc) (container_row_decides a b)
-act_decides (acts.BlobRow a) (acts.BlobRow b) = Decides-like _ (λ e i. acts.BlobRow (e i)) (λ e. cc) (blob_row_decides a b)
+act_decides (acts.StoredBlob a) (acts.StoredBlob b) = Decides-like _ (λ e i. acts.StoredBlob (e i)) (λ e. cc) (stored_blob_decides a b)
 act_decides a b = (λ e. cc, λ e. cc)
 
 abbrev key_eq : Key → Key → Bool

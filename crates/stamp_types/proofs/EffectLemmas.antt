@@ -77,7 +77,7 @@ module _ {C : Type 0} (f : List Piece → C) (p : Part C) where
   same_others (act.PutBlock a) name other h apart = get-insert_other p.blobs a.blob _ other (λ e. apart cc)
   same_others (act.PutBlockList a) name other h apart = get-insert_other p.blobs a.blob _ other (λ e. apart cc)
   same_others (act.ContainerRow a) name other h apart = cc
-  same_others (act.BlobRow a) name other h apart = get-insert_other p.blobs a.blob _ other (λ e. apart cc)
+  same_others (act.StoredBlob a) name other h apart = get-insert_other p.blobs a.blob _ other (λ e. apart cc)
 
   -- a blob that was put is what was put
   pub blob_in-insert : (count : ℕ) (standing : Option Standing) (name : List ℕ) (b : Blob C) → blob_in (record { count = count; standing = standing; blobs = finite.insert p.blobs name b }) name ≡ b
@@ -143,7 +143,7 @@ module _ {C : Type 0} (f : List Piece → C) (p : Part C) where
   blob_is_dated (act.DeleteBlob a) name t n d = cc
   blob_is_dated (act.PutBlock a) name t n d = cc
   blob_is_dated (act.ContainerRow a) name t n d = cc
-  blob_is_dated (act.BlobRow a) name t n d = cc
+  blob_is_dated (act.StoredBlob a) name t n d = cc
 
 -- ---- no ETag is over the count
 
@@ -196,7 +196,7 @@ module _ {C : Type 0} (f : List Piece → C) (p : Part C) (h : EtagsAtMost p.cou
   blobs_bounded (act.PutBlock a) r = all_inserted (p.count + 1) p.blobs a.blob _ (old_blobs a.blob) old_blobs
   blobs_bounded (act.PutBlockList a) r = all_inserted (p.count + 1) p.blobs a.blob _ (omega arith) old_blobs
   blobs_bounded (act.ContainerRow a) r = cc
-  blobs_bounded (act.BlobRow a) r = cc
+  blobs_bounded (act.StoredBlob a) r = cc
 
   abbrev StandsAtMost : ℕ → Option Standing → Type 0
   StandsAtMost n o = IfSome o (λ s. s.etag ≤ n)
@@ -277,7 +277,7 @@ module _ {C : Type 0} where
       ∙ ap (λ bs. option_map (λ (one : Block C). one.content) (find (has_block_id id) bs)) blocks
       ∙ ap (λ o. option_map (λ (one : Block C). one.content) o) (first_committed id before after block own apart)
 
--- ---- the row of a blob
+-- ---- the row of a stored blob
 
 module _ {C : Type 0} (f : List Piece → C) where
   next : (u : UncommittedBlock) (us : List UncommittedBlock) (id : List ℕ) (b : Bool) → finite.find name_cmp id (map (uncommitted_entry f) us) ≡ listed_content f id us

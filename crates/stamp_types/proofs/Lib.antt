@@ -1,7 +1,9 @@
 pub mod ActContents
 pub mod ActLaws
 pub mod ChangesEqual
+pub mod ContentReadings
 pub mod Cuts
+pub mod EachContents
 pub mod EffectLemmas
 pub mod PieceLengths
 pub mod Same

@@ -123,7 +123,7 @@ module _ {D : Type 0} (f : List Piece → D) where
         uncommitted = map_values-empty names_total names_exact f i;
       })
   blobs_value n (act.ContainerRow a) p = refl
-  blobs_value n (act.BlobRow a) p =
+  blobs_value n (act.StoredBlob a) p =
       map_values-insert names_total names_exact (blob_value f) p.blobs a.blob _
       ∙ ap (finite.insert (map_values (blob_value f) p.blobs) a.blob)
       (λ i. record {

@@ -8,7 +8,7 @@ use Rattle.stamp_types.specs.declared.piece.Piece.{Piece}
 use Rattle.stamp_types.specs.declared.committed.Block.{Block}
 use Rattle.stamp_types.specs.declared.committed.Committed.{Committed}
 use Rattle.stamp_types.specs.declared.committed.UncommittedBlock.{UncommittedBlock}
-use Rattle.stamp_types.specs.declared.act.BlobRow.{BlobRow}
+use Rattle.stamp_types.specs.declared.act.StoredBlob.{StoredBlob}
 use Rattle.stamp_types.specs.declared.act.Act.{Act}
 use Rattle.stamp_types.specs.declared.act.Act.TheVariants as acts
 use Rattle.stamp_values.specs.Names.{is_account, is_container, is_blob}
@@ -67,8 +67,8 @@ are_uncommitted us =
     && has_ids_of_one_length us
 
 -- a blob of which nothing is left has no row
-abbrev pub is_blob_row : BlobRow → Bool
-is_blob_row r =
+abbrev pub is_stored_blob : StoredBlob → Bool
+is_stored_blob r =
     is_blob r.blob && (is_some r.committed || nat_lt 0 (length r.uncommitted)) && is_committed r.committed
     && are_uncommitted r.uncommitted
 
@@ -80,7 +80,7 @@ is_act (acts.DeleteBlob a) = is_blob a.blob
 is_act (acts.PutBlock a) = is_blob a.blob && is_in_one_piece a.content
 is_act (acts.PutBlockList a) = is_blob a.blob && nat_le (length a.entries) entries_limit
 is_act (acts.ContainerRow a) = nat_le 1 a.count
-is_act (acts.BlobRow a) = is_blob_row a
+is_act (acts.StoredBlob a) = is_stored_blob a
 is_act _ = true
 
 -- account and container are named well, and the act is a good one

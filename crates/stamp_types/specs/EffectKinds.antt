@@ -23,7 +23,7 @@ blob_named (act.SetMetadata a) = Some a.blob
 blob_named (act.DeleteBlob a) = Some a.blob
 blob_named (act.PutBlock a) = Some a.blob
 blob_named (act.PutBlockList a) = Some a.blob
-blob_named (act.BlobRow a) = Some a.blob
+blob_named (act.StoredBlob a) = Some a.blob
 blob_named other = None
 
 -- the moment of a change that gives its container an ETag

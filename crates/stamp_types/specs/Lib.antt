@@ -1,6 +1,8 @@
 pub mod ActKinds
 pub mod Changes
 pub mod Codes
+pub mod ContentCodes
+pub mod Contents
 pub mod EffectKinds
 pub mod Pieces
 pub mod PropsFields
@@ -13,6 +15,7 @@ pub mod Statuses
 pub mod WorkedChanges
 pub mod World
 pub mod WorldCodes
+pub use Rattle.stamp_values.specs.Acls
 pub use Rattle.stamp_values.specs.Entries
 pub use Rattle.stamp_values.specs.Etags
 pub use Rattle.stamp_values.specs.Letters

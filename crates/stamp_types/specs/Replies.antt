@@ -5,6 +5,7 @@ use Rattle.stamp_types.specs.Rules.{rule_label}
 use Rattle.stamp_types.specs.declared.code.Code.{Code}
 use Rattle.stamp_types.specs.declared.header.Header.{Header}
 use Rattle.stamp_types.specs.declared.header.Header.TheVariants.{ContentType}
+use Rattle.stamp_types.specs.declared.refusal.Refusal.{Refusal}
 use Rattle.stamp_types.specs.declared.reply.Reply.{Reply}
 use Rattle.stamp_types.specs.declared.rule.Rule.{Rule}
 
@@ -14,19 +15,19 @@ error_body code rule =
     codes "<?xml version=\"1.0\" encoding=\"utf-8\"?><Error><Code>" ++ code_text code
     ++ codes "</Code><Message>Refused by rule " ++ rule_label rule ++ codes ".</Message></Error>"
 
--- a refusal that has these headers and this body
-abbrev pub refusal : Rule → Code → List Header → List ℕ → Reply
-refusal rule code headers body = record {
-  status = code_status code;
-  code = Some code;
-  rule = Some rule;
+-- the reply to a refusal that has these headers and this body
+abbrev pub refusal_reply : Refusal → List Header → List ℕ → Reply
+refusal_reply r headers body = record {
+  status = code_status r.code;
+  code = Some r.code;
+  rule = Some r.rule;
   headers = headers;
   length = length body;
   body = body;
 }
 
--- the reply to a request that a rule refuses
-abbrev pub denied : Rule → Code → Reply
-denied rule code =
-    if has_error_body code then refusal rule code (ContentType (codes "application/xml") ∷ []) (error_body code rule)
-    else refusal rule code [] []
+-- the reply to a request that is refused
+abbrev pub denied : Refusal → Reply
+denied r =
+    if has_error_body r.code then refusal_reply r (ContentType (codes "application/xml") ∷ []) (error_body r.code r.rule)
+    else refusal_reply r [] []

@@ -119,13 +119,13 @@ abbrev pub with_committed : {C : Type 0} → Part C → List ℕ → Option (Com
 with_committed p name None = p.blobs
 with_committed p name (Some c) = with_blob p name (record { committed = Some c; uncommitted = (blob_in p name).uncommitted })
 
--- a container with other metadata: level and policies stay
+-- a container with other metadata: who may stays
 abbrev pub standing_with_metadata : ℕ → SetContainerMetadata → Standing → Standing
-standing_with_metadata n a s = record { etag = n; made = a.moment; level = s.level; metadata = a.metadata; policies = s.policies }
+standing_with_metadata n a s = record { etag = n; made = a.moment; metadata = a.metadata; acl = s.acl }
 
--- a container with other public access and policies: the metadata stay
+-- a container with other level and policies: the metadata stay
 abbrev pub standing_with_acl : ℕ → SetAcl → Standing → Standing
-standing_with_acl n a s = record { etag = n; made = a.moment; level = a.level; metadata = s.metadata; policies = a.policies }
+standing_with_acl n a s = record { etag = n; made = a.moment; metadata = s.metadata; acl = a.acl }
 
 -- a blob with other metadata: what is kept with it and its blocks stay
 abbrev pub committed_with_metadata : {C : Type 0} → ℕ → SetMetadata → Committed C → Committed C
@@ -155,7 +155,7 @@ blobs_after f n (act.PutBlockList a) p =
       uncommitted = finite.empty;
     })
 blobs_after f n (act.ContainerRow a) p = p.blobs
-blobs_after f n (act.BlobRow a) p =
+blobs_after f n (act.StoredBlob a) p =
     with_blob p a.blob (record {
       committed = option_map (committed_value f) a.committed;
       uncommitted = finite.from_entries (map (uncommitted_entry f) a.uncommitted);
@@ -163,7 +163,7 @@ blobs_after f n (act.BlobRow a) p =
 
 -- the container itself as the act leaves it, where it has seen n changes then: a blob's change never touches it
 abbrev pub standing_after : ℕ → Act → Option Standing → Option Standing
-standing_after n (act.CreateContainer a) o = Some (record { etag = n; made = a.moment; level = a.level; metadata = a.metadata; policies = [] })
+standing_after n (act.CreateContainer a) o = Some (record { etag = n; made = a.moment; metadata = a.metadata; acl = record { level = a.level; policies = [] } })
 standing_after n (act.SetContainerMetadata a) o = option_map (standing_with_metadata n a) o
 standing_after n (act.SetAcl a) o = option_map (standing_with_acl n a) o
 standing_after n act.DeleteContainer o = None
@@ -173,7 +173,7 @@ standing_after n other o = o
 -- how many changes the container has seen then: each raises the count by one, and rows of a checkpoint are none
 abbrev pub count_after : Act → ℕ → ℕ
 count_after (act.ContainerRow a) n = a.count
-count_after (act.BlobRow a) n = n
+count_after (act.StoredBlob a) n = n
 count_after other n = n + 1
 
 -- the container as the act leaves it

@@ -13,6 +13,7 @@ use Rattle.stamp_values.specs.declared.level.Level.{Level}
 use Rattle.stamp_values.specs.declared.level.Level.TheVariants as level
 use Rattle.stamp_values.specs.declared.meta.Meta.{Meta}
 use Rattle.stamp_values.specs.declared.policy.Policy.{Policy}
+use Rattle.stamp_values.specs.declared.acl.Acl.{Acl}
 use Rattle.stamp_types.specs.declared.standing.Standing.{Standing}
 use Rattle.stamp_types.specs.declared.committed.Block.{Block}
 use Rattle.stamp_types.specs.declared.committed.Committed.{Committed}
@@ -51,10 +52,16 @@ numbered_level-level_number level.Container = refl
 abbrev pub level_code : Coded Level
 level_code = code_by ℕ coded_ℕ level_number numbered_level numbered_level-level_number
 
+-- the code of what a container says of who may: of its level and its policies
+abbrev pub acl_code : Coded Acl
+acl_code =
+    code_by (Level × List Policy) (coded× level_code (coded_list policy_code)) (λ a. (a.level, a.policies)) (λ p. record { level = p.0; policies = p.1 }) (λ _. refl)
+
+-- the code of what stands of a container
 abbrev pub standing_code : Coded Standing
 standing_code =
-    code_by (ℕ × (ℕ × (Level × (List Meta × List Policy)))) (coded× coded_ℕ (coded× coded_ℕ (coded× level_code (coded× (coded_list meta_code) (coded_list policy_code)))))
-    (λ s. (s.etag, (s.made, (s.level, (s.metadata, s.policies))))) (λ p. record { etag = p.0; made = p.1.0; level = p.1.1.0; metadata = p.1.1.1.0; policies = p.1.1.1.1 }) (λ _. refl)
+    code_by (ℕ × (ℕ × (List Meta × Acl))) (coded× coded_ℕ (coded× coded_ℕ (coded× (coded_list meta_code) acl_code)))
+    (λ s. (s.etag, (s.made, (s.metadata, s.acl)))) (λ p. record { etag = p.0; made = p.1.0; metadata = p.1.1.0; acl = p.1.1.1 }) (λ _. refl)
 
 abbrev pub props_code : Coded PropsFields
 props_code =

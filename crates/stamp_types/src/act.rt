@@ -6,7 +6,7 @@ use crate::committed::{Committed, UncommittedBlock};
 use crate::pieces::Pieces;
 use crate::props::Props;
 use crate::standing::Standing;
-use stamp_values::{BlockId, Items, Level, Metadata, Moment, Policies, Taken, Text};
+use stamp_values::{Acl, BlockId, Items, Level, Metadata, Moment, Taken, Text};
 use std::alloc::AllocError;
 
 #[derive(Clone, Debug, PartialEq, Eq, Drop)]
@@ -25,8 +25,7 @@ pub struct SetContainerMetadata {
 #[derive(Clone, Debug, PartialEq, Eq, Drop)]
 pub struct SetAcl {
     pub moment: Moment,
-    pub level: Level,
-    pub policies: Policies,
+    pub acl: Acl,
 }
 
 #[derive(Clone, Debug, PartialEq, Eq, Drop)]
@@ -75,9 +74,9 @@ pub struct ContainerRow {
     pub standing: Option<Standing>,
 }
 
-/// What stands in a blob, with its uncommitted blocks by their ids.
+/// The row of a stored blob in a checkpoint: its committed part, and its uncommitted blocks by their ids.
 #[derive(Debug, PartialEq, Eq, Drop)]
-pub struct BlobRow {
+pub struct StoredBlob {
     pub blob: Text,
     pub committed: Option<Committed<Pieces>>,
     pub uncommitted: Items<UncommittedBlock>,
@@ -96,10 +95,10 @@ pub enum Act {
     PutBlock(PutBlock),
     PutBlockList(PutBlockList),
     ContainerRow(ContainerRow),
-    BlobRow(BlobRow),
+    StoredBlob(StoredBlob),
 }
 
-impl Clone for BlobRow {
+impl Clone for StoredBlob {
     ghost is_clone = { λ x y. y ≡ x };
 
     fn clone(&self) -> Result<Self, AllocError> {
@@ -126,7 +125,7 @@ impl Clone for Act {
             Act::PutBlock(put) => Ok(Act::PutBlock(put.clone()?)),
             Act::PutBlockList(put) => Ok(Act::PutBlockList(put.clone()?)),
             Act::ContainerRow(row) => Ok(Act::ContainerRow(row.clone()?)),
-            Act::BlobRow(row) => Ok(Act::BlobRow(row.clone()?)),
+            Act::StoredBlob(row) => Ok(Act::StoredBlob(row.clone()?)),
         }
     }
 }

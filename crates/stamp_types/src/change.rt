@@ -87,6 +87,7 @@ impl Change {
     }
 
     /// Whether key and act are equal.
+    #[tactic(auto, using(crate::proofs::ChangesEqual::change_decides))]
     pub fn same(&self, other: &Self) -> bool
         ensures { IsTrue result ↔ (self.now ≡ other.now) }
     {

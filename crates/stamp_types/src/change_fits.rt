@@ -2,9 +2,9 @@
 ghost use Rattle.std.specs.Prelude.{◌≡◌, ◌↔◌, ◌≤◌, ◌==◌, IsTrue, length, is_some};
 ghost use Rattle.std.specs.List.{list_all};
 ghost use Rattle.stamp_values.specs.Names as names;
-ghost use Rattle.stamp_types.specs.Changes.{is_in_one_piece, is_block, has_ids_or_one, blocks_len, are_blocks, is_committed, is_id_before_next, has_rising_ids, has_ids_of_one_length, are_uncommitted, is_blob_row, is_act, is_change};
+ghost use Rattle.stamp_types.specs.Changes.{is_in_one_piece, is_block, has_ids_or_one, blocks_len, are_blocks, is_committed, is_id_before_next, has_rising_ids, has_ids_of_one_length, are_uncommitted, is_stored_blob, is_act, is_change};
 
-use crate::act::{Act, BlobRow};
+use crate::act::{Act, StoredBlob};
 use crate::committed::{Block, Committed, UncommittedBlock};
 use crate::pieces::Pieces;
 use stamp_values::{
@@ -134,8 +134,8 @@ fn is_blob_name(blob: &Text) -> bool
     is_blob(blob.as_str().as_bytes())
 }
 
-fn is_blob_row(row: &BlobRow) -> bool
-    ensures { result ≡ is_blob_row row.now }
+fn is_stored_blob(row: &StoredBlob) -> bool
+    ensures { result ≡ is_stored_blob row.now }
 {
     is_blob_name(&row.blob)
         && (row.committed.is_some() || !row.uncommitted.as_slice().is_empty())
@@ -158,7 +158,7 @@ fn is_act(act: &Act) -> bool
         Act::PutBlockList(put) => is_blob_name(&put.blob)
             && put.entries.as_slice().len() <= ENTRIES_LIMIT,
         Act::ContainerRow(row) => row.count >= 1,
-        Act::BlobRow(row) => is_blob_row(row),
+        Act::StoredBlob(row) => is_stored_blob(row),
     }
 }
 

@@ -1,12 +1,12 @@
 //! Laws of what each change leaves, what it takes away and what is new. Each is the contract of a function that does nothing.
 ghost use Rattle.std.specs.Prelude.{◌≡◌, ◌≢◌, ℕ, ◌+◌, List, [], ◌∷◌, ◌++◌, All, Some, None, false, map, option_map};
 ghost use Rattle.std.specs.FinMap as finite;
-ghost use Rattle.stamp_types.specs.ActKinds.{is_row, who_may};
+ghost use Rattle.stamp_types.specs.ActKinds.{is_row};
 ghost use Rattle.stamp_types.specs.World.{Blob, Part, blob_in, changed, committed_value, content_from};
 ghost use Rattle.stamp_types.specs.EffectKinds.{AreThere, EtagsAtMost, blob_dated, blob_named, blob_stamp, blocks_and_props, container_dated, container_stamp, listed_content, props_and_metadata, stamp_if};
 ghost use Rattle.stamp_types.specs.declared.act.Act.{Act};
 ghost use Rattle.stamp_types.specs.declared.act.Act.TheVariants as act;
-ghost use Rattle.stamp_types.specs.declared.act.BlobRow.{BlobRow};
+ghost use Rattle.stamp_types.specs.declared.act.ContainerRow.{ContainerRow};
 ghost use Rattle.stamp_types.specs.declared.act.DeleteBlob.{DeleteBlob};
 ghost use Rattle.stamp_types.specs.declared.act.PutBlob.{PutBlob};
 ghost use Rattle.stamp_types.specs.declared.act.PutBlock.{PutBlock};
@@ -14,6 +14,7 @@ ghost use Rattle.stamp_types.specs.declared.act.PutBlockList.{PutBlockList};
 ghost use Rattle.stamp_types.specs.declared.act.SetAcl.{SetAcl};
 ghost use Rattle.stamp_types.specs.declared.act.SetContainerMetadata.{SetContainerMetadata};
 ghost use Rattle.stamp_types.specs.declared.act.SetMetadata.{SetMetadata};
+ghost use Rattle.stamp_types.specs.declared.act.StoredBlob.{StoredBlob};
 ghost use Rattle.stamp_types.specs.declared.committed.Block.{Block};
 ghost use Rattle.stamp_types.specs.declared.committed.Committed.{Committed};
 ghost use Rattle.stamp_types.specs.declared.piece.Piece.{Piece};
@@ -34,7 +35,7 @@ pub fn what_is_replaced_leaves_no_trace<C>()
     ensures bytes { (f : List Piece → C) (a : PutBlob) (p : Part C) → option_map (λ c. map (λ block. block.content) c.blocks) (blob_in (changed f (act.PutBlob a) p) a.blob).committed ≡ Some (f a.content ∷ []) }
     ensures uncommitted { (f : List Piece → C) (a : PutBlob) (p : Part C) → (blob_in (changed f (act.PutBlob a) p) a.blob).uncommitted ≡ finite.empty }
     ensures metadata { (f : List Piece → C) (a : SetContainerMetadata) (p : Part C) → option_map (λ s. s.metadata) (changed f (act.SetContainerMetadata a) p).standing ≡ option_map (λ s. a.metadata) p.standing }
-    ensures access { (f : List Piece → C) (a : SetContainerMetadata) (p : Part C) → option_map who_may (changed f (act.SetContainerMetadata a) p).standing ≡ option_map who_may p.standing }
+    ensures access { (f : List Piece → C) (a : SetContainerMetadata) (p : Part C) → option_map (λ s. s.acl) (changed f (act.SetContainerMetadata a) p).standing ≡ option_map (λ s. s.acl) p.standing }
     ensures blobs { (f : List Piece → C) (a : SetContainerMetadata) (p : Part C) → (changed f (act.SetContainerMetadata a) p).blobs ≡ p.blobs }
 {}
 
@@ -83,8 +84,10 @@ pub fn a_change_is_counted_and_dated<C>()
     ensures acl { (f : List Piece → C) (a : SetAcl) (p : Part C) → option_map (λ s. s.metadata) (changed f (act.SetAcl a) p).standing ≡ option_map (λ s. s.metadata) p.standing }
 {}
 
-/// The row of a blob gives exactly its committed part and its uncommitted blocks.
+/// The row of a stored blob gives exactly its committed part and its uncommitted blocks. The row of a container gives exactly how many
+/// changes the container has seen and what exists of it beside its blobs, which stay.
 pub fn a_stored_blob_is_what_its_row_says<C>()
-    ensures committed { (f : List Piece → C) (a : BlobRow) (p : Part C) → (blob_in (changed f (act.BlobRow a) p) a.blob).committed ≡ option_map (committed_value f) a.committed }
-    ensures uncommitted { (f : List Piece → C) (a : BlobRow) (p : Part C) (id : List ℕ) → finite.get (blob_in (changed f (act.BlobRow a) p) a.blob).uncommitted id ≡ listed_content f id a.uncommitted }
+    ensures container { (f : List Piece → C) (a : ContainerRow) (p : Part C) → changed f (act.ContainerRow a) p ≡ record { count = a.count; standing = a.standing; blobs = p.blobs } }
+    ensures committed { (f : List Piece → C) (a : StoredBlob) (p : Part C) → (blob_in (changed f (act.StoredBlob a) p) a.blob).committed ≡ option_map (committed_value f) a.committed }
+    ensures uncommitted { (f : List Piece → C) (a : StoredBlob) (p : Part C) (id : List ℕ) → finite.get (blob_in (changed f (act.StoredBlob a) p) a.blob).uncommitted id ≡ listed_content f id a.uncommitted }
 {}

@@ -2,7 +2,7 @@
 ghost use Rattle.std.specs.Prelude.{◌≡◌, ◌≢◌, ℕ, ◌+◌, List, [], Some, None, false, option_map};
 ghost use Rattle.std.specs.FinMap as finite;
 ghost use Rattle.stamp_types.specs.World.{Part, World, part_at, part_value, world_value, changed, changed_in, same_pieces};
-ghost use Rattle.stamp_types.specs.ActKinds.{is_row, sets_access, who_may};
+ghost use Rattle.stamp_types.specs.ActKinds.{is_row, sets_access};
 ghost use Rattle.stamp_types.specs.Changes.{KeyedAct};
 ghost use Rattle.stamp_values.specs.declared.key.Key.{Key};
 ghost use Rattle.stamp_types.specs.declared.act.Act.{Act};
@@ -32,8 +32,8 @@ pub fn each_change_is_counted<C>()
 /// Level and policies are altered by the changes that set them, and by no other. A new container has the level that was asked for and
 /// no policies, a container has what was set last, and nothing is left of one that was deleted.
 pub fn access_is_what_was_set_last<C>()
-    ensures stays { (f : List Piece → C) (a : Act) (p : Part C) → sets_access a ≡ false → option_map who_may (changed f a p).standing ≡ option_map who_may p.standing }
-    ensures created { (f : List Piece → C) (a : CreateContainer) (p : Part C) → option_map who_may (changed f (act.CreateContainer a) p).standing ≡ Some (a.level, []) }
-    ensures set { (f : List Piece → C) (a : SetAcl) (p : Part C) (s : Standing) → p.standing ≡ Some s → option_map who_may (changed f (act.SetAcl a) p).standing ≡ Some (a.level, a.policies) }
+    ensures stays { (f : List Piece → C) (a : Act) (p : Part C) → sets_access a ≡ false → option_map (λ s. s.acl) (changed f a p).standing ≡ option_map (λ s. s.acl) p.standing }
+    ensures created { (f : List Piece → C) (a : CreateContainer) (p : Part C) → option_map (λ s. s.acl) (changed f (act.CreateContainer a) p).standing ≡ Some (record { level = a.level; policies = [] }) }
+    ensures set { (f : List Piece → C) (a : SetAcl) (p : Part C) (s : Standing) → p.standing ≡ Some s → option_map (λ s. s.acl) (changed f (act.SetAcl a) p).standing ≡ Some a.acl }
     ensures deleted { (f : List Piece → C) (p : Part C) → ((changed f act.DeleteContainer p).standing ≡ None) × ((changed f act.DeleteContainer p).blobs ≡ finite.empty) }
 {}

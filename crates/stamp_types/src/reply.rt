@@ -4,6 +4,7 @@ ghost use Rattle.std.specs.Prelude.{◌≡◌, ◌↔◌, IfOk, IsTrue};
 use crate::code::Code;
 use crate::error_body::write_error;
 use crate::header::Header;
+use crate::refusal::Refusal;
 use crate::rule::Rule;
 use crate::status::Status;
 use stamp_values::{Items, Share, Shares, Visible};
@@ -34,12 +35,13 @@ fn same_headers(headers: &[Header], others: &[Header]) -> bool
 impl Reply {
     ghost use Rattle.stamp_types.specs.Replies.{denied};
 
-    /// The reply to a request that a rule refuses: the error in XML (RFC 7303), and of 304 nothing.
+    /// The reply to a request that is refused: the error in XML (RFC 7303), and of 304 nothing.
     ///
     /// `AllocError` where there is no memory for the error.
-    pub fn denied(alloc: Global, rule: Rule, code: Code) -> Result<Self, AllocError>
-        ensures { IfOk result (λ reply. reply ≡ denied rule code) }
+    pub fn denied(alloc: Global, refusal: Refusal) -> Result<Self, AllocError>
+        ensures { IfOk result (λ reply. reply ≡ denied refusal) }
     {
+        let Refusal { rule, code } = refusal;
         let mut headers = Vec::new(alloc);
         let mut body = Shares::empty(alloc);
         if code.has_error_body() {

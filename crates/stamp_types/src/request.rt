@@ -86,11 +86,12 @@ impl Request {
             body: Body::empty(),
         })
     }
+
     /// Whether both are equal, body and all. Reads no body where the bodies' MD5 differ.
     pub fn same(&self, other: &Self) -> bool
         ensures { IsTrue result ↔ (self.now ≡ other.now) }
     {
-        self.ask.same(&other.ask) && self.body.same(&other.body)
+        self.same_ask(other) && self.body.same(&other.body)
     }
 
     /// Whether all but the bodies is equal.

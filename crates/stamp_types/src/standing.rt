@@ -1,6 +1,6 @@
 //! What stands of a container beside its blobs.
 
-use stamp_values::{Level, Metadata, Moment, Policies};
+use stamp_values::{Acl, Metadata, Moment};
 
 /// What a container has while it stands. `etag` is the count of its changes at which it was made, or its
 /// metadata or its access was last set, and `made` the moment of that (Last-Modified).
@@ -8,7 +8,6 @@ use stamp_values::{Level, Metadata, Moment, Policies};
 pub struct Standing {
     pub etag: u64,
     pub made: Moment,
-    pub level: Level,
     pub metadata: Metadata,
-    pub policies: Policies,
+    pub acl: Acl,
 }

@@ -8,7 +8,7 @@ ghost use Rattle.stamp_values.specs.declared.level.Level.TheVariants as level;
 
 /// Nine changes of a container, with each ETag and each moment that they leave.
 pub fn worked_changes_end_as_written()
-    ensures container { (after_changes held (first_changes ++ last_changes) no_part).standing ≡ Some (record { etag = 1; made = 10; level = level.Blob; metadata = []; policies = [] }) }
+    ensures container { (after_changes held (first_changes ++ last_changes) no_part).standing ≡ Some (record { etag = 1; made = 10; metadata = []; acl = record { level = level.Blob; policies = [] } }) }
     ensures count { (after_changes held (first_changes ++ last_changes) no_part).count ≡ 9 }
     ensures gone { finite.get (after_changes held (first_changes ++ last_changes) no_part).blobs (98 ∷ []) ≡ None }
     ensures seen { (blob_in (after_changes held first_changes no_part) (97 ∷ [])).committed ≡ Some (record { etag = 2; made = 20; props = plain_props; metadata = []; blocks = record { id = None; content = 1 ∷ [] } ∷ [] }) }

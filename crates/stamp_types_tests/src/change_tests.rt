@@ -1,8 +1,8 @@
 //! What no clause says of content, kept headers and changes: that each call can succeed.
 
 use crate::sample_changes::{
-    blob_row, container_row, create_container, delete_blob, five_in, put_blob, put_block_list,
-    set_acl, set_container_metadata, set_metadata,
+    container_row, create_container, delete_blob, five_in, put_blob, put_block_list, set_acl,
+    set_container_metadata, set_metadata, stored_blob,
 };
 use crate::sample_values::{block_id, key, long_share, text};
 use stamp_types::{Act, Change, Kept, Key, Pieces, Props, PutBlock, Visible};
@@ -93,7 +93,7 @@ fn changes_of_blobs_are_copied(rt: HostRuntime) {
     assert!(rt; is_copied(&rt, alloc, set_metadata(&rt, alloc)));
     assert!(rt; is_copied(&rt, alloc, delete_blob(&rt, alloc)));
     assert!(rt; is_copied(&rt, alloc, put_block_list(&rt, alloc)));
-    assert!(rt; is_copied(&rt, alloc, blob_row(&rt, alloc)));
+    assert!(rt; is_copied(&rt, alloc, stored_blob(&rt, alloc)));
 }
 
 // A block of five bytes in the first extent, of which the content is then replaced by five bytes in the second.

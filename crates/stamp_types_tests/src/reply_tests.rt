@@ -2,8 +2,8 @@
 
 use crate::sample_values::{shares, visible};
 use stamp_types::{
-    Body, Change, Code, Gathering, Header, Items, Past, Reply, Request, Rule, SentRange, Share,
-    Shares, Status, write_error,
+    Body, Change, Code, Gathering, Header, Items, Past, Refusal, Reply, Request, Rule, SentRange,
+    Share, Shares, Status, write_error,
 };
 use std::alloc::Global;
 use std::process::Abort;
@@ -29,7 +29,14 @@ fn the_error_of_a_public_read(rt: HostRuntime) {
     let printed =
         b"<?xml version=\"1.0\" encoding=\"utf-8\"?><Error><Code>ResourceNotFound</Code><Message>Refused by rule P2.</Message></Error>";
     assert!(rt; error.as_slice() == printed.as_slice());
-    let reply = Reply::denied(alloc, Rule::P2, Code::ResourceNotFound).expect(&rt, "memory");
+    let reply = Reply::denied(
+        alloc,
+        Refusal {
+            rule: Rule::P2,
+            code: Code::ResourceNotFound,
+        },
+    )
+    .expect(&rt, "memory");
     assert!(rt; reply.status.number() == 404 && reply.length == 120);
     assert!(rt; reply.body.joined(alloc).expect(&rt, "memory") == error);
     let xml = Header::ContentType(visible(&rt, alloc, "application/xml"));
@@ -43,7 +50,7 @@ fn the_longest_error_and_none(rt: HostRuntime) {
         (Rule::F3, Code::InvalidQueryParameterValue, 400, 130),
         (Rule::O4, Code::NotModified, 304, 0),
     ] {
-        let reply = Reply::denied(alloc, rule, code).expect(&rt, "memory");
+        let reply = Reply::denied(alloc, Refusal { rule, code }).expect(&rt, "memory");
         assert!(rt;
             reply.status.number() == number && reply.length == length,
             "at {rule:?}"

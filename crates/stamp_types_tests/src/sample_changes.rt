@@ -3,11 +3,11 @@ ghost use Rattle.std.specs.Prelude.{◌≡◌, [], ◌∷◌, map};
 ghost use Rattle.stamp_types.specs.Pieces.{piece_len};
 
 use crate::sample_parts::first_place;
-use crate::sample_values::{block_id, metadata, moment, policies, text, visible};
+use crate::sample_values::{acl, block_id, metadata, moment, text, visible};
 use stamp_types::{
-    Act, BlobRow, Block, Committed, ContainerRow, CreateContainer, DeleteBlob, Items, Level, Piece,
-    Pieces, Props, PutBlob, PutBlockList, SetAcl, SetContainerMetadata, SetMetadata, Source,
-    Standing, Taken, UncommittedBlock,
+    Act, Block, Committed, ContainerRow, CreateContainer, DeleteBlob, Items, Level, Piece, Pieces,
+    Props, PutBlob, PutBlockList, SetAcl, SetContainerMetadata, SetMetadata, Source, Standing,
+    StoredBlob, Taken, UncommittedBlock,
 };
 use std::alloc::Global;
 use std::process::Abort;
@@ -50,8 +50,7 @@ pub(crate) fn set_container_metadata(rt: &impl Abort, alloc: Global) -> Act {
 pub(crate) fn set_acl(rt: &impl Abort, alloc: Global) -> Act {
     Act::SetAcl(SetAcl {
         moment: moment(rt),
-        level: Level::Container,
-        policies: policies(rt, alloc),
+        acl: acl(rt, alloc, Level::Container),
     })
 }
 
@@ -97,9 +96,8 @@ pub(crate) fn container_row(rt: &impl Abort, alloc: Global) -> Act {
     let standing = Some(Standing {
         etag: 1,
         made: moment(rt),
-        level: Level::Closed,
         metadata: metadata(rt, alloc),
-        policies: policies(rt, alloc),
+        acl: acl(rt, alloc, Level::Closed),
     });
     Act::ContainerRow(ContainerRow { count: 1, standing })
 }
@@ -116,12 +114,12 @@ fn committed(rt: &impl Abort, alloc: Global) -> Committed<Pieces> {
     }
 }
 
-// A row of a block that is committed, and of one that is not.
-pub(crate) fn blob_row(rt: &impl Abort, alloc: Global) -> Act {
+// The row of a stored blob with a block that is committed, and one that is not.
+pub(crate) fn stored_blob(rt: &impl Abort, alloc: Global) -> Act {
     let id = block_id(rt, alloc, b"0002");
     let content = five_in(rt, alloc, 4);
     let uncommitted = vec![in alloc; UncommittedBlock { id, content }].expect(rt, "memory");
-    Act::BlobRow(BlobRow {
+    Act::StoredBlob(StoredBlob {
         blob: text(rt, alloc, "a"),
         committed: Some(committed(rt, alloc)),
         uncommitted: Items::new(uncommitted),

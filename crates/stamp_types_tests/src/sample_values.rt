@@ -2,8 +2,8 @@
 ghost use Rattle.std.specs.Prelude.{◌≡◌};
 
 use stamp_types::{
-    BlockId, Bytes, Items, Key, Meta, Metadata, Moment, Policies, Policy, Share, Shares, Text,
-    Visible,
+    Acl, BlockId, Bytes, Items, Key, Level, Meta, Metadata, Moment, Policies, Policy, Share,
+    Shares, Text, Visible,
 };
 use std::alloc::Global;
 use std::process::Abort;
@@ -26,7 +26,7 @@ pub(crate) fn metadata(rt: &impl Abort, alloc: Global) -> Metadata {
 }
 
 // One stored policy, which gives an expiry alone.
-pub(crate) fn policies(rt: &impl Abort, alloc: Global) -> Policies {
+fn policies(rt: &impl Abort, alloc: Global) -> Policies {
     let policy = Policy {
         id: text(rt, alloc, "read-only"),
         start: None,
@@ -35,6 +35,14 @@ pub(crate) fn policies(rt: &impl Abort, alloc: Global) -> Policies {
     };
     let policies = vec![in alloc; policy].expect(rt, "memory");
     Policies::new(Items::new(policies)).expect(rt, "good policies")
+}
+
+// The level, and one stored policy.
+pub(crate) fn acl(rt: &impl Abort, alloc: Global, level: Level) -> Acl {
+    Acl {
+        level,
+        policies: policies(rt, alloc),
+    }
 }
 
 pub(crate) fn key(rt: &impl Abort, alloc: Global, account: &str, container: &str) -> Key {

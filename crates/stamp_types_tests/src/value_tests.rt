@@ -1,8 +1,8 @@
 //! Small values: names and limits as the reference has them, printed texts, and that each call can succeed.
 
-use crate::sample_values::{key, metadata, policies, text};
+use crate::sample_values::{acl, key, metadata, text};
 use stamp_types::{
-    Bytes, Items, Letters, Moment, Visible, char_count, is_account, is_blob, is_container,
+    Bytes, Items, Letters, Level, Moment, Visible, char_count, is_account, is_blob, is_container,
     is_metadata_name, is_policy_id, is_visible, read_etag, write_etag,
 };
 
@@ -124,12 +124,12 @@ fn texts_and_bytes_are_copied_and_ordered(rt: HostRuntime) {
 }
 
 #[test]
-fn keys_metadata_and_policies_are_copied(rt: HostRuntime) {
+fn keys_metadata_and_acls_are_copied(rt: HostRuntime) {
     let alloc = rt.alloc();
     let key = key(&rt, alloc, "pantry", "jam");
     assert!(rt; key.same(&key.clone().expect(&rt, "memory")));
     let metadata = metadata(&rt, alloc);
     assert!(rt; metadata == metadata.clone().expect(&rt, "memory"));
-    let policies = policies(&rt, alloc);
-    assert!(rt; policies == policies.clone().expect(&rt, "memory"));
+    let acl = acl(&rt, alloc, Level::Blob);
+    assert!(rt; acl == acl.clone().expect(&rt, "memory"));
 }

@@ -1,3 +1,4 @@
+pub mod Acls
 pub mod Entries
 pub mod Etags
 pub mod Letters

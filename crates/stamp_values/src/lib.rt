@@ -1,6 +1,7 @@
 //! The small values of the stamp, and bytes that are shared.
 #![tactic(auto)]
 
+mod acl;
 mod block;
 mod block_id;
 mod body;
@@ -29,6 +30,7 @@ mod text;
 mod verb;
 mod visible;
 
+pub use acl::Acl;
 pub use block::{BlockKinds, Lookup, Source, Taken, Wanted};
 pub use block_id::BlockId;
 pub use body::Body;

@@ -2,4 +2,4 @@ use Rattle.access_rules.proofs.RouteLaw.{by_route}
 use Rattle.access_rules.proofs.laws.no_rule_holds_exactly_where_the_own_route_admits.Goals as goal
 
 pub returns : goal.returns
-returns c keys access q t = by_route keys access q t q.credential
+returns c keys acl q t = by_route keys acl q t q.credential

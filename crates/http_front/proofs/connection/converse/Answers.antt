@@ -41,7 +41,7 @@ returns-then-branch-clause-whole g c =
 pub returns-in_err-next_item-clause-starved : goal.returns-in_err-next_item-clause-starved
 returns-in_err-next_item-clause-starved g c =
     let p = err_from_is_err_and c.from_residual.result c.from_residual.ensures.1 in
-    rw (p.1, p.2) (λ (e : Err c.in_err-next_item.field-0.0 ≡ Err NoMemory). starve_item g.C.Clock.gives g.S.Service.answers c.in_err-next_item.field-0.0 _ _ _ _ _ _ _ _ _ _ _ _ _ _ _
+    rw (p.1, p.2) (λ (e : Err c.in_err-next_item.field-0.0 ≡ Err NoMemory). starve_item g.C.Clock.gives g.S.Service.answers g.S.Service.starves c.in_err-next_item.field-0.0 _ _ _ _ _ _ _ _ _ _ _ _ _ _ _
     c.loop-buffer.invariant c.in_err-next_item.ensures.takes (cc))
 
 pub returns-in_err-answer_item-in-Some-clause-starved : goal.returns-in_err-answer_item-in-Some-clause-starved
@@ -49,5 +49,5 @@ returns-in_err-answer_item-in-Some-clause-starved g c =
     let p = err_from_is_err_and c.from_residual-in_err-answer_item-in-Some.result c.from_residual-in_err-answer_item-in-Some.ensures.1 in
     rw (p.1, p.2) (λ (e : Err c.in_err-answer_item-in-Some.field-0.0 ≡ Err NoMemory).
     rw (c.in_err-answer_item-in-Some.ensures.starved (cc))
-    (starve_answer g.C.Clock.gives g.S.Service.answers c.in-Some.found _ _ _ _ _ _ _ _ _ _ _ _ _ _ _
-    c.loop-buffer.invariant (rw c.in-Some.is at c.in_ok-next_item.ensures.takes)))
+    (starve_answer g.C.Clock.gives g.S.Service.answers g.S.Service.starves c.in-Some.found _ _ _ _ _ _ _ _ _ _ _ _ _ _ _ _ _
+    c.loop-buffer.invariant (rw c.in-Some.is at c.in_ok-next_item.ensures.takes) c.in_err-answer_item-in-Some.ensures.left))

@@ -2,10 +2,10 @@ use Rattle.stamp_model.proofs.PublicLemmas.{given-publicly, reply-absent_as_clos
 use Rattle.stamp_model.proofs.laws.public_access_is_what_the_container_gives.Goals as goal
 
 pub returns-clause-given : goal.returns-clause-given
-returns-clause-given c = λ keys w q t r anonymous is none. given-publicly keys w q t r anonymous is none
+returns-clause-given c = λ keys w q t bound anonymous none. given-publicly keys w q t bound anonymous none
 
 pub returns-clause-same : goal.returns-clause-same
-returns-clause-same c = λ keys w v q t s anonymous none stands closed. reply-absent_as_closed keys w v q t s anonymous none stands closed
+returns-clause-same c = λ keys w v q t bound s anonymous none exists closed. reply-absent_as_closed keys w v q t bound s anonymous none exists closed
 
 pub returns-clause-status : goal.returns-clause-status
-returns-clause-status c = λ keys w q t r anonymous none is. status-absent keys w q t r anonymous none is
+returns-clause-status c = λ keys w q t bound anonymous none. status-absent keys w q t bound anonymous none

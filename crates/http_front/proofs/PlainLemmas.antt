@@ -1,0 +1,353 @@
+-- What a service holds whose containers are all closed and whose content is in memory, and what it answers.
+use Rattle.std.proofs.Common.{◌≡◌, ◌≤◌, ◌<◌, ℕ, ◌-◌, arith, Bool, true, false, cond, ◌&&◌, ◌⊎◌, inl, inr, List, [], ◌∷◌, ◌++◌, length, length-append, take, drop, zero, suc, get_or, Option, Some, None, Result, Ok, Err, IfOk, OnOk, OnErr, refl, sym, ap, ◌∙◌, subst, unwrap_or}
+use Rattle.std.proofs.lemmas.List.{length-take}
+use Rattle.std.proofs.lemmas.List.Sums.{sum_by-cons, AllPass-from_list_all}
+use Rattle.std.specs.Prelude.{⊤, codes}
+use Rattle.std.specs.declared.alloc.AllocError.{AllocError}
+use Rattle.std.specs.FinMap as finite
+use Rattle.std.specs.Option.{option_map, option_and_then, option_or}
+use Rattle.std.specs.Ordering.{eq_by_cmp}
+use Rattle.stamp_values.specs.Acls.{closed_acl}
+use Rattle.stamp_values.specs.Order.{key_cmp, keys_total, keys_exact, names_total, names_exact}
+use Rattle.stamp_values.proofs.MapsLemmas.{map_values-empty, map_values-insert}
+use Rattle.stamp_values.specs.declared.acl.Acl.{Acl}
+use Rattle.stamp_values.specs.declared.key.Key.{Key}
+use Rattle.stamp_values.specs.declared.block.BlockKinds.{BlockKinds}
+use Rattle.stamp_values.specs.declared.block.BlockKinds.TheVariants as kinds
+use Rattle.stamp_values.specs.declared.op.Op.{Op}
+use Rattle.stamp_values.specs.declared.op.Op.TheVariants as op
+use Rattle.stamp_types.specs.declared.act.Act.{Act}
+use Rattle.stamp_types.specs.declared.act.Act.TheVariants as act
+use Rattle.stamp_types.specs.declared.args.Kept.{Kept}
+use Rattle.stamp_types.specs.declared.ask.Ask.{Ask}
+use Rattle.stamp_types.specs.declared.committed.Committed.{Committed}
+use Rattle.stamp_types.specs.declared.piece.Piece.{Piece}
+use Rattle.stamp_types.specs.declared.piece.Piece.TheVariants as piece
+use Rattle.stamp_types.specs.declared.refusal.Refusal.{Refusal}
+use Rattle.stamp_types.specs.declared.reply.Reply.{Reply}
+use Rattle.stamp_types.specs.declared.rule.Rule.{Rule}
+use Rattle.stamp_types.specs.declared.rule.Rule.TheVariants.{K1, K2, K3, K4, K5, S1, P1, P2}
+use Rattle.stamp_types.specs.declared.standing.Standing.{Standing}
+use Rattle.stamp_types.specs.Changes.{KeyedAct}
+use Rattle.stamp_types.specs.Contents.{EachActContent, EachContent}
+use Rattle.stamp_types.specs.Pieces.{cut_at_most, held, is_held, is_held_piece, piece_bytes, piece_len, pieces_len}
+use Rattle.stamp_types.specs.Replies.{denied}
+use Rattle.stamp_types.specs.Requests.{Asked}
+use Rattle.stamp_types.specs.World.{Part, World, blob_value, no_part, part_at, part_value, world_value, changed_in, same_pieces}
+use Rattle.stamp_types.proofs.WorldLemmas.{part_at-world_value}
+use Rattle.stamp_types.proofs.ContentReadings.{part_value-changed}
+use Rattle.stamp_types.proofs.EachContents.{EachContent-changed, EachContent-empty, EachContent-no_part, EachContent-then, EachWorldContent-changed_in}
+use Rattle.access_rules.specs.declared.judgement.Verdict.TheVariants.{Allow, Deny}
+use Rattle.access_rules.specs.declared.judgement.Way.{Way}
+use Rattle.access_rules.specs.declared.keys.Keys.{Keys}
+use Rattle.access_rules.specs.Needs.{need_of, of_block_list}
+use Rattle.access_rules.specs.Rules.{there, is_lower, holds, on_public, first_rule, verdict_by, verdict_of, way_of}
+use Rattle.range_rows.specs.declared.answer.Span.{Span}
+use Rattle.range_rows.specs.ObjectReplies.{ReadsWhole, byte_count, frame, frame_by, blob_read, is_served, reply_of, sizes, span_bytes, spans, spans_len, with_content}
+use Rattle.range_rows.specs.ObjectRules.{object_refusal}
+use Rattle.range_rows.specs.Opening.{one_part, opening}
+use Rattle.range_rows.specs.RequestChanges.{put_blob, act_by, change_of, part_after}
+use Rattle.range_rows.proofs.SpanLemmas.{length-read, reply_of-read}
+use Rattle.stamp_model.specs.Effects.{unless_refused, world_after, effect_as}
+use Rattle.stamp_model.specs.Refusals.{acl_of, access_refusal, refusal}
+use Rattle.stamp_model.specs.Responses.{response, reply}
+use Rattle.stamp_model.proofs.AccessLemmas.{standing-effect}
+use Rattle.stamp_model.proofs.ContentLemmas.{sizes-read, world_value-effect}
+use Rattle.stamp_model.proofs.EffectLemmas.{on_key, effect-refused}
+use Rattle.stamp_model.proofs.ReplyLemmas.{unrefused}
+use Rattle.http_front.specs.PlainAnswers.{HeldRows, held_first, rows_first, AreClosed, AreHeld, Held-answers, bytes_held, held_of, held_reply, held_after, object_or_unserved, row_refusal, rows_after}
+
+-- ---- the rows at first
+
+abbrev IsClosedPart : Part (List Piece) → Type 0
+IsClosedPart p = (acl_of p ≡ None) ⊎ (acl_of p ≡ Some closed_acl)
+
+abbrev IsHeldPart : Part (List Piece) → Type 0
+IsHeldPart p = EachContent (λ ps. is_held ps ≡ true) p
+
+module _ (P : Part (List Piece) → Type 0) (t : ℕ) (none : P no_part) (first : P (opening t)) where
+  looked_up : (b : Bool) (o : Option (Part (List Piece))) → o ≡ None → P (unwrap_or (cond b (Some (opening t)) o) no_part)
+  looked_up true o e = first
+  looked_up false o e = subst (λ (x : Option (Part (List Piece))). P (unwrap_or x no_part)) (sym e) none
+
+  each_first : (key k : Key) → P (part_at (one_part key (opening t)) k)
+  each_first key k =
+      subst (λ (x : Option (Part (List Piece))). P (unwrap_or x no_part)) (sym (finite.get-insert keys_total finite.empty key (opening t) k))
+      (looked_up (eq_by_cmp key_cmp k key) (finite.get finite.empty k) (finite.get-empty key_cmp k))
+
+-- one container that was just made is closed, and no other exists
+pub first_closed : (key : Key) (t : ℕ) → AreClosed (one_part key (opening t))
+first_closed key t k = each_first IsClosedPart t (inl refl) (inr refl) key k
+
+-- it has no content
+pub first_held : (key : Key) (t : ℕ) → AreHeld (one_part key (opening t))
+first_held key t k =
+    each_first IsHeldPart t (EachContent-no_part (λ ps. is_held ps ≡ true)) (EachContent-empty (λ ps. is_held ps ≡ true) (opening t) refl) key k
+
+part_value-opening : (t : ℕ) → part_value held (opening t) ≡ opening t
+part_value-opening t = λ i. record {
+  count = 1;
+  standing = (opening {C = List ℕ} t).standing;
+  blobs = map_values-empty names_total names_exact (blob_value held) i;
+}
+
+-- in bytes too it is one container that was just made
+pub held_of-rows_first : (keys : Keys) (t : ℕ) → held_of (rows_first keys t) ≡ held_first keys t
+held_of-rows_first keys t =
+    let key : Key = record { account = keys.account; container = codes "pics" } in
+    ap (λ (w : World (List ℕ)). record { keys = keys; world = w })
+    (map_values-insert keys_total keys_exact (part_value held) finite.empty key (opening t)
+    ∙ (λ i. finite.insert (map_values-empty keys_total keys_exact (part_value held) i) key (part_value-opening t i)))
+
+-- ---- the verdict
+
+-- public access needs a level above that of a closed container
+by_list : (k : BlockKinds) → there (is_lower None) (of_block_list k).level ≡ there (is_lower (Some closed_acl)) (of_block_list k).level
+by_list kinds.Committed = refl
+by_list kinds.Uncommitted = refl
+by_list kinds.All = refl
+
+lowest : (o : Op) (k : Option BlockKinds) → there (is_lower None) (need_of o k).level ≡ there (is_lower (Some closed_acl)) (need_of o k).level
+lowest op.GetBlockList k = by_list (unwrap_or k kinds.Committed)
+lowest other k = refl
+
+module _ (keys : Option Keys) (q : Ask) (t : ℕ) where
+  abbrev first_by : Bool → Option Rule
+  first_by low =
+      cond (holds keys None q t K1) (Some K1) (cond (holds keys None q t K2) (Some K2) (cond (holds keys None q t K3) (Some K3)
+      (cond (holds keys None q t K4) (Some K4) (cond (holds keys None q t K5) (Some K5) (cond (holds keys None q t S1) (Some S1)
+      (cond (holds keys None q t P1) (Some P1) (cond (on_public q.credential && low) (Some P2) None)))))))
+
+  -- a container that does not exist is refused as a closed one
+  first_rule-closed : first_rule keys None q t ≡ first_rule keys (Some closed_acl) q t
+  first_rule-closed = ap first_by (lowest q.op q.args.kinds)
+
+  by_acl : (a : Option Acl) → (a ≡ None) ⊎ (a ≡ Some closed_acl) → first_rule keys None q t ≡ first_rule keys a q t
+  by_acl a (inl none) = ap (λ (x : Option Acl). first_rule keys x q t) (sym none)
+  by_acl a (inr shut) = first_rule-closed ∙ ap (λ (x : Option Acl). first_rule keys x q t) (sym shut)
+
+denied_by : (rule : Option Rule) (way : Way) (r : Rule) → verdict_by rule way ≡ Deny r → rule ≡ Some r
+denied_by None way r e = cc
+denied_by (Some x) way r e = let same : x ≡ r = cc in ap Some same
+
+allowed_by : (rule : Option Rule) (way w : Way) → verdict_by rule way ≡ Allow w → rule ≡ None
+allowed_by None way w e = refl
+allowed_by (Some x) way w e = cc
+
+module _ (keys : Keys) (w : World (List Piece)) (h : HeldRows) (is : record { keys = keys; rows = w } ≡ h) (q : Asked) (t : ℕ) where
+  abbrev own : Part (List Piece)
+  own = part_at w q.ask.key
+
+  first_own : AreClosed w → first_rule (Some keys) None q.ask t ≡ first_rule (Some keys) (acl_of own) q.ask t
+  first_own all = by_acl (Some keys) q.ask t (acl_of own) (all q.ask.key)
+
+  by_first : (o : Option Rule) → first_rule (Some keys) (acl_of own) q.ask t ≡ o → option_or (option_map access_refusal o) (object_or_unserved own q) ≡ row_refusal h q t
+  by_first o e =
+      sym (ap (λ (o : Option Rule). option_or (option_map access_refusal o) (object_or_unserved own q)) e)
+      ∙ ap (λ (x : HeldRows). row_refusal x q t) is
+
+  -- a verdict that denies gives the refusal
+  pub refusal_denied : (r : Rule) → AreClosed w → Deny r ≡ verdict_of (Some keys) None q.ask t → Some (access_refusal r) ≡ row_refusal h q t
+  refusal_denied r all e = by_first (Some r) (sym (first_own all) ∙ denied_by _ (way_of q.ask.credential) r (sym e))
+
+  -- if it allows, the object and whether the operation is served are left
+  pub refusal_allowed : (way : Way) → AreClosed w → Allow way ≡ verdict_of (Some keys) None q.ask t → object_or_unserved own q ≡ row_refusal h q t
+  refusal_allowed way all e = by_first None (sym (first_own all) ∙ allowed_by _ (way_of q.ask.credential) way (sym e))
+
+  own_free : row_refusal h q t ≡ None → refusal (Some keys) (part_value pieces_len own) q t ≡ None
+  own_free free = ap (λ (x : HeldRows). row_refusal x q t) is ∙ free
+
+  -- if nothing refuses, the object does not
+  pub unopposed : row_refusal h q t ≡ None → object_refusal (part_value pieces_len own) q ≡ None
+  unopposed free = (unrefused (Some keys) (part_value pieces_len own) q t (own_free free)).unopposed
+
+  -- and the operation is served
+  pub served : row_refusal h q t ≡ None → is_served q.ask.op ≡ true
+  served free = (unrefused (Some keys) (part_value pieces_len own) q t (own_free free)).served
+
+  effect_by : (c : Option KeyedAct) → row_refusal h q t ≡ None → change_of (part_value pieces_len own) q t ≡ c
+      → effect_as pieces_len same_pieces (Some keys) w q t ≡ world_after same_pieces c w
+  effect_by c free change =
+      ap (λ (o : Option Refusal). world_after same_pieces (unless_refused o (change_of (part_value pieces_len own) q t)) w) (own_free free)
+      ∙ ap (λ (c : Option KeyedAct). world_after same_pieces c w) change
+
+  rows_by : (c : Option KeyedAct) → row_refusal h q t ≡ None → change_of (part_value pieces_len own) q t ≡ c
+      → record { keys = keys; rows = world_after same_pieces c w } ≡ rows_after h q t
+  rows_by c free change =
+      ap (λ (v : World (List Piece)). record { keys = keys; rows = v }) (sym (effect_by c free change))
+      ∙ ap (λ (x : HeldRows). rows_after x q t) is
+
+  -- a change that is made is that of the request
+  pub rows_after_put : (c : KeyedAct) → row_refusal h q t ≡ None → change_of (part_value pieces_len own) q t ≡ Some c
+      → record { keys = keys; rows = changed_in same_pieces w c } ≡ rows_after h q t
+  rows_after_put c free change = rows_by (Some c) free change
+
+  -- no request opens a container
+  closed_after : AreClosed w → AreClosed (effect_as pieces_len same_pieces (Some keys) w q t)
+  closed_after all k =
+      subst (λ (s : Option Standing). IsClosedPart (record { count = 0; standing = s; blobs = finite.empty })) (sym (standing-effect pieces_len same_pieces (Some keys) w q t k)) (all k)
+
+  closed_by : (r : Result (Unit {0}) AllocError) (c : KeyedAct) (w' : World (List Piece)) → row_refusal h q t ≡ None → change_of (part_value pieces_len own) q t ≡ Some c → AreClosed w
+      → OnOk r (w' ≡ changed_in same_pieces w c) → OnErr r (w' ≡ w) → AreClosed w'
+  closed_by (Ok x) c w' free change all ok err = subst AreClosed (effect_by (Some c) free change ∙ sym ok) (closed_after all)
+  closed_by (Err e) c w' free change all ok err = subst AreClosed (sym err) all
+
+  -- a change that is made, or not made, opens none
+  pub closed_kept : (r : Result (Unit {0}) AllocError) (c : KeyedAct) (w' : World (List Piece)) → row_refusal h q t ≡ None → change_of (part_value pieces_len own) q t ≡ Some c → AreClosed w
+      → OnOk r (w' ≡ changed_in same_pieces w c) → OnErr r (w' ≡ w) → AreClosed w'
+  closed_kept = closed_by
+
+-- ---- content in memory
+
+is_held-cut_at_most : (n : ℕ) (bs : List ℕ) → is_held (cut_at_most n bs) ≡ true
+is_held-cut_at_most zero bs = refl
+is_held-cut_at_most (suc n) [] = refl
+is_held-cut_at_most (suc n) (b ∷ bs) = is_held-cut_at_most n (drop 4194304 (b ∷ bs))
+
+module _ (z : Part ℕ) (q : Asked) (t : ℕ) where
+  abbrev BringsHeld : Option Act → Type 0
+  BringsHeld None = ⊤
+  BringsHeld (Some a) = EachActContent (λ ps. is_held ps ≡ true) a
+
+  brought_by : (o : Op) → BringsHeld (act_by o z q t)
+  brought_by op.PutBlob = by_parts q.ask.blob q.ask.args.kept
+    where
+      by_parts : (blob : Option (List ℕ)) (kept : Option Kept) → BringsHeld (option_and_then (λ name. option_map (λ kept. act.PutBlob (put_blob q t name kept)) kept) blob)
+      by_parts None kept = tt
+      by_parts (Some name) None = tt
+      by_parts (Some name) (Some kept) = is_held-cut_at_most (length q.body) q.body
+  brought_by other = tt
+
+  keyed : (a : Option Act) (c : KeyedAct) → BringsHeld a → option_map (on_key q.ask.key) a ≡ Some c → EachActContent (λ ps. is_held ps ≡ true) c.act
+  keyed None c brought e = cc
+  keyed (Some a) c brought e = let same : on_key q.ask.key a ≡ c = cc in subst (λ (c : KeyedAct). EachActContent (λ ps. is_held ps ≡ true) c.act) same brought
+
+  -- what a request brings is held in memory
+  pub brings_held : (c : KeyedAct) → change_of z q t ≡ Some c → EachActContent (λ ps. is_held ps ≡ true) c.act
+  brings_held c change = keyed (act_by q.ask.op z q t) c (brought_by q.ask.op) change
+
+-- a change that is made, or not made, leaves all content in memory
+pub held_kept : (z : Part ℕ) (q : Asked) (t : ℕ) (w : World (List Piece)) (r : Result (Unit {0}) AllocError) (c : KeyedAct) (w' : World (List Piece)) → change_of z q t ≡ Some c → AreHeld w
+    → OnOk r (w' ≡ changed_in same_pieces w c) → OnErr r (w' ≡ w) → AreHeld w'
+held_kept z q t w (Ok x) c w' change all ok err =
+    subst AreHeld (sym ok) (EachWorldContent-changed_in (λ ps. is_held ps ≡ true) same_pieces w c all (brings_held z q t c change))
+held_kept z q t w (Err e) c w' change all ok err = subst AreHeld (sym err) all
+
+held_whole : (ps : List Piece) → is_held ps ≡ true → ReadsWhole piece_bytes ps
+held_whole ps h k d within = piece_whole (get_or ps k d) (AllPass-from_list_all is_held_piece ps h k d within)
+  where
+    piece_whole : (p : Piece) → is_held_piece p ≡ true → length (piece_bytes p) ≡ piece_len p
+    piece_whole (piece.Bytes bs) h = refl
+    piece_whole (piece.At place n) h = cc
+
+-- ---- the reply
+
+module _ (h : HeldRows) (q : Asked) (t : ℕ) (all : AreHeld h.rows) where
+  abbrev part : Part (List Piece)
+  part = part_at h.rows q.ask.key
+
+  abbrev row_sizes : Part ℕ
+  row_sizes = part_value pieces_len part
+
+  abbrev change : Option KeyedAct
+  change = change_of row_sizes q t
+
+  sized : EachContent (λ ps. byte_count (held ps) ≡ pieces_len ps) part
+  sized = EachContent-then (λ ps. is_held ps ≡ true) (λ ps. byte_count (held ps) ≡ pieces_len ps) (λ ps h. length-read piece_bytes ps (held_whole ps h)) part (all q.ask.key)
+
+  abbrev reply_by : Part (List ℕ) → Part ℕ → Reply
+  reply_by p z = response (refusal (Some h.keys) z q t) (part_after held (unless_refused (refusal (Some h.keys) z q t) (change_of z q t)) p) q
+
+  reply_by_rows : held_reply (held_of h) q t ≡ reply_by (part_value held part) row_sizes
+  reply_by_rows =
+      ap (λ (p : Part (List ℕ)). reply_by p (sizes p)) (part_at-world_value held h.rows q.ask.key)
+      ∙ ap (reply_by (part_value held part)) (sizes-read held pieces_len byte_count part sized)
+
+  same_refusal : refusal (Some h.keys) (sizes (part_at (world_value held h.rows) q.ask.key)) q t ≡ row_refusal h q t
+  same_refusal =
+      ap (λ (p : Part (List ℕ)). refusal (Some h.keys) (sizes p) q t) (part_at-world_value held h.rows q.ask.key)
+      ∙ ap (λ (z : Part ℕ). refusal (Some h.keys) z q t) (sizes-read held pieces_len byte_count part sized)
+
+  part_value-after : {D : Type 0} (f : List Piece → D) (c : Option KeyedAct) → part_value f (part_after same_pieces c part) ≡ part_after f c (part_value f part)
+  part_value-after f None = refl
+  part_value-after f (Some c) = part_value-changed f same_pieces c.act part
+
+  after_whole : (c : Option KeyedAct) → change ≡ c → EachContent (λ ps. is_held ps ≡ true) (part_after same_pieces c part)
+  after_whole None e = all q.ask.key
+  after_whole (Some c) e = EachContent-changed (λ ps. is_held ps ≡ true) same_pieces c.act part (all q.ask.key) (brings_held row_sizes q t c e)
+
+  -- the frame with the bytes of its spans is the reply
+  pub reply_with_spans : row_refusal h q t ≡ None
+      → with_content (frame (part_after pieces_len change row_sizes) q) (bytes_held (spans (part_after same_pieces change part) q)) ≡ held_reply (held_of h) q t
+  reply_with_spans free =
+      let after = part_after same_pieces change part in
+      let whole = EachContent-then (λ ps. is_held ps ≡ true) (ReadsWhole piece_bytes) held_whole after (after_whole change refl) in
+      ap (λ (z : Part ℕ). with_content (frame z q) (bytes_held (spans after q))) (sym (part_value-after pieces_len change))
+      ∙ reply_of-read piece_bytes after q whole
+      ∙ ap (λ (p : Part (List ℕ)). reply_of p q) (part_value-after held change)
+      ∙ sym (reply_by_rows ∙ ap (λ (o : Option Refusal). response o (part_after held (unless_refused o change) (part_value held part)) q) free)
+
+  -- the reply to a refused request
+  pub reply_refused : (r : Refusal) → row_refusal h q t ≡ Some r → denied r ≡ held_reply (held_of h) q t
+  reply_refused r e =
+      sym (reply_by_rows ∙ ap (λ (o : Option Refusal). response o (part_after held (unless_refused o change) (part_value held part)) q) e)
+
+  -- a refused request changes nothing
+  held_refused : (r : Refusal) → row_refusal h q t ≡ Some r → held_of h ≡ held_after (held_of h) q t
+  held_refused r e =
+      ap (λ (w : World (List ℕ)). record { keys = h.keys; world = w })
+      (sym (effect-refused byte_count held (Some h.keys) (world_value held h.rows) q t r (same_refusal ∙ e)))
+
+  -- a request that is refused is answered so, and changes nothing
+  pub answers_refused : (r : Refusal) (reply : Reply) → row_refusal h q t ≡ Some r → reply ≡ denied r → Held-answers (held_of h) q t reply (held_of h)
+  answers_refused r reply e is = (is ∙ reply_refused r e, held_refused r e)
+
+  -- what the rows hold after a request are the bytes that are held after it
+  pub held_of-rows_after : held_of (rows_after h q t) ≡ held_after (held_of h) q t
+  held_of-rows_after =
+      ap (λ (w : World (List ℕ)). record { keys = h.keys; world = w }) (world_value-effect held pieces_len byte_count same_pieces (Some h.keys) h.rows q t sized)
+
+  -- a request that is carried out is answered as the model says
+  pub answers_allowed : (reply : Reply) (h' : HeldRows) → reply ≡ held_reply (held_of h) q t → h' ≡ rows_after h q t → Held-answers (held_of h) q t reply (held_of h')
+  answers_allowed reply h' is new = (is, ap held_of new ∙ held_of-rows_after)
+
+module _ (h : HeldRows) (q : Asked) (t : ℕ) (all : AreHeld h.rows) where
+  pub answered_refused : (r : Refusal) (result : Result Reply AllocError) → row_refusal h q t ≡ Some r → IfOk result (λ reply. reply ≡ denied r)
+      → IfOk result (λ reply. Held-answers (held_of h) q t reply (held_of h))
+  answered_refused r (Ok reply) e is = answers_refused h q t all r reply e is
+  answered_refused r (Err x) e is = is
+
+  pub answered_allowed : (result : Result Reply AllocError) (h' : HeldRows) → IfOk result (λ reply. reply ≡ held_reply (held_of h) q t) → OnOk result (h' ≡ rows_after h q t)
+      → IfOk result (λ reply. Held-answers (held_of h) q t reply (held_of h'))
+  answered_allowed (Ok reply) h' is new = answers_allowed h q t all reply h' is new
+  answered_allowed (Err x) h' is new = is
+
+-- another operation than Put Blob changes nothing
+unchanging : (z : Part ℕ) (q : Asked) (t : ℕ) (o : Op) → (o ≡ op.PutBlob → ⊥) → act_by o z q t ≡ None
+unchanging z q t op.PutBlob apart = absurd (apart refl)
+unchanging z q t other apart = refl
+
+pub rows_after_read : (h : HeldRows) (q : Asked) (t : ℕ) → row_refusal h q t ≡ None → (q.ask.op ≡ op.PutBlob → ⊥) → h ≡ rows_after h q t
+rows_after_read h q t free apart =
+    rows_by h.keys h.rows h refl q t None free (ap (option_map (on_key q.ask.key)) (unchanging (part_value pieces_len (part_at h.rows q.ask.key)) q t q.ask.op apart))
+
+-- ---- memory
+
+shortened : (n : ℕ) (bs : List ℕ) (from : ℕ) → length (take n (drop from bs)) ≤ n
+shortened n bs from = omega (arith, length-take n (drop from bs))
+
+length-bytes_held : (ss : List Span) → length (bytes_held ss) ≤ spans_len ss
+length-bytes_held [] = omega arith
+length-bytes_held (s ∷ ss) =
+    omega (arith, length-append (span_bytes piece_bytes s) (bytes_held ss), shortened (s.to - s.from) (piece_bytes s.piece) s.from, length-bytes_held ss, sum_by-cons (λ (s : Span). s.to - s.from) s ss)
+
+frame_body : (o : Op) (q : Asked) (c : Committed ℕ) → (frame_by o q c).body ≡ []
+frame_body op.PutBlob q c = refl
+frame_body op.GetBlob q c = refl
+frame_body other q c = refl
+
+-- a reply with its content fits in memory
+pub fits_memory : (r : Reply) (p : Part ℕ) (q : Asked) (ss : List Span) → r ≡ frame p q → spans_len ss ≤ 268435456 → length (r.body ++ bytes_held ss) < 18446744073709551616
+fits_memory r p q ss is short =
+    let none : r.body ≡ [] = ap (λ (r : Reply). r.body) is ∙ frame_body q.ask.op q (blob_read p q.ask) in
+    subst (λ (bs : List ℕ). length (bs ++ bytes_held ss) < 18446744073709551616) (sym none) (omega (arith, length-bytes_held ss, short))

@@ -1,0 +1,12 @@
+use Rattle.std.proofs.Common.{◌≡◌, ◌++◌, true, length}
+use Rattle.std.specs.List.{list_all}
+use Rattle.range_rows.specs.ObjectReplies.{is_within}
+use Rattle.http_front.specs.PlainAnswers.{bytes_held}
+use Rattle.http_front.proofs.content.push_spans.Given as goal
+
+-- what is there and what is left make the whole, and the pieces that are left have the bytes of their spans
+abbrev pub invariant-loop-left : goal.invariant-loop-left
+invariant-loop-left l = (l.body ++ bytes_held l.left ≡ l.initial.body ++ bytes_held l.spans) × (list_all is_within l.left ≡ true)
+
+abbrev pub decreases-loop-left : goal.decreases-loop-left
+decreases-loop-left l = length l.left

@@ -1,0 +1,120 @@
+-- Spans of content, and the bytes that they say.
+use Rattle.std.proofs.Common.{◌≡◌, ℕ, ◌+◌, ◌-◌, true, nat_le, arith, le-leb, List, [], ◌∷◌, ◌++◌, length, length-append, take, Option, Some, None, refl, sym, ap, ◌∙◌, unwrap_or, map}
+use Rattle.std.proofs.lemmas.Bool.{and_from}
+use Rattle.std.proofs.lemmas.List.{map-append}
+use Rattle.std.proofs.lemmas.List.Elements.{All-head, All-tail}
+use Rattle.std.proofs.lemmas.List.Sums.{sum_by-cons, sum_by-append}
+use Rattle.std.proofs.lemmas.Grind.{flat_map-append}
+use Rattle.std.proofs.Math.Seq.{take-length}
+use Rattle.std.specs.Prelude.{All, IfSome}
+use Rattle.std.specs.List.{flat_map, list_all}
+use Rattle.std.specs.Option.{option_map, option_and_then}
+use Rattle.stamp_values.specs.declared.op.Op.{Op}
+use Rattle.stamp_values.specs.declared.op.Op.TheVariants as op
+use Rattle.stamp_types.specs.declared.committed.Block.{Block}
+use Rattle.stamp_types.specs.declared.committed.Committed.{Committed}
+use Rattle.stamp_types.specs.declared.piece.Piece.{Piece}
+use Rattle.stamp_types.specs.Changes.{blocks_len}
+use Rattle.stamp_types.specs.Contents.{EachCommittedContent, EachContent}
+use Rattle.stamp_types.specs.Pieces.{piece_len, pieces_len}
+use Rattle.stamp_types.specs.Requests.{Asked}
+use Rattle.stamp_types.specs.World.{Part, blob_in, block_value, committed_value, part_value}
+use Rattle.stamp_types.proofs.ContentReadings.{part_value-sizes}
+use Rattle.stamp_types.proofs.EachContents.{EachContent-then}
+use Rattle.range_rows.specs.declared.answer.Span.{Span}
+use Rattle.range_rows.specs.ObjectReplies.{ReadsWhole, content_by, content_sent, empty_blob, frame, is_within, reply_of, span_bytes, spans, spans_len, whole_span, with_content}
+use Rattle.range_rows.specs.ObjectRules.{named_blob}
+use Rattle.range_rows.proofs.AnswerLemmas.{named_blob-part_value}
+
+-- ---- whole spans
+
+from_start : (n : ℕ) → n - 0 ≡ n
+from_start n = omega arith
+
+-- a piece has all bytes of its whole span
+pub whole_within : (ps : List Piece) → list_all is_within (map whole_span ps) ≡ true
+whole_within [] = refl
+whole_within (p ∷ ps) =
+    and_from (is_within (whole_span p)) (list_all is_within (map whole_span ps))
+    (and_from (nat_le 0 (piece_len p)) (nat_le (piece_len p) (piece_len p)) (le-leb 0 (piece_len p) (omega arith)) (le-leb (piece_len p) (piece_len p) (omega arith)))
+    (whole_within ps)
+
+spans_len-whole : (ps : List Piece) → spans_len (map whole_span ps) ≡ pieces_len ps
+spans_len-whole [] = refl
+spans_len-whole (p ∷ ps) =
+    sum_by-cons (λ (s : Span). s.to - s.from) (whole_span p) (map whole_span ps)
+    ∙ (λ i. from_start (piece_len p) i + spans_len-whole ps i)
+    ∙ sym (sum_by-cons piece_len p ps)
+
+pieces_len-flat : (bs : List (Block (List Piece))) → pieces_len (flat_map (λ b. b.content) bs) ≡ blocks_len bs
+pieces_len-flat [] = refl
+pieces_len-flat (b ∷ bs) =
+    sum_by-append piece_len b.content (flat_map (λ b. b.content) bs)
+    ∙ ap (λ n. pieces_len b.content + n) (pieces_len-flat bs)
+    ∙ sym (sum_by-cons (λ (b : Block (List Piece)). pieces_len b.content) b bs)
+
+-- the spans of blocks have so many bytes as the blocks
+pub spans_len_of_blocks : (bs : List (Block (List Piece))) → spans_len (map whole_span (flat_map (λ b. b.content) bs)) ≡ blocks_len bs
+spans_len_of_blocks bs = spans_len-whole (flat_map (λ b. b.content) bs) ∙ pieces_len-flat bs
+
+-- ---- spans that are read
+
+module _ (read : Piece → List ℕ) where
+  whole_bytes : (p : Piece) → length (read p) ≡ piece_len p → span_bytes read (whole_span p) ≡ read p
+  whole_bytes p long = ap (λ n. take n (read p)) (from_start (piece_len p) ∙ sym long) ∙ take-length (read p)
+
+  spans_bytes : (ps : List Piece) → ReadsWhole read ps → flat_map (span_bytes read) (map whole_span ps) ≡ flat_map read ps
+  spans_bytes [] whole = refl
+  spans_bytes (p ∷ ps) whole =
+      λ i. whole_bytes p (All-head (λ (piece : Piece). length (read piece) ≡ piece_len piece) p ps whole) i
+      ++ spans_bytes ps (All-tail (λ (piece : Piece). length (read piece) ≡ piece_len piece) p ps whole) i
+
+  -- bytes that are read have the length of their pieces
+  pub length-read : (ps : List Piece) → ReadsWhole read ps → length (flat_map read ps) ≡ pieces_len ps
+  length-read [] whole = refl
+  length-read (p ∷ ps) whole =
+      length-append (read p) (flat_map read ps)
+      ∙ (λ i. All-head (λ (piece : Piece). length (read piece) ≡ piece_len piece) p ps whole i
+      + length-read ps (All-tail (λ (piece : Piece). length (read piece) ≡ piece_len piece) p ps whole) i)
+      ∙ sym (sum_by-cons piece_len p ps)
+
+  blocks_read : (bs : List (Block (List Piece))) → All (λ b. ReadsWhole read b.content) bs
+      → flat_map (span_bytes read) (map whole_span (flat_map (λ b. b.content) bs)) ≡ flat_map (λ b. b.content) (map (block_value (flat_map read)) bs)
+  blocks_read [] whole = refl
+  blocks_read (b ∷ bs) whole =
+      ap (flat_map (span_bytes read)) (map-append whole_span b.content (flat_map (λ b. b.content) bs))
+      ∙ flat_map-append (span_bytes read) (map whole_span b.content) (map whole_span (flat_map (λ b. b.content) bs))
+      ∙ (λ i. spans_bytes b.content (All-head (λ (b : Block (List Piece)). ReadsWhole read b.content) b bs whole) i
+      ++ blocks_read bs (All-tail (λ (b : Block (List Piece)). ReadsWhole read b.content) b bs whole) i)
+
+  by_op : (o : Op) (c : Committed (List Piece)) → EachCommittedContent (ReadsWhole read) c
+      → flat_map (span_bytes read) (map whole_span (content_by o c)) ≡ content_by o (committed_value (flat_map read) c)
+  by_op op.GetBlob c whole = blocks_read c.blocks whole
+  by_op other c whole = refl
+
+  by_blob : (o : Op) (c : Option (Committed (List Piece))) → IfSome c (EachCommittedContent (ReadsWhole read))
+      → flat_map (span_bytes read) (map whole_span (content_by o (unwrap_or c empty_blob))) ≡ content_by o (unwrap_or (option_map (committed_value (flat_map read)) c) empty_blob)
+  by_blob o None whole = of_none o
+    where
+      of_none : (o : Op) → flat_map (span_bytes read) (map whole_span (content_by o empty_blob)) ≡ content_by o empty_blob
+      of_none op.GetBlob = refl
+      of_none other = refl
+  by_blob o (Some c) whole = by_op o c whole
+
+  named_whole : (p : Part (List Piece)) (blob : Option (List ℕ)) → EachContent (ReadsWhole read) p
+      → IfSome (option_and_then (λ name. (blob_in p name).committed) blob) (EachCommittedContent (ReadsWhole read))
+  named_whole p None whole = tt
+  named_whole p (Some name) whole = (whole name).committed
+
+  module _ (p : Part (List Piece)) (q : Asked) (whole : EachContent (ReadsWhole read) p) where
+    -- the bytes of the spans are the content that goes out
+    pub content_sent-read : flat_map (span_bytes read) (spans p q) ≡ content_sent (part_value (flat_map read) p) q
+    content_sent-read =
+        by_blob q.ask.op (named_blob p q.ask) (named_whole p q.ask.blob whole)
+        ∙ ap (λ (o : Option (Committed (List ℕ))). content_by q.ask.op (unwrap_or o empty_blob)) (sym (named_blob-part_value (flat_map read) p q.ask))
+
+    -- with them the frame is the reply
+    pub reply_of-read : with_content (frame (part_value pieces_len p) q) (flat_map (span_bytes read) (spans p q)) ≡ reply_of (part_value (flat_map read) p) q
+    reply_of-read =
+        let sized = part_value-sizes (flat_map read) p (EachContent-then (ReadsWhole read) (λ ps. length (flat_map read ps) ≡ pieces_len ps) length-read p whole) in
+        λ i. with_content (frame (sym sized i) q) (content_sent-read i)

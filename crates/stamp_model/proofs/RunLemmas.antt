@@ -1,0 +1,82 @@
+-- Requests that are answered in turn.
+use Rattle.std.proofs.Common.{◌≡◌, ℕ, suc, List, [], ◌∷◌, ◌++◌, length, Option, Some, None, refl, sym, ap, ◌∙◌}
+use Rattle.std.proofs.lemmas.List.Sums.{fold-append}
+use Rattle.stamp_types.specs.declared.reply.Reply.{Reply}
+use Rattle.stamp_types.specs.declared.rule.Rule.{Rule}
+use Rattle.stamp_types.specs.World.{World, part_at}
+use Rattle.access_rules.specs.declared.keys.Keys.{Keys}
+use Rattle.access_rules.specs.Routes.{Admits}
+use Rattle.stamp_model.specs.Refusals.{acl_of}
+use Rattle.stamp_model.specs.Runs.{Timed, AreAnswered, world_after_one, world_after_all, reply_to_one, replies_to}
+use Rattle.stamp_model.proofs.ReplyLemmas.{reply-admits, effect-named}
+
+-- what two lists have at one place, before it and after it, is the same if the lists are
+same_place : {X : Type 0} (a c : List X) (x y : X) (b d : List X) → a ++ x ∷ b ≡ c ++ y ∷ d → length a ≡ length c → (a ≡ c) × (x ≡ y) × (b ≡ d)
+same_place [] [] x y b d h long = (refl, cc, cc)
+same_place [] (z ∷ c) x y b d h long = cc
+same_place (z ∷ a) [] x y b d h long = cc
+same_place {X} (z ∷ a) (v ∷ c) x y b d h long =
+    let first : z ≡ v = cc in
+    let less : a ++ x ∷ b ≡ c ++ y ∷ d = cc in
+    let short : length a ≡ length c = cc in
+    let rest = same_place a c x y b d less short in
+    ((λ i. first i ∷ rest.0 i), rest.1, rest.2)
+
+-- the replies to a front part, and those to what comes after it
+pub replies_to-append : (keys : Option Keys) (w : World (List ℕ)) (front rest : List Timed) → replies_to keys w (front ++ rest) ≡ replies_to keys w front ++ replies_to keys (world_after_all keys w front) rest
+replies_to-append keys w [] rest = refl
+replies_to-append keys w (r ∷ front) rest = ap (λ (l : List Reply). reply_to_one keys w r ∷ l) (replies_to-append keys (world_after_one keys w r) front rest)
+
+-- as many replies as requests
+pub length-replies_to : (keys : Option Keys) (w : World (List ℕ)) (rs : List Timed) → length (replies_to keys w rs) ≡ length rs
+length-replies_to keys w [] = refl
+length-replies_to keys w (r ∷ rs) = ap (λ n. suc n) (length-replies_to keys (world_after_one keys w r) rs)
+
+module _ (keys : Option Keys) (w : World (List ℕ)) (front : List Timed) (r : Timed) (rest : List Timed) where
+  -- the containers before the request
+  abbrev then_held : World (List ℕ)
+  then_held = world_after_all keys w front
+
+  -- the containers after one request more
+  one_more : world_after_all keys w (front ++ r ∷ []) ≡ world_after_one keys then_held r
+  one_more = fold-append (world_after_one keys) w front (r ∷ [])
+
+  -- there are replies at each place
+  pub answered_in_turn : AreAnswered keys w front r rest (replies_to keys w front) (reply_to_one keys then_held r) (replies_to keys (world_after_all keys w (front ++ r ∷ [])) rest)
+  answered_in_turn = record {
+    replies = replies_to-append keys w front (r ∷ rest)
+        ∙ ap (λ (v : World (List ℕ)). replies_to keys w front ++ reply_to_one keys then_held r ∷ replies_to keys v rest) (sym one_more);
+    place = length-replies_to keys w front;
+  }
+
+  module _ (before : List Reply) (answer : Reply) (after : List Reply) (given : AreAnswered keys w front r rest before answer after) where
+    -- and no others
+    pub answered_so : (before ≡ replies_to keys w front) × (answer ≡ reply_to_one keys then_held r) × (after ≡ replies_to keys (world_after_one keys then_held r) rest)
+    answered_so =
+        same_place before (replies_to keys w front) answer (reply_to_one keys then_held r) after (replies_to keys (world_after_one keys then_held r) rest)
+        (sym given.replies ∙ replies_to-append keys w front (r ∷ rest)) (given.place ∙ sym (length-replies_to keys w front))
+
+    named_then : (o : Option Rule) → answer.rule ≡ o → (reply_to_one keys then_held r).rule ≡ o
+    named_then o named = ap (λ (a : Reply). a.rule) (sym answered_so.1) ∙ named
+
+    -- the own route admits what is answered
+    pub answered_admits : answer.rule ≡ None → Admits keys (acl_of (part_at then_held r.request.ask.key)) r.request.ask.credential r.request.ask r.moment
+    answered_admits none = reply-admits keys then_held r.request r.moment None (named_then None none)
+
+    module _ (rule : Rule) (named : answer.rule ≡ Some rule) where
+      stays : world_after_one keys then_held r ≡ then_held
+      stays = effect-named keys then_held r.request r.moment None rule (named_then (Some rule) named)
+
+      -- without a refused request, all others are answered as with it
+      pub replies_to-without : replies_to keys w (front ++ rest) ≡ before ++ after
+      replies_to-without =
+          replies_to-append keys w front rest
+          ∙ ap (λ (v : World (List ℕ)). replies_to keys w front ++ replies_to keys v rest) (sym stays)
+          ∙ (λ i. sym answered_so.0 i ++ sym answered_so.2 i)
+
+      -- and the same is held in the end
+      pub world_after_all-without : world_after_all keys w (front ++ rest) ≡ world_after_all keys w (front ++ r ∷ rest)
+      world_after_all-without =
+          fold-append (world_after_one keys) w front rest
+          ∙ ap (λ (v : World (List ℕ)). world_after_all keys v rest) (sym stays)
+          ∙ sym (fold-append (world_after_one keys) w front (r ∷ rest))
