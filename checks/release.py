@@ -1,4 +1,7 @@
-"""The program that the repository ships, and the digest of the sources that it was built from."""
+"""The program that the repository ships, and the digest of the sources that it was built from.
+
+Run by itself, it prints the path of the program of the sources that are here, once ./stamp has run.
+"""
 import os
 import shutil
 import subprocess
@@ -42,3 +45,13 @@ def renew(program):
     new.chmod(0o755)
     os.replace(new, SHIPPED)
     DIGEST.write_text(f"{tree.digest_of_program()}\n", encoding="utf-8")
+
+
+def current():
+    """The program of the sources that are here: the shipped one, or the one that ./stamp built."""
+    digest = tree.digest_of_program()
+    return SHIPPED if shipped_digest() == digest else tree.kept_program(digest)
+
+
+if __name__ == "__main__":
+    print(current())

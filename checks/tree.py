@@ -114,9 +114,9 @@ def prove(copy, hear):
     return passed, max(failed, int(status != 0))
 
 
-def program_of(copy):
-    """The program as a copy of the tree has it after a proof."""
-    return copy / "crates" / PROGRAM / "out" / PROGRAM
+def program_of(copy, crate=PROGRAM):
+    """The program of a crate as a copy of the tree has it after a proof."""
+    return copy / "crates" / crate / "out" / crate
 
 
 def version_of_toolchain():

@@ -215,12 +215,12 @@ enough_is_not_lower m n h = let e : nat_lt m n ≡ false = grind (arith, nat_tes
 
 by_public : (acl : Option Acl) (q : Ask) (need : Option Level) → (need_of q.op q.args.kinds).level ≡ need → (public_rule acl need ≡ None) ↔ ByPublic acl q
 by_public acl q None e = (λ h. cc, λ b. let f : None ≡ Some b.need = sym e ∙ b.needed in cc)
-by_public None q (Some need) e = (λ h. cc, λ b. let f = b.stands in cc)
+by_public None q (Some need) e = (λ h. cc, λ b. let f = b.exists in cc)
 by_public (Some has) q (Some need) e = (
-  λ h. record { need = need; needed = e; has = has; stands = refl; enough = not_lower (level_number has.level) (level_number need) h },
+  λ h. record { need = need; needed = e; has = has; exists = refl; enough = not_lower (level_number has.level) (level_number need) h },
   λ b.
       let same_need : need ≡ b.need = let f : Some need ≡ Some b.need = sym e ∙ b.needed in cc in
-      let same_has : has ≡ b.has = let f = b.stands in cc in
+      let same_has : has ≡ b.has = let f = b.exists in cc in
       enough_is_not_lower (level_number has.level) (level_number need)
       (subst (λ (l : Level). level_number l ≤ level_number has.level) (sym same_need) (subst (λ (a : Acl). level_number b.need ≤ level_number a.level) (sym same_has) b.enough)),
 )

@@ -1,8 +1,9 @@
 -- The parts of a request that the rules of the key route judge (Blob service REST reference, 2012-02-12, Authentication
 -- for the Azure Storage Services: the headers Authorization, x-ms-date and Date).
-use Rattle.std.specs.Prelude.{ℕ, ◌+◌, Bool, ◌||◌, cond, nat_lt, List, Option, Some, None, option_map, option_and_then, bytes_eq, codes, find}
+use Rattle.std.specs.Prelude.{ℕ, ◌+◌, Bool, ◌||◌, cond, nat_lt, List, Option, Some, None, option_and_then, bytes_eq, codes}
 use Rattle.std.specs.Option.{option_or}
 use Rattle.std.specs.Result.{result_ok}
+use Rattle.stamp_values.specs.Fields.{first_value}
 use Rattle.stamp_values.specs.declared.signing.Credential.{Credential}
 use Rattle.stamp_values.specs.declared.signing.Credential.TheVariants.{Shared, Token, Anonymous}
 use Rattle.stamp_values.specs.declared.signing.Field.{Field}
@@ -29,13 +30,9 @@ abbrev pub keys_for : Option Keys → List ℕ → Option Keys
 keys_for None account = None
 keys_for (Some pair) account = cond (bytes_eq pair.account account) (Some pair) None
 
--- the first value that was sent under a name
-abbrev pub value_under : List Field → List ℕ → Option (List ℕ)
-value_under headers name = option_map (λ h. h.value) (find (λ h. bytes_eq h.name name) headers)
-
 -- x-ms-date where it was sent, else Date
 abbrev pub date_text : List Field → Option (List ℕ)
-date_text headers = option_or (value_under headers (codes "x-ms-date")) (value_under headers (codes "date"))
+date_text headers = option_or (first_value headers (codes "x-ms-date")) (first_value headers (codes "date"))
 
 -- the moment that the request's date names
 abbrev pub date_in : List Field → Option ℕ

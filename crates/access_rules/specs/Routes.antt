@@ -33,12 +33,12 @@ pub record ByKey (keys : Option Keys) (q : Ask) (t : ℕ) : Type 0 where
   pub ahead : date ≤ t + leeway
   pub signed : (claim.signature ≡ signature_of pair.first (string_of q)) ⊎ (claim.signature ≡ signature_of pair.second (string_of q))
 
--- a level of public access is enough for the operation, and the container stands and has it
+-- a level of public access is enough for the operation, and the container exists and has it
 pub record ByPublic (acl : Option Acl) (q : Ask) : Type 0 where
   pub need : Level
   pub needed : (need_of q.op q.args.kinds).level ≡ Some need
   pub has : Acl
-  pub stands : acl ≡ Some has
+  pub exists : acl ≡ Some has
   pub enough : level_number need ≤ level_number has.level
 
 -- the request's own route admits it; by a shared access signature nothing is allowed yet

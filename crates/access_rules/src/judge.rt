@@ -32,7 +32,7 @@ fn by_key(
     if claim.account != ask.key.account.as_str().as_bytes() {
         return Ok(Verdict::Deny(Rule::K2));
     }
-    let Some(date) = date_in(ask.signing.headers.as_slice()) else {
+    let Some(date) = date_in(&ask.signing.headers) else {
         return Ok(Verdict::Deny(Rule::K3));
     };
     if is_far(now, date) {

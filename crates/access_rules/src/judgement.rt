@@ -1,4 +1,4 @@
-//! What is answered to the question who may.
+//! Verdicts: a request is allowed by its route, or denied by a rule.
 
 use stamp_types::Rule;
 

@@ -1,18 +1,19 @@
 //! The keys of accounts.
 
-use stamp_types::{Bytes, Text};
+use hmac_sign::SigningKey;
+use stamp_types::Text;
 use std::fmt;
 
-/// The pair of keys of an account, as bytes, either of which signs. `epoch` is how often the pair was replaced.
+/// The pair of keys of an account. Either key signs. `epoch` is how often the pair was replaced.
 #[derive(Clone, PartialEq, Eq, Drop)]
 pub struct Keys {
     pub account: Text,
-    pub first: Bytes,
-    pub second: Bytes,
+    pub first: SigningKey,
+    pub second: SigningKey,
     pub epoch: u64,
 }
 
-// A derived `Debug` would print the bytes of both keys.
+// The account and the epoch are left out too.
 impl fmt::Debug for Keys {
     ghost use Rattle.std.specs.Prelude.{Some, codes};
 
@@ -29,8 +30,8 @@ mod tests {
     use std::alloc::Global;
     use std::process::Abort;
 
-    fn key(rt: &impl Abort, alloc: Global, text: &str) -> Bytes {
-        Bytes::new(text.as_bytes().to_vec(alloc).expect(rt, "memory"))
+    fn key(rt: &impl Abort, alloc: Global, text: &str) -> SigningKey {
+        SigningKey::new(text.as_bytes().to_vec(alloc).expect(rt, "memory"))
     }
 
     #[test]

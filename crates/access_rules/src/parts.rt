@@ -1,13 +1,13 @@
 //! The parts of a request that the rules of the key route judge.
 ghost use Rattle.std.specs.Prelude.{◌≡◌, IfOk, option_copied, option_map, bytes_eq};
 ghost use Rattle.hmac_sign.specs.Signature.{signature_of};
-ghost use Rattle.access_rules.specs.Parts.{claim_in, keys_for, value_under, date_text, date_in, string_of, is_far, is_signed};
+ghost use Rattle.access_rules.specs.Parts.{claim_in, keys_for, date_text, date_in, string_of, is_far, is_signed};
 
 use crate::keys::Keys;
-use hmac_sign::sign;
+use hmac_sign::SigningKey;
 use moment_text::read_http;
 use shared_key::{Authorization, key_string, read_authorization};
-use stamp_types::{Ask, Bytes, Field, Moment, Text};
+use stamp_types::{Ask, Bytes, FieldList, Moment, Text};
 use std::alloc::{AllocError, Global};
 
 /// How far a date may lie from the moment on either side, in steps of 100 ns: 900 seconds. The reference has 15 minutes.
@@ -32,26 +32,15 @@ pub(crate) fn keys_for<'a>(keys: Option<&'a Keys>, account: &Text) -> Option<&'a
     }
 }
 
-fn value_under<'a>(headers: &'a [Field], name: &[u8]) -> Option<&'a [u8]>
-    ensures { option_map (λ value. value.now) result ≡ value_under headers.now name.now }
-{
-    for header in headers {
-        if header.name.as_slice() == name {
-            return Some(header.value.as_slice());
-        }
-    }
-    None
-}
-
 // x-ms-date counts where it was sent, even if it is no date: it is what was signed then.
-fn date_text(headers: &[Field]) -> Option<&[u8]>
+fn date_text(headers: &FieldList) -> Option<&[u8]>
     ensures { option_map (λ text. text.now) result ≡ date_text headers.now }
 {
-    value_under(headers, b"x-ms-date").or(value_under(headers, b"date"))
+    headers.first(b"x-ms-date").or(headers.first(b"date"))
 }
 
 /// The moment that the request's date names, or `None` where there is no date or none of HTTP.
-pub(crate) fn date_in(headers: &[Field]) -> Option<Moment>
+pub(crate) fn date_in(headers: &FieldList) -> Option<Moment>
     ensures { result ≡ date_in headers.now }
 {
     read_http(date_text(headers)?).ok()
@@ -65,11 +54,16 @@ pub(crate) fn is_far(now: Moment, date: Moment) -> bool
     date + LEEWAY < now || now + LEEWAY < date
 }
 
-// Signatures are compared as they are written, so that a text that is no Base64 is just another signature.
-fn gives(alloc: Global, key: &Bytes, string: &[u8], signature: &[u8]) -> Result<bool, AllocError>
+// Signatures are compared as they are written, so a text that is not Base64 is just another signature.
+fn gives(
+    alloc: Global,
+    key: &SigningKey,
+    string: &[u8],
+    signature: &[u8],
+) -> Result<bool, AllocError>
     ensures { IfOk result (λ same. same ≡ bytes_eq signature.now (signature_of key.now string.now)) }
 {
-    let text = sign(alloc, key.as_slice(), string)?;
+    let text = key.sign(alloc, string)?;
     Ok(signature == text.as_bytes())
 }
 

@@ -1,9 +1,10 @@
 //! Requests for tests.
 
 use crate::{Keys, Verdict, verdict};
+use hmac_sign::SigningKey;
 use stamp_types::{
-    Args, Ask, BlockKinds, Body, Bytes, Credential, Field, Items, Kept, Key, Moment, Op, Request,
-    Signing, Text, Verb, Visible,
+    Args, Ask, BlockKinds, Body, Bytes, Credential, FieldList, Items, Kept, Key, Moment, Op,
+    Request, Signing, Text, Verb, Visible,
 };
 use std::alloc::Global;
 use std::process::Abort;
@@ -17,26 +18,28 @@ fn bytes(rt: &impl Abort, alloc: Global, text: &str) -> Bytes {
     Bytes::new(text.as_bytes().to_vec(alloc).expect(rt, "memory"))
 }
 
-fn push(rt: &impl Abort, alloc: Global, headers: &mut Vec<Field>, name: &str, value: &str) {
-    let field = Field {
-        name: bytes(rt, alloc, name),
-        value: bytes(rt, alloc, value),
-    };
-    headers.push(field).expect(rt, "memory");
+fn key(rt: &impl Abort, alloc: Global, text: &str) -> SigningKey {
+    SigningKey::new(text.as_bytes().to_vec(alloc).expect(rt, "memory"))
 }
 
 // What `PUT /devstoreaccount1/pics/a.txt` of five bytes signs, with one header more.
 fn signing(rt: &impl Abort, alloc: Global, name: &str, value: &str) -> Signing {
-    let mut headers = Vec::new(alloc);
-    push(rt, alloc, &mut headers, "content-length", "5");
-    push(rt, alloc, &mut headers, "x-ms-blob-type", "BlockBlob");
-    push(rt, alloc, &mut headers, "x-ms-version", "2012-02-12");
-    push(rt, alloc, &mut headers, name, value);
+    let mut headers = FieldList::new(alloc);
+    for (name, value) in [
+        ("content-length", "5"),
+        ("x-ms-blob-type", "BlockBlob"),
+        ("x-ms-version", "2012-02-12"),
+        (name, value),
+    ] {
+        headers
+            .push(name.as_bytes(), value.as_bytes())
+            .expect(rt, "memory");
+    }
     Signing {
         verb: Verb::Put,
-        headers: Items::new(headers),
+        headers,
         path: bytes(rt, alloc, "/devstoreaccount1/pics/a.txt"),
-        query: Items::new(Vec::new(alloc)),
+        query: FieldList::new(alloc),
     }
 }
 
@@ -97,8 +100,8 @@ pub(crate) fn key_verdict(
         .expect(rt, "memory");
     let keys = Keys {
         account: text(rt, alloc, account),
-        first: bytes(rt, alloc, "key1"),
-        second: bytes(rt, alloc, "key2"),
+        first: key(rt, alloc, "key1"),
+        second: key(rt, alloc, "key2"),
         epoch: 0,
     };
     let credential = Credential::Shared(Items::new(sent));

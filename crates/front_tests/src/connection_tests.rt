@@ -1,4 +1,4 @@
-//! Connections over readers and writers that fail at a chosen call, and what is passed on before a read waits.
+//! Connections over readers and writers that fail at a chosen call, and what the client gets before a read waits.
 ghost use Rattle.std.specs.Prelude.{⊤};
 
 use http_front::{Clock, End, FrontFault, Service, run};
@@ -26,7 +26,7 @@ fn broken() -> io::Error {
     io::Error::from(ErrorKind::BrokenPipe)
 }
 
-/// Gives at most so many bytes a read, and fails at the read after the last that it may make.
+/// Gives at most `most` bytes a read. After `reads` reads, each further read fails.
 #[derive(Drop)]
 struct Pieces<'a> {
     rest: &'a [u8],
@@ -45,7 +45,7 @@ impl Read for Pieces<'_> {
     }
 }
 
-/// Takes so many calls, and fails at the next one.
+/// Takes `calls` calls. After them, each further call fails.
 #[derive(Drop)]
 struct Few {
     calls: usize,
@@ -92,7 +92,7 @@ impl Read for Waiting<'_> {
     }
 }
 
-/// Keeps what is written until a flush, and tells the client then.
+/// Keeps what is written. At a flush, it tells the client if what was written is the interim reply.
 #[derive(Drop)]
 struct Passing<'a> {
     kept: Vec<u8>,
@@ -113,7 +113,7 @@ impl Write for Passing<'_> {
     }
 }
 
-/// A clock at which no time has passed yet.
+/// A clock that always gives the first moment.
 #[derive(Drop)]
 struct Start;
 
@@ -125,7 +125,7 @@ impl Clock for Start {
     }
 }
 
-/// Refuses each request by P2, or has no memory for it.
+/// Refuses each request by P2, or fails as if memory ran out.
 #[derive(Drop)]
 struct Closed {
     starved: bool,
@@ -179,7 +179,7 @@ fn joined(alloc: Global, parts: &[&[u8]]) -> Result<Vec<u8>, AllocError> {
     Ok(all)
 }
 
-// Each front of a Get and a Put, as long as the stream goes on.
+// The stream has a front part of a Get and a Put, and then it ends. Each front part is tried.
 #[test]
 fn a_stream_ends_clean_between_requests_alone(rt: HostRuntime) {
     let input = joined(rt.alloc(), &[GET, PUT_HEAD, BODY]).expect(&rt, "memory");
@@ -201,7 +201,7 @@ fn a_stream_ends_clean_between_requests_alone(rt: HostRuntime) {
     }
 }
 
-// How a connection ends that is read in pieces of 40 bytes, after so many reads and writes at most.
+// How a connection ends if its input is read in pieces of 40 bytes, and at most so many reads and writes succeed.
 fn end_after(alloc: Global, input: &[u8], reads: usize, writes: usize) -> Result<End, FrontFault> {
     let mut reader = Pieces {
         rest: input,
@@ -221,7 +221,7 @@ fn a_fault_at_each_call_is_told(rt: HostRuntime) {
         let result = end_after(rt.alloc(), &input, calls, 1000);
         assert!(rt; result == Err(FrontFault::Read), "{calls} reads");
     }
-    // A flush before each read and at the end; the interim reply, and two replies.
+    // The calls are a flush before each read, a flush at the end, the interim reply, and two replies.
     let writes = reads.saturating_add(4);
     for calls in 0..writes {
         let result = end_after(rt.alloc(), &input, 1000, calls);

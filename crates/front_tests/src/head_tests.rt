@@ -1,10 +1,10 @@
-//! What the wire does not show of a head: what it lends, and the request of a head and its body.
+//! What the wire does not show about a head: what the head lends, and the request that a head and its body make.
 
 use request_form::{
     Denial, Head, HeadFault, NameFault, account_ok, blob_name, container_ok, no_head, read_head,
 };
 use stamp_types::{
-    Ask, Body, Code, Credential, Field, Kept, Op, Request, Rule, Share, Signing, Status, Verb,
+    Ask, Body, Code, Credential, FieldList, Kept, Op, Request, Rule, Share, Signing, Status, Verb,
 };
 use std::alloc::Global;
 use std::process::Abort;
@@ -17,7 +17,7 @@ const SUM: [u8; 16] = [
     0x5d, 0x41, 0x40, 0x2a, 0xbc, 0x4b, 0x2a, 0x76, 0xb9, 0x71, 0x9d, 0x91, 0x10, 0x17, 0xc5, 0x92,
 ];
 
-// The request of a head and these bytes.
+// The request that the head and these bytes make.
 fn with_bytes(rt: &impl Abort, alloc: Global, head: Head, bytes: &[u8]) -> Request {
     assert!(rt; head.body_len() == bytes.len() as u64);
     let bytes = bytes.to_vec(alloc).expect(rt, "memory");
@@ -44,21 +44,22 @@ const HEADERS: &[(&str, &str)] = &[
 ];
 
 // Whether these are the fields, in this order.
-fn are_fields(fields: &[Field], wanted: &[(&str, &str)]) -> bool {
-    for (field, (name, value)) in fields.iter().zip(wanted) {
-        if field.name.as_slice() != name.as_bytes() || field.value.as_slice() != value.as_bytes() {
+fn are_fields(fields: &FieldList, wanted: &[(&str, &str)]) -> bool {
+    for (field, (name, value)) in fields.fields().zip(wanted) {
+        if field.name != name.as_bytes() || field.value != value.as_bytes() {
             return false;
         }
     }
     fields.len() == wanted.len()
 }
 
-// The path as sent, the parameters decoded in their order, and all headers but Authorization.
+// Asserts the path as it was sent, the decoded parameters in their order with names in lower case, and all headers
+// except Authorization.
 fn assert_signs(rt: &impl Abort, signing: &Signing) {
     assert!(rt; signing.verb == Verb::Put);
     assert!(rt; signing.path.as_slice() == b"/acct/box/a%2Fb".as_slice());
-    assert!(rt; are_fields(signing.query.as_slice(), QUERY));
-    assert!(rt; are_fields(signing.headers.as_slice(), HEADERS));
+    assert!(rt; are_fields(&signing.query, QUERY));
+    assert!(rt; are_fields(&signing.headers, HEADERS));
 }
 
 fn assert_keeps(rt: &impl Abort, kept: &Kept) {
@@ -119,7 +120,7 @@ fn a_denial_names_the_verb_that_was_read(rt: HostRuntime) {
     let no_head = no_head();
     assert!(rt; no_head.rule == Rule::F1 && no_head.code == Code::InvalidInput);
     assert!(rt; no_head.status == Status::BadRequest && no_head.verb.is_none());
-    // No bytes, no request line, bytes after a head, no empty line at its end, and a fragment.
+    // In turn: no bytes, no request line, bytes after a head, a head without the empty line at its end, and a fragment.
     let refused = [
         "",
         "hello\r\n\r\n",

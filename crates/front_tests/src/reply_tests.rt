@@ -21,7 +21,7 @@ const P2_CLOSING: &str =
 const O4: &str =
     "HTTP/1.1 304 Not Modified\r\nDate: Mon, 01 Oct 2012 12:00:00 GMT\r\nx-ms-version: 2012-02-12\r\nx-stamp-rule: O4\r\n\r\n";
 
-// Headers with texts, and the others: one of each kind, and all three levels.
+// The lines of one header of each kind, and of all three levels: first the headers with texts, then the others.
 const TEXTS: &str =
     "HTTP/1.1 206 Partial Content\r\nDate: Mon, 01 Oct 2012 12:00:00 GMT\r\nx-ms-version: 2012-02-12\r\nContent-Type: text/plain\r\nContent-Encoding: gzip\r\nContent-Language: en\r\nCache-Control: no-cache\r\nContent-Disposition: inline\r\nx-ms-meta-colour: red\r\nContent-Length: 2\r\n\r\n";
 
@@ -129,7 +129,7 @@ fn numbers() -> [Header; 10] {
     ]
 }
 
-// A part of a blob with these headers, whose bytes are elsewhere.
+// A reply with part of a blob and with these headers. The bytes of the part are elsewhere.
 fn part(alloc: Global, headers: Vec<Header>) -> Reply {
     Reply {
         status: Status::Partial,

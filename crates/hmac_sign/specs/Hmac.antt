@@ -14,6 +14,14 @@ key_block key = short_key key ++ replicate (64 - length (short_key key)) 0
 abbrev pub masked : ℕ → List ℕ → List ℕ
 masked pad block = map (λ b. bit_xor b pad) block
 
+-- the key's block combined with the inner pad
+abbrev pub inner_block : List ℕ → List ℕ
+inner_block key = masked 0x36 (key_block key)
+
+-- the key's block combined with the outer pad
+abbrev pub outer_block : List ℕ → List ℕ
+outer_block key = masked 0x5c (key_block key)
+
 -- the code that authenticates the message under the key
 abbrev pub hmac_of : List ℕ → List ℕ → List ℕ
-hmac_of key message = sha256 (masked 0x5c (key_block key) ++ sha256 (masked 0x36 (key_block key) ++ message))
+hmac_of key message = sha256 (outer_block key ++ sha256 (inner_block key ++ message))

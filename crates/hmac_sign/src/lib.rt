@@ -5,6 +5,7 @@ mod code;
 mod laws;
 mod secret;
 mod signature;
+mod signing_key;
 #[cfg(test)]
 mod vector_tests;
 
@@ -12,3 +13,4 @@ pub use code::hmac;
 pub use laws::different_bytes_have_different_texts;
 pub use secret::{SecretFault, read_key};
 pub use signature::sign;
+pub use signing_key::SigningKey;

@@ -1,6 +1,8 @@
-//! Published vectors, and texts that are no key.
-use crate::{SecretFault, hmac, read_key, sign};
+//! Published vectors, and texts that are not a key.
+use crate::{SecretFault, SigningKey, hmac, read_key, sign};
 use sha2::{Digest, Sha256};
+use std::alloc::Global;
+use std::process::Abort;
 use std::test::Fail;
 
 /// A key, some data, and the code of HMAC-SHA-256. The fifth code is cut to 128 bits. RFC 4231, sections 4.2 to 4.8.
@@ -49,6 +51,18 @@ fn the_published_codes_come_out(rt: HostRuntime) {
     }
 }
 
+fn signing_key(rt: &impl Abort, alloc: Global, bytes: &[u8]) -> SigningKey {
+    SigningKey::new(bytes.to_vec(alloc).expect(rt, "memory"))
+}
+
+#[test]
+fn a_signing_key_gives_the_published_codes(rt: HostRuntime) {
+    for (bytes, data, code) in VECTORS {
+        let key = signing_key(&rt, rt.alloc(), bytes);
+        assert!(rt; key.hmac(data).starts_with(code), "{bytes:?}");
+    }
+}
+
 #[test]
 fn a_key_longer_than_a_block_is_its_digest(rt: HostRuntime) {
     let key = [7; 65];
@@ -56,12 +70,37 @@ fn a_key_longer_than_a_block_is_its_digest(rt: HostRuntime) {
 }
 
 #[test]
+fn keys_that_sign_alike_are_different_keys(rt: HostRuntime) {
+    let long = signing_key(&rt, rt.alloc(), &[7; 65]);
+    let digest = signing_key(&rt, rt.alloc(), &Sha256::digest(&[7; 65]));
+    assert!(rt; long.hmac(b"x") == digest.hmac(b"x"));
+    assert!(rt; long != digest);
+    let copy = long.clone().expect(&rt, "memory");
+    assert!(rt; long == copy);
+}
+
+#[test]
+fn no_byte_of_a_signing_key_is_printed(rt: HostRuntime) {
+    let key = signing_key(&rt, rt.alloc(), b"Jefe");
+    let printed = format!(in rt.alloc(); "{key:?} {key:#?}").expect(&rt, "memory");
+    assert!(rt; printed.as_str() == "SigningKey(..) SigningKey(..)");
+}
+
+fn crosses<T: Send + Sync>() {}
+
+#[test]
+fn threads_may_have_signing_keys() {
+    crosses::<SigningKey>();
+}
+
+#[test]
 fn a_signature_is_the_code_in_base64(rt: HostRuntime) -> Result<(), Fail> {
+    let wanted = "W9zBRr9gdU5qBCQmCJV1x1oAPwidJzmDnexYuWTsOEM=";
     let text = sign(rt.alloc(), b"Jefe", b"what do ya want for nothing?")?;
-    assert_eq!(rt;
-        text.as_str(),
-        "W9zBRr9gdU5qBCQmCJV1x1oAPwidJzmDnexYuWTsOEM="
-    );
+    assert_eq!(rt; text.as_str(), wanted);
+    let key = signing_key(&rt, rt.alloc(), b"Jefe");
+    let text = key.sign(rt.alloc(), b"what do ya want for nothing?")?;
+    assert_eq!(rt; text.as_str(), wanted);
     Ok(())
 }
 

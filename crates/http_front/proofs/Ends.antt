@@ -1,6 +1,6 @@
 -- Where heads end, when more bytes come.
-use Rattle.std.proofs.Common.{◌≡◌, ℕ, zero, suc, ◌+◌, ◌-◌, ◌<◌, ◌≤◌, min, List, [], ◌∷◌, ◌++◌, length, take, drop, get_or, Option, Some, None, refl, sym, ap, ◌∙◌, subst, arith, length-take, length-append}
-use Rattle.std.proofs.lemmas.List.{take-append-le, take_all}
+use Rattle.std.proofs.Common.{◌≡◌, ℕ, zero, suc, ◌+◌, ◌-◌, ◌<◌, ◌≤◌, min, List, [], ◌∷◌, ◌++◌, length, take, drop, Option, Some, None, refl, sym, ap, ◌∙◌, subst, arith, length-take, length-append}
+use Rattle.std.proofs.lemmas.List.{take-append-le}
 use Rattle.request_form.specs.Heads.{head_limit}
 use Rattle.http_front.specs.HeadEnds.{step, further, sought_by, sought, found_len, head_len, IsSearched}
 use Rattle.http_front.specs.declared.head_end.Place.{Place}
@@ -33,7 +33,7 @@ pub found_of : (s : Sought) (n : ℕ) → further 1 s ≡ Found n → (m : ℕ) 
 found_of (Found m) n e = (m, refl, cc)
 found_of (Open place) n e = absurd (cc)
 
--- what was open goes on with what comes
+-- what was open goes on with the bytes that come
 after_by : (start place : Place) (b : ℕ) (bytes more : List ℕ) (o : Option Place) → ((next : Place) → sought next bytes ≡ Open place → sought next (bytes ++ more) ≡ further (length bytes) (sought place more))
     → step start b ≡ o → sought_by (λ next. sought next bytes) o ≡ Open place → sought start (b ∷ bytes ++ more) ≡ further (suc (length bytes)) (sought place more)
 after_by start place b bytes more None again is e = absurd (cc)
@@ -62,7 +62,7 @@ sought_stays start [] more n e = absurd (let h : Open start ≡ Found n = sym (s
 sought_stays start (b ∷ bytes) more n e =
     stays_by start b bytes more n _ (λ next m h. sought_stays next bytes more m h) refl (sym (sought_cons start b bytes _ refl) ∙ e)
 
--- it lies in the bytes
+-- the end that was found lies in the bytes
 bound_by : (bytes : List ℕ) (n : ℕ) (o : Option Place) → ((next : Place) (m : ℕ) → sought next bytes ≡ Found m → (0 < m) × (m ≤ length bytes))
     → sought_by (λ next. sought next bytes) o ≡ Found n → (0 < n) × (n ≤ suc (length bytes))
 bound_by bytes n None again e = let h : 1 ≡ n = cc in (omega arith, omega arith)
@@ -135,7 +135,7 @@ pub head_len_within : (bytes : List ℕ) (k : ℕ) → k ≡ min (length bytes) 
 unfolding head_len
 head_len_within bytes k is = ap (λ l. found_len (sought Opening l)) (sym (ap (λ n. take n bytes) is ∙ take_min head_limit bytes))
 
--- a search goes on where more comes
+-- a search goes on when more bytes come
 pub IsSearched-more : {search : Search} {bytes : List ℕ} → IsSearched search bytes → (more : List ℕ) → IsSearched search (bytes ++ more)
 IsSearched-more {search} {bytes} s more =
     let size = length-append bytes more in
@@ -144,26 +144,6 @@ IsSearched-more {search} {bytes} s more =
       short = s.short;
       place = ap (sought Opening) (take-append-le search.reached bytes more s.within) ∙ s.place;
     }
-
--- ---- the walk over the bytes
-
-pub walk_found : (start place : Place) (all left : List ℕ) (seen : ℕ) → sought start all ≡ further seen (sought place left) → 1 ≤ length left
-    → step place (get_or left 0 0) ≡ None → Found (seen + 1) ≡ sought start all
-walk_found start place all [] seen e some is = absurd (omega arith)
-walk_found start place all (b ∷ rest) seen e some is = sym (e ∙ ap (further seen) (sought_cons place b rest None is))
-
-pub walk_on : (start place next : Place) (all left : List ℕ) (seen : ℕ) → sought start all ≡ further seen (sought place left) → 1 ≤ length left
-    → step place (get_or left 0 0) ≡ Some next → sought start all ≡ further (seen + 1) (sought next (take (length left - 1) (drop 1 left)))
-walk_on start place next all [] seen e some is = absurd (omega arith)
-walk_on start place next all (b ∷ rest) seen e some is =
-    let whole : take (suc (length rest) - 1) rest ≡ rest = take_all (suc (length rest) - 1) rest (omega arith) in
-    e ∙ ap (further seen) (sought_cons place b rest (Some next) is) ∙ further_twice seen 1 (sought next rest)
-    ∙ ap (λ l. further (seen + 1) (sought next l)) (sym whole)
-
-pub walk_end : (start place : Place) (all left : List ℕ) (seen : ℕ) → sought start all ≡ further seen (sought place left) → length left < 1
-    → Open place ≡ sought start all
-walk_end start place all [] seen e none = sym (e ∙ ap (further seen) (sought_nil place))
-walk_end start place all (b ∷ rest) seen e none = absurd (omega arith)
 
 -- ---- one look
 

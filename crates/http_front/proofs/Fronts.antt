@@ -4,7 +4,7 @@ use Rattle.http_front.specs.Streams.{Item, Tail, Begins, item_closes, Goes-on, R
 use Rattle.http_front.specs.Streams.Tail.{Closing}
 use Rattle.http_front.proofs.StreamLemmas.{Begins-more}
 
--- what comes follows the items too
+-- bytes that come later follow the items too
 pub front_more : (bytes more : List ℕ) (items : List Item) (rest : List ℕ) → Reads-front bytes items rest → Reads-front (bytes ++ more) items (rest ++ more)
 front_more bytes more [] rest p = ap (λ l. l ++ more) p
 front_more bytes more (item ∷ items) rest p = (p.0 ++ more, Begins-more bytes more item p.0 p.1, p.2, front_more p.0 more items rest p.3)

@@ -1,7 +1,7 @@
 -- A head in lines, and where its bytes lead.
-use Rattle.std.proofs.Common.{◌≡◌, ◌≢◌, ◌↔◌, ◌⊎◌, inl, inr, ℕ, suc, ◌+◌, ◌-◌, ◌≤◌, Bool, true, false, List, [], ◌∷◌, ◌++◌, length, take, drop, flat_map, All, Option, Some, None, if◌then◌else◌, refl, sym, ap, ◌∙◌, subst, arith, append_assoc, length-append, length-take}
+use Rattle.std.proofs.Common.{◌≡◌, ◌≢◌, ◌↔◌, ℕ, suc, ◌+◌, ◌-◌, ◌≤◌, Bool, true, false, List, [], ◌∷◌, ◌++◌, length, take, drop, flat_map, All, Option, Some, None, if◌then◌else◌, refl, sym, ap, ◌∙◌, subst, arith, append_assoc, length-append, length-take}
 use Rattle.std.specs.Prelude.{◌==◌}
-use Rattle.std.proofs.lemmas.Bool.{cases_eq, eqb-true, eqb-false, ne_eqb}
+use Rattle.std.proofs.lemmas.Bool.{eqb-true, eqb-false}
 use Rattle.std.proofs.lemmas.List.{take-take}
 use Rattle.std.proofs.lemmas.List.Elements.{All-cons}
 use Rattle.request_form.specs.Heads.{head_limit}
@@ -11,12 +11,10 @@ use Rattle.http_front.specs.declared.head_end.Place.{Place}
 use Rattle.http_front.specs.declared.head_end.Place.TheVariants.{Opening, OpeningReturn, InLine, LineStart, LineReturn}
 use Rattle.http_front.specs.declared.head_end.Sought.TheVariants.{Found, Open}
 use Rattle.http_front.proofs.Ends.{sought_nil, sought_cons, sought_after, sought_stays, found_of, found_is, head_len_bound, take_parts}
+use Rattle.http_front.proofs.LineLemmas.{text_some}
 use Rattle.http_front.proofs.StreamLemmas.{append_parts}
 
 -- ---- where lines lead
-
-all_rest : (x : ℕ) (xs : List ℕ) → All (λ b. b ≢ 10) (x ∷ xs) → All (λ b. b ≢ 10) xs
-all_rest x xs all k d low = all (suc k) d (omega arith)
 
 all_none : All {X = ℕ} (λ b. b ≢ 10) []
 all_none k d low = absurd (omega arith)
@@ -28,49 +26,13 @@ walk a b c xs ys p q = sought_after a b xs ys p ∙ ap (further (length xs)) q
 walk_to : (a b : Place) (xs ys : List ℕ) (n : ℕ) → sought a xs ≡ Open b → sought b ys ≡ Found n → sought a (xs ++ ys) ≡ Found (length xs + n)
 walk_to a b xs ys n p q = sought_after a b xs ys p ∙ ap (further (length xs)) q
 
--- in a line a byte other than LF stays in it
-plain_in : (b : ℕ) → b ≢ 10 → step InLine b ≡ Some InLine
-plain_in b ne = ap (λ t. if t then Some LineStart else Some InLine) (ne_eqb b 10 ne)
+-- a line that isn't empty, from a place where lines start
+line_of : (start : Place) (line : Line) → sought start (line_bytes line) ≡ Open LineStart
+line_of start line =
+    walk start InLine LineStart line.text (10 ∷ []) (text_some start line.text line.unbroken line.some line.not_return)
+    (sought_cons InLine 10 [] (Some LineStart) refl ∙ ap (further 1) (sought_nil LineStart))
 
-in_line : (text : List ℕ) → All (λ b. b ≢ 10) text → sought InLine (text ++ 10 ∷ []) ≡ Open LineStart
-in_line [] all = sought_cons InLine 10 [] (Some LineStart) refl ∙ ap (further 1) (sought_nil LineStart)
-in_line (b ∷ text) all = sought_cons InLine b (text ++ 10 ∷ []) (Some InLine) (plain_in b (all 0 b (omega arith))) ∙ ap (further 1) (in_line text (all_rest b text all))
-
--- a line that isn't empty, from a place where lines start and the one behind a CR there
-module _ (start back : Place) (return : step start 13 ≡ Some back) (plain : (b : ℕ) → b ≢ 10 → b ≢ 13 → step start b ≡ Some InLine) (again : (b : ℕ) → b ≢ 10 → step back b ≡ Some InLine) where
-  line_by : (b : ℕ) (text : List ℕ) → All (λ c. c ≢ 10) (b ∷ text) → b ∷ text ≢ 13 ∷ [] → (b ≡ 13) ⊎ (b ≢ 13) → sought start ((b ∷ text) ++ 10 ∷ []) ≡ Open LineStart
-  line_by b text all more (inr ne) =
-      sought_cons start b (text ++ 10 ∷ []) (Some InLine) (plain b (all 0 b (omega arith)) ne) ∙ ap (further 1) (in_line text (all_rest b text all))
-  line_by b [] all more (inl is) = absurd (more (ap (λ c. c ∷ []) is))
-  line_by b (c ∷ text) all more (inl is) =
-      let rest = all_rest b (c ∷ text) all in
-      sought_cons start b ((c ∷ text) ++ 10 ∷ []) (Some back) (ap (step start) is ∙ return)
-      ∙ ap (further 1) (sought_cons back c (text ++ 10 ∷ []) (Some InLine) (again c (rest 0 c (omega arith))) ∙ ap (further 1) (in_line text (all_rest c text rest)))
-
-  line_of : (text : List ℕ) → All (λ c. c ≢ 10) text → text ≢ [] → text ≢ 13 ∷ [] → sought start (text ++ 10 ∷ []) ≡ Open LineStart
-  line_of [] all some more = absurd (some refl)
-  line_of (b ∷ text) all some more = line_by b text all more (cases_eq b 13)
-
--- where lines start a byte other than CR and LF leads into one, and so does one other than LF behind a CR
-plain_opening : (b : ℕ) → b ≢ 10 → b ≢ 13 → step Opening b ≡ Some InLine
-plain_opening b ne other = rw (ne_eqb b 10 ne, ne_eqb b 13 other) refl
-
-plain_start : (b : ℕ) → b ≢ 10 → b ≢ 13 → step LineStart b ≡ Some InLine
-plain_start b ne other = rw (ne_eqb b 10 ne, ne_eqb b 13 other) refl
-
-again_opening : (b : ℕ) → b ≢ 10 → step OpeningReturn b ≡ Some InLine
-again_opening b ne = rw (ne_eqb b 10 ne) refl
-
-again_start : (b : ℕ) → b ≢ 10 → step LineReturn b ≡ Some InLine
-again_start b ne = rw (ne_eqb b 10 ne) refl
-
--- each kind of line leads so
-first_line : (line : Line) → sought Opening (line_bytes line) ≡ Open LineStart
-first_line line = line_of Opening OpeningReturn refl plain_opening again_opening line.text line.unbroken line.some line.not_return
-
-next_line : (line : Line) → sought LineStart (line_bytes line) ≡ Open LineStart
-next_line line = line_of LineStart LineReturn refl plain_start again_start line.text line.unbroken line.some line.not_return
-
+-- where each kind of line leads
 blank_line : (line : EmptyLine) → sought Opening (empty_line line) ≡ Open Opening
 unfolding sought
 blank_line Feed = refl
@@ -87,7 +49,7 @@ blank_lines (line ∷ lines) = walk Opening Opening Opening (empty_line line) (f
 
 next_lines : (lines : List Line) → sought LineStart (flat_map line_bytes lines) ≡ Open LineStart
 next_lines [] = sought_nil LineStart
-next_lines (line ∷ lines) = walk LineStart LineStart LineStart (line_bytes line) (flat_map line_bytes lines) (next_line line) (next_lines lines)
+next_lines (line ∷ lines) = walk LineStart LineStart LineStart (line_bytes line) (flat_map line_bytes lines) (line_of LineStart line) (next_lines lines)
 
 -- a head in lines is found whole
 pub lines_found : (head : List ℕ) → IsHeadInLines head → sought Opening head ≡ Found (length head)
@@ -102,19 +64,19 @@ lines_found head p =
     let three = length-append c d in
     ap (sought Opening) p.parts
     ∙ walk_to Opening Opening a (b ++ (c ++ d)) (length b + (length c + length d)) (blank_lines p.blank)
-    (walk_to Opening LineStart b (c ++ d) (length c + length d) (first_line p.first)
+    (walk_to Opening LineStart b (c ++ d) (length c + length d) (line_of Opening p.first)
     (walk_to LineStart LineStart c d (length d) (next_lines p.others) (last_line p.last)))
     ∙ ap Found {y = length head} (omega arith)
 
--- ---- what was walked is lines
+-- ---- the bytes that were walked are lines
 
--- the lines behind the first, and the empty one
+-- the lines after the first, and the empty one
 record IsRest (rest : List ℕ) : Type 0 where
   pub lines : List Line
   pub last : EmptyLine
   pub parts : rest ≡ flat_map line_bytes lines ++ empty_line last
 
--- the rest of a line, and what stands behind it
+-- the rest of a line, and what follows it
 record IsLineRest (rest : List ℕ) : Type 0 where
   pub text : List ℕ
   pub unbroken : All (λ b. b ≢ 10) text
@@ -122,7 +84,7 @@ record IsLineRest (rest : List ℕ) : Type 0 where
   pub lines : IsRest behind
   pub parts : rest ≡ text ++ 10 ∷ behind
 
--- what stands from a place on to the end of a head
+-- what the bytes from a place to the end of a head are
 abbrev From : Place → List ℕ → Type 0
 From Opening rest = IsHeadInLines rest
 From OpeningReturn rest = IsHeadInLines (13 ∷ rest)
@@ -130,7 +92,7 @@ From InLine rest = IsLineRest rest
 From LineStart rest = IsRest rest
 From LineReturn rest = IsRest (13 ∷ rest)
 
--- a line and what stands behind it
+-- a line and what follows it
 line_parts : (text rest behind : List ℕ) (p : IsRest behind) → rest ≡ text ++ 10 ∷ behind → rest ≡ (text ++ 10 ∷ []) ++ (flat_map line_bytes p.lines ++ empty_line p.last)
 line_parts text rest behind p is = is ∙ ap (λ l. text ++ 10 ∷ l) p.parts ∙ sym (append_assoc text (10 ∷ []) (flat_map line_bytes p.lines ++ empty_line p.last))
 
@@ -159,7 +121,7 @@ returned b rest ne r = record {
   not_return = no_return_alone b r.text;
 }
 
--- a line before a rest: where all lines so far were empty, and behind one that isn't
+-- a line before a rest: if all lines so far were empty, and after a line that isn't empty
 first_of : (line : Line) (all : List ℕ) (behind : List ℕ) (p : IsRest behind) → all ≡ line.text ++ 10 ∷ behind → IsHeadInLines all
 first_of line all behind p is = record { blank = []; first = line; others = p.lines; last = p.last; parts = line_parts line.text all behind p is }
 
@@ -249,7 +211,7 @@ goes_on InLine next b rest e p = in_line_on (b == 10) b rest next refl e p
 goes_on LineStart next b rest e p = line_start_on (b == 10) (b == 13) b rest next refl refl e p
 goes_on LineReturn next b rest e p = line_return_on (b == 10) b rest next refl e p
 
--- what a last byte is, and where it can stand
+-- what a last byte is, and where it can be
 opening_stops : (feed return : Bool) → (if feed then Some Opening else (if return then Some OpeningReturn else Some InLine)) ≡ None → ⊥
 opening_stops true return e = absurd (cc)
 opening_stops false true e = absurd (cc)
@@ -293,7 +255,7 @@ found_from place (b ∷ bytes) n e =
 
 -- ---- the law
 
--- a head has a length exactly where so many bytes are a head in lines
+-- a head has a length exactly if so many bytes are a head in lines
 pub head_len_is : (bytes : List ℕ) (n : ℕ) → (head_len bytes ≡ Some n) ↔ ((n ≤ length bytes) × (n ≤ head_limit) × IsHeadInLines (take n bytes))
 unfolding head_len
 head_len_is bytes n = (there, back)

@@ -19,14 +19,14 @@ use Rattle.http_front.specs.Streams.Tail.{InBody}
 use Rattle.http_front.proofs.Ends.{head_len_bound}
 use Rattle.http_front.proofs.StreamLemmas.{HasHead-more}
 
--- where less is there than was to be taken, nothing is left
+-- if fewer bytes are there than were to be taken, none are left
 pub drop_short : (k : ℕ) (xs : List ℕ) → length (take k xs) < k → drop k xs ≡ []
 drop_short k xs short = let size = length-take k xs in drop_all k xs (omega arith)
 
 behind_head : (buffer more : List ℕ) (count : ℕ) (form : Form) → HasHead buffer count form → drop count (buffer ++ more) ≡ drop count buffer ++ more
 behind_head buffer more count form has = drop-append-le count buffer more (head_len_bound buffer count has.ends).1
 
--- no memory for the body's start
+-- memory ran out for the body's start
 pub bodies_none : (fault : FrontFault) (form : Form) (count : ℕ) (left held held' : Option (List ℕ)) (buffer buffer' : List ℕ) (turns turns' : ℕ)
     → fault ≡ NoMemory → HasHead buffer count form → Appends held held' (interim form)
     → Told {T = List ℕ} (Err fault) (Bodies (Err fault) form count left left held held' buffer buffer' turns turns')
@@ -58,11 +58,11 @@ cut_short form count buffer here there more has at is short =
 spent_all : (here there more : List ℕ) (turns : ℕ) → there ≡ here ++ more → turns + length here ≤ length there → turns ≤ length more
 spent_all here there more turns is h = let size = length-append here more in let whole = ap length is in omega arith
 
--- what came behind `here` is at most 8,192 bytes for each turn
+-- what came after `here` is at most 8,192 bytes for each turn
 within_all : (here there more : List ℕ) (turns : ℕ) → there ≡ here ++ more → length there ≤ length here + turns * 8192 → length more ≤ turns * 8192
 within_all here there more turns is h = let size = length-append here more in let whole = ap length is in omega arith
 
--- The body is cut: `here` was there of what stands behind the head, and `there` came of it.
+-- The body is cut: `here` was there of what follows the head, and it grew to `there`.
 pub bodies_cut : (U : Type 0) (fault : FrontFault) (form : Form) (count k : ℕ) (left left' held held' held'' : Option (List ℕ)) (buffer here there buffer' : List ℕ) (turns turns' : ℕ)
     → HasHead buffer count form → k ≡ form.body_len → here ≡ drop count buffer → Appends held held' (interim form)
     → Told {T = U} (Err fault) (Fills {T = U} (Err fault) left left' here there) → Served {T = U} (Err fault) (length there < k)
@@ -95,7 +95,7 @@ bodies_cut U NoMemory form count k left left' held held' held'' buffer here ther
 }
 bodies_cut U Write form count k left left' held held' held'' buffer here there buffer' turns turns' has len at sent fills short none bound ex = tt
 
--- The body is whole: `here` was there of what stands behind the head, and the body and what follows it came of it.
+-- The body is whole: `here` was there of what follows the head, and it grew to the body and what follows the body.
 pub bodies_whole : (U : Type 0) (u : U) (form : Form) (count k : ℕ) (left left' held held' held'' : Option (List ℕ)) (buffer here body rest : List ℕ) (turns turns' : ℕ)
     → HasHead buffer count form → k ≡ form.body_len → here ≡ drop count buffer → Appends held held' (interim form)
     → Fills {T = U} (Ok u) left left' here (body ++ rest) → length body ≡ k → Appends held' held'' [] → turns + length here ≤ turns' + length (body ++ rest)
@@ -128,7 +128,7 @@ bodies_less form count k buffer after rest turns turns' has is falls =
     let size = ap length is in
     omega arith
 
--- what was taken for the body and what is left are what stood behind the head
+-- what was taken for the body and what is left are together what followed the head
 pub starts : (count k : ℕ) (buffer start after : List ℕ) → start ≡ take k (drop count buffer) → after ≡ drop k (drop count buffer) → start ++ after ≡ drop count buffer
 starts count k buffer start after p q = ap (λ l. l ++ after) p ∙ ap (λ l. take k (drop count buffer) ++ l) q ∙ take-append-drop k (drop count buffer)
 
@@ -142,7 +142,7 @@ spends_first turns turns' turns'' buffer buffer' first more p is q =
     let size = ap length is in
     omega arith
 
--- what came of a head, and what came of its body
+-- the bytes that came for a head, and those that came for its body
 within_first : (turns turns' size : ℕ) (buffer buffer' first more : List ℕ) → length buffer' + turns' * 8192 ≤ length buffer + turns * 8192 → buffer' ≡ buffer ++ first
     → length more + size ≤ turns' * 8192 → length (first ++ more) + size ≤ turns * 8192
 within_first turns turns' size buffer buffer' first more p is q =
@@ -218,7 +218,7 @@ module _ (U : Type 0) (u : U) (form : Form) (count : ℕ) (left left' left'' hel
     within = tt;
   }
 
-  -- what came before the head, and what came of its body
+  -- the bytes that came until the head was whole, and those that came for its body
   pub takes_of : (result : Result (Option Found) FrontFault) (o : Result (List ℕ) FrontFault)
       → Fills {T = U} (Ok u) left left' buffer headed → Appends held held' [] → turns + length buffer ≤ turns' + length headed
       → length headed + turns' * 8192 ≤ length buffer + turns * 8192
@@ -230,7 +230,7 @@ module _ (U : Type 0) (u : U) (form : Form) (count : ℕ) (left left' left'' hel
   takes_of result (Err fault) first none spent bound b j =
       subst (λ r. Told r (Takes r left left'' held held'' buffer buffer' turns turns'')) (sym j) (takes_cut fault first none spent bound b)
 
--- a request takes from the measure
+-- a request makes the measure less
 pub less_of : (P Q : Type 0) (result : Result (Option Found) FrontFault) (o : Result (List ℕ) FrontFault) (form : Form) (call : Call)
     → OnOk o P → Joins form o result → result ≡ Ok (Some (Founds.Called call)) → (P → Q) → Q
 less_of P Q result (Ok body) form call p j is f = f p

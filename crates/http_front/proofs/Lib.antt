@@ -1,8 +1,10 @@
+pub mod BufferLemmas
 pub mod PlainLemmas
 pub mod Ends
 pub mod Fronts
 pub mod HeadLines
 pub mod Items
+pub mod LineLemmas
 pub mod Readings
 pub mod StreamLemmas
 pub mod Talks

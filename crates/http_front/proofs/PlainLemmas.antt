@@ -150,18 +150,18 @@ module _ (keys : Keys) (w : World (List Piece)) (h : HeldRows) (is : record { ke
   pub refusal_denied : (r : Rule) → AreClosed w → Deny r ≡ verdict_of (Some keys) None q.ask t → Some (access_refusal r) ≡ row_refusal h q t
   refusal_denied r all e = by_first (Some r) (sym (first_own all) ∙ denied_by _ (way_of q.ask.credential) r (sym e))
 
-  -- if it allows, the object and whether the operation is served are left
+  -- a verdict that allows leaves the refusal to the object and to whether the operation is served
   pub refusal_allowed : (way : Way) → AreClosed w → Allow way ≡ verdict_of (Some keys) None q.ask t → object_or_unserved own q ≡ row_refusal h q t
   refusal_allowed way all e = by_first None (sym (first_own all) ∙ allowed_by _ (way_of q.ask.credential) way (sym e))
 
   own_free : row_refusal h q t ≡ None → refusal (Some keys) (part_value pieces_len own) q t ≡ None
   own_free free = ap (λ (x : HeldRows). row_refusal x q t) is ∙ free
 
-  -- if nothing refuses, the object does not
+  -- if nothing refuses a request, the object does not refuse it
   pub unopposed : row_refusal h q t ≡ None → object_refusal (part_value pieces_len own) q ≡ None
   unopposed free = (unrefused (Some keys) (part_value pieces_len own) q t (own_free free)).unopposed
 
-  -- and the operation is served
+  -- and its operation is served
   pub served : row_refusal h q t ≡ None → is_served q.ask.op ≡ true
   served free = (unrefused (Some keys) (part_value pieces_len own) q t (own_free free)).served
 
@@ -302,7 +302,7 @@ module _ (h : HeldRows) (q : Asked) (t : ℕ) (all : AreHeld h.rows) where
   pub answers_refused : (r : Refusal) (reply : Reply) → row_refusal h q t ≡ Some r → reply ≡ denied r → Held-answers (held_of h) q t reply (held_of h)
   answers_refused r reply e is = (is ∙ reply_refused r e, held_refused r e)
 
-  -- what the rows hold after a request are the bytes that are held after it
+  -- the bytes of what the rows hold after a request are the bytes that are held after it
   pub held_of-rows_after : held_of (rows_after h q t) ≡ held_after (held_of h) q t
   held_of-rows_after =
       ap (λ (w : World (List ℕ)). record { keys = h.keys; world = w }) (world_value-effect held pieces_len byte_count same_pieces (Some h.keys) h.rows q t sized)

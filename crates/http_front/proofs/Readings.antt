@@ -79,7 +79,7 @@ by_end bytes shorter (Some count) is = head_first bytes count is shorter (accept
 pub reading_of : (bytes : List ℕ) → (items : List Item) × (tail : Tail) × Reads bytes items tail
 reading_of bytes = by_length Reading (λ text shorter. by_end text shorter (head_len text) refl) (length bytes) bytes (omega arith)
 
--- What stands at the front of a stream comes first in its reading.
+-- What is at the front of a stream comes first in its reading.
 pub reads_front : (bytes rest : List ℕ) (first items : List Item) (tail : Tail) → Reads-front bytes first rest → Reads bytes items tail
     → (others : List Item) × Reads rest others tail × (items ≡ first ++ others)
 reads_front bytes rest first items tail front read =

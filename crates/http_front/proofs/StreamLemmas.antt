@@ -1,4 +1,4 @@
--- A stream of bytes has one reading, and what stands at its front stays there when more comes.
+-- A stream of bytes has one reading, and what is at its front stays there when more bytes come.
 use Rattle.std.proofs.Common.{◌≡◌, inl, inr, ℕ, ◌<◌, ◌≤◌, Bool, true, false, List, [], ◌∷◌, ◌++◌, length, take, drop, Option, Some, None, refl, sym, ap, ◌∙◌, subst, arith, append_assoc, length-append}
 use Rattle.std.proofs.lemmas.List.{take-append-le, drop-append-le}
 use Rattle.httparse.specs.Grammar.{RequestHead}
@@ -37,7 +37,7 @@ one_denial text denial other (inl p) (inr q) = absurd (q.0 p.head p.is_head)
 one_denial text denial other (inr p) (inl q) = absurd (p.0 q.head q.is_head)
 one_denial text denial other (inr p) (inr q) = p.1 ∙ sym q.1
 
--- ---- so is what stands at the front
+-- ---- what is at the front is read in one way
 
 pub append_parts : (a b c d : List ℕ) → length a ≡ length b → a ++ c ≡ b ++ d → (a ≡ b) × (c ≡ d)
 append_parts [] [] c d l e = (refl, e)

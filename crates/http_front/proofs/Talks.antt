@@ -36,7 +36,7 @@ replies_more answers a b c (e ∷ exchanges) exchange p q = (p.0, p.1, replies_m
 
 -- ---- one exchange
 
--- An item that stands at the front was answered.
+-- An item that is at the front was answered.
 pub record Step {C S : Type 0} (gives : C → ℕ → C → Type 0) (answers : S → Asked → ℕ → Reply → S → Type 0)
     (clock clock' : C) (world world' : S) (held held' : Option (List ℕ)) (bytes rest : List ℕ) (closes : Bool) : Type 0 where
   pub exchange : Exchange
@@ -276,7 +276,7 @@ begun_of bytes rest written (Founds.Called call) f = inr (f.0, f.2.count, f.2.he
 begun_of bytes rest written (Founds.Refused denial) f = inl f.1
 
 module _ {C S : Type 0} (gives : C → ℕ → C → Type 0) (answers : S → Asked → ℕ → Reply → S → Type 0) (starves : S → S → Type 0) where
-  -- at what stands at the front
+  -- memory ran out at what is at the front
   starve : (clock clock' clock'' : C) (world world' world'' : S) (left left' left'' held held' held'' : Option (List ℕ)) (buffer more written : List ℕ) (turns turns' : ℕ)
       → Serving gives answers clock clock' world world' left left' held held' buffer turns turns'
       → Consumes left' left'' more → Appends held' held'' written → Begun (buffer ++ more) written

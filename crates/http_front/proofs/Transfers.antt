@@ -7,7 +7,7 @@ use Rattle.http_front.specs.declared.end.FrontFault.TheVariants.{Read, Write, Tu
 use Rattle.http_front.specs.Outcomes.{Told}
 use Rattle.http_front.specs.Inputs.{Fills, Kept}
 
--- the reader gave some bytes, and they were put behind the others
+-- the reader gave some bytes, and they were put after the others
 pub record Grows (left left' : Option (List ℕ)) (bytes bytes' : List ℕ) : Type 0 where
   pub more : List ℕ
   pub consumed : Consumes left left' more
@@ -23,7 +23,7 @@ kept_then (Err Write) x y z more rest p q = q ∙ ap (λ l. l ++ rest) p ∙ app
 kept_then (Err Turns) x y z more rest p q = q ∙ ap (λ l. l ++ rest) p ∙ append_assoc x more rest
 kept_then (Err NoMemory) x y z more rest p q = tt
 
--- first some bytes came, and then what this step says
+-- first some bytes came, and then those of this step
 pub Grows-then : {T : Type 0} (r : Result T FrontFault) (a b c : Option (List ℕ)) (x y z : List ℕ) → Grows a b x y → Fills r b c y z → Fills r a c x z
 Grows-then r a b c x y z p q = record {
   more = p.more ++ q.more;
@@ -41,7 +41,7 @@ Grows-on t a b c x y z p q = grows_of t a c x z (Grows-then (Ok t) a b c x y z p
 pub fills_of : {T : Type 0} (t : T) (a b : Option (List ℕ)) (x y : List ℕ) → Grows a b x y → Fills {T = T} (Ok t) a b x y
 fills_of t a b x y p = record { more = p.more; consumed = p.consumed; kept = p.kept }
 
--- a fault at an exit is told of as where it came from
+-- what is told of a fault at the place where it arose is told of it at an exit too
 pub Told-at_err : (T U : Type 0) {P Q : Type 0} (fault : FrontFault) → Told {T = T} (Err fault) P → (P → Q) → Told {T = U} (Err fault) Q
 Told-at_err T U Read p f = f p
 Told-at_err T U Turns p f = f p
@@ -63,6 +63,6 @@ Fills-at_err T U Turns a b c x y z p q = Grows-then {T = U} (Err Turns) a b c x 
 Fills-at_err T U Write a b c x y z p q = tt
 Fills-at_err T U NoMemory a b c x y z p q = Grows-then {T = U} (Err NoMemory) a b c x y z p (record { more = q.more; consumed = q.consumed; kept = q.kept })
 
--- nothing is written in two steps
+-- two steps that each write nothing write nothing
 pub Appends-none : (a b c : Option (List ℕ)) → Appends a b [] → Appends b c [] → Appends a c []
 Appends-none a b c p q = Appends-trans a b c [] [] p q

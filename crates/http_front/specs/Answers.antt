@@ -17,11 +17,11 @@ pub record Answers {S : Type 0} (answers : S → Asked → ℕ → Reply → S �
   pub replied : answers world call.request moment reply world'
   pub written : Appends held held' (reply_bytes reply moment (Some call.verb) call.closes)
 
--- the refusal was written, and that it closes
+-- the refusal was written, and says that the connection closes
 abbrev pub Turns-away : Option (List ℕ) → Option (List ℕ) → Denial → ℕ → Type 0
 Turns-away held held' denial moment = Appends held held' (reply_bytes (denied (refusal_of denial)) moment denial.verb true)
 
--- an item was answered; of a refusal the service hears nothing, and it closes
+-- an item was answered; the service hears nothing of a refusal, and a refusal closes
 abbrev pub Settled : {S : Type 0} → (S → Asked → ℕ → Reply → S → Type 0) → S → S → Option (List ℕ) → Option (List ℕ) → Found → Bool → ℕ → Type 0
 Settled answers world world' held held' (Founds.Called call) closes moment = Answers answers world world' held held' call moment × (closes ≡ call.closes)
 Settled answers world world' held held' (Founds.Refused denial) closes moment = Turns-away held held' denial moment × (world' ≡ world) × (closes ≡ true)
@@ -33,11 +33,11 @@ pub record Settles {C S : Type 0} (gives : C → ℕ → C → Type 0) (answers 
   pub ticked : gives clock moment clock'
   pub settled : Settled answers world world' held held' found closes moment
 
--- a request wasn't answered: the service gave no reply and left this world, or gave one that wasn't written in full
+-- a request wasn't answered: the service gave no reply and came to this world, or gave a reply that wasn't written in full
 abbrev pub Gives-up : {S : Type 0} → (S → Asked → ℕ → Reply → S → Type 0) → (S → S → Type 0) → S → S → Asked → ℕ → Type 0
 Gives-up answers starves world world' request moment = starves world world' ⊎ ((reply : Reply) × answers world request moment reply world')
 
--- an item wasn't answered; of a refusal the service hears nothing
+-- an item wasn't answered; the service hears nothing of a refusal
 abbrev pub Given-up : {S : Type 0} → (S → Asked → ℕ → Reply → S → Type 0) → (S → S → Type 0) → S → S → Found → ℕ → Type 0
 Given-up answers starves world world' (Founds.Called call) moment = Gives-up answers starves world world' call.request moment
 Given-up answers starves world world' (Founds.Refused denial) moment = world' ≡ world

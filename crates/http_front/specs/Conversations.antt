@@ -21,12 +21,12 @@ pub data Exchange : Type 0 where
   Answered : Form → List ℕ → ℕ → Reply → Exchange
   Turned : Denial → ℕ → Exchange
 
--- what was answered
+-- the item that was answered
 abbrev pub item_of : Exchange → Item
 item_of (Answered form body moment reply) = Requested form body
 item_of (Turned denial moment) = Refused denial
 
--- when it was
+-- the moment of the answer
 abbrev pub moment_of : Exchange → ℕ
 moment_of (Answered form body moment reply) = moment
 moment_of (Turned denial moment) = moment
@@ -36,26 +36,26 @@ abbrev pub answer_bytes : Exchange → List ℕ
 answer_bytes (Answered form body moment reply) = reply_bytes reply moment (Some form.ask.signing.verb) form.closes
 answer_bytes (Turned denial moment) = reply_bytes (denied (refusal_of denial)) moment denial.verb true
 
--- what is written for an item: the interim reply where it is asked for, and the answer
+-- what is written for an item: the interim reply if it is asked for, and the answer
 unfoldable pub bytes_of : Exchange → List ℕ
 bytes_of exchange = first_bytes (item_of exchange) ++ answer_bytes exchange
 
--- the clock gives these moments in turn
+-- the clock gives these moments in this order
 abbrev pub Ticks : {C : Type 0} → (C → ℕ → C → Type 0) → C → List ℕ → C → Type 0
 Ticks gives old [] new = new ≡ old
 Ticks {C} gives old (moment ∷ moments) new = (mid : C) × gives old moment mid × Ticks gives mid moments new
 
--- the service gives this reply; of a refusal it hears nothing
+-- the service gives this reply; it hears nothing of a refusal
 abbrev pub Replies-to : {S : Type 0} → (S → Asked → ℕ → Reply → S → Type 0) → S → Exchange → S → Type 0
 Replies-to answers old (Answered form body moment reply) new = answers old (with_body form body) moment reply new
 Replies-to answers old (Turned denial moment) new = new ≡ old
 
--- the service gives these replies in turn
+-- the service gives these replies in this order
 abbrev pub Replies : {S : Type 0} → (S → Asked → ℕ → Reply → S → Type 0) → S → List Exchange → S → Type 0
 Replies answers old [] new = new ≡ old
 Replies {S} answers old (exchange ∷ exchanges) new = (mid : S) × Replies-to answers old exchange mid × Replies answers mid exchanges new
 
--- how a run ends by where its stream stops, and that its turns were used up
+-- how a run ends, by where its stream stops; and `Turns` says that the run used up its turns
 abbrev pub EndsAs : Result End FrontFault → Tail → ℕ → ℕ → Type 0
 EndsAs (Ok Clean) tail turns count = tail ≡ AtStart
 EndsAs (Ok Closed) tail turns count = tail ≡ Closing
@@ -74,8 +74,8 @@ pub record Converses {C S : Type 0} (gives : C → ℕ → C → Type 0) (answer
   pub output : Appends held held' (flat_map bytes_of exchanges ++ tail_bytes tail)
   pub ends : EndsAs result tail turns (length input)
 
--- What a run took is answered so, and is at most 8,192 bytes for each turn. Nothing is said where the writer failed or memory ran
--- out.
+-- The bytes that a run took are answered so, and are at most 8,192 for each turn. Nothing is said if the writer failed or memory
+-- ran out.
 pub record Conversed {C S : Type 0} (gives : C → ℕ → C → Type 0) (answers : S → Asked → ℕ → Reply → S → Type 0)
     (clock clock' : C) (world world' : S) (left left' held held' : Option (List ℕ)) (result : Result End FrontFault) (turns : ℕ) : Type 0 where
   pub received : List ℕ
@@ -83,16 +83,17 @@ pub record Conversed {C S : Type 0} (gives : C → ℕ → C → Type 0) (answer
   pub within : length received ≤ turns * 8192
   pub converses : Converses gives answers clock clock' world world' held held' result turns received
 
--- what was written before the answer to what stands at the front: nothing yet, or the interim reply to a head
+-- what was written before the answer to what is at the front: nothing yet, or the interim reply to a head
 abbrev pub Begun : List ℕ → List ℕ → Type 0
 Begun bytes written = (written ≡ []) ⊎ ((form : Form) × (count : ℕ) × HasHead bytes count form × (written ≡ interim form))
 
--- memory ran out at the answer to an item, at this moment; of a refusal the service hears nothing
+-- memory ran out at the answer to an item, at this moment; the service hears nothing of a refusal
 abbrev pub Leaves : {S : Type 0} → (S → Asked → ℕ → Reply → S → Type 0) → (S → S → Type 0) → S → S → Item → ℕ → Type 0
 Leaves answers starves world world' (Requested form body) moment = Gives-up answers starves world world' (with_body form body) moment
 Leaves answers starves world world' (Refused denial) moment = world' ≡ world
 
--- An item stands at the front, and before its answer this was written. The clock gave one moment for it, and the answer was not written.
+-- An item is at the front, and this was written before its answer. The clock gave one moment for it, and the answer was not
+-- written.
 pub record Falls-silent {C S : Type 0} (gives : C → ℕ → C → Type 0) (answers : S → Asked → ℕ → Reply → S → Type 0) (starves : S → S → Type 0)
     (clock clock' : C) (world world' : S) (bytes written : List ℕ) : Type 0 where
   pub item : Item
@@ -103,14 +104,14 @@ pub record Falls-silent {C S : Type 0} (gives : C → ℕ → C → Type 0) (ans
   pub ticked : gives clock moment clock'
   pub left : Leaves answers starves world world' item moment
 
--- clock and service are as they were, since memory ran out before an item was found; or as the answer to one left them
+-- clock and service are as they were, since memory ran out before an item was found; or as the answer to an item left them
 abbrev pub Breaks-off : {C S : Type 0} → (C → ℕ → C → Type 0) → (S → Asked → ℕ → Reply → S → Type 0) → (S → S → Type 0)
     → C → C → S → S → List ℕ → List ℕ → Type 0
 Breaks-off gives answers starves clock clock' world world' bytes written =
     ((clock' ≡ clock) × (world' ≡ world)) ⊎ Falls-silent gives answers starves clock clock' world world' bytes written
 
--- Memory ran out. What was taken begins with items that were answered in full; after their output come what was begun of the
--- next one, and the words that end the run.
+-- Memory ran out. The bytes that were taken begin with items that were answered in full. After their output come the bytes that
+-- were written before the answer to the next item, and then the bytes that end the run.
 pub record Starved {C S : Type 0} (gives : C → ℕ → C → Type 0) (answers : S → Asked → ℕ → Reply → S → Type 0) (starves : S → S → Type 0)
     (clock clock' : C) (world world' : S) (left left' held held' : Option (List ℕ)) (last : List ℕ) : Type 0 where
   pub received : List ℕ

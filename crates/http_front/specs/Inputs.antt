@@ -20,19 +20,26 @@ Kept (Ok x) P = P
 Kept (Err NoMemory) P = Unit {0}
 Kept (Err fault) P = P
 
--- the reader gave some bytes, and they were put behind the others, unless there was no memory for them
+-- the reader gave some bytes, and they were put after the others, unless memory ran out
 pub record Fills {T : Type 0} (result : Result T FrontFault) (left left' : Option (List ℕ)) (bytes bytes' : List ℕ) : Type 0 where
   pub more : List ℕ
   pub consumed : Consumes left left' more
   pub kept : Kept result (bytes' ≡ bytes ++ more)
 
--- each turn gave a byte, where it was no read that found the end
+-- the reader gave so many bytes, and they were put after the others
+pub record Gives (left left' : Option (List ℕ)) (bytes bytes' : List ℕ) (count : ℕ) : Type 0 where
+  pub more : List ℕ
+  pub consumed : Consumes left left' more
+  pub kept : bytes' ≡ bytes ++ more
+  pub size : length more ≡ count
+
+-- each turn that was taken gave a byte; after a fault other than `Turns` nothing is said
 abbrev pub Spends : {T : Type 0} → Result T FrontFault → ℕ → ℕ → ℕ → Type 0
 Spends (Ok x) turns turns' count = turns ≤ turns' + count
 Spends (Err Turns) turns turns' count = turns ≤ count
 Spends (Err fault) turns turns' count = Unit {0}
 
--- at most 8,192 bytes came for each turn that was used, and where it broke off for each that was left before
+-- at most 8,192 bytes came for each turn that was used, or, if the reading broke off, for each turn that was left before
 abbrev pub Within : {T : Type 0} → Result T FrontFault → ℕ → ℕ → ℕ → Type 0
 Within (Ok x) turns turns' count = count + turns' * 8192 ≤ turns * 8192
 Within (Err Write) turns turns' count = Unit {0}
@@ -51,14 +58,14 @@ Awaits (Err fault) buffer = (head_len buffer ≡ None) × (length buffer ≤ hea
 abbrev pub called : Form → List ℕ → Call
 called form body = record { request = with_body form body; verb = form.ask.signing.verb; closes = form.closes }
 
--- what the body of a head that stands at the front came to
+-- the result of reading the body of a head that is at the front
 abbrev pub Takes-body : Result (List ℕ) FrontFault → Form → ℕ → List ℕ → List ℕ → Type 0
 Takes-body (Ok body) form count bytes rest = HasRequest bytes form body rest
 Takes-body (Err NoMemory) form count bytes rest = HasHead bytes count form
 Takes-body (Err Write) form count bytes rest = Unit {0}
 Takes-body (Err fault) form count bytes rest = IsCutBody bytes form
 
--- the interim reply was written where it is asked for, and these bytes came while the body was awaited
+-- the interim reply was written if it is asked for, and these bytes came while the body was awaited
 pub record Bodies (result : Result (List ℕ) FrontFault) (form : Form) (count : ℕ) (left left' held held' : Option (List ℕ)) (buffer buffer' : List ℕ) (turns turns' : ℕ) : Type 0 where
   pub more : List ℕ
   pub consumed : Consumes left left' more
@@ -73,7 +80,7 @@ Joins form (Ok body) (Ok found) = found ≡ Some (Founds.Called (called form bod
 Joins form (Ok body) (Err fault) = fault ≡ NoMemory
 Joins form (Err fault) result = result ≡ Err fault
 
--- what stands at the front, what follows it, and what was written before its answer
+-- what is at the front, what follows it, and what was written before its answer
 abbrev pub Finds : Result (Option Found) FrontFault → List ℕ → List ℕ → List ℕ → Type 0
 Finds (Ok None) bytes rest written = (bytes ≡ []) × (written ≡ [])
 Finds (Ok (Some (Founds.Called call))) bytes rest written =
@@ -83,14 +90,14 @@ Finds (Err Write) bytes rest written = Unit {0}
 Finds (Err NoMemory) bytes rest written = (written ≡ []) ⊎ ((form : Form) × (count : ℕ) × HasHead bytes count form × (written ≡ interim form))
 Finds (Err fault) bytes rest written = (tail : Tail) × EndsIn bytes tail × (written ≡ tail_bytes tail)
 
--- it says of turns what `Spends` does, and nothing where the stream ended
+-- this says of turns what `Spends` does, and nothing if the stream ended
 abbrev pub Spends-item : Result (Option Found) FrontFault → ℕ → ℕ → ℕ → Type 0
 Spends-item (Ok (Some found)) turns turns' count = turns ≤ turns' + count
 Spends-item (Ok None) turns turns' count = Unit {0}
 Spends-item (Err Turns) turns turns' count = turns ≤ count
 Spends-item (Err fault) turns turns' count = Unit {0}
 
--- these bytes came, with them this stands at the front, and this was written before its answer
+-- these bytes came; with them, this is at the front; and this was written before its answer
 pub record Takes (result : Result (Option Found) FrontFault) (left left' held held' : Option (List ℕ)) (buffer buffer' : List ℕ) (turns turns' : ℕ) : Type 0 where
   pub more : List ℕ
   pub consumed : Consumes left left' more

@@ -1,9 +1,9 @@
--- Where a clause tells something of a fault.
+-- The faults of which a clause says something.
 use Rattle.std.specs.Prelude.{Result, Ok, Err}
 use Rattle.http_front.specs.declared.end.FrontFault.{FrontFault}
 use Rattle.http_front.specs.declared.end.FrontFault.TheVariants.{Read, Write, Turns, NoMemory}
 
--- it holds unless the writer failed, behind which nothing is known of what it holds
+-- it holds unless the writer failed: after that nothing is known of what the writer holds
 abbrev pub Told : {T : Type 0} → Result T FrontFault → Type 0 → Type 0
 Told (Ok x) P = P
 Told (Err Read) P = P
@@ -11,7 +11,7 @@ Told (Err Turns) P = P
 Told (Err Write) P = Unit {0}
 Told (Err NoMemory) P = P
 
--- it holds where neither the writer failed nor memory ran out
+-- it holds unless the writer failed or memory ran out
 abbrev pub Served : {T : Type 0} → Result T FrontFault → Type 0 → Type 0
 Served (Ok x) P = P
 Served (Err Read) P = P

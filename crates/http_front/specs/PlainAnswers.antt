@@ -64,11 +64,11 @@ held_first keys t = record { keys = keys; world = one_part (record { account = k
 abbrev pub held_of : HeldRows → Held
 held_of h = record { keys = h.keys; world = world_value held h.rows }
 
--- the refusal of a request that is permitted, read off the sizes that rows say
+-- the refusal of a request that is permitted, by the sizes of what the rows hold
 abbrev pub object_or_unserved : Part (List Piece) → Asked → Option Refusal
 object_or_unserved p q = option_or (object_refusal (part_value pieces_len p) q) (unserved_refusal q.ask.op)
 
--- the refusal of a request, read off the sizes that the rows say
+-- the refusal of a request, by the sizes of what the rows hold
 abbrev pub row_refusal : HeldRows → Asked → ℕ → Option Refusal
 row_refusal h q t = refusal (Some h.keys) (part_value pieces_len (part_at h.rows q.ask.key)) q t
 

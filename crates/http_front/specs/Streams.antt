@@ -18,7 +18,7 @@ pub data Item : Type 0 where
 abbrev pub refusal_of : Denial → Refusal
 refusal_of denial = record { rule = denial.rule; code = denial.code }
 
--- where a stream stops behind its last item
+-- where a stream stops after its last item
 pub data Tail : Type 0 where
   AtStart : Tail
   Closing : Tail
@@ -43,12 +43,12 @@ pub record HasRefused (bytes : List ℕ) (denial : Denial) : Type 0 where
   pub ends : head_len bytes ≡ Some count
   pub refused : Refuses (take count bytes) denial
 
--- more bytes have come than a head may have, and none has ended
+-- more bytes have come than a head may have, and no head has ended
 pub record IsTooLong (bytes : List ℕ) : Type 0 where
   pub «open» : head_len bytes ≡ None
   pub long : head_limit < length bytes
 
--- the item stands at the front; of a request it is said what follows it
+-- the item is at the front; if it is a request, these bytes follow it
 abbrev pub Begins : List ℕ → Item → List ℕ → Type 0
 Begins bytes (Requested form body) rest = HasRequest bytes form body rest
 Begins bytes (Refused denial) rest = HasRefused bytes denial ⊎ (IsTooLong bytes × (denial ≡ no_head))
@@ -70,14 +70,14 @@ pub record IsCutBody (bytes : List ℕ) (form : Form) : Type 0 where
   pub head : HasHead bytes count form
   pub short : length (drop count bytes) < form.body_len
 
--- no item stands at the front, and the stream stops so
+-- no item is at the front, and the stream stops so
 abbrev pub EndsIn : List ℕ → Tail → Type 0
 EndsIn bytes AtStart = bytes ≡ []
 EndsIn bytes Closing = ⊥
 EndsIn bytes InHead = IsCutHead bytes
 EndsIn bytes (InBody form) = IsCutBody bytes form
 
--- behind an item that closes nothing is read; behind another what is left says more
+-- after an item that closes, nothing is read; after another item, what is left says more
 abbrev pub Goes-on : Bool → List Item → Tail → Type 0 → Type 0
 Goes-on true items tail more = (items ≡ []) × (tail ≡ Closing)
 Goes-on false items tail more = more
@@ -87,12 +87,12 @@ abbrev pub Reads : List ℕ → List Item → Tail → Type 0
 Reads bytes [] tail = EndsIn bytes tail
 Reads bytes (item ∷ items) tail = (rest : List ℕ) × Begins bytes item rest × Goes-on (item_closes item) items tail (Reads rest items tail)
 
--- the items stand at the front in turn, none of them closes, and these bytes follow
+-- the items are at the front in this order, none of them closes, and these bytes follow
 abbrev pub Reads-front : List ℕ → List Item → List ℕ → Type 0
 Reads-front bytes [] rest = rest ≡ bytes
 Reads-front bytes (item ∷ items) rest = (next : List ℕ) × Begins bytes item next × (item_closes item ≡ false) × Reads-front next items rest
 
--- what is written before the body of a request that waits for it
+-- what is written before the body of a request comes: the interim reply, if the head asks for it
 unfoldable pub interim : Form → List ℕ
 interim form = if form.expects then interim_bytes else []
 

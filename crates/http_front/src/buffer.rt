@@ -1,42 +1,78 @@
 //! Bytes that came and are not taken yet.
-ghost use Rattle.std.specs.Prelude.{◌≡◌, ◌↔◌, ◌*◌, ◌≤◌, [], ◌++◌, IsTrue, OnOk, OnErr, length, drop};
+ghost use Rattle.std.specs.Prelude.{◌≡◌, ◌≢◌, ◌↔◌, ◌+◌, ◌-◌, ◌*◌, ◌≤◌, [], IsTrue, Ok, Err, IfOk, OnOk, IfErr, OnErr, IsOkUnless, length, take, drop};
+ghost use Rattle.std.specs.Io.KnownBytes.{Consumes, IsAtEnd};
+ghost use Rattle.http_front.specs.Inputs.{Gives};
+ghost use Rattle.http_front.specs.declared.end.FrontFault.{FrontFault};
 
+use crate::end::FrontFault;
 use std::alloc::{AllocError, Global};
+use std::io::Read;
 use std::marker::Model;
+
+/// The most bytes that one read asks for.
+const READ_SIZE: usize = 8192;
 
 /// Bytes in the order in which they came, seen as the list of those that are not taken yet.
 ///
-/// Taking moves none of them: a place goes on. Before more come they are moved to the front, where at least as many were
-/// taken as are left. So no more bytes are moved than were taken, and those that were take at most half of the room then.
+/// They are read straight into the room of the buffer, which is kept from one read to the next and is filled with zeros
+/// only once. To take bytes moves none of them: only a place advances. Before more bytes come, those that are left are moved
+/// to the front if at least as many bytes of the room are before them. So no more bytes are moved than were taken.
 #[derive(Drop)]
 pub(crate) struct Buffer {
-    bytes: Vec<u8>,
+    room: Vec<u8>,
     start: usize,
+    end: usize,
 }
 
 impl Model for Buffer {
-    ghost use Rattle.std.specs.Prelude.{List, ℕ, ◌≤◌, length, drop};
+    ghost use Rattle.std.specs.Prelude.{List, ℕ, ◌≤◌, length, slice_range};
 
     ghost Value = { List ℕ };
 
-    ghost view = { λ b. drop b.start b.bytes.items };
+    ghost view = { λ b. slice_range b.room.items b.start b.end };
 
-    ghost invariant = { λ b. b.start ≤ length b.bytes.items };
+    ghost invariant = { λ b. (b.start ≤ b.end) × (b.end ≤ length b.room.items) };
 }
 
-// Moves what stands behind the first `start` bytes to the front, where those are at least as many, and says where it begins then.
-fn settle(bytes: &mut Vec<u8>, start: usize) -> usize
-    requires { start ≤ length bytes.old.items }
-    ensures kept { drop result bytes.new.items ≡ drop start bytes.old.items }
-    ensures room { 2 * result ≤ length bytes.new.items }
+// Moves the bytes from `start` up to `end` to the front, if at least as many are before them, and says where they begin then.
+fn settle(room: &mut Vec<u8>, start: usize, end: usize) -> usize
+    requires ordered { start ≤ end }
+    requires within { end ≤ length room.old.items }
+    ensures kept { take (end - start) (drop result room.new.items) ≡ take (end - start) (drop start room.old.items) }
+    ensures within { result + (end - start) ≤ length room.new.items }
 {
-    let left = bytes.len() - start;
-    if start < left {
+    if start < end - start {
         return start;
     }
-    bytes.copy_within(start.., 0);
-    bytes.truncate(left);
+    room.copy_within(start..end, 0);
     0
+}
+
+// Makes the room as long as `len`, if it is shorter.
+fn grow(room: &mut Vec<u8>, len: usize) -> Result<(), AllocError>
+    ensures kept { take (length room.old.items) room.new.items ≡ room.old.items }
+    ensures len { OnOk result (len ≤ length room.new.items) }
+{
+    if room.len() < len {
+        room.resize(len, 0)?;
+    }
+    Ok(())
+}
+
+// One read into the room from a place on.
+fn read_at<R: Read>(reader: &mut R, room: &mut Vec<u8>, at: usize) -> Result<usize, FrontFault>
+    requires { at + 8192 ≤ length room.old.items }
+    ensures kept { take at room.new.items ≡ take at room.old.items }
+    ensures len { length room.new.items ≡ length room.old.items }
+    ensures most { IfOk result (λ n. n ≤ 8192) }
+    ensures read { IfOk result (λ n. Consumes (R.remaining reader.old) (R.remaining reader.new) (take n (drop at room.new.items))) }
+    ensures failed { OnErr result (Consumes (R.remaining reader.old) (R.remaining reader.new) []) }
+    ensures end { result ≡ Ok 0 → IsAtEnd (R.remaining reader.new) }
+    ensures fault { IsOkUnless result FrontFault.Read }
+{
+    reader
+        .read(&mut room[at..at + READ_SIZE])
+        .map_err(|_| FrontFault::Read)
 }
 
 impl Buffer {
@@ -45,8 +81,9 @@ impl Buffer {
         ensures { result ≡ [] }
     {
         Self {
-            bytes: Vec::new(alloc),
+            room: Vec::new(alloc),
             start: 0,
+            end: 0,
         }
     }
 
@@ -54,14 +91,14 @@ impl Buffer {
     pub(crate) fn as_slice(&self) -> &[u8]
         ensures { result.now ≡ self.now }
     {
-        &self.bytes[self.start..]
+        &self.room[self.start..self.end]
     }
 
     /// How many bytes there are.
     pub(crate) fn len(&self) -> usize
         ensures { result ≡ length self.now }
     {
-        self.bytes.len() - self.start
+        self.end - self.start
     }
 
     /// Whether there is no byte.
@@ -71,19 +108,35 @@ impl Buffer {
         self.len() == 0
     }
 
-    /// Puts a copy of `piece` behind the bytes.
+    /// Reads at most 8,192 bytes and puts them after the bytes. Says how many came.
     ///
-    /// `AllocError` where there is no memory for more room. The bytes are those from before then.
-    pub(crate) fn push(&mut self, piece: &[u8]) -> Result<(), AllocError>
-        ensures pushed { OnOk result (self.new ≡ self.old ++ piece.now) }
-        ensures refused { OnErr result (self.new ≡ self.old) }
+    /// `FrontFault::NoMemory` if memory runs out before the read, and `FrontFault::Read` if the reader fails. The bytes are
+    /// then as they were.
+    #[tactic(auto, using(crate::proofs::BufferLemmas::range_kept, crate::proofs::BufferLemmas::none_came))]
+    pub(crate) fn read_from<R: Read>(&mut self, reader: &mut R) -> Result<usize, FrontFault>
+        ensures gives { IfOk result (Gives (R.remaining reader.old) (R.remaining reader.new) self.old self.new) }
+        ensures len { IfOk result (λ n. (n ≤ 8192) × (length self.new ≡ length self.old + n)) }
+        ensures end { result ≡ Ok 0 → IsAtEnd (R.remaining reader.new) × (self.new ≡ self.old) }
+        ensures failed { OnErr result (Consumes (R.remaining reader.old) (R.remaining reader.new) [] × (self.new ≡ self.old)) }
+        ensures fault { IfErr result (λ fault. (fault ≢ FrontFault.Write) × (fault ≢ FrontFault.Turns)) }
     {
-        self.start = settle(&mut self.bytes, self.start);
-        self.bytes.extend_from_slice(piece)?;
-        Ok(())
+        let left = self.end - self.start;
+        self.start = settle(&mut self.room, self.start, self.end);
+        self.end = self.start + left;
+        if grow(&mut self.room, self.end + READ_SIZE).is_err() {
+            return Err(FrontFault::NoMemory);
+        }
+        match read_at(reader, &mut self.room, self.end) {
+            Ok(n) => {
+                self.end += n;
+                Ok(n)
+            }
+            Err(fault) => Err(fault),
+        }
     }
 
     /// Takes so many bytes off the front.
+    #[tactic(auto, using(crate::proofs::BufferLemmas::range_skipped))]
     pub(crate) fn skip(&mut self, count: usize)
         requires { count ≤ length self.old }
         ensures { self.new ≡ drop count self.old }

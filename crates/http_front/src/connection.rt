@@ -88,7 +88,7 @@ fn answer_call<W: Write, S: Service>(
     send_reply(alloc, writer, &reply, moment, Some(verb), closes)
 }
 
-// Says at a moment how a head is refused.
+// Writes the reply to a refused head at a moment.
 fn answer_denial<W: Write>(
     alloc: Global,
     writer: &mut W,
@@ -107,7 +107,7 @@ fn answer_denial<W: Write>(
     send_reply(alloc, writer, &reply, moment, denial.verb, true)
 }
 
-// Answers an item at the one moment that the clock gives for it, and says whether it ends the connection.
+// Answers an item at the one moment that the clock gives for it, and returns whether the item ends the connection.
 fn answer_item<W: Write, C: Clock, S: Service>(
     alloc: Global,
     writer: &mut W,
@@ -166,10 +166,10 @@ fn converse<R: Read, W: Write, C: Clock, S: Service>(
     }
 }
 
-/// Serves one connection: reads, answers and writes until it ends. One read asks for at most 8,192 bytes; `turns` is how
-/// many reads are made at most, that which finds the end among them.
+/// Serves one connection: reads, answers and writes until it ends. One read asks for at most 8,192 bytes. At most `turns`
+/// reads are made, and the read that finds the end is one of them.
 ///
-/// The clock is read once for each item, when it is whole. Where there is no memory for a head, an answer or a reply, nothing
+/// The clock is read once for each item, when the item is whole. If memory runs out for a head, an answer or a reply, nothing
 /// of that reply is written but the fixed bytes that say so, and the run ends with `NoMemory`.
 pub fn run<R: Read, W: Write, C: Clock, S: Service>(
     alloc: Global,
@@ -179,14 +179,14 @@ pub fn run<R: Read, W: Write, C: Clock, S: Service>(
     service: &mut S,
     turns: u64,
 ) -> Result<End, FrontFault>
-    // What is written is the output of the service's replies to the items of what was read, each at its moment.
+    // What is written is the output of the service's replies to the items of the bytes that were read, each at its moment.
     ensures conversed { Served result (Conversed C.gives S.answers clock.old clock.new (S.world service.old) (S.world service.new)
         (R.remaining reader.old) (R.remaining reader.new) (W.contents writer.old) (W.contents writer.new) result turns) }
-    // It is that of the whole input, however it was cut into reads.
+    // It is the output for the whole input, however reads cut that input.
     ensures whole { OnOk result (IfSome (R.remaining reader.old) (Converses C.gives S.answers clock.old clock.new
         (S.world service.old) (S.world service.new) (W.contents writer.old) (W.contents writer.new) result turns)) }
-    // If memory ran out, the items before are answered in full, and what is said last is that alone. Clock and service are as the
-    // last of those items left them, or as the item left them whose answer was not written.
+    // If memory ran out, the items before that are answered in full, and the last bytes say only that memory ran out. Clock and
+    // service are as the last of those items left them, or as the item whose answer was not written left them.
     ensures starved { result ≡ Err FrontFault.NoMemory → Starved C.gives S.answers S.starves clock.old clock.new
         (S.world service.old) (S.world service.new) (R.remaining reader.old) (R.remaining reader.new)
         (W.contents writer.old) (W.contents writer.new) out_of_memory_bytes }

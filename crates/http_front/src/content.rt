@@ -8,7 +8,7 @@ use range_rows::{Answer, Span};
 use stamp_types::{Piece, Reply, Shares};
 use std::alloc::AllocError;
 
-// Puts the bytes of the spans after those of the body, and copies none. A piece that is a place in a stream holds none.
+// Puts the bytes of the spans after those of the body, without a copy. A piece that is a place in a stream holds no bytes.
 fn push_spans(body: &mut Shares, spans: &[Span]) -> Result<(), AllocError>
     requires within { IsTrue (list_all is_within spans.now) }
     requires short { length (body.old ++ bytes_held spans.now) < 2 ^ 64 }
@@ -26,7 +26,7 @@ fn push_spans(body: &mut Shares, spans: &[Span]) -> Result<(), AllocError>
 
 /// The reply of an answer: its frame with the bytes of its spans, which are held in memory.
 ///
-/// `AllocError` if there is no memory for the list of shares, or an allocation can have no further owner.
+/// `AllocError` if memory runs out for the list of shares, or if an allocation can have no further owner.
 pub(crate) fn reply_with_content(answer: Answer) -> Result<Reply, AllocError>
     requires within { IsTrue (list_all is_within answer.spans) }
     requires short { length (answer.frame.body ++ bytes_held answer.spans) < 2 ^ 64 }

@@ -1,30 +1,31 @@
 //! Where the head of a request ends.
-ghost use Rattle.std.specs.Prelude.{◌≡◌, None};
+ghost use Rattle.std.specs.Prelude.{◌≡◌, ◌≢◌, ◌∷◌, ◌++◌, None, Some, All, MatchOption};
 ghost use Rattle.http_front.specs.HeadEnds.{step, sought, head_len, IsSearched};
 
+use memchr::memchr;
 use request_form::HEAD_LIMIT;
 
 /// A place in a head.
 #[derive(Clone, Copy, Debug, PartialEq, Eq)]
 pub(crate) enum Place {
-    /// At the start of a line, where all lines so far are empty.
+    /// At the start of a line, and all lines so far are empty.
     Opening,
-    /// Behind a CR there.
+    /// After a CR at such a place.
     OpeningReturn,
     /// In a line that isn't empty.
     InLine,
-    /// At the start of a line behind one that isn't empty.
+    /// At the start of a line, after a line that isn't empty.
     LineStart,
-    /// Behind a CR there.
+    /// After a CR at such a place.
     LineReturn,
 }
 
-/// What the bytes from a place on say.
+/// What a search of the bytes from a place on finds.
 #[derive(Clone, Copy, Debug, PartialEq, Eq)]
 pub(crate) enum Sought {
-    /// The head ends with so many of them.
+    /// The head ends after so many of them.
     Found(usize),
-    /// It does not end, and they lead to this place.
+    /// The head does not end in them, and they lead to this place.
     Open(Place),
 }
 
@@ -35,41 +36,70 @@ pub(crate) struct Search {
     place: Place,
 }
 
-// Where a byte leads.
-fn step(place: Place, b: u8) -> Option<Place>
-    ensures { result ≡ step place b }
+// Where a byte other than LF leads.
+fn after_byte(place: Place, b: u8) -> Place
+    requires { b ≢ 10 }
+    ensures { step place b ≡ Some result }
 {
     match (place, b) {
-        (Place::Opening, b'\n') => Some(Place::Opening),
-        (Place::Opening, b'\r') => Some(Place::OpeningReturn),
-        (Place::OpeningReturn, b'\n') => Some(Place::Opening),
-        (Place::InLine, b'\n') => Some(Place::LineStart),
-        (Place::LineStart | Place::LineReturn, b'\n') => None,
-        (Place::LineStart, b'\r') => Some(Place::LineReturn),
-        (_, _) => Some(Place::InLine),
+        (Place::Opening, b'\r') => Place::OpeningReturn,
+        (Place::LineStart, b'\r') => Place::LineReturn,
+        (_, _) => Place::InLine,
     }
 }
 
-/// Looks for the end from a place on.
+// Where the LF of a line leads, or `None` if the head ends with it.
+fn after_feed(place: Place) -> Option<Place>
+    ensures { result ≡ step place 10 }
+{
+    match place {
+        Place::Opening | Place::OpeningReturn => Some(Place::Opening),
+        Place::InLine => Some(Place::LineStart),
+        Place::LineStart | Place::LineReturn => None,
+    }
+}
+
+// Where bytes of one line lead. None of them is its LF.
+#[tactic(auto, using(crate::proofs::LineLemmas::text_none, crate::proofs::LineLemmas::text_one, crate::proofs::LineLemmas::text_more))]
+fn after_text(place: Place, text: &[u8]) -> Place
+    requires { All (λ b. b ≢ 10) text.now }
+    ensures { sought place text.now ≡ Sought.Open result }
+{
+    match text {
+        [] => place,
+        [b] => after_byte(place, *b),
+        [..] => Place::InLine,
+    }
+}
+
+// The bytes up to the first LF and those after it, or `None` if there is no LF.
+fn split_line(bytes: &[u8]) -> Option<(&[u8], &[u8])>
+    ensures { MatchOption result (All (λ b. b ≢ 10) bytes.now)
+        (λ parts. All (λ b. b ≢ 10) parts.0.now × (bytes.now ≡ parts.0.now ++ 10 ∷ parts.1.now)) }
+{
+    let end = memchr(b'\n', bytes)?;
+    Some((&bytes[..end], &bytes[end + 1..]))
+}
+
+/// Looks for the end of the head from a place on, line by line.
+#[tactic(auto, using(crate::proofs::LineLemmas::walk_found, crate::proofs::LineLemmas::walk_on, crate::proofs::LineLemmas::walk_within))]
 pub(crate) fn seek(start: Place, bytes: &[u8]) -> Sought
     ensures { result ≡ sought start bytes.now }
 {
     let mut place = start;
-    let mut seen = 0;
     let mut left = bytes;
-    while let [b, rest @ ..] = left {
-        match step(place, *b) {
-            None => return Sought::Found(seen + 1),
+    while let Some((line, rest)) = split_line(left) {
+        match after_feed(after_text(place, line)) {
+            None => return Sought::Found(bytes.len() - rest.len()),
             Some(next) => place = next,
         }
-        seen += 1;
         left = rest;
     }
-    Sought::Open(place)
+    Sought::Open(after_text(place, left))
 }
 
 impl Search {
-    /// Nothing is searched.
+    /// A search that has not begun.
     pub(crate) fn new() -> Self
         ensures { result ≡ record { reached = 0; place = Place.Opening } }
     {
@@ -79,7 +109,7 @@ impl Search {
         }
     }
 
-    /// How many bytes the head has, where it ends in the bytes and isn't too long. Looks at those alone that
+    /// How many bytes the head has, if it ends in the bytes and isn't too long. Looks only at the bytes that
     /// were not there before.
     pub(crate) fn look(&mut self, bytes: &[u8]) -> Option<usize>
         requires { IsSearched self.old bytes.now }

@@ -1,8 +1,8 @@
 //! Reads one item of a stream at a time.
-ghost use Rattle.std.specs.Prelude.{◌≡◌, ◌≢◌, true, false, None, Some, ℕ, ◌+◌, ◌*◌, ◌<◌, ◌≤◌, [], ◌++◌, Ok, Err, IfOk, OnOk, IfErr, IsOkUnless, length, take, drop};
+ghost use Rattle.std.specs.Prelude.{◌≡◌, ◌≢◌, true, false, None, Some, ℕ, ◌+◌, ◌*◌, ◌<◌, ◌≤◌, [], ◌++◌, Ok, Err, IfOk, OnOk, IfErr, OnErr, IsOkUnless, length, take, drop};
 ghost use Rattle.std.specs.Io.KnownBytes.{Consumes, Appends, IsAtEnd};
 ghost use Rattle.request_form.specs.HeadForms.{Form, with_body};
-ghost use Rattle.http_front.specs.Inputs.{Fills, Awaits, Bodies, Joins, Takes};
+ghost use Rattle.http_front.specs.Inputs.{Fills, Gives, Awaits, Bodies, Joins, Takes};
 ghost use Rattle.http_front.specs.Outcomes.{Told, Served};
 ghost use Rattle.http_front.specs.Streams.{HasHead, interim};
 ghost use Rattle.http_front.specs.declared.end.FrontFault.{FrontFault};
@@ -20,15 +20,12 @@ use stamp_types::{Gathering, Request, Verb};
 use std::alloc::{AllocError, Global};
 use std::io::{Read, Write};
 
-/// The most bytes that one read asks for.
-const READ_SIZE: usize = 8192;
-
-/// What came of waiting for a head.
+/// The result of waiting for a head.
 pub(crate) enum Awaited {
-    /// A head of so many bytes stands at the front.
+    /// A head of so many bytes is at the front.
     Head(usize),
     TooLong,
-    /// Nothing stands there, and nothing will come.
+    /// No byte is there, and none will come.
     End,
 }
 
@@ -47,21 +44,22 @@ pub(crate) enum Found {
     Refused(Denial),
 }
 
-// One read. What was written goes out before it, since the client may wait for that.
-fn read_piece<R: Read, W: Write>(
+// Reads once into the buffer, and says how many bytes came. What was written goes out before the read, since the client may
+// wait for it.
+fn read_more<R: Read, W: Write>(
     reader: &mut R,
     writer: &mut W,
-    piece: &mut [u8],
+    buffer: &mut Buffer,
     turns: &mut u64,
 ) -> Result<usize, FrontFault>
-    ensures within { IfOk result (λ n. n ≤ length piece.new) }
-    ensures read { IfOk result (λ n. Consumes (R.remaining reader.old) (R.remaining reader.new) (take n piece.new)) }
+    ensures gives { IfOk result (Gives (R.remaining reader.old) (R.remaining reader.new) buffer.old buffer.new) }
+    ensures len { IfOk result (λ n. (n ≤ 8192) × (length buffer.new ≡ length buffer.old + n)) }
+    ensures end { result ≡ Ok 0 → IsAtEnd (R.remaining reader.new) × (buffer.new ≡ buffer.old) }
     ensures failed { IfErr result (λ _. Told result (Consumes (R.remaining reader.old) (R.remaining reader.new) [])) }
-    ensures end { result ≡ Ok 0 → 0 < length piece.old → IsAtEnd (R.remaining reader.new) }
+    ensures refused { OnErr result (buffer.new ≡ buffer.old) }
     ensures held { Told result (Appends (W.contents writer.old) (W.contents writer.new) []) }
     ensures turn { OnOk result (turns.new + 1 ≡ turns.old) }
     ensures exhausted { result ≡ Err FrontFault.Turns → turns.old ≡ 0 }
-    ensures memory { result ≢ Err FrontFault.NoMemory }
 {
     if *turns == 0 {
         return Err(FrontFault::Turns);
@@ -70,7 +68,7 @@ fn read_piece<R: Read, W: Write>(
         return Err(FrontFault::Write);
     }
     *turns -= 1;
-    reader.read(piece).map_err(|_| FrontFault::Read)
+    buffer.read_from(reader)
 }
 
 // One read into the buffer, and whether it gave a byte.
@@ -89,13 +87,11 @@ fn fill<R: Read, W: Write>(
     ensures turn { OnOk result (turns.new + 1 ≡ turns.old) }
     ensures exhausted { result ≡ Err FrontFault.Turns → turns.old ≡ 0 }
 {
-    let mut piece = [0; READ_SIZE];
-    let n = read_piece(reader, writer, &mut piece, turns)?;
-    buffer.push(&piece[..n])?;
+    let n = read_more(reader, writer, buffer, turns)?;
     Ok(n > 0)
 }
 
-// Reads until a head is whole, or there can be none. Each byte is looked at once, however they come.
+// Reads until a head is whole, or there can be none. No byte is searched twice, however they come.
 fn await_head<R: Read, W: Write>(
     reader: &mut R,
     writer: &mut W,
@@ -130,22 +126,18 @@ fn await_head<R: Read, W: Write>(
     }
 }
 
-// Gives a body the front of a piece, as much as it misses, and the buffer the rest.
-fn deal(
-    body: &mut Gathering,
-    buffer: &mut Buffer,
-    piece: &[u8],
-    missing: u64,
-) -> Result<(), AllocError>
-    ensures body { OnOk result (body.new ≡ body.old ++ take missing piece.now) }
-    ensures rest { OnOk result (buffer.new ≡ buffer.old ++ drop missing piece.now) }
+// Gives a body the front of the buffer, as much as it misses.
+fn deal(body: &mut Gathering, buffer: &mut Buffer, missing: u64) -> Result<(), AllocError>
+    ensures body { OnOk result (body.new ≡ body.old ++ take missing buffer.old) }
+    ensures rest { OnOk result (buffer.new ≡ drop missing buffer.old) }
 {
-    let here = missing.min(piece.len() as u64) as usize;
-    body.push(&piece[..here])?;
-    buffer.push(&piece[here..])
+    let here = missing.min(buffer.len() as u64) as usize;
+    body.push(&buffer.as_slice()[..here])?;
+    buffer.skip(here);
+    Ok(())
 }
 
-// One read for the body, and whether it gave a byte. What comes behind the body waits in the buffer.
+// One read for the body, and whether it gave a byte. What comes after the body waits in the buffer.
 fn gather<R: Read, W: Write>(
     reader: &mut R,
     writer: &mut W,
@@ -168,9 +160,8 @@ fn gather<R: Read, W: Write>(
     ensures turn { OnOk result (turns.new + 1 ≡ turns.old) }
     ensures exhausted { result ≡ Err FrontFault.Turns → turns.old ≡ 0 }
 {
-    let mut piece = [0; READ_SIZE];
-    let n = read_piece(reader, writer, &mut piece, turns)?;
-    deal(body, buffer, &piece[..n], missing)?;
+    let n = read_more(reader, writer, buffer, turns)?;
+    deal(body, buffer, missing)?;
     Ok(n > 0)
 }
 
@@ -206,7 +197,7 @@ fn await_body<R: Read, W: Write>(
     }
 }
 
-// Takes the head off the front, and what is there of its body. The body gets its whole room here, so that it is never moved.
+// Takes the head, and what is there of its body, off the front. The body gets its whole room here, so it is never moved.
 fn take_start(
     alloc: Global,
     buffer: &mut Buffer,
@@ -225,7 +216,7 @@ fn take_start(
     Ok(body)
 }
 
-// Writes the interim reply where the head asks for it (RFC 9110, section 10.1.1).
+// Writes the interim reply if the head asks for it (RFC 9110, section 10.1.1).
 #[tactic(auto, unfolding(crate::specs::Streams::interim))]
 fn send_interim<W: Write>(writer: &mut W, head: &Head) -> Result<(), FrontFault>
     ensures sent { OnOk result (Appends (W.contents writer.old) (W.contents writer.new) (interim head.now)) }
@@ -238,7 +229,7 @@ fn send_interim<W: Write>(writer: &mut W, head: &Head) -> Result<(), FrontFault>
     }
 }
 
-// Reads the body of a head that stands at the front, and takes both off.
+// Reads the body of a head that is at the front, and takes both off.
 fn read_body<R: Read, W: Write>(
     alloc: Global,
     reader: &mut R,
@@ -274,7 +265,7 @@ fn request_of(alloc: Global, head: Head, body: Gathering) -> Result<Request, Fro
     }
 }
 
-// What a head and its body are found to be, where the body came.
+// What a head and its body are found to be, if the body came.
 fn join(
     alloc: Global,
     head: Head,
@@ -297,7 +288,7 @@ fn join(
     })))
 }
 
-/// Reads the next item, and takes a request off the buffer. `None` where the stream ended before it.
+/// Reads the next item, and takes a request off the buffer. `None` if the stream ended before an item.
 pub(crate) fn next_item<R: Read, W: Write>(
     alloc: Global,
     reader: &mut R,

@@ -32,13 +32,13 @@ pub struct Plain {
     rows: Rows,
 }
 
-/// Why there is no such service.
+/// Why the service could not be made.
 #[derive(Clone, Copy, Debug, PartialEq, Eq, Error)]
 pub enum PlainFault {
     /// The keys are those of a name that no account can have.
     #[error("the account has no good name")]
     Account,
-    /// There was no memory for the rows.
+    /// Memory ran out.
     #[error("out of memory")]
     NoMemory,
 }
@@ -60,7 +60,7 @@ impl Model for Plain {
 
     ghost view = { λ p. record { keys = p.keys; rows = p.rows } };
 
-    // No operation opens a container so far, and permission is judged as by a closed one. Content is held in memory.
+    // No operation opens a container yet, and permission is judged as for a closed container. Content is held in memory.
     ghost invariant = { λ p. AreClosed p.rows × AreHeld p.rows };
 }
 
@@ -89,7 +89,7 @@ fn unserved_refusal(op: Op) -> Option<Refusal>
     }
 }
 
-// The container of that name of the account.
+// The key of the account's first container.
 fn first_key(alloc: Global, account: &Text) -> Result<Key, AllocError>
     ensures { IfOk result (λ key. key ≡ record { account = account.now; container = codes "pics" }) }
 {
@@ -102,10 +102,9 @@ fn first_key(alloc: Global, account: &Text) -> Result<Key, AllocError>
 }
 
 impl Plain {
-    /// The service of the keys' account, which holds one closed container, `pics`, made at the moment by the first of its
-    /// changes.
+    /// The service of the keys' account, which holds one closed container, `pics`, made at the moment by its first change.
     ///
-    /// `Account` if the keys are those of a name that no account can have, `NoMemory` if there is no memory for the rows.
+    /// `Account` if the keys are those of a name that no account can have, `NoMemory` if memory runs out.
     #[tactic(auto, using(crate::proofs::PlainLemmas::first_closed, crate::proofs::PlainLemmas::first_held))]
     pub fn new(alloc: Global, keys: Keys, moment: Moment) -> Result<Self, PlainFault>
         ensures value { IfOk result (λ plain. plain ≡ rows_first keys moment) }
@@ -139,7 +138,7 @@ impl Plain {
         }
     }
 
-    // The refusal of a request, if it has one: by permission, or else by the object, or else since it is not served.
+    // The refusal of a request, if it has one: by permission, or else by the object, or else because it is not served.
     #[tactic(auto, using(crate::proofs::PlainLemmas::refusal_denied, crate::proofs::PlainLemmas::refusal_allowed))]
     fn refusal(
         &self,
@@ -174,9 +173,7 @@ impl Plain {
         ensures refused { OnErr result (self.new ≡ self.old) }
     {
         let change = self.rows.change(alloc, request, reading, moment)?;
-        let kept = self.rows.apply(alloc, &change);
-        drop(change);
-        kept
+        self.rows.take(alloc, change)
     }
 
     // The reply to a request that nothing refuses.
@@ -196,8 +193,8 @@ impl Plain {
         reply_with_content(answer)
     }
 
-    // The reply to a request that nothing refuses, and its change. The reply comes first, so that nothing is changed if there is
-    // no memory for it.
+    // The reply to a request that nothing refuses, and its change. The reply is made first, so that nothing is changed if memory
+    // runs out for it.
     fn allowed(
         &mut self,
         alloc: Global,
@@ -247,7 +244,7 @@ impl Service for Plain {
 
     /// The reply of the model, and its change.
     ///
-    /// `AllocError` if there is no memory for the change or the reply. Nothing is changed then.
+    /// `AllocError` if memory runs out for the change or the reply. Nothing is changed then.
     fn answer(
         &mut self,
         alloc: Global,

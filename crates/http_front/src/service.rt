@@ -1,4 +1,4 @@
-//! What a connection stands between.
+//! What a connection uses: a service for replies, and a clock for moments.
 ghost use Rattle.std.specs.Prelude.{◌≡◌, ℕ, IfOk, OnErr};
 ghost use Rattle.stamp_types.specs.Requests.{Asked};
 ghost use Rattle.stamp_types.specs.declared.reply.Reply.{Reply};
@@ -16,12 +16,12 @@ pub trait Service {
     /// From the first world, this may be the reply to the request at the moment, and lead to the other world.
     ghost answers: { World → Asked → ℕ → Reply → World → Type 0 };
 
-    /// From the first world, the other may be left if memory runs out at a request.
+    /// From the first world, the service may come to the other if memory runs out at a request.
     ghost starves: { World → World → Type 0 };
 
     /// The reply to the request, which is judged at `moment`.
     ///
-    /// `AllocError` if there is no memory for the change or the reply.
+    /// `AllocError` if memory runs out for the change or the reply.
     fn answer(
         &mut self,
         alloc: Global,

@@ -30,7 +30,7 @@ no_months : (y : ℕ) → days_of_months y 0 ≡ 0
 unfolding days_of_months
 no_months y = refl
 
--- the day after comes one later
+-- the next day has the next number
 next_day : (n : ℕ) (d : CivilDate) → IsDay n d → IsDay (suc n) (next_date d)
 next_day n d h = by_tests (nat_lt d.day (days_in_month d.year d.month)) (nat_lt d.month 12) refl refl
   where
@@ -63,7 +63,7 @@ civil_date_is (suc n) = next_day n (civil_date n) (civil_date_is n)
 last_day : days_from_civil 9999 12 31 ≡ 2_932_896
 last_day = omega (arith, days_of_years_closed 8029, days_of_months_closed 9999 11 (omega arith))
 
--- no year has more than four digits, for as many days as there are
+-- below this number of days, no year has more than four digits
 pub year_bound : (n : ℕ) → n < 2_932_897 → (civil_date n).year ≤ 9999
 year_bound n h =
     let d = civil_date_is n in

@@ -1,4 +1,4 @@
--- A date of HTTP names the moment that its numbers are.
+-- A date of HTTP names the moment that its numbers give.
 use Rattle.std.proofs.Common.{◌≡◌, ◌↔◌, ℕ, ◌*◌, ◌/◌, ◌≤◌, List, Option, Some, None, Result, Ok, Err, IfOk, refl, ap, ◌∙◌, arith, inl}
 use Rattle.httpdate.specs.declared.parts.Parts.{Parts}
 use Rattle.httpdate.specs.Valid.{is_valid, parts_secs}
@@ -12,11 +12,11 @@ use Rattle.moment_text.specs.declared.fault.TimeFault.{TimeFault}
 use Rattle.moment_text.specs.declared.fault.TimeFault.TheVariants.{Form}
 use Rattle.moment_text.proofs.CivilLemmas.{parts_at_secs, parts_at_valid}
 
--- a date that is shown is read
+-- if a text shows a date, the date is read
 http_moment_complete : (text : List ℕ) (p : Parts) → IsHttpText text p → http_moment text ≡ Ok (http_ticks p)
 http_moment_complete text p h = rw (parse_complete text p h.valid h.shown, is_valid_complete p h.valid)
 
--- and what is read is shown
+-- if a date is read from a text, the text shows the date
 shown_by : (text : List ℕ) (secs : ℕ) → parse_secs text ≡ Some secs → (p : Parts) × IsHttpText text p × (parts_secs p ≡ secs)
 shown_by text secs found =
     and_then_some valid_secs (parse text) secs found λ p parsed timed.

@@ -9,11 +9,11 @@ use Rattle.moment_text.specs.Iso.{Shape, to_day, to_minute, to_second, to_fracti
 use Rattle.moment_text.specs.IsoReader.{number_of, number_at, after_byte, date_at, fraction_at, optional_fraction, with_second, with_clock, iso_time}
 use Rattle.moment_text.proofs.NumberLemmas.{passes, number_of_sound, number_of_complete, cut_number, cut_byte}
 
--- the hour and the minute, and what stands behind them
+-- the hour and the minute, and what comes after them
 abbrev clock : CivilTime → List ℕ → List ℕ
 clock p rest = 84 ∷ (digits_of 2 p.hour ++ 58 ∷ (digits_of 2 p.minute ++ rest))
 
--- what stands behind the day, grouped as it is read
+-- what comes after the day, grouped as it is read
 abbrev clock_text : Shape → CivilTime → List ℕ
 clock_text to_day p = []
 clock_text to_minute p = clock p (90 ∷ [])
@@ -29,7 +29,7 @@ iso_text_grouped (to_fraction k) p = simp append_assoc
 day_text_grouped : (p : CivilTime) (rest : List ℕ) → day_text p ++ rest ≡ digits_of 4 p.year ++ 45 ∷ (digits_of 2 p.month ++ 45 ∷ (digits_of 2 p.day ++ rest))
 day_text_grouped p rest = simp append_assoc
 
--- the text begins with the day, and the time is the start of it
+-- the text begins with the day, and the time is the start of the day
 record BeginsWithDay (t : List ℕ) (p : CivilTime) : Type 0 where
   text : t ≡ day_text p ++ drop 10 t
   fits : FitsPlaces p
@@ -70,7 +70,7 @@ record BeginsWithMinute (t : List ℕ) (p : CivilTime) : Type 0 where
   second_zero : p.second ≡ 0
   fraction_zero : p.fraction ≡ 0
 
--- the text ends behind place 19 with a point, so many digits of the fraction, and a Z
+-- from place 19 on, the text is a point, so many digits of the fraction, and a Z
 record EndsWithFraction (t : List ℕ) (f k : ℕ) : Type 0 where
   text : drop 19 t ≡ 46 ∷ (take k (digits_of 7 f) ++ 90 ∷ [])
   count : IsInRange 1 7 k
@@ -106,7 +106,7 @@ fraction_sound t f long z point e = by_test (nat_lt 28 (length t)) refl e
           fits = fits;
         }
 
--- a test that was failed
+-- if a tested option has a value, the test failed
 fails : {A : Type 0} (test : Bool) (o : Option A) (x : A) → cond test None o ≡ Some x → (test ≡ false) × (o ≡ Some x)
 fails true o x e = absurd (none-some x e)
 fails false o x e = (refl, e)
@@ -122,7 +122,7 @@ at_second p second fraction = record p { second = second; fraction = fraction }
 second_fits : (p : CivilTime) (second fraction : ℕ) → FitsPlaces p → second < 100 → fraction < 10_000_000 → FitsPlaces (at_second p second fraction)
 second_fits p second fraction fits a b = record { year_fits = fits.year_fits; month_fits = fits.month_fits; day_fits = fits.day_fits; hour_fits = fits.hour_fits; minute_fits = fits.minute_fits; second_fits = a; fraction_fits = b }
 
--- behind the second stands the Z, or a point, digits and the Z
+-- after the second comes the Z, or a point, digits and the Z
 module _ (t : List ℕ) (p : CivilTime) (second fraction : ℕ) (begins : BeginsWithMinute t p) (small : second < 100) (at16 : drop 16 t ≡ 58 ∷ (digits_of 2 second ++ drop 19 t)) (z : (get_or t (length t - 1) 0 == 90) ≡ true) where
   whole_second : length t ≡ 20 → 0 ≡ fraction → IsIsoText t to_second (at_second p second fraction)
   whole_second size none =
@@ -161,7 +161,7 @@ with_second_sound t p q long begins e =
     let written = ended_sound t p second fraction begins small (at16 ∙ ap (λ r. 58 ∷ r) at17) z long fraction_read in
     subst (IsWritten t) (same_Some _ q same) written
 
--- behind the minute stands the Z, or the second
+-- after the minute comes the Z, or the second
 minute_sound : (t : List ℕ) (p q : CivilTime) → 17 ≤ length t → BeginsWithMinute t p → cond (length t == 17) (after_byte t 16 90 (Some p)) (cond (nat_lt (length t) 20) None (with_second t p)) ≡ Some q → IsWritten t q
 minute_sound t p q long begins e = by_test (length t == 17) refl e
   where
@@ -194,7 +194,7 @@ with_clock_sound t p q long begins e =
     let fits : FitsPlaces r = record { year_fits = begins.fits.year_fits; month_fits = begins.fits.month_fits; day_fits = begins.fits.day_fits; hour_fits = hour_fits; minute_fits = minute_fits; second_fits = begins.fits.second_fits; fraction_fits = begins.fits.fraction_fits } in
     minute_sound t r q long (record { text = all; fits = fits; second_zero = begins.second_zero; fraction_zero = begins.fraction_zero }) e₂
 
--- what is read is written
+-- if a time is read from a text, the text writes the time
 pub iso_time_sound : (t : List ℕ) (p : CivilTime) → iso_time t ≡ Some p → (shape : Shape) × IsIsoText t shape p
 unfolding iso_time
 iso_time_sound t p e = by_test (length t == 10) refl e

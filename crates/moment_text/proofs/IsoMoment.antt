@@ -16,7 +16,7 @@ pub record IsIsoMoment (t : List ℕ) (r : Result ℕ TimeFault) : Type 0 where
   pub range : (r ≡ Err Range) ↔ ((shape : Shape) × (time : CivilTime) × IsIsoText t shape time × IsFalse (is_in_range time))
   pub no_memory : r ≢ Err NoMemory
 
--- no text is two times
+-- no text writes two different times
 same_time : (t : List ℕ) (p time : CivilTime) (shape : Shape) → iso_time t ≡ Some p → IsIsoText t shape time → p ≡ time
 same_time t p time shape found h = same_Some p time (sym found ∙ iso_time_complete t shape time h)
 

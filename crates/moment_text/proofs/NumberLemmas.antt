@@ -12,7 +12,7 @@ use Rattle.moment_text.specs.IsoReader.{number_behind, number_of}
 shifted : (d p v : ℕ) → ((d * (p * 10) + v) / 10 ≡ d * p + v / 10) × ((d * (p * 10) + v) % 10 ≡ v % 10)
 shifted d p v = (omega arith, omega arith)
 
--- one more digit in front
+-- one more digit before the others
 digits_of-cons : (k d v : ℕ) → d < 10 → v < 10 ^ k → digits_of (suc k) (d * 10 ^ k + v) ≡ (48 + d) ∷ digits_of k v
 unfolding digits_of
 digits_of-cons zero d v a b =
@@ -23,12 +23,12 @@ digits_of-cons (suc k) d v a b =
     let (front, last) = shifted d (10 ^ k) v in
     rw (power, front, last, digits_of-cons k d (v / 10) a (omega (arith, power)))
 
--- a test that was passed
+-- if a tested option has a value, the test was passed
 pub passes : {A : Type 0} (test : Bool) (o : Option A) (x : A) → cond test o None ≡ Some x → (test ≡ true) × (o ≡ Some x)
 passes true o x e = (refl, e)
 passes false o x e = absurd (none-some x e)
 
--- what is read behind a number are digits, and the number that they write is behind it
+-- if bytes are read after the number acc, they are digits, and the result is acc with these digits after it
 behind_sound : (ds : List ℕ) (acc n : ℕ) → number_behind acc ds ≡ Some n → (v : ℕ) × (v < 10 ^ length ds) × (n ≡ acc * 10 ^ length ds + v) × (ds ≡ digits_of (length ds) v)
 unfolding digits_of
 behind_sound [] acc n e = let same = same_Some acc n e in (0, omega arith, omega (arith, same), refl)

@@ -8,14 +8,14 @@ pub record CivilDate : Type 0 where
   pub month : ℕ
   pub day : ℕ
 
--- the day after: the next of the month, or the first of the next month, or New Year's Day
+-- the next day: the next day of the month, the first day of the next month, or New Year's Day
 abbrev pub next_date : CivilDate → CivilDate
 next_date d =
     if nat_lt d.day (days_in_month d.year d.month) then record d { day = d.day + 1 }
     else (if nat_lt d.month 12 then record d { month = d.month + 1; day = 1 }
     else record { year = d.year + 1; month = 1; day = 1 })
 
--- the day so many days after 1 January 1970
+-- the day that comes so many days after 1 January 1970
 unfoldable pub civil_date : ℕ → CivilDate
 civil_date zero = record { year = 1970; month = 1; day = 1 }
 civil_date (suc n) = next_date (civil_date n)

@@ -10,7 +10,7 @@ use Rattle.moment_text.specs.Civil.{civil_date}
 use Rattle.moment_text.specs.declared.fault.TimeFault.{TimeFault}
 use Rattle.moment_text.specs.declared.fault.TimeFault.TheVariants.{Form}
 
--- the text shows these numbers in one of the three formats, and they are a date
+-- the text shows these numbers in one of the three formats, and the numbers are a date
 pub record IsHttpText (text : List ℕ) (p : Parts) : Type 0 where
   pub valid : IsValid p
   pub shown : IsPartsText text p
@@ -19,7 +19,7 @@ pub record IsHttpText (text : List ℕ) (p : Parts) : Type 0 where
 abbrev pub http_ticks : Parts → ℕ
 http_ticks p = parts_secs p * 10_000_000
 
--- a second as a moment, or a fault of form where there is none
+-- a second as a moment, or a fault of form if there is no second
 abbrev pub moment_or_form : Option ℕ → Result ℕ TimeFault
 moment_or_form secs = ok_or (option_map (λ s. s * 10_000_000) secs) Form
 

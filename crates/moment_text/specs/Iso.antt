@@ -28,7 +28,7 @@ minute_text t = day_text t ++ codes "T" ++ digits_of 2 t.hour ++ codes ":" ++ di
 abbrev pub second_text : CivilTime → List ℕ
 second_text t = minute_text t ++ codes ":" ++ digits_of 2 t.second
 
--- a time in a shape; of a fraction's seven digits the first are written
+-- a time in a shape, which says how many of the fraction's seven digits are written, from the first digit on
 abbrev pub iso_text : Shape → CivilTime → List ℕ
 iso_text to_day t = day_text t
 iso_text to_minute t = minute_text t ++ codes "Z"
@@ -45,7 +45,7 @@ pub record FitsPlaces (t : CivilTime) : Type 0 where
   pub second_fits : t.second < 100
   pub fraction_fits : t.fraction < 10_000_000
 
--- what the shape does not write is zero, and it has one to seven decimals if any
+-- what the shape does not write is zero, and if the shape has decimals, it has one to seven
 abbrev pub IsZeroBeyond : Shape → CivilTime → Type 0
 IsZeroBeyond to_day t = (t.hour ≡ 0) × (t.minute ≡ 0) × (t.second ≡ 0) × (t.fraction ≡ 0)
 IsZeroBeyond to_minute t = (t.second ≡ 0) × (t.fraction ≡ 0)
@@ -58,7 +58,7 @@ pub record IsIsoText (text : List ℕ) (shape : Shape) (t : CivilTime) : Type 0 
   pub fits : FitsPlaces t
   pub whole : IsZeroBeyond shape t
 
--- the calendar has the day, from 1970 to 9999, and the clock the time
+-- the calendar has the day, its year is from 1970 to 9999, and the clock has the time
 abbrev pub is_in_range : CivilTime → Bool
 is_in_range t =
     nat_le 1970 t.year && nat_le t.year 9999 && nat_le 1 t.month && nat_le t.month 12

@@ -1,4 +1,4 @@
-//! Days and times of day in UTC, and the moments that they are.
+//! Days and times of day in UTC, and their moments.
 ghost use Rattle.std.specs.Prelude.{◌↔◌, IsSome, IfSome, ◌≡◌, ◌<◌, Some, None, if◌then◌else◌};
 ghost use Rattle.httpdate.specs.Calendar.{IsCivilDate, days_from_civil};
 ghost use Rattle.moment_text.specs.Iso.{is_in_range, ticks_of};
@@ -6,7 +6,7 @@ ghost use Rattle.moment_text.specs.Iso.{is_in_range, ticks_of};
 use jiff::civil::Date;
 use stamp_values::Moment;
 
-/// The numbers of a day and of a time of day, whether or not there are such.
+/// The numbers of a day and of a time of day, whether or not that day and that time exist.
 ///
 /// The fraction of the second counts steps of 100 ns.
 #[derive(Clone, Copy)]
@@ -20,7 +20,7 @@ pub struct CivilTime {
     pub fraction: u32,
 }
 
-// How many days lie between the start of 1970 and a day, if the calendar has it and its year has four digits.
+// How many days lie between the start of 1970 and a day, if the calendar has the day and its year has four digits.
 fn day_number(year: u32, month: u32, day: u32) -> Option<u64>
     ensures valid { IsSome result ↔ IsCivilDate year month day }
     ensures value { IfSome result (λ n. n ≡ days_from_civil year month day) }
@@ -35,7 +35,7 @@ fn day_number(year: u32, month: u32, day: u32) -> Option<u64>
     Some(date.to_plain().to_unix_epoch_day() as u64)
 }
 
-/// The moment of a day and a time in UTC, or `None` where there is no such day or time, or its year is outside 1970 to 9999.
+/// The moment of a day and a time in UTC, or `None` if there is no such day or time, or if its year is outside 1970 to 9999.
 pub fn moment_of(time: CivilTime) -> Option<Moment>
     requires { time.fraction < 10_000_000 }
     ensures { result ≡ (if is_in_range time then Some (ticks_of time) else None) }

@@ -2,7 +2,7 @@
 ghost use Rattle.std.specs.Prelude.{◌≡◌, ◌≤◌, ◌<◌, ◌-◌, ◌++◌, IfSome, length, replicate};
 ghost use Rattle.moment_text.specs.IsoReader.{number_of};
 
-/// The number that at most seven digits write, or `None` where one of the bytes is no digit.
+/// The number that at most seven digits write, or `None` if one of the bytes is not a digit.
 #[tactic(auto, using(crate::proofs::DigitLemmas::ten_pow), unfolding(crate::specs::IsoReader::number_of))]
 pub fn number(digits: &[u8]) -> Option<u32>
     requires { length digits.now ≤ 7 }
@@ -19,7 +19,7 @@ pub fn number(digits: &[u8]) -> Option<u32>
     Some(number)
 }
 
-/// The bytes, and behind them as many zeros as fill up seven places.
+/// The bytes, and after them as many zeros as fill up seven places.
 #[tactic(auto, using(crate::proofs::DigitLemmas::zeros_left))]
 pub fn filled(digits: &[u8]) -> [u8; 7]
     requires { length digits.now ≤ 7 }

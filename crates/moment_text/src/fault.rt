@@ -4,13 +4,13 @@ use thiserror::Error;
 /// Why a text names no moment.
 #[derive(Clone, Copy, Debug, PartialEq, Eq, Error)]
 pub enum TimeFault {
-    /// It has none of the shapes.
+    /// The text has none of the shapes.
     #[error("the text has no shape of a time")]
     Form,
-    /// It has a shape, and there is no such day or time, or the year is outside 1970 to 9999.
+    /// The text has a shape, but there is no such day or time, or the year is outside 1970 to 9999.
     #[error("there is no such day or time")]
     Range,
-    /// There was no memory. No reader of this crate takes any; calls above that do have one enum with these.
+    /// Memory ran out. No reader of this crate takes memory: the variant exists for callers that do.
     #[error("no memory")]
     NoMemory,
 }

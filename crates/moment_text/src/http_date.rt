@@ -1,4 +1,4 @@
-//! The dates of HTTP, read and written.
+//! Reads and writes the dates of HTTP.
 ghost use Rattle.std.specs.Prelude.{◌≡◌, ◌↔◌, ◌*◌, ◌/◌, IfOk, Ok};
 ghost use Rattle.httpdate.specs.declared.parts.Parts.{Parts};
 ghost use Rattle.moment_text.specs.declared.fault.TimeFault.{TimeFault as Fault};
@@ -10,13 +10,14 @@ use stamp_values::Moment;
 
 /// Reads a date of HTTP in any of its three formats.
 ///
-/// `Form` for every other text, also where the weekday is not that of the date. It takes no memory. RFC 9110, section 5.6.7.
+/// `Form` for every other text, also if the weekday is not the weekday of the date. The call takes no memory.
+/// RFC 9110, section 5.6.7.
 pub fn read_http(text: &[u8]) -> Result<Moment, TimeFault>
     ensures read { IfOk result (λ moment. (p : Parts) × IsHttpText text.now p × (moment ≡ http_ticks p)) }
     ensures complete { (p : Parts) → IsHttpText text.now p → result ≡ Ok (http_ticks p) }
     ensures form { (result ≡ Err TimeFault.Form) ↔ ((p : Parts) → ¬ IsHttpText text.now p) }
     ensures no_other { (fault : Fault) → result ≡ Err fault → fault ≡ TimeFault.Form }
-    // the same as one function, for definitions above
+    // the same as one function, for definitions of crates above
     ensures value { result ≡ http_moment text.now }
 {
     let Ok(date) = HttpDate::parse_ascii(text) else {
@@ -25,7 +26,7 @@ pub fn read_http(text: &[u8]) -> Result<Moment, TimeFault>
     Moment::new((date.unix_secs() * 10_000_000) as i64).ok_or(TimeFault::Form)
 }
 
-/// The date of the second in which a moment lies, as an IMF-fixdate. It takes no memory. RFC 9110, section 5.6.7.
+/// The date of the second in which a moment lies, as an IMF-fixdate. The call takes no memory. RFC 9110, section 5.6.7.
 pub fn write_http(moment: Moment) -> [u8; 29]
     ensures text { result ≡ http_text moment }
     ensures read_back { http_moment result ≡ Ok (moment / 10_000_000 * 10_000_000) }

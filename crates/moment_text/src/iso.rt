@@ -1,4 +1,4 @@
-//! Times as ISO 8601 writes them, read.
+//! Reads times as ISO 8601 writes them.
 ghost use Rattle.std.specs.Prelude.{◌↔◌, ◌≡◌, ◌≢◌, ◌≤◌, ◌<◌, IfOk, IfSome, IsTrue, IsFalse, length};
 ghost use Rattle.moment_text.specs.declared.civil.CivilTime.{CivilTime as Time};
 ghost use Rattle.moment_text.specs.Iso.{Shape, IsIsoText, is_in_range, ticks_of};
@@ -9,7 +9,7 @@ use crate::digits::{filled, number};
 use crate::fault::TimeFault;
 use stamp_values::Moment;
 
-// The day at the front, at the start of the day.
+// The start of the day that the text begins with.
 #[tactic(auto, unfolding(crate::specs::IsoReader::date_at))]
 fn date(text: &[u8]) -> Option<CivilTime>
     requires { 10 ≤ length text.now }
@@ -36,7 +36,7 @@ fn date(text: &[u8]) -> Option<CivilTime>
     })
 }
 
-// The fraction between the point and the last byte: one digit at least, since the text is long enough, and at most seven.
+// The fraction between the point and the last byte: at least one digit, since the text is long enough, and at most seven digits.
 #[tactic(auto, unfolding(crate::specs::IsoReader::fraction_at))]
 fn fraction(text: &[u8]) -> Option<u32>
     requires { 22 ≤ length text.now }
@@ -132,11 +132,11 @@ fn civil_time(text: &[u8]) -> Option<CivilTime>
 /// Reads a day or a time in UTC in one of four shapes: `2012-10-01`, which is the start of the day, `2012-10-01T12:00Z`,
 /// `2012-10-01T12:00:00Z`, and `2012-10-01T12:00:00.0000001Z` with one to seven decimals.
 ///
-/// `Form` where the text has none of these shapes, which is tried first. `Range` where it has one, and there is no such
-/// day or time, as month 13, 30 February, hour 24 or second 60, or the year is outside 1970 to 9999. It takes no memory,
-/// so never answers `NoMemory`. ISO 8601:2004, sections 4.1.2.2, 4.2.2, 4.2.4 and 4.3; W3C Note
-/// "Date and Time Formats". The shapes are a choice of our own: docs/DECISIONS.md, "The calendar comes from a library, the
-/// shapes do not".
+/// `Form` if the text has none of these shapes; the shape is tried first. `Range` if the text has one of the shapes, but
+/// there is no such day or time, as with month 13, 30 February, hour 24 or second 60, or the year is outside 1970 to 9999.
+/// The function takes no memory, so it never answers `NoMemory`. ISO 8601:2004, sections 4.1.2.2, 4.2.2, 4.2.4 and 4.3;
+/// W3C Note "Date and Time Formats". The shapes are a choice of our own: docs/DECISIONS.md, "The calendar comes from a
+/// library, the shapes do not".
 pub fn read_iso(text: &[u8]) -> Result<Moment, TimeFault>
     ensures read { IfOk result (λ moment. (shape : Shape) × (time : Time)
         × IsIsoText text.now shape time × IsTrue (is_in_range time) × (moment ≡ ticks_of time)) }
@@ -146,7 +146,7 @@ pub fn read_iso(text: &[u8]) -> Result<Moment, TimeFault>
     ensures range { (result ≡ Err TimeFault.Range)
         ↔ ((shape : Shape) × (time : Time) × IsIsoText text.now shape time × IsFalse (is_in_range time)) }
     ensures no_memory { result ≢ Err TimeFault.NoMemory }
-    // the same as one function, for definitions above
+    // the same as one function, for definitions of crates above
     ensures value { result ≡ iso_moment text.now }
 {
     let Some(time) = civil_time(text) else {

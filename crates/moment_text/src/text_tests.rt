@@ -1,4 +1,4 @@
-//! Texts of times, against values from elsewhere.
+//! Texts of times, compared with values from elsewhere.
 
 use crate::{TimeFault, read_http, read_iso, write_http};
 use stamp_values::Moment;
@@ -21,7 +21,7 @@ fn http(text: &str) -> Option<u64> {
     }
 }
 
-// The numbers are those of Python's datetime.
+// The numbers come from Python's datetime.
 #[test]
 fn times_are_read(rt: HostRuntime) {
     for (text, ticks) in [

@@ -1,4 +1,4 @@
--- What it says of a container that the object does not refuse a request.
+-- What holds of a container if the object does not refuse a request.
 use Rattle.std.proofs.Common.{◌≡◌, ◌<◌, ℕ, Bool, true, false, cond, not, ◌&&◌, List, [], ◌∷◌, Option, Some, None, nat_eq, arith, refl, ap, ◌∙◌, subst}
 use Rattle.std.proofs.lemmas.Bool.{and_parts}
 use Rattle.std.specs.Prelude.{IsSome, is_none, find}

@@ -1,4 +1,4 @@
--- What is answered to a Put Blob and to a Get Blob.
+-- The answers to a Put Blob and to a Get Blob.
 use Rattle.std.proofs.Common.{◌≡◌, ℕ, ◌+◌, Bool, true, false, cond, List, [], ◌∷◌, ◌++◌, Option, Some, None, refl, ap, ◌∙◌, unwrap_or, map}
 use Rattle.std.proofs.lemmas.List.{map-append}
 use Rattle.std.specs.Prelude.{is_none, sum_by}
@@ -58,7 +58,7 @@ none_stays : {C D : Type 0} (f : C → D) (c : Option (Committed C)) → is_none
 none_stays f None = refl
 none_stays f (Some c) = refl
 
--- and it is there, or is not, by either reading
+-- the blob is absent by one reading exactly if it is absent by the other
 pub absent_by_either_reading : {C D : Type 0} (f : C → D) (p : Part C) (a : Ask) → is_none (named_blob (part_value f p) a) ≡ is_none (named_blob p a)
 absent_by_either_reading f p a = ap (λ (c : Option (Committed _)). is_none c) (named_blob-part_value f p a) ∙ none_stays f (named_blob p a)
 
@@ -73,7 +73,7 @@ module _ {C : Type 0} (f : List Piece → C) where
   abbrev pub put_committed : ℕ → PutBlob → Committed C
   put_committed n a = record { etag = n; made = a.moment; props = a.props; metadata = a.metadata; blocks = whole_block (f a.content) ∷ [] }
 
-  -- a blob that was put is so
+  -- a blob that was put is what `put_committed` says
   pub blob_in-put : (a : PutBlob) (p : Part C) → (blob_in (changed f (act.PutBlob a) p) a.blob).committed ≡ Some (put_committed (p.count + 1) a)
   blob_in-put a p =
       ap (λ (o : Option (Blob C)). (unwrap_or o no_blob).committed) (finite.get-insert names_total p.blobs a.blob _ a.blob)

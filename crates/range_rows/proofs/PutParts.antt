@@ -1,4 +1,4 @@
--- What fits, of the parts of a Put Blob and of a blob.
+-- Limits that the parts of a Put Blob and of a blob keep.
 use Rattle.std.proofs.Common.{◌≡◌, ℕ, ◌+◌, ◌≤◌, true, ◌&&◌, nat_le, Some, List, arith, le-leb, leb-true, length, subst}
 use Rattle.std.proofs.lemmas.Bool.{and_from, and_parts}
 use Rattle.std.specs.List.{list_all}
@@ -18,7 +18,7 @@ four w x y z short =
     let d = le-leb z 16384 (omega (arith, short)) in
     and_from _ _ (and_from _ _ (and_from _ _ a b) c) d
 
--- texts of 16,384 bytes together are each no longer
+-- texts that have at most 16,384 bytes together have at most 16,384 bytes each
 pub kept_fits : (a : Args) (k : Kept) → a.kept ≡ Some k → args_len a ≤ 16384 → is_kept k ≡ true
 kept_fits a k given short =
     four (length k.content_type) (length k.encoding) (length k.language) (length k.cache_control)

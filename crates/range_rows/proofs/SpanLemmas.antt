@@ -1,4 +1,4 @@
--- Spans of content, and the bytes that they say.
+-- Spans of content, and their bytes.
 use Rattle.std.proofs.Common.{◌≡◌, ℕ, ◌+◌, ◌-◌, true, nat_le, arith, le-leb, List, [], ◌∷◌, ◌++◌, length, length-append, take, Option, Some, None, refl, sym, ap, ◌∙◌, unwrap_or, map}
 use Rattle.std.proofs.lemmas.Bool.{and_from}
 use Rattle.std.proofs.lemmas.List.{map-append}
@@ -53,7 +53,7 @@ pieces_len-flat (b ∷ bs) =
     ∙ ap (λ n. pieces_len b.content + n) (pieces_len-flat bs)
     ∙ sym (sum_by-cons (λ (b : Block (List Piece)). pieces_len b.content) b bs)
 
--- the spans of blocks have so many bytes as the blocks
+-- the spans of blocks have as many bytes as the blocks
 pub spans_len_of_blocks : (bs : List (Block (List Piece))) → spans_len (map whole_span (flat_map (λ b. b.content) bs)) ≡ blocks_len bs
 spans_len_of_blocks bs = spans_len-whole (flat_map (λ b. b.content) bs) ∙ pieces_len-flat bs
 

@@ -1,4 +1,4 @@
--- What rows of blobs say ("Put Blob" of the Blob service REST reference, 2012-02-12), and the codes by which types are seen so.
+-- What rows of blobs say ("Put Blob" of the Blob service REST reference, 2012-02-12), and the codes of what they say.
 use Rattle.std.specs.Prelude.{ℕ, List, Some}
 use Rattle.std.specs.Coded.{Coded, coded×}
 use Rattle.std.specs.FinMap as finite

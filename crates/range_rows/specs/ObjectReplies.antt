@@ -1,5 +1,5 @@
 -- Replies to allowed requests (Blob service REST reference, 2012-02-12, "Put Blob", "Get Blob"; RFC 9110, sections 8.8 and 15.3).
--- A reply is a frame, which is read off the sizes of content, and the content that goes out with it.
+-- A reply is a frame, which follows from the sizes of content, and the content that goes out with it.
 use Rattle.std.specs.Prelude.{◌≡◌, ℕ, ◌-◌, Bool, true, false, ◌&&◌, nat_le, All, List, [], ◌∷◌, ◌++◌, length, None, map, sum_by, slice_range, unwrap_or}
 use Rattle.std.specs.List.{flat_map}
 use Rattle.std.specs.Option.{option_to_list}
@@ -50,7 +50,7 @@ read_headers c = kept_lines c.props ++ map header.Meta c.metadata ++ header.Blob
 abbrev pub success : Status → List Header → ℕ → Reply
 success s headers length = record { status = s; code = None; rule = None; headers = headers; length = length; body = [] }
 
--- the reply to Put Blob, of the MD5 of what came, and of the ETag and the moment that the blob has then
+-- the reply to Put Blob, from the MD5 of what came, and from the ETag and the moment that the blob has then
 abbrev pub put_reply : List ℕ → ℕ → ℕ → Reply
 put_reply sum etag made = success status.Created (header.ContentMd5 sum ∷ dated etag made) 0
 
@@ -58,8 +58,8 @@ put_reply sum etag made = success status.Created (header.ContentMd5 sum ∷ date
 abbrev pub get_frame : Committed ℕ → Reply
 get_frame c = success status.Success (read_headers c) (sum_by (λ b. b.content) c.blocks)
 
--- a blob without a byte. If no rule refuses a request and its blob does not exist, it is answered as of this one; no caller
--- can make such a request.
+-- a blob without a byte. If no rule refuses a request and its blob does not exist, the request is answered as of this blob;
+-- no caller can make such a request.
 abbrev pub empty_blob : {C : Type 0} → Committed C
 empty_blob = record {
   etag = 0;
@@ -73,7 +73,7 @@ empty_blob = record {
 abbrev pub blob_read : {C : Type 0} → Part C → Ask → Committed C
 blob_read p a = unwrap_or (named_blob p a) empty_blob
 
--- the frame of the reply of an operation, if the blob is so after it
+-- the frame of the reply to an operation, if the blob is this one after it
 abbrev pub frame_by : Op → Asked → Committed ℕ → Reply
 frame_by op.PutBlob q c = put_reply (md5 q.body) c.etag c.made
 frame_by op.GetBlob q c = get_frame c
@@ -112,7 +112,7 @@ reply_of p q = with_content (frame (sizes p) q) (content_sent p q)
 abbrev pub whole_span : Piece → Span
 whole_span piece = record { piece = piece; from = 0; to = piece_len piece }
 
--- what of which pieces goes out with the reply to a request, in this order
+-- which bytes of which pieces go out with the reply to a request, in this order
 abbrev pub spans : Part (List Piece) → Asked → List Span
 spans p q = map whole_span (content_sent p q)
 
@@ -128,6 +128,6 @@ is_within s = nat_le s.from s.to && nat_le s.to (piece_len s.piece)
 abbrev pub spans_len : List Span → ℕ
 spans_len ss = sum_by (λ s. s.to - s.from) ss
 
--- each piece is read as so many bytes as it has
+-- what is read for each piece has the piece's length
 abbrev pub ReadsWhole : (Piece → List ℕ) → List Piece → Type 0
 ReadsWhole read ps = All (λ piece. length (read piece) ≡ piece_len piece) ps

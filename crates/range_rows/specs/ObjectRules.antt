@@ -1,5 +1,5 @@
 -- Rules of the object (Blob service REST reference, 2012-02-12, the pages of the operations, "Status and Error Codes", "Blob Service Error Codes"; RFC 1321).
--- They are stated over a container whose content is its size: no rule depends on a byte of it.
+-- They are stated over a container whose content is its size: no rule depends on a byte of the content.
 use Rattle.std.specs.Prelude.{ℕ, Bool, true, false, ◌&&◌, ◌||◌, not, nat_eq, is_some, is_none, List, [], ◌∷◌, Option, Some, None, find}
 use Rattle.std.specs.Option.{option_map, option_and_then}
 use Rattle.std.specs.Cmp.Lexicographic.{pointwise}
@@ -78,11 +78,11 @@ cause_holds p q BlobIsAbsent = needs_blob q.ask.op && is_none (named_blob p q.as
 cause_holds p q BodyIsDamaged = is_damaged q
 cause_holds p q CountIsFull = writes q.ask.op && nat_eq p.count count_limit
 
--- the causes in the order in which the first is sought
+-- the causes in the order in which the first that exists is sought
 abbrev pub causes : List Cause
 causes = ContainerIsAbsent ∷ ContainerExists ∷ BlobIsAbsent ∷ BodyIsDamaged ∷ CountIsFull ∷ []
 
--- the rule and the error code by which a cause is told
+-- the rule and the error code that tell of a cause
 abbrev pub cause_refusal : Cause → Refusal
 cause_refusal ContainerIsAbsent = record { rule = rule.O1; code = code.ContainerNotFound }
 cause_refusal ContainerExists = record { rule = rule.O2; code = code.ContainerAlreadyExists }

@@ -1,4 +1,4 @@
--- The containers of rows that hold one (SOSP 2011, section 5, object table; REST, "Create Container").
+-- A world of one container, and a container that was just made (SOSP 2011, section 5, object table; REST, "Create Container").
 use Rattle.std.specs.Prelude.{ℕ, [], Some}
 use Rattle.std.specs.FinMap as finite
 use Rattle.stamp_values.specs.declared.key.Key.{Key}

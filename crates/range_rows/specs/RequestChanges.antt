@@ -17,11 +17,11 @@ use Rattle.stamp_types.specs.declared.piece.Piece.{Piece}
 use Rattle.range_rows.specs.declared.reading.Reading.{Reading}
 use Rattle.range_rows.specs.declared.reading.Reading.TheVariants as reading
 
--- what the body of a request says beside its bytes: nothing, of the operations that are served so far
+-- what the body of a request says besides its bytes: nothing, for the operations that are served so far
 abbrev pub reading_of : Asked → Reading
 reading_of q = reading.Nothing
 
--- what is kept of the headers that a request asks to be kept, with the body's MD5 if it gives none
+-- what is kept of the headers that a request asks to be kept, with the body's MD5 if the request gives none
 abbrev pub put_props : Asked → Kept → PropsFields
 put_props q kept = kept_fields kept (Some (md5 q.body))
 
@@ -43,7 +43,7 @@ abbrev pub is_put_act : Act → Bool
 is_put_act (act.PutBlob a) = true
 is_put_act _ = false
 
--- the container after a change that is made; else it stays
+-- the container after the change, or the same container if there is no change
 abbrev pub part_after : {C : Type 0} → (List Piece → C) → Option KeyedAct → Part C → Part C
 part_after f None p = p
 part_after f (Some c) p = changed f c.act p

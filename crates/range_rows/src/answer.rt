@@ -1,8 +1,8 @@
-//! What a request is answered.
+//! The answer to a request.
 
 use stamp_types::{Items, Piece, Reply};
 
-/// The bytes of a piece from `from`, short of `to`.
+/// The bytes of a piece from `from` up to but not including `to`.
 #[derive(Debug, Drop)]
 pub struct Span {
     pub piece: Piece,
@@ -10,7 +10,7 @@ pub struct Span {
     pub to: u64,
 }
 
-/// The reply to a request, but for the content that goes out with it: that is what the spans say, in their order. The frame's
+/// The reply to a request, without the content that goes out with it: the spans give that content, in their order. The frame's
 /// length counts it.
 #[derive(Debug, Drop)]
 pub struct Answer {

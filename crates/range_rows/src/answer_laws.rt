@@ -8,8 +8,8 @@ ghost use Rattle.stamp_types.specs.World.{Part, part_value};
 ghost use Rattle.stamp_types.specs.declared.piece.Piece.{Piece};
 ghost use Rattle.range_rows.specs.ObjectReplies.{ReadsWhole, content_sent, frame, reply_of, span_bytes, spans, with_content};
 
-/// Whoever reads each piece as so many bytes as it has gets from the spans the content that goes out, and with the frame the reply,
-/// as of a container that holds the bytes themselves.
+/// If what is read for each piece has the piece's length, the spans give the content that goes out, and the spans with the frame
+/// give the reply, both as of a container that holds the bytes themselves.
 pub fn spans_say_what_content_goes_out()
     ensures content { (read : Piece → List ℕ) (p : Part (List Piece)) (q : Asked) → EachContent (ReadsWhole read) p → flat_map (span_bytes read) (spans p q) ≡ content_sent (part_value (flat_map read) p) q }
     ensures reply { (read : Piece → List ℕ) (p : Part (List Piece)) (q : Asked) → EachContent (ReadsWhole read) p → with_content (frame (part_value pieces_len p) q) (flat_map (span_bytes read) (spans p q)) ≡ reply_of (part_value (flat_map read) p) q }

@@ -66,28 +66,25 @@ impl Blobs {
 
     /// Writes a blob, whether it was there or not. Its uncommitted blocks are dropped.
     ///
-    /// `AllocError` where there is no memory for one more row and its name. The blobs are as they were then.
+    /// `AllocError` if memory runs out for one more row. The blobs are then as they were.
     pub(crate) fn write(
         &mut self,
         alloc: Global,
-        name: &Text,
+        name: Text,
         committed: Committed<Pieces>,
     ) -> Result<(), AllocError>
-        requires name { IsTrue (is_blob name.now) }
+        requires name { IsTrue (is_blob name) }
         requires blocks { IsTrue (are_blocks committed.blocks) }
-        ensures written { OnOk result (self.new ≡ finite.insert self.old name.now (written committed)) }
+        ensures written { OnOk result (self.new ≡ finite.insert self.old name (written committed)) }
         ensures refused { OnErr result (self.new ≡ self.old) }
     {
-        match place_of(&self.rows, name) {
+        match place_of(&self.rows, &name) {
             Some(at) => {
                 let row = &mut self.rows[at];
                 row.write(alloc, committed);
                 Ok(())
             }
-            None => {
-                let row = Row::new(alloc, name, committed)?;
-                Ok(self.rows.push(row)?)
-            }
+            None => Ok(self.rows.push(Row::new(alloc, name, committed))?),
         }
     }
 }

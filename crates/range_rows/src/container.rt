@@ -35,31 +35,14 @@ impl Model for Container {
     ghost view = { λ c. record { count = c.count; standing = Some c.standing; blobs = c.blobs } };
 }
 
-// The blocks of content that Put Blob brings: one without an id. No byte is copied.
+// The blocks of content that Put Blob brings: one without an id.
 #[tactic(auto, using(crate::proofs::PutBlocks::are_blocks_whole))]
-fn whole(alloc: Global, content: &Pieces) -> Result<Items<Block<Pieces>>, AllocError>
-    ensures value { IfOk result (λ blocks. blocks ≡ whole_block content.now ∷ []) }
+fn whole(alloc: Global, content: Pieces) -> Result<Items<Block<Pieces>>, AllocError>
+    ensures value { IfOk result (λ blocks. blocks ≡ whole_block content ∷ []) }
     ensures valid { IfOk result (λ blocks. IsTrue (are_blocks blocks)) }
 {
     let _pieces = content.as_slice();
-    let content = content.clone()?;
     Ok(Items::new(vec![in alloc; Block { id: None, content }]?))
-}
-
-// What a Put Blob writes with this ETag. Its texts are copied, its content is shared.
-fn committed_of(alloc: Global, put: &PutBlob, etag: u64) -> Result<Committed<Pieces>, AllocError>
-    ensures value { IfOk result (λ c. c ≡ record { etag = etag; made = put.now.moment; props = put.now.props; metadata = put.now.metadata; blocks = whole_block put.now.content ∷ [] }) }
-    ensures blocks { IfOk result (λ c. IsTrue (are_blocks c.blocks)) }
-{
-    let blocks = whole(alloc, &put.content)?;
-    let metadata = put.metadata.clone()?;
-    Ok(Committed {
-        etag,
-        made: put.moment,
-        props: put.props.clone()?,
-        metadata,
-        blocks,
-    })
 }
 
 impl Container {
@@ -106,28 +89,40 @@ impl Container {
     }
 
     // One more change, which puts a blob.
-    fn put_blob(&mut self, alloc: Global, put: &PutBlob) -> Result<(), AllocError>
-        requires name { IsTrue (is_blob put.now.blob) }
+    fn put_blob(&mut self, alloc: Global, put: PutBlob) -> Result<(), AllocError>
+        requires name { IsTrue (is_blob put.blob) }
         requires count { self.old.count < count_limit }
-        ensures changed { OnOk result (self.new ≡ changed same_pieces (act.PutBlob put.now) self.old) }
+        ensures changed { OnOk result (self.new ≡ changed same_pieces (act.PutBlob put) self.old) }
         ensures refused { OnErr result (self.new ≡ self.old) }
     {
         let count = self.count + 1;
-        let committed = committed_of(alloc, put, count)?;
-        self.blobs.write(alloc, &put.blob, committed)?;
+        let PutBlob {
+            blob,
+            moment,
+            props,
+            metadata,
+            content,
+        } = put;
+        let committed = Committed {
+            etag: count,
+            made: moment,
+            props,
+            metadata,
+            blocks: whole(alloc, content)?,
+        };
+        self.blobs.write(alloc, blob, committed)?;
         self.count = count;
         Ok(())
     }
 
-    /// Makes a change of the container, which is a Put Blob.
+    /// Makes a change of the container, which is a Put Blob. What the act holds moves into the row.
     ///
-    /// `AllocError` where there is no memory for it, or the content can have no further owner. The container is
-    /// as it was then.
-    pub(crate) fn apply(&mut self, alloc: Global, act: &Act) -> Result<(), AllocError>
-        requires put { IsTrue (is_put_act act.now) }
-        requires valid { IsTrue (is_act act.now) }
+    /// `AllocError` if memory runs out for a new row or its list of blocks. The container is then as it was.
+    pub(crate) fn take(&mut self, alloc: Global, act: Act) -> Result<(), AllocError>
+        requires put { IsTrue (is_put_act act) }
+        requires valid { IsTrue (is_act act) }
         requires count { self.old.count < count_limit }
-        ensures changed { OnOk result (self.new ≡ changed same_pieces act.now self.old) }
+        ensures changed { OnOk result (self.new ≡ changed same_pieces act self.old) }
         ensures refused { OnErr result (self.new ≡ self.old) }
     {
         match act {

@@ -1,5 +1,5 @@
-//! What a partition holds in memory of one container and its blobs, the rules of the object over it, and
-//! what allowed requests change and are answered.
+//! What a partition holds in memory of one container and its blobs, the rules of the object over it, what
+//! allowed requests change, and how they are answered.
 #![tactic(auto)]
 
 mod answer;

@@ -46,7 +46,7 @@ fn kept_md5(ask: &Ask) -> Option<[u8; 16]>
     }
 }
 
-// Whether the body has another MD5 than the headers say. Put Block List keeps the second of them as it is.
+// Whether the body has another MD5 than the headers say. Put Block List keeps x-ms-blob-content-md5 as it is.
 fn is_damaged(request: &Request) -> bool
     ensures { result ≡ rules.is_damaged request.now }
 {
@@ -68,7 +68,7 @@ impl Rows {
     ghost use Rattle.stamp_types.specs.Changes.{is_committed};
     ghost use Rattle.range_rows.specs.RequestChanges.{reading_of};
 
-    /// What readers see of the blob that the request names, where it names one.
+    /// What readers see of the blob that the request names, if it names one.
     pub(crate) fn named_blob(&self, ask: &Ask) -> Option<&Committed<Pieces>>
         ensures value { option_copied result ≡ rules.named_blob (part_at self.now ask.now.key) ask.now }
         ensures blocks { IsTrue (is_committed (option_copied result)) }
@@ -79,7 +79,7 @@ impl Rows {
         }
     }
 
-    // Whether the blob that the request names is absent, or it names none.
+    // Whether the blob that the request names is absent, or the request names none.
     #[tactic(auto, using(crate::proofs::AnswerLemmas::absent_by_either_reading))]
     fn lacks_blob(&self, ask: &Ask) -> bool
         ensures { result ≡ is_none (rules.named_blob (part_value pieces_len (part_at self.now ask.now.key)) ask.now) }
@@ -114,7 +114,7 @@ impl Rows {
     /// The refusal of a request by the object, if it has one: the first cause in the order of the rules, with its rule and code.
     /// `reading` is what the request's body says. Reads no byte of that body.
     ///
-    /// `AllocError` comes only on Put Block List, if there is no memory to look its blocks up.
+    /// `AllocError` comes only on Put Block List, if memory runs out for a look-up of its blocks.
     pub fn object_rule(
         &self,
         _alloc: Global,

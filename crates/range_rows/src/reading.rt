@@ -1,13 +1,13 @@
-//! What the body of a request says.
+//! What the body of a request says besides its bytes.
 ghost use Rattle.std.specs.Prelude.{◌≡◌};
 ghost use Rattle.range_rows.specs.RequestChanges.{reading_of};
 
 use stamp_types::Request;
 
-/// What the body of a request says beside its bytes. It is read once, before rows are touched, and made of the request alone.
+/// What the body of a request says besides its bytes. It is read once, before rows are touched, from the request alone.
 #[derive(Clone, Copy, Debug, PartialEq, Eq)]
 pub enum Reading {
-    /// The operation takes no more of a body than its bytes, as all do that are served so far.
+    /// The operation takes nothing of a body but its bytes. All operations that are served so far do so.
     Nothing,
 }
 

@@ -55,7 +55,7 @@ fn push_md5(headers: &mut Vec<Header>, sum: Option<[u8; 16]>) -> Result<(), Allo
     Ok(())
 }
 
-// Puts the lines of the kept headers after the headers, but for those that are empty.
+// Puts the lines of the kept headers after the headers, except those that are empty.
 fn push_kept(headers: &mut Vec<Header>, props: &Props) -> Result<(), AllocError>
     ensures { OnOk result (headers.new.items ≡ headers.old.items ++ replies.kept_lines props.now) }
 {
@@ -77,7 +77,7 @@ fn push_metadata(headers: &mut Vec<Header>, metas: &[Meta]) -> Result<(), AllocE
     Ok(())
 }
 
-// Puts after the headers which change wrote last, and when.
+// Puts two lines after the headers: which change wrote last, and when.
 fn push_dates(headers: &mut Vec<Header>, etag: u64, made: Moment) -> Result<(), AllocError>
     ensures { OnOk result (headers.new.items ≡ headers.old.items ++ replies.dated etag made) }
 {
@@ -170,7 +170,7 @@ fn get_frame(alloc: Global, blob: &Committed<Pieces>) -> Result<Reply, AllocErro
     })
 }
 
-// The answer to a Get Blob, of all of the blob.
+// The answer to a Get Blob: all of the blob.
 #[tactic(auto, using(crate::proofs::AnswerLemmas::spans_of_blocks, crate::proofs::SpanLemmas::whole_within, crate::proofs::SpanLemmas::spans_len_of_blocks, crate::proofs::PutParts::within_blob))]
 fn get_answer(alloc: Global, blob: &Committed<Pieces>) -> Result<Answer, AllocError>
     requires { IsTrue (are_blocks blob.now.blocks) }
@@ -219,13 +219,14 @@ impl Rows {
         }
     }
 
-    /// The answer to a request that was allowed at the moment, as the container is once its change, if it makes one, is applied;
-    /// the change has not been yet. Put Blob and Get Blob are answered so far. `reading` is what the request's body says.
+    /// The answer to a request that was allowed at the moment, by the container as it is after the request's change, if it
+    /// makes one. That change is not applied yet. Put Blob and Get Blob are answered so far. `reading` is what the request's
+    /// body says.
     ///
-    /// The answer has shares of the content, of which no byte is copied, or its places in streams: whoever sends it reads
-    /// them. A range is not looked at: the whole blob is answered (RFC 9110, section 14.2).
+    /// The answer has shares of the content, of which no byte is copied, or the content's places in streams: whoever sends it
+    /// reads them. A range is not looked at: the answer is the whole blob (RFC 9110, section 14.2).
     ///
-    /// `AllocError` if there is no memory for the headers and the list of spans, or the content can have no further owner.
+    /// `AllocError` if memory runs out for the headers or the list of spans, or if the content can have no further owner.
     #[tactic(auto, using(crate::proofs::Allowed::allowed_blob, crate::proofs::AnswerLemmas::frame_of_get, crate::proofs::AnswerLemmas::spans_of_get, crate::proofs::AnswerLemmas::spans_of_put))]
     pub fn reply(
         &self,

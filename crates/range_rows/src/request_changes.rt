@@ -80,10 +80,10 @@ impl Rows {
     ghost use Rattle.stamp_types.specs.Pieces.{pieces_len};
     ghost use Rattle.range_rows.specs.ObjectRules.{object_refusal, count_limit};
 
-    /// The change that an allowed Put Blob makes at the moment, with all that `apply` asks of it. `reading` is what the request's
-    /// body says. The ETag is given when the change is applied.
+    /// The change that an allowed Put Blob makes at the moment. It meets all that `take` and `apply` ask of it. `reading` is
+    /// what the request's body says. The ETag is given when the change is applied.
     ///
-    /// `AllocError` if there is no memory for the change, or the body can have no further owner.
+    /// `AllocError` if memory runs out for the change, or if the body can have no further owner.
     #[tactic(auto, using(crate::proofs::Allowed::allowed_exists, crate::proofs::Allowed::allowed_room))]
     pub fn change(
         &self,
@@ -100,7 +100,7 @@ impl Rows {
         ensures standing { IfOk result (λ change. IsSome (part_at self.now change.key).standing) }
         ensures count { IfOk result (λ change. (part_at self.now change.key).count < count_limit) }
     {
-        // A count has 64 bits, so each is below the largest one but that one, which O6 refuses.
+        // A count has 64 bits, so each count but the largest is below the largest, and O6 refuses the largest.
         let _count = self.count(&request.ask().key);
         put_change(alloc, request, moment)
     }

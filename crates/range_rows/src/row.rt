@@ -1,12 +1,12 @@
 //! Rows of blobs.
-ghost use Rattle.std.specs.Prelude.{◌≡◌, IfOk, IsTrue, Some};
+ghost use Rattle.std.specs.Prelude.{◌≡◌, IsTrue, Some};
 ghost use Rattle.std.specs.Option.{option_copied};
 ghost use Rattle.stamp_values.specs.Names.{is_blob};
 ghost use Rattle.stamp_types.specs.Changes.{is_committed, are_blocks};
 
 use crate::uncommitted::Uncommitted;
 use stamp_types::{Committed, Pieces, Text};
-use std::alloc::{AllocError, Global};
+use std::alloc::Global;
 use std::marker::Model;
 
 /// What a container holds under a name, seen as the name and the blob.
@@ -35,23 +35,17 @@ impl Model for Row {
 impl Row {
     ghost use Rattle.range_rows.specs.BlobRows.{written};
 
-    /// A blob that was not there before.
-    ///
-    /// `AllocError` where there is no memory for its name.
-    pub(crate) fn new(
-        alloc: Global,
-        name: &Text,
-        committed: Committed<Pieces>,
-    ) -> Result<Self, AllocError>
-        requires name { IsTrue (is_blob name.now) }
+    /// A blob that was not there before. Takes no memory.
+    pub(crate) fn new(alloc: Global, name: Text, committed: Committed<Pieces>) -> Self
+        requires name { IsTrue (is_blob name) }
         requires blocks { IsTrue (are_blocks committed.blocks) }
-        ensures { IfOk result (λ row. row ≡ (name.now, written committed)) }
+        ensures { result ≡ (name, written committed) }
     {
-        Ok(Self {
-            name: name.clone()?,
+        Self {
+            name,
             committed: Some(committed),
             uncommitted: Uncommitted::none(alloc),
-        })
+        }
     }
 
     pub(crate) fn name(&self) -> &Text

@@ -1,5 +1,5 @@
 //! The rows of a container.
-ghost use Rattle.std.specs.Prelude.{◌≡◌, ◌<◌, IsTrue, IsSome, OnOk, OnErr, unwrap_or};
+ghost use Rattle.std.specs.Prelude.{◌≡◌, ◌<◌, IfOk, IsTrue, IsSome, OnOk, OnErr, unwrap_or};
 ghost use Rattle.std.specs.Option.{option_copied};
 
 use crate::container::Container;
@@ -29,6 +29,13 @@ impl Model for Rows {
     ghost coded = { rows_code };
 
     ghost view = { λ r. one_part r.key r.container };
+}
+
+// The same change, with texts of its own. The content is shared.
+fn copy_of(change: &Change) -> Result<Change, AllocError>
+    ensures { IfOk result (λ copy. copy ≡ change.now) }
+{
+    change.clone()
 }
 
 impl Rows {
@@ -87,12 +94,26 @@ impl Rows {
         container.blobs().committed(name)
     }
 
-    /// Makes a change of a container that stands, which is a Put Blob. The row has copies of the change's texts,
-    /// and shares its content.
+    /// Makes a change of a container that exists, which is a Put Blob. The texts and the content of the change move
+    /// into the row, and nothing is copied.
     ///
-    /// `AllocError` where there is no memory for it, or the content can have no further owner. The rows are as
-    /// they were then.
+    /// `AllocError` if memory runs out for a new row or its list of blocks. The rows are then as they were.
     #[tactic(auto, using(crate::proofs::OneContainer::changed_own))]
+    pub fn take(&mut self, alloc: Global, change: Change) -> Result<(), AllocError>
+        requires put { IsTrue (is_put_act change.act) }
+        requires standing { IsSome (part_at self.old change.key).standing }
+        requires count { (part_at self.old change.key).count < count_limit }
+        ensures changed { OnOk result (self.new ≡ changed_in same_pieces self.old change) }
+        ensures refused { OnErr result (self.new ≡ self.old) }
+    {
+        let (_key, act) = change.into_parts();
+        self.container.take(alloc, act)?;
+        Ok(())
+    }
+
+    /// Makes a copy of a change, as `take` makes the change itself. The copy has texts of its own, and shares the content.
+    ///
+    /// `AllocError` if memory runs out, or the content can have no further owner. The rows are then as they were.
     pub fn apply(&mut self, alloc: Global, change: &Change) -> Result<(), AllocError>
         requires put { IsTrue (is_put_act change.now.act) }
         requires standing { IsSome (part_at self.old change.now.key).standing }
@@ -100,8 +121,7 @@ impl Rows {
         ensures changed { OnOk result (self.new ≡ changed_in same_pieces self.old change.now) }
         ensures refused { OnErr result (self.new ≡ self.old) }
     {
-        self.container.apply(alloc, change.act())?;
-        Ok(())
+        self.take(alloc, copy_of(change)?)
     }
 }
 

@@ -1,12 +1,16 @@
 //! What no clause says of rows: that the rules mean the reference's, that each call can succeed, and that no body is copied.
 //! Printed replies, with their lines, are cases of `replay_cases`.
+ghost use Rattle.std.specs.Prelude.{◌<◌, IsSome, IsTrue};
+ghost use Rattle.stamp_types.specs.World.{part_at};
+ghost use Rattle.range_rows.specs.ObjectRules.{count_limit};
+ghost use Rattle.range_rows.specs.RequestChanges.{is_put_act};
 
 use crate::answer::{Answer, Span};
 use crate::reading::read_request;
 use crate::rows::Rows;
 use crate::sample_requests::{Sum, body, moment, pics, request};
-use stamp_types::{Body, Header, Items, Op, Piece, Request, Rule, Status};
-use std::alloc::Global;
+use stamp_types::{Body, Change, Header, Items, Op, Piece, Request, Rule, Status};
+use std::alloc::{AllocError, Global};
 use std::fs;
 use std::process::Abort;
 
@@ -51,17 +55,38 @@ fn the_first_rule_that_holds_is_named(rt: HostRuntime) {
     }
 }
 
-// Makes the change of a Put Blob. `drop` lets it go, since its eleven kinds in this body would cost the prover minutes.
-fn change(rt: &impl Abort, alloc: Global, rows: &mut Rows, request: &Request) {
+/// Whether a change moves into its row, or the row gets a copy.
+#[derive(Clone, Copy, PartialEq, Eq)]
+enum Way {
+    Moved,
+    Copied,
+}
+
+// A function of its own, since the eleven kinds of a change would cost the prover minutes in the body of `change`.
+fn make(alloc: Global, rows: &mut Rows, change: Change, way: Way) -> Result<(), AllocError>
+    requires put { IsTrue (is_put_act change.act) }
+    requires standing { IsSome (part_at rows.old change.key).standing }
+    requires count { (part_at rows.old change.key).count < count_limit }
+{
+    match way {
+        Way::Moved => rows.take(alloc, change),
+        Way::Copied => {
+            let applied = rows.apply(alloc, &change);
+            drop(change);
+            applied
+        }
+    }
+}
+
+// Makes the change of a Put Blob.
+fn change(rt: &impl Abort, alloc: Global, rows: &mut Rows, request: &Request, way: Way) {
     assert!(rt; request.ask().op == Op::PutBlob);
     let reading = read_request(request);
     let refusal = rows.object_rule(alloc, request, &reading);
     assert!(rt; refusal.expect(rt, "memory").is_none());
     let change = rows.change(alloc, request, &reading, moment(rt));
     let change = change.expect(rt, "memory");
-    let applied = rows.apply(alloc, &change);
-    drop(change);
-    applied.expect(rt, "memory");
+    make(alloc, rows, change, way).expect(rt, "memory");
 }
 
 // The answer, whose frame has this status and length, and no body.
@@ -84,11 +109,11 @@ fn answer(
     answer
 }
 
-fn put(rt: &impl Abort, alloc: Global, rows: &mut Rows, blob: &str, body: Body) {
+fn put(rt: &impl Abort, alloc: Global, rows: &mut Rows, blob: &str, body: Body, way: Way) {
     let request = request(rt, alloc, Op::PutBlob, "pics", blob, None, body);
     let answer = answer(rt, alloc, rows, &request, Status::Created, 0);
     assert!(rt; answer.spans.as_slice().is_empty());
-    change(rt, alloc, rows, &request);
+    change(rt, alloc, rows, &request, way);
 }
 
 // What goes out of a blob of so many bytes. The metadata is on its line, after the type and the MD5.
@@ -113,7 +138,7 @@ fn name(rt: &impl Abort, alloc: Global, number: u64) -> String {
     format!(in alloc; "blob {number}").expect(rt, "memory")
 }
 
-// A hundred blobs that have their names as their content.
+// A hundred blobs that have their names as their content. The changes of every other blob are copied.
 #[test]
 fn a_hundred_blobs_are_read_back(rt: HostRuntime) {
     let alloc = rt.alloc();
@@ -122,7 +147,12 @@ fn a_hundred_blobs_are_read_back(rt: HostRuntime) {
         let name = name(&rt, alloc, number);
         let bytes = name.as_bytes().to_vec(alloc).expect(&rt, "memory");
         let body = body(&rt, alloc, bytes);
-        put(&rt, alloc, &mut rows, name.as_str(), body);
+        let way = if number % 2 == 0 {
+            Way::Moved
+        } else {
+            Way::Copied
+        };
+        put(&rt, alloc, &mut rows, name.as_str(), body, way);
     }
     for number in 0..100 {
         let name = name(&rt, alloc, number);
@@ -156,7 +186,7 @@ fn rows_and_answers_share_a_body(rt: HostRuntime) {
     for number in 0..100 {
         let name = name(&rt, alloc, number);
         let body = body.share().expect(&rt, "memory");
-        put(&rt, alloc, &mut rows, name.as_str(), body);
+        put(&rt, alloc, &mut rows, name.as_str(), body, Way::Moved);
         let spans = read(&rt, alloc, &rows, name.as_str(), MIB as u64);
         answers.push(spans).expect(&rt, "memory");
     }

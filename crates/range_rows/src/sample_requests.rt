@@ -2,8 +2,8 @@
 
 use crate::rows::Rows;
 use stamp_types::{
-    Args, Ask, Body, Bytes, Credential, Items, Kept, Key, Level, Meta, Metadata, Moment, Op,
-    Request, Share, Signing, Text, Verb, Visible,
+    Args, Ask, Body, Bytes, Credential, FieldList, Items, Kept, Key, Level, Meta, Metadata, Moment,
+    Op, Request, Share, Signing, Text, Verb, Visible,
 };
 use std::alloc::Global;
 use std::process::Abort;
@@ -84,7 +84,7 @@ fn args(rt: &impl Abort, alloc: Global, op: Op, content_md5: Option<Sum>) -> Arg
     }
 }
 
-// The name of the blob, where the operation names one.
+// The name of the blob, if the operation names one.
 fn named(rt: &impl Abort, alloc: Global, op: Op, blob: &str) -> Option<Text> {
     if op == Op::PutBlob || op == Op::GetBlob {
         Some(text(rt, alloc, blob))
@@ -93,7 +93,7 @@ fn named(rt: &impl Abort, alloc: Global, op: Op, blob: &str) -> Option<Text> {
     }
 }
 
-/// A request on the container, or where the operation names a blob on that blob of it.
+/// A request on the container, or, if the operation names a blob, on that blob of the container.
 pub(crate) fn request(
     rt: &impl Abort,
     alloc: Global,
@@ -110,9 +110,9 @@ pub(crate) fn request(
         args: args(rt, alloc, op, content_md5),
         signing: Signing {
             verb: Verb::Put,
-            headers: Items::new(Vec::new(alloc)),
+            headers: FieldList::new(alloc),
             path: Bytes::new(Vec::new(alloc)),
-            query: Items::new(Vec::new(alloc)),
+            query: FieldList::new(alloc),
         },
         credential: Credential::Anonymous,
     };

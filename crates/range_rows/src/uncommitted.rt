@@ -6,7 +6,7 @@ use stamp_types::{Items, UncommittedBlock};
 use std::alloc::Global;
 use std::marker::Model;
 
-/// Blocks that Put Block wrote, in the order of their ids, seen as the map from these.
+/// Blocks that Put Block wrote, in the order of their ids. Contracts see them as the map from these ids to the content.
 #[derive(Debug, Drop)]
 pub(crate) struct Uncommitted {
     blocks: Items<UncommittedBlock>,

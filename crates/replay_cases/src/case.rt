@@ -12,7 +12,7 @@ const READS: u64 = 4_294_967_296;
 #[derive(Drop)]
 pub struct Case {
     pub name: String,
-    /// The number of the line that begins it.
+    /// The number of the line that begins the case.
     pub line: usize,
     /// The account and its keys.
     pub keys: Keys,

@@ -8,7 +8,8 @@ use crate::lines::{
 };
 use crate::texts::{add_text, add_times};
 use access_rules::Keys;
-use stamp_types::{Bytes, Moment, Text};
+use hmac_sign::SigningKey;
+use stamp_types::{Moment, Text};
 use std::alloc::Global;
 
 /// A text that lines add by its name.
@@ -18,11 +19,11 @@ struct NamedText {
     bytes: Vec<u8>,
 }
 
-/// What holds for the cases after it, until it is said again.
+/// What holds for the cases after it, until a line says it anew.
 #[derive(Drop)]
 struct Setting {
     account: Option<Text>,
-    keys: Option<(Bytes, Bytes)>,
+    keys: Option<(SigningKey, SigningKey)>,
     made: Option<Moment>,
 }
 
@@ -57,7 +58,7 @@ pub struct CasesFile {
 }
 
 impl CasesFile {
-    /// A file of which no line was read.
+    /// A file of which no line has been read yet.
     pub fn new(alloc: Global) -> Self {
         Self {
             alloc,
@@ -72,7 +73,7 @@ impl CasesFile {
         }
     }
 
-    /// Takes the line of this number, without its end. If it ends a case, that case is given.
+    /// Takes the line of this number, without its end. If the line ends a case, the answer is that case.
     pub fn take_line(&mut self, line: &str, number: usize) -> Result<Option<Case>, LineFault> {
         if line.is_empty() || line.starts_with('#') {
             return Ok(None);
@@ -89,7 +90,7 @@ impl CasesFile {
         Ok(None)
     }
 
-    /// The line of the case that was begun and has no end, if there is one.
+    /// The line of the case that was begun and has no end, if there is such a case.
     pub fn open_line(&self) -> Option<usize> {
         match &self.open {
             Some(case) => Some(case.line),
@@ -176,7 +177,7 @@ fn add_bytes(
     }
 }
 
-// Takes a line that is written in a case, and does not end it.
+// Takes a line that is written in a case and does not end the case.
 fn add_to_case(
     alloc: Global,
     case: &mut Case,

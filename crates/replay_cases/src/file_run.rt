@@ -11,7 +11,7 @@ use std::alloc::Global;
 use std::io::Write;
 use thiserror::Error;
 
-/// Why the cases of a file were not run to its end.
+/// Why the cases of a file were not run to the end of the file.
 #[derive(Clone, Copy, Debug, PartialEq, Eq, Error)]
 pub enum Why {
     /// The line is refused.
@@ -28,7 +28,7 @@ pub enum Why {
     TooMany,
 }
 
-/// The number of the line at which it came to that.
+/// Why the run of a file stopped, and the number of the line that the message names.
 #[derive(Clone, Copy, Debug, PartialEq, Eq, Error)]
 #[error("{line}: {why}")]
 pub struct Fault {
@@ -48,7 +48,7 @@ fn run_case<W: Write>(alloc: Global, writer: &mut W, file: &str, case: &Case) ->
     }
 }
 
-// Reads a line, and runs the case that it ends, if it ends one.
+// Reads a line. If the line ends a case, runs that case.
 fn run_line<W: Write>(
     alloc: Global,
     writer: &mut W,
@@ -67,7 +67,7 @@ fn run_line<W: Write>(
     }
 }
 
-/// Runs the cases of the text of a file, writes a line for each that differs, and counts them.
+/// Runs the cases of the text of a file, writes a line for each case that differs, and counts the cases.
 pub fn run_text<W: Write>(
     alloc: Global,
     writer: &mut W,

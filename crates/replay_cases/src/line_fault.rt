@@ -14,7 +14,7 @@ pub enum LineFault {
     /// A backslash does not begin one of the escapes.
     #[error("bad escape")]
     Escape,
-    /// The text is not a decimal number of at most 64 bits, or so many bytes are too many.
+    /// The text is not a decimal number of at most 64 bits, or it asks for more bytes than can be counted.
     #[error("bad number")]
     Number,
     /// The text is not a moment.
@@ -44,10 +44,10 @@ pub enum LineFault {
     /// The line belongs in a case, and no case was begun.
     #[error("no case was begun")]
     NoCase,
-    /// The line belongs between two cases, or the file ends, and the case before has no end.
+    /// The case before has no end, but the line belongs between two cases or the file ends.
     #[error("the case has no end")]
     NoEnd,
-    /// An account and keys were not said before the case.
+    /// The lines before the case did not give both an account and keys.
     #[error("no account or no keys were said")]
     NoKeys,
     /// Neither `moment` nor `made` was said for the case.

@@ -1,10 +1,10 @@
 //! The words of lines, and the values that their texts give.
 
 use crate::line_fault::LineFault;
-use hmac_sign::{SecretFault, read_key};
+use hmac_sign::{SecretFault, SigningKey, read_key};
 use http_front::{End, FrontFault};
 use moment_text::read_iso;
-use stamp_types::{Bytes, Moment, Text, is_account};
+use stamp_types::{Moment, Text, is_account};
 use std::alloc::Global;
 
 /// How a line gives bytes: as a text, by the name of a text, or as a count and the text that is repeated.
@@ -32,7 +32,7 @@ pub enum Word {
     End,
 }
 
-/// The word that is written so.
+/// The word that is written in this way.
 pub fn read_word(word: &str) -> Option<Word> {
     match word {
         "account" => Some(Word::Account),
@@ -55,17 +55,17 @@ pub fn read_word(word: &str) -> Option<Word> {
     }
 }
 
-/// The number that the text is in decimal.
+/// The number that the text writes in decimal.
 pub fn read_number(text: &str) -> Result<u64, LineFault> {
     text.parse::<u64>().map_err(|_| LineFault::Number)
 }
 
-/// The same, as a count of bytes or of repetitions.
+/// The number that the text writes in decimal, as a count of bytes or of repetitions.
 pub fn read_count(text: &str) -> Result<usize, LineFault> {
     text.parse::<usize>().map_err(|_| LineFault::Number)
 }
 
-/// The moment that the text is in one of the accepted shapes.
+/// The moment that the text writes in one of the accepted shapes.
 pub fn read_moment(text: &str) -> Result<Moment, LineFault> {
     read_iso(text.as_bytes()).map_err(|_| LineFault::Moment)
 }
@@ -80,27 +80,27 @@ pub fn read_account(alloc: Global, text: &str) -> Result<Text, LineFault> {
 }
 
 // The key that is given in Base64, or as `-` if it has no bytes.
-fn read_secret(alloc: Global, text: &str) -> Result<Bytes, LineFault> {
+fn read_secret(alloc: Global, text: &str) -> Result<SigningKey, LineFault> {
     if text.is_empty() {
         return Err(LineFault::Keys);
     }
     let text = if text == "-" { "" } else { text };
     match read_key(alloc, text.as_bytes()) {
-        Ok(key) => Ok(Bytes::new(key)),
+        Ok(key) => Ok(SigningKey::new(key)),
         Err(SecretFault::NotBase64) => Err(LineFault::Keys),
         Err(SecretFault::NoMemory) => Err(LineFault::NoMemory),
     }
 }
 
 /// The two keys of an account.
-pub fn read_keys(alloc: Global, text: &str) -> Result<(Bytes, Bytes), LineFault> {
+pub fn read_keys(alloc: Global, text: &str) -> Result<(SigningKey, SigningKey), LineFault> {
     let (first, second) = text.split_once(' ').ok_or(LineFault::Keys)?;
     let first = read_secret(alloc, first)?;
     let second = read_secret(alloc, second)?;
     Ok((first, second))
 }
 
-/// How a connection ends that ends so.
+/// The end of a connection that this word names.
 pub fn read_end(text: &str) -> Result<Result<End, FrontFault>, LineFault> {
     match text {
         "clean" => Ok(Ok(End::Clean)),

@@ -11,8 +11,6 @@ use tally::Tally;
 mod case;
 mod cases_file;
 mod file_run;
-#[cfg(test)]
-mod file_run_tests;
 mod line_fault;
 mod lines;
 mod report;
@@ -42,7 +40,7 @@ fn main(rt: HostRuntime) -> ExitCode {
     ExitCode::from(ending as u8)
 }
 
-/// Runs the files that the words name, and prints a line for each case that differs, and the count.
+/// Runs the files that the arguments name, prints a line for each case that differs, and prints the count.
 fn run_files<R: Env + Files + AllocGlobal + Print + Eprint>(rt: &R) -> io::Result<Ending> {
     let mut tally = Tally::NONE;
     for file in env::args(rt)?.skip(1) {
@@ -60,7 +58,7 @@ fn run_files<R: Env + Files + AllocGlobal + Print + Eprint>(rt: &R) -> io::Resul
     })
 }
 
-/// Runs the cases of a file. If it is not read to its end, standard error gets a line that says why.
+/// Runs the cases of a file. If the file is not read to its end, standard error gets a line that says why.
 fn run_file<R: Files + AllocGlobal + Print + Eprint>(
     rt: &R,
     file: &str,

@@ -6,7 +6,7 @@ use http_front::{End, FrontFault};
 use std::io::Write;
 use std::{fmt, io};
 
-/// How many bytes are shown around the first byte that differs, and how many of them come before it.
+/// How many bytes are shown around the first byte that differs, and how many of these bytes come before that byte.
 const SHOWN: usize = 40;
 
 const SHOWN_BEFORE: usize = 10;
@@ -43,7 +43,8 @@ fn end_word(end: &Result<End, FrontFault>) -> &'static str {
     }
 }
 
-// The index of the first byte that differs. If one of the two begins with the other, that is the end of the shorter.
+// The index of the first byte that differs. If the longer list begins with the shorter, it is the length
+// of the shorter list.
 fn first_difference(a: &[u8], b: &[u8]) -> Option<usize> {
     let shorter = a.len().min(b.len());
     let differs = a.iter().zip(b).position(|(x, y)| x != y);

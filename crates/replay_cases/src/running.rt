@@ -1,4 +1,4 @@
-//! Runs a case against the service over memory.
+//! Runs a case against the service, with input and output in memory.
 ghost use Rattle.std.specs.Prelude.{◌≡◌, ◌↔◌, IsTrue};
 
 use crate::case::Case;
@@ -56,7 +56,7 @@ pub struct Outcome {
     pub ended: Result<End, FrontFault>,
 }
 
-/// How many bytes a read gave in a run that was not as its case wants it, and that run.
+/// How many bytes a read gave at most in a run that was not as its case wants it, and that run.
 #[derive(Drop)]
 pub struct Difference {
     pub piece: usize,
@@ -118,7 +118,7 @@ fn difference_in(
     Ok(Some(Difference { piece, outcome }))
 }
 
-/// Runs the case in each way of reading, and gives the first run that is not as it wants it.
+/// Runs the case in each way of reading, and gives the first run that is not as the case wants it.
 pub fn find_difference(
     alloc: Global,
     case: &Case,

@@ -18,7 +18,7 @@ impl Tally {
         holding: 0,
     };
 
-    /// With one case more, unless that is too many to be counted.
+    /// The tally with one more case, unless there are then too many cases to be counted.
     pub fn with(self, holds: bool) -> Option<Self>
         ensures cases { IfSome result (λ tally. tally.cases ≡ self.cases + 1) }
         ensures holding { IfSome result (λ tally. tally.holding ≡ self.holding + (if holds then 1 else 0)) }

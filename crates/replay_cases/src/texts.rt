@@ -9,7 +9,7 @@ ghost use Rattle.replay_cases.specs.declared.line_fault.LineFault.{LineFault};
 
 use crate::line_fault::LineFault;
 
-// The value of a hexadecimal digit, of which those above 9 are lower case.
+// The value of a hexadecimal digit. The digits above 9 are lower-case letters.
 fn digit_value(digit: u8) -> Option<u8>
     ensures value { result ≡ texts.digit_value digit }
     ensures small { IfSome result (λ value. value < 16) }
@@ -77,7 +77,7 @@ fn next_byte(text: &[u8]) -> Option<(u8, &[u8])>
 
 /// Adds the bytes that the text stands for.
 ///
-/// After an `Err` those before the bad escape were added.
+/// After `Escape`, the bytes before the bad escape have been added.
 #[tactic(auto, using(crate::proofs::TextLemmas::after_step, crate::proofs::TextLemmas::after_all, crate::proofs::TextLemmas::after_none))]
 pub fn add_text(bytes: &mut Vec<u8>, text: &str) -> Result<(), LineFault>
     ensures added { OnOk result (IsSomeAnd (bytes_of text.now) (λ more. bytes.new.items ≡ bytes.old.items ++ more)) }
@@ -94,9 +94,9 @@ pub fn add_text(bytes: &mut Vec<u8>, text: &str) -> Result<(), LineFault>
     Ok(())
 }
 
-/// Adds the bytes so many times.
+/// Adds the bytes `count` times.
 ///
-/// `Number` if they are too many to be counted.
+/// `Number` if that is more bytes than can be counted.
 #[tactic(auto, using(crate::proofs::TextLemmas::repeat_next))]
 pub fn add_times(bytes: &mut Vec<u8>, count: usize, once: &[u8]) -> Result<(), LineFault>
     ensures added { OnOk result (bytes.new.items ≡ bytes.old.items ++ repeat count once.now) }

@@ -8,7 +8,7 @@ use Rattle.stamp_types.specs.declared.status.Status.TheVariants.{InternalServerE
 abbrev pub interim_bytes : List ℕ
 interim_bytes = codes "HTTP/1.1 100 Continue\r\n" ++ codes "\r\n"
 
--- what is said where there is no memory for a reply: with neither date nor version
+-- the reply that is given if memory runs out for a reply: it has neither a date nor a version
 abbrev pub out_of_memory_bytes : List ℕ
 out_of_memory_bytes =
     status_line InternalServerError ++ connection_line true ++ rule_line (Some M1)

@@ -18,13 +18,13 @@ line name value = name ++ codes ": " ++ value ++ codes "\r\n"
 unfoldable pub md5_text : List ℕ → List ℕ
 md5_text sum = encode_of standard sum
 
--- the line of a level of public access: a closed container has none
+-- the line of a level of public access: a closed container has no line
 abbrev pub level_line : Level → List ℕ
 level_line Closed = []
 level_line Blob = line (codes "x-ms-blob-public-access") (codes "blob")
 level_line Container = line (codes "x-ms-blob-public-access") (codes "container")
 
--- a part of a blob: its first byte, its last, and how many the blob has
+-- a part of a blob: the part's first byte, its last byte, and how many bytes the blob has
 abbrev pub range_text : SentRange → List ℕ
 range_text range = codes "bytes " ++ decimal range.first ++ codes "-" ++ decimal range.last ++ codes "/" ++ decimal range.total
 

@@ -20,12 +20,12 @@ phrase status = unwrap_or (reason_phrase (status_number status)) []
 unfoldable pub status_line : Status → List ℕ
 status_line status = codes "HTTP/1.1 " ++ decimal (status_number status) ++ codes " " ++ phrase status ++ codes "\r\n"
 
--- the rule that refused, where one did
+-- the line of the rule that refused, if a rule refused
 abbrev pub rule_line : Option Rule → List ℕ
 rule_line None = []
 rule_line (Some rule) = line (codes "x-stamp-rule") (rule_label rule)
 
--- that the connection ends, where it does
+-- the line that says that the connection ends, if it ends
 abbrev pub connection_line : Bool → List ℕ
 connection_line false = []
 connection_line true = line (codes "Connection") (codes "close")
@@ -40,7 +40,7 @@ abbrev pub is_head : Option Verb → Bool
 is_head (Some Head) = true
 is_head other = false
 
--- the length of the body that a GET has, but for 304
+-- the line of the length of the body that the reply to GET has; 304 has no such line
 abbrev pub length_line : Status → ℕ → List ℕ
 length_line status length = if is_not_modified status then [] else line (codes "Content-Length") (decimal length)
 
@@ -48,11 +48,11 @@ length_line status length = if is_not_modified status then [] else line (codes "
 abbrev pub sends_body : Status → Option Verb → Bool
 sends_body status verb = not (is_not_modified status || is_head verb)
 
--- the body, where it is sent
+-- the body, if it is sent
 abbrev pub sent_body : Status → Option Verb → List ℕ → List ℕ
 sent_body status verb body = if sends_body status verb then body else []
 
--- a reply up to the empty line, in the order of its lines
+-- a reply up to and including the empty line, in the order of its lines
 unfoldable pub head_bytes : Reply → ℕ → Bool → List ℕ
 head_bytes reply moment close =
     status_line reply.status

@@ -8,9 +8,9 @@ use moment_text::write_http;
 use stamp_types::{Header, Level, Meta, SentRange, write_etag};
 use std::alloc::{AllocError, Global};
 
-/// Puts a line behind `out`: the name, a colon and a space, the value, CR LF (RFC 9112, section 5).
+/// Appends a line to `out`: the name, a colon and a space, the value, CR LF (RFC 9112, section 5).
 ///
-/// `AllocError` where there is no memory for it.
+/// `AllocError` if memory runs out.
 #[tactic(auto, unfolding(crate::specs::HeaderLines::line))]
 pub fn append_line(out: &mut Vec<u8>, name: &str, value: &[u8]) -> Result<(), AllocError>
     ensures { OnOk result (out.new.items ≡ out.old.items ++ line name.now value.now) }
@@ -21,9 +21,9 @@ pub fn append_line(out: &mut Vec<u8>, name: &str, value: &[u8]) -> Result<(), Al
     out.extend_from_slice(b"\r\n")
 }
 
-/// Puts a line behind `out` whose value is a number in decimal.
+/// Appends a line to `out`. The line's value is a number in decimal.
 ///
-/// `AllocError` where there is no memory for it.
+/// `AllocError` if memory runs out.
 pub fn append_number_line(out: &mut Vec<u8>, name: &str, number: u64) -> Result<(), AllocError>
     ensures { OnOk result (out.new.items ≡ out.old.items ++ line name.now (decimal number)) }
 {
@@ -31,7 +31,7 @@ pub fn append_number_line(out: &mut Vec<u8>, name: &str, number: u64) -> Result<
     append_line(out, name, digits.format(number).as_bytes())
 }
 
-// Metadata, whose names stand behind a prefix.
+// Metadata, with a prefix before its name.
 #[tactic(auto, unfolding(crate::specs::HeaderLines::line))]
 fn append_meta(out: &mut Vec<u8>, meta: &Meta) -> Result<(), AllocError>
     ensures { OnOk result (out.new.items ≡ out.old.items ++ line (codes "x-ms-meta-" ++ meta.now.name) meta.now.value) }
@@ -40,7 +40,7 @@ fn append_meta(out: &mut Vec<u8>, meta: &Meta) -> Result<(), AllocError>
     append_line(out, meta.name.as_str(), meta.value.as_str().as_bytes())
 }
 
-// A number in decimal, and a mark in front of it.
+// A mark, and after it a number in decimal.
 fn append_marked(out: &mut Vec<u8>, mark: &str, number: u64) -> Result<(), AllocError>
     ensures { OnOk result (out.new.items ≡ out.old.items ++ mark.now ++ decimal number) }
 {
@@ -86,9 +86,9 @@ fn append_md5(alloc: Global, out: &mut Vec<u8>, md5: &[u8; 16]) -> Result<(), Al
     append_line(out, "Content-MD5", text.as_bytes())
 }
 
-/// Puts a header's line behind `out`. The level of a closed container has none.
+/// Appends a header's line to `out`. The level of a closed container has no line.
 ///
-/// `AllocError` where there is no memory for it.
+/// `AllocError` if memory runs out.
 pub fn append_header(alloc: Global, out: &mut Vec<u8>, header: &Header) -> Result<(), AllocError>
     ensures { OnOk result (out.new.items ≡ out.old.items ++ header_line header.now) }
 {
@@ -116,9 +116,9 @@ pub fn append_header(alloc: Global, out: &mut Vec<u8>, header: &Header) -> Resul
     }
 }
 
-/// Puts the lines of the headers behind `out`, in their order.
+/// Appends the lines of the headers to `out`, in the order of the headers.
 ///
-/// `AllocError` where there is no memory for them.
+/// `AllocError` if memory runs out.
 pub fn append_headers(
     alloc: Global,
     out: &mut Vec<u8>,

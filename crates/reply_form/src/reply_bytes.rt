@@ -12,7 +12,7 @@ use moment_text::write_http;
 use stamp_types::{Moment, Reply, Rule, Share, Status, Verb};
 use std::alloc::{AllocError, Global};
 
-// Room for a head with a few headers. A longer one makes the list grow.
+// Room for a head with a few headers. A longer head makes the list grow.
 const HEAD_ROOM: usize = 512;
 
 // The standard phrase of a status (RFC 9110, section 15).
@@ -57,7 +57,7 @@ fn append_connection(out: &mut Vec<u8>, close: bool) -> Result<(), AllocError>
     }
 }
 
-// The length of the body that a GET has, which HEAD is told too (RFC 9110, section 9.3.2).
+// The length of the body that the reply to GET has, which the reply to HEAD gives too (RFC 9110, section 9.3.2).
 fn append_length(out: &mut Vec<u8>, status: Status, length: u64) -> Result<(), AllocError>
     ensures { OnOk result (out.new.items ≡ out.old.items ++ length_line status length) }
 {
@@ -73,7 +73,7 @@ fn append_date(out: &mut Vec<u8>, moment: Moment) -> Result<(), AllocError>
     append_line(out, "Date", &write_http(moment))
 }
 
-// The version of the Blob service that is spoken.
+// The version of the Blob service that the stamp speaks.
 fn append_version(out: &mut Vec<u8>) -> Result<(), AllocError>
     ensures { OnOk result (out.new.items ≡ out.old.items ++ line (codes "x-ms-version") (codes "2012-02-12")) }
 {
@@ -124,7 +124,7 @@ fn is_head(verb: Option<Verb>) -> bool
 /// Whether a reply of the status to a request of the verb sends its body: not with 304, and not to HEAD
 /// (RFC 9110, sections 9.3.2 and 15.4.5).
 ///
-/// `verb` is `None` where the method is none that the stamp serves, or the head can't be read.
+/// `verb` is `None` if the stamp does not serve the method, or if the head can't be read.
 pub fn sends_body(status: Status, verb: Option<Verb>) -> bool
     ensures { result ≡ sends_body status verb }
 {
@@ -140,11 +140,11 @@ fn append_shares(out: &mut Vec<u8>, shares: &[Share]) -> Result<(), AllocError>
     Ok(())
 }
 
-/// A reply up to the empty line, for a caller that writes the shares of the body itself, where
-/// `sends_body` says so: nothing of it is copied then. The order of the lines is the product's own choice.
+/// A reply up to and including the empty line, for a caller that writes the shares of the body itself if
+/// `sends_body` says so: then the body is not copied. The order of the lines is the product's own choice.
 ///
-/// `moment` is when the request was judged, `close` whether the connection ends behind the reply.
-/// `AllocError` where there is no memory for the bytes.
+/// `moment` is when the request was judged, and `close` is whether the connection ends after the reply.
+/// `AllocError` if memory runs out.
 pub fn write_head(
     alloc: Global,
     reply: &Reply,
@@ -158,10 +158,10 @@ pub fn write_head(
     Ok(out)
 }
 
-/// A reply as it is sent: its head, and its body where `sends_body` says so (RFC 9110, section 15).
+/// A reply as it is sent: its head, and its body if `sends_body` says so (RFC 9110, section 15).
 ///
-/// `moment` is when the request was judged, `close` whether the connection ends behind the
-/// reply. `AllocError` where there is no memory for the bytes.
+/// `moment` is when the request was judged, and `close` is whether the connection ends after the reply.
+/// `AllocError` if memory runs out.
 #[tactic(auto, unfolding(crate::specs::ReplyBytes::reply_bytes))]
 pub fn write_reply(
     alloc: Global,

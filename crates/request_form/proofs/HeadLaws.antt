@@ -1,17 +1,23 @@
 -- Bytes are read in one way.
-use Rattle.std.proofs.Common.{◌≡◌, ◌⊎◌, ◌≤◌, inl, inr, ℕ, List, [], length, Option, Some, None, is_none, option_map, option_and_then, arith, refl, Result, Ok, Err, IfOk, MatchResult, is_ok, true, false, true≢false, ◌<◌, subst, sym, ap, ◌∙◌}
-use Rattle.std.proofs.lemmas.Bool.{cases_order}
+use Rattle.std.proofs.Common.{◌≡◌, ◌⊎◌, ◌≤◌, inl, inr, ℕ, Bool, List, [], ◌∷◌, ◌++◌, find, length, Option, Some, None, is_none, option_map, option_and_then, arith, refl, Result, Ok, Err, IfOk, MatchResult, true, false, true≢false, ◌<◌, subst, sym, ap, ◌∙◌}
+use Rattle.std.specs.Option.{option_or}
+use Rattle.std.proofs.lemmas.Bool.{cases_order, or_parts}
+use Rattle.std.proofs.lemmas.List.Folds.{find-append}
 use Rattle.httparse.specs.Grammar.{RequestHead, ReadsRequest}
 use Rattle.httparse.proofs.GrammarLemmas.{request_unique}
+use Rattle.stamp_types.specs.declared.rule.Rule.{Rule}
+use Rattle.stamp_types.specs.declared.rule.Rule.TheVariants.{F1, F2, F3}
 use Rattle.stamp_values.specs.declared.op.Op.{Op}
 use Rattle.stamp_values.specs.declared.verb.Verb.{Verb}
 use Rattle.request_form.specs.HeadForms.{Form, form_by, form_of}
-use Rattle.request_form.specs.HeadRules.{denial_of, no_head, op_of, verb_of}
+use Rattle.request_form.specs.HeadReads.{Denies, Passes, field_rules}
+use Rattle.request_form.specs.HeadRules.{denial_among, denial_of, denied_by, denied_verb, head_code, head_holds, head_rules, no_head, op_at, op_of, verb_of}
 use Rattle.request_form.specs.Heads.{IsHead, IsNoHead, Accepts, Refuses, head_limit, fields_limit, parsed_of}
-use Rattle.request_form.proofs.AllowedHeads.{allowed}
+use Rattle.request_form.specs.Targets.{target_of}
 use Rattle.request_form.proofs.HeadDecisions.{head_found}
 use Rattle.request_form.specs.declared.denial.Denial.{Denial}
 use Rattle.request_form.specs.declared.denial.HeadFault.{HeadFault}
+use Rattle.request_form.specs.declared.denial.HeadFault.TheVariants as fault
 use Rattle.request_form.specs.declared.parsed_head.ParsedHead.{ParsedHead}
 
 -- bytes are one head at most
@@ -40,23 +46,42 @@ one_denial text d e (inl x) (inr y) = absurd (y.0 x.head x.is_head)
 one_denial text d e (inr x) (inl y) = absurd (x.0 y.head y.is_head)
 one_denial text d e (inr x) (inr y) = x.1 ∙ sym y.1
 
--- a head that was read and is refused
-pub refused : (text : List ℕ) (p : ParsedHead) (d : Denial) → (h : RequestHead) × IsHead text h × (p ≡ parsed_of h) → denial_of p ≡ Some d → Refuses text d
-refused text p d (h, is, same) denied = inl (record { head = h; is_head = is; denied = sym (ap denial_of same) ∙ denied })
+-- a head that was read is accepted or refused
+pub accepted : (text : List ℕ) (p : ParsedHead) (r : Result Form HeadFault) → (h : RequestHead) × IsHead text h × (p ≡ parsed_of h)
+    → MatchResult r (λ form. (denial_of p ≡ None) × (form_of p ≡ Some form)) (Denies p head_rules) → IfOk r (λ form. Accepts text form)
+accepted text p (Ok form) (h, is, same) both = record { head = h; is_head = is; allowed = sym (ap denial_of same) ∙ both.0; asks = sym (ap form_of same) ∙ both.1 }
+accepted text p (Err fault) head both = tt
 
--- a head that was read and is not refused
-pub accepted : (text : List ℕ) (p : ParsedHead) (form : Form) → (h : RequestHead) × IsHead text h × (p ≡ parsed_of h) → denial_of p ≡ None → form_of p ≡ Some form → Accepts text form
-accepted text p form (h, is, same) allowed asks = record { head = h; is_head = is; allowed = sym (ap denial_of same) ∙ allowed; asks = sym (ap form_of same) ∙ asks }
+pub refused : (text : List ℕ) (p : ParsedHead) (r : Result Form HeadFault) (d : Denial) → (h : RequestHead) × IsHead text h × (p ≡ parsed_of h)
+    → MatchResult r (λ form. (denial_of p ≡ None) × (form_of p ≡ Some form)) (Denies p head_rules) → r ≡ Err (fault.Denied d) → Refuses text d
+refused text p r d (h, is, same) both e = let denied = rw e at both in inl (record { head = h; is_head = is; denied = sym (ap denial_of same) ∙ denied })
 
--- a judged head that was read is accepted or refused
-pub accepted_of : (text : List ℕ) (p : ParsedHead) (r : Result Form HeadFault) → (h : RequestHead) × IsHead text h × (p ≡ parsed_of h) → IfOk r (λ form. (denial_of p ≡ None) × (form_of p ≡ Some form)) → IfOk r (λ form. Accepts text form)
-accepted_of text p (Ok form) head both = accepted text p form head both.0 both.1
-accepted_of text p (Err fault) head both = tt
+-- ---- several rules in turn
 
--- what another error was put on was the same value
-pub ok_before : {X E D : Type 0} (Q : E → Type 0) (s : Result X E) (r : Result X D) (x : X) → MatchResult s (λ y. r ≡ Ok y) Q → is_ok r ≡ is_ok s → r ≡ Ok x → s ≡ Ok x
-ok_before Q (Ok y) r x cases variant was = let same : Ok y ≡ r = sym cases in let both : Ok y ≡ Ok x = same ∙ was in cc
-ok_before Q (Err e) r x cases variant was = let both : true ≡ false = rw was at variant in absurd (true≢false both)
+-- of two lists of rules, one after the other
+among : (p : ParsedHead) (xs ys : List Rule) → denial_among p (xs ++ ys) ≡ option_or (denial_among p xs) (denial_among p ys)
+unfolding denial_among
+among p xs ys = by_found (find (head_holds p) xs) (find (head_holds p) ys) (find-append (head_holds p) xs ys)
+  where
+    told : Option Rule → Option Denial
+    told found = option_map (λ rule. denied_by rule (head_code p rule) (denied_verb p rule)) found
+
+    by_found : (a b : Option Rule) → find (head_holds p) (xs ++ ys) ≡ option_or a b → told (find (head_holds p) (xs ++ ys)) ≡ option_or (told a) (told b)
+    by_found None b e = ap told e
+    by_found (Some rule) b e = ap told e
+
+-- a refusal by the first rules
+pub denies_first : (p : ParsedHead) (xs ys : List Rule) (f : HeadFault) → Denies p xs f → Denies p (xs ++ ys) f
+denies_first p xs ys (fault.Denied d) e = among p xs ys ∙ ap (λ o. option_or o (denial_among p ys)) e
+denies_first p xs ys fault.NoMemory e = tt
+
+-- a refusal by the rules that come after rules that do not hold
+pub denies_next : (p : ParsedHead) (xs ys : List Rule) (f : HeadFault) → Passes p xs → Denies p ys f → Denies p (xs ++ ys) f
+denies_next p xs ys (fault.Denied d) none e = among p xs ys ∙ ap (λ o. option_or o (denial_among p ys)) none ∙ e
+denies_next p xs ys fault.NoMemory none e = tt
+
+pub passes_both : (p : ParsedHead) (xs ys : List Rule) → Passes p xs → Passes p ys → Passes p (xs ++ ys)
+passes_both p xs ys none more = among p xs ys ∙ ap (λ o. option_or o (denial_among p ys)) none ∙ more
 
 -- ---- each text is accepted or refused
 
@@ -82,19 +107,44 @@ is_head_or_not : (text : List ℕ) → ((h : RequestHead) × ReadsRequest text h
 is_head_or_not text (inl h) = limited text h.0 h.1 (within (length text) head_limit) (within (length h.0.fields) fields_limit)
 is_head_or_not text (inr none) = inr (λ k is. none k is.reads)
 
--- a method and an operation that are known make a form
-some_form : (p : ParsedHead) (op : Option Op) (verb : Option Verb) → is_none op ≡ false → is_none verb ≡ false
+-- an operation that is known makes a form, since it has a method
+some_form : (p : ParsedHead) (op : Option Op) (verb : Option Verb) → is_none op ≡ false → op ≡ option_and_then (λ verb. op_at verb (target_of p.target)) verb
     → (form : Form) × (option_and_then (λ o. option_map (λ v. form_by o v p) verb) op ≡ Some form)
-some_form p None verb known named = absurd (true≢false known)
-some_form p (Some op) None known named = absurd (true≢false named)
-some_form p (Some op) (Some verb) known named = (form_by op verb p, refl)
+some_form p None verb known of = absurd (true≢false known)
+some_form p (Some op) None known of = absurd (cc)
+some_form p (Some op) (Some verb) known of = (form_by op verb p, refl)
+
+op_parts : (p : ParsedHead) → op_of p ≡ option_and_then (λ verb. op_at verb (target_of p.target)) (verb_of p.method)
+unfolding op_of
+op_parts p = refl
+
+-- nothing was found, so the first does not pass, and nothing is found after it
+not_found : {X : Type 0} (f : X → Bool) (x : X) (xs : List X) → find f (x ∷ xs) ≡ None → (f x ≡ false) × (find f xs ≡ None)
+not_found f x xs e = by_test (f x) refl
+  where
+    by_test : (b : Bool) → f x ≡ b → (f x ≡ false) × (find f xs ≡ None)
+    by_test true t = let some : Some x ≡ None = rw t at e in absurd (cc)
+    by_test false t = (t, rw t at e)
+
+none_told : {X Y : Type 0} (g : X → Y) (o : Option X) → option_map g o ≡ None → o ≡ None
+none_told g None e = refl
+none_told g (Some x) e = absurd (cc)
+
+-- the operation of a head that no rule refuses is known
+known_op : (p : ParsedHead) → denial_of p ≡ None → is_none (op_of p) ≡ false
+unfolding denial_among
+known_op p free =
+    let none = none_told (λ rule. denied_by rule (head_code p rule) (denied_verb p rule)) (find (head_holds p) head_rules) free in
+    let f1 = not_found (head_holds p) F1 (F2 ∷ F3 ∷ field_rules) none in
+    let f2 = not_found (head_holds p) F2 (F3 ∷ field_rules) f1.1 in
+    let f3 = not_found (head_holds p) F3 field_rules f2.1 in
+    (or_parts _ _ f3.0).0
 
 by_denial : (text : List ℕ) (h : RequestHead) → IsHead text h → (denial : Option Denial) → denial_of (parsed_of h) ≡ denial
     → ((form : Form) × Accepts text form) ⊎ ((d : Denial) × Refuses text d)
 by_denial text h is (Some d) denied = inr (d, inl (record { head = h; is_head = is; denied = denied }))
 by_denial text h is None free =
-    let rules = allowed (parsed_of h) free in
-    let form = some_form (parsed_of h) (op_of (parsed_of h)) (verb_of (parsed_of h).method) rules.operation rules.verb in
+    let form = some_form (parsed_of h) (op_of (parsed_of h)) (verb_of (parsed_of h).method) (known_op (parsed_of h) free) (op_parts (parsed_of h)) in
     inl (form.0, record { head = h; is_head = is; allowed = free; asks = form.1 })
 
 by_head : (text : List ℕ) → ((k : RequestHead) × IsHead text k) ⊎ IsNoHead text → ((form : Form) × Accepts text form) ⊎ ((d : Denial) × Refuses text d)

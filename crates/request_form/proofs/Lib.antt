@@ -1,7 +1,5 @@
-pub mod AllowedHeads
 pub mod AskLemmas
 pub mod Base64Lemmas
-pub mod FieldLemmas
 pub mod HeadDecisions
 pub mod HeadLaws
 pub mod HeadLemmas

@@ -1,19 +1,19 @@
 -- Bytes that are texts: names in ASCII, and values that are visible.
-use Rattle.std.proofs.Common.{◌≡◌, ◌∙◌, sym, ℕ, zero, suc, ◌≤◌, ◌<◌, Bool, true, false, ◌==◌, nat_lt, nat_le, List, [], ◌∷◌, length, slice_index, refl, arith, leb-true}
-use Rattle.std.proofs.lemmas.Bool.{and_parts, and_from, or_parts, not-false}
+use Rattle.std.proofs.Common.{◌≡◌, inl, inr, IsTrue, IsUtf8, sym, ℕ, zero, suc, ◌≤◌, ◌<◌, Bool, true, false, not, ◌&&◌, ◌==◌, cond, nat_lt, nat_le, List, [], ◌∷◌, length, slice_index, is_ok, Ok, Err, refl, arith, leb-true, true≢false}
+use Rattle.std.proofs.lemmas.Bool.{and_parts, and_from, cases_Bool, or_parts, not-false}
 use Rattle.std.proofs.lemmas.Bool.Decides.{nat_tests}
-use Rattle.std.proofs.lemmas.Str.{IsUtf8-from_ascii, utf8_valid_len-IsUtf8, utf8_valid_len-IsValidUpTo}
-use Rattle.std.specs.Str.{IsValidUpTo}
+use Rattle.std.proofs.lemmas.List.Sums.{sum_by-cons}
+use Rattle.std.proofs.lemmas.Str.{IsCharBoundary-start, IsUtf8-from_ascii, utf8_valid_len-IsUtf8}
 use Rattle.std.specs.List.{list_all}
-use Rattle.std.specs.Prelude.{Ok}
-use Rattle.percent_encoding.specs.Percent.{percent_decode}
 use Rattle.request_form.specs.BlobNames.{decoded_name, name_of}
-use Rattle.request_form.specs.HeadFields.{is_utf8}
+use Rattle.request_form.specs.declared.names.NameFault.TheVariants as fault
+use Rattle.request_form.proofs.Utf8Lemmas.{is_utf8-IsUtf8}
+use Rattle.stamp_values.specs.Texts.{is_utf8}
 use Rattle.request_form.specs.HeadForms.{blob_name_of}
 use Rattle.request_form.specs.HeadRules.{has_bad_name}
 use Rattle.request_form.specs.Targets.{is_nothing, account_of, container_of, blob_of}
 use Rattle.stamp_values.specs.Names.{is_lower_or_digit, is_container_byte, is_account, is_container, is_blob, is_within}
-use Rattle.stamp_values.specs.Texts.{is_visible, is_visible_byte, is_clean, char_count}
+use Rattle.stamp_values.specs.Texts.{is_visible, is_visible_byte, is_clean, is_continuation, char_count}
 
 weaker : (p q : ℕ → Bool) → ((b : ℕ) → p b ≡ true → q b ≡ true) → (t : List ℕ) → list_all p t ≡ true → list_all q t ≡ true
 weaker p q each [] all = refl
@@ -72,56 +72,80 @@ container_some t good =
     let bytes = and_parts _ _ (and_parts _ _ (and_parts _ _ (and_parts _ _ good).0).0).0 in
     leb-true 3 (length t) (and_parts (nat_le 3 (length t)) (nat_le (length t) 63) bytes.0).0
 
--- a blob's name has no control characters
-pub blob_clean : (t : List ℕ) → is_blob t ≡ true → is_clean t ≡ true
-blob_clean t good = (and_parts _ _ good).1
+-- bytes that are not a text are not visible
+pub not_utf8 : (t : List ℕ) → ¬ (IsUtf8 t) → is_visible t ≡ false
+not_utf8 t none = elim (cases_Bool (is_visible t)) [
+  | inl all ↦ absurd (none (IsUtf8-from_ascii t (visible_ascii t all)))
+  | inr some ↦ some
+]
 
--- bytes that are UTF-8 up to a place alone do not pass
-pub not_in_part : (t : List ℕ) (at : ℕ) → IsValidUpTo t at → is_utf8 t ≡ true → ⊥
-unfolding is_utf8
-not_in_part t at part whole =
-    let found = utf8_valid_len-IsValidUpTo t at part in
-    let short = part.short in
-    absurd (grind (arith, nat_tests))
+-- nor is a text that is not clean
+pub not_clean : (t s : List ℕ) → s ≡ t → ¬ (IsTrue (is_clean s)) → is_visible t ≡ false
+not_clean t s same none = elim (cases_Bool (is_visible t)) [
+  | inl all ↦ absurd (none (rw same (visible_clean t all)))
+  | inr some ↦ some
+]
 
--- what the names of a path are where none is bad
+-- a text that is not empty has a character
+some_char : (t : List ℕ) → is_utf8 t ≡ true → is_nothing t ≡ false → 1 ≤ char_count t
+some_char [] text some = absurd (true≢false some)
+some_char (b ∷ t) text some =
+    let start = (IsCharBoundary-start (b ∷ t) ((is_utf8-IsUtf8 (b ∷ t)).0 text)).1 (omega arith) in
+    let first : not (is_continuation b) ≡ true = grind (arith, nat_tests) in
+    let more = sum_by-cons (λ c. cond (not (is_continuation c)) 1 0) b t in
+    let one : ◌≡◌ {A = ℕ} (cond (not (is_continuation b)) 1 0) 1 = rw first in
+    omega (arith, more, one)
+
+-- what the tests of a name say of one that passes them
+passed : (none text long clean : Bool) (name : List ℕ)
+    → is_ok (cond none (Err fault.Empty) (cond (not text) (Err fault.NotUtf8) (cond long (Err fault.TooLong) (cond (not clean) (Err fault.Control) (Ok name))))) ≡ true
+    → (none ≡ false) × (text ≡ true) × (long ≡ false) × (clean ≡ true)
+passed false true false true name good = (refl, refl, refl, refl)
+passed true text long clean name good = absurd (true≢false (sym good))
+passed false false long clean name good = absurd (true≢false (sym good))
+passed false true true clean name good = absurd (true≢false (sym good))
+passed false true false false name good = absurd (true≢false (sym good))
+
+-- a name that is read is a good one
+good_blob : (name : List ℕ) → is_ok (decoded_name name) ≡ true → is_blob name ≡ true
+unfolding decoded_name
+good_blob name good =
+    let (some, text, short, clean) = passed (is_nothing name) (is_utf8 name) (nat_lt 1024 (char_count name)) (is_clean name) name good in
+    let least = some_char name text some in
+    let within : is_within 1 1024 (char_count name) ≡ true = grind (arith, nat_tests) in
+    and_from (is_within 1 1024 (char_count name)) (is_clean name) within clean
+
+-- a name that is read is what was decoded
+pub name_is : (name read : List ℕ) → decoded_name name ≡ Ok read → read ≡ name
+unfolding decoded_name
+name_is name read e = by_tests (is_nothing name) (is_utf8 name) (nat_lt 1024 (char_count name)) (is_clean name) e
+  where
+    by_tests : (none text long clean : Bool)
+        → cond none (Err fault.Empty) (cond (not text) (Err fault.NotUtf8) (cond long (Err fault.TooLong) (cond (not clean) (Err fault.Control) (Ok name)))) ≡ Ok read → read ≡ name
+    by_tests false true false true e = cc
+    by_tests true text long clean e = absurd (cc)
+    by_tests false false long clean e = absurd (cc)
+    by_tests false true true clean e = absurd (cc)
+    by_tests false true false false e = absurd (cc)
+
+-- what the names of a path are if none is bad
 pub record HasGoodNames (path : List ℕ) : Type 0 where
   pub account : is_account (account_of path) ≡ true
   pub container : is_container (container_of path) ≡ true
-  pub utf8 : is_utf8 (percent_decode (blob_of path)) ≡ true
-  pub blob : is_blob (percent_decode (blob_of path)) ≡ true
+  pub blob : is_blob (blob_name_of path) ≡ true
 
 pub good_names : (path : List ℕ) → has_bad_name path ≡ false → HasGoodNames path
-unfolding has_bad_name
+unfolding has_bad_name blob_name_of
 good_names path e =
     let parts = or_parts _ _ e in
     let places = or_parts _ _ parts.0 in
-    let blobs = and_parts _ _ (not-false _ parts.1) in
-    record { account = not-false _ places.0; container = not-false _ places.1; utf8 = blobs.0; blob = blobs.1 }
+    record { account = not-false _ places.0; container = not-false _ places.1; blob = good_blob _ (not-false _ parts.1) }
 
--- a good name of a blob is read as it is
-pub good_name : (name : List ℕ) → is_utf8 name ≡ true → is_blob name ≡ true → decoded_name name ≡ Ok name
-unfolding decoded_name
-good_name [] text good = absurd (cc)
-good_name (b ∷ t) text good =
-    let parts = and_parts (is_within 1 1024 (char_count (b ∷ t))) (is_clean (b ∷ t)) good in
-    let least = and_parts (nat_le 1 (char_count (b ∷ t))) (nat_le (char_count (b ∷ t)) 1024) parts.0 in
-    let short : nat_lt 1024 (char_count (b ∷ t)) ≡ false = grind (arith, nat_tests) in
-    let some : is_nothing (b ∷ t) ≡ false = grind (arith, nat_tests) in
-    rw (some, text, short, parts.1)
+-- a path whose names were read has no bad one
+pub no_bad_name : (path blob : List ℕ) → (is_account (account_of path) && is_container (container_of path)) ≡ true → name_of (blob_of path) ≡ Ok blob → has_bad_name path ≡ false
+unfolding has_bad_name
+no_bad_name path blob places named = let both = and_parts (is_account (account_of path)) (is_container (container_of path)) places in rw (both.0, both.1, named)
 
--- and so is the one of a path that has good names
-pub good_blob_name : (path : List ℕ) → has_bad_name path ≡ false → name_of (blob_of path) ≡ Ok (blob_name_of path)
-unfolding blob_name_of
-good_blob_name path e =
-    let good = good_names path e in
-    good_name (percent_decode (blob_of path)) good.utf8 good.blob
-
--- a name that is read of a path with good names is clean
-pub named_clean : (path rest name : List ℕ) → has_bad_name path ≡ false → rest ≡ blob_of path → name_of rest ≡ Ok name → is_clean name ≡ true
-named_clean path rest name e same named =
-    let good = good_names path e in
-    let there : name_of (blob_of path) ≡ Ok name = rw same at named in
-    let both : Ok name ≡ Ok (percent_decode (blob_of path)) = sym there ∙ good_name (percent_decode (blob_of path)) good.utf8 good.blob in
-    let value : name ≡ percent_decode (blob_of path) = cc in
-    rw value (blob_clean (percent_decode (blob_of path)) good.blob)
+-- two good names are visible
+pub key_visible : (account container : List ℕ) → is_account account ≡ true → is_container container ≡ true → (is_visible account && is_visible container) ≡ true
+key_visible account container a c = and_from _ _ (account_visible account a) (container_visible container c)

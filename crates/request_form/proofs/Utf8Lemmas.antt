@@ -9,7 +9,7 @@ use Rattle.std.specs.Str.Lossy.{utf8_valid_len}
 use Rattle.std.specs.Str.{IsValidUpTo}
 use Rattle.std.proofs.lemmas.Str.{utf8_valid_len-IsUtf8, utf8_valid_len-IsValidUpTo}
 use Rattle.std.proofs.lemmas.Bool.Decides.{nat_tests}
-use Rattle.request_form.specs.HeadFields.{is_utf8}
+use Rattle.stamp_values.specs.Texts.{is_utf8}
 
 -- a text in UTF-8 passes
 pub utf8_passes : (bytes : List ℕ) → IsUtf8 bytes → is_utf8 bytes ≡ true

@@ -1,58 +1,14 @@
 -- Values that were sent under a name.
-use Rattle.std.proofs.Common.{◌≡◌, ℕ, ◌+◌, ◌≤◌, Bool, true, false, not, ◌&&◌, ◌||◌, cond, List, [], ◌∷◌, length, find, sum_by, Option, Some, None, Result, Ok, Err, option_map, bytes_eq, codes, IfSome, IfOk, refl, sym, ap, ◌∙◌, arith, true≢false}
-use Rattle.std.proofs.lemmas.Bool.{and_parts, or_parts, not-false}
+use Rattle.std.proofs.Common.{◌≡◌, ℕ, ◌+◌, ◌≤◌, Bool, true, false, ◌&&◌, ◌||◌, cond, List, [], ◌∷◌, length, find, sum_by, Option, Some, None, option_map, bytes_eq, codes, refl, ap, ◌∙◌, arith}
 use Rattle.std.proofs.lemmas.List.Sums.{sum_by-cons}
 use Rattle.std.proofs.lemmas.Slice.Eq.{bytes_eq-Decides}
-use Rattle.std.specs.List.{list_any}
-use Rattle.std.specs.Option.{option_map_or, option_or, is_some}
-use Rattle.base64.specs.Engines.{standard}
-use Rattle.base64.specs.GeneralPurpose.{decoded_of}
+use Rattle.std.specs.Option.{option_map_or, option_or}
 use Rattle.stamp_types.specs.Requests.{given_len, kept_len}
 use Rattle.stamp_types.specs.declared.args.Kept.{Kept}
-use Rattle.stamp_values.specs.Texts.{is_visible}
 use Rattle.stamp_values.specs.declared.signing.Field.{Field}
-use Rattle.request_form.specs.HeadFields.{has_name, value_under, has_bad, is_md5}
+use Rattle.request_form.specs.HeadFields.{has_name, is_bad, is_md5, value_under}
 use Rattle.request_form.specs.HeadForms.{md5_under, kept_of}
-use Rattle.request_form.specs.HeadRules.{kept_value, has_bad_kept}
-
--- the first value is good where none is bad
-pub good_first : (test : List ℕ → Bool) (name : List ℕ) (fields : List Field) (v : List ℕ) → has_bad fields name test ≡ false → value_under fields name ≡ Some v → test v ≡ true
-unfolding has_bad value_under
-good_first test name [] v none found = absurd (cc)
-good_first test name (f ∷ fs) v none found = by_name (bytes_eq f.name name) refl (good_first test name fs v parts.1)
-  where
-    parts : ((has_name name f && not (test f.value)) ≡ false) × (list_any (λ g. has_name name g && not (test g.value)) fs ≡ false)
-    parts = or_parts _ _ none
-
-    by_name : (b : Bool) → bytes_eq f.name name ≡ b → (option_map (λ g. g.value) (find (has_name name) fs) ≡ Some v → test v ≡ true) → test v ≡ true
-    by_name true e behind =
-        let here : not (test f.value) ≡ false = rw e at parts.0 in
-        let same : Some f.value ≡ Some v = rw e at found in
-        let value : f.value ≡ v = cc in
-        rw (← value) (not-false (test f.value) here)
-    by_name false e behind = behind (rw e at found)
-
--- the MD5 that was read is the one that was sent
-pub md5_read : {E : Type 0} (v : List ℕ) (r : Result (Option (List ℕ)) E) → IfOk r (λ o. is_some o ≡ is_md5 v) → IfOk r (λ o. IfSome o (λ sum. decoded_of standard v ≡ Some sum))
-    → is_md5 v ≡ true → IfOk r (λ o. o ≡ decoded_of standard v)
-md5_read v (Err e) found value good = tt
-md5_read v (Ok (Some sum)) found value good = sym value
-md5_read v (Ok None) found value good = absurd (true≢false (sym (found ∙ good)))
-
--- the four values that may be kept are visible
-pub record KeepsVisible (fields : List Field) : Type 0 where
-  pub content_type : is_visible (kept_value fields (codes "x-ms-blob-content-type") (codes "content-type")) ≡ true
-  pub encoding : is_visible (kept_value fields (codes "x-ms-blob-content-encoding") (codes "content-encoding")) ≡ true
-  pub language : is_visible (kept_value fields (codes "x-ms-blob-content-language") (codes "content-language")) ≡ true
-  pub cache_control : is_visible (kept_value fields (codes "x-ms-blob-cache-control") (codes "cache-control")) ≡ true
-
-pub keeps_visible : (fields : List Field) → has_bad_kept fields ≡ false → KeepsVisible fields
-unfolding has_bad_kept
-keeps_visible fields none =
-    let all = and_parts _ _ (not-false _ none) in
-    let three = and_parts _ _ all.0 in
-    let two = and_parts _ _ three.0 in
-    record { content_type = two.0; encoding = two.1; language = three.1; cache_control = all.1 }
+use Rattle.request_form.specs.HeadRules.{has_bad_condition, has_bad_kept, has_bad_line, has_bad_md5, has_own_twice, has_standard_twice, kept_value}
 
 -- a value that was sent under a name is one of those that are counted
 under_short : (test : List ℕ → Bool) (name : List ℕ) → test name ≡ true → (fields : List Field) → given_len (value_under fields name) ≤ sum_by (λ f. cond (test f.name) (length f.value) 0) fields
@@ -143,6 +99,12 @@ kept_short fields =
     let d = value_counts (codes "x-ms-blob-cache-control") (codes "cache-control") is_cache fields refl refl in
     let all = sums_count (counted is_type) (counted is_encoding) (counted is_language) (counted is_cache) (λ f. length f.value) name_counts fields in
     omega arith
+
+-- lines of which none is bad
+pub no_bad_line : (keeps : Bool) (fields : List Field) → has_standard_twice fields ≡ false → has_own_twice fields ≡ false → has_bad_condition fields ≡ false
+    → is_bad fields (codes "content-md5") is_md5 ≡ false → is_bad fields (codes "x-ms-blob-content-md5") is_md5 ≡ false → (keeps && has_bad_kept fields) ≡ false → has_bad_line keeps fields ≡ false
+unfolding has_bad_line has_bad_md5
+no_bad_line keeps fields a b c d e f = rw (a, b, c, d, e, f)
 
 -- headers to keep of equal parts
 pub same_kept : (fields : List Field) (k : Kept)

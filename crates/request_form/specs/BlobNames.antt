@@ -4,7 +4,7 @@ use Rattle.std.specs.Prelude.{◌≡◌, ℕ, not, nat_lt, if◌then◌else◌, 
 use Rattle.percent_encoding.specs.Percent.{percent_decode}
 use Rattle.stamp_values.specs.Texts.{is_clean, char_count}
 use Rattle.request_form.specs.Targets.{is_nothing}
-use Rattle.request_form.specs.HeadFields.{is_utf8}
+use Rattle.stamp_values.specs.Texts.{is_utf8}
 use Rattle.request_form.specs.declared.names.NameFault.{NameFault}
 use Rattle.request_form.specs.declared.names.NameFault.TheVariants as fault
 

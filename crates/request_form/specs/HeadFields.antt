@@ -1,10 +1,9 @@
 -- What the header lines of a head say (RFC 9110, section 5; RFC 4648, section 4).
-use Rattle.std.specs.Prelude.{ℕ, Bool, false, not, ◌&&◌, ◌==◌, nat_lt, List, map, filter, find, count_by, length, Option, option_map, bytes_eq, codes, take}
+use Rattle.std.specs.Prelude.{ℕ, Bool, false, not, ◌&&◌, nat_lt, List, map, filter, find, count_by, length, Option, option_map, bytes_eq, codes, take}
 use Rattle.std.specs.List.{list_all, list_any}
 use Rattle.std.specs.Option.{option_map_or}
 use Rattle.base64.specs.Engines.{standard}
 use Rattle.base64.specs.GeneralPurpose.{decoded_of}
-use Rattle.std.specs.Str.Lossy.{utf8_valid_len}
 use Rattle.stamp_values.specs.Names.{is_digit, is_within}
 use Rattle.stamp_values.specs.declared.signing.Field.{Field}
 
@@ -28,13 +27,13 @@ value_under fields name = option_map (λ f. f.value) (find (has_name name) field
 unfoldable pub values_under : List Field → List ℕ → List (List ℕ)
 values_under fields name = map (λ f. f.value) (filter (has_name name) fields)
 
+-- the first value that was sent under the name fails the test
+unfoldable pub is_bad : List Field → List ℕ → (List ℕ → Bool) → Bool
+is_bad fields name test = option_map_or (λ v. not (test v)) (value_under fields name) false
+
 -- some value that was sent under the name fails the test
 unfoldable pub has_bad : List Field → List ℕ → (List ℕ → Bool) → Bool
 has_bad fields name test = list_any (λ f. has_name name f && not (test f.value)) fields
-
--- the bytes are a text in UTF-8 (RFC 3629)
-unfoldable pub is_utf8 : List ℕ → Bool
-is_utf8 bytes = utf8_valid_len bytes == length bytes
 
 -- 1 to 19 digits
 unfoldable pub is_number : List ℕ → Bool

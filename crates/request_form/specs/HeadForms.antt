@@ -1,11 +1,13 @@
 -- What a head asks for (Blob service REST reference, 2012-02-12, Authentication for the Azure Storage Services, Put Blob, Get Blob;
 -- RFC 9110, sections 7.6.1, 8.6 and 10.1.1; RFC 9112, sections 9.3 and 9.6).
-use Rattle.std.specs.Prelude.{ℕ, Bool, false, true, not, ◌&&◌, ◌||◌, ◌==◌, if◌then◌else◌, List, [], ◌∷◌, filter, Option, Some, None, option_map, option_and_then, bytes_eq, codes}
+use Rattle.std.specs.Prelude.{ℕ, Bool, false, true, not, ◌&&◌, ◌||◌, ◌==◌, if◌then◌else◌, List, [], ◌∷◌, filter, map, Option, Some, None, option_map, option_and_then, bytes_eq, codes}
 use Rattle.std.specs.List.{list_any, slice_split}
 use Rattle.base64.specs.Engines.{standard}
 use Rattle.base64.specs.GeneralPurpose.{decoded_of}
 use Rattle.percent_encoding.specs.Percent.{percent_decode}
 use Rattle.httparse.specs.Grammar.{trim_ows}
+use Rattle.stamp_values.specs.declared.key.Key.{Key}
+use Rattle.stamp_values.specs.Fields.{lowered_field}
 use Rattle.stamp_values.specs.declared.op.Op.{Op}
 use Rattle.stamp_values.specs.declared.verb.Verb.{Verb}
 use Rattle.stamp_values.specs.declared.verb.Verb.TheVariants.{Put}
@@ -18,7 +20,7 @@ use Rattle.stamp_types.specs.declared.args.Args.{Args}
 use Rattle.stamp_types.specs.declared.args.Kept.{Kept}
 use Rattle.stamp_types.specs.declared.ask.Ask.{Ask}
 use Rattle.stamp_types.specs.Requests.{Asked, asked}
-use Rattle.request_form.specs.Targets.{lowered, origin_of, path_of, query_of, account_of, container_of, blob_of}
+use Rattle.request_form.specs.Targets.{lowered, target_of, account_of, container_of, blob_of}
 use Rattle.request_form.specs.HeadFields.{has_name, value_under, values_under}
 use Rattle.request_form.specs.HeadRules.{verb_of, op_of, is_asked, kept_value, body_len_of}
 use Rattle.request_form.specs.declared.parsed_head.ParsedHead.{ParsedHead}
@@ -47,6 +49,10 @@ kept_of fields = record {
   md5 = md5_under fields (codes "x-ms-blob-content-md5");
 }
 
+-- the key of a path
+abbrev pub key_of : List ℕ → Key
+key_of path = record { account = account_of path; container = container_of path }
+
 -- what comes with a request; neither conditions nor ranges nor metadata are taken yet
 unfoldable pub args_of : Op → List Field → Args
 args_of op fields = record {
@@ -66,9 +72,14 @@ args_of op fields = record {
 unfoldable pub signed_headers : List Field → List Field
 signed_headers fields = filter (λ f. not (has_name (codes "authorization") f)) fields
 
--- what the string to sign is made of
+-- what the string to sign is made of; all names are in lower case
 unfoldable pub signing_of : Verb → ParsedHead → Signing
-signing_of verb p = record { verb = verb; headers = signed_headers p.fields; path = path_of (origin_of p.target); query = query_of (origin_of p.target) }
+signing_of verb p = record {
+  verb = verb;
+  headers = map lowered_field (signed_headers p.fields);
+  path = (target_of p.target).path;
+  query = map lowered_field (target_of p.target).query;
+}
 
 -- by which word it asks: the header Authorization, however often it was sent; else the parameter sig; else none
 abbrev pub credential_by : List (List ℕ) → Bool → Credential
@@ -77,7 +88,7 @@ credential_by [] false = Anonymous
 credential_by (value ∷ values) token = Shared (value ∷ values)
 
 unfoldable pub credential_of : ParsedHead → Credential
-credential_of p = credential_by (values_under p.fields (codes "authorization")) (is_asked (query_of (origin_of p.target)) (codes "sig"))
+credential_of p = credential_by (values_under p.fields (codes "authorization")) (is_asked (target_of p.target).query (codes "sig"))
 
 -- the blob's name, decoded
 unfoldable pub blob_name_of : List ℕ → List ℕ
@@ -87,8 +98,8 @@ blob_name_of path = percent_decode (blob_of path)
 unfoldable pub ask_of : Op → Verb → ParsedHead → Ask
 ask_of op verb p = record {
   op = op;
-  key = record { account = account_of (path_of (origin_of p.target)); container = container_of (path_of (origin_of p.target)) };
-  blob = Some (blob_name_of (path_of (origin_of p.target)));
+  key = key_of (target_of p.target).path;
+  blob = Some (blob_name_of (target_of p.target).path);
   args = args_of op p.fields;
   signing = signing_of verb p;
   credential = credential_of p;

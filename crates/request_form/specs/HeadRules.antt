@@ -1,28 +1,29 @@
 -- The rules that refuse a head, each by itself, and the first that holds (Blob service REST reference, 2012-02-12, Common
 -- REST API Error Codes and the page of each operation; RFC 9110, sections 8.6 and 9; RFC 9112, section 6). Which rules there
 -- are, and their order, is the stamp's own.
-use Rattle.std.specs.Prelude.{ℕ, Bool, true, false, not, ◌&&◌, ◌||◌, ◌==◌, nat_lt, nat_le, ◌-◌, if◌then◌else◌, List, [], ◌∷◌, count_by, find, length, slice_index, Option, Some, None, is_none, option_map, option_and_then, bytes_eq, codes}
+use Rattle.std.specs.Prelude.{ℕ, Bool, true, false, not, ◌&&◌, ◌||◌, ◌==◌, nat_lt, if◌then◌else◌, List, [], ◌∷◌, count_by, find, is_ok, Option, Some, None, is_none, option_map, option_and_then, bytes_eq, codes}
 use Rattle.std.specs.List.{list_any}
 use Rattle.std.specs.Option.{option_map_or, option_or}
 use Rattle.std.specs.Str.Parse.{digits_value}
-use Rattle.percent_encoding.specs.Percent.{percent_decode}
 use Rattle.stamp_values.specs.declared.op.Op.{Op}
 use Rattle.stamp_values.specs.declared.op.Op.TheVariants.{PutBlob, GetBlob}
 use Rattle.stamp_values.specs.declared.verb.Verb.{Verb}
 use Rattle.stamp_values.specs.declared.verb.Verb.TheVariants.{Get, Head, Put, Delete}
 use Rattle.stamp_values.specs.declared.signing.Field.{Field}
-use Rattle.stamp_values.specs.Names.{is_account, is_container, is_blob}
+use Rattle.stamp_values.specs.Names.{is_account, is_container}
 use Rattle.stamp_values.specs.Operations.{body_limit, keeps_headers}
-use Rattle.stamp_values.specs.Texts.{is_clean, is_visible}
+use Rattle.stamp_values.specs.Texts.{is_clean, is_utf8, is_visible}
 use Rattle.stamp_types.specs.Codes.{code_status}
 use Rattle.stamp_types.specs.declared.code.Code.{Code}
 use Rattle.stamp_types.specs.declared.code.Code.TheVariants.{InvalidInput, UnsupportedHttpVerb, InvalidQueryParameterValue, MissingContentLengthHeader, InvalidHeaderValue, InvalidResourceName, UnsupportedHeader, InvalidMetadata, MissingRequiredHeader, RequestBodyTooLarge}
 use Rattle.stamp_types.specs.declared.rule.Rule.{Rule}
 use Rattle.stamp_types.specs.declared.rule.Rule.TheVariants.{F1, F2, F3, F4, F5, F6, F7, F8}
-use Rattle.shared_key.specs.Strings.{standard_names}
-use Rattle.request_form.specs.Targets.{lowered, is_nothing, origin_of, is_origin, path_of, query_of, account_of, container_of, blob_of, kind_of}
-use Rattle.request_form.specs.HeadFields.{is_sent, is_twice, value_under, has_bad, is_utf8, is_number, is_base64_within, is_md5, is_ms, is_meta}
+use Rattle.stamp_values.specs.Fields.{standard_names}
+use Rattle.request_form.specs.BlobNames.{name_of}
+use Rattle.request_form.specs.Targets.{lowered, is_nothing, origin_of, is_origin, target_of, account_of, container_of, blob_of, kind_of}
+use Rattle.request_form.specs.HeadFields.{is_sent, is_twice, value_under, is_bad, has_bad, is_number, is_base64_within, is_md5, is_ms, is_meta}
 use Rattle.request_form.specs.declared.denial.Denial.{Denial}
+use Rattle.request_form.specs.declared.target.Target.{Target}
 use Rattle.request_form.specs.declared.parsed_head.ParsedHead.{ParsedHead}
 use Rattle.request_form.specs.declared.path_kind.PathKind.{PathKind}
 use Rattle.request_form.specs.declared.path_kind.PathKind.TheVariants as path
@@ -36,23 +37,68 @@ verb_of method =
 
 -- the parameter has this name, in any case
 abbrev pub is_named : List ℕ → Field → Bool
-is_named name p = bytes_eq (lowered p.name) name
+is_named name p = bytes_eq (lowered p.name) (lowered name)
 
 -- the query has a parameter of the name
 unfoldable pub is_asked : List Field → List ℕ → Bool
 is_asked query name = list_any (is_named name) query
 
--- the operation of a method on what a path names; the others are not built
-abbrev pub op_by : Verb → PathKind → Option Op
-op_by Put path.Blob = Some PutBlob
-op_by Get path.Blob = Some GetBlob
-op_by other kind = None
+-- the first value that the query has under a name
+unfoldable pub parameter_under : List Field → List ℕ → Option (List ℕ)
+parameter_under query name = option_map (λ p. p.value) (find (is_named name) query)
 
--- the operation: those that are built have neither restype nor comp
+-- by what an operation is asked for: the method, what the path names, and the values of restype and comp, if it has them
+pub record OperationRow : Type 0 where
+  pub verb : Verb
+  pub kind : PathKind
+  pub restype : Option (List ℕ)
+  pub comp : Option (List ℕ)
+  pub op : Op
+
+-- the operations that are built
+abbrev pub operations : List OperationRow
+operations =
+    record { verb = Put; kind = path.Blob; restype = None; comp = None; op = PutBlob }
+    ∷ record { verb = Get; kind = path.Blob; restype = None; comp = None; op = GetBlob }
+    ∷ []
+
+-- the methods are the same
+abbrev pub is_verb : Verb → Verb → Bool
+is_verb Get Get = true
+is_verb Head Head = true
+is_verb Put Put = true
+is_verb Delete Delete = true
+is_verb verb other = false
+
+-- the paths name things of the same kind
+abbrev pub is_kind : PathKind → PathKind → Bool
+is_kind path.Root path.Root = true
+is_kind path.Account path.Account = true
+is_kind path.Container path.Container = true
+is_kind path.Blob path.Blob = true
+is_kind kind other = false
+
+-- the values are the same, or both are missing
+abbrev pub is_value : Option (List ℕ) → Option (List ℕ) → Bool
+is_value None None = true
+is_value (Some v) (Some w) = bytes_eq v w
+is_value v other = false
+
+-- the row is the one that is asked for
+abbrev pub is_row : Verb → PathKind → Option (List ℕ) → Option (List ℕ) → OperationRow → Bool
+is_row verb kind restype comp row = is_verb verb row.verb && is_kind kind row.kind && is_value restype row.restype && is_value comp row.comp
+
+-- the operation of the row that is asked for
+abbrev pub op_by : Verb → PathKind → Option (List ℕ) → Option (List ℕ) → Option Op
+op_by verb kind restype comp = option_map (λ row. row.op) (find (is_row verb kind restype comp) operations)
+
+-- the operation of a method on a target
+unfoldable pub op_at : Verb → Target → Option Op
+op_at verb target = op_by verb (kind_of target.path) (parameter_under target.query (codes "restype")) (parameter_under target.query (codes "comp"))
+
+-- the operation, if it is built
 unfoldable pub op_of : ParsedHead → Option Op
-op_of p =
-    if is_asked (query_of (origin_of p.target)) (codes "restype") || is_asked (query_of (origin_of p.target)) (codes "comp") then None
-    else option_and_then (λ verb. op_by verb (kind_of (path_of (origin_of p.target)))) (verb_of p.method)
+op_of p = option_and_then (λ verb. op_at verb (target_of p.target)) (verb_of p.method)
 
 -- the parameters that operations have, which are given at most once
 abbrev pub parameter_names : List (List ℕ)
@@ -80,11 +126,22 @@ is_good_value name v = is_utf8 v && is_clean v && is_value_of name v
 
 -- the parameter is given twice, or its value is bad
 unfoldable pub is_bad_parameter : List Field → List ℕ → Bool
-is_bad_parameter query name = nat_lt 1 (count_by (is_named name) query) || list_any (λ p. is_named name p && not (is_good_value name p.value)) query
+is_bad_parameter query name = nat_lt 1 (count_by (is_named name) query) || option_map_or (λ v. not (is_good_value name v)) (parameter_under query name) false
+
+-- a parameter that operations have is bad
+unfoldable pub has_bad_parameter : List Field → Bool
+has_bad_parameter query = list_any (is_bad_parameter query) parameter_names
 
 -- the method is PUT
-abbrev pub is_put : ParsedHead → Bool
-is_put p = bytes_eq p.method (codes "PUT")
+abbrev pub is_put : Option Verb → Bool
+is_put (Some Put) = true
+is_put other = false
+
+-- the method writes
+abbrev pub is_write : Option Verb → Bool
+is_write (Some Put) = true
+is_write (Some Delete) = true
+is_write other = false
 
 -- the operation is Put Blob
 abbrev pub is_put_blob : Option Op → Bool
@@ -94,8 +151,7 @@ is_put_blob other = false
 -- the account, the container or the blob has no good name
 unfoldable pub has_bad_name : List ℕ → Bool
 has_bad_name path =
-    not (is_account (account_of path)) || not (is_container (container_of path))
-    || not (is_utf8 (percent_decode (blob_of path)) && is_blob (percent_decode (blob_of path)))
+    not (is_account (account_of path)) || not (is_container (container_of path)) || not (is_ok (name_of (blob_of path)))
 
 -- headers of which the stamp does not serve what they ask
 abbrev pub unserved_names : List (List ℕ)
@@ -105,10 +161,20 @@ unserved_names = codes "if-unmodified-since" ∷ codes "x-ms-lease-id" ∷ codes
 unfoldable pub has_unserved : List Field → Bool
 has_unserved fields = list_any (is_sent fields) unserved_names
 
--- `*`, or one or more bytes without a quotation mark, between two (RFC 9110, section 8.8.3)
+-- bytes without a quotation mark, and one at their end
+abbrev pub is_closed : List ℕ → Bool
+is_closed [] = false
+is_closed (b ∷ rest) = if b == 34 then is_nothing rest else is_closed rest
+
+-- a quotation mark, one or more bytes without one, and a quotation mark (RFC 9110, section 8.8.3)
+abbrev pub is_quoted : List ℕ → Bool
+is_quoted [] = false
+is_quoted (b ∷ []) = false
+is_quoted (b ∷ c ∷ rest) = b == 34 && not (c == 34) && is_closed rest
+
+-- any, or the quoted form of an ETag (RFC 9110, sections 13.1.1 and 13.1.2)
 unfoldable pub is_condition : List ℕ → Bool
-is_condition v = bytes_eq v (codes "*")
-    || nat_le 3 (length v) && slice_index v 0 == 34 && slice_index v (length v - 1) == 34 && count_by (λ b. b == 34) v == 2
+is_condition v = bytes_eq v (codes "*") || is_quoted v
 
 -- the value of a header that is kept: the one under the service's own name where that was sent, else the plain one
 unfoldable pub kept_value : List Field → List ℕ → List ℕ → List ℕ
@@ -117,10 +183,10 @@ kept_value fields own plain = option_map_or (λ v. v) (option_or (value_under fi
 -- a value that would be kept has a byte that no kept value may have
 unfoldable pub has_bad_kept : List Field → Bool
 has_bad_kept fields =
-    not (is_visible (kept_value fields (codes "x-ms-blob-content-type") (codes "content-type"))
-    && is_visible (kept_value fields (codes "x-ms-blob-content-encoding") (codes "content-encoding"))
-    && is_visible (kept_value fields (codes "x-ms-blob-content-language") (codes "content-language"))
-    && is_visible (kept_value fields (codes "x-ms-blob-cache-control") (codes "cache-control")))
+    not (is_visible (kept_value fields (codes "x-ms-blob-content-type") (codes "content-type")))
+    || not (is_visible (kept_value fields (codes "x-ms-blob-content-encoding") (codes "content-encoding")))
+    || not (is_visible (kept_value fields (codes "x-ms-blob-content-language") (codes "content-language")))
+    || not (is_visible (kept_value fields (codes "x-ms-blob-cache-control") (codes "cache-control")))
 
 -- one of the service's own headers, metadata apart, stands there twice
 unfoldable pub has_own_twice : List Field → Bool
@@ -130,11 +196,18 @@ has_own_twice fields = list_any (λ f. is_ms f.name && not (is_meta f.name) && i
 unfoldable pub has_standard_twice : List Field → Bool
 has_standard_twice fields = list_any (is_twice fields) standard_names
 
--- a condition or an MD5 is not of its form
-unfoldable pub has_bad_form : List Field → Bool
-has_bad_form fields =
-    has_bad fields (codes "if-match") is_condition || has_bad fields (codes "if-none-match") is_condition
-    || has_bad fields (codes "content-md5") is_md5 || has_bad fields (codes "x-ms-blob-content-md5") is_md5
+-- a condition is not of its form
+unfoldable pub has_bad_condition : List Field → Bool
+has_bad_condition fields = is_bad fields (codes "if-match") is_condition || is_bad fields (codes "if-none-match") is_condition
+
+-- an MD5 is not of its form
+unfoldable pub has_bad_md5 : List Field → Bool
+has_bad_md5 fields = is_bad fields (codes "content-md5") is_md5 || is_bad fields (codes "x-ms-blob-content-md5") is_md5
+
+-- a header is there twice that may not be, or its value is bad; some values are kept, or none
+unfoldable pub has_bad_line : Bool → List Field → Bool
+has_bad_line keeps fields =
+    has_standard_twice fields || has_own_twice fields || has_bad_condition fields || has_bad_md5 fields || keeps && has_bad_kept fields
 
 -- how many bytes the body has
 unfoldable pub body_len_of : List Field → ℕ
@@ -142,15 +215,15 @@ body_len_of fields = option_map_or (λ v. digits_value 10 v) (value_under fields
 
 -- F4: a PUT says no length, or a transfer coding is asked for
 unfoldable pub has_no_length : ParsedHead → Bool
-has_no_length p = is_put p && not (is_sent p.fields (codes "content-length")) || is_sent p.fields (codes "transfer-encoding")
+has_no_length p = is_put (verb_of p.method) && not (is_sent p.fields (codes "content-length")) || is_sent p.fields (codes "transfer-encoding")
 
 -- F4: the length is said twice, or is no number
 unfoldable pub has_bad_length : ParsedHead → Bool
-has_bad_length p = is_twice p.fields (codes "content-length") || has_bad p.fields (codes "content-length") is_number
+has_bad_length p = is_twice p.fields (codes "content-length") || is_bad p.fields (codes "content-length") is_number
 
 -- a method that writes asks whether something was modified
 unfoldable pub has_date_of_a_write : ParsedHead → Bool
-has_date_of_a_write p = (is_put p || bytes_eq p.method (codes "DELETE")) && is_sent p.fields (codes "if-modified-since")
+has_date_of_a_write p = is_write (verb_of p.method) && is_sent p.fields (codes "if-modified-since")
 
 -- F6: a header asks for what the stamp does not serve
 unfoldable pub asks_the_unserved : ParsedHead → Bool
@@ -162,9 +235,7 @@ asks_the_unserved p =
 
 -- F7: a header is there twice that may not be, or its value is bad
 unfoldable pub has_bad_value : ParsedHead → Bool
-has_bad_value p =
-    has_standard_twice p.fields || has_own_twice p.fields || has_bad_form p.fields
-    || option_map_or keeps_headers (op_of p) false && has_bad_kept p.fields
+has_bad_value p = has_bad_line (option_map_or keeps_headers (op_of p) false) p.fields
 
 -- F7: metadata, which no operation that is built keeps
 unfoldable pub has_metadata : ParsedHead → Bool
@@ -178,9 +249,9 @@ has_no_blob_type p = is_put_blob (op_of p) && not (is_sent p.fields (codes "x-ms
 abbrev pub head_holds : ParsedHead → Rule → Bool
 head_holds p F1 = not (is_origin (origin_of p.target))
 head_holds p F2 = is_none (verb_of p.method)
-head_holds p F3 = is_none (op_of p) || list_any (is_bad_parameter (query_of (origin_of p.target))) parameter_names
+head_holds p F3 = is_none (op_of p) || has_bad_parameter (target_of p.target).query
 head_holds p F4 = has_no_length p || has_bad_length p
-head_holds p F5 = has_bad_name (path_of (origin_of p.target))
+head_holds p F5 = has_bad_name (target_of p.target).path
 head_holds p F6 = asks_the_unserved p
 head_holds p F7 = has_bad_value p || has_metadata p || has_no_blob_type p
 head_holds p F8 = option_map_or (λ op. nat_lt (body_limit op) (body_len_of p.fields)) (op_of p) false
@@ -210,13 +281,13 @@ denied_verb p other = verb_of p.method
 abbrev pub denied_by : Rule → Code → Option Verb → Denial
 denied_by rule code verb = record { rule = rule; status = code_status code; code = code; verb = verb }
 
--- the first rule that holds, with its code
-unfoldable pub head_rule : ParsedHead → Option Rule
-head_rule p = find (head_holds p) head_rules
+-- the refusal by the first of these rules that holds
+unfoldable pub denial_among : ParsedHead → List Rule → Option Denial
+denial_among p rules = option_map (λ rule. denied_by rule (head_code p rule) (denied_verb p rule)) (find (head_holds p) rules)
 
 -- how a head is refused
 abbrev pub denial_of : ParsedHead → Option Denial
-denial_of p = option_map (λ rule. denied_by rule (head_code p rule) (denied_verb p rule)) (head_rule p)
+denial_of p = denial_among p head_rules
 
 -- how bytes are refused that are no head
 abbrev pub no_head : Denial

@@ -2,16 +2,14 @@
 -- reference, 2012-02-12, Naming and Referencing Containers, Blobs, and Metadata).
 use Rattle.std.specs.Prelude.{ℕ, Bool, not, ◌&&◌, ◌||◌, ◌==◌, nat_lt, ◌+◌, if◌then◌else◌, List, map, filter, take, drop, length, slice_index, bytes_eq, codes}
 use Rattle.std.specs.List.{list_all, prefix_len, before_first, after_first, slice_split}
-use Rattle.std.specs.Char.{to_ascii_lowercase}
 use Rattle.http_uri.specs.ByteClasses.{is_path_byte, is_query_byte}
 use Rattle.percent_encoding.specs.Percent.{percent_decode}
 use Rattle.stamp_values.specs.declared.signing.Field.{Field}
+-- passed on: in lower case
+pub use Rattle.stamp_values.specs.Fields.{lowered}
+use Rattle.request_form.specs.declared.target.Target.{Target}
 use Rattle.request_form.specs.declared.path_kind.PathKind.{PathKind}
 use Rattle.request_form.specs.declared.path_kind.PathKind.TheVariants.{Root, Account, Container, Blob}
-
--- in lower case
-abbrev pub lowered : List ℕ → List ℕ
-lowered text = map to_ascii_lowercase text
 
 -- there is nothing
 abbrev pub is_nothing : List ℕ → Bool
@@ -64,6 +62,10 @@ pieces_of query = slice_split (λ b. b == 38) query
 -- the parameters in the order sent; an empty piece is none
 unfoldable pub query_of : List ℕ → List Field
 query_of origin = map parameter_of (filter (λ piece. not (is_nothing piece)) (pieces_of (query_text origin)))
+
+-- the path and the parameters of a target
+unfoldable pub target_of : List ℕ → Target
+target_of target = record { path = path_of (origin_of target); query = query_of (origin_of target) }
 
 -- a slash
 abbrev pub is_slash : ℕ → Bool

@@ -1,6 +1,10 @@
 //! Refusals of heads.
+ghost use Rattle.std.specs.Prelude.{◌≡◌};
+ghost use Rattle.request_form.specs.HeadRules as heads;
+ghost use Rattle.request_form.specs.declared.denial.HeadFault.TheVariants.{NoMemory};
 
 use stamp_types::{Code, Rule, Status, Verb};
+use std::alloc::AllocError;
 
 /// Why a head is refused: the first of the rules F1 to F8 that holds. The connection ends behind the reply.
 #[derive(Clone, Copy, Debug, PartialEq, Eq)]
@@ -20,4 +24,31 @@ pub enum HeadFault {
     Denied(Denial),
     /// There was no memory for its parts.
     NoMemory,
+}
+
+impl From<AllocError> for HeadFault {
+    ghost from_gives = { λ _ e. e ≡ NoMemory };
+
+    fn from(_error: AllocError) -> Self {
+        Self::NoMemory
+    }
+}
+
+/// The refusal by a rule with a code.
+pub fn denied(rule: Rule, code: Code, verb: Option<Verb>) -> Denial
+    ensures { result ≡ heads.denied_by rule code verb }
+{
+    Denial {
+        rule,
+        status: code.status(),
+        code,
+        verb,
+    }
+}
+
+/// How bytes are refused that are no head: by F1, as bad input (400), with no verb, since none was read.
+pub fn no_head() -> Denial
+    ensures { result ≡ heads.no_head }
+{
+    denied(Rule::F1, Code::InvalidInput, None)
 }

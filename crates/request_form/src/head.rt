@@ -1,25 +1,24 @@
 //! Reading a request's head.
-ghost use Rattle.std.specs.Prelude.{◌≡◌, ◌≤◌, IfOk, Some, None, Err, length, sum_by};
+ghost use Rattle.std.specs.Prelude.{◌≡◌, ◌≤◌, Err, IfOk, MatchResult, None, Some, length, sum_by};
 ghost use Rattle.std.specs.Str.{IsUtf8};
-ghost use Rattle.request_form.specs.HeadForms.{form_of};
+ghost use Rattle.request_form.specs.HeadForms.{args_of, ask_of, form_of};
 ghost use Rattle.request_form.specs.HeadForms as head_forms;
-ghost use Rattle.request_form.specs.HeadRules.{denial_of};
-ghost use Rattle.request_form.specs.HeadRules as head_rules;
+ghost use Rattle.request_form.specs.HeadReads.{AreNames, Denies, IsLine};
+ghost use Rattle.request_form.specs.HeadRules.{denial_of, head_rules};
 ghost use Rattle.request_form.specs.Heads.{Accepts, Refuses};
-ghost use Rattle.request_form.specs.Targets.{origin_of, query_of};
 ghost use Rattle.request_form.specs.declared.denial.Denial.{Denial};
 ghost use Rattle.request_form.specs.declared.denial.HeadFault.TheVariants as fault;
-ghost use Rattle.request_form.specs.declared.parsed_head.ParsedHead.{ParsedHead};
 
 use crate::connection_fields::{closes, expects};
-use crate::denial::{Denial, HeadFault};
-use crate::head_form::ask;
+use crate::denial::{HeadFault, no_head};
 use crate::head_parts::parse_head;
-use crate::head_rules::{denial, op, verb};
-use crate::header_rules::body_len;
+use crate::header_lines::read_fields;
+use crate::names::Names;
 use crate::parsed_head::ParsedHead;
-use crate::target::{origin, query};
-use stamp_types::{Ask, Body, Code, Field, Request, Rule, Verb};
+use crate::request_line::{Line, read_line};
+use crate::signing::{credential, signing};
+use crate::target::Target;
+use stamp_types::{Args, Ask, Body, Request, Verb};
 use std::alloc::{AllocError, Global};
 use std::marker::Model;
 
@@ -99,56 +98,55 @@ fn body_by(verb: Verb, body: Body) -> Body
     }
 }
 
-/// How bytes are refused that are no head: by F1, as bad input (400), with no verb, since none was read.
-pub fn no_head() -> Denial
-    ensures { result ≡ head_rules.no_head }
+// What a head asks for that no rule refuses. It is used up.
+fn ask(
+    alloc: Global,
+    head: ParsedHead,
+    line: Line,
+    names: Names,
+    args: Args,
+) -> Result<Ask, AllocError>
+    requires line { IsLine head line }
+    requires names { AreNames line.target.path names }
+    requires args { args ≡ args_of line.op head.fields }
+    ensures { IfOk result (λ a. a ≡ ask_of line.op line.verb head) }
 {
-    let code = Code::InvalidInput;
-    Denial {
-        rule: Rule::F1,
-        status: code.status(),
-        code,
-        verb: None,
-    }
-}
-
-// The form of a head that no rule refuses.
-fn form(alloc: Global, head: ParsedHead, query: Vec<Field>) -> Result<Head, AllocError>
-    requires query { query.items ≡ query_of (origin_of head.target) }
-    requires allowed { denial_of head ≡ None }
-    requires short { sum_by (λ f. length f.value) head.fields ≤ 16384 }
-    ensures { IfOk result (λ form. form_of head ≡ Some form) }
-{
-    let Some(verb) = verb(head.method.as_slice()) else {
-        unreachable!()
-    };
-    let Some(op) = op(&head, &query) else {
-        unreachable!()
-    };
-    let body_len = body_len(head.fields.as_slice());
-    let expects = expects(&head);
-    let closes = closes(&head);
-    let ask = ask(alloc, op, verb, head, query)?;
-    Ok(Head {
-        ask,
-        body_len,
-        expects,
-        closes,
+    let Target { path, query } = line.target;
+    let credential = credential(alloc, head.fields.as_slice(), query.as_slice())?;
+    let signing = signing(
+        alloc,
+        line.verb,
+        head.fields.into_vec(),
+        path,
+        query.as_slice(),
+    )?;
+    Ok(Ask {
+        op: line.op,
+        key: names.key,
+        blob: Some(names.blob),
+        args,
+        signing,
+        credential,
     })
 }
 
-// A head by the rules: its form, or how it is refused.
-fn judged(alloc: Global, head: ParsedHead) -> Result<Head, HeadFault>
+// The form of a head by its rules, one after the other.
+fn form(alloc: Global, head: ParsedHead) -> Result<Head, HeadFault>
     requires target { (length head.target ≤ 16384) × IsUtf8 head.target }
     requires short { sum_by (λ f. length f.value) head.fields ≤ 16384 }
-    ensures accepted { IfOk result (λ form. (denial_of head ≡ None) × (form_of head ≡ Some form)) }
-    ensures denied { (denial : Denial) → result ≡ Err (fault.Denied denial) → denial_of head ≡ Some denial }
+    ensures { MatchResult result (λ form. (denial_of head ≡ None) × (form_of head ≡ Some form)) (Denies head head_rules) }
 {
-    let query = query(alloc, origin(head.target.as_slice())).map_err(|_| HeadFault::NoMemory)?;
-    match denial(alloc, &head, &query).map_err(|_| HeadFault::NoMemory)? {
-        Some(denial) => Err(HeadFault::Denied(denial)),
-        None => Ok(form(alloc, head, query).map_err(|_| HeadFault::NoMemory)?),
-    }
+    let line = read_line(alloc, &head)?;
+    let fields = read_fields(alloc, &head, &line)?;
+    let expects = expects(&head);
+    let closes = closes(&head);
+    let ask = ask(alloc, head, line, fields.names, fields.args)?;
+    Ok(Head {
+        ask,
+        body_len: fields.body_len,
+        expects,
+        closes,
+    })
 }
 
 /// Reads a head: its request line and header lines up to the empty line behind them (RFC 9112, section 2.1), of at most
@@ -160,8 +158,8 @@ pub fn read_head(alloc: Global, text: &[u8]) -> Result<Head, HeadFault>
     ensures accepted { IfOk result (λ head. Accepts text.now head) }
     ensures denied { (denial : Denial) → result ≡ Err (fault.Denied denial) → Refuses text.now denial }
 {
-    let Some(head) = parse_head(alloc, text).map_err(|_| HeadFault::NoMemory)? else {
+    let Some(head) = parse_head(alloc, text)? else {
         return Err(HeadFault::Denied(no_head()));
     };
-    judged(alloc, head)
+    form(alloc, head)
 }

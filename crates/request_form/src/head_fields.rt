@@ -1,5 +1,5 @@
 //! What the header lines of a head say.
-ghost use Rattle.std.specs.Prelude.{◌≡◌, IfOk, IfSome, Some, is_some, option_map, true};
+ghost use Rattle.std.specs.Prelude.{◌≡◌, IfOk, MatchOption, Some, bytes_eq, false, option_map, true};
 ghost use Rattle.std.specs.Str.Parse.{digits_value};
 ghost use Rattle.std.specs.List.{list_all};
 ghost use Rattle.stamp_values.specs.Names.{is_digit};
@@ -46,6 +46,16 @@ pub fn value_under<'a>(fields: &'a [Field], name: &str) -> Option<&'a [u8]>
     None
 }
 
+/// Whether some value that was sent under the name is another one.
+#[tactic(auto, unfolding(crate::specs::HeadFields::has_bad))]
+pub fn has_other(fields: &[Field], name: &str, value: &str) -> bool
+    ensures { result ≡ heads.has_bad fields.now name.now (λ v. bytes_eq v value.now) }
+{
+    fields.iter().any(|field| {
+        field.name.as_slice() == name.as_bytes() && field.value.as_slice() != value.as_bytes()
+    })
+}
+
 /// A copy of each value that was sent under the name, in their order.
 ///
 /// `AllocError` where there is no memory for them.
@@ -62,29 +72,22 @@ pub fn values_under(alloc: Global, fields: &[Field], name: &str) -> Result<Vec<B
     Ok(values)
 }
 
-/// Whether the bytes are a text in UTF-8 (RFC 3629).
-pub fn is_utf8(bytes: &[u8]) -> bool
-    ensures { result ≡ heads.is_utf8 bytes.now }
-{
-    str::from_utf8(bytes).is_ok()
-}
-
 fn are_digits(text: &[u8]) -> bool
     ensures { result ≡ list_all is_digit text.now }
 {
     text.iter().all(|byte| byte.is_ascii_digit())
 }
 
-/// Whether the text is 1 to 19 digits.
+// Whether the text is 1 to 19 digits.
 #[tactic(auto, unfolding(crate::specs::HeadFields::is_number))]
-pub fn is_number(text: &[u8]) -> bool
+fn is_number(text: &[u8]) -> bool
     ensures { result ≡ heads.is_number text.now }
 {
     (1..=19).contains(&text.len()) && are_digits(text)
 }
 
-/// The number that the digits write, below 10^19.
-pub fn number(digits: &[u8]) -> u64
+// The number that the digits write, below 10^19.
+fn digits_number(digits: &[u8]) -> u64
     requires { heads.is_number digits.now ≡ true }
     ensures { result ≡ digits_value 10 digits.now }
 {
@@ -93,6 +96,17 @@ pub fn number(digits: &[u8]) -> u64
         number = number * 10 + u64::from(*digit - b'0');
     }
     number
+}
+
+/// The number that a text of 1 to 19 digits writes; `None` for any other text.
+pub fn number(text: &[u8]) -> Option<u64>
+    ensures { MatchOption result (heads.is_number text.now ≡ false) (λ n. (heads.is_number text.now ≡ true) × (n ≡ digits_value 10 text.now)) }
+{
+    if is_number(text) {
+        Some(digits_number(text))
+    } else {
+        None
+    }
 }
 
 /// The bytes that a text is the strict Base64 of (RFC 4648, section 4).
@@ -131,8 +145,7 @@ pub fn is_base64_within(
 /// `AllocError` where there is no memory for its bytes.
 #[tactic(auto, unfolding(crate::specs::HeadFields::is_base64_within))]
 pub fn md5_of(alloc: Global, text: &[u8]) -> Result<Option<[u8; 16]>, AllocError>
-    ensures test { IfOk result (λ o. is_some o ≡ heads.is_md5 text.now) }
-    ensures value { IfOk result (λ o. IfSome o (λ md5. decoded_of standard text.now ≡ Some md5)) }
+    ensures { IfOk result (λ o. MatchOption o (heads.is_md5 text.now ≡ false) (λ md5. (heads.is_md5 text.now ≡ true) × (decoded_of standard text.now ≡ Some md5))) }
 {
     let Some(bytes) = decoded_base64(alloc, text)? else {
         return Ok(None);

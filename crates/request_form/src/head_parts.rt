@@ -1,5 +1,5 @@
 //! Request heads as they are read (RFC 9112, sections 2 to 5).
-ghost use Rattle.std.specs.Prelude.{◌≡◌, ◌≤◌, All, IfOk, IfSome, IsUtf8, None, length, map, sum_by, take};
+ghost use Rattle.std.specs.Prelude.{◌≡◌, ◌≤◌, All, IfOk, IfSome, IsUtf8, None, length, map, sum_by};
 ghost use Rattle.httparse.specs.Grammar.{RequestHead};
 ghost use Rattle.httparse.specs.Spans.{IsWithin, IsHeaderWithin, IsRequestWithin, IsRequestAt, span_bytes};
 ghost use Rattle.request_form.specs.Heads.{IsHead, IsNoHead, parsed_of, version_of};

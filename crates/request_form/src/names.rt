@@ -1,12 +1,18 @@
-//! Good names of accounts, containers and blobs, as a path has them.
-ghost use Rattle.std.specs.Prelude.{◌≡◌, IsTrue, Ok, Err, MatchResult, string_bytes};
+//! Rule F5: good names of accounts, containers and blobs, as a path has them.
+ghost use Rattle.std.specs.Prelude.{◌≡◌, ◌&&◌, IfOk, MatchOption, MatchResult, Ok, Err, false, string_bytes, true};
 ghost use Rattle.stamp_values.specs.Names.{is_account, is_container};
 ghost use Rattle.request_form.specs.BlobNames.{decoded_name, name_of, FaultOf};
-ghost use Rattle.request_form.specs.HeadFields.{is_utf8};
+ghost use Rattle.stamp_values.specs.Texts.{is_visible};
+ghost use Rattle.stamp_values.specs.Texts.{is_utf8};
+ghost use Rattle.request_form.specs.HeadForms.{key_of};
+ghost use Rattle.request_form.specs.HeadReads.{AreNames};
+ghost use Rattle.request_form.specs.HeadRules.{has_bad_name};
+ghost use Rattle.request_form.specs.Targets.{account_of, container_of};
 
-use crate::head_fields::is_utf8;
+use crate::target;
 use crate::target::decoded;
-use stamp_types::{char_count, is_account, is_clean, is_container};
+use crate::texts::visible;
+use stamp_types::{Key, Text, char_count, is_account, is_container};
 use std::alloc::{AllocError, Global};
 use thiserror::Error;
 
@@ -30,6 +36,13 @@ pub enum NameFault {
     NoMemory,
 }
 
+/// The names of a path, which are good.
+#[derive(Debug, Drop)]
+pub struct Names {
+    pub key: Key,
+    pub blob: Text,
+}
+
 /// Whether the name, as it was sent, is an account's: 3 to 24 lower-case letters and digits.
 pub fn account_ok(name: &[u8]) -> bool
     ensures { result ≡ is_account name.now }
@@ -45,35 +58,43 @@ pub fn container_ok(name: &[u8]) -> bool
     is_container(name)
 }
 
-// Bytes in UTF-8 as a text.
-fn text_of(bytes: Vec<u8>) -> String
-    requires { IsTrue (is_utf8 bytes.items) }
-    ensures { string_bytes result ≡ bytes.items }
+// The bytes as a text, if they are UTF-8.
+fn utf8_text(bytes: Vec<u8>) -> Option<String>
+    ensures { MatchOption result (is_utf8 bytes.items ≡ false) (λ text. (is_utf8 bytes.items ≡ true) × (string_bytes text ≡ bytes.items)) }
 {
-    let Ok(text) = String::from_utf8(bytes) else {
-        unreachable!()
-    };
-    text
+    match String::from_utf8(bytes) {
+        Ok(text) => Some(text),
+        Err(_error) => None,
+    }
 }
 
 // The name that these bytes are.
 #[tactic(auto, unfolding(crate::specs::BlobNames::decoded_name))]
-fn named(bytes: Vec<u8>) -> Result<String, NameFault>
-    ensures { MatchResult result (λ name. decoded_name bytes.items ≡ Ok (string_bytes name)) (λ fault. decoded_name bytes.items ≡ Err fault) }
+fn named(bytes: Vec<u8>) -> Result<Text, NameFault>
+    ensures { MatchResult result (λ name. decoded_name bytes.items ≡ Ok name) (λ fault. decoded_name bytes.items ≡ Err fault) }
 {
     if bytes.is_empty() {
         return Err(NameFault::Empty);
     }
-    if !is_utf8(&bytes) {
+    let Some(text) = utf8_text(bytes) else {
         return Err(NameFault::NotUtf8);
-    }
-    if 1024 < char_count(&bytes) {
+    };
+    if 1024 < char_count(text.as_bytes()) {
         return Err(NameFault::TooLong);
     }
-    if !is_clean(&bytes) {
-        return Err(NameFault::Control);
+    match Text::new(text) {
+        Some(name) => Ok(name),
+        None => Err(NameFault::Control),
     }
-    Ok(text_of(bytes))
+}
+
+fn blob_text(alloc: Global, rest: &[u8]) -> Result<Text, NameFault>
+    ensures { MatchResult result (λ name. name_of rest.now ≡ Ok name) (FaultOf rest.now) }
+{
+    match decoded(alloc, rest) {
+        Ok(bytes) => named(bytes),
+        Err(AllocError) => Err(NameFault::NoMemory),
+    }
 }
 
 /// The name of a blob: what a path has behind the container, percent-decoded once (RFC 3986, section 2.1). It is tried in the
@@ -83,8 +104,56 @@ fn named(bytes: Vec<u8>) -> Result<String, NameFault>
 pub fn blob_name(alloc: Global, rest: &[u8]) -> Result<String, NameFault>
     ensures { MatchResult result (λ name. name_of rest.now ≡ Ok (string_bytes name)) (FaultOf rest.now) }
 {
-    match decoded(alloc, rest) {
-        Ok(bytes) => named(bytes),
-        Err(AllocError) => Err(NameFault::NoMemory),
+    match blob_text(alloc, rest) {
+        Ok(name) => Ok(name.into_string()),
+        Err(fault) => Err(fault),
+    }
+}
+
+// The key of two names that are visible.
+fn key(alloc: Global, account: &[u8], container: &[u8]) -> Result<Option<Key>, AllocError>
+    ensures { IfOk result (λ o. MatchOption o ((is_visible account.now && is_visible container.now) ≡ false) (λ k. k ≡ record { account = account.now; container = container.now })) }
+{
+    let Some(account) = visible(alloc, account)? else {
+        return Ok(None);
+    };
+    let Some(container) = visible(alloc, container)? else {
+        return Ok(None);
+    };
+    Ok(Some(Key {
+        account: account.into_text(),
+        container: container.into_text(),
+    }))
+}
+
+// The key that a path names, if both of its names are good.
+fn good_key(alloc: Global, path: &[u8]) -> Result<Option<Key>, AllocError>
+    ensures { IfOk result (λ o. MatchOption o ((is_account (account_of path.now) && is_container (container_of path.now)) ≡ false) (λ k. ((is_account (account_of path.now) && is_container (container_of path.now)) ≡ true) × (k ≡ key_of path.now))) }
+{
+    let account = target::account(path);
+    let container = target::container(path);
+    if !account_ok(account) || !container_ok(container) {
+        return Ok(None);
+    }
+    match key(alloc, account, container)? {
+        Some(key) => Ok(Some(key)),
+        None => Ok(None),
+    }
+}
+
+/// The key and the blob that a path names, by rule F5: `None` if the account, the container or the blob has no good name.
+///
+/// `AllocError` if memory runs out.
+#[tactic(auto, unfolding(crate::specs::HeadRules::has_bad_name))]
+pub fn read_names(alloc: Global, path: &[u8]) -> Result<Option<Names>, AllocError>
+    ensures { IfOk result (λ o. MatchOption o (has_bad_name path.now ≡ true) (AreNames path.now)) }
+{
+    let Some(key) = good_key(alloc, path)? else {
+        return Ok(None);
+    };
+    match blob_text(alloc, target::blob(path)) {
+        Ok(blob) => Ok(Some(Names { key, blob })),
+        Err(NameFault::NoMemory) => Err(AllocError),
+        Err(_) => Ok(None),
     }
 }

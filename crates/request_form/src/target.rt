@@ -1,14 +1,23 @@
-//! What a request target names.
-ghost use Rattle.std.specs.Prelude.{◌≡◌, ◌≤◌, ◌==◌, IfOk, length, map, filter, not, take, drop, bytes_eq, codes, IsTrue, IsUtf8, slice_index};
+//! Rule F1: the request target, and what it names.
+ghost use Rattle.std.specs.Prelude.{◌≡◌, ◌≤◌, ◌==◌, IfOk, MatchOption, false, true, length, map, filter, not, take, drop, bytes_eq, codes, IsTrue, IsUtf8, slice_index};
 ghost use Rattle.std.specs.List.{position_or_len, before_first, after_first, prefix_len};
 ghost use Rattle.percent_encoding.specs.Percent.{percent_decode};
-ghost use Rattle.request_form.specs.Targets.{lowered, is_in_authority, origin_of, is_origin, path_of, query_text, query_of, parameter_of, account_of, behind_account, container_of, blob_of, kind_of, is_nothing, pieces_of};
+ghost use Rattle.request_form.specs.Targets.{lowered, is_in_authority, origin_of, is_origin, path_of, query_text, query_of, target_of, parameter_of, account_of, behind_account, container_of, blob_of, kind_of, is_nothing, pieces_of};
 
 use crate::path_kind::PathKind;
 use http_uri::{Uri, UriError};
 use percent_encoding::percent_decode;
-use stamp_types::{Bytes, Field};
+use stamp_types::{Bytes, Field, Items};
 use std::alloc::{AllocError, Global};
+
+/// A request target as it is read.
+#[derive(Debug, Drop)]
+pub struct Target {
+    /// The path as it was sent, up to the first `?`.
+    pub path: Bytes,
+    /// The parameters in the order sent, each decoded.
+    pub query: Items<Field>,
+}
 
 // Where a byte first stands, or the length.
 fn place(bytes: &[u8], wanted: u8) -> usize
@@ -69,7 +78,7 @@ fn has_scheme(target: &[u8]) -> bool
 /// The origin form of a target: what follows the authority of an absolute address, or else the target itself
 /// (RFC 9112, sections 3.2.1 and 3.2.2).
 #[tactic(auto, unfolding(crate::specs::Targets::origin_of, crate::specs::Targets::authority_len))]
-pub fn origin(target: &[u8]) -> &[u8]
+fn origin(target: &[u8]) -> &[u8]
     ensures value { result.now ≡ origin_of target.now }
     ensures short { length result.now ≤ length target.now }
     ensures utf8 { IsUtf8 target.now → IsUtf8 result.now }
@@ -104,7 +113,7 @@ fn is_spelled(alloc: Global, origin: &[u8]) -> Result<bool, AllocError>
 ///
 /// `AllocError` where there is no memory to tell.
 #[tactic(auto, using(crate::proofs::TargetLemmas::is_origin_signed), unfolding(crate::specs::Targets::is_origin))]
-pub fn is_origin(alloc: Global, origin: &[u8]) -> Result<bool, AllocError>
+fn is_origin(alloc: Global, origin: &[u8]) -> Result<bool, AllocError>
     requires short { length origin.now ≤ 65534 }
     requires utf8 { IsUtf8 origin.now }
     ensures { IfOk result (λ b. b ≡ is_origin origin.now) }
@@ -118,7 +127,7 @@ pub fn is_origin(alloc: Global, origin: &[u8]) -> Result<bool, AllocError>
 
 /// The path of an origin form, as it was sent.
 #[tactic(auto, unfolding(crate::specs::Targets::path_of))]
-pub fn path(origin: &[u8]) -> &[u8]
+fn path(origin: &[u8]) -> &[u8]
     ensures { result.now ≡ path_of origin.now }
 {
     before(origin, b'?')
@@ -168,10 +177,28 @@ fn read_parameters(alloc: Global, query: &[u8]) -> Result<Vec<Field>, AllocError
 ///
 /// `AllocError` where there is no memory for them.
 #[tactic(auto, unfolding(crate::specs::Targets::query_of))]
-pub fn query(alloc: Global, origin: &[u8]) -> Result<Vec<Field>, AllocError>
-    ensures { IfOk result (λ q. q.items ≡ query_of origin.now) }
+fn query(alloc: Global, origin: &[u8]) -> Result<Items<Field>, AllocError>
+    ensures { IfOk result (λ q. q ≡ query_of origin.now) }
 {
-    read_parameters(alloc, query_text(origin))
+    Ok(Items::new(read_parameters(alloc, query_text(origin))?))
+}
+
+/// The path and the parameters of a target, by rule F1: `None` if its origin form is not one.
+///
+/// `AllocError` if memory runs out.
+#[tactic(auto, unfolding(crate::specs::Targets::target_of))]
+pub fn read_target(alloc: Global, target: &[u8]) -> Result<Option<Target>, AllocError>
+    requires short { length target.now ≤ 65534 }
+    requires utf8 { IsUtf8 target.now }
+    ensures { IfOk result (λ o. MatchOption o (is_origin (origin_of target.now) ≡ false) (λ t. (is_origin (origin_of target.now) ≡ true) × (t ≡ target_of target.now))) }
+{
+    let origin = origin(target);
+    if !is_origin(alloc, origin)? {
+        return Ok(None);
+    }
+    let path = Bytes::new(path(origin).to_vec(alloc)?);
+    let query = query(alloc, origin)?;
+    Ok(Some(Target { path, query }))
 }
 
 // The path behind its first byte.

@@ -1,6 +1,6 @@
 -- The entries of a map that is filled from the last header to the first.
-use Rattle.std.proofs.Common.{◌≡◌, ℕ, true, false, cond, List, [], ◌∷◌, ◌++◌, map, filter, take, length, get_or, ◌-◌, ◌+◌, ◌<◌, refl, sym, ap, ◌∙◌, arith}
-use Rattle.std.proofs.lemmas.List.{nil_from_length, take_more}
+use Rattle.std.proofs.Common.{◌≡◌, ℕ, true, false, cond, List, [], ◌∷◌, ◌++◌, map, filter, refl, sym, ap, ◌∙◌}
+use Rattle.std.proofs.lemmas.List.{nil_from_length}
 use Rattle.std.specs.BTreeMap.{insert_entry}
 use Rattle.std.specs.Cmp.Lexicographic.{slice_cmp}
 use Rattle.std.specs.FinMap.{entries, from_entries, put, entries-insert, empty, len-empty, len-entries}
@@ -11,11 +11,7 @@ use Rattle.std.specs.declared.cmp.Ordering.TheVariants.{Less, Equal, Greater}
 use denote.Ref.{Bor}
 use Rattle.stamp_values.specs.Order.{name_cmp, names_total}
 use Rattle.stamp_values.specs.declared.signing.Field.{Field}
-use Rattle.shared_key.specs.Strings.{Pair, is_ms}
-
--- name and value of a header
-abbrev pub header_pair : Field → Pair
-header_pair h = (h.name, h.value)
+use Rattle.shared_key.specs.Strings.{Pair, field_pair, is_ms}
 
 -- the pairs put over entries, the last one first
 abbrev pub put_all : List Pair → List Pair → List Pair
@@ -33,19 +29,19 @@ read_insert (e ∷ es) k v =
     ]
 
 -- one header of the service more at the end is put first
-pub put_all_more : (hs : List Field) (h : Field) (es : List Pair) → is_ms h ≡ true → put_all (map header_pair (filter is_ms (hs ++ h ∷ []))) es ≡ put_all (map header_pair (filter is_ms hs)) (put name_cmp h.name h.value es)
-put_all_more [] h es ms = ap (λ b. put_all (map header_pair (cond b (h ∷ []) [])) es) ms
+pub put_all_more : (hs : List Field) (h : Field) (es : List Pair) → is_ms h ≡ true → put_all (map field_pair (filter is_ms (hs ++ h ∷ []))) es ≡ put_all (map field_pair (filter is_ms hs)) (put name_cmp h.name h.value es)
+put_all_more [] h es ms = ap (λ b. put_all (map field_pair (cond b (h ∷ []) [])) es) ms
 put_all_more (x ∷ xs) h es ms =
-    elim (is_ms x) as (λ b. put_all (map header_pair (cond b (x ∷ filter is_ms (xs ++ h ∷ [])) (filter is_ms (xs ++ h ∷ [])))) es ≡ put_all (map header_pair (cond b (x ∷ filter is_ms xs) (filter is_ms xs))) (put name_cmp h.name h.value es)) [
+    elim (is_ms x) as (λ b. put_all (map field_pair (cond b (x ∷ filter is_ms (xs ++ h ∷ [])) (filter is_ms (xs ++ h ∷ [])))) es ≡ put_all (map field_pair (cond b (x ∷ filter is_ms xs) (filter is_ms xs))) (put name_cmp h.name h.value es)) [
       | true ↦ ap (λ r. put name_cmp x.name x.value r) (put_all_more xs h es ms)
       | false ↦ put_all_more xs h es ms
     ]
 
 -- another header at the end is left out
-pub put_all_other : (hs : List Field) (h : Field) (es : List Pair) → is_ms h ≡ false → put_all (map header_pair (filter is_ms (hs ++ h ∷ []))) es ≡ put_all (map header_pair (filter is_ms hs)) es
-put_all_other [] h es other = ap (λ b. put_all (map header_pair (cond b (h ∷ []) [])) es) other
+pub put_all_other : (hs : List Field) (h : Field) (es : List Pair) → is_ms h ≡ false → put_all (map field_pair (filter is_ms (hs ++ h ∷ []))) es ≡ put_all (map field_pair (filter is_ms hs)) es
+put_all_other [] h es other = ap (λ b. put_all (map field_pair (cond b (h ∷ []) [])) es) other
 put_all_other (x ∷ xs) h es other =
-    elim (is_ms x) as (λ b. put_all (map header_pair (cond b (x ∷ filter is_ms (xs ++ h ∷ [])) (filter is_ms (xs ++ h ∷ [])))) es ≡ put_all (map header_pair (cond b (x ∷ filter is_ms xs) (filter is_ms xs))) es) [
+    elim (is_ms x) as (λ b. put_all (map field_pair (cond b (x ∷ filter is_ms (xs ++ h ∷ [])) (filter is_ms (xs ++ h ∷ [])))) es ≡ put_all (map field_pair (cond b (x ∷ filter is_ms xs) (filter is_ms xs))) es) [
       | true ↦ ap (λ r. put name_cmp x.name x.value r) (put_all_other xs h es other)
       | false ↦ put_all_other xs h es other
     ]
@@ -59,11 +55,9 @@ put_all-nothing [] = sym no_entries
 put_all-nothing (p ∷ ps) =
     ap (put name_cmp p.0 p.1) (put_all-nothing ps) ∙ sym (entries-insert names_total (from_entries ps) p.0 p.1)
 
--- one header of the service less in front, and one entry more
-pub put_all_step : (hs : List Field) (place : ℕ) (h : Field) (es later : List (Bor (List ℕ) × Bor (List ℕ))) (k v : Bor (List ℕ)) (whole : List Pair) → place - 1 < length hs → 0 < place → h ≡ get_or hs (place - 1) h → is_ms h ≡ true → k.now ≡ h.name → v.now ≡ h.value → later ≡ insert_entry (λ x y. slice_cmp nat_cmp x.now y.now) es k v → put_all (map header_pair (filter is_ms (take place hs))) (map deref_pair es) ≡ whole → put_all (map header_pair (filter is_ms (take (place - 1) hs))) (map deref_pair later) ≡ whole
-put_all_step hs place h es later k v whole within some is ms name value inserted so_far =
-    let back : place ≡ place - 1 + 1 = omega arith in
-    let last : take place hs ≡ take (place - 1) hs ++ h ∷ [] = ap (λ n. take n hs) back ∙ take_more hs (place - 1) h within ∙ ap (λ (x : Field). take (place - 1) hs ++ x ∷ []) (sym is) in
-    let more = put_all_more (take (place - 1) hs) h (map deref_pair es) ms in
+-- one header of the service less at the end, and one entry more
+pub put_all_step : (hs left : List Field) (h : Field) (es later : List (Bor (List ℕ) × Bor (List ℕ))) (k v : Bor (List ℕ)) (whole : List Pair) → hs ≡ left ++ h ∷ [] → is_ms h ≡ true → k.now ≡ h.name → v.now ≡ h.value → later ≡ insert_entry (λ x y. slice_cmp nat_cmp x.now y.now) es k v → put_all (map field_pair (filter is_ms hs)) (map deref_pair es) ≡ whole → put_all (map field_pair (filter is_ms left)) (map deref_pair later) ≡ whole
+put_all_step hs left h es later k v whole last ms name value inserted so_far =
+    let more = put_all_more left h (map deref_pair es) ms in
     let read : map deref_pair later ≡ put name_cmp h.name h.value (map deref_pair es) = rw (inserted, read_insert es k v, name, value) refl in
-    rw read (sym more ∙ ap (λ (l : List Field). put_all (map header_pair (filter is_ms l)) (map deref_pair es)) (sym last) ∙ so_far)
+    rw read (sym more ∙ ap (λ (l : List Field). put_all (map field_pair (filter is_ms l)) (map deref_pair es)) (sym last) ∙ so_far)

@@ -14,7 +14,7 @@ use Rattle.shared_key.proofs.Ordered.{Rises, rises_from_sorted, rises-map}
 
 -- a parameter's name and value
 abbrev pub pair_of : Parameter → Pair
-pair_of p = (p.name.items, p.value.now)
+pair_of p = (p.name.now, p.value.now)
 
 -- of two pairs one comes first, or they compare alike
 pub pairs_total : IsTotalOrder pair_cmp

@@ -1,10 +1,10 @@
 -- The string to sign of a request (Blob service REST reference, 2012-02-12, Authentication for the Azure Storage
 -- Services: Shared Key, versions 2009-09-19 and later).
-use Rattle.std.specs.Prelude.{ℕ, Bool, ◌&&◌, ◌||◌, ◌==◌, cond, if◌then◌else◌, List, [], ◌∷◌, ◌++◌, map, filter, find, take, reverse, bytes_eq, codes}
-use Rattle.std.specs.List.{flat_map, list_any, join_with_byte}
+use Rattle.std.specs.Prelude.{ℕ, Bool, ◌&&◌, if◌then◌else◌, List, [], ◌∷◌, ◌++◌, map, filter, take, bytes_eq, codes}
+use Rattle.std.specs.List.{flat_map, join_with_byte}
 use Rattle.std.specs.Option.{option_map_or}
-use Rattle.std.specs.Char.{to_ascii_lowercase}
 use Rattle.std.specs.FinMap.{entries, from_entries}
+use Rattle.stamp_values.specs.Fields.{is_sent, first_value, trimmed, standard_names}
 use Rattle.stamp_values.specs.Order.{name_cmp}
 use Rattle.stamp_values.specs.declared.verb.Verb.{Verb}
 use Rattle.stamp_values.specs.declared.verb.Verb.TheVariants as verb
@@ -23,34 +23,13 @@ verb_text verb.Head = codes "HEAD"
 verb_text verb.Put = codes "PUT"
 verb_text verb.Delete = codes "DELETE"
 
--- a space or a tab
-abbrev pub is_blank : ℕ → Bool
-is_blank b = b == 32 || b == 9
-
--- without the blanks in front
-abbrev pub unindented : List ℕ → List ℕ
-unindented [] = []
-unindented (b ∷ bs) = cond (is_blank b) (unindented bs) (b ∷ bs)
-
--- without the blanks at both ends
-abbrev pub trimmed : List ℕ → List ℕ
-trimmed value = reverse (unindented (reverse (unindented value)))
-
--- whether a header of that name was sent
-abbrev pub is_sent : List Field → List ℕ → Bool
-is_sent headers name = list_any (λ h. bytes_eq h.name name) headers
-
--- the first value that was sent under a name, or nothing
-abbrev pub first_value : List Field → List ℕ → List ℕ
-first_value headers name = option_map_or (λ h. h.value) (find (λ h. bytes_eq h.name name) headers) []
-
--- the headers that have a line each, sent or not
-abbrev pub standard_names : List (List ℕ)
-standard_names = codes "content-encoding" ∷ codes "content-language" ∷ codes "content-length" ∷ codes "content-md5" ∷ codes "content-type" ∷ codes "date" ∷ codes "if-modified-since" ∷ codes "if-match" ∷ codes "if-none-match" ∷ codes "if-unmodified-since" ∷ codes "range" ∷ []
+-- a name and its value
+abbrev pub field_pair : Field → Pair
+field_pair f = (f.name, f.value)
 
 -- what stands on the line of a header: its value, but no date where x-ms-date is sent
 abbrev pub standard_value : List Field → List ℕ → List ℕ
-standard_value headers name = if bytes_eq name (codes "date") && is_sent headers (codes "x-ms-date") then [] else trimmed (first_value headers name)
+standard_value headers name = if bytes_eq name (codes "date") && is_sent headers (codes "x-ms-date") then [] else option_map_or trimmed (first_value headers name) []
 
 -- a header of the service's own
 abbrev pub is_ms : Field → Bool
@@ -58,7 +37,7 @@ is_ms header = bytes_eq (take 5 header.name) (codes "x-ms-")
 
 -- each name once, with its first value, by the bytes of the name
 abbrev pub by_name : List Field → List Pair
-by_name headers = entries (from_entries {R = name_cmp} (map (λ h. (h.name, h.value)) headers))
+by_name headers = entries (from_entries {R = name_cmp} (map field_pair headers))
 
 -- name, colon, value, LF
 abbrev pub header_line : Pair → List ℕ
@@ -67,10 +46,6 @@ header_line p = p.0 ++ 58 ∷ trimmed p.1 ++ 10 ∷ []
 -- the service's own headers, a line each
 abbrev pub canonicalized_headers : List Field → List ℕ
 canonicalized_headers headers = flat_map header_line (by_name (filter is_ms headers))
-
--- a parameter of the query under its name in lower case
-abbrev pub parameter : Field → Pair
-parameter p = (map to_ascii_lowercase p.name, p.value)
 
 -- the values under a name, in the order of the list
 abbrev pub values_of : List Pair → List ℕ → List (List ℕ)
@@ -84,9 +59,9 @@ gathered ps = entries (from_entries {R = name_cmp} (map (λ p. (p.0, in_order na
 abbrev pub parameter_line : List ℕ × List (List ℕ) → List ℕ
 parameter_line g = 10 ∷ g.0 ++ 58 ∷ join_with_byte 44 g.1
 
--- the parameters, a line for each name
+-- the parameters, a line for each name; names are in lower case
 abbrev pub canonicalized_query : List Field → List ℕ
-canonicalized_query query = flat_map parameter_line (gathered (map parameter query))
+canonicalized_query query = flat_map parameter_line (gathered (map field_pair query))
 
 -- the string to sign: verb, standard headers, own headers, and the resource with the account in front
 unfoldable pub key_string : Signing → List ℕ → List ℕ

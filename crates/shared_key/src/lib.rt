@@ -8,7 +8,6 @@ mod query;
 #[cfg(test)]
 mod string_tests;
 mod strings;
-mod trimmed;
 
 pub use authorization::{Authorization, HeaderFault, read_authorization};
 pub use laws::arrangements_are_unique;

@@ -3,48 +3,40 @@ ghost use Rattle.std.specs.Prelude.{◌≡◌, ◌++◌, IfOk, OnOk, Option, Som
 ghost use Rattle.shared_key.specs.Arranged.{in_order};
 ghost use Rattle.std.specs.Option.{option_map};
 ghost use Rattle.shared_key.specs.Runs.{pair_cmp, lead, written};
-ghost use Rattle.shared_key.specs.Strings.{parameter, canonicalized_query};
+ghost use Rattle.shared_key.specs.Strings.{field_pair, canonicalized_query};
 
-use stamp_values::Field;
+use stamp_values::FieldList;
 use std::alloc::{AllocError, Global};
 
-// A parameter under its name in lower case. The derived order is that of the name, and then of the value.
+// A parameter. The derived order is that of the name, and then of the value.
 #[derive(Debug, PartialEq, Eq, PartialOrd, Ord, Drop)]
 struct Parameter<'a> {
-    name: Vec<u8>,
+    name: &'a [u8],
     value: &'a [u8],
 }
 
-fn read_parameter<'a>(alloc: Global, field: &'a Field) -> Result<Parameter<'a>, AllocError>
-    ensures { IfOk result (λ p. (p.name.items, p.value.now) ≡ parameter field.now) }
-{
-    let mut name = field.name.as_slice().to_vec(alloc)?;
-    name.make_ascii_lowercase();
-    Ok(Parameter {
-        name,
-        value: field.value.as_slice(),
-    })
-}
-
-fn read_parameters<'a>(alloc: Global, query: &'a [Field]) -> Result<Vec<Parameter<'a>>, AllocError>
-    ensures { IfOk result (λ v. map (λ p. (p.name.items, p.value.now)) v.items ≡ map parameter query.now) }
+fn read_parameters(alloc: Global, query: &FieldList) -> Result<Vec<Parameter<'_>>, AllocError>
+    ensures { IfOk result (λ v. map (λ p. (p.name.now, p.value.now)) v.items ≡ map field_pair query.now) }
 {
     let mut parameters = Vec::with_capacity(alloc, query.len())?;
-    for field in query {
-        parameters.push(read_parameter(alloc, field)?)?;
+    for field in query.fields() {
+        parameters.push(Parameter {
+            name: field.name,
+            value: field.value,
+        })?;
     }
     Ok(parameters)
 }
 
 // No two parameters of one name and one value differ, so an unstable sort does, which takes no memory.
 fn arrange(parameters: &mut Vec<Parameter<'_>>)
-    ensures { map (λ p. (p.name.items, p.value.now)) parameters.new.items ≡ in_order pair_cmp (map (λ p. (p.name.items, p.value.now)) parameters.old.items) }
+    ensures { map (λ p. (p.name.now, p.value.now)) parameters.new.items ≡ in_order pair_cmp (map (λ p. (p.name.now, p.value.now)) parameters.old.items) }
 {
     parameters.sort_unstable();
 }
 
-fn arranged<'a>(alloc: Global, query: &'a [Field]) -> Result<Vec<Parameter<'a>>, AllocError>
-    ensures { IfOk result (λ v. map (λ p. (p.name.items, p.value.now)) v.items ≡ in_order pair_cmp (map parameter query.now)) }
+fn arranged(alloc: Global, query: &FieldList) -> Result<Vec<Parameter<'_>>, AllocError>
+    ensures { IfOk result (λ v. map (λ p. (p.name.now, p.value.now)) v.items ≡ in_order pair_cmp (map field_pair query.now)) }
 {
     let mut parameters = read_parameters(alloc, query)?;
     arrange(&mut parameters);
@@ -66,13 +58,13 @@ fn write_lead(out: &mut Vec<u8>, before: Option<&[u8]>, name: &[u8]) -> Result<(
 }
 
 fn write_arranged(out: &mut Vec<u8>, parameters: &[Parameter<'_>]) -> Result<(), AllocError>
-    ensures { OnOk result (out.new.items ≡ out.old.items ++ written None (map (λ p. (p.name.items, p.value.now)) parameters.now)) }
+    ensures { OnOk result (out.new.items ≡ out.old.items ++ written None (map (λ p. (p.name.now, p.value.now)) parameters.now)) }
 {
     let mut before: Option<&[u8]> = None;
     for parameter in parameters {
-        write_lead(out, before, &parameter.name)?;
+        write_lead(out, before, parameter.name)?;
         out.extend_from_slice(parameter.value)?;
-        before = Some(&parameter.name);
+        before = Some(parameter.name);
     }
     Ok(())
 }
@@ -81,7 +73,7 @@ fn write_arranged(out: &mut Vec<u8>, parameters: &[Parameter<'_>]) -> Result<(),
 pub(crate) fn write_canonicalized(
     alloc: Global,
     out: &mut Vec<u8>,
-    query: &[Field],
+    query: &FieldList,
 ) -> Result<(), AllocError>
     ensures { OnOk result (out.new.items ≡ out.old.items ++ canonicalized_query query.now) }
 {

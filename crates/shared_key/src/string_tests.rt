@@ -1,7 +1,7 @@
 //! Strings to sign, written out by hand from the reference.
 
 use crate::strings::key_string;
-use stamp_values::{Bytes, Field, Items, Signing, Verb};
+use stamp_values::{Bytes, FieldList, Signing, Verb};
 use std::alloc::Global;
 use std::process::Abort;
 
@@ -11,16 +11,14 @@ fn bytes(rt: &impl Abort, alloc: Global, text: &str) -> Bytes {
     Bytes::new(text.as_bytes().to_vec(alloc).expect(rt, "memory"))
 }
 
-fn fields(rt: &impl Abort, alloc: Global, pairs: Pairs) -> Items<Field> {
-    let mut fields = Vec::new(alloc);
+fn fields(rt: &impl Abort, alloc: Global, pairs: Pairs) -> FieldList {
+    let mut fields = FieldList::new(alloc);
     for (name, value) in pairs {
-        let field = Field {
-            name: bytes(rt, alloc, *name),
-            value: bytes(rt, alloc, *value),
-        };
-        fields.push(field).expect(rt, "memory");
+        fields
+            .push(name.as_bytes(), value.as_bytes())
+            .expect(rt, "memory");
     }
-    Items::new(fields)
+    fields
 }
 
 // What a request of the development account signs: its verb, headers, path and parameters, and the string.

@@ -1,11 +1,10 @@
 //! The string to sign of a request.
 ghost use Rattle.std.specs.Prelude.{◌≡◌, ◌++◌, ◌∷◌, IfOk, OnOk, min};
-ghost use Rattle.std.specs.List.{sum_by};
-ghost use Rattle.shared_key.specs.Rooms.{field_room, room_of};
+ghost use Rattle.shared_key.specs.Rooms.{fields_room, room_of};
 ghost use Rattle.shared_key.specs.Strings.{key_string, verb_text, canonicalized_query};
 
 use crate::{headers, query};
-use stamp_values::{Field, Signing, Verb};
+use stamp_values::{FieldList, Signing, Verb};
 use std::alloc::{AllocError, Global};
 
 fn verb_text(verb: Verb) -> &'static str
@@ -19,26 +18,21 @@ fn verb_text(verb: Verb) -> &'static str
     }
 }
 
-// The room of fields, or all that a number can say.
-fn fields_room(fields: &[Field]) -> usize
-    ensures { result ≡ min (sum_by field_room fields.now) usize.MAX }
+// The room of fields, each with a colon and a line feed, or all that a number can say.
+fn fields_room(fields: &FieldList) -> usize
+    ensures { result ≡ min (fields_room fields.now) usize.MAX }
 {
-    let mut room = 0usize;
-    for field in fields {
-        room = room
-            .saturating_add(field.name.as_slice().len())
-            .saturating_add(field.value.as_slice().len())
-            .saturating_add(2);
-    }
-    room
+    fields
+        .bytes_len()
+        .saturating_add(fields.len().saturating_mul(2))
 }
 
 // At least the length of the string, so that the string is put together in one allocation.
 fn room(signing: &Signing, account: &[u8]) -> usize
     ensures { result ≡ min (room_of signing.now account.now) usize.MAX }
 {
-    fields_room(signing.headers.as_slice())
-        .saturating_add(fields_room(signing.query.as_slice()))
+    fields_room(&signing.headers)
+        .saturating_add(fields_room(&signing.query))
         .saturating_add(account.len())
         .saturating_add(signing.path.as_slice().len())
         .saturating_add(32)
@@ -55,7 +49,7 @@ fn write_resource(
     out.push(b'/')?;
     out.extend_from_slice(account)?;
     out.extend_from_slice(signing.path.as_slice())?;
-    query::write_canonicalized(alloc, out, signing.query.as_slice())
+    query::write_canonicalized(alloc, out, &signing.query)
 }
 
 /// The string to sign of Shared Key (Blob service REST reference, 2012-02-12, Authentication for the
@@ -70,8 +64,8 @@ pub fn key_string(alloc: Global, signing: &Signing, account: &[u8]) -> Result<Ve
     let mut out = Vec::with_capacity(alloc, room(signing, account))?;
     out.extend_from_slice(verb_text(signing.verb).as_bytes())?;
     out.push(b'\n')?;
-    headers::write_standard(&mut out, signing.headers.as_slice())?;
-    headers::write_canonicalized(alloc, &mut out, signing.headers.as_slice())?;
+    headers::write_standard(&mut out, &signing.headers)?;
+    headers::write_canonicalized(alloc, &mut out, &signing.headers)?;
     write_resource(alloc, &mut out, signing, account)?;
     Ok(out)
 }

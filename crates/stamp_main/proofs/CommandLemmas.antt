@@ -2,7 +2,7 @@
 use Rattle.std.proofs.Common.{◌≡◌, ℕ, suc, List, [], ◌∷◌, length, get_or, refl, arith}
 
 module _ {X : Type 0} where
-  -- the elements of `ys` stand in `xs` from place `i` on
+  -- the elements of `ys` are in `xs` from place `i` on
   abbrev pub StandAt : List X → ℕ → List X → Type 0
   StandAt xs i [] = Unit {0}
   StandAt xs i (y ∷ ys) = (y ≡ get_or xs i y) × StandAt xs (suc i) ys

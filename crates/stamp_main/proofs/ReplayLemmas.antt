@@ -29,11 +29,11 @@ account_clean t good = visible_clean t (account_visible t good)
 
 -- ---- what is written at one moment
 
--- the clock stands still
+-- the clock always tells the same moment
 abbrev pub Stands : Still → ℕ → Still → Type 0
 Stands still moment new = (moment ≡ still.moment) × (new ≡ still)
 
--- what is written for an item, and what is held behind it
+-- what is written for an item, and what is held after it
 item_step : (h h' : Held) (t : ℕ) (e : Exchange) → moment_of e ≡ t → Replies-to Held-answers h e h'
     → (bytes_of e ≡ answer_of h t (item_of e)) × (h' ≡ held_behind h t (item_of e))
 unfolding bytes_of answer_of held_behind
@@ -44,7 +44,7 @@ item_step h h' t (Answered form body moment reply) told replied = (
 )
 item_step h h' t (Turned denial moment) told replied = (rw told refl, replied)
 
--- what is written for the items in turn
+-- what is written for the items in this order
 output_is : (h h' : Held) (c c' : Still) (es : List Exchange) → Ticks Stands c (map moment_of es) c' → Replies Held-answers h es h'
     → flat_map bytes_of es ≡ output_of h c.moment (map item_of es)
 output_is h h' c c' [] ticks replies = refl
@@ -122,7 +122,7 @@ starves_of starves keys t c' h' left left' held held' s = record {
       (output_is (held_first keys t) s.world_then (record { moment = t }) s.clock_then s.exchanges s.moments s.replies) s.output;
 }
 
--- ---- the three clauses of a run, by a service and a clock that are those of the replay at first
+-- ---- the three clauses of a run whose service and clock are at first those of the replay
 
 pub replayed_by : (keys : Keys) (t : ℕ) (c c' : Still) (h h' : Held) (left left' held held' : Option (List ℕ)) (result : Result End FrontFault) (turns : ℕ)
     → h ≡ held_first keys t → c ≡ record { moment = t }
@@ -145,7 +145,7 @@ pub starved_by : (starves : Held → Held → Type 0) (keys : Keys) (t : ℕ) (c
 starved_by starves keys t c c' h h' left left' held held' first stands starved =
     starves_of starves keys t c' h' left left' held held' (rw (first, stands) at starved)
 
--- ---- what is written for an input is one
+-- ---- a replay has one output for each input
 
 output_one : (keys : Keys) (t : ℕ) (bytes : List ℕ) (items others : List Item) (tail other : Tail)
     → Reads bytes items tail → Reads bytes others other → replay_output keys t items tail ≡ replay_output keys t others other
@@ -159,7 +159,7 @@ one_output keys t input output other p q = p.3 ∙ output_one keys t input p.0 q
 pub some_output : (keys : Keys) (t : ℕ) (input : List ℕ) → (output : List ℕ) × Is-output keys t input output
 some_output keys t input = let read = reading_of input in (replay_output keys t read.0 read.1, (read.0, read.1, read.2, refl))
 
--- ---- what is written is by the replies of the model
+-- ---- what is written has the replies of the model
 
 written : (h : Held) (t : ℕ) (items : List Item) → output_of h t items ≡ written_for t items (replies_to (Some h.keys) h.world (requests_of t items))
 unfolding answer_of held_behind

@@ -40,7 +40,7 @@ is_fault WriteFault = true
 is_fault TurnsUsedUp = true
 is_fault NoMemory = false
 
--- what the run took is answered: neither did a write fail, nor did memory run out
+-- what the run took is answered: no write failed, and memory did not run out
 abbrev pub is_answered : Ending → Bool
 is_answered Done = true
 is_answered Usage = false

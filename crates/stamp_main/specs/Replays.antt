@@ -1,5 +1,5 @@
--- What `stamp replay` writes: the bytes of its input answered in turn, as the model says, by a clock that stands still (Blob
--- service REST reference, 2012-02-12; RFC 9112, section 9.3).
+-- What `stamp replay` writes: the answers to its input in order, as the model says, by a clock that always tells the same moment
+-- (Blob service REST reference, 2012-02-12; RFC 9112, section 9.3).
 use Rattle.std.specs.Prelude.{◌≡◌, ℕ, ◌*◌, ◌≤◌, List, [], ◌∷◌, ◌++◌, length, true, Option, Some, IfSome, OnOk, Result, Ok, codes}
 use Rattle.std.specs.Io.KnownBytes.{Consumes, Appends}
 use Rattle.stamp_values.specs.Names.{is_account}
@@ -25,18 +25,18 @@ use Rattle.stamp_main.specs.Ending.{run_ending}
 abbrev pub keys_of : List ℕ → List ℕ → List ℕ → Keys
 keys_of account first second = record { account = account; first = first; second = second; epoch = 0 }
 
--- what is written for an item, answered at the moment: ahead of a request's reply the interim one, where it is asked for
+-- what is written for an item that is answered at the moment: the interim reply, if a request asks for it, and then the reply
 unfoldable pub answer_of : Held → ℕ → Item → List ℕ
 answer_of h t (Requested form body) =
     interim form ++ reply_bytes (held_reply h (with_body form body) t) t (Some form.ask.signing.verb) form.closes
 answer_of h t (Refused denial) = reply_bytes (denied (refusal_of denial)) t denial.verb true
 
--- what is held behind an item; a head that is refused changes nothing
+-- what is held after an item; a head that is refused changes nothing
 unfoldable pub held_behind : Held → ℕ → Item → Held
 held_behind h t (Requested form body) = held_after h (with_body form body) t
 held_behind h t (Refused denial) = h
 
--- what is written for items in turn, each answered at the moment
+-- what is written for items in this order, each answered at the moment
 abbrev pub output_of : Held → ℕ → List Item → List ℕ
 output_of h t [] = []
 output_of h t (item ∷ items) = answer_of h t item ++ output_of (held_behind h t item) t items
@@ -45,13 +45,13 @@ output_of h t (item ∷ items) = answer_of h t item ++ output_of (held_behind h 
 unfoldable pub replay_output : Keys → ℕ → List Item → Tail → List ℕ
 replay_output keys t items tail = output_of (held_first keys t) t items ++ tail_bytes tail
 
--- the requests among items in turn, each at the moment
+-- the requests among items in this order, each at the moment
 abbrev pub requests_of : ℕ → List Item → List Timed
 requests_of t [] = []
 requests_of t (Requested form body ∷ items) = record { request = with_body form body; moment = t } ∷ requests_of t items
 requests_of t (Refused denial ∷ items) = requests_of t items
 
--- what is written for items in turn at the moment, if these are the replies to the requests among them
+-- what is written for items in this order at the moment, if these are the replies to the requests among them
 abbrev pub written_for : ℕ → List Item → List Reply → List ℕ
 written_for t [] replies = []
 written_for t (Requested form body ∷ items) [] = written_for t items []
@@ -59,7 +59,7 @@ written_for t (Requested form body ∷ items) (r ∷ replies) =
     (interim form ++ reply_bytes r t (Some form.ask.signing.verb) form.closes) ++ written_for t items replies
 written_for t (Refused denial ∷ items) replies = reply_bytes (denied (refusal_of denial)) t denial.verb true ++ written_for t items replies
 
--- what a replay writes for an input: that for the items of the input
+-- what a replay writes for an input: what it writes for the items of the input
 abbrev pub Is-output : Keys → ℕ → List ℕ → List ℕ → Type 0
 Is-output keys t input output = (items : List Item) × (tail : Tail) × Reads input items tail × (output ≡ replay_output keys t items tail)
 
@@ -71,15 +71,15 @@ pub record Replays (keys : Keys) (moment : ℕ) (held held' : Option (List ℕ))
   pub output : Appends held held' (replay_output keys moment items tail)
   pub ends : EndsAs result tail turns (length input)
 
--- That holds of the bytes that the run took, at most 8,192 for each turn.
+-- `Replays` holds of the bytes that the run took, and they are at most 8,192 for each turn.
 pub record Replayed (keys : Keys) (moment : ℕ) (left left' held held' : Option (List ℕ)) (result : Result End FrontFault) (turns : ℕ) : Type 0 where
   pub received : List ℕ
   pub consumed : Consumes left left' received
   pub within : length received ≤ turns * 8192
   pub replays : Replays keys moment held held' result turns received
 
--- Memory ran out. What was taken begins with items that were answered in full; after their output come what was begun of the
--- next one, and the bytes that say so.
+-- Memory ran out. The bytes that were taken begin with items that were answered in full. After their output come the bytes that
+-- were written before the answer to the next item, and then the bytes that say that memory ran out.
 pub record Starves (keys : Keys) (moment : ℕ) (left left' held held' : Option (List ℕ)) : Type 0 where
   pub received : List ℕ
   pub consumed : Consumes left left' received
@@ -112,7 +112,7 @@ Is-replay words = (time : ℕ) × (keys : Keys) × Asks-replay words time keys
 abbrev pub turn_limit : ℕ
 turn_limit = 4294967296
 
--- the words asked for a replay, which ended so: what was read is answered, and if it ended well that is the whole input
+-- the words asked for a replay, which ended so: what was read is answered, and is the whole input if the replay ended well
 abbrev pub Has-replayed : List (List ℕ) → Ending → Option (List ℕ) → Option (List ℕ) → Option (List ℕ) → Option (List ℕ) → Type 0
 Has-replayed words ending left left' held held' =
     (time : ℕ) × (keys : Keys) × Asks-replay words time keys × (result : Result End FrontFault) × (ending ≡ run_ending result)

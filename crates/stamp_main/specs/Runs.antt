@@ -23,7 +23,7 @@ module _ {R W : Type 0} (remaining : R → Option (List ℕ)) (contents : W → 
   abbrev pub Answered : Ending → Type 0
   Answered ending = Has-replayed words ending (remaining reader) (remaining reader') (contents writer) (contents writer')
 
-  -- What was read and written for the words, by how the program ended. Only after a failed write it is open what was written.
+  -- What was read and written for the words, by how the program ended. What was written is unknown only after a failed write.
   abbrev pub Outcome : Ending → Type 0
   Outcome Done = (Has-signed words (remaining reader) (contents writer) (contents writer') × IsAtEnd (remaining reader')) ⊎ Answered Done
   Outcome Usage = ¬ Is-asked words × Untouched

@@ -19,10 +19,10 @@ Is-sign words = (key : List ℕ) × Asks-sign words key
 abbrev pub signature_line : List ℕ → List ℕ → List ℕ
 signature_line key input = signature_of key input ++ 10 ∷ []
 
--- what is held has grown by the signature line of the whole input, where that is known
+-- what is held has grown by the signature line of the whole input, if that input is known
 abbrev pub Signed : List ℕ → Option (List ℕ) → Option (List ℕ) → Option (List ℕ) → Type 0
 Signed key left held held' = IfSome left (λ input. Appends held held' (signature_line key input))
 
--- the words asked for a signature, and it was written of the whole input, if that is known
+-- the words asked for a signature, and that of the whole input was written, if that input is known
 abbrev pub Has-signed : List (List ℕ) → Option (List ℕ) → Option (List ℕ) → Option (List ℕ) → Type 0
 Has-signed words left held held' = (key : List ℕ) × Asks-sign words key × Signed key left held held'

@@ -1,10 +1,11 @@
-//! What the program is asked to do, read from the words behind its name.
+//! What the program is asked to do, read from the words after its name.
 ghost use Rattle.std.specs.Prelude.{◌≡◌, ◌≢◌, IfSome, IfNone};
 ghost use Rattle.stamp_main.specs.Command.{texts_of, words_of};
 ghost use Rattle.stamp_main.specs.declared.command.Command.{Command};
 
 /// A command and its words, as they were given. Whether a word is a key, a moment or an address is not tested here.
-#[derive(Clone, Copy, Debug, PartialEq, Eq)]
+/// It has no `Debug`, so that no text of a key is printed.
+#[derive(Clone, Copy, PartialEq, Eq)]
 pub enum Command<'a> {
     /// `sign KEY`: write the signature of standard input under the key.
     Sign {
@@ -27,7 +28,7 @@ pub enum Command<'a> {
     },
 }
 
-/// Reads the command that the words give, the program's name not among them.
+/// Reads the command that the words give. The program's name is not among the words.
 pub fn read_command(words: &[String]) -> Option<Command<'_>>
     ensures read { IfSome result (λ command. words_of command ≡ texts_of words.now) }
     ensures refused { IfNone result ((command : Command) → words_of command ≢ texts_of words.now) }

@@ -1,4 +1,4 @@
-//! How the program ends, and the exit status that says it.
+//! How the program ends, and the exit status of each ending.
 ghost use Rattle.std.specs.Prelude.{◌≡◌};
 ghost use Rattle.stamp_main.specs.Ending.{ending_status, run_ending};
 
@@ -9,7 +9,7 @@ use http_front::FrontFault;
 pub enum Ending {
     /// The command was carried out to its end.
     Done,
-    /// The words were no command.
+    /// The words were not a command.
     Usage,
     /// A read failed, or the input ended inside a request.
     ReadFault,
@@ -17,12 +17,12 @@ pub enum Ending {
     WriteFault,
     /// All reads that the program may make were made, and the input had not ended.
     TurnsUsedUp,
-    /// There was no memory for what had to be kept.
+    /// Memory ran out.
     NoMemory,
 }
 
 impl Ending {
-    /// The exit status, as whoever started the process sees it.
+    /// The exit status that whoever started the process sees.
     pub fn status(self) -> u8
         ensures { result ≡ ending_status self }
     {
@@ -35,7 +35,7 @@ impl Ending {
     }
 }
 
-/// How a run over a reader and a writer ends the program, whatever it answers when all went well.
+/// How a run over a reader and a writer ends the program, whatever value the run gives if it ended well.
 pub fn status_of<T>(run: &Result<T, FrontFault>) -> Ending
     ensures { result ≡ run_ending run.now }
 {

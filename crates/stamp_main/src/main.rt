@@ -1,4 +1,4 @@
-//! The storage stamp's program: takes a command from its words, and ends with one of four statuses.
+//! The storage stamp's program: it takes a command from its words, and ends with one of four statuses.
 #![tactic(auto)]
 
 ghost use Rattle.std.specs.Prelude.{◌≡◌, ◌⊎◌, IfErr};
@@ -32,11 +32,11 @@ mod words;
 /// The most reads that the program makes of its input.
 const TURNS: u64 = 4_294_967_296;
 
-/// What standard error gets, as a line, where the words are no command.
+/// The line that standard error gets if the words are not a command.
 const USAGE: &str =
     "usage: stamp sign KEY | stamp replay MOMENT ACCOUNT KEY1 KEY2 | stamp serve ADDRESS WORKERS ACCOUNT KEY1 KEY2";
 
-// The ending is no `Result`: at an `Err` the startup code would write a line of its own.
+// The ending is not a `Result`: at an `Err` the startup code would write a line of its own.
 fn main(rt: HostRuntime) -> ExitCode {
     let ending = match read_words(&rt) {
         Ok(words) => run(rt.alloc(), &words, &mut rt.reader(), &mut io::writer(&rt)),
@@ -48,9 +48,9 @@ fn main(rt: HostRuntime) -> ExitCode {
     ExitCode::from(ending.status())
 }
 
-/// The words behind the program's name.
+/// The words after the program's name.
 ///
-/// Words that cannot be read, as where one is not UTF-8, are no command.
+/// Words that cannot be read, for example because one is not UTF-8, are not a command.
 fn read_words(rt: &(impl Env + AllocGlobal)) -> Result<Vec<String>, Ending>
     ensures { IfErr result (λ ending. (ending ≡ Usage) ⊎ (ending ≡ NoMemory)) }
 {
@@ -59,10 +59,11 @@ fn read_words(rt: &(impl Env + AllocGlobal)) -> Result<Vec<String>, Ending>
     words.collect(rt.alloc()).map_err(|_| Ending::NoMemory)
 }
 
-/// Carries out the command that the words give, and says how that ended. What was written is known at every ending but a failed
-/// write.
+/// Carries out the command that the words give, and returns how it ended. It is known what was written at every ending except a
+/// failed write.
 ///
-/// Two commands are built. The words of `serve` are answered as no command, and then nothing was read or written.
+/// Two commands are built. The words of `serve` are answered like words that are not a command, and nothing is read or written
+/// then.
 #[tactic(auto, using(crate::proofs::RunLemmas::sign_outcome, crate::proofs::RunLemmas::replay_outcome, crate::proofs::RunLemmas::unasked_serve))]
 fn run<R: Read, W: Write>(alloc: Global, words: &[String], reader: &mut R, writer: &mut W) -> Ending
     ensures outcome { Outcome R.remaining W.contents (texts_of words.now) reader.old reader.new writer.old writer.new result }
@@ -79,13 +80,13 @@ fn run<R: Read, W: Write>(alloc: Global, words: &[String], reader: &mut R, write
         ) => run_replay(
             alloc, reader, writer, moment, account, first_key, second_key,
         ),
-        // Until what it asks for is built, a command is answered as none.
+        // A command that is not built yet is answered like words that are not a command.
         Some(Command::Serve { .. }) => Ending::Usage,
         None => Ending::Usage,
     }
 }
 
-/// Writes the usage line. Where that fails the exit status has to say it alone.
+/// Writes the usage line. If that fails, only the exit status tells of the wrong usage.
 fn show_usage(rt: &impl Eprint) {
     let _ = rt.eprintln(USAGE);
 }
@@ -142,7 +143,7 @@ mod tests {
             .try_collect(alloc)
     }
 
-    // What is written for these words, where the input has no bytes, and how the program ends.
+    // What is written for these words if the input has no bytes, and how the program ends.
     #[test]
     fn the_words_are_read_first(rt: HostRuntime) -> Result<(), Fail> {
         let table: [(&str, Ending, &[u8]); 12] = [

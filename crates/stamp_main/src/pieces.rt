@@ -1,8 +1,8 @@
-//! A reader and a writer for tests, which give way at a chosen call.
+//! A reader and a writer for tests, which fail at a chosen call.
 use std::io;
 use std::io::{ErrorKind, Read, Write};
 
-/// Gives so many bytes a read, and fails at the read after the last that it may make.
+/// Gives at most `most` bytes at a read, and fails after `reads` reads.
 #[derive(Drop)]
 pub(crate) struct Pieces<'a> {
     pub rest: &'a [u8],
@@ -21,7 +21,7 @@ impl Read for Pieces<'_> {
     }
 }
 
-/// Takes bytes or refuses them, and does not pass them on.
+/// Takes bytes or refuses them, and fails at each flush.
 #[derive(Drop)]
 pub(crate) struct Stuck {
     pub takes: bool,

@@ -11,8 +11,9 @@ use crate::TURNS;
 use crate::ending::{Ending, status_of};
 use crate::words::{Asked, read_asked};
 use access_rules::Keys;
+use hmac_sign::SigningKey;
 use http_front::{Clock, End, FrontFault, Plain, PlainFault, run};
-use stamp_types::{Bytes, Moment, Text};
+use stamp_types::{Moment, Text};
 use std::alloc::Global;
 use std::io::{Read, Write};
 
@@ -30,10 +31,10 @@ impl Clock for Still {
     }
 }
 
-/// Serves one connection by an account's keys, its container `pics` made first, as if all of it came at the moment. One read asks
-/// for at most 8,192 bytes; `turns` is how many reads are made at most.
+/// Serves one connection by an account's keys, as if all of it came at the moment. The account's container `pics` is made first.
+/// One read asks for at most 8,192 bytes, and at most `turns` reads are made.
 ///
-/// Where there is no memory for that container, nothing was read or written.
+/// If memory runs out for that container, nothing is read or written.
 #[tactic(auto, using(crate::proofs::ReplayLemmas::replayed_by, crate::proofs::ReplayLemmas::whole_by, crate::proofs::ReplayLemmas::starved_by))]
 pub fn replay_on<R: Read, W: Write>(
     alloc: Global,
@@ -41,18 +42,18 @@ pub fn replay_on<R: Read, W: Write>(
     writer: &mut W,
     moment: Moment,
     account: Text,
-    first: Bytes,
-    second: Bytes,
+    first: SigningKey,
+    second: SigningKey,
     turns: u64,
 ) -> Result<End, FrontFault>
     requires { IsTrue (is_account account) }
     // What is written is a function of the bytes that were read, the moment, the account and the keys.
     ensures replayed { Served result (Replayed (keys_of account first second) moment (R.remaining reader.old) (R.remaining reader.new)
         (W.contents writer.old) (W.contents writer.new) result turns) }
-    // These are the whole input, however it was cut into reads.
+    // These bytes are the whole input, however reads cut that input.
     ensures whole { OnOk result (IfSome (R.remaining reader.old) (Replays (keys_of account first second) moment
         (W.contents writer.old) (W.contents writer.new) result turns)) }
-    // Where memory ran out, the items before are answered in full, and what is said last is that alone.
+    // If memory ran out, the items before that are answered in full, and the last bytes say only that memory ran out.
     ensures starved { result ≡ Err faults.NoMemory → ((reader.new ≡ reader.old) × (writer.new ≡ writer.old))
         ⊎ Starves (keys_of account first second) moment (R.remaining reader.old) (R.remaining reader.new)
         (W.contents writer.old) (W.contents writer.new) }
@@ -82,8 +83,8 @@ pub fn replay_on<R: Read, W: Write>(
 /// Carries out `stamp replay MOMENT ACCOUNT KEY1 KEY2`: answers the whole input as one connection, at the moment and by the keys
 /// that these words give.
 ///
-/// Where a word is bad it is answered as wrong usage, and then nothing was read and nothing written. What was written is known at
-/// every ending but a failed write.
+/// If a word is bad, it is answered as wrong usage, and nothing is read or written then. It is known what was written at every
+/// ending except a failed write.
 pub fn run_replay<R: Read, W: Write>(
     alloc: Global,
     reader: &mut R,

@@ -6,14 +6,14 @@ ghost use Rattle.http_front.specs.PlainAnswers.{held_first};
 ghost use Rattle.http_front.specs.Streams.{Item, Tail, tail_bytes};
 ghost use Rattle.stamp_main.specs.Replays.{Is-output, replay_output, requests_of, written_for};
 
-/// For each input there is one output of a replay, and no other.
+/// A replay has one output for each input, and no other.
 pub fn an_input_has_one_output()
     ensures some { (keys : Keys) (time : ℕ) (input : List ℕ) → (output : List ℕ) × Is-output keys time input output }
     ensures once { (keys : Keys) (time : ℕ) (input output other : List ℕ) → Is-output keys time input output → Is-output keys time input other → output ≡ other }
 {}
 
-/// What a replay writes is what is written for the items of its input if the requests among them have the replies of the model: those
-/// to requests that are answered in turn, from what is held at first.
+/// What a replay writes is what is written for the items of its input if the requests among them have the replies that the model
+/// gives to these requests in this order, from what is held at first.
 pub fn a_replay_writes_the_replies_of_the_model()
     ensures { (keys : Keys) (time : ℕ) (items : List Item) (tail : Tail) → replay_output keys time items tail ≡ written_for time items (replies_to (Some keys) (held_first keys time).world (requests_of time items)) ++ tail_bytes tail }
 {}

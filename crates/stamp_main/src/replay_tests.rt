@@ -20,8 +20,8 @@ const INPUT: &[u8] =
 const OUTPUT: &[u8] =
     b"HTTP/1.1 201 Created\r\nDate: Mon, 01 Oct 2012 12:00:00 GMT\r\nx-ms-version: 2012-02-12\r\nContent-MD5: XUFAKrxLKna5cZ2REBfFkg==\r\nETag: \"0x0000000000000002\"\r\nLast-Modified: Mon, 01 Oct 2012 12:00:00 GMT\r\nContent-Length: 0\r\n\r\nHTTP/1.1 200 OK\r\nDate: Mon, 01 Oct 2012 12:00:00 GMT\r\nx-ms-version: 2012-02-12\r\nContent-Type: application/octet-stream\r\nContent-MD5: XUFAKrxLKna5cZ2REBfFkg==\r\nx-ms-blob-type: BlockBlob\r\nAccept-Ranges: bytes\r\nETag: \"0x0000000000000002\"\r\nLast-Modified: Mon, 01 Oct 2012 12:00:00 GMT\r\nContent-Length: 5\r\n\r\nhello";
 
-// Whatever one read gives, the whole input is answered; a read that fails ends the run, and nothing of a head that is cut
-// off by it is answered.
+// However many bytes one read gives, the whole input is answered. A read that fails ends the run, and a head that it cuts off
+// is not answered.
 #[test]
 fn pieces_do_not_matter(rt: HostRuntime) {
     let table = [

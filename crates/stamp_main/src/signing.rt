@@ -10,7 +10,7 @@ ghost use Rattle.stamp_main.specs.Signing.{Has-signed, Is-sign, Signed, sign_lin
 use crate::TURNS;
 use crate::ending::{Ending, status_of};
 use crate::words::read_secret;
-use hmac_sign::sign;
+use hmac_sign::SigningKey;
 use http_front::FrontFault;
 use std::alloc::{AllocError, Global};
 use std::io::{Read, Write};
@@ -20,8 +20,8 @@ const READ_SIZE: usize = 8192;
 
 /// Carries out `stamp sign KEY`: writes the signature of the whole input under the key that `key` gives in Base64.
 ///
-/// A text that is not Base64 is answered as wrong usage, and then nothing was read. What was written is known at every ending but
-/// a failed write: the line at `Done`, and else nothing.
+/// A text that is not Base64 is answered as wrong usage, and nothing is read then. It is known what was written at every ending
+/// except a failed write: the line at `Done`, and otherwise nothing.
 pub fn run_sign<R: Read, W: Write>(
     alloc: Global,
     reader: &mut R,
@@ -38,7 +38,7 @@ pub fn run_sign<R: Read, W: Write>(
     ensures unread { result ≡ Usage → reader.new ≡ reader.old }
 {
     match read_secret(alloc, key) {
-        Ok(secret) => status_of(&sign_on(alloc, reader, writer, secret.as_slice(), TURNS)),
+        Ok(secret) => status_of(&sign_on(alloc, reader, writer, &secret, TURNS)),
         Err(ending) => ending,
     }
 }
@@ -47,13 +47,13 @@ pub fn run_sign<R: Read, W: Write>(
 /// key, and LF.
 ///
 /// Nothing is written before the input has ended: at `Read`, `Turns` and `NoMemory` the writer is as it was. `Turns`
-/// comes once as many reads have been made and none was the end. Any error of a read is `Read`, also one that was
-/// interrupted. At `Write` part of the line may have been written.
+/// comes if `turns` reads were made and none of them found the end. Any error of a read is `Read`, even the error of an
+/// interrupted read. At `Write` part of the line may have been written.
 pub fn sign_on<R: Read, W: Write>(
     alloc: Global,
     reader: &mut R,
     writer: &mut W,
-    key: &[u8],
+    key: &SigningKey,
     turns: u64,
 ) -> Result<(), FrontFault>
     ensures signed { OnOk result (Signed key.now (R.remaining reader.old) (W.contents writer.old) (W.contents writer.new)) }
@@ -90,15 +90,15 @@ fn read_whole<R: Read>(alloc: Global, reader: &mut R, turns: u64) -> Result<Vec<
 }
 
 /// The signature of the input, and LF.
-fn write_line(alloc: Global, key: &[u8], input: &[u8]) -> Result<String, AllocError>
+fn write_line(alloc: Global, key: &SigningKey, input: &[u8]) -> Result<String, AllocError>
     ensures { IfOk result (λ line. string_bytes line ≡ signature_line key.now input.now) }
 {
-    let mut line = sign(alloc, key, input)?;
+    let mut line = key.sign(alloc, input)?;
     line.push('\n')?;
     Ok(line)
 }
 
-/// Writes all of the bytes, and has the writer pass them on.
+/// Writes all of the bytes, and flushes the writer.
 fn send<W: Write>(writer: &mut W, bytes: &[u8]) -> Result<(), FrontFault>
     ensures sent { OnOk result (Appends (W.contents writer.old) (W.contents writer.new) bytes.now) }
     ensures failed { IsOkUnless result Write }

@@ -1,13 +1,20 @@
-//! `stamp sign` over readers and writers that give way at a chosen call. The codes were made outside of this repository's code.
+//! `stamp sign` over readers and writers that fail at a chosen call. The codes were made outside of this repository's code.
 use crate::pieces::{Pieces, Stuck};
 use crate::signing::sign_on;
+use hmac_sign::SigningKey;
 use http_front::FrontFault;
+use std::alloc::Global;
+use std::process::Abort;
 use std::test::Fail;
 
 /// RFC 4231, section 4.3: the data, and the code under the key `Jefe`, here in Base64.
 const INPUT: &[u8] = b"what do ya want for nothing?";
 
 const LINE: &[u8] = b"W9zBRr9gdU5qBCQmCJV1x1oAPwidJzmDnexYuWTsOEM=\n";
+
+fn key(rt: &impl Abort, alloc: Global) -> SigningKey {
+    SigningKey::new(b"Jefe".to_vec(alloc).expect(rt, "memory"))
+}
 
 #[test]
 fn pieces_do_not_matter_and_reads_are_counted(rt: HostRuntime) {
@@ -20,6 +27,7 @@ fn pieces_do_not_matter_and_reads_are_counted(rt: HostRuntime) {
         (1, 0, 100, Err(FrontFault::Read)),
         (1, 0, 0, Err(FrontFault::Turns)),
     ];
+    let key = key(&rt, rt.alloc());
     for (most, reads, turns, answer) in table {
         let mut reader = Pieces {
             rest: INPUT,
@@ -27,7 +35,7 @@ fn pieces_do_not_matter_and_reads_are_counted(rt: HostRuntime) {
             reads,
         };
         let mut out = Vec::new(rt.alloc());
-        let result = sign_on(rt.alloc(), &mut reader, &mut out, b"Jefe", turns);
+        let result = sign_on(rt.alloc(), &mut reader, &mut out, &key, turns);
         let line: &[u8] = if answer.is_ok() { LINE } else { b"" };
         assert_eq!(rt; result, answer, "{most} {reads} {turns}");
         assert_eq!(rt; out.as_slice(), line, "{most} {reads} {turns}");
@@ -37,8 +45,9 @@ fn pieces_do_not_matter_and_reads_are_counted(rt: HostRuntime) {
 #[test]
 fn an_input_of_many_reads_is_signed_whole(rt: HostRuntime) -> Result<(), Fail> {
     let input = vec![in rt.alloc(); b'a'; 100_000]?;
+    let key = key(&rt, rt.alloc());
     let mut out = Vec::new(rt.alloc());
-    let result = sign_on(rt.alloc(), &mut input.as_slice(), &mut out, b"Jefe", 14);
+    let result = sign_on(rt.alloc(), &mut input.as_slice(), &mut out, &key, 14);
     assert_eq!(rt; result, Ok(()));
     assert_eq!(rt;
         out.as_slice(),
@@ -49,9 +58,10 @@ fn an_input_of_many_reads_is_signed_whole(rt: HostRuntime) -> Result<(), Fail> {
 
 #[test]
 fn a_writer_that_fails_is_told(rt: HostRuntime) {
+    let key = key(&rt, rt.alloc());
     for takes in [false, true] {
         let mut writer = Stuck { takes };
-        let result = sign_on(rt.alloc(), &mut b"".as_slice(), &mut writer, b"Jefe", 1);
+        let result = sign_on(rt.alloc(), &mut b"".as_slice(), &mut writer, &key, 1);
         assert_eq!(rt; result, Err(FrontFault::Write), "{takes}");
     }
 }

@@ -7,9 +7,9 @@ ghost use Rattle.stamp_main.specs.declared.ending.Ending.TheVariants.{NoMemory, 
 ghost use Rattle.stamp_main.specs.Replays.{Asks-replay, Is-replay, keys_of, replay_line};
 
 use crate::ending::Ending;
-use hmac_sign::{SecretFault, read_key};
+use hmac_sign::{SecretFault, SigningKey, read_key};
 use moment_text::{TimeFault, read_iso};
-use stamp_types::{Bytes, Moment, Text, is_account};
+use stamp_types::{Moment, Text, is_account};
 use std::alloc::Global;
 
 /// The moment, and the account with its pair of keys, by which a stream is replayed.
@@ -17,14 +17,14 @@ use std::alloc::Global;
 pub struct Asked {
     pub moment: Moment,
     pub account: Text,
-    pub first: Bytes,
-    pub second: Bytes,
+    pub first: SigningKey,
+    pub second: SigningKey,
 }
 
-/// Reads the four words behind `replay`.
+/// Reads the four words after `replay`.
 ///
-/// `Usage` where the first is no time of the accepted shapes, the second no account's name, or the third or fourth no padded Base64;
-/// `NoMemory` where memory ran out before that was found.
+/// `Usage` if the first is not a time of the accepted shapes, the second is not an account's name, or the third or fourth is not
+/// padded Base64. `NoMemory` if memory ran out before that was found.
 pub fn read_asked(
     alloc: Global,
     moment: &str,
@@ -83,23 +83,15 @@ fn read_account(alloc: Global, name: &str) -> Result<Text, Ending>
 
 /// Reads a key that is given in Base64.
 ///
-/// `Usage` where the text is no padded Base64, `NoMemory` where there is no memory for the key.
-pub fn read_secret(alloc: Global, text: &str) -> Result<Bytes, Ending>
+/// `Usage` if the text is not padded Base64, `NoMemory` if memory runs out for the key.
+pub fn read_secret(alloc: Global, text: &str) -> Result<SigningKey, Ending>
     ensures read { IfOk result (λ key. (text.now ≡ base64_of key) × IsBytes key) }
     ensures refused { result ≡ Err Usage → (key : List ℕ) → IsBytes key → text.now ≢ base64_of key }
     ensures failed { IfErr result (λ ending. (ending ≡ Usage) ⊎ (ending ≡ NoMemory)) }
 {
     match read_key(alloc, text.as_bytes()) {
-        Ok(key) => {
-            are_bytes(&key);
-            Ok(Bytes::new(key))
-        }
+        Ok(key) => Ok(SigningKey::new(key)),
         Err(SecretFault::NotBase64) => Err(Ending::Usage),
         Err(SecretFault::NoMemory) => Err(Ending::NoMemory),
     }
 }
-
-// Tells contracts what the type says: each of the bytes is below 256.
-fn are_bytes(bytes: &[u8])
-    ensures { IsBytes bytes.now }
-{}

@@ -1,4 +1,4 @@
--- Who may stays as it is.
+-- What a container says about who may do what stays as it is.
 use Rattle.std.proofs.Common.{◌≡◌, ℕ, Bool, true, false, List, Option, Some, None, refl, sym, ap, ◌∙◌}
 use Rattle.std.specs.Option.{option_map, option_and_then}
 use Rattle.std.specs.Cmp.{eq_by_cmp_equiv}
@@ -60,6 +60,6 @@ module _ {C : Type 0} (size : C → ℕ) (f : List Piece → C) (keys : Option K
       apart same e =
           let tied : true ≡ false = sym ((eq_by_cmp_equiv keys_total).refl q.ask.key) ∙ ap (λ (x : Key). eq_by_cmp key_cmp x q.ask.key) (sym same) ∙ e in cc
 
-  -- what a container has beside its blobs stays
+  -- what a container has besides its blobs stays as it is
   pub standing-effect : (k : Key) → (part_at (effect_as size f keys w q t) k).standing ≡ (part_at w k).standing
   standing-effect k = by_key k (eq_by_cmp key_cmp k q.ask.key) refl

@@ -1,4 +1,4 @@
--- A request that is answered names a blob that is there.
+-- If a request is answered, the blob that it names exists.
 use Rattle.std.proofs.Common.{◌≡◌, ℕ, true, List, Option, Some, None, refl, ap, ◌∙◌}
 use Rattle.std.specs.Prelude.{is_some, is_none, IsSome}
 use Rattle.std.specs.Option.{option_map, option_and_then}
@@ -50,7 +50,7 @@ module _ (p : Part (List ℕ)) (q : Asked) (t : ℕ) where
   found op.GetBlob is fits free served = is_some_read (named_blob p q.ask) (named_blob (sizes p) q.ask) (absent_by_either_reading byte_count p q.ask) (read_there (sizes p) q free is)
   found other is fits free served = cc
 
--- if nothing refuses a request, readers see the blob that it names once it is carried out
+-- if nothing refuses a request, readers see the blob that it names after the request
 pub named_blob-unrefused : (keys : Option Keys) (p : Part (List ℕ)) (q : Asked) (t : ℕ) → IsAsk q.ask → refusal keys (sizes p) q t ≡ None → is_some (named_blob (change keys p q t) q.ask) ≡ true
 named_blob-unrefused keys p q t fits free =
     let all = unrefused keys (sizes p) q t free in

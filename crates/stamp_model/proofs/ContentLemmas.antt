@@ -1,4 +1,4 @@
--- Content read before a request or after it.
+-- Content may be read before a request or after it.
 use Rattle.std.proofs.Common.{◌≡◌, ℕ, List, Option, Some, None, refl, sym, ap, ◌∙◌}
 use Rattle.stamp_types.specs.declared.piece.Piece.{Piece}
 use Rattle.stamp_types.specs.Changes.{KeyedAct}

@@ -37,11 +37,11 @@ module _ {C : Type 0} (size : C → ℕ) (f : List Piece → C) where
     pub part_at-effect : part_at (effect_as size f keys w q t) q.ask.key ≡ change_as size f keys (part_at w q.ask.key) q t
     part_at-effect = own w q.ask.key (refusal keys own_sizes q t) (act_by q.ask.op own_sizes q t)
 
-    -- any other
+    -- any other container
     pub part_at-effect_others : (k : Key) → (k ≡ q.ask.key → ⊥) → part_at (effect_as size f keys w q t) k ≡ part_at w k
     part_at-effect_others k apart = others w q.ask.key k (refusal keys own_sizes q t) (act_by q.ask.op own_sizes q t) apart
 
-    -- if the request is refused, all stays
+    -- if the request is refused, all containers stay as they are
     pub effect-refused : (r : Refusal) → refusal keys own_sizes q t ≡ Some r → effect_as size f keys w q t ≡ w
     effect-refused r h = ap (λ (o : Option Refusal). world_after f (unless_refused o (change_of own_sizes q t)) w) h
 

@@ -1,4 +1,4 @@
--- A history with one entry more.
+-- A history with one more entry.
 use Rattle.std.proofs.Common.{◌≡◌, ℕ, ◌≤◌, ◌⊎◌, inl, inr, List, [], ◌∷◌, ◌++◌, refl, sym, ap, ◌∙◌, subst}
 use Rattle.std.proofs.lemmas.List.{append_assoc}
 use Rattle.std.proofs.lemmas.List.Sums.{fold-append}
@@ -16,7 +16,7 @@ no_more : {X : Type 0} (front : List X) (x : X) (rest : List X) → [] ≡ front
 no_more [] x rest h = cc
 no_more (y ∷ front) x rest h = cc
 
--- what stands in a list with one element more is that element, or stood before
+-- an element of a list that has one more element at its end is that last element, or is an element of the shorter list
 last_or_before : {X : Type 0} (xs : List X) (e x : X) (front rest : List X) → xs ++ e ∷ [] ≡ front ++ x ∷ rest → ((front ≡ xs) × (x ≡ e)) ⊎ ((left : List X) × (xs ≡ front ++ x ∷ left))
 last_or_before [] e x [] rest h = inl (refl, cc)
 last_or_before [] e x (y ∷ front) rest h = absurd (no_more front x rest cc)
@@ -29,7 +29,7 @@ last_or_before {X} (y ∷ xs) e x (z ∷ front) rest h =
       | inr p ↦ inr (p.0, λ i. same i ∷ p.1 i)
     ]
 
--- the container after one entry more
+-- the container after one more entry
 pub replay_from-append : (pairs : List Keys) (start : Part (List ℕ)) (history : List Past) (e : Past) → replay_from pairs start (history ++ e ∷ []) ≡ after_entry pairs (replay_from pairs start history) e
 replay_from-append pairs start history e = fold-append (after_entry pairs) start history (e ∷ [])
 
@@ -60,14 +60,14 @@ module _ (pairs : List Keys) (key : Key) (start : Part (List ℕ)) (history : Li
       subst (λ (y : Past). x.epoch ≤ y.epoch) (sym p.1) (none front x (between, sym p.0))
   rising legal none front between x later (inr stood) = legal.epochs front between x later stood
 
-  -- it is legal
+  -- the longer history is legal
   pub IsLegalFrom-append : IsLegalFrom pairs key start history → NoneIsLater e.epoch history → IsAccepted pairs key (replay_from pairs start history) e → IsLegalFrom pairs key start (history ++ e ∷ [])
   IsLegalFrom-append legal none new = record {
     accepted = λ front x stands. accepted_there legal new front x (last_or_before history e x front stands.0 stands.1);
     epochs = λ front between x later stands. rising legal none front between x later (last_or_before history e later (front ++ x ∷ between) stands.0 stands.1);
   }
 
--- what stands in a front part stands in the whole
+-- what is in a front part of a list is in the whole list, at the same place
 still : {X : Type 0} (xs more front : List X) (x : X) → (rest : List X) × (xs ≡ front ++ x ∷ rest) → (rest : List X) × (xs ++ more ≡ front ++ x ∷ rest)
 still {X} xs more front x stands =
     (stands.0 ++ more, ap (λ (ys : List X). ys ++ more) stands.1 ∙ append_assoc front (x ∷ stands.0) more)

@@ -44,12 +44,12 @@ first_public : (keys : Option Keys) (access : Option Acl) (q : Ask) (t : ℕ) (c
 first_public keys access q t c is =
     subst (λ (c : Credential). first_rule keys access (asking q c) t ≡ public_rule access (need_of q.op q.args.kinds).level) (sym is) refl
 
--- what refuses where the container does not stand, and its code
+-- the rule that refuses if the container does not exist, and its code
 absent : (need : Option Level) → (rule : Rule) × (public_rule None need ≡ Some rule) × (access_code rule ≡ code.ResourceNotFound)
 absent None = (P1, refl, refl)
 absent (Some need) = (P2, refl, refl)
 
--- a closed container is as one that does not stand
+-- the public route has the same rule for a closed container and for a container that does not exist
 as_closed : (policies : List Policy) (o : Op) (k : Option BlockKinds) → public_rule (Some (record { level = level.Closed; policies = policies })) (need_of o k).level ≡ public_rule None (need_of o k).level
 as_closed policies op.GetBlockList None = refl
 as_closed policies op.GetBlockList (Some Committed) = refl
@@ -57,7 +57,7 @@ as_closed policies op.GetBlockList (Some Uncommitted) = refl
 as_closed policies op.GetBlockList (Some All) = refl
 as_closed policies other k = refl
 
--- a container that says who may exists
+-- if a container says who may do what, the container exists
 acl_exists : (o : Option Standing) (has : Acl) → option_map (λ (s : Standing). s.acl) o ≡ Some has → (s : Standing) × (o ≡ Some s) × (s.acl ≡ has)
 acl_exists None has h = cc
 acl_exists (Some s) has h = let same : s.acl ≡ has = cc in (s, refl, same)
@@ -93,17 +93,17 @@ module _ (keys : Option Keys) (w : World (List ℕ)) (q : Asked) (t : ℕ) (boun
       told (absent the_need).0 (absent_refused anonymous none)
       ∙ ap (λ (c : Code). denied (record { rule = (absent the_need).0; code = c })) (absent the_need).2
 
-  -- of a container that does not exist it is said that there is no such resource
+  -- if the container does not exist, the reply says that the resource was not found
   pub status-absent : q.ask.credential ≡ Anonymous → own_part.standing ≡ None → (reply keys w q t bound).status ≡ NotFound
   status-absent anonymous none = ap (λ (x : Reply). x.status) (told_absent anonymous none)
 
-  -- what is read without a credential is in a container that gives it
+  -- a request without a credential is answered only if its container exists and the container's level is enough
   pub given-publicly : q.ask.credential ≡ Anonymous → (reply keys w q t bound).rule ≡ None
       → (need : Level) × (s : Standing) × (the_need ≡ Some need) × (own_part.standing ≡ Some s) × (level_number need ≤ level_number s.acl.level)
   given-publicly anonymous none =
       let admits = (by_route keys (acl_of own_part) q.ask t q.ask.credential).0 (unrefused keys (sizes own_part) q t (reply-unrefused keys w q t bound none)).permitted in
       let by : ByPublic (acl_of own_part) q.ask = subst (λ (c : Credential). Admits keys (acl_of own_part) c q.ask t) anonymous admits in
-      let there = acl_exists own_part.standing by.has by.stands in
+      let there = acl_exists own_part.standing by.has by.exists in
       (by.need, there.0, by.needed, there.1, subst (λ (a : Acl). level_number by.need ≤ level_number a.level) (sym there.2) by.enough)
 
 -- nobody without a credential can tell a container that does not exist from a closed one

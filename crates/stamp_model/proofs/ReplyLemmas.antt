@@ -1,4 +1,4 @@
--- A reply names the rule that refuses its request, and otherwise none.
+-- A reply names the rule that refuses its request. If no rule refuses the request, the reply names no rule.
 use Rattle.std.proofs.Common.{◌≡◌, ℕ, Bool, true, false, List, Option, Some, None, refl, sym, ap, ◌∙◌, if◌then◌else◌}
 use Rattle.std.specs.Option.{option_map, option_or}
 use Rattle.stamp_values.specs.declared.key.Key.{Key}
@@ -43,7 +43,7 @@ names : (r : Option Refusal) (p : Part (List ℕ)) (q : Asked) → (response r p
 names None p q = frame_names_none q.ask.op q (blob_read (sizes p) q.ask)
 names (Some r) p q = denied-names r
 
--- nothing is left of three
+-- if three options have no first refusal, each of the three is `None`
 pub none_of_three : (a b c : Option Refusal) → option_or a (option_or b c) ≡ None → (a ≡ None) × (b ≡ None) × (c ≡ None)
 none_of_three None None c h = (refl, refl, h)
 none_of_three None (Some r) c h = cc
@@ -53,7 +53,7 @@ unmapped : {X Y : Type 0} (f : X → Y) (o : Option X) → option_map f o ≡ No
 unmapped f None h = refl
 unmapped f (Some x) h = cc
 
--- a rule is named by a refusal
+-- if a rule is named, a refusal names it
 pub mapped : (o : Option Refusal) (rule : Rule) → option_map (λ r. r.rule) o ≡ Some rule → (r : Refusal) × (o ≡ Some r)
 mapped None rule h = cc
 mapped (Some r) rule h = (r, refl)
@@ -69,7 +69,7 @@ unserved_none : (b : Bool) → b ≡ true → last_refusal b ≡ None
 unserved_none true h = refl
 unserved_none false h = cc
 
--- what it says of a request that nothing refuses it
+-- what follows for a request if nothing refuses it
 pub record IsUnrefused (keys : Option Keys) (p : Part ℕ) (q : Asked) (t : ℕ) : Type 0 where
   pub permitted : first_rule keys (acl_of p) q.ask t ≡ None
   pub unopposed : object_refusal p q ≡ None
@@ -88,15 +88,15 @@ module _ (keys : Option Keys) (w : World (List ℕ)) (q : Asked) (t : ℕ) (boun
   abbrev own_part : Part (List ℕ)
   own_part = part_at w q.ask.key
 
-  -- a reply names the rule that refuses
+  -- a reply names the rule that refuses the request
   pub rule-reply : (reply keys w q t bound).rule ≡ refusing_rule keys (sizes own_part) q t
   rule-reply = names (refusal keys (sizes own_part) q t) _ q
 
-  -- if it names none, nothing refuses
+  -- if the reply names no rule, nothing refuses the request
   pub reply-unrefused : (reply keys w q t bound).rule ≡ None → refusal keys (sizes own_part) q t ≡ None
   reply-unrefused none = unmapped (λ (r : Refusal). r.rule) (refusal keys (sizes own_part) q t) (sym rule-reply ∙ none)
 
-  -- the own route admits, the object does not refuse, and the operation is served
+  -- nothing refuses a request if its own route admits it, the object does not refuse it, and the operation is served
   pub refusal-admitted : Admits keys (acl_of own_part) q.ask.credential q.ask t → object_refusal (sizes own_part) q ≡ None → is_served q.ask.op ≡ true → refusal keys (sizes own_part) q t ≡ None
   refusal-admitted admits free served =
       ap (λ (o : Option Rule). option_or (option_map access_refusal o) (option_or (object_refusal (sizes own_part) q) (unserved_refusal q.ask.op)))
@@ -104,18 +104,18 @@ module _ (keys : Option Keys) (w : World (List ℕ)) (q : Asked) (t : ℕ) (boun
       ∙ ap (λ (o : Option Refusal). option_or o (unserved_refusal q.ask.op)) free
       ∙ unserved_none (is_served q.ask.op) served
 
-  -- the reply is what the operation answers of the container as it is then
+  -- if nothing refuses the request, the reply is what the operation answers of the container after the effect
   pub reply-admitted : refusal keys (sizes own_part) q t ≡ None → reply keys w q t bound ≡ reply_of (part_at (effect keys w q t) q.ask.key) q
   reply-admitted free =
       ap (λ (o : Option Refusal). response o (change keys own_part q t) q) free
       ∙ ap (λ (p : Part (List ℕ)). reply_of p q) (sym (part_at-effect byte_count held keys w q t))
 
-  -- if the reply names a rule, all stays
+  -- if the reply names a rule, all containers stay as they are
   pub effect-named : (rule : Rule) → (reply keys w q t bound).rule ≡ Some rule → effect keys w q t ≡ w
   effect-named rule named =
       let there = mapped (refusal keys (sizes own_part) q t) rule (sym rule-reply ∙ named) in
       effect-refused byte_count held keys w q t there.0 there.1
 
-  -- if it names none, the own route admits
+  -- if the reply names no rule, the request's own route admits the request
   pub reply-admits : (reply keys w q t bound).rule ≡ None → Admits keys (acl_of own_part) q.ask.credential q.ask t
   reply-admits none = (by_route keys (acl_of own_part) q.ask t q.ask.credential).0 (unrefused keys (sizes own_part) q t (reply-unrefused none)).permitted

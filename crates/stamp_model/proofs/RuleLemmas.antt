@@ -1,4 +1,4 @@
--- The first rule of all lists.
+-- The first rule that holds in all lists of rules.
 use Rattle.std.proofs.Common.{◌≡◌, ℕ, Bool, true, false, cond, not, ◌||◌, List, [], ◌∷◌, ◌++◌, Option, Some, None, refl, sym, ap, ◌∙◌}
 use Rattle.std.proofs.lemmas.Bool.{and_parts}
 use Rattle.std.proofs.lemmas.List.Folds.{find-append}
@@ -28,14 +28,14 @@ none_or true b h = cc
 none_or false b h = refl
 
 module _ {X : Type 0} where
-  -- no element passes the second of two tests
+  -- if no element passes the second of two tests, the first test alone decides what is found
   find-first_alone : (a b : X → Bool) (xs : List X) → list_all (λ x. not (b x)) xs ≡ true → find (λ x. a x || b x) xs ≡ find a xs
   find-first_alone a b [] h = refl
   find-first_alone a b (x ∷ xs) h =
       let both = and_parts (not (b x)) (list_all (λ x. not (b x)) xs) h in
       λ i. cond (or_none (a x) (b x) both.0 i) (Some x) (find-first_alone a b xs both.1 i)
 
-  -- no element passes the first
+  -- if no element passes the first test, the second test alone decides what is found
   find-second_alone : (a b : X → Bool) (xs : List X) → list_all (λ x. not (a x)) xs ≡ true → find (λ x. a x || b x) xs ≡ find b xs
   find-second_alone a b [] h = refl
   find-second_alone a b (x ∷ xs) h =
@@ -88,7 +88,7 @@ module _ (keys : Option Keys) (p : Part ℕ) (q : Asked) (t : ℕ) where
       find-append (λ r. by_object r || is_unserved q r) object_rules (F3 ∷ [])
       ∙ (λ i. option_or (find-first_alone by_object (is_unserved q) object_rules refl i) (find-second_alone by_object (is_unserved q) (F3 ∷ []) refl i))
 
-  -- the rule that refuses is the first of all that holds
+  -- the rule that refuses is the first of all rules that holds
   pub refusing_rule-first : refusing_rule keys p q t ≡ find (refuses keys p q t) rules_in_order
   refusing_rule-first =
       let lower : Rule → Bool = λ r. by_object r || is_unserved q r in

@@ -10,7 +10,7 @@ use Rattle.stamp_model.specs.Refusals.{acl_of}
 use Rattle.stamp_model.specs.Runs.{Timed, AreAnswered, world_after_one, world_after_all, reply_to_one, replies_to}
 use Rattle.stamp_model.proofs.ReplyLemmas.{reply-admits, effect-named}
 
--- what two lists have at one place, before it and after it, is the same if the lists are
+-- if two lists are the same, they have the same element at one place, and the same elements before it and after it
 same_place : {X : Type 0} (a c : List X) (x y : X) (b d : List X) → a ++ x ∷ b ≡ c ++ y ∷ d → length a ≡ length c → (a ≡ c) × (x ≡ y) × (b ≡ d)
 same_place [] [] x y b d h long = (refl, cc, cc)
 same_place [] (z ∷ c) x y b d h long = cc
@@ -22,12 +22,12 @@ same_place {X} (z ∷ a) (v ∷ c) x y b d h long =
     let rest = same_place a c x y b d less short in
     ((λ i. first i ∷ rest.0 i), rest.1, rest.2)
 
--- the replies to a front part, and those to what comes after it
+-- the replies to a front part, and the replies to what comes after it
 pub replies_to-append : (keys : Option Keys) (w : World (List ℕ)) (front rest : List Timed) → replies_to keys w (front ++ rest) ≡ replies_to keys w front ++ replies_to keys (world_after_all keys w front) rest
 replies_to-append keys w [] rest = refl
 replies_to-append keys w (r ∷ front) rest = ap (λ (l : List Reply). reply_to_one keys w r ∷ l) (replies_to-append keys (world_after_one keys w r) front rest)
 
--- as many replies as requests
+-- there are as many replies as requests
 pub length-replies_to : (keys : Option Keys) (w : World (List ℕ)) (rs : List Timed) → length (replies_to keys w rs) ≡ length rs
 length-replies_to keys w [] = refl
 length-replies_to keys w (r ∷ rs) = ap (λ n. suc n) (length-replies_to keys (world_after_one keys w r) rs)
@@ -37,11 +37,11 @@ module _ (keys : Option Keys) (w : World (List ℕ)) (front : List Timed) (r : T
   abbrev then_held : World (List ℕ)
   then_held = world_after_all keys w front
 
-  -- the containers after one request more
+  -- the containers after one more request
   one_more : world_after_all keys w (front ++ r ∷ []) ≡ world_after_one keys then_held r
   one_more = fold-append (world_after_one keys) w front (r ∷ [])
 
-  -- there are replies at each place
+  -- these replies answer the requests
   pub answered_in_turn : AreAnswered keys w front r rest (replies_to keys w front) (reply_to_one keys then_held r) (replies_to keys (world_after_all keys w (front ++ r ∷ [])) rest)
   answered_in_turn = record {
     replies = replies_to-append keys w front (r ∷ rest)
@@ -50,7 +50,7 @@ module _ (keys : Option Keys) (w : World (List ℕ)) (front : List Timed) (r : T
   }
 
   module _ (before : List Reply) (answer : Reply) (after : List Reply) (given : AreAnswered keys w front r rest before answer after) where
-    -- and no others
+    -- and no other replies answer them
     pub answered_so : (before ≡ replies_to keys w front) × (answer ≡ reply_to_one keys then_held r) × (after ≡ replies_to keys (world_after_one keys then_held r) rest)
     answered_so =
         same_place before (replies_to keys w front) answer (reply_to_one keys then_held r) after (replies_to keys (world_after_one keys then_held r) rest)
@@ -59,7 +59,7 @@ module _ (keys : Option Keys) (w : World (List ℕ)) (front : List Timed) (r : T
     named_then : (o : Option Rule) → answer.rule ≡ o → (reply_to_one keys then_held r).rule ≡ o
     named_then o named = ap (λ (a : Reply). a.rule) (sym answered_so.1) ∙ named
 
-    -- the own route admits what is answered
+    -- if the reply names no rule, the request's own route admits the request
     pub answered_admits : answer.rule ≡ None → Admits keys (acl_of (part_at then_held r.request.ask.key)) r.request.ask.credential r.request.ask r.moment
     answered_admits none = reply-admits keys then_held r.request r.moment None (named_then None none)
 
@@ -67,14 +67,14 @@ module _ (keys : Option Keys) (w : World (List ℕ)) (front : List Timed) (r : T
       stays : world_after_one keys then_held r ≡ then_held
       stays = effect-named keys then_held r.request r.moment None rule (named_then (Some rule) named)
 
-      -- without a refused request, all others are answered as with it
+      -- without a refused request, all other requests have the replies that they have with it
       pub replies_to-without : replies_to keys w (front ++ rest) ≡ before ++ after
       replies_to-without =
           replies_to-append keys w front rest
           ∙ ap (λ (v : World (List ℕ)). replies_to keys w front ++ replies_to keys v rest) (sym stays)
           ∙ (λ i. sym answered_so.0 i ++ sym answered_so.2 i)
 
-      -- and the same is held in the end
+      -- and the stamp holds the same in the end
       pub world_after_all-without : world_after_all keys w (front ++ rest) ≡ world_after_all keys w (front ++ r ∷ rest)
       world_after_all-without =
           fold-append (world_after_one keys) w front rest

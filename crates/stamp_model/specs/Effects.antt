@@ -13,25 +13,25 @@ use Rattle.range_rows.specs.ObjectReplies.{byte_count}
 use Rattle.range_rows.specs.RequestChanges.{change_of, part_after}
 use Rattle.stamp_model.specs.Refusals.{refusal}
 
--- the change, if nothing refuses it
+-- the change, if nothing refuses the request
 abbrev pub unless_refused : Option Refusal → Option KeyedAct → Option KeyedAct
 unless_refused None change = change
 unless_refused (Some r) change = None
 
--- the change that a request makes: that of its operation, if nothing refuses it
+-- the change that a request makes: the change of its operation, if nothing refuses the request
 abbrev pub accepted : Option Keys → Part ℕ → Asked → ℕ → Option KeyedAct
 accepted keys p q t = unless_refused (refusal keys p q t) (change_of p q t)
 
--- the containers after a change that is made; else they stay
+-- the containers after the change; without a change they stay as they are
 abbrev pub world_after : {C : Type 0} → (List Piece → C) → Option KeyedAct → World C → World C
 world_after f None w = w
 world_after f (Some c) w = changed_in f w c
 
--- the container after the request, with content of this size, and the content of its change read by f
+-- the container after the request; the function `size` gives the size of a content, and f reads the content of the change
 abbrev pub change_as : {C : Type 0} → (C → ℕ) → (List Piece → C) → Option Keys → Part C → Asked → ℕ → Part C
 change_as size f keys p q t = part_after f (accepted keys (part_value size p) q t) p
 
--- the containers after the request, with content of this size, and the content of its change read by f
+-- the containers after the request; the function `size` gives the size of a content, and f reads the content of the change
 abbrev pub effect_as : {C : Type 0} → (C → ℕ) → (List Piece → C) → Option Keys → World C → Asked → ℕ → World C
 effect_as size f keys w q t = world_after f (accepted keys (part_value size (part_at w q.ask.key)) q t) w
 

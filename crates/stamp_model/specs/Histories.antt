@@ -23,29 +23,30 @@ after_entry pairs p e = change (pair_of pairs e.epoch) p e.request e.moment
 abbrev pub replay_from : List Keys → Part (List ℕ) → List Past → Part (List ℕ)
 replay_from pairs start history = fold (after_entry pairs) start history
 
--- the container after all entries in turn, from one that never was
+-- the container after all entries in turn, from a container that never was
 abbrev pub replay : List Keys → List Past → Part (List ℕ)
 replay pairs history = replay_from pairs no_part history
 
--- the entry is in the history, and what is before it there is the front
+-- the entry is in the history, and the front is what comes before it
 abbrev pub StandsBehind : List Past → Past → List Past → Type 0
 StandsBehind front e history = (rest : List Past) × (history ≡ front ++ e ∷ rest)
 
--- no entry is of a later epoch
+-- no entry of the history is of a later epoch than this epoch
 abbrev pub NoneIsLater : ℕ → List Past → Type 0
 NoneIsLater epoch history = (front : List Past) (e : Past) → StandsBehind front e history → e.epoch ≤ epoch
 
--- the entry changes the container, as it is then: it names it, writes, and nothing refuses it by the pair of its epoch
+-- the entry changes the container as it is then: its request names the container and writes, and by the pair of its epoch nothing
+-- refuses it
 pub record IsAccepted (pairs : List Keys) (key : Key) (p : Part (List ℕ)) (e : Past) : Type 0 where
   pub own : e.request.ask.key ≡ key
   pub writes : IsSome (change_of (sizes p) e.request e.moment)
   pub allowed : refusal (pair_of pairs e.epoch) (sizes p) e.request e.moment ≡ None
 
--- each entry is accepted by what those before it left, and no epoch is lower than one before it
+-- each entry is accepted by what the entries before it left, and no entry has a lower epoch than an entry before it
 pub record IsLegalFrom (pairs : List Keys) (key : Key) (start : Part (List ℕ)) (history : List Past) : Type 0 where
   pub accepted : (front : List Past) (e : Past) → StandsBehind front e history → IsAccepted pairs key (replay_from pairs start front) e
   pub epochs : (front between : List Past) (e later : Past) → StandsBehind (front ++ e ∷ between) later history → e.epoch ≤ later.epoch
 
--- the same from a container that never was
+-- the history is legal from a container that never was
 abbrev pub IsLegal : List Keys → Key → List Past → Type 0
 IsLegal pairs key history = IsLegalFrom pairs key no_part history

@@ -16,7 +16,7 @@ use Rattle.access_rules.specs.Rules.{holds, access_rules, first_rule}
 use Rattle.range_rows.specs.ObjectReplies.{is_served}
 use Rattle.range_rows.specs.ObjectRules.{object_holds, object_rules, object_refusal}
 
--- what a container says of who may, if it exists
+-- what a container says about who may do what, if the container exists
 abbrev pub acl_of : {C : Type 0} → Part C → Option Acl
 acl_of p = option_map (λ s. s.acl) p.standing
 
@@ -31,27 +31,27 @@ access_code _ = code.AuthenticationFailed
 abbrev pub access_refusal : Rule → Refusal
 access_refusal r = record { rule = r; code = access_code r }
 
--- an operation that is not served yet is refused last, as a head is that asks for no operation
+-- an operation that is not served yet is refused last, by the rule and the code of a head that asks for no operation
 abbrev pub unserved_refusal : Op → Option Refusal
 unserved_refusal o = if is_served o then None else Some (record { rule = rule.F3; code = code.InvalidQueryParameterValue })
 
--- the refusal of a request: by permission, or else by the object, or else since it is not served
+-- the refusal of a request: by permission, or else by the object, or else because the operation is not served
 abbrev pub refusal : Option Keys → Part ℕ → Asked → ℕ → Option Refusal
 refusal keys p q t = option_or (option_map access_refusal (first_rule keys (acl_of p) q.ask t)) (option_or (object_refusal p q) (unserved_refusal q.ask.op))
 
--- the rule that refuses
+-- the rule that refuses the request
 abbrev pub refusing_rule : Option Keys → Part ℕ → Asked → ℕ → Option Rule
 refusing_rule keys p q t = option_map (λ r. r.rule) (refusal keys p q t)
 
--- the rule of operations that are not served yet holds
+-- this is the rule of operations that are not served yet, and it holds
 abbrev pub is_unserved : Asked → Rule → Bool
 is_unserved q rule.F3 = not (is_served q.ask.op)
 is_unserved q _ = false
 
--- the rule holds, of permission or of the object, or since the operation is not served
+-- the rule holds: as a rule of permission, as a rule of the object, or because the operation is not served
 abbrev pub refuses : Option Keys → Part ℕ → Asked → ℕ → Rule → Bool
 refuses keys p q t r = holds keys (acl_of p) q.ask t r || (object_holds p q r || is_unserved q r)
 
--- all rules in the order in which they are told
+-- all rules in their order: the reply names the first rule that holds
 abbrev pub rules_in_order : List Rule
 rules_in_order = access_rules ++ object_rules ++ rule.F3 ∷ []

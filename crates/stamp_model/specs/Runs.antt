@@ -27,13 +27,13 @@ world_after_all keys w rs = fold (world_after_one keys) w rs
 abbrev pub reply_to_one : Option Keys → World (List ℕ) → Timed → Reply
 reply_to_one keys w r = reply keys w r.request r.moment None
 
--- the replies to all requests in turn, each read off what the requests before it left
+-- the replies to all requests in turn; each reply follows from what the requests before it left
 abbrev pub replies_to : Option Keys → World (List ℕ) → List Timed → List Reply
 replies_to keys w [] = []
 replies_to keys w (r ∷ rs) = reply_to_one keys w r ∷ replies_to keys (world_after_one keys w r) rs
 
--- The requests of the front, then this one, then the rest are answered by these replies. This one is answered by the answer: as many
--- replies come before the answer as requests before this one.
+-- The requests of the front, then this request, then the rest are answered by these replies. The answer is the reply to this
+-- request: as many replies come before the answer as requests come before this request.
 pub record AreAnswered (keys : Option Keys) (w : World (List ℕ)) (front : List Timed) (r : Timed) (rest : List Timed) (before : List Reply) (answer : Reply) (after : List Reply) : Type 0 where
   pub replies : replies_to keys w (front ++ r ∷ rest) ≡ before ++ answer ∷ after
   pub place : length before ≡ length front

@@ -4,7 +4,6 @@ use Rattle.std.specs.Bool.{Decides}
 use Rattle.std.specs.Cmp.Lexicographic.{pointwise}
 use Rattle.std.proofs.lemmas.Slice.Eq.{bytes_eq-Decides}
 use Rattle.stamp_values.specs.declared.meta.Meta.{Meta}
-use Rattle.stamp_values.specs.declared.signing.Field.{Field}
 
 both : (a b : Bool) → a && b ≡ true → (a ≡ true) × (b ≡ true)
 both true true h = (refl, refl)
@@ -22,14 +21,4 @@ metas_decide a b =
           let t = both (pointwise nat_eq a.name b.name) (pointwise nat_eq a.value b.value) h in
           λ i. record { name = names.0 t.0 i; value = values.0 t.1 i }),
       (λ e. joined _ _ (names.1 (ap (λ (x : Meta). x.name) e)) (values.1 (ap (λ (x : Meta). x.value) e))),
-    )
-
-pub fields_decide : (a b : Field) → Decides (pointwise nat_eq a.name b.name && pointwise nat_eq a.value b.value) (a ≡ b)
-fields_decide a b =
-    let names = bytes_eq-Decides a.name b.name in
-    let values = bytes_eq-Decides a.value b.value in (
-      (λ h.
-          let t = both (pointwise nat_eq a.name b.name) (pointwise nat_eq a.value b.value) h in
-          λ i. record { name = names.0 t.0 i; value = values.0 t.1 i }),
-      (λ e. joined _ _ (names.1 (ap (λ (x : Field). x.name) e)) (values.1 (ap (λ (x : Field). x.value) e))),
     )

@@ -39,35 +39,8 @@ code_text OperationTimedOut = codes "OperationTimedOut"
 
 -- a reply of 304 has no content (RFC 9110, section 15.4.5)
 abbrev pub has_error_body : Code → Bool
-has_error_body InvalidInput = true
-has_error_body UnsupportedHttpVerb = true
-has_error_body InvalidQueryParameterValue = true
-has_error_body MissingContentLengthHeader = true
-has_error_body InvalidHeaderValue = true
-has_error_body InvalidResourceName = true
-has_error_body UnsupportedHeader = true
-has_error_body InvalidMetadata = true
-has_error_body MissingRequiredHeader = true
-has_error_body RequestBodyTooLarge = true
-has_error_body InvalidAuthenticationInfo = true
-has_error_body AuthenticationFailed = true
-has_error_body ResourceNotFound = true
-has_error_body ContainerNotFound = true
-has_error_body ContainerAlreadyExists = true
-has_error_body BlobNotFound = true
-has_error_body ConditionNotMet = true
 has_error_body NotModified = false
-has_error_body BlobAlreadyExists = true
-has_error_body Md5Mismatch = true
-has_error_body InvalidXmlDocument = true
-has_error_body InvalidBlockList = true
-has_error_body BlockListTooLong = true
-has_error_body InvalidBlobOrBlock = true
-has_error_body BlockCountExceedsLimit = true
-has_error_body InvalidRange = true
-has_error_body InternalError = true
-has_error_body ServerBusy = true
-has_error_body OperationTimedOut = true
+has_error_body other = true
 
 -- the status of a reply that has the code
 abbrev pub code_status : Code → Status

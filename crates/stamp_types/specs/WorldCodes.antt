@@ -57,7 +57,7 @@ abbrev pub acl_code : Coded Acl
 acl_code =
     code_by (Level × List Policy) (coded× level_code (coded_list policy_code)) (λ a. (a.level, a.policies)) (λ p. record { level = p.0; policies = p.1 }) (λ _. refl)
 
--- the code of what stands of a container
+-- the code of what a container has beside its blobs
 abbrev pub standing_code : Coded Standing
 standing_code =
     code_by (ℕ × (ℕ × (List Meta × Acl))) (coded× coded_ℕ (coded× coded_ℕ (coded× (coded_list meta_code) acl_code)))

@@ -1,4 +1,4 @@
-//! What a change may say.
+//! Tests of whether the parts of a change fit its act.
 ghost use Rattle.std.specs.Prelude.{◌≡◌, ◌↔◌, ◌≤◌, ◌==◌, IsTrue, length, is_some};
 ghost use Rattle.std.specs.List.{list_all};
 ghost use Rattle.stamp_values.specs.Names as names;

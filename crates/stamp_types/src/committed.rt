@@ -1,4 +1,4 @@
-//! What stands in a blob.
+//! The committed part of a blob, which readers see.
 
 use crate::pieces::Pieces;
 use crate::props::Props;

@@ -4,7 +4,7 @@ ghost use Rattle.stamp_types.specs.SameParts.{HasSameExtras, HasSameMarks, HasSa
 
 use crate::args::{Args, Kept, Page};
 use crate::ask::Ask;
-use stamp_values::{Bytes, Credential, Field, Meta, Signing};
+use stamp_values::{Bytes, Credential, Meta, Signing};
 
 fn same_kept(kept: &Kept, other: &Kept) -> bool
     ensures { IsTrue result ↔ (kept.now ≡ other.now) }
@@ -52,12 +52,6 @@ fn same_metas(metas: &[Meta], others: &[Meta]) -> bool
     metas == others
 }
 
-fn same_fields(fields: &[Field], others: &[Field]) -> bool
-    ensures { IsTrue result ↔ (fields.now ≡ others.now) }
-{
-    fields == others
-}
-
 fn same_values(values: &[Bytes], others: &[Bytes]) -> bool
     ensures { IsTrue result ↔ (values.now ≡ others.now) }
 {
@@ -68,9 +62,9 @@ fn same_signing(signing: &Signing, other: &Signing) -> bool
     ensures { IsTrue result ↔ (signing.now ≡ other.now) }
 {
     signing.verb == other.verb
-        && same_fields(signing.headers.as_slice(), other.headers.as_slice())
+        && signing.headers.same(&other.headers)
         && signing.path == other.path
-        && same_fields(signing.query.as_slice(), other.query.as_slice())
+        && signing.query.same(&other.query)
 }
 
 fn same_credential(credential: &Credential, other: &Credential) -> bool

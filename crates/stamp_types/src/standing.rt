@@ -1,4 +1,4 @@
-//! What stands of a container beside its blobs.
+//! What a container has beside its blobs.
 
 use stamp_values::{Acl, Metadata, Moment};
 

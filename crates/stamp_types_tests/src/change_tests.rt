@@ -1,4 +1,4 @@
-//! What no clause says of content, kept headers and changes: that each call can succeed.
+//! What no clause says about content, kept headers and changes: that each call can succeed.
 
 use crate::sample_changes::{
     container_row, create_container, delete_blob, five_in, put_blob, put_block_list, set_acl,
@@ -61,8 +61,8 @@ fn a_bad_account_is_refused(rt: HostRuntime) {
     assert!(rt; change.map(drop).is_none());
 }
 
-// Whether a copy of the change is equal to it. Both are let go by calls: at the end of a body each kind of act is
-// proved by itself, which takes a minute and more.
+// Whether a copy of the change is equal to the change. Both are dropped by calls: at the end of a body, each kind of act
+// is proved by itself, which takes a minute or more.
 fn has_equal_copy(rt: &impl Abort, change: Change) -> bool {
     let copy = change.clone().expect(rt, "memory");
     let same = copy.same(&change);
@@ -96,7 +96,7 @@ fn changes_of_blobs_are_copied(rt: HostRuntime) {
     assert!(rt; is_copied(&rt, alloc, stored_blob(&rt, alloc)));
 }
 
-// A block of five bytes in the first extent, of which the content is then replaced by five bytes in the second.
+// A change that puts a block of five bytes in the first extent. Five bytes in the second extent then replace its content.
 fn put_elsewhere(rt: &impl Abort, alloc: Global, first: u64, second: u64) -> Change {
     let put = PutBlock {
         blob: text(rt, alloc, "a"),

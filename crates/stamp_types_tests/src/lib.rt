@@ -4,6 +4,8 @@
 #[cfg(test)]
 mod change_tests;
 #[cfg(test)]
+mod field_tests;
+#[cfg(test)]
 mod reply_tests;
 #[cfg(test)]
 mod request_tests;

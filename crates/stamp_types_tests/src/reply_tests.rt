@@ -1,4 +1,4 @@
-//! What no clause says of replies: printed bytes and lengths, and that each call can succeed.
+//! What no clause says about replies: printed bytes and lengths, and that each call can succeed.
 
 use crate::sample_values::{shares, visible};
 use stamp_types::{
@@ -58,7 +58,7 @@ fn the_longest_error_and_none(rt: HostRuntime) {
     }
 }
 
-// A reply of part of a blob, whose body is in these pieces.
+// A reply with part of a blob. The body is in these pieces.
 fn sent(rt: &impl Abort, alloc: Global, pieces: &[&[u8]]) -> Reply {
     let range = Header::ContentRange(SentRange {
         first: 4,

@@ -1,9 +1,9 @@
-//! What no clause says of requests: that each call can succeed, and memory.
+//! What no clause says about requests: that each call can succeed, and how much memory requests take.
 
 use crate::resident::resident;
 use crate::sample_values::{key, long_share, moment, share, text};
 use stamp_types::{
-    Args, Ask, Body, Bytes, Credential, Items, Kept, Op, Past, Request, Share, Signing, Verb,
+    Args, Ask, Body, Bytes, Credential, FieldList, Kept, Op, Past, Request, Share, Signing, Verb,
     Visible,
 };
 use std::alloc::Global;
@@ -11,7 +11,7 @@ use std::process::Abort;
 
 const HOLDS: usize = 16 * 1024 * 1024;
 
-// Nothing to keep: no type, no encoding, no sum.
+// Kept headers with no values: no type, no encoding, no sum.
 fn kept(alloc: Global) -> Kept {
     Kept {
         content_type: Visible::empty(alloc),
@@ -22,13 +22,13 @@ fn kept(alloc: Global) -> Kept {
     }
 }
 
-// Signed by nobody.
+// The signing of a request that nobody signed.
 fn unsigned(alloc: Global) -> Signing {
     Signing {
         verb: Verb::Put,
-        headers: Items::new(Vec::new(alloc)),
+        headers: FieldList::new(alloc),
         path: Bytes::new(Vec::new(alloc)),
-        query: Items::new(Vec::new(alloc)),
+        query: FieldList::new(alloc),
     }
 }
 
@@ -101,7 +101,7 @@ fn requests_share_their_bodies(rt: HostRuntime) {
     }
     let more = resident(&rt).expect(&rt, "a status").saturating_sub(before);
     assert!(rt; more < 8 * 1024, "{more} kB more than {before} kB");
-    // All of them are still owned here.
+    // All requests and slices are still owned here.
     assert!(rt; requests.iter().all(|r| r.body().len() == HOLDS));
     assert!(rt; slices.iter().all(|s| s.len() > HOLDS - 2000));
 }

@@ -114,7 +114,7 @@ fn committed(rt: &impl Abort, alloc: Global) -> Committed<Pieces> {
     }
 }
 
-// The row of a stored blob with a block that is committed, and one that is not.
+// The row of a stored blob with a committed block and an uncommitted block.
 pub(crate) fn stored_blob(rt: &impl Abort, alloc: Global) -> Act {
     let id = block_id(rt, alloc, b"0002");
     let content = five_in(rt, alloc, 4);

@@ -1,4 +1,4 @@
-//! Small values for tests. A test ends if it is out of memory, so none of these returns an error.
+//! Small values for tests. A test ends if memory runs out, so none of these functions returns an error.
 ghost use Rattle.std.specs.Prelude.{◌≡◌};
 
 use stamp_types::{
@@ -25,7 +25,7 @@ pub(crate) fn metadata(rt: &impl Abort, alloc: Global) -> Metadata {
     Metadata::new(Items::new(metas)).expect(rt, "good metadata")
 }
 
-// One stored policy, which gives an expiry alone.
+// One stored policy, which gives only an expiry.
 fn policies(rt: &impl Abort, alloc: Global) -> Policies {
     let policy = Policy {
         id: text(rt, alloc, "read-only"),
@@ -69,7 +69,7 @@ pub(crate) fn share(rt: &impl Abort, alloc: Global, bytes: &[u8]) -> Share
     Share::new(alloc, bytes).expect(rt, "memory")
 }
 
-// A share of so many bytes, all alike.
+// A share of so many equal bytes.
 pub(crate) fn long_share(rt: &impl Abort, alloc: Global, count: usize) -> Share {
     let bytes = vec![in alloc; 7; count].expect(rt, "memory");
     Share::new(alloc, bytes).expect(rt, "memory")

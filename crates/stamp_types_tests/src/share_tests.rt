@@ -1,4 +1,4 @@
-//! What no clause says of shared bytes: that each call can succeed, sums from outside, printed text, and memory.
+//! What no clause says about shared bytes: that each call can succeed, sums from outside, printed text, and memory.
 
 use crate::resident::resident;
 use crate::sample_values::{long_share, share, shares};
@@ -52,7 +52,7 @@ fn sums_are_md5(rt: HostRuntime) {
     assert!(rt; Body::of(share(&rt, alloc, b"abc")).sum() == SUM_OF_ABC);
 }
 
-// The sum of these pieces, gathered.
+// The sum of the bytes that these pieces are gathered into.
 fn gathered_sum(
     rt: &impl Abort,
     alloc: Global,
@@ -126,6 +126,6 @@ fn shares_take_no_memory(rt: HostRuntime) {
     }
     let more = resident(&rt).expect(&rt, "a status").saturating_sub(before);
     assert!(rt; more < 8 * 1024, "{more} kB more than {before} kB");
-    // All of them are still owned here.
+    // All bodies and slices are still owned here.
     assert!(rt; bodies.len() + slices.len() == 2000);
 }

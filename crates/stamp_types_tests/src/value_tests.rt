@@ -6,7 +6,7 @@ use stamp_types::{
     is_metadata_name, is_policy_id, is_visible, read_etag, write_etag,
 };
 
-// Each name: whether it is an account's, a container's, and one of metadata.
+// For each name: whether it is a name of an account, of a container, and of metadata.
 #[test]
 fn names_of_accounts_containers_and_metadata(rt: HostRuntime) {
     for (name, account, container, meta) in [
@@ -60,7 +60,7 @@ fn names_have_limits_in_characters(rt: HostRuntime) {
     }
 }
 
-// The numbers are those of GNU date: `date -u -d 9999-12-31T23:59:59 +%s`, times 10,000,000, and 9,999,999 more.
+// The numbers come from GNU date: `date -u -d 9999-12-31T23:59:59 +%s`, times 10,000,000, and 9,999,999 more.
 #[test]
 fn moments_reach_from_1970_to_9999(rt: HostRuntime) {
     for (ticks, good) in [

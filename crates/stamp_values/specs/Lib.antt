@@ -1,6 +1,8 @@
 pub mod Acls
 pub mod Entries
 pub mod Etags
+pub mod FieldLists
+pub mod Fields
 pub mod Letters
 pub mod Levels
 pub mod Limits

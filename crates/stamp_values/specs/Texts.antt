@@ -1,6 +1,7 @@
 -- Texts and their bytes in UTF-8 (RFC 3629, section 3).
-use Rattle.std.specs.Prelude.{ℕ, Bool, true, false, not, ◌&&◌, ◌||◌, ◌==◌, nat_lt, nat_le, List, [], ◌∷◌, count_by}
+use Rattle.std.specs.Prelude.{ℕ, Bool, true, false, not, ◌&&◌, ◌||◌, ◌==◌, nat_lt, nat_le, List, [], ◌∷◌, count_by, length}
 use Rattle.std.specs.List.{list_all}
+use Rattle.std.specs.Str.Lossy.{utf8_valid_len}
 
 -- U+0000 to U+001F and U+007F, which are one byte each
 abbrev pub is_control_byte : ℕ → Bool
@@ -37,3 +38,7 @@ is_continuation b = nat_le 128 b && nat_le b 191
 -- how many characters a text has
 abbrev pub char_count : List ℕ → ℕ
 char_count t = count_by (λ b. not (is_continuation b)) t
+
+-- the bytes are a text
+unfoldable pub is_utf8 : List ℕ → Bool
+is_utf8 bytes = utf8_valid_len bytes == length bytes

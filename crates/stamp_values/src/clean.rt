@@ -30,6 +30,13 @@ pub fn is_clean(text: &[u8]) -> bool
     true
 }
 
+/// Whether the bytes are a text in UTF-8 (RFC 3629, section 3).
+pub fn is_utf8(bytes: &[u8]) -> bool
+    ensures { result ≡ texts.is_utf8 bytes.now }
+{
+    str::from_utf8(bytes).is_ok()
+}
+
 // Whether the byte is 0x20 to 0x7e.
 fn is_visible_byte(byte: u8) -> bool
     ensures { result ≡ is_visible_byte byte }

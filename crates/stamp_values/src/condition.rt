@@ -1,4 +1,4 @@
-//! What a request asks of the blob as it stands.
+//! Conditions of a request on the ETag of a blob: If-Match and If-None-Match.
 
 /// The value of If-Match or If-None-Match ("Specifying Conditional Headers for Blob Service Operations").
 #[derive(Clone, Copy, Debug, PartialEq, Eq)]

@@ -1,4 +1,4 @@
-//! The names of containers.
+//! The key of a container: its account and its name.
 ghost use Rattle.std.specs.Prelude.{◌≡◌, ◌↔◌, IsTrue};
 
 use crate::text::Text;

@@ -2,6 +2,7 @@
 #![tactic(auto)]
 
 mod acl;
+mod blanks;
 mod block;
 mod block_id;
 mod body;
@@ -9,12 +10,16 @@ mod bytes;
 mod clean;
 mod condition;
 mod etag;
+mod field_len;
+mod field_list;
 mod gathering;
+mod header_names;
 mod items;
 mod key;
 mod letters;
 mod level;
 mod limits;
+mod lower;
 mod meta;
 mod metadata;
 mod moment;
@@ -31,14 +36,17 @@ mod verb;
 mod visible;
 
 pub use acl::Acl;
+pub use blanks::trimmed;
 pub use block::{BlockKinds, Lookup, Source, Taken, Wanted};
 pub use block_id::BlockId;
 pub use body::Body;
 pub use bytes::Bytes;
-pub use clean::{char_count, is_clean, is_visible};
+pub use clean::{char_count, is_clean, is_utf8, is_visible};
 pub use condition::{ByteRange, Condition};
 pub use etag::{read_etag, write_etag};
+pub use field_list::{FieldList, FieldRef, Fields};
 pub use gathering::Gathering;
+pub use header_names::STANDARD_NAMES;
 pub use items::Items;
 pub use key::Key;
 pub use letters::Letters;
@@ -48,6 +56,7 @@ pub use limits::{
     PAGE_LIMIT, PIECE_LIMIT, PIECES_LIMIT, POLICIES_LIMIT, PUT_BLOB_LIMIT, PUT_BLOCK_LIMIT,
     PUT_BLOCK_LIST_LIMIT, SET_ACL_LIMIT, UNCOMMITTED_LIMIT,
 };
+pub use lower::lowered;
 pub use meta::Meta;
 pub use metadata::Metadata;
 pub use moment::Moment;

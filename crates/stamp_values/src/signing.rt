@@ -1,6 +1,7 @@
 //! What of a request is signed, and by what word it asks.
 
 use crate::bytes::Bytes;
+use crate::field_list::FieldList;
 use crate::items::Items;
 use crate::verb::Verb;
 
@@ -16,11 +17,11 @@ pub struct Field {
 pub struct Signing {
     pub verb: Verb,
     /// All headers but Authorization in the order sent: names in lower case, values without spaces and tabs at their ends.
-    pub headers: Items<Field>,
+    pub headers: FieldList,
     /// The path as it was sent, up to the first `?`.
     pub path: Bytes,
-    /// The query's parameters in the order sent, percent-decoded; names as they were sent.
-    pub query: Items<Field>,
+    /// The query's parameters in the order sent, percent-decoded; names in lower case.
+    pub query: FieldList,
 }
 
 /// By what word a request asks. One kind never stands for another.

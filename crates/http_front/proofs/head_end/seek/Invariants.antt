@@ -1,13 +1,13 @@
-use Rattle.std.proofs.Common.{◌≡◌, ◌+◌, length}
+use Rattle.std.proofs.Common.{◌≡◌, ◌-◌, ◌≤◌, length}
 use Rattle.http_front.specs.HeadEnds.{sought, further}
 use Rattle.http_front.proofs.head_end.seek.Given as goal
 
--- the answer is that for what is left, so many bytes further on
-abbrev pub invariant-loop-left : goal.invariant-loop-left
-invariant-loop-left l = record {
-  answer : sought l.fn.start l.bytes ≡ further l.seen (sought l.place l.left);
-  seen : l.seen + length l.left ≡ length l.bytes;
+-- the answer is that for what is left, counted from the first byte
+abbrev pub invariant-loop-line : goal.invariant-loop-line
+invariant-loop-line l = record {
+  answer : sought l.fn.start l.bytes ≡ further (length l.bytes - length l.left) (sought l.place l.left);
+  within : length l.left ≤ length l.bytes;
 }
 
-abbrev pub decreases-loop-left : goal.decreases-loop-left
-decreases-loop-left l = length l.left
+abbrev pub decreases-loop-line : goal.decreases-loop-line
+decreases-loop-line l = length l.left

@@ -7,7 +7,7 @@ use Rattle.moment_text.proofs.CivilLemmas.{parts_at_secs, parts_at_valid}
 use Rattle.moment_text.proofs.HttpLemmas.{http_moment-http_text}
 use Rattle.moment_text.proofs.http_date.write_http.Goals as goal
 
--- the library's text is that of the date counted out
+-- the library's text is the text of the date that counting from day to day gives
 text_is : (c : goal.After-to_bytes) → c.to_bytes.result ≡ http_text c.args.moment
 unfolding http_text
 text_is c =

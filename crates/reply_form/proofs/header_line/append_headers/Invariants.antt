@@ -2,6 +2,6 @@ use Rattle.std.proofs.Common.{◌≡◌, ◌++◌, take, flat_map}
 use Rattle.reply_form.specs.HeaderLines.{header_line}
 use Rattle.reply_form.proofs.header_line.append_headers.Given as goal
 
--- the lines so far are there
+-- the output has the lines of the headers so far
 abbrev pub invariant-loop-header : goal.invariant-loop-header
 invariant-loop-header l = l.out.items ≡ l.initial.out.items ++ flat_map header_line (take l.header-index l.headers)

@@ -10,7 +10,7 @@ change-requires-clause-allowed c =
 pub invariant_of-self : goal.invariant_of-self
 invariant_of-self c = (
   closed_kept c.self.inside.keys c.self.inside.rows c.args.self.now c.self.view_is c.args.request.now c.args.moment
-      c.apply-kept.result c.in_ok-change.change c.apply-kept.new.self c.requires.allowed c.in_ok-change.ensures.value c.self.invariant.0 c.apply-kept.ensures.changed c.apply-kept.ensures.refused,
+      c.take.result c.in_ok-change.change c.take.new.self c.requires.allowed c.in_ok-change.ensures.value c.self.invariant.0 c.take.ensures.changed c.take.ensures.refused,
   held_kept (part_value pieces_len (part_at c.self.inside.rows c.args.request.now.ask.key)) c.args.request.now c.args.moment c.self.inside.rows
-      c.apply-kept.result c.in_ok-change.change c.apply-kept.new.self c.in_ok-change.ensures.value c.self.invariant.1 c.apply-kept.ensures.changed c.apply-kept.ensures.refused,
+      c.take.result c.in_ok-change.change c.take.new.self c.in_ok-change.ensures.value c.self.invariant.1 c.take.ensures.changed c.take.ensures.refused,
 )

@@ -10,14 +10,14 @@ use Rattle.range_rows.proofs.blobs.Blobs.write.Goals as goal
 pub returns-in-Some-clause-written : goal.returns-in-Some-clause-written
 returns-in-Some-clause-written c =
     let rows = c.self.inside.rows.items in
-    let at : first_place (λ e. eq_by_cmp name_cmp c.args.name.now e.0) rows ≡ Some c.in-Some.at = cc in
-    from_entries-written c.args.name.now rows c.in-Some.at c.index_mut-row.result.now at c.index_mut-row.ensures.value (written c.args.committed) c.write.new.self c.write.ensures
-    ∙ ap (λ m. finite.insert m c.args.name.now (written c.args.committed)) c.self.view_is
+    let at : first_place (λ e. eq_by_cmp name_cmp c.args.name e.0) rows ≡ Some c.in-Some.at = cc in
+    from_entries-written c.args.name rows c.in-Some.at c.index_mut-row.result.now at c.index_mut-row.ensures.value (written c.args.committed) c.write.new.self c.write.ensures
+    ∙ ap (λ m. finite.insert m c.args.name (written c.args.committed)) c.self.view_is
 
 pub returns-in_ok-push-in-None-clause-written : goal.returns-in_ok-push-in-None-clause-written
 returns-in_ok-push-in-None-clause-written c =
     let rows = c.self.inside.rows.items in
-    let none : first_place (λ e. eq_by_cmp name_cmp c.args.name.now e.0) rows ≡ None = cc in
-    ap finite.from_entries (c.in_ok-push-in-None.ensures.items ∙ ap (λ row. rows ++ row ∷ []) c.in_ok-row-in-None.ensures)
-    ∙ from_entries-more c.args.name.now rows none (written c.args.committed)
-    ∙ ap (λ m. finite.insert m c.args.name.now (written c.args.committed)) c.self.view_is
+    let none : first_place (λ e. eq_by_cmp name_cmp c.args.name e.0) rows ≡ None = cc in
+    ap finite.from_entries (c.in_ok-push-in-None.ensures.items ∙ ap (λ row. rows ++ row ∷ []) c.new.ensures)
+    ∙ from_entries-more c.args.name rows none (written c.args.committed)
+    ∙ ap (λ m. finite.insert m c.args.name (written c.args.committed)) c.self.view_is

@@ -1,0 +1,25 @@
+use Rattle.std.proofs.Common.{List, None, Option, ap, cond, sym, ◌∙◌, ℕ}
+use Rattle.stamp_values.specs.Operations.{checks_md5, keeps_headers}
+use Rattle.request_form.specs.HeadForms.{args_of}
+use Rattle.request_form.proofs.ValueLemmas.{no_bad_line}
+use Rattle.request_form.proofs.values.good_args.Goals as goal
+
+pub returns : goal.returns
+unfolding args_of
+returns c = (
+  no_bad_line (keeps_headers c.args.op) c.args.fields.now (sym c.has_standard_twice.ensures ∙ c.if-has_standard_twice.false)
+      (sym c.has_own_twice.ensures ∙ c.if-has_own_twice.false) (sym c.has_bad_condition.ensures ∙ c.if-has_bad_condition.false)
+      c.in_ok-md5_under.ensures.0 c.in_ok-blob_md5.ensures.0 c.in_ok-kept.ensures.0,
+  λ i. record {
+    if_match = None;
+    if_none_match = None;
+    content_md5 = (c.md5_by-content_md5.ensures ∙ ap (λ (md5 : Option (List ℕ)). cond (checks_md5 c.args.op) md5 None) c.in_ok-md5_under.ensures.1) i;
+    range = None;
+    kept = c.in_ok-kept.ensures.1 i;
+    metadata = c.empty.ensures i;
+    level = None;
+    page = None;
+    block = None;
+    kinds = None;
+  },
+)

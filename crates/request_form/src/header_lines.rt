@@ -1,0 +1,61 @@
+//! What the names of a path and the header lines say: rules F4 to F8, one after the other.
+ghost use Rattle.std.specs.Prelude.{MatchResult};
+ghost use Rattle.request_form.specs.HeadReads.{AreFields, Denies, IsLine, Passes, field_rules};
+
+use crate::denial::{HeadFault, denied};
+use crate::length::{body_len, is_too_long};
+use crate::names::{Names, read_names};
+use crate::parsed_head::ParsedHead;
+use crate::request_line::Line;
+use crate::unserved::asks_the_unserved;
+use crate::values::{ValueFault, read_args};
+use stamp_types::{Args, Code, Rule};
+use std::alloc::Global;
+
+/// What the names of a path and the header lines say that no rule refuses.
+#[derive(Debug, Drop)]
+pub struct Fields {
+    pub body_len: u64,
+    pub names: Names,
+    pub args: Args,
+}
+
+/// What the names and the header lines say: the length by F4, the names by F5, no header that is not served by F6, the values
+/// by F7, and a body that is not too long by F8.
+///
+/// `Denied` by the first of these rules that holds; `NoMemory` if memory runs out.
+#[tactic(auto, unfolding(crate::specs::HeadRules::denial_among))]
+pub fn read_fields(alloc: Global, head: &ParsedHead, line: &Line) -> Result<Fields, HeadFault>
+    requires line { IsLine head.now line.now }
+    ensures { MatchResult result (λ f. Passes head.now field_rules × AreFields head.now line.now.op f) (Denies head.now field_rules) }
+{
+    let verb = Some(line.verb);
+    let body_len = match body_len(head, line.verb) {
+        Ok(len) => len,
+        Err(code) => return Err(HeadFault::Denied(denied(Rule::F4, code, verb))),
+    };
+    let Some(names) = read_names(alloc, line.target.path.as_slice())? else {
+        let code = Code::InvalidResourceName;
+        return Err(HeadFault::Denied(denied(Rule::F5, code, verb)));
+    };
+    if asks_the_unserved(head, line.verb, line.op) {
+        let code = Code::UnsupportedHeader;
+        return Err(HeadFault::Denied(denied(Rule::F6, code, verb)));
+    }
+    let args = match read_args(alloc, head, line.op) {
+        Ok(args) => args,
+        Err(ValueFault::Refused(code)) => {
+            return Err(HeadFault::Denied(denied(Rule::F7, code, verb)));
+        }
+        Err(ValueFault::NoMemory) => return Err(HeadFault::NoMemory),
+    };
+    if is_too_long(line.op, body_len) {
+        let code = Code::RequestBodyTooLarge;
+        return Err(HeadFault::Denied(denied(Rule::F8, code, verb)));
+    }
+    Ok(Fields {
+        body_len,
+        names,
+        args,
+    })
+}

@@ -1,0 +1,43 @@
+//! What a request line says: rules F1, F2 and F3, one after the other.
+ghost use Rattle.std.specs.Prelude.{◌≤◌, IsUtf8, MatchResult, length};
+ghost use Rattle.request_form.specs.HeadReads.{Denies, IsLine, Passes, line_rules};
+
+use crate::denial::{HeadFault, denied, no_head};
+use crate::operation::operation;
+use crate::parsed_head::ParsedHead;
+use crate::target::{Target, read_target};
+use crate::verb::verb;
+use stamp_types::{Code, Op, Rule, Verb};
+use std::alloc::Global;
+
+/// What a request line says that no rule refuses.
+#[derive(Debug, Drop)]
+pub struct Line {
+    pub verb: Verb,
+    pub op: Op,
+    pub target: Target,
+}
+
+/// What the request line says: the target by F1, the method by F2, the operation by F3.
+///
+/// `Denied` by the first of these rules that holds; `NoMemory` if memory runs out.
+#[tactic(auto, unfolding(crate::specs::HeadRules::denial_among, crate::specs::HeadRules::op_of))]
+pub fn read_line(alloc: Global, head: &ParsedHead) -> Result<Line, HeadFault>
+    requires target { (length head.now.target ≤ 16384) × IsUtf8 head.now.target }
+    ensures { MatchResult result (λ l. Passes head.now line_rules × IsLine head.now l) (Denies head.now line_rules) }
+{
+    let Some(target) = read_target(alloc, head.target.as_slice())? else {
+        return Err(HeadFault::Denied(no_head()));
+    };
+    let Some(verb) = verb(head.method.as_slice()) else {
+        return Err(HeadFault::Denied(denied(Rule::F2, Code::UnsupportedHttpVerb, None)));
+    };
+    let Some(op) = operation(alloc, verb, &target)? else {
+        return Err(HeadFault::Denied(denied(
+            Rule::F3,
+            Code::InvalidQueryParameterValue,
+            Some(verb),
+        )));
+    };
+    Ok(Line { verb, op, target })
+}

@@ -1,0 +1,7 @@
+use Rattle.std.proofs.Common.{◌≡◌, cond}
+use Rattle.stamp_values.specs.Fields as specs
+use Rattle.stamp_values.proofs.field_list.FieldList.is_sent_twice.Given as goal
+
+-- what is left gives the answer
+abbrev pub invariant-loop-field : goal.invariant-loop-field
+invariant-loop-field l = specs.is_sent_twice l.self l.name ≡ cond l.is_sent (specs.is_sent l.field-iterator l.name) (specs.is_sent_twice l.field-iterator l.name)
