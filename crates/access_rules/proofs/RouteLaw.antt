@@ -1,4 +1,4 @@
--- No rule holds exactly where the request's own route admits it.
+-- No rule holds if and only if the request's own route admits the request.
 use Rattle.std.proofs.Common.{◌≡◌, ℕ, ◌+◌, ◌≤◌, ◌↔◌, ◌⊎◌, inl, inr, Bool, true, false, cond, not, ◌||◌, List, [], ◌∷◌, Option, Some, None, Result, Ok, Err, refl, sym, ap, ◌∙◌, arith, nat_lt, subst, is_none}
 use Rattle.std.proofs.lemmas.Bool.Decides.{nat_tests}
 use Rattle.std.proofs.lemmas.Slice.Eq.{bytes_eq-Decides}
@@ -19,12 +19,12 @@ use Rattle.access_rules.proofs.ClaimLemmas.{claimed, claims}
 use Rattle.access_rules.specs.Needs.{need_of}
 use Rattle.moment_text.specs.Http.{http_moment}
 use Rattle.access_rules.specs.Parts.{claim_in, keys_for, date_text, date_in, string_of, leeway, is_far, is_signed}
-use Rattle.access_rules.specs.Rules.{first_rule, there, is_lower}
+use Rattle.access_rules.specs.Rules.{first_rule, some_passes, allows_less}
 use Rattle.access_rules.specs.Routes.{ByKey, ByPublic, Admits}
 
 -- ---- keys
 
--- keys that are found are those of the account
+-- the keys that are found are the keys of the account
 keys_found : (keys : Option Keys) (account : List ℕ) (pair : Keys) → keys_for keys account ≡ Some pair → (keys ≡ Some pair) × (pair.account ≡ account)
 keys_found None account pair e = cc
 keys_found (Some k) account pair e =
@@ -78,17 +78,17 @@ of_either : (xs ys zs : List ℕ) → (xs ≡ ys) ⊎ (xs ≡ zs) → (bytes_eq 
 of_either xs ys zs (inl e) = ap (λ b. b || bytes_eq xs zs) ((bytes_eq-Decides xs ys).1 e)
 of_either xs ys zs (inr e) = ap (λ b. bytes_eq xs ys || b) ((bytes_eq-Decides xs zs).1 e) ∙ or_right (bytes_eq xs ys)
 
--- the rules of the key route, of what they look at: the claim, whether its account is the path's, the keys, the date,
--- whether it is far, and whether a pair gives the claim's signature
+-- the rules of the key route, over what they look at: the claim, the test that its account is the path's account, the keys,
+-- the date, the test that the date is far, and the test that a pair of keys gives the signature of the claim
 abbrev key_rule : Option Claim → (Claim → Bool) → Option Keys → Option ℕ → (ℕ → Bool) → (Keys → Claim → Bool) → Option Rule
 key_rule claim own pair date far signed =
     cond (is_none claim) (Some K1)
-    (cond (there (λ c. not (own c) || is_none pair) claim) (Some K2)
+    (cond (some_passes (λ c. not (own c) || is_none pair) claim) (Some K2)
     (cond (is_none date) (Some K3)
-    (cond (there far date) (Some K4)
-    (cond (there (λ c. there (λ p. not (signed p c)) pair) claim) (Some K5) None))))
+    (cond (some_passes far date) (Some K4)
+    (cond (some_passes (λ c. some_passes (λ p. not (signed p c)) pair) claim) (Some K5) None))))
 
--- what is there and passes where none of them holds
+-- the parts of the request that exist, and the tests that they pass, if no rule of the key route holds
 record Passes (claim : Option Claim) (own : Claim → Bool) (pair : Option Keys) (date : Option ℕ) (far : ℕ → Bool) (signed : Keys → Claim → Bool) : Type 0 where
   pub the_claim : Claim
   pub claimed : claim ≡ Some the_claim
@@ -167,8 +167,8 @@ module _ (keys : Option Keys) (q : Ask) (t : ℕ) where
         dated = day.1;
         date = p.the_date;
         names = day.2;
-        behind = close.0;
-        ahead = close.1;
+        not_early = close.0;
+        not_late = close.1;
         signed = either p.the_claim.signature (signature_of p.the_pair.first string) (signature_of p.the_pair.second string) p.signs;
       }
 
@@ -183,7 +183,7 @@ module _ (keys : Option Keys) (q : Ask) (t : ℕ) where
         paired = found_keys keys q.key.account b.pair b.given b.known;
         the_date = b.date;
         dated = found_date (date_text q.signing.headers) b.text b.date b.dated b.names;
-        not_far = is_near t b.date b.behind b.ahead;
+        not_far = is_near t b.date b.not_early b.not_late;
         signs = of_either b.claim.signature (signature_of b.pair.first string) (signature_of b.pair.second string) b.signed;
       }
 
@@ -201,27 +201,27 @@ by_key keys acl q t values =
 -- ---- the public route
 
 abbrev public_rule : Option Acl → Option Level → Option Rule
-public_rule acl level = cond (is_none level) (Some P1) (cond (there (is_lower acl) level) (Some P2) None)
+public_rule acl level = cond (is_none level) (Some P1) (cond (some_passes (allows_less acl) level) (Some P2) None)
 
-not_lower : (m n : ℕ) → cond (nat_lt m n) (Some P2) None ≡ None → n ≤ m
-not_lower m n h =
+not_less : (m n : ℕ) → cond (nat_lt m n) (Some P2) None ≡ None → n ≤ m
+not_less m n h =
     elim (nat_lt m n) as (λ b. nat_lt m n ≡ b → cond b (Some P2) None ≡ None → n ≤ m) [
       | true ↦ λ e h. cc
       | false ↦ λ e h. grind (arith, nat_tests)
     ] refl h
 
-enough_is_not_lower : (m n : ℕ) → n ≤ m → cond (nat_lt m n) (Some P2) None ≡ None
-enough_is_not_lower m n h = let e : nat_lt m n ≡ false = grind (arith, nat_tests) in ap (λ b. cond b (Some P2) None) e
+enough_is_not_less : (m n : ℕ) → n ≤ m → cond (nat_lt m n) (Some P2) None ≡ None
+enough_is_not_less m n h = let e : nat_lt m n ≡ false = grind (arith, nat_tests) in ap (λ b. cond b (Some P2) None) e
 
 by_public : (acl : Option Acl) (q : Ask) (need : Option Level) → (need_of q.op q.args.kinds).level ≡ need → (public_rule acl need ≡ None) ↔ ByPublic acl q
 by_public acl q None e = (λ h. cc, λ b. let f : None ≡ Some b.need = sym e ∙ b.needed in cc)
 by_public None q (Some need) e = (λ h. cc, λ b. let f = b.exists in cc)
 by_public (Some has) q (Some need) e = (
-  λ h. record { need = need; needed = e; has = has; exists = refl; enough = not_lower (level_number has.level) (level_number need) h },
+  λ h. record { need = need; needed = e; has = has; exists = refl; enough = not_less (level_number has.level) (level_number need) h },
   λ b.
       let same_need : need ≡ b.need = let f : Some need ≡ Some b.need = sym e ∙ b.needed in cc in
       let same_has : has ≡ b.has = let f = b.exists in cc in
-      enough_is_not_lower (level_number has.level) (level_number need)
+      enough_is_not_less (level_number has.level) (level_number need)
       (subst (λ (l : Level). level_number l ≤ level_number has.level) (sym same_need) (subst (λ (a : Acl). level_number b.need ≤ level_number a.level) (sym same_has) b.enough)),
 )
 

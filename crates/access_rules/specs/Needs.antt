@@ -11,25 +11,26 @@ use Rattle.access_rules.specs.declared.needs.Need.{Need}
 use Rattle.access_rules.specs.declared.needs.Letter.{Letter}
 use Rattle.access_rules.specs.declared.needs.Letter.TheVariants as letter
 
--- neither a signature nor public access reaches it
+-- the keys alone allow the operation: neither a signature nor public access does
 abbrev pub of_keys_alone : Need
 of_keys_alone = record { letter = None; level = None }
 
--- a signature with the letter reaches it, public access does not
+-- a signature with the letter allows the operation, and public access does not
 abbrev pub of_letter : Letter → Need
 of_letter l = record { letter = Some l; level = None }
 
--- a signature with the letter reaches it, and public access of the level
+-- a signature with the letter allows the operation, and public access of the level does too
 abbrev pub of_letter_or_level : Letter → Level → Need
 of_letter_or_level l p = record { letter = Some l; level = Some p }
 
--- committed blocks are content, and read like it; the others are not public
+-- what a block list needs: committed blocks are content, and are read like content; other blocks are never public
 abbrev pub of_block_list : BlockKinds → Need
 of_block_list kinds.Committed = of_letter_or_level letter.Read level.Blob
 of_block_list kinds.Uncommitted = of_letter letter.Read
 of_block_list kinds.All = of_letter letter.Read
 
--- the letter and the level of each operation; a block list is asked for by kinds, committed where none are named
+-- what each operation needs; a block list is asked for by the kinds of blocks, which are the committed blocks if the request
+-- names no kind
 abbrev pub need_of : Op → Option BlockKinds → Need
 need_of ListContainers k = of_keys_alone
 need_of CreateContainer k = of_keys_alone

@@ -15,26 +15,26 @@ use Rattle.shared_key.specs.Readings.{authorization_of}
 use Rattle.shared_key.specs.Strings.{key_string}
 use Rattle.access_rules.specs.declared.keys.Keys.{Keys}
 
--- the claim that Authorization makes: it was sent once, in its form
+-- the claim that Authorization makes, if it was sent once and in its form
 abbrev pub claim_in : List (List ℕ) → Option Claim
 claim_in values = result_ok (authorization_of values)
 
--- the claim of a request; those of the other routes make none
+-- the claim that a credential makes; the credentials of the other routes make no claim
 abbrev pub claim_of : Credential → Option Claim
 claim_of (Shared values) = claim_in values
 claim_of Token = None
 claim_of Anonymous = None
 
--- the stamp's keys for the account: keys of another account count as none
+-- the keys that the stamp has for the account; keys of another account count as no keys
 abbrev pub keys_for : Option Keys → List ℕ → Option Keys
 keys_for None account = None
 keys_for (Some pair) account = cond (bytes_eq pair.account account) (Some pair) None
 
--- x-ms-date where it was sent, else Date
+-- the text of the date: x-ms-date if it was sent, and else Date
 abbrev pub date_text : List Field → Option (List ℕ)
 date_text headers = option_or (first_value headers (codes "x-ms-date")) (first_value headers (codes "date"))
 
--- the moment that the request's date names
+-- the moment that the date of the request names
 abbrev pub date_in : List Field → Option ℕ
 date_in headers = option_and_then (λ text. result_ok (http_moment text)) (date_text headers)
 
@@ -46,10 +46,11 @@ string_of q = key_string q.signing q.key.account
 abbrev pub leeway : ℕ
 leeway = 9_000_000_000
 
--- the date lies more than 900 seconds behind the moment, or ahead of it
+-- the date is more than 900 seconds before the moment, or after it
 abbrev pub is_far : ℕ → ℕ → Bool
 is_far moment date = nat_lt (date + leeway) moment || nat_lt (moment + leeway) date
 
--- one of the keys gives the signature of the string
+-- one of the two keys gives this signature for the string
 abbrev pub is_signed : Keys → List ℕ → List ℕ → Bool
-is_signed pair string signature = bytes_eq signature (signature_of pair.first string) || bytes_eq signature (signature_of pair.second string)
+is_signed pair string signature =
+    bytes_eq signature (signature_of pair.first string) || bytes_eq signature (signature_of pair.second string)

@@ -1,4 +1,4 @@
--- The rules of permission, each by itself, and the first that holds (Blob service REST reference, 2012-02-12,
+-- The rules of permission, each by itself, and the first rule that holds (Blob service REST reference, 2012-02-12,
 -- Authentication for the Azure Storage Services; Set Container ACL). Which rules there are, and their order, is the
 -- stamp's own.
 use Rattle.std.specs.Prelude.{ℕ, Bool, true, false, not, ◌&&◌, ◌||◌, nat_lt, List, [], ◌∷◌, Option, Some, None, is_none, bytes_eq, find}
@@ -18,44 +18,52 @@ use Rattle.access_rules.specs.declared.keys.Keys.{Keys}
 use Rattle.access_rules.specs.Needs.{need_of}
 use Rattle.access_rules.specs.Parts.{claim_of, keys_for, date_in, string_of, is_far, is_signed}
 
--- the request asks by an account's key
+-- the request asks by the key of an account
 abbrev pub on_key : Credential → Bool
 on_key (credential.Shared values) = true
 on_key credential.Token = false
 on_key credential.Anonymous = false
 
--- it asks by a shared access signature
+-- the request asks by a shared access signature
 abbrev pub on_token : Credential → Bool
 on_token (credential.Shared values) = false
 on_token credential.Token = true
 on_token credential.Anonymous = false
 
--- it asks by public access
+-- the request asks by public access
 abbrev pub on_public : Credential → Bool
 on_public (credential.Shared values) = false
 on_public credential.Token = false
 on_public credential.Anonymous = true
 
--- the part is there and passes the test
-abbrev pub there : {A : Type 0} → (A → Bool) → Option A → Bool
-there test None = false
-there test (Some part) = test part
+-- the option has a value, and the value passes the test
+abbrev pub some_passes : {A : Type 0} → (A → Bool) → Option A → Bool
+some_passes test None = false
+some_passes test (Some part) = test part
 
--- the container gives less than the level, or it does not stand
-abbrev pub is_lower : Option Acl → Level → Bool
-is_lower None need = true
-is_lower (Some acl) need = nat_lt (level_number acl.level) (level_number need)
+-- the container allows less than the level, or it does not exist
+abbrev pub allows_less : Option Acl → Level → Bool
+allows_less None need = true
+allows_less (Some acl) need = nat_lt (level_number acl.level) (level_number need)
 
--- the rule holds; one about a part that is not there does not
+-- the rule holds; a rule about a part that is missing does not hold
 abbrev pub holds : Option Keys → Option Acl → Ask → ℕ → Rule → Bool
 holds keys acl q t K1 = on_key q.credential && is_none (claim_of q.credential)
-holds keys acl q t K2 = on_key q.credential && there (λ claim. not (bytes_eq claim.account q.key.account) || is_none (keys_for keys q.key.account)) (claim_of q.credential)
+holds keys acl q t K2 =
+    on_key q.credential
+    && some_passes
+    (λ claim. not (bytes_eq claim.account q.key.account) || is_none (keys_for keys q.key.account))
+    (claim_of q.credential)
 holds keys acl q t K3 = on_key q.credential && is_none (date_in q.signing.headers)
-holds keys acl q t K4 = on_key q.credential && there (is_far t) (date_in q.signing.headers)
-holds keys acl q t K5 = on_key q.credential && there (λ claim. there (λ pair. not (is_signed pair (string_of q) claim.signature)) (keys_for keys q.key.account)) (claim_of q.credential)
+holds keys acl q t K4 = on_key q.credential && some_passes (is_far t) (date_in q.signing.headers)
+holds keys acl q t K5 =
+    on_key q.credential
+    && some_passes
+    (λ claim. some_passes (λ pair. not (is_signed pair (string_of q) claim.signature)) (keys_for keys q.key.account))
+    (claim_of q.credential)
 holds keys acl q t S1 = on_token q.credential
 holds keys acl q t P1 = on_public q.credential && is_none (need_of q.op q.args.kinds).level
-holds keys acl q t P2 = on_public q.credential && there (is_lower acl) (need_of q.op q.args.kinds).level
+holds keys acl q t P2 = on_public q.credential && some_passes (allows_less acl) (need_of q.op q.args.kinds).level
 holds keys acl q t other = false
 
 -- the rules of permission in their order
@@ -66,13 +74,13 @@ access_rules = K1 ∷ K2 ∷ K3 ∷ K4 ∷ K5 ∷ S1 ∷ P1 ∷ P2 ∷ []
 abbrev pub first_rule : Option Keys → Option Acl → Ask → ℕ → Option Rule
 first_rule keys acl q t = find (holds keys acl q t) access_rules
 
--- the rules of the key route that are judged without the signature
+-- the rules of the key route that are judged before the signature is computed
 abbrev pub rules_before_signature : List Rule
 rules_before_signature = K1 ∷ K2 ∷ K3 ∷ K4 ∷ []
 
--- the signature has to be worked out: the request asks by a key, and none of the rules before K5 holds
-abbrev pub wants_signature : Option Keys → Option Acl → Ask → ℕ → Bool
-wants_signature keys acl q t = on_key q.credential && is_none (find (holds keys acl q t) rules_before_signature)
+-- the signature has to be computed: the request asks by a key, and no rule of K1 to K4 holds
+abbrev pub needs_signature : Option Keys → Option Acl → Ask → ℕ → Bool
+needs_signature keys acl q t = on_key q.credential && is_none (find (holds keys acl q t) rules_before_signature)
 
 -- the route by which a request asks
 abbrev pub way_of : Credential → Way
@@ -80,11 +88,11 @@ way_of (credential.Shared values) = way.Shared
 way_of credential.Token = way.Token
 way_of credential.Anonymous = way.Anonymous
 
--- the rule refuses; where there is none the route allows
+-- the verdict of a rule, or of the route if there is no rule: the rule refuses the request, and the route allows it
 abbrev pub verdict_by : Option Rule → Way → Verdict
 verdict_by None way = Allow way
 verdict_by (Some rule) way = Deny rule
 
--- the first rule that holds refuses, and where none holds the request is allowed by its route
+-- the first rule that holds refuses the request; if no rule holds, the request is allowed by its route
 abbrev pub verdict_of : Option Keys → Option Acl → Ask → ℕ → Verdict
 verdict_of keys acl q t = verdict_by (first_rule keys acl q t) (way_of q.credential)

@@ -2,7 +2,7 @@
 ghost use Rattle.std.specs.Prelude.{◌≡◌, ℕ, IfOk, IsErr, IsTrue, Option, None, option_copied};
 ghost use Rattle.stamp_values.specs.declared.signing.Credential.TheVariants as credential;
 ghost use Rattle.access_rules.specs.declared.keys.Keys.{Keys};
-ghost use Rattle.access_rules.specs.Rules.{verdict_of, wants_signature};
+ghost use Rattle.access_rules.specs.Rules.{verdict_of, needs_signature};
 
 use crate::judgement::{Verdict, Way};
 use crate::keys::Keys;
@@ -11,7 +11,7 @@ use crate::parts::{claim_in, date_in, is_far, is_signed, keys_for};
 use stamp_types::{Ask, Bytes, Credential, Moment, Request, Rule};
 use std::alloc::{AllocError, Global};
 
-// Each exit is the first rule that holds: those before it were judged and did not.
+// Each exit names the first rule that holds: the rules before it were judged and do not hold.
 fn by_key(
     alloc: Global,
     keys: Option<&Keys>,
@@ -20,8 +20,10 @@ fn by_key(
     now: Moment,
 ) -> Result<Verdict, AllocError>
     requires { ask.now.credential ≡ credential.Shared values.now }
-    ensures value { IfOk result (λ v. v ≡ verdict_of (option_copied keys.entry) None ask.now now) }
-    ensures memory { IsErr result → IsTrue (wants_signature (option_copied keys.entry) None ask.now now) }
+    ensures value { IfOk result (λ v.
+        v ≡ verdict_of (option_copied keys.entry) None ask.now now) }
+    ensures memory { IsErr result
+        → IsTrue (needs_signature (option_copied keys.entry) None ask.now now) }
 {
     let Some(claim) = claim_in(values) else {
         return Ok(Verdict::Deny(Rule::K1));
@@ -45,7 +47,7 @@ fn by_key(
     }
 }
 
-// No container has a level yet, so that none is ever enough.
+// No container has a level of public access yet, so public access allows no request.
 fn by_public(ask: &Ask) -> Verdict
     requires { ask.now.credential ≡ credential.Anonymous }
     ensures { (keys : Option Keys) (t : ℕ) → result ≡ verdict_of keys None ask.now t }
@@ -58,21 +60,23 @@ fn by_public(ask: &Ask) -> Verdict
 
 /// Whether a request may be served at a moment.
 ///
-/// `keys` are those that the stamp has for the request's account; `None`, or those of another account, count as none. The
-/// answer is the first rule that holds, in the order K1 to K5, S1, P1, P2, or the request's route where none does. A request
-/// is judged by its own route alone. Every shared access signature is refused by S1, and public access by P1 or P2, since no
-/// container has a level yet.
+/// `keys` are the keys that the stamp has for the request's account; keys of another account count as no keys. The answer is the
+/// first rule that holds, in the order K1 to K5, S1, P1, P2. If no rule holds, the answer is the request's route. A request is
+/// judged by its own route alone. S1 refuses each shared access signature, and P1 or P2 refuses public access, since no
+/// container has a level of public access yet.
 ///
-/// `AllocError` where there was no memory for the string to sign or a signature; only the key route takes any, and only where
-/// none of K1 to K4 holds. Blob service REST reference, 2012-02-12, Authentication for the Azure Storage Services.
+/// `AllocError` if memory runs out for the string to sign or for a signature. Only the key route takes memory, and only if no
+/// rule of K1 to K4 holds. Blob service REST reference, 2012-02-12, Authentication for the Azure Storage Services.
 pub fn verdict(
     alloc: Global,
     keys: Option<&Keys>,
     request: &Request,
     now: Moment,
 ) -> Result<Verdict, AllocError>
-    ensures value { IfOk result (λ v. v ≡ verdict_of (option_copied keys.entry) None request.now.ask now) }
-    ensures memory { IsErr result → IsTrue (wants_signature (option_copied keys.entry) None request.now.ask now) }
+    ensures value { IfOk result (λ v.
+        v ≡ verdict_of (option_copied keys.entry) None request.now.ask now) }
+    ensures memory { IsErr result
+        → IsTrue (needs_signature (option_copied keys.entry) None request.now.ask now) }
 {
     let ask = request.ask();
     match &ask.credential {

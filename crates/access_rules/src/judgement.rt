@@ -2,7 +2,7 @@
 
 use stamp_types::Rule;
 
-/// By which route a request was allowed: that of its credential.
+/// The route by which a request was allowed. It is the route of its credential.
 #[derive(Clone, Copy, Debug, PartialEq, Eq)]
 pub enum Way {
     /// By an account's key (Authorization: SharedKey).
@@ -16,7 +16,7 @@ pub enum Way {
 /// Whether a request may be served.
 #[derive(Clone, Copy, Debug, PartialEq, Eq)]
 pub enum Verdict {
-    /// It may, by this route.
+    /// It may be served, by this route.
     Allow(Way),
     /// This rule refuses it.
     Deny(Rule),

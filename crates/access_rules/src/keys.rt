@@ -4,7 +4,7 @@ use hmac_sign::SigningKey;
 use stamp_types::Text;
 use std::fmt;
 
-/// The pair of keys of an account. Either key signs. `epoch` is how often the pair was replaced.
+/// The pair of keys of an account. A signature by either key is accepted. `epoch` is how often the pair was replaced.
 #[derive(Clone, PartialEq, Eq, Drop)]
 pub struct Keys {
     pub account: Text,
@@ -13,7 +13,7 @@ pub struct Keys {
     pub epoch: u64,
 }
 
-// The account and the epoch are left out too.
+// A derived `Debug` would print the account and the epoch.
 impl fmt::Debug for Keys {
     ghost use Rattle.std.specs.Prelude.{Some, codes};
 

@@ -1,4 +1,4 @@
-//! Who may: what each operation needs, and the first rule of permission that refuses a request.
+//! Who may do what: what each operation needs, and the first rule of permission that refuses a request.
 #![tactic(auto)]
 
 mod judge;
@@ -16,6 +16,6 @@ pub use judge::verdict;
 pub use judgement::{Verdict, Way};
 pub use keys::Keys;
 pub use laws::{
-    a_container_that_does_not_stand_is_as_closed, no_rule_holds_exactly_where_the_own_route_admits,
+    a_container_that_does_not_exist_is_as_closed, no_rule_holds_if_and_only_if_the_own_route_admits,
 };
 pub use needs::{Letter, Need, need_of};

@@ -1,4 +1,4 @@
-//! What operations need of a route.
+//! What each operation needs from a shared access signature and from public access.
 ghost use Rattle.std.specs.Prelude.{◌≡◌, Some, None};
 ghost use Rattle.access_rules.specs.Needs.{need_of, of_keys_alone, of_letter, of_letter_or_level, of_block_list};
 
@@ -13,7 +13,8 @@ pub enum Letter {
     List,
 }
 
-/// What an operation needs of a shared access signature, and of public access. `None` is a route that never reaches it.
+/// What an operation needs from a shared access signature, and from public access. `None` means that this route never allows
+/// the operation.
 #[derive(Clone, Copy, Debug, PartialEq, Eq)]
 pub struct Need {
     pub letter: Option<Letter>,
@@ -43,7 +44,7 @@ const fn of_letter_or_level(letter: Letter, level: Level) -> Need
     }
 }
 
-// An uncommitted block is no content yet, so that public access never shows one.
+// An uncommitted block is not content yet, so public access never shows one.
 fn of_block_list(kinds: BlockKinds) -> Need
     ensures { result ≡ of_block_list kinds }
 {
@@ -53,10 +54,10 @@ fn of_block_list(kinds: BlockKinds) -> Need
     }
 }
 
-/// What an operation needs. The key of the account reaches every operation.
+/// What an operation needs. The key of the account allows every operation.
 ///
-/// `kinds` are those that Get Block List asks for; none named are the committed blocks. Other operations have no use for
-/// them. Blob service REST reference, 2012-02-12, Delegating Access with a Shared Access Signature; Set Container ACL.
+/// `kinds` are the blocks that Get Block List asks for; `None` asks for the committed blocks. Other operations do not use
+/// `kinds`. Blob service REST reference, 2012-02-12, Delegating Access with a Shared Access Signature; Set Container ACL.
 pub fn need_of(op: Op, kinds: Option<BlockKinds>) -> Need
     ensures { result ≡ need_of op kinds }
 {

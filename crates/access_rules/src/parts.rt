@@ -10,17 +10,17 @@ use shared_key::{Authorization, key_string, read_authorization};
 use stamp_types::{Ask, Bytes, FieldList, Moment, Text};
 use std::alloc::{AllocError, Global};
 
-/// How far a date may lie from the moment on either side, in steps of 100 ns: 900 seconds. The reference has 15 minutes.
+/// How far a date may be before or after the moment, in steps of 100 ns: 900 seconds, which are the 15 minutes of the reference.
 const LEEWAY: u64 = 9_000_000_000;
 
-/// What Authorization claims, or `None` where it was not sent exactly once in its form.
+/// What Authorization claims. `None` if the header was not sent exactly once, or not in its form.
 pub(crate) fn claim_in(values: &[Bytes]) -> Option<Authorization<'_>>
     ensures { result ≡ claim_in values.now }
 {
     read_authorization(values).ok()
 }
 
-/// The keys, where they are those of the account.
+/// The keys, if they are the keys of the account.
 pub(crate) fn keys_for<'a>(keys: Option<&'a Keys>, account: &Text) -> Option<&'a Keys>
     ensures { option_copied result ≡ keys_for (option_copied keys.entry) account.now }
 {
@@ -32,21 +32,21 @@ pub(crate) fn keys_for<'a>(keys: Option<&'a Keys>, account: &Text) -> Option<&'a
     }
 }
 
-// x-ms-date counts where it was sent, even if it is no date: it is what was signed then.
+// If x-ms-date was sent, it counts, even if it is not a date: then it is what was signed.
 fn date_text(headers: &FieldList) -> Option<&[u8]>
     ensures { option_map (λ text. text.now) result ≡ date_text headers.now }
 {
     headers.first(b"x-ms-date").or(headers.first(b"date"))
 }
 
-/// The moment that the request's date names, or `None` where there is no date or none of HTTP.
+/// The moment that the request's date names. `None` if no date was sent, or if it is not a date of HTTP.
 pub(crate) fn date_in(headers: &FieldList) -> Option<Moment>
     ensures { result ≡ date_in headers.now }
 {
     read_http(date_text(headers)?).ok()
 }
 
-/// Whether the date lies more than 900 seconds behind the moment or ahead of it.
+/// Whether the date is more than 900 seconds before the moment or after it.
 pub(crate) fn is_far(now: Moment, date: Moment) -> bool
     ensures { result ≡ is_far now date }
 {
@@ -54,27 +54,29 @@ pub(crate) fn is_far(now: Moment, date: Moment) -> bool
     date + LEEWAY < now || now + LEEWAY < date
 }
 
-// Signatures are compared as they are written, so a text that is not Base64 is just another signature.
+// Whether the key gives the signature. Signatures are compared as texts, so a text that is not Base64 is only a wrong signature.
 fn gives(
     alloc: Global,
     key: &SigningKey,
     string: &[u8],
     signature: &[u8],
 ) -> Result<bool, AllocError>
-    ensures { IfOk result (λ same. same ≡ bytes_eq signature.now (signature_of key.now string.now)) }
+    ensures { IfOk result (λ same.
+        same ≡ bytes_eq signature.now (signature_of key.now string.now)) }
 {
     let text = key.sign(alloc, string)?;
     Ok(signature == text.as_bytes())
 }
 
-/// Whether one of the keys gives the signature of what the request signs.
+/// Whether one of the two keys gives this signature for the string to sign of the request.
 pub(crate) fn is_signed(
     alloc: Global,
     keys: &Keys,
     ask: &Ask,
     signature: &[u8],
 ) -> Result<bool, AllocError>
-    ensures { IfOk result (λ yes. yes ≡ is_signed keys.now (string_of ask.now) signature.now) }
+    ensures { IfOk result (λ signed.
+        signed ≡ is_signed keys.now (string_of ask.now) signature.now) }
 {
     let string = key_string(alloc, &ask.signing, ask.key.account.as_str().as_bytes())?;
     if gives(alloc, &keys.first, &string, signature)? {

@@ -1,4 +1,4 @@
-//! What no clause says of the rules: that a request can be allowed, and that the definitions mean what the reference says.
+//! What no clause says about the rules: that a request can be allowed, and that the definitions mean what the reference says.
 //! The rules of the key route that a client can meet are cases of `replay_cases`.
 
 use crate::test_requests::{key_verdict, other_verdict};
@@ -70,8 +70,8 @@ fn the_other_routes_allow_nothing_yet(rt: HostRuntime) {
     assert_eq!(rt; token, Verdict::Deny(Rule::S1));
 }
 
-// The letters and levels of the reference's pages on shared access signatures and on access to containers; the operations
-// that are not named here are of the keys alone.
+// The letters and levels are those of the reference's pages on shared access signatures and on access to containers. The
+// operations that are not in the table are allowed by the keys alone.
 #[test]
 fn needs_are_those_of_the_reference(rt: HostRuntime) {
     use Letter::{Delete, List, Read, Write};

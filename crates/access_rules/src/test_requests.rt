@@ -22,7 +22,7 @@ fn key(rt: &impl Abort, alloc: Global, text: &str) -> SigningKey {
     SigningKey::new(text.as_bytes().to_vec(alloc).expect(rt, "memory"))
 }
 
-// What `PUT /devstoreaccount1/pics/a.txt` of five bytes signs, with one header more.
+// What `PUT /devstoreaccount1/pics/a.txt` with five bytes signs, with one header more.
 fn signing(rt: &impl Abort, alloc: Global, name: &str, value: &str) -> Signing {
     let mut headers = FieldList::new(alloc);
     for (name, value) in [
@@ -58,7 +58,7 @@ fn args(alloc: Global, op: Op, kinds: Option<BlockKinds>) -> Args {
     args
 }
 
-// The verdict on a request for the blob `a.txt`, dated by this header.
+// The verdict on a request for the blob `a.txt` that has this header as its date.
 fn judged(
     rt: &impl Abort,
     alloc: Global,
@@ -86,7 +86,7 @@ fn judged(
     verdict(alloc, keys, &request, now).expect(rt, "memory")
 }
 
-/// The verdict on a Put Blob with this Authorization, where the stamp has the keys of the account.
+/// The verdict on a Put Blob with this Authorization if the stamp has the keys of `account`.
 pub(crate) fn key_verdict(
     rt: &impl Abort,
     alloc: Global,

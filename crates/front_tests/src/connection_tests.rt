@@ -1,4 +1,5 @@
-//! Connections over readers and writers that fail at a chosen call, and what the client gets before a read waits.
+//! Connections over readers and writers that fail at a chosen call. The client gets the interim reply before the body is
+//! awaited.
 ghost use Rattle.std.specs.Prelude.{⊤};
 
 use http_front::{Clock, End, FrontFault, Service, run};
@@ -26,7 +27,7 @@ fn broken() -> io::Error {
     io::Error::from(ErrorKind::BrokenPipe)
 }
 
-/// Gives at most `most` bytes a read. After `reads` reads, each further read fails.
+/// Gives at most `most` bytes at each read. After `reads` reads, each further read fails.
 #[derive(Drop)]
 struct Pieces<'a> {
     rest: &'a [u8],
@@ -45,7 +46,7 @@ impl Read for Pieces<'_> {
     }
 }
 
-/// Takes `calls` calls. After them, each further call fails.
+/// The first `calls` calls succeed. After them, each further call fails.
 #[derive(Drop)]
 struct Few {
     calls: usize,
@@ -179,9 +180,9 @@ fn joined(alloc: Global, parts: &[&[u8]]) -> Result<Vec<u8>, AllocError> {
     Ok(all)
 }
 
-// The stream has a front part of a Get and a Put, and then it ends. Each front part is tried.
+// Each front part of a Get and a Put is tried as a whole stream.
 #[test]
-fn a_stream_ends_clean_between_requests_alone(rt: HostRuntime) {
+fn a_stream_ends_clean_only_between_requests(rt: HostRuntime) {
     let input = joined(rt.alloc(), &[GET, PUT_HEAD, BODY]).expect(&rt, "memory");
     for n in 0..=input.len() {
         let mut out = Vec::new(rt.alloc());

@@ -1,4 +1,5 @@
-//! What the wire does not show about a head: what the head lends, and the request that a head and its body make.
+//! What the replies on a connection do not show about a head: what the head lends, and the request that a head and its body
+//! make.
 
 use request_form::{
     Denial, Head, HeadFault, NameFault, account_ok, blob_name, container_ok, no_head, read_head,
@@ -120,7 +121,7 @@ fn a_denial_names_the_verb_that_was_read(rt: HostRuntime) {
     let no_head = no_head();
     assert!(rt; no_head.rule == Rule::F1 && no_head.code == Code::InvalidInput);
     assert!(rt; no_head.status == Status::BadRequest && no_head.verb.is_none());
-    // In turn: no bytes, no request line, bytes after a head, a head without the empty line at its end, and a fragment.
+    // No bytes, no request line, bytes after a head, a head without the empty line at its end, and a fragment.
     let refused = [
         "",
         "hello\r\n\r\n",

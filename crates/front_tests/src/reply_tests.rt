@@ -1,4 +1,5 @@
-//! Bytes of replies from outside: those that no operation gives yet, and that each call can succeed.
+//! Replies byte by byte, made outside of this repository's code: a refusal to each verb, a 304, and a header of each kind. Each
+//! call succeeds if memory is left.
 
 use crate::sample_parts::sent_range;
 use reply_form::{interim_reply, out_of_memory_reply, write_head, write_reply};
@@ -129,7 +130,7 @@ fn numbers() -> [Header; 10] {
     ]
 }
 
-// A reply with part of a blob and with these headers. The bytes of the part are elsewhere.
+// The frame of a reply that sends two bytes of a blob, with these headers. The body is empty.
 fn part(alloc: Global, headers: Vec<Header>) -> Reply {
     Reply {
         status: Status::Partial,

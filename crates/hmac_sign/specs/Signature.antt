@@ -1,4 +1,4 @@
--- Signatures and keys as Base64 (RFC 4648, section 4), padded and with no byte of another alphabet.
+-- Signatures and keys as Base64 (RFC 4648, section 4), padded, with bytes of its alphabet alone.
 use Rattle.std.specs.Prelude.{ℕ, List}
 use Rattle.base64.specs.Engines.{standard}
 use Rattle.base64.specs.GeneralPurpose.{encode_of}

@@ -1,4 +1,4 @@
-//! The code that authenticates a message under a key.
+//! The authentication code of a message under a key.
 ghost use Rattle.std.specs.Prelude.{◌≡◌, ◌≤◌, ◌-◌, ◌++◌, ℕ, List, length, replicate};
 ghost use Rattle.sha2.specs.Hashers.{Holds256};
 ghost use Rattle.hmac_sign.specs.Hmac.{hmac_of, key_block, masked, inner_block, outer_block};
@@ -14,7 +14,7 @@ const INNER_PAD: u8 = 0x36;
 /// Combined with each byte of the key's block before the inner digest. RFC 2104, section 2.
 const OUTER_PAD: u8 = 0x5c;
 
-/// The HMAC of `message` under `key`, over SHA-256. A key has any length, and no call takes memory.
+/// The HMAC of `message` under `key`, over SHA-256. The key may have any length. The call takes no memory.
 ///
 /// RFC 2104, section 2.
 pub fn hmac(key: &[u8], message: &[u8]) -> [u8; 32]
@@ -38,7 +38,8 @@ pub(crate) fn padded_hashers(key: &[u8]) -> (Sha256, Sha256)
 
 /// The HMAC of `message` under the key of these two hashers.
 pub(crate) fn code_of(mut inner: Sha256, mut outer: Sha256, message: &[u8]) -> [u8; 32]
-    ensures { (key : List ℕ) → Holds256 inner (inner_block key) → Holds256 outer (outer_block key) → result ≡ hmac_of key message.now }
+    ensures { (key : List ℕ) → Holds256 inner (inner_block key) → Holds256 outer (outer_block key)
+        → result ≡ hmac_of key message.now }
 {
     inner.update(message);
     outer.update(inner.finalize());
@@ -56,7 +57,7 @@ fn block_of(key: &[u8]) -> [u8; BLOCK_SIZE]
     }
 }
 
-/// The bytes, and zeros after them up to a block.
+/// The bytes, and after them as many zeros as fill a block.
 fn fill(bytes: &[u8]) -> [u8; BLOCK_SIZE]
     requires { length bytes.now ≤ 64 }
     ensures { result ≡ bytes.now ++ replicate (64 - length bytes.now) 0 }
@@ -66,7 +67,7 @@ fn fill(bytes: &[u8]) -> [u8; BLOCK_SIZE]
     block
 }
 
-/// Each byte of the block combined with the pad by exclusive or.
+/// The block, with each byte combined with the pad by exclusive or.
 fn mask(block: &[u8; BLOCK_SIZE], pad: u8) -> [u8; BLOCK_SIZE]
     ensures { result ≡ masked pad block.now }
 {

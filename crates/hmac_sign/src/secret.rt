@@ -1,4 +1,4 @@
-//! Keys as they are given to a program or kept in a file.
+//! Keys as texts in Base64.
 ghost use Rattle.std.specs.Prelude.{◌≡◌, ◌≢◌, ℕ, List, Err, IfOk};
 ghost use Rattle.base64.specs.GeneralPurpose.{IsBytes};
 ghost use Rattle.hmac_sign.specs.Signature.{base64_of};
@@ -8,25 +8,26 @@ use base64::engine::general_purpose::STANDARD;
 use std::alloc::Global;
 use thiserror::Error;
 
-/// Why a text gave no key.
+/// Why a text did not give a key.
 #[derive(Clone, Copy, Debug, PartialEq, Eq, Error)]
 pub enum SecretFault {
-    /// The text is the Base64 of no bytes.
+    /// The text is not the Base64 of any bytes.
     #[error("the key is not Base64")]
     NotBase64,
-    /// There was no memory for the key.
+    /// Memory ran out.
     #[error("out of memory")]
     NoMemory,
 }
 
-/// The key that the text gives in Base64, padded, with no other byte in it and no bit left over. An empty text is the
-/// empty key.
+/// The key whose Base64 is the text. The text has to be padded, without any other byte, and no bit may be left over. An empty
+/// text gives the empty key.
 ///
-/// RFC 4648, section 4; that nothing else is read is its sections 3.1 to 3.5.
+/// RFC 4648, section 4, and sections 3.1 to 3.5 for the texts that are refused.
 pub fn read_key(alloc: Global, text: &[u8]) -> Result<Vec<u8>, SecretFault>
     ensures read { IfOk result (λ key. text.now ≡ base64_of key.items) }
     ensures bytes { IfOk result (λ key. IsBytes key.items) }
-    ensures refused { (result ≡ Err SecretFault.NotBase64) → (key : List ℕ) → IsBytes key → text.now ≢ base64_of key }
+    ensures refused { (result ≡ Err SecretFault.NotBase64)
+        → (key : List ℕ) → IsBytes key → text.now ≢ base64_of key }
 {
     STANDARD.decode(alloc, text).map_err(|fault| match fault {
         DecodeAllocError::DecodeError(_) => SecretFault::NotBase64,

@@ -31,11 +31,12 @@ impl Model for SigningKey {
 
     ghost view = { λ k. k.bytes.items };
 
-    ghost invariant = { λ k. Holds256 k.inner (inner_block k.bytes.items) × Holds256 k.outer (outer_block k.bytes.items) };
+    ghost invariant = { λ k. Holds256 k.inner (inner_block k.bytes.items)
+        × Holds256 k.outer (outer_block k.bytes.items) };
 }
 
 impl SigningKey {
-    /// The key of these bytes. Takes no memory.
+    /// The key of these bytes. The call takes no memory.
     pub fn new(bytes: Vec<u8>) -> Self
         ensures { result ≡ bytes.items }
     {
@@ -47,7 +48,7 @@ impl SigningKey {
         }
     }
 
-    /// The HMAC of `message` under this key, over SHA-256. Takes no memory.
+    /// The HMAC of `message` under this key, over SHA-256. The call takes no memory.
     ///
     /// RFC 2104, section 2.
     pub fn hmac(&self, message: &[u8]) -> [u8; 32]
@@ -80,7 +81,7 @@ impl Clone for SigningKey {
     }
 }
 
-// Two keys that sign alike may have different bytes: a key longer than a block signs as its digest does.
+// Two keys that give the same signatures may have different bytes: a key longer than a block signs as its digest does.
 impl PartialEq for SigningKey {
     ghost eq = { pointwise nat_eq };
 

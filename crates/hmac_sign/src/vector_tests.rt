@@ -5,7 +5,7 @@ use std::alloc::Global;
 use std::process::Abort;
 use std::test::Fail;
 
-/// A key, some data, and the code of HMAC-SHA-256. The fifth code is cut to 128 bits. RFC 4231, sections 4.2 to 4.8.
+/// Each row is a key, some data, and their HMAC over SHA-256. The fifth code is cut to 128 bits. RFC 4231, sections 4.2 to 4.8.
 const VECTORS: [(&[u8], &[u8], &[u8]); 7] = [
     (
         &[0x0b; 20],
@@ -114,9 +114,10 @@ fn keys_are_read(rt: HostRuntime) -> Result<(), Fail> {
     Ok(())
 }
 
-/// A missing pad, no pad at all, a space, the letters for addresses, and bits left over (RFC 4648, sections 3 to 5).
+/// One pad is missing, all pads are missing, a space, the alphabet for addresses, and bits that are left over (RFC 4648,
+/// sections 3 to 5).
 #[test]
-fn other_texts_are_no_keys(rt: HostRuntime) {
+fn other_texts_are_not_keys(rt: HostRuntime) {
     for text in [
         b"SmVmZQ=".as_slice(),
         b"SmVmZQ",

@@ -41,11 +41,11 @@ use Rattle.access_rules.specs.declared.judgement.Verdict.TheVariants.{Allow, Den
 use Rattle.access_rules.specs.declared.judgement.Way.{Way}
 use Rattle.access_rules.specs.declared.keys.Keys.{Keys}
 use Rattle.access_rules.specs.Needs.{need_of, of_block_list}
-use Rattle.access_rules.specs.Rules.{there, is_lower, holds, on_public, first_rule, verdict_by, verdict_of, way_of}
+use Rattle.access_rules.specs.Rules.{some_passes, allows_less, holds, on_public, first_rule, verdict_by, verdict_of, way_of}
 use Rattle.range_rows.specs.declared.answer.Span.{Span}
 use Rattle.range_rows.specs.ObjectReplies.{ReadsWhole, byte_count, frame, frame_by, blob_read, is_served, reply_of, sizes, span_bytes, spans, spans_len, with_content}
 use Rattle.range_rows.specs.ObjectRules.{object_refusal}
-use Rattle.range_rows.specs.Opening.{one_part, opening}
+use Rattle.range_rows.specs.Opening.{one_part, container_just_made}
 use Rattle.range_rows.specs.RequestChanges.{put_blob, act_by, change_of, part_after}
 use Rattle.range_rows.proofs.SpanLemmas.{length-read, reply_of-read}
 use Rattle.stamp_model.specs.Effects.{unless_refused, world_after, effect_as}
@@ -55,7 +55,7 @@ use Rattle.stamp_model.proofs.AccessLemmas.{standing-effect}
 use Rattle.stamp_model.proofs.ContentLemmas.{sizes-read, world_value-effect}
 use Rattle.stamp_model.proofs.EffectLemmas.{on_key, effect-refused}
 use Rattle.stamp_model.proofs.ReplyLemmas.{unrefused}
-use Rattle.http_front.specs.PlainAnswers.{HeldRows, held_first, rows_first, AreClosed, AreHeld, Held-answers, bytes_held, held_of, held_reply, held_after, object_or_unserved, row_refusal, rows_after}
+use Rattle.http_front.specs.PlainAnswers.{HeldRows, held_first, rows_first, AreClosed, AreHeld, AnswersAsModel, bytes_held, held_of, held_reply, held_after, object_or_unserved, row_refusal, rows_after}
 
 -- ---- the rows at first
 
@@ -65,49 +65,49 @@ IsClosedPart p = (acl_of p ≡ None) ⊎ (acl_of p ≡ Some closed_acl)
 abbrev IsHeldPart : Part (List Piece) → Type 0
 IsHeldPart p = EachContent (λ ps. is_held ps ≡ true) p
 
-module _ (P : Part (List Piece) → Type 0) (t : ℕ) (none : P no_part) (first : P (opening t)) where
-  looked_up : (b : Bool) (o : Option (Part (List Piece))) → o ≡ None → P (unwrap_or (cond b (Some (opening t)) o) no_part)
+module _ (P : Part (List Piece) → Type 0) (t : ℕ) (none : P no_part) (first : P (container_just_made t)) where
+  looked_up : (b : Bool) (o : Option (Part (List Piece))) → o ≡ None → P (unwrap_or (cond b (Some (container_just_made t)) o) no_part)
   looked_up true o e = first
   looked_up false o e = subst (λ (x : Option (Part (List Piece))). P (unwrap_or x no_part)) (sym e) none
 
-  each_first : (key k : Key) → P (part_at (one_part key (opening t)) k)
+  each_first : (key k : Key) → P (part_at (one_part key (container_just_made t)) k)
   each_first key k =
-      subst (λ (x : Option (Part (List Piece))). P (unwrap_or x no_part)) (sym (finite.get-insert keys_total finite.empty key (opening t) k))
+      subst (λ (x : Option (Part (List Piece))). P (unwrap_or x no_part)) (sym (finite.get-insert keys_total finite.empty key (container_just_made t) k))
       (looked_up (eq_by_cmp key_cmp k key) (finite.get finite.empty k) (finite.get-empty key_cmp k))
 
--- one container that was just made is closed, and no other exists
-pub first_closed : (key : Key) (t : ℕ) → AreClosed (one_part key (opening t))
+-- the container that was just made is closed, and no other container exists
+pub first_closed : (key : Key) (t : ℕ) → AreClosed (one_part key (container_just_made t))
 first_closed key t k = each_first IsClosedPart t (inl refl) (inr refl) key k
 
--- it has no content
-pub first_held : (key : Key) (t : ℕ) → AreHeld (one_part key (opening t))
+-- the container that was just made has no content
+pub first_held : (key : Key) (t : ℕ) → AreHeld (one_part key (container_just_made t))
 first_held key t k =
-    each_first IsHeldPart t (EachContent-no_part (λ ps. is_held ps ≡ true)) (EachContent-empty (λ ps. is_held ps ≡ true) (opening t) refl) key k
+    each_first IsHeldPart t (EachContent-no_part (λ ps. is_held ps ≡ true)) (EachContent-empty (λ ps. is_held ps ≡ true) (container_just_made t) refl) key k
 
-part_value-opening : (t : ℕ) → part_value held (opening t) ≡ opening t
-part_value-opening t = λ i. record {
+part_value-container_just_made : (t : ℕ) → part_value held (container_just_made t) ≡ container_just_made t
+part_value-container_just_made t = λ i. record {
   count = 1;
-  standing = (opening {C = List ℕ} t).standing;
+  standing = (container_just_made {C = List ℕ} t).standing;
   blobs = map_values-empty names_total names_exact (blob_value held) i;
 }
 
--- in bytes too it is one container that was just made
+-- in bytes, what the rows hold at first is also one container that was just made
 pub held_of-rows_first : (keys : Keys) (t : ℕ) → held_of (rows_first keys t) ≡ held_first keys t
 held_of-rows_first keys t =
     let key : Key = record { account = keys.account; container = codes "pics" } in
     ap (λ (w : World (List ℕ)). record { keys = keys; world = w })
-    (map_values-insert keys_total keys_exact (part_value held) finite.empty key (opening t)
-    ∙ (λ i. finite.insert (map_values-empty keys_total keys_exact (part_value held) i) key (part_value-opening t i)))
+    (map_values-insert keys_total keys_exact (part_value held) finite.empty key (container_just_made t)
+    ∙ (λ i. finite.insert (map_values-empty keys_total keys_exact (part_value held) i) key (part_value-container_just_made t i)))
 
 -- ---- the verdict
 
 -- public access needs a level above that of a closed container
-by_list : (k : BlockKinds) → there (is_lower None) (of_block_list k).level ≡ there (is_lower (Some closed_acl)) (of_block_list k).level
+by_list : (k : BlockKinds) → some_passes (allows_less None) (of_block_list k).level ≡ some_passes (allows_less (Some closed_acl)) (of_block_list k).level
 by_list kinds.Committed = refl
 by_list kinds.Uncommitted = refl
 by_list kinds.All = refl
 
-lowest : (o : Op) (k : Option BlockKinds) → there (is_lower None) (need_of o k).level ≡ there (is_lower (Some closed_acl)) (need_of o k).level
+lowest : (o : Op) (k : Option BlockKinds) → some_passes (allows_less None) (need_of o k).level ≡ some_passes (allows_less (Some closed_acl)) (need_of o k).level
 lowest op.GetBlockList k = by_list (unwrap_or k kinds.Committed)
 lowest other k = refl
 
@@ -161,7 +161,7 @@ module _ (keys : Keys) (w : World (List Piece)) (h : HeldRows) (is : record { ke
   pub unopposed : row_refusal h q t ≡ None → object_refusal (part_value pieces_len own) q ≡ None
   unopposed free = (unrefused (Some keys) (part_value pieces_len own) q t (own_free free)).unopposed
 
-  -- and its operation is served
+  -- if nothing refuses a request, its operation is served
   pub served : row_refusal h q t ≡ None → is_served q.ask.op ≡ true
   served free = (unrefused (Some keys) (part_value pieces_len own) q t (own_free free)).served
 
@@ -177,12 +177,12 @@ module _ (keys : Keys) (w : World (List Piece)) (h : HeldRows) (is : record { ke
       ap (λ (v : World (List Piece)). record { keys = keys; rows = v }) (sym (effect_by c free change))
       ∙ ap (λ (x : HeldRows). rows_after x q t) is
 
-  -- a change that is made is that of the request
+  -- a change that is made is the change of the request
   pub rows_after_put : (c : KeyedAct) → row_refusal h q t ≡ None → change_of (part_value pieces_len own) q t ≡ Some c
       → record { keys = keys; rows = changed_in same_pieces w c } ≡ rows_after h q t
   rows_after_put c free change = rows_by (Some c) free change
 
-  -- no request opens a container
+  -- no request opens a container to the public
   closed_after : AreClosed w → AreClosed (effect_as pieces_len same_pieces (Some keys) w q t)
   closed_after all k =
       subst (λ (s : Option Standing). IsClosedPart (record { count = 0; standing = s; blobs = finite.empty })) (sym (standing-effect pieces_len same_pieces (Some keys) w q t k)) (all k)
@@ -192,7 +192,7 @@ module _ (keys : Keys) (w : World (List Piece)) (h : HeldRows) (is : record { ke
   closed_by (Ok x) c w' free change all ok err = subst AreClosed (effect_by (Some c) free change ∙ sym ok) (closed_after all)
   closed_by (Err e) c w' free change all ok err = subst AreClosed (sym err) all
 
-  -- a change that is made, or not made, opens none
+  -- whether the change is made or not, no container is open to the public
   pub closed_kept : (r : Result (Unit {0}) AllocError) (c : KeyedAct) (w' : World (List Piece)) → row_refusal h q t ≡ None → change_of (part_value pieces_len own) q t ≡ Some c → AreClosed w
       → OnOk r (w' ≡ changed_in same_pieces w c) → OnErr r (w' ≡ w) → AreClosed w'
   closed_kept = closed_by
@@ -226,7 +226,7 @@ module _ (z : Part ℕ) (q : Asked) (t : ℕ) where
   pub brings_held : (c : KeyedAct) → change_of z q t ≡ Some c → EachActContent (λ ps. is_held ps ≡ true) c.act
   brings_held c change = keyed (act_by q.ask.op z q t) c (brought_by q.ask.op) change
 
--- a change that is made, or not made, leaves all content in memory
+-- whether the change is made or not, all content is in memory
 pub held_kept : (z : Part ℕ) (q : Asked) (t : ℕ) (w : World (List Piece)) (r : Result (Unit {0}) AllocError) (c : KeyedAct) (w' : World (List Piece)) → change_of z q t ≡ Some c → AreHeld w
     → OnOk r (w' ≡ changed_in same_pieces w c) → OnErr r (w' ≡ w) → AreHeld w'
 held_kept z q t w (Ok x) c w' change all ok err =
@@ -298,8 +298,8 @@ module _ (h : HeldRows) (q : Asked) (t : ℕ) (all : AreHeld h.rows) where
       ap (λ (w : World (List ℕ)). record { keys = h.keys; world = w })
       (sym (effect-refused byte_count held (Some h.keys) (world_value held h.rows) q t r (same_refusal ∙ e)))
 
-  -- a request that is refused is answered so, and changes nothing
-  pub answers_refused : (r : Refusal) (reply : Reply) → row_refusal h q t ≡ Some r → reply ≡ denied r → Held-answers (held_of h) q t reply (held_of h)
+  -- a request that is refused gets its refusal, and changes nothing
+  pub answers_refused : (r : Refusal) (reply : Reply) → row_refusal h q t ≡ Some r → reply ≡ denied r → AnswersAsModel (held_of h) q t reply (held_of h)
   answers_refused r reply e is = (is ∙ reply_refused r e, held_refused r e)
 
   -- the bytes of what the rows hold after a request are the bytes that are held after it
@@ -308,21 +308,21 @@ module _ (h : HeldRows) (q : Asked) (t : ℕ) (all : AreHeld h.rows) where
       ap (λ (w : World (List ℕ)). record { keys = h.keys; world = w }) (world_value-effect held pieces_len byte_count same_pieces (Some h.keys) h.rows q t sized)
 
   -- a request that is carried out is answered as the model says
-  pub answers_allowed : (reply : Reply) (h' : HeldRows) → reply ≡ held_reply (held_of h) q t → h' ≡ rows_after h q t → Held-answers (held_of h) q t reply (held_of h')
+  pub answers_allowed : (reply : Reply) (h' : HeldRows) → reply ≡ held_reply (held_of h) q t → h' ≡ rows_after h q t → AnswersAsModel (held_of h) q t reply (held_of h')
   answers_allowed reply h' is new = (is, ap held_of new ∙ held_of-rows_after)
 
 module _ (h : HeldRows) (q : Asked) (t : ℕ) (all : AreHeld h.rows) where
   pub answered_refused : (r : Refusal) (result : Result Reply AllocError) → row_refusal h q t ≡ Some r → IfOk result (λ reply. reply ≡ denied r)
-      → IfOk result (λ reply. Held-answers (held_of h) q t reply (held_of h))
+      → IfOk result (λ reply. AnswersAsModel (held_of h) q t reply (held_of h))
   answered_refused r (Ok reply) e is = answers_refused h q t all r reply e is
   answered_refused r (Err x) e is = is
 
   pub answered_allowed : (result : Result Reply AllocError) (h' : HeldRows) → IfOk result (λ reply. reply ≡ held_reply (held_of h) q t) → OnOk result (h' ≡ rows_after h q t)
-      → IfOk result (λ reply. Held-answers (held_of h) q t reply (held_of h'))
+      → IfOk result (λ reply. AnswersAsModel (held_of h) q t reply (held_of h'))
   answered_allowed (Ok reply) h' is new = answers_allowed h q t all reply h' is new
   answered_allowed (Err x) h' is new = is
 
--- another operation than Put Blob changes nothing
+-- an operation other than Put Blob changes nothing
 unchanging : (z : Part ℕ) (q : Asked) (t : ℕ) (o : Op) → (o ≡ op.PutBlob → ⊥) → act_by o z q t ≡ None
 unchanging z q t op.PutBlob apart = absurd (apart refl)
 unchanging z q t other apart = refl

@@ -1,4 +1,4 @@
--- A stream of bytes has one reading, and what is at its front stays there when more bytes come.
+-- A stream of bytes has one reading, and an item at its front stays at the front when more bytes come.
 use Rattle.std.proofs.Common.{◌≡◌, inl, inr, ℕ, ◌<◌, ◌≤◌, Bool, true, false, List, [], ◌∷◌, ◌++◌, length, take, drop, Option, Some, None, refl, sym, ap, ◌∙◌, subst, arith, append_assoc, length-append}
 use Rattle.std.proofs.lemmas.List.{take-append-le, drop-append-le}
 use Rattle.httparse.specs.Grammar.{RequestHead}
@@ -8,7 +8,7 @@ use Rattle.http_front.specs.HeadEnds.{head_len}
 use Rattle.request_form.specs.HeadForms.{Form, form_of}
 use Rattle.request_form.specs.HeadRules.{denial_of}
 use Rattle.request_form.specs.Heads.{Accepts, Refuses, IsHead, parsed_of}
-use Rattle.http_front.specs.Streams.{Item, Tail, HasHead, HasRequest, HasRefused, Begins, item_closes, EndsIn, Goes-on, Reads}
+use Rattle.http_front.specs.Streams.{Item, Tail, HasHead, HasRequest, HasRefused, BeginsWith, item_closes, EndsIn, EndsOrContinues, Reads}
 use Rattle.http_front.specs.Streams.Item.{Requested, Refused}
 use Rattle.http_front.specs.Streams.Tail.{AtStart, Closing, InHead, InBody}
 use Rattle.http_front.proofs.Ends.{head_len_bound, head_len_more, head_len_long}
@@ -37,7 +37,7 @@ one_denial text denial other (inl p) (inr q) = absurd (q.0 p.head p.is_head)
 one_denial text denial other (inr p) (inl q) = absurd (p.0 q.head q.is_head)
 one_denial text denial other (inr p) (inr q) = p.1 ∙ sym q.1
 
--- ---- what is at the front is read in one way
+-- ---- the item at the front is read in one way
 
 pub append_parts : (a b c d : List ℕ) → length a ≡ length b → a ++ c ≡ b ++ d → (a ≡ b) × (c ≡ d)
 append_parts [] [] c d l e = (refl, e)
@@ -73,20 +73,20 @@ requests_same bytes form other body rest body' rest' p q =
     let parts = append_parts body body' rest rest' long (sym p.parts ∙ ap (λ k. drop k bytes) same.0 ∙ q.parts) in
     (ap (λ f. Requested f body) same.1 ∙ ap (Requested other) parts.0, parts.1)
 
-pub Begins-one : (bytes : List ℕ) (item other : Item) (rest rest' : List ℕ) → Begins bytes item rest → Begins bytes other rest'
+pub BeginsWith-one : (bytes : List ℕ) (item other : Item) (rest rest' : List ℕ) → BeginsWith bytes item rest → BeginsWith bytes other rest'
     → (item ≡ other) × (item_closes item ≡ false → rest ≡ rest')
-Begins-one bytes (Requested form body) (Requested form' body') rest rest' p q =
+BeginsWith-one bytes (Requested form body) (Requested form' body') rest rest' p q =
     let same = requests_same bytes form form' body rest body' rest' p q in (same.0, λ _. same.1)
-Begins-one bytes (Requested form body) (Refused denial) rest rest' p (inl q) = absurd (head_or_refused bytes p.count form denial p.head q)
-Begins-one bytes (Requested form body) (Refused denial) rest rest' p (inr q) = absurd (no_count (head_len bytes) p.count q.0.«open» p.head.ends)
-Begins-one bytes (Refused denial) (Requested form body) rest rest' (inl p) q = absurd (head_or_refused bytes q.count form denial q.head p)
-Begins-one bytes (Refused denial) (Requested form body) rest rest' (inr p) q = absurd (no_count (head_len bytes) q.count p.0.«open» q.head.ends)
-Begins-one bytes (Refused denial) (Refused other) rest rest' (inl p) (inl q) =
+BeginsWith-one bytes (Requested form body) (Refused denial) rest rest' p (inl q) = absurd (head_or_refused bytes p.count form denial p.head q)
+BeginsWith-one bytes (Requested form body) (Refused denial) rest rest' p (inr q) = absurd (no_count (head_len bytes) p.count q.0.«open» p.head.ends)
+BeginsWith-one bytes (Refused denial) (Requested form body) rest rest' (inl p) q = absurd (head_or_refused bytes q.count form denial q.head p)
+BeginsWith-one bytes (Refused denial) (Requested form body) rest rest' (inr p) q = absurd (no_count (head_len bytes) q.count p.0.«open» q.head.ends)
+BeginsWith-one bytes (Refused denial) (Refused other) rest rest' (inl p) (inl q) =
     let same = same_count (head_len bytes) p.count q.count p.ends q.ends in
     (ap Refused (one_denial (take p.count bytes) denial other p.refused (subst (λ k. Refuses (take k bytes) other) (sym same) q.refused)), λ e. absurd (cc))
-Begins-one bytes (Refused denial) (Refused other) rest rest' (inl p) (inr q) = absurd (no_count (head_len bytes) p.count q.0.«open» p.ends)
-Begins-one bytes (Refused denial) (Refused other) rest rest' (inr p) (inl q) = absurd (no_count (head_len bytes) q.count p.0.«open» q.ends)
-Begins-one bytes (Refused denial) (Refused other) rest rest' (inr p) (inr q) = (ap Refused (p.1 ∙ sym q.1), λ e. absurd (cc))
+BeginsWith-one bytes (Refused denial) (Refused other) rest rest' (inl p) (inr q) = absurd (no_count (head_len bytes) p.count q.0.«open» p.ends)
+BeginsWith-one bytes (Refused denial) (Refused other) rest rest' (inr p) (inl q) = absurd (no_count (head_len bytes) q.count p.0.«open» q.ends)
+BeginsWith-one bytes (Refused denial) (Refused other) rest rest' (inr p) (inr q) = (ap Refused (p.1 ∙ sym q.1), λ e. absurd (cc))
 
 no_head_in_none : (bytes : List ℕ) (n : ℕ) → head_len bytes ≡ Some n → bytes ≡ [] → ⊥
 no_head_in_none bytes n h e =
@@ -103,23 +103,23 @@ request_long bytes form body rest p =
     let parts = ap length p.parts in
     omega arith
 
-pub Begins-or-ends : (bytes : List ℕ) (item : Item) (tail : Tail) (rest : List ℕ) → Begins bytes item rest → EndsIn bytes tail → ⊥
-Begins-or-ends bytes (Requested form body) AtStart rest p e = no_head_in_none bytes p.count p.head.ends e
-Begins-or-ends bytes (Requested form body) Closing rest p e = e
-Begins-or-ends bytes (Requested form body) InHead rest p e = no_count (head_len bytes) p.count e.«open» p.head.ends
-Begins-or-ends bytes (Requested form body) (InBody other) rest p e =
+pub BeginsWith-or-ends : (bytes : List ℕ) (item : Item) (tail : Tail) (rest : List ℕ) → BeginsWith bytes item rest → EndsIn bytes tail → ⊥
+BeginsWith-or-ends bytes (Requested form body) AtStart rest p e = no_head_in_none bytes p.count p.head.ends e
+BeginsWith-or-ends bytes (Requested form body) Closing rest p e = e
+BeginsWith-or-ends bytes (Requested form body) InHead rest p e = no_count (head_len bytes) p.count e.«open» p.head.ends
+BeginsWith-or-ends bytes (Requested form body) (InBody other) rest p e =
     let same = same_head bytes p.count e.count form other p.head e.head in
     let long = request_long bytes form body rest p in
     let short : length (drop p.count bytes) < other.body_len = subst (λ k. length (drop k bytes) < other.body_len) (sym same.0) e.short in
     let len = ap (λ (f : Form). f.body_len) same.1 in
     omega arith
-Begins-or-ends bytes (Refused denial) AtStart rest (inl p) e = no_head_in_none bytes p.count p.ends e
-Begins-or-ends bytes (Refused denial) AtStart rest (inr p) e = let none = ap length e in let long = p.0.long in omega arith
-Begins-or-ends bytes (Refused denial) Closing rest p e = e
-Begins-or-ends bytes (Refused denial) InHead rest (inl p) e = no_count (head_len bytes) p.count e.«open» p.ends
-Begins-or-ends bytes (Refused denial) InHead rest (inr p) e = let long = p.0.long in let short = e.short in omega arith
-Begins-or-ends bytes (Refused denial) (InBody form) rest (inl p) e = head_or_refused bytes e.count form denial e.head p
-Begins-or-ends bytes (Refused denial) (InBody form) rest (inr p) e = no_count (head_len bytes) e.count p.0.«open» e.head.ends
+BeginsWith-or-ends bytes (Refused denial) AtStart rest (inl p) e = no_head_in_none bytes p.count p.ends e
+BeginsWith-or-ends bytes (Refused denial) AtStart rest (inr p) e = let none = ap length e in let long = p.0.long in omega arith
+BeginsWith-or-ends bytes (Refused denial) Closing rest p e = e
+BeginsWith-or-ends bytes (Refused denial) InHead rest (inl p) e = no_count (head_len bytes) p.count e.«open» p.ends
+BeginsWith-or-ends bytes (Refused denial) InHead rest (inr p) e = let long = p.0.long in let short = e.short in omega arith
+BeginsWith-or-ends bytes (Refused denial) (InBody form) rest (inl p) e = head_or_refused bytes e.count form denial e.head p
+BeginsWith-or-ends bytes (Refused denial) (InBody form) rest (inr p) e = no_count (head_len bytes) e.count p.0.«open» e.head.ends
 
 ends_one : (bytes : List ℕ) (tail other : Tail) → EndsIn bytes tail → EndsIn bytes other → tail ≡ other
 ends_one bytes AtStart AtStart p q = refl
@@ -137,24 +137,24 @@ ends_one bytes (InBody form) InHead p q = absurd (no_count (head_len bytes) p.co
 ends_one bytes (InBody form) (InBody other) p q = ap InBody (same_head bytes p.count q.count form other p.head q.head).1
 
 goes_one : (closes : Bool) (items others : List Item) (tail other : Tail) (P Q : Type 0) → (closes ≡ false → P → Q → (items ≡ others) × (tail ≡ other))
-    → Goes-on closes items tail P → Goes-on closes others other Q → (items ≡ others) × (tail ≡ other)
+    → EndsOrContinues closes items tail P → EndsOrContinues closes others other Q → (items ≡ others) × (tail ≡ other)
 goes_one true items others tail other P Q f p q = (p.0 ∙ sym q.0, p.1 ∙ sym q.1)
 goes_one false items others tail other P Q f p q = f refl p q
 
 -- a stream is read in one way
 pub reads_one : (bytes : List ℕ) (items others : List Item) (tail other : Tail) → Reads bytes items tail → Reads bytes others other → (items ≡ others) × (tail ≡ other)
 reads_one bytes [] [] tail other p q = (refl, ends_one bytes tail other p q)
-reads_one bytes [] (item ∷ others) tail other p q = absurd (Begins-or-ends bytes item tail q.0 q.1 p)
-reads_one bytes (item ∷ items) [] tail other p q = absurd (Begins-or-ends bytes item other p.0 p.1 q)
+reads_one bytes [] (item ∷ others) tail other p q = absurd (BeginsWith-or-ends bytes item tail q.0 q.1 p)
+reads_one bytes (item ∷ items) [] tail other p q = absurd (BeginsWith-or-ends bytes item other p.0 p.1 q)
 reads_one bytes (item ∷ items) (item' ∷ others) tail other p q =
-    let same = Begins-one bytes item item' p.0 q.0 p.1 q.1 in
-    let goes : Goes-on (item_closes item) others other (Reads q.0 others other) =
-    subst (λ i. Goes-on (item_closes i) others other (Reads q.0 others other)) (sym same.0) q.2 in
+    let same = BeginsWith-one bytes item item' p.0 q.0 p.1 q.1 in
+    let goes : EndsOrContinues (item_closes item) others other (Reads q.0 others other) =
+    subst (λ i. EndsOrContinues (item_closes i) others other (Reads q.0 others other)) (sym same.0) q.2 in
     let rest = goes_one (item_closes item) items others tail other (Reads p.0 items tail) (Reads q.0 others other)
     (λ stays r s. reads_one p.0 items others tail other r (subst (λ l. Reads l others other) (sym (same.1 stays)) s)) p.2 goes in
     (ap (λ i. i ∷ items) same.0 ∙ ap (λ l. item' ∷ l) rest.0, rest.1)
 
--- ---- more comes
+-- ---- more bytes come
 
 pub HasHead-more : (bytes more : List ℕ) (n : ℕ) (form : Form) → HasHead bytes n form → HasHead (bytes ++ more) n form
 HasHead-more bytes more n form p =
@@ -171,16 +171,16 @@ refused_more bytes more denial p =
       refused = subst (λ l. Refuses l denial) (sym (take-append-le p.count bytes more within)) p.refused;
     }
 
-pub Begins-more : (bytes more : List ℕ) (item : Item) (rest : List ℕ) → Begins bytes item rest → Begins (bytes ++ more) item (rest ++ more)
-Begins-more bytes more (Requested form body) rest p =
+pub BeginsWith-more : (bytes more : List ℕ) (item : Item) (rest : List ℕ) → BeginsWith bytes item rest → BeginsWith (bytes ++ more) item (rest ++ more)
+BeginsWith-more bytes more (Requested form body) rest p =
     let within = (head_len_bound bytes p.count p.head.ends).1 in record {
       count = p.count;
       head = HasHead-more bytes more p.count form p.head;
       whole = p.whole;
       parts = drop-append-le p.count bytes more within ∙ ap (λ l. l ++ more) p.parts ∙ append_assoc body rest more;
     }
-Begins-more bytes more (Refused denial) rest (inl p) = inl (refused_more bytes more denial p)
-Begins-more bytes more (Refused denial) rest (inr p) =
+BeginsWith-more bytes more (Refused denial) rest (inl p) = inl (refused_more bytes more denial p)
+BeginsWith-more bytes more (Refused denial) rest (inr p) =
     let size = length-append bytes more in
     let long = p.0.long in
     inr (record { «open» = head_len_long bytes more (omega arith) ∙ p.0.«open»; long = omega arith }, p.1)

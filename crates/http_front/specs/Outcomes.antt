@@ -1,27 +1,27 @@
--- The faults of which a clause says something.
+-- The faults for which a clause holds, and kinds of faults.
 use Rattle.std.specs.Prelude.{Result, Ok, Err}
 use Rattle.http_front.specs.declared.end.FrontFault.{FrontFault}
 use Rattle.http_front.specs.declared.end.FrontFault.TheVariants.{Read, Write, Turns, NoMemory}
 
--- it holds unless the writer failed: after that nothing is known of what the writer holds
-abbrev pub Told : {T : Type 0} → Result T FrontFault → Type 0 → Type 0
-Told (Ok x) P = P
-Told (Err Read) P = P
-Told (Err Turns) P = P
-Told (Err Write) P = Unit {0}
-Told (Err NoMemory) P = P
+-- the fact holds unless the writer failed: after a failed write nothing is known about what the writer holds
+abbrev pub UnlessWriteFailed : {T : Type 0} → Result T FrontFault → Type 0 → Type 0
+UnlessWriteFailed (Ok x) P = P
+UnlessWriteFailed (Err Read) P = P
+UnlessWriteFailed (Err Turns) P = P
+UnlessWriteFailed (Err Write) P = Unit {0}
+UnlessWriteFailed (Err NoMemory) P = P
 
--- it holds unless the writer failed or memory ran out
-abbrev pub Served : {T : Type 0} → Result T FrontFault → Type 0 → Type 0
-Served (Ok x) P = P
-Served (Err Read) P = P
-Served (Err Turns) P = P
-Served (Err Write) P = Unit {0}
-Served (Err NoMemory) P = Unit {0}
+-- the fact holds unless the writer failed or memory ran out
+abbrev pub UnlessWriteOrMemoryFailed : {T : Type 0} → Result T FrontFault → Type 0 → Type 0
+UnlessWriteOrMemoryFailed (Ok x) P = P
+UnlessWriteOrMemoryFailed (Err Read) P = P
+UnlessWriteOrMemoryFailed (Err Turns) P = P
+UnlessWriteOrMemoryFailed (Err Write) P = Unit {0}
+UnlessWriteOrMemoryFailed (Err NoMemory) P = Unit {0}
 
--- the writer failed, or memory ran out
-abbrev pub IsLate : FrontFault → Type 0
-IsLate Read = ⊥
-IsLate Turns = ⊥
-IsLate Write = Unit {0}
-IsLate NoMemory = Unit {0}
+-- the fault is that the writer failed or that memory ran out
+abbrev pub IsWriteOrMemoryFault : FrontFault → Type 0
+IsWriteOrMemoryFault Read = ⊥
+IsWriteOrMemoryFault Turns = ⊥
+IsWriteOrMemoryFault Write = Unit {0}
+IsWriteOrMemoryFault NoMemory = Unit {0}

@@ -1,4 +1,4 @@
--- What a service over one account's rows holds and answers (Calder et al., SOSP 2011, section 5; Blob service REST reference,
+-- What a service over one account's rows holds, and what it answers (Calder et al., SOSP 2011, section 5; Blob service REST reference,
 -- 2012-02-12, the page of each operation).
 use Rattle.std.specs.Prelude.{◌≡◌, ◌⊎◌, ℕ, List, true, Option, Some, None, codes, refl}
 use Rattle.std.specs.Coded.{Coded, code_by, coded_ℕ, coded×}
@@ -19,7 +19,7 @@ use Rattle.range_rows.specs.declared.answer.Span.{Span}
 use Rattle.range_rows.specs.BlobRows.{rows_code}
 use Rattle.range_rows.specs.ObjectReplies.{span_bytes}
 use Rattle.range_rows.specs.ObjectRules.{object_refusal}
-use Rattle.range_rows.specs.Opening.{one_part, opening}
+use Rattle.range_rows.specs.Opening.{one_part, container_just_made}
 use Rattle.stamp_model.specs.Effects.{effect, effect_as}
 use Rattle.stamp_model.specs.Refusals.{acl_of, refusal, unserved_refusal}
 use Rattle.stamp_model.specs.Responses.{reply}
@@ -29,7 +29,7 @@ pub record Held : Type 0 where
   pub keys : Keys
   pub world : World (List ℕ)
 
--- an account's keys, and the containers as rows hold them: their content in pieces
+-- an account's keys, and the containers as rows hold them, with content in pieces
 pub record HeldRows : Type 0 where
   pub keys : Keys
   pub rows : World (List Piece)
@@ -48,27 +48,27 @@ rows_held_code = code_by (Keys × World (List Piece)) (coded× keys_code rows_co
 abbrev pub AreClosed : World (List Piece) → Type 0
 AreClosed w = (k : Key) → (acl_of (part_at w k) ≡ None) ⊎ (acl_of (part_at w k) ≡ Some closed_acl)
 
--- each content is held in memory, and none is a place in a stream
+-- each content is held in memory, and no content is a place in a stream
 abbrev pub AreHeld : World (List Piece) → Type 0
 AreHeld w = EachWorldContent (λ ps. is_held ps ≡ true) w
 
 -- what rows hold at first: the container `pics` of the keys' account, made at the moment
 abbrev pub rows_first : Keys → ℕ → HeldRows
-rows_first keys t = record { keys = keys; rows = one_part (record { account = keys.account; container = codes "pics" }) (opening t) }
+rows_first keys t = record { keys = keys; rows = one_part (record { account = keys.account; container = codes "pics" }) (container_just_made t) }
 
 -- what is held at first, in bytes
 abbrev pub held_first : Keys → ℕ → Held
-held_first keys t = record { keys = keys; world = one_part (record { account = keys.account; container = codes "pics" }) (opening t) }
+held_first keys t = record { keys = keys; world = one_part (record { account = keys.account; container = codes "pics" }) (container_just_made t) }
 
 -- what rows hold, in bytes
 abbrev pub held_of : HeldRows → Held
 held_of h = record { keys = h.keys; world = world_value held h.rows }
 
--- the refusal of a request that is permitted, by the sizes of what the rows hold
+-- the refusal of a request that is permitted, from the sizes of what the rows hold
 abbrev pub object_or_unserved : Part (List Piece) → Asked → Option Refusal
 object_or_unserved p q = option_or (object_refusal (part_value pieces_len p) q) (unserved_refusal q.ask.op)
 
--- the refusal of a request, by the sizes of what the rows hold
+-- the refusal of a request, from the sizes of what the rows hold
 abbrev pub row_refusal : HeldRows → Asked → ℕ → Option Refusal
 row_refusal h q t = refusal (Some h.keys) (part_value pieces_len (part_at h.rows q.ask.key)) q t
 
@@ -89,5 +89,5 @@ abbrev pub held_after : Held → Asked → ℕ → Held
 held_after h q t = record { keys = h.keys; world = effect (Some h.keys) h.world q t }
 
 -- a request is answered as the model says, and changes what the model says
-abbrev pub Held-answers : Held → Asked → ℕ → Reply → Held → Type 0
-Held-answers h q t r h' = (r ≡ held_reply h q t) × (h' ≡ held_after h q t)
+abbrev pub AnswersAsModel : Held → Asked → ℕ → Reply → Held → Type 0
+AnswersAsModel h q t r h' = (r ≡ held_reply h q t) × (h' ≡ held_after h q t)

@@ -1,7 +1,7 @@
 //! Bytes that came and are not taken yet.
-ghost use Rattle.std.specs.Prelude.{◌≡◌, ◌≢◌, ◌↔◌, ◌+◌, ◌-◌, ◌*◌, ◌≤◌, [], IsTrue, Ok, Err, IfOk, OnOk, IfErr, OnErr, IsOkUnless, length, take, drop};
+ghost use Rattle.std.specs.Prelude.{◌≡◌, ◌≢◌, ◌↔◌, ◌+◌, ◌-◌, ◌≤◌, [], IsTrue, Ok, Err, IfOk, OnOk, IfErr, OnErr, IsOkUnless, length, take, drop};
 ghost use Rattle.std.specs.Io.KnownBytes.{Consumes, IsAtEnd};
-ghost use Rattle.http_front.specs.Inputs.{Gives};
+ghost use Rattle.http_front.specs.Inputs.{ReadsSoMany, read_size};
 ghost use Rattle.http_front.specs.declared.end.FrontFault.{FrontFault};
 
 use crate::end::FrontFault;
@@ -10,13 +10,13 @@ use std::io::Read;
 use std::marker::Model;
 
 /// The most bytes that one read asks for.
-const READ_SIZE: usize = 8192;
+pub(crate) const READ_SIZE: usize = 8192;
 
-/// Bytes in the order in which they came, seen as the list of those that are not taken yet.
+/// Bytes in the order in which they came. Contracts see them as the list of the bytes that are not taken yet.
 ///
 /// They are read straight into the room of the buffer, which is kept from one read to the next and is filled with zeros
-/// only once. To take bytes moves none of them: only a place advances. Before more bytes come, those that are left are moved
-/// to the front if at least as many bytes of the room are before them. So no more bytes are moved than were taken.
+/// only once. If bytes are taken, no byte is moved: only an index advances. Before more bytes come, the bytes that are left are
+/// moved to the front if at least as many bytes of the room are before them. So no more bytes are moved than were taken.
 #[derive(Drop)]
 pub(crate) struct Buffer {
     room: Vec<u8>,
@@ -34,11 +34,13 @@ impl Model for Buffer {
     ghost invariant = { λ b. (b.start ≤ b.end) × (b.end ≤ length b.room.items) };
 }
 
-// Moves the bytes from `start` up to `end` to the front, if at least as many are before them, and says where they begin then.
-fn settle(room: &mut Vec<u8>, start: usize, end: usize) -> usize
+// Moves the bytes from `start` up to `end` to the front if at least as many bytes are before them, and returns the index at
+// which the bytes then begin.
+fn move_to_front(room: &mut Vec<u8>, start: usize, end: usize) -> usize
     requires ordered { start ≤ end }
     requires within { end ≤ length room.old.items }
-    ensures kept { take (end - start) (drop result room.new.items) ≡ take (end - start) (drop start room.old.items) }
+    ensures kept { take (end - start) (drop result room.new.items)
+        ≡ take (end - start) (drop start room.old.items) }
     ensures within { result + (end - start) ≤ length room.new.items }
 {
     if start < end - start {
@@ -59,13 +61,14 @@ fn grow(room: &mut Vec<u8>, len: usize) -> Result<(), AllocError>
     Ok(())
 }
 
-// One read into the room from a place on.
+// One read into the room from an index on.
 fn read_at<R: Read>(reader: &mut R, room: &mut Vec<u8>, at: usize) -> Result<usize, FrontFault>
-    requires { at + 8192 ≤ length room.old.items }
+    requires { at + read_size ≤ length room.old.items }
     ensures kept { take at room.new.items ≡ take at room.old.items }
     ensures len { length room.new.items ≡ length room.old.items }
-    ensures most { IfOk result (λ n. n ≤ 8192) }
-    ensures read { IfOk result (λ n. Consumes (R.remaining reader.old) (R.remaining reader.new) (take n (drop at room.new.items))) }
+    ensures most { IfOk result (λ n. n ≤ read_size) }
+    ensures read { IfOk result (λ n. Consumes (R.remaining reader.old) (R.remaining reader.new)
+        (take n (drop at room.new.items))) }
     ensures failed { OnErr result (Consumes (R.remaining reader.old) (R.remaining reader.new) []) }
     ensures end { result ≡ Ok 0 → IsAtEnd (R.remaining reader.new) }
     ensures fault { IsOkUnless result FrontFault.Read }
@@ -101,7 +104,7 @@ impl Buffer {
         self.end - self.start
     }
 
-    /// Whether there is no byte.
+    /// Whether the list has no byte.
     pub(crate) fn is_empty(&self) -> bool
         ensures { IsTrue result ↔ (self.now ≡ []) }
     {
@@ -111,17 +114,22 @@ impl Buffer {
     /// Reads at most 8,192 bytes and puts them after the bytes. Says how many came.
     ///
     /// `FrontFault::NoMemory` if memory runs out before the read, and `FrontFault::Read` if the reader fails. The bytes are
-    /// then as they were.
+    /// as they were after either fault.
     #[tactic(auto, using(crate::proofs::BufferLemmas::range_kept, crate::proofs::BufferLemmas::none_came))]
     pub(crate) fn read_from<R: Read>(&mut self, reader: &mut R) -> Result<usize, FrontFault>
-        ensures gives { IfOk result (Gives (R.remaining reader.old) (R.remaining reader.new) self.old self.new) }
-        ensures len { IfOk result (λ n. (n ≤ 8192) × (length self.new ≡ length self.old + n)) }
-        ensures end { result ≡ Ok 0 → IsAtEnd (R.remaining reader.new) × (self.new ≡ self.old) }
-        ensures failed { OnErr result (Consumes (R.remaining reader.old) (R.remaining reader.new) [] × (self.new ≡ self.old)) }
-        ensures fault { IfErr result (λ fault. (fault ≢ FrontFault.Write) × (fault ≢ FrontFault.Turns)) }
+        ensures read { IfOk result (ReadsSoMany (R.remaining reader.old) (R.remaining reader.new)
+            self.old self.new) }
+        ensures len { IfOk result (λ n. (n ≤ read_size)
+            × (length self.new ≡ length self.old + n)) }
+        ensures end { result ≡ Ok 0 →
+            IsAtEnd (R.remaining reader.new) × (self.new ≡ self.old) }
+        ensures failed { OnErr result (Consumes (R.remaining reader.old) (R.remaining reader.new) []
+            × (self.new ≡ self.old)) }
+        ensures fault { IfErr result (λ fault. (fault ≢ FrontFault.Write)
+            × (fault ≢ FrontFault.Turns)) }
     {
         let left = self.end - self.start;
-        self.start = settle(&mut self.room, self.start, self.end);
+        self.start = move_to_front(&mut self.room, self.start, self.end);
         self.end = self.start + left;
         if grow(&mut self.room, self.end + READ_SIZE).is_err() {
             return Err(FrontFault::NoMemory);

@@ -2,9 +2,10 @@
 ghost use Rattle.std.specs.Prelude.{◌≡◌, [], Ok, Err, IfOk, OnOk, OnErr, IfErr, IfSome};
 ghost use Rattle.std.specs.Io.KnownBytes.{Appends};
 ghost use Rattle.reply_form.specs.FixedReplies.{out_of_memory_bytes};
-ghost use Rattle.http_front.specs.Outcomes.{Served, IsLate};
-ghost use Rattle.http_front.specs.Conversations.{Conversed, Converses, Starved};
-ghost use Rattle.http_front.specs.Answers.{Abandons, Answers, Gives-up, Settles, Turns-away};
+ghost use Rattle.http_front.specs.Outcomes.{UnlessWriteOrMemoryFailed, IsWriteOrMemoryFault};
+ghost use Rattle.http_front.specs.Conversations.{AnswersReceived, AnswersInput, EndsOutOfMemory};
+ghost use Rattle.http_front.specs.Answers.{AnswersCall, AnswersItem, LeavesItemUnanswered};
+ghost use Rattle.http_front.specs.Answers.{LeavesRequestUnanswered, WritesRefusal};
 ghost use Rattle.reply_form.specs.ReplyBytes.{reply_bytes};
 ghost use Rattle.http_front.specs.declared.end.End.{End};
 ghost use Rattle.http_front.specs.declared.end.FrontFault.{FrontFault};
@@ -21,10 +22,10 @@ use stamp_types::{Moment, Refusal, Reply, Verb};
 use std::alloc::Global;
 use std::io::{Read, Write};
 
-/// The most bytes of a body that goes out with its head, in one write.
+/// The most bytes of a body that is written with its head, in one write.
 const SMALL_BODY: usize = 4096;
 
-// Writes the head of a reply, and then each share of its body, none of which is copied.
+// Writes the head of a reply, and then the shares of its body if the body is sent. No share is copied.
 #[tactic(auto, unfolding(reply_form::specs::ReplyBytes::reply_bytes))]
 fn send_in_shares<W: Write>(
     alloc: Global,
@@ -34,9 +35,10 @@ fn send_in_shares<W: Write>(
     verb: Option<Verb>,
     close: bool,
 ) -> Result<(), FrontFault>
-    ensures sent { OnOk result (Appends (W.contents writer.old) (W.contents writer.new) (reply_bytes reply.now moment verb close)) }
+    ensures sent { OnOk result (Appends (W.contents writer.old) (W.contents writer.new)
+        (reply_bytes reply.now moment verb close)) }
     ensures starved { result ≡ Err FrontFault.NoMemory → writer.new ≡ writer.old }
-    ensures late { IfErr result IsLate }
+    ensures fault { IfErr result IsWriteOrMemoryFault }
 {
     let head = write_head(alloc, reply, moment, close)?;
     send(writer, &head)?;
@@ -46,7 +48,7 @@ fn send_in_shares<W: Write>(
     reply.body.write_to(writer).map_err(|_| FrontFault::Write)
 }
 
-// Writes a reply, a small one in one write.
+// Writes a reply. A small reply is written in one write.
 fn send_reply<W: Write>(
     alloc: Global,
     writer: &mut W,
@@ -55,9 +57,10 @@ fn send_reply<W: Write>(
     verb: Option<Verb>,
     close: bool,
 ) -> Result<(), FrontFault>
-    ensures sent { OnOk result (Appends (W.contents writer.old) (W.contents writer.new) (reply_bytes reply.now moment verb close)) }
+    ensures sent { OnOk result (Appends (W.contents writer.old) (W.contents writer.new)
+        (reply_bytes reply.now moment verb close)) }
     ensures starved { result ≡ Err FrontFault.NoMemory → writer.new ≡ writer.old }
-    ensures late { IfErr result IsLate }
+    ensures fault { IfErr result IsWriteOrMemoryFault }
 {
     if reply.body.len() > SMALL_BODY {
         return send_in_shares(alloc, writer, reply, moment, verb, close);
@@ -74,10 +77,13 @@ fn answer_call<W: Write, S: Service>(
     call: Call,
     moment: Moment,
 ) -> Result<(), FrontFault>
-    ensures answered { OnOk result (Answers S.answers (S.world service.old) (S.world service.new) (W.contents writer.old) (W.contents writer.new) call moment) }
-    ensures left { OnErr result (Gives-up S.answers S.starves (S.world service.old) (S.world service.new) call.request moment) }
+    ensures answered { OnOk result (AnswersCall S.answers
+        (S.world service.old) (S.world service.new)
+        (W.contents writer.old) (W.contents writer.new) call moment) }
+    ensures left { OnErr result (LeavesRequestUnanswered S.answers S.starves
+        (S.world service.old) (S.world service.new) call.request moment) }
     ensures starved { result ≡ Err FrontFault.NoMemory → writer.new ≡ writer.old }
-    ensures late { IfErr result IsLate }
+    ensures fault { IfErr result IsWriteOrMemoryFault }
 {
     let Call {
         request,
@@ -95,9 +101,10 @@ fn answer_denial<W: Write>(
     denial: Denial,
     moment: Moment,
 ) -> Result<(), FrontFault>
-    ensures answered { OnOk result (Turns-away (W.contents writer.old) (W.contents writer.new) denial moment) }
+    ensures answered { OnOk result (WritesRefusal
+        (W.contents writer.old) (W.contents writer.new) denial moment) }
     ensures starved { result ≡ Err FrontFault.NoMemory → writer.new ≡ writer.old }
-    ensures late { IfErr result IsLate }
+    ensures fault { IfErr result IsWriteOrMemoryFault }
 {
     let refusal = Refusal {
         rule: denial.rule,
@@ -115,11 +122,13 @@ fn answer_item<W: Write, C: Clock, S: Service>(
     service: &mut S,
     found: Found,
 ) -> Result<bool, FrontFault>
-    ensures answered { IfOk result (λ closes. Settles C.gives S.answers clock.old clock.new (S.world service.old) (S.world service.new)
+    ensures answered { IfOk result (λ closes. AnswersItem C.gives S.answers
+        clock.old clock.new (S.world service.old) (S.world service.new)
         (W.contents writer.old) (W.contents writer.new) found closes) }
-    ensures left { OnErr result (Abandons C.gives S.answers S.starves clock.old clock.new (S.world service.old) (S.world service.new) found) }
+    ensures left { OnErr result (LeavesItemUnanswered C.gives S.answers S.starves
+        clock.old clock.new (S.world service.old) (S.world service.new) found) }
     ensures starved { result ≡ Err FrontFault.NoMemory → writer.new ≡ writer.old }
-    ensures late { IfErr result IsLate }
+    ensures fault { IfErr result IsWriteOrMemoryFault }
 {
     let moment = clock.now();
     match found {
@@ -144,12 +153,16 @@ fn converse<R: Read, W: Write, C: Clock, S: Service>(
     service: &mut S,
     turns: u64,
 ) -> Result<End, FrontFault>
-    ensures conversed { Served result (Conversed C.gives S.answers clock.old clock.new (S.world service.old) (S.world service.new)
-        (R.remaining reader.old) (R.remaining reader.new) (W.contents writer.old) (W.contents writer.new) result turns) }
-    ensures whole { OnOk result (IfSome (R.remaining reader.old) (Converses C.gives S.answers clock.old clock.new
-        (S.world service.old) (S.world service.new) (W.contents writer.old) (W.contents writer.new) result turns)) }
-    ensures starved { result ≡ Err FrontFault.NoMemory → Starved C.gives S.answers S.starves clock.old clock.new
-        (S.world service.old) (S.world service.new) (R.remaining reader.old) (R.remaining reader.new)
+    ensures conversed { UnlessWriteOrMemoryFailed result (AnswersReceived C.gives S.answers
+        clock.old clock.new (S.world service.old) (S.world service.new)
+        (R.remaining reader.old) (R.remaining reader.new)
+        (W.contents writer.old) (W.contents writer.new) result turns) }
+    ensures whole { OnOk result (IfSome (R.remaining reader.old) (AnswersInput C.gives S.answers
+        clock.old clock.new (S.world service.old) (S.world service.new)
+        (W.contents writer.old) (W.contents writer.new) result turns)) }
+    ensures starved { result ≡ Err FrontFault.NoMemory → EndsOutOfMemory C.gives S.answers S.starves
+        clock.old clock.new (S.world service.old) (S.world service.new)
+        (R.remaining reader.old) (R.remaining reader.new)
         (W.contents writer.old) (W.contents writer.new) [] }
 {
     let mut buffer = Buffer::new(alloc);
@@ -169,8 +182,9 @@ fn converse<R: Read, W: Write, C: Clock, S: Service>(
 /// Serves one connection: reads, answers and writes until it ends. One read asks for at most 8,192 bytes. At most `turns`
 /// reads are made, and the read that finds the end is one of them.
 ///
-/// The clock is read once for each item, when the item is whole. If memory runs out for a head, an answer or a reply, nothing
-/// of that reply is written but the fixed bytes that say so, and the run ends with `NoMemory`.
+/// The clock is read once for each item, after the item is whole. If memory runs out, no part of the answer to the item is
+/// written: the fixed bytes that say that memory ran out are written in its place, and the run ends with `NoMemory`. If those
+/// bytes cannot be written, it ends with `Write`. The interim reply of the item may have been written before.
 pub fn run<R: Read, W: Write, C: Clock, S: Service>(
     alloc: Global,
     reader: &mut R,
@@ -180,15 +194,19 @@ pub fn run<R: Read, W: Write, C: Clock, S: Service>(
     turns: u64,
 ) -> Result<End, FrontFault>
     // What is written is the output of the service's replies to the items of the bytes that were read, each at its moment.
-    ensures conversed { Served result (Conversed C.gives S.answers clock.old clock.new (S.world service.old) (S.world service.new)
-        (R.remaining reader.old) (R.remaining reader.new) (W.contents writer.old) (W.contents writer.new) result turns) }
-    // It is the output for the whole input, however reads cut that input.
-    ensures whole { OnOk result (IfSome (R.remaining reader.old) (Converses C.gives S.answers clock.old clock.new
-        (S.world service.old) (S.world service.new) (W.contents writer.old) (W.contents writer.new) result turns)) }
-    // If memory ran out, the items before that are answered in full, and the last bytes say only that memory ran out. Clock and
-    // service are as the last of those items left them, or as the item whose answer was not written left them.
-    ensures starved { result ≡ Err FrontFault.NoMemory → Starved C.gives S.answers S.starves clock.old clock.new
-        (S.world service.old) (S.world service.new) (R.remaining reader.old) (R.remaining reader.new)
+    ensures conversed { UnlessWriteOrMemoryFailed result (AnswersReceived C.gives S.answers
+        clock.old clock.new (S.world service.old) (S.world service.new)
+        (R.remaining reader.old) (R.remaining reader.new)
+        (W.contents writer.old) (W.contents writer.new) result turns) }
+    // What is written is the output for the whole input, however the input was cut into reads.
+    ensures whole { OnOk result (IfSome (R.remaining reader.old) (AnswersInput C.gives S.answers
+        clock.old clock.new (S.world service.old) (S.world service.new)
+        (W.contents writer.old) (W.contents writer.new) result turns)) }
+    // If memory ran out, the items before are answered in full, and the last bytes say only that memory ran out. The clock and
+    // the service are as the last of these items left them, or as the item whose answer was not written left them.
+    ensures starved { result ≡ Err FrontFault.NoMemory → EndsOutOfMemory C.gives S.answers S.starves
+        clock.old clock.new (S.world service.old) (S.world service.new)
+        (R.remaining reader.old) (R.remaining reader.new)
         (W.contents writer.old) (W.contents writer.new) out_of_memory_bytes }
 {
     let ended = converse(alloc, reader, writer, clock, service, turns);

@@ -1,4 +1,4 @@
-//! Content that goes out with a reply.
+//! The content that a reply sends.
 ghost use Rattle.std.specs.Prelude.{◌≡◌, ◌+◌, ◌^◌, ◌<◌, ◌++◌, IfOk, IsTrue, OnOk, length};
 ghost use Rattle.std.specs.List.{list_all};
 ghost use Rattle.range_rows.specs.ObjectReplies.{is_within, with_content};
@@ -8,7 +8,8 @@ use range_rows::{Answer, Span};
 use stamp_types::{Piece, Reply, Shares};
 use std::alloc::AllocError;
 
-// Puts the bytes of the spans after those of the body, without a copy. A piece that is a place in a stream holds no bytes.
+// Puts the bytes of the spans after the bytes of the body, and copies no byte. A piece that is a place in a stream has no
+// bytes in memory.
 fn push_spans(body: &mut Shares, spans: &[Span]) -> Result<(), AllocError>
     requires within { IsTrue (list_all is_within spans.now) }
     requires short { length (body.old ++ bytes_held spans.now) < 2 ^ 64 }
@@ -30,7 +31,8 @@ fn push_spans(body: &mut Shares, spans: &[Span]) -> Result<(), AllocError>
 pub(crate) fn reply_with_content(answer: Answer) -> Result<Reply, AllocError>
     requires within { IsTrue (list_all is_within answer.spans) }
     requires short { length (answer.frame.body ++ bytes_held answer.spans) < 2 ^ 64 }
-    ensures { IfOk result (λ reply. reply ≡ with_content answer.frame (bytes_held answer.spans)) }
+    ensures { IfOk result (λ reply.
+        reply ≡ with_content answer.frame (bytes_held answer.spans)) }
 {
     let Answer { frame, spans } = answer;
     let mut reply = frame;

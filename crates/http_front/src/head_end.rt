@@ -1,127 +1,129 @@
 //! Where the head of a request ends.
 ghost use Rattle.std.specs.Prelude.{◌≡◌, ◌≢◌, ◌∷◌, ◌++◌, None, Some, All, MatchOption};
-ghost use Rattle.http_front.specs.HeadEnds.{step, sought, head_len, IsSearched};
+ghost use Rattle.http_front.specs.HeadEnds.{head_end_from, head_len, next_state, IsSearched};
+ghost use Rattle.stamp_values.specs.Ascii.{line_feed};
 
 use memchr::memchr;
 use request_form::HEAD_LIMIT;
 
-/// A place in a head.
+/// How the bytes of a head end that were searched so far.
 #[derive(Clone, Copy, Debug, PartialEq, Eq)]
-pub(crate) enum Place {
+pub(crate) enum LineState {
     /// At the start of a line, and all lines so far are empty.
     Opening,
-    /// After a CR at such a place.
+    /// After a CR at the start of a line, and all lines so far are empty.
     OpeningReturn,
     /// In a line that isn't empty.
     InLine,
     /// At the start of a line, after a line that isn't empty.
     LineStart,
-    /// After a CR at such a place.
+    /// After a CR at the start of a line, after a line that isn't empty.
     LineReturn,
 }
 
-/// What a search of the bytes from a place on finds.
+/// What a search of some bytes finds, if it begins in some state.
 #[derive(Clone, Copy, Debug, PartialEq, Eq)]
-pub(crate) enum Sought {
-    /// The head ends after so many of them.
+pub(crate) enum HeadEnd {
+    /// The head ends after so many of these bytes.
     Found(usize),
-    /// The head does not end in them, and they lead to this place.
-    Open(Place),
+    /// The head does not end in these bytes, and they lead to this state.
+    Open(LineState),
 }
 
 /// How far the search for the end of a head has come, so that no byte is looked at twice.
 #[derive(Clone, Copy, Debug, PartialEq, Eq)]
 pub(crate) struct Search {
     reached: usize,
-    place: Place,
+    state: LineState,
 }
 
-// Where a byte other than LF leads.
-fn after_byte(place: Place, b: u8) -> Place
-    requires { b ≢ 10 }
-    ensures { step place b ≡ Some result }
+// The state after a byte other than LF.
+fn after_byte(state: LineState, b: u8) -> LineState
+    requires { b ≢ line_feed }
+    ensures { next_state state b ≡ Some result }
 {
-    match (place, b) {
-        (Place::Opening, b'\r') => Place::OpeningReturn,
-        (Place::LineStart, b'\r') => Place::LineReturn,
-        (_, _) => Place::InLine,
+    match (state, b) {
+        (LineState::Opening, b'\r') => LineState::OpeningReturn,
+        (LineState::LineStart, b'\r') => LineState::LineReturn,
+        (_, _) => LineState::InLine,
     }
 }
 
-// Where the LF of a line leads, or `None` if the head ends with it.
-fn after_feed(place: Place) -> Option<Place>
-    ensures { result ≡ step place 10 }
+// The state after the LF of a line, or `None` if the head ends with it.
+fn after_feed(state: LineState) -> Option<LineState>
+    ensures { result ≡ next_state state line_feed }
 {
-    match place {
-        Place::Opening | Place::OpeningReturn => Some(Place::Opening),
-        Place::InLine => Some(Place::LineStart),
-        Place::LineStart | Place::LineReturn => None,
+    match state {
+        LineState::Opening | LineState::OpeningReturn => Some(LineState::Opening),
+        LineState::InLine => Some(LineState::LineStart),
+        LineState::LineStart | LineState::LineReturn => None,
     }
 }
 
-// Where bytes of one line lead. None of them is its LF.
+// The state after bytes of one line, without its LF.
 #[tactic(auto, using(crate::proofs::LineLemmas::text_none, crate::proofs::LineLemmas::text_one, crate::proofs::LineLemmas::text_more))]
-fn after_text(place: Place, text: &[u8]) -> Place
-    requires { All (λ b. b ≢ 10) text.now }
-    ensures { sought place text.now ≡ Sought.Open result }
+fn after_text(state: LineState, text: &[u8]) -> LineState
+    requires { All (λ b. b ≢ line_feed) text.now }
+    ensures { head_end_from state text.now ≡ HeadEnd.Open result }
 {
     match text {
-        [] => place,
-        [b] => after_byte(place, *b),
-        [..] => Place::InLine,
+        [] => state,
+        [b] => after_byte(state, *b),
+        [..] => LineState::InLine,
     }
 }
 
-// The bytes up to the first LF and those after it, or `None` if there is no LF.
+// The bytes before the first LF and the bytes after it, or `None` if there is no LF.
 fn split_line(bytes: &[u8]) -> Option<(&[u8], &[u8])>
-    ensures { MatchOption result (All (λ b. b ≢ 10) bytes.now)
-        (λ parts. All (λ b. b ≢ 10) parts.0.now × (bytes.now ≡ parts.0.now ++ 10 ∷ parts.1.now)) }
+    ensures { MatchOption result (All (λ b. b ≢ line_feed) bytes.now)
+        (λ parts. All (λ b. b ≢ line_feed) parts.0.now
+        × (bytes.now ≡ parts.0.now ++ line_feed ∷ parts.1.now)) }
 {
     let end = memchr(b'\n', bytes)?;
     Some((&bytes[..end], &bytes[end + 1..]))
 }
 
-/// Looks for the end of the head from a place on, line by line.
+/// Looks for the end of the head in the bytes, line by line, and begins in a state.
 #[tactic(auto, using(crate::proofs::LineLemmas::walk_found, crate::proofs::LineLemmas::walk_on, crate::proofs::LineLemmas::walk_within))]
-pub(crate) fn seek(start: Place, bytes: &[u8]) -> Sought
-    ensures { result ≡ sought start bytes.now }
+pub(crate) fn seek(start: LineState, bytes: &[u8]) -> HeadEnd
+    ensures { result ≡ head_end_from start bytes.now }
 {
-    let mut place = start;
+    let mut state = start;
     let mut left = bytes;
     while let Some((line, rest)) = split_line(left) {
-        match after_feed(after_text(place, line)) {
-            None => return Sought::Found(bytes.len() - rest.len()),
-            Some(next) => place = next,
+        match after_feed(after_text(state, line)) {
+            None => return HeadEnd::Found(bytes.len() - rest.len()),
+            Some(next) => state = next,
         }
         left = rest;
     }
-    Sought::Open(after_text(place, left))
+    HeadEnd::Open(after_text(state, left))
 }
 
 impl Search {
     /// A search that has not begun.
     pub(crate) fn new() -> Self
-        ensures { result ≡ record { reached = 0; place = Place.Opening } }
+        ensures { result ≡ record { reached = 0; state = LineState.Opening } }
     {
         Self {
             reached: 0,
-            place: Place::Opening,
+            state: LineState::Opening,
         }
     }
 
-    /// How many bytes the head has, if it ends in the bytes and isn't too long. Looks only at the bytes that
-    /// were not there before.
+    /// How many bytes the head has, if it ends in the bytes and isn't too long. It looks only at the bytes that came since the
+    /// last search.
     pub(crate) fn look(&mut self, bytes: &[u8]) -> Option<usize>
         requires { IsSearched self.old bytes.now }
         ensures len { result ≡ head_len bytes.now }
         ensures searched { result ≡ None → IsSearched self.new bytes.now }
     {
         let within = bytes.len().min(HEAD_LIMIT);
-        match seek(self.place, &bytes[self.reached..within]) {
-            Sought::Found(n) => Some(self.reached + n),
-            Sought::Open(place) => {
+        match seek(self.state, &bytes[self.reached..within]) {
+            HeadEnd::Found(n) => Some(self.reached + n),
+            HeadEnd::Open(state) => {
                 self.reached = within;
-                self.place = place;
+                self.state = state;
                 None
             }
         }

@@ -1,22 +1,23 @@
 //! Reads one item of a stream at a time.
-ghost use Rattle.std.specs.Prelude.{◌≡◌, ◌≢◌, true, false, None, Some, ℕ, ◌+◌, ◌*◌, ◌<◌, ◌≤◌, [], ◌++◌, Ok, Err, IfOk, OnOk, IfErr, OnErr, IsOkUnless, length, take, drop};
+ghost use Rattle.std.specs.Prelude.{◌≡◌, ◌≢◌, true, false, None, Some, ℕ, ◌+◌, ◌<◌, ◌≤◌, [], ◌++◌, Ok, Err, IfOk, OnOk, IfErr, OnErr, IsOkUnless, length, take, drop};
 ghost use Rattle.std.specs.Io.KnownBytes.{Consumes, Appends, IsAtEnd};
 ghost use Rattle.request_form.specs.HeadForms.{Form, with_body};
-ghost use Rattle.http_front.specs.Inputs.{Fills, Gives, Awaits, Bodies, Joins, Takes};
-ghost use Rattle.http_front.specs.Outcomes.{Told, Served};
+ghost use Rattle.http_front.specs.Inputs.{IsCallOfBody, IsFoundInBuffer, ReadsBody, ReadsItem, ReadsMore};
+ghost use Rattle.http_front.specs.Inputs.{ReadsSoMany, byte_bound, read_size, work_left};
+ghost use Rattle.http_front.specs.Outcomes.{UnlessWriteFailed, UnlessWriteOrMemoryFailed};
 ghost use Rattle.http_front.specs.Streams.{HasHead, interim};
 ghost use Rattle.http_front.specs.declared.end.FrontFault.{FrontFault};
 ghost use Rattle.http_front.specs.declared.input.Awaited.{Awaited};
 ghost use Rattle.http_front.specs.declared.input.Call.{Call};
 ghost use Rattle.http_front.specs.declared.input.Found.{Found};
 
-use crate::buffer::Buffer;
+use crate::buffer::{Buffer, READ_SIZE};
 use crate::end::FrontFault;
 use crate::head_end::Search;
 use crate::output::send;
 use reply_form::interim_reply;
 use request_form::{Denial, HEAD_LIMIT, Head, HeadFault, no_head, read_head};
-use stamp_types::{Gathering, Request, Verb};
+use stamp_types::{GatherFault, Gathering, Request, Verb};
 use std::alloc::{AllocError, Global};
 use std::io::{Read, Write};
 
@@ -24,12 +25,13 @@ use std::io::{Read, Write};
 pub(crate) enum Awaited {
     /// A head of so many bytes is at the front.
     Head(usize),
+    /// More bytes have come than a head may have, and no head has ended.
     TooLong,
-    /// No byte is there, and none will come.
+    /// The buffer has no byte, and no byte will come.
     End,
 }
 
-/// A request, and what its head says of the reply.
+/// A request, and what its head says about the reply.
 #[derive(Drop)]
 pub(crate) struct Call {
     pub(crate) request: Request,
@@ -44,22 +46,14 @@ pub(crate) enum Found {
     Refused(Denial),
 }
 
-// Reads once into the buffer, and says how many bytes came. What was written goes out before the read, since the client may
-// wait for it.
-fn read_more<R: Read, W: Write>(
-    reader: &mut R,
-    writer: &mut W,
-    buffer: &mut Buffer,
-    turns: &mut u64,
-) -> Result<usize, FrontFault>
-    ensures gives { IfOk result (Gives (R.remaining reader.old) (R.remaining reader.new) buffer.old buffer.new) }
-    ensures len { IfOk result (λ n. (n ≤ 8192) × (length buffer.new ≡ length buffer.old + n)) }
-    ensures end { result ≡ Ok 0 → IsAtEnd (R.remaining reader.new) × (buffer.new ≡ buffer.old) }
-    ensures failed { IfErr result (λ _. Told result (Consumes (R.remaining reader.old) (R.remaining reader.new) [])) }
-    ensures refused { OnErr result (buffer.new ≡ buffer.old) }
-    ensures held { Told result (Appends (W.contents writer.old) (W.contents writer.new) []) }
+// Takes a turn. The writer is flushed before the read, since the client may wait for what was written.
+fn take_turn<W: Write>(writer: &mut W, turns: &mut u64) -> Result<(), FrontFault>
+    ensures unwritten { UnlessWriteFailed result
+        (Appends (W.contents writer.old) (W.contents writer.new) []) }
     ensures turn { OnOk result (turns.new + 1 ≡ turns.old) }
     ensures exhausted { result ≡ Err FrontFault.Turns → turns.old ≡ 0 }
+    ensures fault { IfErr result (λ fault.
+        (fault ≢ FrontFault.Read) × (fault ≢ FrontFault.NoMemory)) }
 {
     if *turns == 0 {
         return Err(FrontFault::Turns);
@@ -68,22 +62,51 @@ fn read_more<R: Read, W: Write>(
         return Err(FrontFault::Write);
     }
     *turns -= 1;
+    Ok(())
+}
+
+// Reads once into the buffer, and returns how many bytes came.
+fn read_more<R: Read, W: Write>(
+    reader: &mut R,
+    writer: &mut W,
+    buffer: &mut Buffer,
+    turns: &mut u64,
+) -> Result<usize, FrontFault>
+    ensures read { IfOk result (ReadsSoMany
+        (R.remaining reader.old) (R.remaining reader.new) buffer.old buffer.new) }
+    ensures len { IfOk result (λ n. (n ≤ read_size)
+        × (length buffer.new ≡ length buffer.old + n)) }
+    ensures end { result ≡ Ok 0 →
+        IsAtEnd (R.remaining reader.new) × (buffer.new ≡ buffer.old) }
+    ensures failed { IfErr result (λ _. UnlessWriteFailed result
+        (Consumes (R.remaining reader.old) (R.remaining reader.new) [])) }
+    ensures refused { OnErr result (buffer.new ≡ buffer.old) }
+    ensures unwritten { UnlessWriteFailed result
+        (Appends (W.contents writer.old) (W.contents writer.new) []) }
+    ensures turn { OnOk result (turns.new + 1 ≡ turns.old) }
+    ensures exhausted { result ≡ Err FrontFault.Turns → turns.old ≡ 0 }
+{
+    take_turn(writer, turns)?;
     buffer.read_from(reader)
 }
 
-// One read into the buffer, and whether it gave a byte.
+// Reads once into the buffer, and returns whether a byte came.
 fn fill<R: Read, W: Write>(
     reader: &mut R,
     writer: &mut W,
     buffer: &mut Buffer,
     turns: &mut u64,
 ) -> Result<bool, FrontFault>
-    ensures fills { Told result (Fills result (R.remaining reader.old) (R.remaining reader.new) buffer.old buffer.new) }
-    ensures failed { IfErr result (λ _. Served result (buffer.new ≡ buffer.old)) }
-    ensures end { result ≡ Ok false → IsAtEnd (R.remaining reader.new) × (buffer.new ≡ buffer.old) }
+    ensures read { UnlessWriteFailed result (ReadsMore result
+        (R.remaining reader.old) (R.remaining reader.new) buffer.old buffer.new) }
+    ensures failed { IfErr result (λ _. UnlessWriteOrMemoryFailed result
+        (buffer.new ≡ buffer.old)) }
+    ensures end { result ≡ Ok false →
+        IsAtEnd (R.remaining reader.new) × (buffer.new ≡ buffer.old) }
     ensures grown { result ≡ Ok true → length buffer.old < length buffer.new }
-    ensures size { OnOk result (length buffer.new ≤ length buffer.old + 8192) }
-    ensures held { Told result (Appends (W.contents writer.old) (W.contents writer.new) []) }
+    ensures size { OnOk result (length buffer.new ≤ length buffer.old + read_size) }
+    ensures unwritten { UnlessWriteFailed result
+        (Appends (W.contents writer.old) (W.contents writer.new) []) }
     ensures turn { OnOk result (turns.new + 1 ≡ turns.old) }
     ensures exhausted { result ≡ Err FrontFault.Turns → turns.old ≡ 0 }
 {
@@ -91,22 +114,29 @@ fn fill<R: Read, W: Write>(
     Ok(n > 0)
 }
 
-// Reads until a head is whole, or there can be none. No byte is searched twice, however they come.
+// Reads until a head is whole, or until no head can come. No byte is searched twice, however the bytes are cut into reads.
 fn await_head<R: Read, W: Write>(
     reader: &mut R,
     writer: &mut W,
     buffer: &mut Buffer,
     turns: &mut u64,
 ) -> Result<Awaited, FrontFault>
-    ensures fills { Told result (Fills result (R.remaining reader.old) (R.remaining reader.new) buffer.old buffer.new) }
-    ensures head { Told result (Awaits result buffer.new) }
+    ensures read { UnlessWriteFailed result (ReadsMore result
+        (R.remaining reader.old) (R.remaining reader.new) buffer.old buffer.new) }
+    ensures head { UnlessWriteFailed result (IsFoundInBuffer result buffer.new) }
     ensures end { result ≡ Ok Awaited.End → IsAtEnd (R.remaining reader.new) }
-    ensures held { Told result (Appends (W.contents writer.old) (W.contents writer.new) []) }
-    ensures measure { OnOk result (turns.new * 8193 + length buffer.new ≤ turns.old * 8193 + length buffer.old) }
-    ensures within { OnOk result (length buffer.new + turns.new * 8192 ≤ length buffer.old + turns.old * 8192) }
-    ensures within_fault { IfErr result (λ _. Served result (length buffer.new ≤ length buffer.old + turns.old * 8192)) }
-    ensures spent { IfOk result (λ awaited. awaited ≢ Awaited.End → turns.old + length buffer.old ≤ turns.new + length buffer.new) }
-    ensures exhausted { result ≡ Err FrontFault.Turns → turns.old + length buffer.old ≤ length buffer.new }
+    ensures unwritten { UnlessWriteFailed result
+        (Appends (W.contents writer.old) (W.contents writer.new) []) }
+    ensures measure { OnOk result
+        (work_left turns.new buffer.new ≤ work_left turns.old buffer.old) }
+    ensures within { OnOk result
+        (byte_bound turns.new buffer.new ≤ byte_bound turns.old buffer.old) }
+    ensures within_fault { IfErr result (λ _. UnlessWriteOrMemoryFailed result
+        (length buffer.new ≤ byte_bound turns.old buffer.old)) }
+    ensures spent { IfOk result (λ awaited. awaited ≢ Awaited.End →
+        turns.old + length buffer.old ≤ turns.new + length buffer.new) }
+    ensures exhausted { result ≡ Err FrontFault.Turns →
+        turns.old + length buffer.old ≤ length buffer.new }
 {
     let mut search = Search::new();
     loop {
@@ -126,7 +156,7 @@ fn await_head<R: Read, W: Write>(
     }
 }
 
-// Gives a body the front of the buffer, as much as it misses.
+// Moves bytes from the front of the buffer to a body: as many as the body misses, or all.
 fn deal(body: &mut Gathering, buffer: &mut Buffer, missing: u64) -> Result<(), AllocError>
     ensures body { OnOk result (body.new ≡ body.old ++ take missing buffer.old) }
     ensures rest { OnOk result (buffer.new ≡ drop missing buffer.old) }
@@ -137,7 +167,72 @@ fn deal(body: &mut Gathering, buffer: &mut Buffer, missing: u64) -> Result<(), A
     Ok(())
 }
 
-// One read for the body, and whether it gave a byte. What comes after the body waits in the buffer.
+// Reads once, straight into the room of the body, and returns how many bytes came.
+fn read_into_body<R: Read, W: Write>(
+    reader: &mut R,
+    writer: &mut W,
+    body: &mut Gathering,
+    turns: &mut u64,
+) -> Result<usize, FrontFault>
+    ensures read { IfOk result (ReadsSoMany
+        (R.remaining reader.old) (R.remaining reader.new) body.old body.new) }
+    ensures len { IfOk result (λ n. (n ≤ read_size)
+        × (length body.new ≡ length body.old + n)) }
+    ensures end { result ≡ Ok 0 →
+        IsAtEnd (R.remaining reader.new) × (body.new ≡ body.old) }
+    ensures failed { IfErr result (λ _. UnlessWriteFailed result
+        (Consumes (R.remaining reader.old) (R.remaining reader.new) [])) }
+    ensures refused { OnErr result (body.new ≡ body.old) }
+    ensures unwritten { UnlessWriteFailed result
+        (Appends (W.contents writer.old) (W.contents writer.new) []) }
+    ensures turn { OnOk result (turns.new + 1 ≡ turns.old) }
+    ensures exhausted { result ≡ Err FrontFault.Turns → turns.old ≡ 0 }
+{
+    take_turn(writer, turns)?;
+    match body.read_from(reader, READ_SIZE) {
+        Ok(n) => Ok(n),
+        Err(GatherFault::Read) => Err(FrontFault::Read),
+        Err(GatherFault::NoMemory) => Err(FrontFault::NoMemory),
+    }
+}
+
+// Reads once for the last bytes of a body, and returns whether a byte came. The bytes after the body stay in the buffer.
+fn gather_last<R: Read, W: Write>(
+    reader: &mut R,
+    writer: &mut W,
+    body: &mut Gathering,
+    buffer: &mut Buffer,
+    missing: u64,
+    turns: &mut u64,
+) -> Result<bool, FrontFault>
+    requires missing { 0 < missing }
+    requires none { buffer.old ≡ [] }
+    ensures read { UnlessWriteFailed result (ReadsMore result
+        (R.remaining reader.old) (R.remaining reader.new)
+        (body.old ++ buffer.old) (body.new ++ buffer.new)) }
+    ensures failed { IfErr result (λ _. UnlessWriteOrMemoryFailed result
+        ((body.new ≡ body.old) × (buffer.new ≡ []))) }
+    ensures end { result ≡ Ok false →
+        IsAtEnd (R.remaining reader.new) × (body.new ≡ body.old) × (buffer.new ≡ []) }
+    ensures grown { result ≡ Ok true → length body.old < length body.new }
+    ensures size { OnOk result (length body.new ≤ length body.old + missing) }
+    ensures waiting { OnOk result
+        (length body.new < length body.old + missing → buffer.new ≡ []) }
+    ensures room { OnOk result (length buffer.new ≤ read_size) }
+    ensures within { OnOk result
+        (length (body.new ++ buffer.new) ≤ length (body.old ++ buffer.old) + read_size) }
+    ensures unwritten { UnlessWriteFailed result
+        (Appends (W.contents writer.old) (W.contents writer.new) []) }
+    ensures turn { OnOk result (turns.new + 1 ≡ turns.old) }
+    ensures exhausted { result ≡ Err FrontFault.Turns → turns.old ≡ 0 }
+{
+    let n = read_more(reader, writer, buffer, turns)?;
+    deal(body, buffer, missing)?;
+    Ok(n > 0)
+}
+
+// Reads once for the body, and returns whether a byte came. The bytes go straight into the room of the body, unless bytes
+// after the body can come with them.
 fn gather<R: Read, W: Write>(
     reader: &mut R,
     writer: &mut W,
@@ -148,24 +243,33 @@ fn gather<R: Read, W: Write>(
 ) -> Result<bool, FrontFault>
     requires missing { 0 < missing }
     requires none { buffer.old ≡ [] }
-    ensures fills { Told result (Fills result (R.remaining reader.old) (R.remaining reader.new) (body.old ++ buffer.old) (body.new ++ buffer.new)) }
-    ensures failed { IfErr result (λ _. Served result ((body.new ≡ body.old) × (buffer.new ≡ []))) }
-    ensures end { result ≡ Ok false → IsAtEnd (R.remaining reader.new) × (body.new ≡ body.old) × (buffer.new ≡ []) }
+    ensures read { UnlessWriteFailed result (ReadsMore result
+        (R.remaining reader.old) (R.remaining reader.new)
+        (body.old ++ buffer.old) (body.new ++ buffer.new)) }
+    ensures failed { IfErr result (λ _. UnlessWriteOrMemoryFailed result
+        ((body.new ≡ body.old) × (buffer.new ≡ []))) }
+    ensures end { result ≡ Ok false →
+        IsAtEnd (R.remaining reader.new) × (body.new ≡ body.old) × (buffer.new ≡ []) }
     ensures grown { result ≡ Ok true → length body.old < length body.new }
     ensures size { OnOk result (length body.new ≤ length body.old + missing) }
-    ensures waiting { OnOk result (length body.new < length body.old + missing → buffer.new ≡ []) }
-    ensures room { OnOk result (length buffer.new ≤ 8192) }
-    ensures within { OnOk result (length (body.new ++ buffer.new) ≤ length (body.old ++ buffer.old) + 8192) }
-    ensures held { Told result (Appends (W.contents writer.old) (W.contents writer.new) []) }
+    ensures waiting { OnOk result
+        (length body.new < length body.old + missing → buffer.new ≡ []) }
+    ensures room { OnOk result (length buffer.new ≤ read_size) }
+    ensures within { OnOk result
+        (length (body.new ++ buffer.new) ≤ length (body.old ++ buffer.old) + read_size) }
+    ensures unwritten { UnlessWriteFailed result
+        (Appends (W.contents writer.old) (W.contents writer.new) []) }
     ensures turn { OnOk result (turns.new + 1 ≡ turns.old) }
     ensures exhausted { result ≡ Err FrontFault.Turns → turns.old ≡ 0 }
 {
-    let n = read_more(reader, writer, buffer, turns)?;
-    deal(body, buffer, missing)?;
+    if missing < READ_SIZE as u64 {
+        return gather_last(reader, writer, body, buffer, missing, turns);
+    }
+    let n = read_into_body(reader, writer, body, turns)?;
     Ok(n > 0)
 }
 
-// Reads until the body is whole, and no further.
+// Reads until the body is whole, and makes no read after that.
 fn await_body<R: Read, W: Write>(
     reader: &mut R,
     writer: &mut W,
@@ -176,15 +280,24 @@ fn await_body<R: Read, W: Write>(
 ) -> Result<(), FrontFault>
     requires short { length body.old ≤ body_len }
     requires waiting { length body.old < body_len → buffer.old ≡ [] }
-    ensures fills { Told result (Fills result (R.remaining reader.old) (R.remaining reader.new) (body.old ++ buffer.old) (body.new ++ buffer.new)) }
+    ensures read { UnlessWriteFailed result (ReadsMore result
+        (R.remaining reader.old) (R.remaining reader.new)
+        (body.old ++ buffer.old) (body.new ++ buffer.new)) }
     ensures whole { OnOk result (length body.new ≡ body_len) }
-    ensures cut { IfErr result (λ _. Served result (length (body.new ++ buffer.new) < body_len)) }
-    ensures held { Told result (Appends (W.contents writer.old) (W.contents writer.new) []) }
-    ensures measure { OnOk result (turns.new * 8193 + length buffer.new ≤ turns.old * 8193 + length buffer.old) }
-    ensures within { OnOk result (length (body.new ++ buffer.new) + turns.new * 8192 ≤ length (body.old ++ buffer.old) + turns.old * 8192) }
-    ensures within_fault { IfErr result (λ _. Served result (length (body.new ++ buffer.new) ≤ length (body.old ++ buffer.old) + turns.old * 8192)) }
-    ensures spent { OnOk result (turns.old + length (body.old ++ buffer.old) ≤ turns.new + length (body.new ++ buffer.new)) }
-    ensures exhausted { result ≡ Err FrontFault.Turns → turns.old + length (body.old ++ buffer.old) ≤ length (body.new ++ buffer.new) }
+    ensures cut { IfErr result (λ _. UnlessWriteOrMemoryFailed result
+        (length (body.new ++ buffer.new) < body_len)) }
+    ensures unwritten { UnlessWriteFailed result
+        (Appends (W.contents writer.old) (W.contents writer.new) []) }
+    ensures measure { OnOk result
+        (work_left turns.new buffer.new ≤ work_left turns.old buffer.old) }
+    ensures within { OnOk result (byte_bound turns.new (body.new ++ buffer.new)
+        ≤ byte_bound turns.old (body.old ++ buffer.old)) }
+    ensures within_fault { IfErr result (λ _. UnlessWriteOrMemoryFailed result
+        (length (body.new ++ buffer.new) ≤ byte_bound turns.old (body.old ++ buffer.old))) }
+    ensures spent { OnOk result (turns.old + length (body.old ++ buffer.old)
+        ≤ turns.new + length (body.new ++ buffer.new)) }
+    ensures exhausted { result ≡ Err FrontFault.Turns →
+        turns.old + length (body.old ++ buffer.old) ≤ length (body.new ++ buffer.new) }
 {
     loop {
         let missing = body_len - body.len() as u64;
@@ -197,7 +310,7 @@ fn await_body<R: Read, W: Write>(
     }
 }
 
-// Takes the head, and what is there of its body, off the front. The body gets its whole room here, so it is never moved.
+// Takes the head and what came of its body off the front. The body gets its whole room here, so its bytes are never moved.
 fn take_start(
     alloc: Global,
     buffer: &mut Buffer,
@@ -219,7 +332,8 @@ fn take_start(
 // Writes the interim reply if the head asks for it (RFC 9110, section 10.1.1).
 #[tactic(auto, unfolding(crate::specs::Streams::interim))]
 fn send_interim<W: Write>(writer: &mut W, head: &Head) -> Result<(), FrontFault>
-    ensures sent { OnOk result (Appends (W.contents writer.old) (W.contents writer.new) (interim head.now)) }
+    ensures sent { OnOk result (Appends (W.contents writer.old) (W.contents writer.new)
+        (interim head.now)) }
     ensures fault { IsOkUnless result FrontFault.Write }
 {
     if head.expects() {
@@ -229,7 +343,7 @@ fn send_interim<W: Write>(writer: &mut W, head: &Head) -> Result<(), FrontFault>
     }
 }
 
-// Reads the body of a head that is at the front, and takes both off.
+// Reads the body of a head that is at the front, and takes the head and the body off the buffer.
 fn read_body<R: Read, W: Write>(
     alloc: Global,
     reader: &mut R,
@@ -240,9 +354,12 @@ fn read_body<R: Read, W: Write>(
     count: usize,
 ) -> Result<Gathering, FrontFault>
     requires { HasHead buffer.old count head.now }
-    ensures bodies { Told result (Bodies result head.now count (R.remaining reader.old) (R.remaining reader.new)
-        (W.contents writer.old) (W.contents writer.new) buffer.old buffer.new turns.old turns.new) }
-    ensures measure { OnOk result (turns.new * 8193 + length buffer.new < turns.old * 8193 + length buffer.old) }
+    ensures read { UnlessWriteFailed result (ReadsBody result head.now count
+        (R.remaining reader.old) (R.remaining reader.new)
+        (W.contents writer.old) (W.contents writer.new)
+        buffer.old buffer.new turns.old turns.new) }
+    ensures measure { OnOk result
+        (work_left turns.new buffer.new < work_left turns.old buffer.old) }
 {
     send_interim(writer, head)?;
     let body_len = head.body_len();
@@ -251,7 +368,7 @@ fn read_body<R: Read, W: Write>(
     Ok(body)
 }
 
-// The request of a head and its body.
+// The request that a head and its body make.
 fn request_of(alloc: Global, head: Head, body: Gathering) -> Result<Request, FrontFault>
     requires { length body ≡ head.body_len }
     ensures request { IfOk result (λ request. request ≡ with_body head body) }
@@ -265,14 +382,14 @@ fn request_of(alloc: Global, head: Head, body: Gathering) -> Result<Request, Fro
     }
 }
 
-// What a head and its body are found to be, if the body came.
+// The request that a head and its body make, as an item, or the fault that ended the body.
 fn join(
     alloc: Global,
     head: Head,
     body: Result<Gathering, FrontFault>,
 ) -> Result<Option<Found>, FrontFault>
     requires { IfOk body (λ body. length body ≡ head.body_len) }
-    ensures { Joins head body result }
+    ensures { IsCallOfBody head body result }
 {
     let verb = head.verb();
     let closes = head.closes();
@@ -296,11 +413,13 @@ pub(crate) fn next_item<R: Read, W: Write>(
     buffer: &mut Buffer,
     turns: &mut u64,
 ) -> Result<Option<Found>, FrontFault>
-    ensures takes { Told result (Takes result (R.remaining reader.old) (R.remaining reader.new)
-        (W.contents writer.old) (W.contents writer.new) buffer.old buffer.new turns.old turns.new) }
+    ensures read { UnlessWriteFailed result (ReadsItem result
+        (R.remaining reader.old) (R.remaining reader.new)
+        (W.contents writer.old) (W.contents writer.new)
+        buffer.old buffer.new turns.old turns.new) }
     ensures end { result ≡ Ok None → IsAtEnd (R.remaining reader.new) }
     ensures measure { (call : Call) → result ≡ Ok (Some (Found.Called call)) →
-        turns.new * 8193 + length buffer.new < turns.old * 8193 + length buffer.old }
+        work_left turns.new buffer.new < work_left turns.old buffer.old }
 {
     let count = match await_head(reader, writer, buffer, turns)? {
         Awaited::Head(count) => count,

@@ -5,7 +5,8 @@ ghost use Rattle.stamp_values.specs.Names.{is_account};
 ghost use Rattle.stamp_types.specs.Replies.{denied};
 ghost use Rattle.range_rows.specs.RequestChanges.{reading_of};
 ghost use Rattle.stamp_model.specs.Refusals as refusals;
-ghost use Rattle.http_front.specs.PlainAnswers.{AreHeld, Held, Held-answers, held_first, held_of, held_reply, object_or_unserved, row_refusal, rows_after, rows_first};
+ghost use Rattle.http_front.specs.PlainAnswers.{AnswersAsModel, AreHeld, Held, held_first, held_of, held_reply};
+ghost use Rattle.http_front.specs.PlainAnswers.{object_or_unserved, row_refusal, rows_after, rows_first};
 ghost use Rattle.stamp_types.specs.World.{part_at};
 ghost use Rattle.http_front.specs.declared.plain.PlainFault.{PlainFault};
 ghost use Rattle.http_front.specs.declared.plain.PlainFault.TheVariants.{NoMemory};
@@ -20,12 +21,12 @@ use std::alloc::{AllocError, Global};
 use std::marker::Model;
 use thiserror::Error;
 
-/// The container that is there at first.
+/// The container that exists at first.
 const FIRST_CONTAINER: &str = "pics";
 
 /// The service over the rows of one account, judged by its pair of keys.
 ///
-/// Contracts see it as those keys and the containers that are held.
+/// Contracts see it as the pair of keys and the containers that are held.
 #[derive(Drop)]
 pub struct Plain {
     keys: Keys,
@@ -35,7 +36,7 @@ pub struct Plain {
 /// Why the service could not be made.
 #[derive(Clone, Copy, Debug, PartialEq, Eq, Error)]
 pub enum PlainFault {
-    /// The keys are those of a name that no account can have.
+    /// The name in the keys is not the name of an account.
     #[error("the account has no good name")]
     Account,
     /// Memory ran out.
@@ -60,7 +61,8 @@ impl Model for Plain {
 
     ghost view = { λ p. record { keys = p.keys; rows = p.rows } };
 
-    // No operation opens a container yet, and permission is judged as for a closed container. Content is held in memory.
+    // No operation opens a container to the public yet, and permission is judged as for a closed container. Content is held in
+    // memory.
     ghost invariant = { λ p. AreClosed p.rows × AreHeld p.rows };
 }
 
@@ -91,7 +93,8 @@ fn unserved_refusal(op: Op) -> Option<Refusal>
 
 // The key of the account's first container.
 fn first_key(alloc: Global, account: &Text) -> Result<Key, AllocError>
-    ensures { IfOk result (λ key. key ≡ record { account = account.now; container = codes "pics" }) }
+    ensures { IfOk result (λ key.
+        key ≡ record { account = account.now; container = codes "pics" }) }
 {
     let account = account.clone()?;
     let name = String::from_str(alloc, FIRST_CONTAINER)?;
@@ -104,7 +107,7 @@ fn first_key(alloc: Global, account: &Text) -> Result<Key, AllocError>
 impl Plain {
     /// The service of the keys' account, which holds one closed container, `pics`, made at the moment by its first change.
     ///
-    /// `Account` if the keys are those of a name that no account can have, `NoMemory` if memory runs out.
+    /// `Account` if the name in the keys is not the name of an account, `NoMemory` if memory runs out.
     #[tactic(auto, using(crate::proofs::PlainLemmas::first_closed, crate::proofs::PlainLemmas::first_held))]
     pub fn new(alloc: Global, keys: Keys, moment: Moment) -> Result<Self, PlainFault>
         ensures value { IfOk result (λ plain. plain ≡ rows_first keys moment) }
@@ -130,7 +133,8 @@ impl Plain {
         reading: &Reading,
     ) -> Result<Option<Refusal>, AllocError>
         requires { reading.now ≡ reading_of request.now }
-        ensures { IfOk result (λ refusal. refusal ≡ object_or_unserved (part_at self.now.rows request.now.ask.key) request.now) }
+        ensures { IfOk result (λ refusal. refusal
+            ≡ object_or_unserved (part_at self.now.rows request.now.ask.key) request.now) }
     {
         match self.rows.object_rule(alloc, request, reading)? {
             Some(refusal) => Ok(Some(refusal)),
@@ -138,7 +142,7 @@ impl Plain {
         }
     }
 
-    // The refusal of a request, if it has one: by permission, or else by the object, or else because it is not served.
+    // The refusal of a request: by permission, or else by the object, or else since the operation is not served yet.
     #[tactic(auto, using(crate::proofs::PlainLemmas::refusal_denied, crate::proofs::PlainLemmas::refusal_allowed))]
     fn refusal(
         &self,
@@ -148,7 +152,8 @@ impl Plain {
         moment: Moment,
     ) -> Result<Option<Refusal>, AllocError>
         requires { reading.now ≡ reading_of request.now }
-        ensures refusal { IfOk result (λ refusal. refusal ≡ row_refusal self.now request.now moment) }
+        ensures refusal { IfOk result (λ refusal.
+            refusal ≡ row_refusal self.now request.now moment) }
         ensures held { AreHeld self.now.rows }
     {
         match verdict(alloc, Some(&self.keys), request, moment)? {
@@ -187,14 +192,15 @@ impl Plain {
     ) -> Result<Reply, AllocError>
         requires allowed { row_refusal self.now request.now moment ≡ None }
         requires read { reading.now ≡ reading_of request.now }
-        ensures { IfOk result (λ reply. reply ≡ held_reply (held_of self.now) request.now moment) }
+        ensures { IfOk result (λ reply.
+            reply ≡ held_reply (held_of self.now) request.now moment) }
     {
         let answer = self.rows.reply(alloc, request, reading, moment)?;
         reply_with_content(answer)
     }
 
-    // The reply to a request that nothing refuses, and its change. The reply is made first, so that nothing is changed if memory
-    // runs out for it.
+    // The reply to a request that nothing refuses, and the change of the request. The reply is made first, so that nothing is
+    // changed if memory runs out for the reply.
     fn allowed(
         &mut self,
         alloc: Global,
@@ -204,7 +210,8 @@ impl Plain {
     ) -> Result<Reply, AllocError>
         requires allowed { row_refusal self.old request.now moment ≡ None }
         requires read { reading.now ≡ reading_of request.now }
-        ensures replied { IfOk result (λ reply. reply ≡ held_reply (held_of self.old) request.now moment) }
+        ensures replied { IfOk result (λ reply.
+            reply ≡ held_reply (held_of self.old) request.now moment) }
         ensures changed { OnOk result (self.new ≡ rows_after self.old request.now moment) }
         ensures unchanged { OnErr result (self.new ≡ self.old) }
     {
@@ -215,14 +222,15 @@ impl Plain {
         Ok(reply)
     }
 
-    // The reply to a request, and its change if nothing refuses it.
+    // The reply to a request, and the change of the request if nothing refuses it.
     fn judged(
         &mut self,
         alloc: Global,
         request: &Request,
         moment: Moment,
     ) -> Result<Reply, AllocError>
-        ensures answered { IfOk result (λ reply. Held-answers (held_of self.old) request.now moment reply (held_of self.new)) }
+        ensures answered { IfOk result (λ reply.
+            AnswersAsModel (held_of self.old) request.now moment reply (held_of self.new)) }
         ensures unchanged { OnErr result (self.new ≡ self.old) }
     {
         let reading = read_request(request);
@@ -238,20 +246,21 @@ impl Service for Plain {
 
     ghost world = { λ plain. held_of plain };
 
-    ghost answers = { Held-answers };
+    ghost answers = { AnswersAsModel };
 
     ghost starves = { λ old new. new ≡ old };
 
-    /// The reply of the model, and its change.
+    /// The reply of the model, and the change of the model.
     ///
-    /// `AllocError` if memory runs out for the change or the reply. Nothing is changed then.
+    /// `AllocError` if memory runs out for the change or the reply. Then nothing is changed.
     fn answer(
         &mut self,
         alloc: Global,
         request: Request,
         moment: Moment,
     ) -> Result<Reply, AllocError>
-        ensures answered { IfOk result (λ reply. Held-answers (held_of self.old) request moment reply (held_of self.new)) }
+        ensures answered { IfOk result (λ reply.
+            AnswersAsModel (held_of self.old) request moment reply (held_of self.new)) }
         ensures unchanged { OnErr result (self.new ≡ self.old) }
     {
         self.judged(alloc, &request, moment)

@@ -8,15 +8,15 @@ use std::alloc::{AllocError, Global};
 
 /// Answers requests.
 pub trait Service {
-    /// What its replies depend on.
+    /// What the replies of the service depend on.
     ghost World: { Type 0 };
 
     ghost world: { Self → World };
 
-    /// From the first world, this may be the reply to the request at the moment, and lead to the other world.
+    /// From the first world, the service may give this reply to the request at the moment, and come to the second world.
     ghost answers: { World → Asked → ℕ → Reply → World → Type 0 };
 
-    /// From the first world, the service may come to the other if memory runs out at a request.
+    /// From the first world, the service may come to the second world if memory runs out at a request.
     ghost starves: { World → World → Type 0 };
 
     /// The reply to the request, which is judged at `moment`.
@@ -28,16 +28,17 @@ pub trait Service {
         request: Request,
         moment: Moment,
     ) -> Result<Reply, AllocError>
-        ensures answered { IfOk result (λ reply. answers (world self.old) request moment reply (world self.new)) }
+        ensures answered { IfOk result (λ reply.
+            answers (world self.old) request moment reply (world self.new)) }
         ensures starved { OnErr result (starves (world self.old) (world self.new)) };
 }
 
 /// Tells the moment.
 pub trait Clock {
-    /// From the first state, the clock may give this moment and go on to the other.
+    /// From the first state, the clock may give this moment and come to the second state.
     ghost gives: { Self → ℕ → Self → Type 0 };
 
-    /// The moment at which what was just read is judged.
+    /// The moment for the item that was just read.
     fn now(&mut self) -> Moment
         ensures { gives self.old result self.new };
 }

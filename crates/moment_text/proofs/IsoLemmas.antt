@@ -5,7 +5,7 @@ use Rattle.std.proofs.lemmas.Option.{none-some, same_Some}
 use Rattle.std.specs.Int.{IsInRange}
 use Rattle.httpdate.proofs.OptionLemmas.{and_then_some}
 use Rattle.moment_text.specs.declared.civil.CivilTime.{CivilTime}
-use Rattle.moment_text.specs.Iso.{Shape, to_day, to_minute, to_second, to_fraction, digits_of, day_text, iso_text, FitsPlaces, IsZeroBeyond, IsIsoText}
+use Rattle.moment_text.specs.Iso.{Shape, to_day, to_minute, to_second, to_fraction, digits_of, day_text, iso_text, FitsDigits, IsZeroBeyond, IsIsoText}
 use Rattle.moment_text.specs.IsoReader.{number_of, number_at, after_byte, date_at, fraction_at, optional_fraction, with_second, with_clock, iso_time}
 use Rattle.moment_text.proofs.NumberLemmas.{passes, number_of_sound, number_of_complete, cut_number, cut_byte}
 
@@ -32,7 +32,7 @@ day_text_grouped p rest = simp append_assoc
 -- the text begins with the day, and the time is the start of the day
 record BeginsWithDay (t : List ℕ) (p : CivilTime) : Type 0 where
   text : t ≡ day_text p ++ drop 10 t
-  fits : FitsPlaces p
+  fits : FitsDigits p
   hour_zero : p.hour ≡ 0
   minute_zero : p.minute ≡ 0
   second_zero : p.second ≡ 0
@@ -66,11 +66,11 @@ date_sound t p long e =
 -- the text begins with the day, the hour and the minute, and the time is the start of the minute
 record BeginsWithMinute (t : List ℕ) (p : CivilTime) : Type 0 where
   text : t ≡ day_text p ++ clock p (drop 16 t)
-  fits : FitsPlaces p
+  fits : FitsDigits p
   second_zero : p.second ≡ 0
   fraction_zero : p.fraction ≡ 0
 
--- from place 19 on, the text is a point, so many digits of the fraction, and a Z
+-- from index 19 on, the text is a point, so many digits of the fraction, and a Z
 record EndsWithFraction (t : List ℕ) (f k : ℕ) : Type 0 where
   text : drop 19 t ≡ 46 ∷ (take k (digits_of 7 f) ++ 90 ∷ [])
   count : IsInRange 1 7 k
@@ -119,7 +119,7 @@ IsWritten t p = (shape : Shape) × IsIsoText t shape p
 abbrev at_second : CivilTime → ℕ → ℕ → CivilTime
 at_second p second fraction = record p { second = second; fraction = fraction }
 
-second_fits : (p : CivilTime) (second fraction : ℕ) → FitsPlaces p → second < 100 → fraction < 10_000_000 → FitsPlaces (at_second p second fraction)
+second_fits : (p : CivilTime) (second fraction : ℕ) → FitsDigits p → second < 100 → fraction < 10_000_000 → FitsDigits (at_second p second fraction)
 second_fits p second fraction fits a b = record { year_fits = fits.year_fits; month_fits = fits.month_fits; day_fits = fits.day_fits; hour_fits = fits.hour_fits; minute_fits = fits.minute_fits; second_fits = a; fraction_fits = b }
 
 -- after the second comes the Z, or a point, digits and the Z
@@ -191,7 +191,7 @@ with_clock_sound t p q long begins e =
     let r : CivilTime = record p { hour = hour; minute = minute } in
     let rest : drop 10 t ≡ clock r (drop 16 t) = cc in
     let all : t ≡ day_text r ++ clock r (drop 16 t) = begins.text ∙ ap (λ ds. day_text p ++ ds) rest in
-    let fits : FitsPlaces r = record { year_fits = begins.fits.year_fits; month_fits = begins.fits.month_fits; day_fits = begins.fits.day_fits; hour_fits = hour_fits; minute_fits = minute_fits; second_fits = begins.fits.second_fits; fraction_fits = begins.fits.fraction_fits } in
+    let fits : FitsDigits r = record { year_fits = begins.fits.year_fits; month_fits = begins.fits.month_fits; day_fits = begins.fits.day_fits; hour_fits = hour_fits; minute_fits = minute_fits; second_fits = begins.fits.second_fits; fraction_fits = begins.fits.fraction_fits } in
     minute_sound t r q long (record { text = all; fits = fits; second_zero = begins.second_zero; fraction_zero = begins.fraction_zero }) e₂
 
 -- if a time is read from a text, the text writes the time
@@ -215,7 +215,7 @@ iso_time_sound t p e = by_test (length t == 10) refl e
 filled_complete : (k f : ℕ) → f < 10_000_000 → drop k (digits_of 7 f) ≡ replicate (7 - k) 48 → number_of (take k (digits_of 7 f) ++ replicate (7 - k) 48) ≡ Some f
 filled_complete k f h whole = rw (← whole, take-append-drop k (digits_of 7 f)) (number_of_complete 7 f h)
 
-module _ (p : CivilTime) (fits : FitsPlaces p) where
+module _ (p : CivilTime) (fits : FitsDigits p) where
   date_complete : (rest : List ℕ) → date_at (day_text p ++ rest) ≡ Some (record p { hour = 0; minute = 0; second = 0; fraction = 0 })
   unfolding date_at digits_of
   date_complete rest =

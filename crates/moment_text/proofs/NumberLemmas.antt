@@ -7,7 +7,7 @@ use Rattle.std.proofs.Math.Seq.{drop-cons}
 use Rattle.std.specs.Char.{is_ascii_digit}
 use Rattle.std.specs.Int.{IsInRange}
 use Rattle.moment_text.specs.Iso.{digits_of}
-use Rattle.moment_text.specs.IsoReader.{number_behind, number_of}
+use Rattle.moment_text.specs.IsoReader.{number_after, number_of}
 
 shifted : (d p v : ℕ) → ((d * (p * 10) + v) / 10 ≡ d * p + v / 10) × ((d * (p * 10) + v) % 10 ≡ v % 10)
 shifted d p v = (omega arith, omega arith)
@@ -29,12 +29,12 @@ passes true o x e = (refl, e)
 passes false o x e = absurd (none-some x e)
 
 -- if bytes are read after the number acc, they are digits, and the result is acc with these digits after it
-behind_sound : (ds : List ℕ) (acc n : ℕ) → number_behind acc ds ≡ Some n → (v : ℕ) × (v < 10 ^ length ds) × (n ≡ acc * 10 ^ length ds + v) × (ds ≡ digits_of (length ds) v)
+number_after_sound : (ds : List ℕ) (acc n : ℕ) → number_after acc ds ≡ Some n → (v : ℕ) × (v < 10 ^ length ds) × (n ≡ acc * 10 ^ length ds + v) × (ds ≡ digits_of (length ds) v)
 unfolding digits_of
-behind_sound [] acc n e = let same = same_Some acc n e in (0, omega arith, omega (arith, same), refl)
-behind_sound (d ∷ ds) acc n e =
+number_after_sound [] acc n e = let same = same_Some acc n e in (0, omega arith, omega (arith, same), refl)
+number_after_sound (d ∷ ds) acc n e =
     let (digit, rest) = passes (is_ascii_digit d) _ n e in
-    let (v, small, value, text) = behind_sound ds (acc * 10 + (d - 48)) n rest in
+    let (v, small, value, text) = number_after_sound ds (acc * 10 + (d - 48)) n rest in
     let range : IsInRange 48 57 d = grind (arith, nat_tests) in
     let power = pow-suc 10 (length ds) in
     let at_most : d - 48 ≤ 9 = omega arith in
@@ -51,37 +51,37 @@ behind_sound (d ∷ ds) acc n e =
 pub number_of_sound : (ds : List ℕ) (k n : ℕ) → length ds ≡ k → number_of ds ≡ Some n → (ds ≡ digits_of k n) × (n < 10 ^ k)
 unfolding number_of
 number_of_sound ds k n same e =
-    let (v, small, value, text) = behind_sound ds 0 n e in
+    let (v, small, value, text) = number_after_sound ds 0 n e in
     let whole : v ≡ n = omega (arith, value) in
     rw (← same, ← whole) (text, small)
 
-behind_complete : (k acc n : ℕ) (ds : List ℕ) → n < 10 ^ k → number_behind acc (digits_of k n ++ ds) ≡ number_behind (acc * 10 ^ k + n) ds
+number_after_complete : (k acc n : ℕ) (ds : List ℕ) → n < 10 ^ k → number_after acc (digits_of k n ++ ds) ≡ number_after (acc * 10 ^ k + n) ds
 unfolding digits_of
-behind_complete zero acc n ds h =
+number_after_complete zero acc n ds h =
     let same : acc * 10 ^ 0 + n ≡ acc = omega arith in
     rw same
-behind_complete (suc k) acc n ds h =
+number_after_complete (suc k) acc n ds h =
     let power = pow-suc 10 k in
     let small : n / 10 < 10 ^ k = omega (arith, power) in
     let digit : is_ascii_digit (48 + n % 10) ≡ true = grind (arith, nat_tests) in
     let value : (acc * 10 ^ k + n / 10) * 10 + (48 + n % 10 - 48) ≡ acc * 10 ^ suc k + n = rw power (omega arith) in
-    rw (append_assoc, behind_complete k acc (n / 10) ((48 + n % 10) ∷ ds) small, digit, value)
+    rw (append_assoc, number_after_complete k acc (n / 10) ((48 + n % 10) ∷ ds) small, digit, value)
 
 -- a number that fits its digits is read from them
 pub number_of_complete : (k n : ℕ) → n < 10 ^ k → number_of (digits_of k n) ≡ Some n
 unfolding number_of
 number_of_complete k n h =
     let value : 0 * 10 ^ k + n ≡ n = omega arith in
-    rw (← append-nil (digits_of k n), behind_complete k 0 n [] h, value)
+    rw (← append-nil (digits_of k n), number_after_complete k 0 n [] h, value)
 
--- a number at a place of a text
+-- a number at an index of a text
 pub cut_number : (t : List ℕ) (i k n : ℕ) → i + k ≤ length t → number_of (take k (drop i t)) ≡ Some n → (drop i t ≡ digits_of k n ++ drop (i + k) t) × (n < 10 ^ k)
 cut_number t i k n within e =
     let long : length (take k (drop i t)) ≡ k = length-take-le k (drop i t) (omega (arith, length-drop i t)) in
     let (text, small) = number_of_sound (take k (drop i t)) k n long e in
     (rw (← drop-drop k i t, ← text) (sym (take-append-drop k (drop i t))), small)
 
--- a byte at a place of a text
+-- a byte at an index of a text
 pub cut_byte : (t : List ℕ) (i b : ℕ) → i < length t → (get_or t i 0 == b) ≡ true → drop i t ≡ b ∷ drop (i + 1) t
 cut_byte t i b within e =
     let next : i + 1 ≡ suc i = omega arith in

@@ -1,4 +1,4 @@
--- The civil dates of the Gregorian calendar one after the other (ISO 8601:2004, section 3.2.1).
+-- The dates of the Gregorian calendar, one after the other (ISO 8601:2004, section 3.2.1).
 use Rattle.std.specs.Prelude.{ℕ, zero, suc, ◌+◌, nat_lt, if◌then◌else◌}
 use Rattle.httpdate.specs.Calendar.{days_in_month}
 
@@ -8,7 +8,7 @@ pub record CivilDate : Type 0 where
   pub month : ℕ
   pub day : ℕ
 
--- the next day: the next day of the month, the first day of the next month, or New Year's Day
+-- the day after a day: the next day of the month, the first day of the next month, or the first day of the next year
 abbrev pub next_date : CivilDate → CivilDate
 next_date d =
     if nat_lt d.day (days_in_month d.year d.month) then record d { day = d.day + 1 }

@@ -1,7 +1,9 @@
--- A day, or a time in UTC, as ISO 8601 writes it (ISO 8601:2004, sections 4.1.2.2, 4.2.2, 4.2.4 and 4.3; W3C Note Date and Time Formats).
+-- A day, or a time in UTC, as ISO 8601 writes it (ISO 8601:2004, sections 4.1.2.2, 4.2.2, 4.2.4 and 4.3; W3C Note Date and
+-- Time Formats).
 use Rattle.std.specs.Prelude.{◌≡◌, ℕ, zero, suc, ◌+◌, ◌-◌, ◌*◌, ◌/◌, ◌%◌, ◌<◌, Bool, ◌&&◌, nat_le, nat_lt, List, [], ◌∷◌, ◌++◌, take, drop, replicate, codes}
 use Rattle.std.specs.Int.{IsInRange}
 use Rattle.httpdate.specs.Calendar.{days_in_month, days_from_civil}
+use Rattle.stamp_values.specs.Ascii.{digit_zero}
 use Rattle.moment_text.specs.declared.civil.CivilTime.{CivilTime}
 
 -- how far a text goes: to the day, the minute, the second, or so many decimals of the second
@@ -14,7 +16,7 @@ pub data Shape : Type 0 where
 -- the last k decimal digits of a number
 unfoldable pub digits_of : ℕ → ℕ → List ℕ
 digits_of zero n = []
-digits_of (suc k) n = digits_of k (n / 10) ++ (48 + n % 10) ∷ []
+digits_of (suc k) n = digits_of k (n / 10) ++ (digit_zero + n % 10) ∷ []
 
 -- YYYY-MM-DD
 abbrev pub day_text : CivilTime → List ℕ
@@ -35,8 +37,8 @@ iso_text to_minute t = minute_text t ++ codes "Z"
 iso_text to_second t = second_text t ++ codes "Z"
 iso_text (to_fraction k) t = second_text t ++ codes "." ++ take k (digits_of 7 t.fraction) ++ codes "Z"
 
--- no number is longer than its place
-pub record FitsPlaces (t : CivilTime) : Type 0 where
+-- each number fits the digits that are written for it
+pub record FitsDigits (t : CivilTime) : Type 0 where
   pub year_fits : t.year < 10_000
   pub month_fits : t.month < 100
   pub day_fits : t.day < 100
@@ -50,12 +52,12 @@ abbrev pub IsZeroBeyond : Shape → CivilTime → Type 0
 IsZeroBeyond to_day t = (t.hour ≡ 0) × (t.minute ≡ 0) × (t.second ≡ 0) × (t.fraction ≡ 0)
 IsZeroBeyond to_minute t = (t.second ≡ 0) × (t.fraction ≡ 0)
 IsZeroBeyond to_second t = t.fraction ≡ 0
-IsZeroBeyond (to_fraction k) t = IsInRange 1 7 k × (drop k (digits_of 7 t.fraction) ≡ replicate (7 - k) 48)
+IsZeroBeyond (to_fraction k) t = IsInRange 1 7 k × (drop k (digits_of 7 t.fraction) ≡ replicate (7 - k) digit_zero)
 
 -- the text writes the time in the shape
 pub record IsIsoText (text : List ℕ) (shape : Shape) (t : CivilTime) : Type 0 where
   pub written : text ≡ iso_text shape t
-  pub fits : FitsPlaces t
+  pub fits : FitsDigits t
   pub whole : IsZeroBeyond shape t
 
 -- the calendar has the day, its year is from 1970 to 9999, and the clock has the time

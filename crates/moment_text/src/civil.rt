@@ -10,17 +10,18 @@ use stamp_values::Moment;
 ///
 /// The fraction of the second counts steps of 100 ns.
 #[derive(Clone, Copy)]
-pub struct CivilTime {
-    pub year: u32,
-    pub month: u32,
-    pub day: u32,
-    pub hour: u32,
-    pub minute: u32,
-    pub second: u32,
-    pub fraction: u32,
+pub(crate) struct CivilTime {
+    pub(crate) year: u32,
+    pub(crate) month: u32,
+    pub(crate) day: u32,
+    pub(crate) hour: u32,
+    pub(crate) minute: u32,
+    pub(crate) second: u32,
+    pub(crate) fraction: u32,
 }
 
-// How many days lie between the start of 1970 and a day, if the calendar has the day and its year has four digits.
+// How many days there are from the start of 1970 to the start of the day. `None` if the calendar does not have the day, or if
+// its year is outside 1970 to 9999.
 fn day_number(year: u32, month: u32, day: u32) -> Option<u64>
     ensures valid { IsSome result ↔ IsCivilDate year month day }
     ensures value { IfSome result (λ n. n ≡ days_from_civil year month day) }
@@ -35,8 +36,8 @@ fn day_number(year: u32, month: u32, day: u32) -> Option<u64>
     Some(date.to_plain().to_unix_epoch_day() as u64)
 }
 
-/// The moment of a day and a time in UTC, or `None` if there is no such day or time, or if its year is outside 1970 to 9999.
-pub fn moment_of(time: CivilTime) -> Option<Moment>
+/// The moment of a day and a time in UTC. `None` if the day or the time does not exist, or if the year is outside 1970 to 9999.
+pub(crate) fn moment_of(time: CivilTime) -> Option<Moment>
     requires { time.fraction < 10_000_000 }
     ensures { result ≡ (if is_in_range time then Some (ticks_of time) else None) }
 {

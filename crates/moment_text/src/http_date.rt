@@ -10,10 +10,11 @@ use stamp_values::Moment;
 
 /// Reads a date of HTTP in any of its three formats.
 ///
-/// `Form` for every other text, also if the weekday is not the weekday of the date. The call takes no memory.
-/// RFC 9110, section 5.6.7.
+/// Each other text is a fault of form. So is a date with a weekday that is not the weekday of this date. The call takes no
+/// memory. RFC 9110, section 5.6.7.
 pub fn read_http(text: &[u8]) -> Result<Moment, TimeFault>
-    ensures read { IfOk result (λ moment. (p : Parts) × IsHttpText text.now p × (moment ≡ http_ticks p)) }
+    ensures read { IfOk result (λ moment.
+        (p : Parts) × IsHttpText text.now p × (moment ≡ http_ticks p)) }
     ensures complete { (p : Parts) → IsHttpText text.now p → result ≡ Ok (http_ticks p) }
     ensures form { (result ≡ Err TimeFault.Form) ↔ ((p : Parts) → ¬ IsHttpText text.now p) }
     ensures no_other { (fault : Fault) → result ≡ Err fault → fault ≡ TimeFault.Form }

@@ -5,7 +5,7 @@ ghost use Rattle.moment_text.specs.Iso.{Shape, IsIsoText, is_in_range, ticks_of}
 ghost use Rattle.moment_text.specs.IsoReader.{date_at, fraction_at, optional_fraction, with_second, with_clock, iso_time, iso_moment};
 
 use crate::civil::{CivilTime, moment_of};
-use crate::digits::{filled, number};
+use crate::digits::{number, seven_digits};
 use crate::fault::TimeFault;
 use stamp_values::Moment;
 
@@ -36,7 +36,8 @@ fn date(text: &[u8]) -> Option<CivilTime>
     })
 }
 
-// The fraction between the point and the last byte: at least one digit, since the text is long enough, and at most seven digits.
+// The fraction between the point and the last byte. It has at least one byte, since the text is long enough. `None` if it has
+// more than seven bytes, or a byte that is not a digit.
 #[tactic(auto, unfolding(crate::specs::IsoReader::fraction_at))]
 fn fraction(text: &[u8]) -> Option<u32>
     requires { 22 ≤ length text.now }
@@ -46,7 +47,7 @@ fn fraction(text: &[u8]) -> Option<u32>
     if text.len() > 28 {
         return None;
     }
-    number(&filled(&text[20..text.len() - 1]))
+    number(&seven_digits(&text[20..text.len() - 1]))
 }
 
 #[tactic(auto, unfolding(crate::specs::IsoReader::optional_fraction))]
@@ -132,19 +133,21 @@ fn civil_time(text: &[u8]) -> Option<CivilTime>
 /// Reads a day or a time in UTC in one of four shapes: `2012-10-01`, which is the start of the day, `2012-10-01T12:00Z`,
 /// `2012-10-01T12:00:00Z`, and `2012-10-01T12:00:00.0000001Z` with one to seven decimals.
 ///
-/// `Form` if the text has none of these shapes; the shape is tried first. `Range` if the text has one of the shapes, but
-/// there is no such day or time, as with month 13, 30 February, hour 24 or second 60, or the year is outside 1970 to 9999.
-/// The function takes no memory, so it never answers `NoMemory`. ISO 8601:2004, sections 4.1.2.2, 4.2.2, 4.2.4 and 4.3;
+/// `Form` if the text does not have one of these shapes; the shape is tried first. `Range` if the text has one of the shapes,
+/// but the day or the time does not exist (for example month 13, 30 February, hour 24 or second 60), or the year is outside
+/// 1970 to 9999. The function takes no memory, so it never answers `NoMemory`. ISO 8601:2004, sections 4.1.2.2, 4.2.2, 4.2.4 and 4.3;
 /// W3C Note "Date and Time Formats". The shapes are a choice of our own: docs/DECISIONS.md, "The calendar comes from a
 /// library, the shapes do not".
 pub fn read_iso(text: &[u8]) -> Result<Moment, TimeFault>
     ensures read { IfOk result (λ moment. (shape : Shape) × (time : Time)
         × IsIsoText text.now shape time × IsTrue (is_in_range time) × (moment ≡ ticks_of time)) }
-    ensures complete { (shape : Shape) (time : Time) → IsIsoText text.now shape time → IsTrue (is_in_range time)
-        → result ≡ Ok (ticks_of time) }
-    ensures form { (result ≡ Err TimeFault.Form) ↔ ((shape : Shape) (time : Time) → ¬ IsIsoText text.now shape time) }
+    ensures complete { (shape : Shape) (time : Time) → IsIsoText text.now shape time
+        → IsTrue (is_in_range time) → result ≡ Ok (ticks_of time) }
+    ensures form { (result ≡ Err TimeFault.Form)
+        ↔ ((shape : Shape) (time : Time) → ¬ IsIsoText text.now shape time) }
     ensures range { (result ≡ Err TimeFault.Range)
-        ↔ ((shape : Shape) × (time : Time) × IsIsoText text.now shape time × IsFalse (is_in_range time)) }
+        ↔ ((shape : Shape) × (time : Time)
+        × IsIsoText text.now shape time × IsFalse (is_in_range time)) }
     ensures no_memory { result ≢ Err TimeFault.NoMemory }
     // the same as one function, for definitions of crates above
     ensures value { result ≡ iso_moment text.now }

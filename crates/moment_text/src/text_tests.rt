@@ -58,7 +58,7 @@ fn other_shapes_are_faults_of_form(rt: HostRuntime) {
 }
 
 #[test]
-fn days_and_times_that_are_none_are_faults_of_range(rt: HostRuntime) {
+fn days_and_times_that_do_not_exist_are_faults_of_range(rt: HostRuntime) {
     for text in [
         "1969-12-31",
         "2012-02-30",

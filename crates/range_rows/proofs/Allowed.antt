@@ -15,7 +15,7 @@ use Rattle.range_rows.specs.ObjectRules.{needs_container, needs_blob, named_blob
 use Rattle.range_rows.specs.ObjectRules.Cause.{ContainerIsAbsent, BlobIsAbsent, BodyIsDamaged, CountIsFull}
 use Rattle.range_rows.proofs.AnswerLemmas.{named_blob-part_value}
 
--- if none is found, none passes
+-- if no element is found, no element passes the test
 pub none_passes : {X : Type 0} (test : X → Bool) (xs : List X) → find test xs ≡ None → list_all (λ x. not (test x)) xs ≡ true
 none_passes test [] h = refl
 none_passes test (x ∷ xs) h =
@@ -49,7 +49,7 @@ module _ (p : Part ℕ) (q : Asked) (free : object_refusal p q ≡ None) where
   pub allowed_exists : q.ask.op ≡ op.PutBlob → IsSome p.standing
   allowed_exists put = there p.standing (subst (λ (o : Op). not (needs_container o && is_none p.standing) ≡ true) put no_absence)
 
-  -- and takes one more change
+  -- the container of an allowed Put Blob takes one more change
   pub allowed_room : q.ask.op ≡ op.PutBlob → p.count < 18446744073709551616 → p.count < count_limit
   allowed_room put within =
       let below : not (nat_eq p.count count_limit) ≡ true = subst (λ (o : Op). not (writes o && nat_eq p.count count_limit) ≡ true) put (and_parts _ _ after_damage).0 in
@@ -59,7 +59,7 @@ module _ (p : Part ℕ) (q : Asked) (free : object_refusal p q ≡ None) where
   pub read_there : q.ask.op ≡ op.GetBlob → IsSome (named_blob p q.ask)
   read_there get = there (named_blob p q.ask) (subst (λ (o : Op). not (needs_blob o && is_none (named_blob p q.ask)) ≡ true) get (and_parts _ _ after_existence).0)
 
--- the blob of an allowed Get Blob is there
+-- the blob of an allowed Get Blob exists
 pub allowed_blob : (p : Part (List Piece)) (q : Asked) → q.ask.op ≡ op.GetBlob → object_refusal (part_value pieces_len p) q ≡ None → named_blob p q.ask ≡ None → ⊥
 allowed_blob p q get free none =
     let read : IsSome (named_blob (part_value pieces_len p) q.ask) = read_there (part_value pieces_len p) q free get in

@@ -38,7 +38,7 @@ sizes_from n (b ∷ bs) = sizes_from (n + pieces_len b.content) bs
 pub sizes_of_blocks : (bs : List (Block (List Piece))) → sum_by (λ b. b.content) (map (block_value pieces_len) bs) ≡ blocks_len bs
 sizes_of_blocks bs = sizes_from 0 bs
 
--- the spans of all blocks are those of each
+-- the spans of all blocks are the spans of each block, joined
 pub spans_of_blocks : (bs : List (Block (List Piece))) → map whole_span (flat_map (λ b. b.content) bs) ≡ flat_map (λ b. map whole_span b.content) bs
 spans_of_blocks [] = refl
 spans_of_blocks (b ∷ bs) = map-append whole_span b.content (flat_map (λ b. b.content) bs) ∙ ap (λ ss. map whole_span b.content ++ ss) (spans_of_blocks bs)
@@ -50,7 +50,7 @@ module _ {C D : Type 0} (f : C → D) (p : Part C) where
   named None = refl
   named (Some name) = ap (λ b. b.committed) (blob_in-part_value f p name)
 
-  -- its content may be read before it is looked up, or after
+  -- the content of the named blob may be read before the look-up or after it
   pub named_blob-part_value : (a : Ask) → named_blob (part_value f p) a ≡ option_map (committed_value f) (named_blob p a)
   named_blob-part_value a = named a.blob
 
@@ -58,7 +58,7 @@ none_stays : {C D : Type 0} (f : C → D) (c : Option (Committed C)) → is_none
 none_stays f None = refl
 none_stays f (Some c) = refl
 
--- the blob is absent by one reading exactly if it is absent by the other
+-- the blob is absent by one reading if and only if it is absent by the other reading
 pub absent_by_either_reading : {C D : Type 0} (f : C → D) (p : Part C) (a : Ask) → is_none (named_blob (part_value f p) a) ≡ is_none (named_blob p a)
 absent_by_either_reading f p a = ap (λ (c : Option (Committed _)). is_none c) (named_blob-part_value f p a) ∙ none_stays f (named_blob p a)
 
@@ -108,14 +108,14 @@ module _ (p : Part (List Piece)) (q : Asked) (t : ℕ) (c : Committed (List Piec
   unchanged : {X : Type 0} (f : List Piece → X) (z : Part ℕ) (r : Part X) → part_after f (change_of z q t) r ≡ r
   unchanged f z r = ap (λ (o : Op). part_after f (option_map (λ a. record { key = q.ask.key; act = a }) (act_by o z q t)) r) is
 
-  -- the frame of a Get Blob is that of the blob that is there
+  -- the frame of a Get Blob is the frame of the blob that it names
   pub frame_of_get : frame (part_after pieces_len (change_of (part_value pieces_len p) q t) (part_value pieces_len p)) q ≡ get_frame (committed_value pieces_len c)
   frame_of_get =
       ap (λ (r : Part ℕ). frame r q) (unchanged pieces_len (part_value pieces_len p) (part_value pieces_len p))
       ∙ ap (λ (o : Op). frame_by o q (unwrap_or (named_blob (part_value pieces_len p) q.ask) empty_blob)) is
       ∙ ap (λ (o : Option (Committed ℕ)). get_frame (unwrap_or o empty_blob)) (named_blob-part_value pieces_len p q.ask ∙ ap (option_map (committed_value pieces_len)) there)
 
-  -- and all of its pieces go out
+  -- on a Get Blob all pieces of the blob go out
   pub spans_of_get : (z : Part ℕ) → spans (part_after same_pieces (change_of z q t) p) q ≡ map whole_span (flat_map (λ b. b.content) c.blocks)
   spans_of_get z =
       ap (λ (r : Part (List Piece)). spans r q) (unchanged same_pieces z p)

@@ -17,7 +17,7 @@ pub blob_in_no_part : {C : Type 0} (name : List ℕ) → blob_in (no_part {C = C
 blob_in_no_part name = ap (λ o. unwrap_or o no_blob) (finite.get-empty name_cmp name)
 
 module _ {C : Type 0} (k : Key) (p : Part C) where
-  -- what is found under a key
+  -- the container that is found under a key
   looked_up : (q : Key) → part_at (one_part k p) q ≡ unwrap_or (cond (eq_by_cmp key_cmp q k) (Some p) None) no_part
   looked_up q =
       ap (λ o. unwrap_or o no_part) (finite.get-insert keys_total finite.empty k p q)
@@ -41,15 +41,15 @@ module _ {C : Type 0} (k : Key) (p : Part C) where
   own q true e some = sym (keys_exact q k (equal (key_cmp q k) e))
   own q false e some = cc
 
-  -- what stands is the container itself
-  pub stands-own : (q : Key) → IsSome (part_at (one_part k p) q).standing → k ≡ q
-  stands-own q some = own q (eq_by_cmp key_cmp q k) refl (ap (λ (r : Part C). is_some r.standing) (sym (looked_up q)) ∙ some)
+  -- if a container exists, it is the container itself
+  pub existing-own : (q : Key) → IsSome (part_at (one_part k p) q).standing → k ≡ q
+  existing-own q some = own q (eq_by_cmp key_cmp q k) refl (ap (λ (r : Part C). is_some r.standing) (sym (looked_up q)) ∙ some)
 
   over : {X : Type 0} (b : Bool) (x y z : Option X) → cond b x (cond b y z) ≡ cond b x z
   over true x y z = refl
   over false x y z = refl
 
-  -- a container put in its own place
+  -- the container put under its own key
   pub one_part-insert : (r : Part C) → finite.insert (one_part k p) k r ≡ one_part k r
   one_part-insert r = finite.same_map keys_total keys_exact _ _ (λ q.
       finite.get-insert keys_total (one_part k p) k r q
@@ -65,14 +65,14 @@ module _ {C : Type 0} (k : Key) (p : Part C) where
       ∙ ap (λ q. finite.insert (one_part k p) q (changed f c.act p)) (sym same)
       ∙ one_part-insert (changed f c.act p))
 
--- the count of a container that stands is that of the container itself
+-- the count of a container that exists is the count of the container itself
 pub counted_own : {C : Type 0} (k : Key) (p : Part C) (w : World C) (q : Key) (n : ℕ) → one_part k p ≡ w → IsSome (part_at w q).standing → (part_at w q).count < n → p.count < n
-counted_own k p w q n is stands less =
-    let stands : IsSome (part_at (one_part k p) q).standing = subst (λ v. IsSome (part_at v q).standing) (sym is) stands in
-    subst (λ r. r.count < n) (part_at-own k p q (stands-own k p q stands)) (subst (λ v. (part_at v q).count < n) (sym is) less)
+counted_own k p w q n is exists less =
+    let exists : IsSome (part_at (one_part k p) q).standing = subst (λ v. IsSome (part_at v q).standing) (sym is) exists in
+    subst (λ r. r.count < n) (part_at-own k p q (existing-own k p q exists)) (subst (λ v. (part_at v q).count < n) (sym is) less)
 
--- a change of a container that stands is one of the container itself
+-- a change of a container that exists is a change of the container itself
 pub changed_own : {C : Type 0} (f : List Piece → C) (k : Key) (p r : Part C) (w : World C) (c : KeyedAct) → one_part k p ≡ w → IsSome (part_at w c.key).standing → r ≡ changed f c.act p → one_part k r ≡ changed_in f w c
-changed_own f k p r w c is stands now =
-    let stands : IsSome (part_at (one_part k p) c.key).standing = subst (λ v. IsSome (part_at v c.key).standing) (sym is) stands in
-    ap (one_part k) now ∙ changed-one_part k p f c (stands-own k p c.key stands) ∙ ap (λ v. changed_in f v c) is
+changed_own f k p r w c is exists now =
+    let exists : IsSome (part_at (one_part k p) c.key).standing = subst (λ v. IsSome (part_at v c.key).standing) (sym is) exists in
+    ap (one_part k) now ∙ changed-one_part k p f c (existing-own k p c.key exists) ∙ ap (λ v. changed_in f v c) is

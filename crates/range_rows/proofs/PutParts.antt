@@ -10,8 +10,8 @@ use Rattle.stamp_types.specs.Changes.{are_blocks, blocks_len, is_block, has_ids_
 use Rattle.stamp_types.specs.PropsFields.{is_kept}
 use Rattle.stamp_types.specs.Requests.{args_len, kept_len}
 
-four : (w x y z : ℕ) → w + x + y + z ≤ 16384 → (nat_le w 16384 && nat_le x 16384 && nat_le y 16384 && nat_le z 16384) ≡ true
-four w x y z short =
+all_short : (w x y z : ℕ) → w + x + y + z ≤ 16384 → (nat_le w 16384 && nat_le x 16384 && nat_le y 16384 && nat_le z 16384) ≡ true
+all_short w x y z short =
     let a = le-leb w 16384 (omega (arith, short)) in
     let b = le-leb x 16384 (omega (arith, short)) in
     let c = le-leb y 16384 (omega (arith, short)) in
@@ -21,7 +21,7 @@ four w x y z short =
 -- texts that have at most 16,384 bytes together have at most 16,384 bytes each
 pub kept_fits : (a : Args) (k : Kept) → a.kept ≡ Some k → args_len a ≤ 16384 → is_kept k ≡ true
 kept_fits a k given short =
-    four (length k.content_type) (length k.encoding) (length k.language) (length k.cache_control)
+    all_short (length k.content_type) (length k.encoding) (length k.language) (length k.cache_control)
     (subst (λ o. kept_len o ≤ 16384) given (omega (arith, short)))
 
 -- blocks have at most 268,435,456 bytes together

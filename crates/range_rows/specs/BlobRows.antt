@@ -31,5 +31,5 @@ abbrev pub rows_code : Coded (World (List Piece))
 rows_code = world_code content_code
 
 -- a blob just after its content was written: it has no uncommitted blocks
-abbrev pub written : Committed (List Piece) → Blob (List Piece)
-written c = record { committed = Some c; uncommitted = finite.empty }
+abbrev pub written_blob : Committed (List Piece) → Blob (List Piece)
+written_blob c = record { committed = Some c; uncommitted = finite.empty }

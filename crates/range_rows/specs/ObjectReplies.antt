@@ -33,8 +33,8 @@ line_of make [] = []
 line_of make (b ∷ bs) = make (b ∷ bs) ∷ []
 
 -- which change wrote last, and when
-abbrev pub dated : ℕ → ℕ → List Header
-dated etag made = header.Etag etag ∷ header.LastModified made ∷ []
+abbrev pub date_headers : ℕ → ℕ → List Header
+date_headers etag made = header.Etag etag ∷ header.LastModified made ∷ []
 
 -- the kept headers of a blob
 abbrev pub kept_lines : PropsFields → List Header
@@ -44,22 +44,23 @@ kept_lines k =
 
 -- the headers of a blob that is read
 abbrev pub read_headers : {C : Type 0} → Committed C → List Header
-read_headers c = kept_lines c.props ++ map header.Meta c.metadata ++ header.BlobType ∷ header.AcceptRanges ∷ dated c.etag c.made
+read_headers c = kept_lines c.props ++ map header.Meta c.metadata ++ header.BlobType ∷ header.AcceptRanges ∷ date_headers c.etag c.made
 
--- a reply that refuses nothing, and has no body of its own
-abbrev pub success : Status → List Header → ℕ → Reply
-success s headers length = record { status = s; code = None; rule = None; headers = headers; length = length; body = [] }
+-- a reply that refuses nothing, with an empty body
+abbrev pub success_reply : Status → List Header → ℕ → Reply
+success_reply s headers length = record { status = s; code = None; rule = None; headers = headers; length = length; body = [] }
 
 -- the reply to Put Blob, from the MD5 of what came, and from the ETag and the moment that the blob has then
 abbrev pub put_reply : List ℕ → ℕ → ℕ → Reply
-put_reply sum etag made = success status.Created (header.ContentMd5 sum ∷ dated etag made) 0
+put_reply sum etag made = success_reply status.Created (header.ContentMd5 sum ∷ date_headers etag made) 0
 
--- the frame of the reply to Get Blob: the length is that of all blocks
+-- the frame of the reply to Get Blob: its length is the length of all blocks together
 abbrev pub get_frame : Committed ℕ → Reply
-get_frame c = success status.Success (read_headers c) (sum_by (λ b. b.content) c.blocks)
+get_frame c = success_reply status.Success (read_headers c) (sum_by (λ b. b.content) c.blocks)
 
--- a blob without a byte. If no rule refuses a request and its blob does not exist, the request is answered as of this blob;
--- no caller can make such a request.
+-- A blob without a byte. It takes the part of a blob that does not exist in the reply to a request that no rule refuses. For
+-- the operations that are served, no request is answered in this way: Put Blob makes its blob, and a rule refuses a Get Blob
+-- without a blob.
 abbrev pub empty_blob : {C : Type 0} → Committed C
 empty_blob = record {
   etag = 0;
@@ -69,21 +70,21 @@ empty_blob = record {
   blocks = [];
 }
 
--- what readers see of the blob that a request names
+-- what readers see of the blob that a request names, or else the blob without a byte
 abbrev pub blob_read : {C : Type 0} → Part C → Ask → Committed C
 blob_read p a = unwrap_or (named_blob p a) empty_blob
 
--- the frame of the reply to an operation, if the blob is this one after it
+-- the frame of the reply to an operation, if this is the blob after the operation
 abbrev pub frame_by : Op → Asked → Committed ℕ → Reply
 frame_by op.PutBlob q c = put_reply (md5 q.body) c.etag c.made
 frame_by op.GetBlob q c = get_frame c
-frame_by _ q c = success status.Success [] 0
+frame_by _ q c = success_reply status.Success [] 0
 
--- the frame of the reply to a request that was allowed, and has changed what it may
+-- the frame of the reply to an allowed request, from the container after the request's change
 abbrev pub frame : Part ℕ → Asked → Reply
 frame p q = frame_by q.ask.op q (blob_read p q.ask)
 
--- the content that goes out: on Get Blob all of the blob
+-- the content that goes out: on Get Blob all content of the blob, on other operations no content
 abbrev pub content_by : {C : Type 0} → Op → Committed (List C) → List C
 content_by op.GetBlob c = flat_map (λ b. b.content) c.blocks
 content_by _ c = []
@@ -100,11 +101,11 @@ byte_count bytes = length bytes
 abbrev pub sizes : Part (List ℕ) → Part ℕ
 sizes p = part_value byte_count p
 
--- the reply with these bytes after what it has of its own
+-- the reply with these bytes after its own body
 abbrev pub with_content : Reply → List ℕ → Reply
 with_content r bytes = record r { body = r.body ++ bytes }
 
--- the reply to a request that was allowed, and has changed what it may
+-- the reply to an allowed request, from the container after the request's change
 abbrev pub reply_of : Part (List ℕ) → Asked → Reply
 reply_of p q = with_content (frame (sizes p) q) (content_sent p q)
 
@@ -116,7 +117,7 @@ whole_span piece = record { piece = piece; from = 0; to = piece_len piece }
 abbrev pub spans : Part (List Piece) → Asked → List Span
 spans p q = map whole_span (content_sent p q)
 
--- the bytes of a span, if this is how pieces are read
+-- the bytes of a span, if pieces are read in this way
 abbrev pub span_bytes : (Piece → List ℕ) → Span → List ℕ
 span_bytes read s = slice_range (read s.piece) s.from s.to
 

@@ -14,9 +14,15 @@ use Rattle.stamp_types.specs.declared.rule.Rule.TheVariants as rule
 use Rattle.stamp_types.specs.declared.ask.Ask.{Ask}
 use Rattle.stamp_types.specs.declared.committed.Committed.{Committed}
 use Rattle.stamp_types.specs.Requests.{Asked}
-use Rattle.stamp_types.specs.World.{Part, blob_in}
+use Rattle.stamp_types.specs.declared.piece.Piece.{Piece}
+use Rattle.stamp_types.specs.Pieces.{pieces_len}
+use Rattle.stamp_types.specs.World.{Part, World, blob_in, part_at, part_value}
 
--- the largest count: a container that has seen so many changes takes no more
+-- the container that a request names, with the sizes of its content
+abbrev pub sizes_named : World (List Piece) → Asked → Part ℕ
+sizes_named w q = part_value pieces_len (part_at w q.ask.key)
+
+-- the largest count: a container that has seen this number of changes takes no further change
 abbrev pub count_limit : ℕ
 count_limit = 18446744073709551615
 
@@ -35,12 +41,12 @@ needs_blob op.SetMetadata = true
 needs_blob op.DeleteBlob = true
 needs_blob _ = false
 
--- it is Create Container
+-- the operation is Create Container
 abbrev pub is_create : Op → Bool
 is_create op.CreateContainer = true
 is_create _ = false
 
--- it is Put Blob
+-- the operation is Put Blob
 abbrev pub is_put : Op → Bool
 is_put op.PutBlob = true
 is_put _ = false
@@ -53,7 +59,7 @@ named_blob p a = option_and_then (λ name. (blob_in p name).committed) a.blob
 abbrev pub kept_md5 : Ask → Option (List ℕ)
 kept_md5 a = option_and_then (λ k. k.md5) a.args.kept
 
--- an MD5 is given, and the body has another
+-- an MD5 is given, and the body has another MD5
 abbrev pub has_other_md5 : List ℕ → Option (List ℕ) → Bool
 has_other_md5 body None = false
 has_other_md5 body (Some sum) = not (pointwise nat_eq sum (md5 body))
@@ -70,7 +76,7 @@ pub data Cause : Type 0 where
   BodyIsDamaged : Cause
   CountIsFull : Cause
 
--- whether a cause exists, if the container is as this part of the world says: each cause by itself
+-- whether a cause to refuse exists, if the container is as this part of the world says: each cause by itself
 abbrev pub cause_holds : Part ℕ → Asked → Cause → Bool
 cause_holds p q ContainerIsAbsent = needs_container q.ask.op && is_none p.standing
 cause_holds p q ContainerExists = is_create q.ask.op && is_some p.standing
@@ -78,11 +84,11 @@ cause_holds p q BlobIsAbsent = needs_blob q.ask.op && is_none (named_blob p q.as
 cause_holds p q BodyIsDamaged = is_damaged q
 cause_holds p q CountIsFull = writes q.ask.op && nat_eq p.count count_limit
 
--- the causes in the order in which the first that exists is sought
+-- the causes in the order in which the first cause that exists is looked for
 abbrev pub causes : List Cause
 causes = ContainerIsAbsent ∷ ContainerExists ∷ BlobIsAbsent ∷ BodyIsDamaged ∷ CountIsFull ∷ []
 
--- the rule and the error code that tell of a cause
+-- the refusal by a cause: its rule and its error code
 abbrev pub cause_refusal : Cause → Refusal
 cause_refusal ContainerIsAbsent = record { rule = rule.O1; code = code.ContainerNotFound }
 cause_refusal ContainerExists = record { rule = rule.O2; code = code.ContainerAlreadyExists }
@@ -94,7 +100,7 @@ cause_refusal CountIsFull = record { rule = rule.O6; code = code.InternalError }
 abbrev pub object_refusal : Part ℕ → Asked → Option Refusal
 object_refusal p q = option_map cause_refusal (find (cause_holds p q) causes)
 
--- a rule of the object holds if one of its causes exists
+-- a rule of the object holds if its cause exists
 abbrev pub object_holds : Part ℕ → Asked → Rule → Bool
 object_holds p q rule.O1 = cause_holds p q ContainerIsAbsent
 object_holds p q rule.O2 = cause_holds p q ContainerExists

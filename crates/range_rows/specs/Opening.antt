@@ -5,13 +5,13 @@ use Rattle.stamp_values.specs.declared.key.Key.{Key}
 use Rattle.stamp_values.specs.Acls.{closed_acl}
 use Rattle.stamp_types.specs.World.{Part, World}
 
--- one container, and no other
+-- a world of one container
 abbrev pub one_part : {C : Type 0} → Key → Part C → World C
 one_part key p = finite.insert finite.empty key p
 
 -- a closed container that was just made: its one change, no metadata, no policies, no blobs
-abbrev pub opening : {C : Type 0} → ℕ → Part C
-opening moment = record {
+abbrev pub container_just_made : {C : Type 0} → ℕ → Part C
+container_just_made moment = record {
   count = 1;
   standing = Some (record { etag = 1; made = moment; acl = closed_acl; metadata = [] });
   blobs = finite.empty;

@@ -10,8 +10,8 @@ pub struct Span {
     pub to: u64,
 }
 
-/// The reply to a request, without the content that goes out with it: the spans give that content, in their order. The frame's
-/// length counts it.
+/// The reply to a request, without the content that goes out with it. The spans give that content,
+/// in their order. The frame's length counts the content.
 #[derive(Debug, Drop)]
 pub struct Answer {
     pub frame: Reply,

@@ -5,13 +5,14 @@ ghost use Rattle.std.specs.FinMap as finite;
 ghost use Rattle.stamp_values.specs.Names.{is_blob};
 ghost use Rattle.stamp_types.specs.Changes.{is_committed, are_blocks};
 
-use crate::place::place_of;
 use crate::row::Row;
+use crate::row_index::index_of;
 use stamp_types::{Committed, Pieces, Text};
 use std::alloc::{AllocError, Global};
 use std::marker::Model;
 
-/// The blobs of a container, seen as the map from their names. A look-up goes over all rows.
+/// The blobs of a container, seen as the map from names to blobs. A look-up goes over the rows one
+/// by one.
 #[derive(Debug, Drop)]
 pub(crate) struct Blobs {
     rows: Vec<Row>,
@@ -34,7 +35,7 @@ impl Model for Blobs {
 
 impl Blobs {
     ghost use Rattle.stamp_types.specs.World.{no_blob};
-    ghost use Rattle.range_rows.specs.BlobRows.{written};
+    ghost use Rattle.range_rows.specs.BlobRows.{written_blob};
 
     /// No blobs. Takes no memory.
     pub(crate) fn none(alloc: Global) -> Self
@@ -45,26 +46,27 @@ impl Blobs {
         }
     }
 
-    // The row of the name.
+    // The row of the name, if there is a row of the name.
     fn row(&self, name: &Text) -> Option<&Row>
         ensures { finite.get self.now name.now ≡ option_map (λ row. row.1) (option_copied result) }
     {
-        match place_of(&self.rows, name) {
+        match index_of(&self.rows, name) {
             Some(at) => Some(&self.rows[at]),
             None => None,
         }
     }
 
-    /// What readers of a blob see, or `None` where it has no committed part.
+    /// What readers of a blob see, or `None` if the blob has no committed part.
     pub(crate) fn committed(&self, name: &Text) -> Option<&Committed<Pieces>>
-        ensures value { option_copied result ≡ (unwrap_or (finite.get self.now name.now) no_blob).committed }
+        ensures value { option_copied result
+            ≡ (unwrap_or (finite.get self.now name.now) no_blob).committed }
         ensures blocks { IsTrue (is_committed (option_copied result)) }
     {
         let row = self.row(name)?;
         row.committed()
     }
 
-    /// Writes a blob, whether it was there or not. Its uncommitted blocks are dropped.
+    /// Writes a blob, whether the blob existed before or not. Its uncommitted blocks are dropped.
     ///
     /// `AllocError` if memory runs out for one more row. The blobs are then as they were.
     pub(crate) fn write(
@@ -75,10 +77,11 @@ impl Blobs {
     ) -> Result<(), AllocError>
         requires name { IsTrue (is_blob name) }
         requires blocks { IsTrue (are_blocks committed.blocks) }
-        ensures written { OnOk result (self.new ≡ finite.insert self.old name (written committed)) }
+        ensures written { OnOk result
+            (self.new ≡ finite.insert self.old name (written_blob committed)) }
         ensures refused { OnErr result (self.new ≡ self.old) }
     {
-        match place_of(&self.rows, &name) {
+        match index_of(&self.rows, &name) {
             Some(at) => {
                 let row = &mut self.rows[at];
                 row.write(alloc, committed);

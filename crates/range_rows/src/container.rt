@@ -13,7 +13,7 @@ use stamp_types::{
 use std::alloc::{AllocError, Global};
 use std::marker::Model;
 
-/// A container that stands, and its blobs, seen as the container's part of the world.
+/// A container that exists, and its blobs, seen as the container's part of the world.
 #[derive(Debug, Drop)]
 pub(crate) struct Container {
     // how many changes the container has seen
@@ -35,7 +35,7 @@ impl Model for Container {
     ghost view = { λ c. record { count = c.count; standing = Some c.standing; blobs = c.blobs } };
 }
 
-// The blocks of content that Put Blob brings: one without an id.
+// The blocks of content that Put Blob brings: one block without an id.
 #[tactic(auto, using(crate::proofs::PutBlocks::are_blocks_whole))]
 fn whole(alloc: Global, content: Pieces) -> Result<Items<Block<Pieces>>, AllocError>
     ensures value { IfOk result (λ blocks. blocks ≡ whole_block content ∷ []) }
@@ -48,12 +48,12 @@ fn whole(alloc: Global, content: Pieces) -> Result<Items<Block<Pieces>>, AllocEr
 impl Container {
     ghost use Rattle.stamp_types.specs.World.{changed, same_pieces};
     ghost use Rattle.range_rows.specs.ObjectRules.{count_limit};
-    ghost use Rattle.range_rows.specs.Opening.{opening};
+    ghost use Rattle.range_rows.specs.Opening.{container_just_made};
     ghost use Rattle.range_rows.specs.RequestChanges.{is_put_act};
 
     /// A closed container without blobs, made at the moment. Takes no memory.
     pub(crate) fn new(alloc: Global, moment: Moment) -> Self
-        ensures { result ≡ opening moment }
+        ensures { result ≡ container_just_made moment }
     {
         Self {
             count: 1,
@@ -117,7 +117,8 @@ impl Container {
 
     /// Makes a change of the container, which is a Put Blob. What the act holds moves into the row.
     ///
-    /// `AllocError` if memory runs out for a new row or its list of blocks. The container is then as it was.
+    /// `AllocError` if memory runs out for a new row or its list of blocks. The container is then
+    /// as it was.
     pub(crate) fn take(&mut self, alloc: Global, act: Act) -> Result<(), AllocError>
         requires put { IsTrue (is_put_act act) }
         requires valid { IsTrue (is_act act) }

@@ -1,5 +1,5 @@
-//! What a partition holds in memory of one container and its blobs, the rules of the object over it, what
-//! allowed requests change, and how they are answered.
+//! What a partition holds in memory of one container and its blobs, the rules of the object over
+//! it, what allowed requests change, and how they are answered.
 #![tactic(auto)]
 
 mod answer;
@@ -7,11 +7,11 @@ mod answer_laws;
 mod blobs;
 mod container;
 mod object_rules;
-mod place;
 mod reading;
 mod replies;
 mod request_changes;
 mod row;
+mod row_index;
 mod rows;
 #[cfg(test)]
 mod rows_tests;

@@ -26,7 +26,7 @@ fn needs_blob(op: Op) -> bool
     )
 }
 
-// Whether an MD5 is given, and isn't that of the body. Reads no byte of the body.
+// Whether an MD5 is given that isn't the MD5 of the body. Reads no byte of the body.
 fn has_other_md5(body: &Body, given: Option<[u8; 16]>) -> bool
     ensures { result ≡ rules.has_other_md5 body.now given }
 {
@@ -46,7 +46,8 @@ fn kept_md5(ask: &Ask) -> Option<[u8; 16]>
     }
 }
 
-// Whether the body has another MD5 than the headers say. Put Block List keeps x-ms-blob-content-md5 as it is.
+// Whether the body has another MD5 than the headers say. Put Block List keeps x-ms-blob-content-md5
+// as it is.
 fn is_damaged(request: &Request) -> bool
     ensures { result ≡ rules.is_damaged request.now }
 {
@@ -70,7 +71,8 @@ impl Rows {
 
     /// What readers see of the blob that the request names, if it names one.
     pub(crate) fn named_blob(&self, ask: &Ask) -> Option<&Committed<Pieces>>
-        ensures value { option_copied result ≡ rules.named_blob (part_at self.now ask.now.key) ask.now }
+        ensures value { option_copied result
+            ≡ rules.named_blob (part_at self.now ask.now.key) ask.now }
         ensures blocks { IsTrue (is_committed (option_copied result)) }
     {
         match &ask.blob {
@@ -79,17 +81,21 @@ impl Rows {
         }
     }
 
-    // Whether the blob that the request names is absent, or the request names none.
+    // Whether the blob that the request names has no committed part, or the request names no blob.
     #[tactic(auto, using(crate::proofs::AnswerLemmas::absent_by_either_reading))]
     fn lacks_blob(&self, ask: &Ask) -> bool
-        ensures { result ≡ is_none (rules.named_blob (part_value pieces_len (part_at self.now ask.now.key)) ask.now) }
+        ensures { result
+            ≡ is_none
+            (rules.named_blob (part_value pieces_len (part_at self.now ask.now.key)) ask.now) }
     {
         self.named_blob(ask).is_none()
     }
 
-    // The first cause for which the object refuses the request, with its rule and code.
+    // The refusal by the first cause for which the object refuses the request, with the cause's
+    // rule and code.
     fn refusal(&self, request: &Request) -> Option<Refusal>
-        ensures { result ≡ rules.object_refusal (part_value pieces_len (part_at self.now request.now.ask.key)) request.now }
+        ensures { result
+            ≡ rules.object_refusal (rules.sizes_named self.now request.now) request.now }
     {
         let ask = request.ask();
         let exists = self.container(&ask.key).is_some();
@@ -111,10 +117,12 @@ impl Rows {
         None
     }
 
-    /// The refusal of a request by the object, if it has one: the first cause in the order of the rules, with its rule and code.
-    /// `reading` is what the request's body says. Reads no byte of that body.
+    /// The refusal of a request by the object, if the object refuses it: the rule and the code of
+    /// the first cause, in the order of the rules. `reading` is what the request's body says. Reads
+    /// no byte of that body.
     ///
-    /// `AllocError` comes only on Put Block List, if memory runs out for a look-up of its blocks.
+    /// Today this takes no memory, and never answers `AllocError`. Only Put Block List may answer
+    /// it, as soon as its blocks are looked up.
     pub fn object_rule(
         &self,
         _alloc: Global,
@@ -122,7 +130,8 @@ impl Rows {
         _reading: &Reading,
     ) -> Result<Option<Refusal>, AllocError>
         requires { _reading.now ≡ reading_of request.now }
-        ensures rule { IfOk result (λ refusal. refusal ≡ rules.object_refusal (part_value pieces_len (part_at self.now request.now.ask.key)) request.now) }
+        ensures rule { IfOk result (λ refusal.
+            refusal ≡ rules.object_refusal (rules.sizes_named self.now request.now) request.now) }
         ensures memory { IsErr result → request.now.ask.op ≡ op.PutBlockList }
     {
         Ok(self.refusal(request))

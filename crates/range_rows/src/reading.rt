@@ -4,10 +4,12 @@ ghost use Rattle.range_rows.specs.RequestChanges.{reading_of};
 
 use stamp_types::Request;
 
-/// What the body of a request says besides its bytes. It is read once, before rows are touched, from the request alone.
+/// What the body of a request says besides its bytes. It is read once, from the request alone,
+/// before rows are touched.
 #[derive(Clone, Copy, Debug, PartialEq, Eq)]
 pub enum Reading {
-    /// The operation takes nothing of a body but its bytes. All operations that are served so far do so.
+    /// The body says nothing besides its bytes. This is so for all operations that are served so
+    /// far.
     Nothing,
 }
 

@@ -20,7 +20,9 @@ use stamp_types::{
 use std::alloc::{AllocError, Global};
 
 fn push_encoding(headers: &mut Vec<Header>, encoding: &Visible) -> Result<(), AllocError>
-    ensures { OnOk result (headers.new.items ≡ headers.old.items ++ replies.line_of header.ContentEncoding encoding.now) }
+    ensures { OnOk result
+        (headers.new.items
+        ≡ headers.old.items ++ replies.line_of header.ContentEncoding encoding.now) }
 {
     if !encoding.as_str().is_empty() {
         headers.push(Header::ContentEncoding(encoding.clone()?))?;
@@ -29,7 +31,9 @@ fn push_encoding(headers: &mut Vec<Header>, encoding: &Visible) -> Result<(), Al
 }
 
 fn push_language(headers: &mut Vec<Header>, language: &Visible) -> Result<(), AllocError>
-    ensures { OnOk result (headers.new.items ≡ headers.old.items ++ replies.line_of header.ContentLanguage language.now) }
+    ensures { OnOk result
+        (headers.new.items
+        ≡ headers.old.items ++ replies.line_of header.ContentLanguage language.now) }
 {
     if !language.as_str().is_empty() {
         headers.push(Header::ContentLanguage(language.clone()?))?;
@@ -38,7 +42,8 @@ fn push_language(headers: &mut Vec<Header>, language: &Visible) -> Result<(), Al
 }
 
 fn push_cache_control(headers: &mut Vec<Header>, cache: &Visible) -> Result<(), AllocError>
-    ensures { OnOk result (headers.new.items ≡ headers.old.items ++ replies.line_of header.CacheControl cache.now) }
+    ensures { OnOk result
+        (headers.new.items ≡ headers.old.items ++ replies.line_of header.CacheControl cache.now) }
 {
     if !cache.as_str().is_empty() {
         headers.push(Header::CacheControl(cache.clone()?))?;
@@ -47,7 +52,8 @@ fn push_cache_control(headers: &mut Vec<Header>, cache: &Visible) -> Result<(), 
 }
 
 fn push_md5(headers: &mut Vec<Header>, sum: Option<[u8; 16]>) -> Result<(), AllocError>
-    ensures { OnOk result (headers.new.items ≡ headers.old.items ++ map header.ContentMd5 (option_to_list sum)) }
+    ensures { OnOk result
+        (headers.new.items ≡ headers.old.items ++ map header.ContentMd5 (option_to_list sum)) }
 {
     if let Some(sum) = sum {
         headers.push(Header::ContentMd5(sum))?;
@@ -55,7 +61,7 @@ fn push_md5(headers: &mut Vec<Header>, sum: Option<[u8; 16]>) -> Result<(), Allo
     Ok(())
 }
 
-// Puts the lines of the kept headers after the headers, except those that are empty.
+// Puts the lines of the kept headers after the headers. A kept header that is empty has no line.
 fn push_kept(headers: &mut Vec<Header>, props: &Props) -> Result<(), AllocError>
     ensures { OnOk result (headers.new.items ≡ headers.old.items ++ replies.kept_lines props.now) }
 {
@@ -79,7 +85,8 @@ fn push_metadata(headers: &mut Vec<Header>, metas: &[Meta]) -> Result<(), AllocE
 
 // Puts two lines after the headers: which change wrote last, and when.
 fn push_dates(headers: &mut Vec<Header>, etag: u64, made: Moment) -> Result<(), AllocError>
-    ensures { OnOk result (headers.new.items ≡ headers.old.items ++ replies.dated etag made) }
+    ensures { OnOk result
+        (headers.new.items ≡ headers.old.items ++ replies.date_headers etag made) }
 {
     headers.push(Header::Etag(etag))?;
     headers.push(Header::LastModified(made))?;
@@ -89,7 +96,8 @@ fn push_dates(headers: &mut Vec<Header>, etag: u64, made: Moment) -> Result<(), 
 fn read_headers(alloc: Global, blob: &Committed<Pieces>) -> Result<Vec<Header>, AllocError>
     ensures { IfOk result (λ headers. headers.items ≡ replies.read_headers blob.now) }
 {
-    let mut headers = Vec::new(alloc);
+    // Room for the kept headers that most blobs have, and for the last four lines.
+    let mut headers = Vec::with_capacity(alloc, 6)?;
     push_kept(&mut headers, &blob.props)?;
     push_metadata(&mut headers, blob.metadata.as_slice())?;
     headers.push(Header::BlobType)?;
@@ -101,7 +109,8 @@ fn read_headers(alloc: Global, blob: &Committed<Pieces>) -> Result<Vec<Header>, 
 fn put_reply(alloc: Global, sum: [u8; 16], etag: u64, made: Moment) -> Result<Reply, AllocError>
     ensures { IfOk result (λ reply. reply ≡ replies.put_reply sum etag made) }
 {
-    let mut headers = vec![in alloc; Header::ContentMd5(sum)]?;
+    let mut headers = Vec::with_capacity(alloc, 3)?;
+    headers.push(Header::ContentMd5(sum))?;
     push_dates(&mut headers, etag, made)?;
     Ok(Reply {
         status: Status::Created,
@@ -127,9 +136,10 @@ fn push_spans(spans: &mut Vec<Span>, pieces: &[Piece]) -> Result<(), AllocError>
     Ok(())
 }
 
-// The pieces of the blocks, in their order.
+// The spans of the pieces of the blocks, each piece whole, in their order.
 fn spans_of(alloc: Global, blocks: &[Block<Pieces>]) -> Result<Vec<Span>, AllocError>
-    ensures { IfOk result (λ spans. spans.items ≡ flat_map (λ b. map replies.whole_span b.content) blocks.now) }
+    ensures { IfOk result (λ spans.
+        spans.items ≡ flat_map (λ b. map replies.whole_span b.content) blocks.now) }
 {
     let mut spans = Vec::new(alloc);
     let mut left = blocks;
@@ -157,7 +167,8 @@ fn total_len(blocks: &[Block<Pieces>]) -> u64
 #[tactic(auto, using(crate::proofs::PutParts::within_blob, crate::proofs::AnswerLemmas::sizes_of_blocks))]
 fn get_frame(alloc: Global, blob: &Committed<Pieces>) -> Result<Reply, AllocError>
     requires { IsTrue (are_blocks blob.now.blocks) }
-    ensures { IfOk result (λ reply. reply ≡ replies.get_frame (committed_value pieces_len blob.now)) }
+    ensures { IfOk result (λ reply.
+        reply ≡ replies.get_frame (committed_value pieces_len blob.now)) }
 {
     let headers = read_headers(alloc, blob)?;
     Ok(Reply {
@@ -174,8 +185,10 @@ fn get_frame(alloc: Global, blob: &Committed<Pieces>) -> Result<Reply, AllocErro
 #[tactic(auto, using(crate::proofs::AnswerLemmas::spans_of_blocks, crate::proofs::SpanLemmas::whole_within, crate::proofs::SpanLemmas::spans_len_of_blocks, crate::proofs::PutParts::within_blob))]
 fn get_answer(alloc: Global, blob: &Committed<Pieces>) -> Result<Answer, AllocError>
     requires { IsTrue (are_blocks blob.now.blocks) }
-    ensures frame { IfOk result (λ answer. answer.frame ≡ replies.get_frame (committed_value pieces_len blob.now)) }
-    ensures spans { IfOk result (λ answer. answer.spans ≡ map replies.whole_span (flat_map (λ b. b.content) blob.now.blocks)) }
+    ensures frame { IfOk result (λ answer.
+        answer.frame ≡ replies.get_frame (committed_value pieces_len blob.now)) }
+    ensures spans { IfOk result (λ answer.
+        answer.spans ≡ map replies.whole_span (flat_map (λ b. b.content) blob.now.blocks)) }
     ensures within { IfOk result (λ answer. IsTrue (list_all replies.is_within answer.spans)) }
     ensures short { IfOk result (λ answer. replies.spans_len answer.spans ≤ blob_limit) }
 {
@@ -188,11 +201,11 @@ fn get_answer(alloc: Global, blob: &Committed<Pieces>) -> Result<Answer, AllocEr
 }
 
 impl Rows {
-    ghost use Rattle.stamp_types.specs.World.{part_at, part_value, same_pieces};
-    ghost use Rattle.range_rows.specs.ObjectRules.{object_refusal};
-    ghost use Rattle.range_rows.specs.RequestChanges.{change_of, part_after, reading_of};
+    ghost use Rattle.range_rows.specs.ObjectRules.{object_refusal, sizes_named};
+    ghost use Rattle.range_rows.specs.RequestChanges.{pieces_after, reading_of, sizes_after};
 
-    // The answer to a Put Blob that was allowed: the ETag is that of the change that it makes.
+    // The answer to a Put Blob that was allowed: the ETag is the ETag of the change that the Put
+    // Blob makes.
     #[tactic(auto, using(crate::proofs::Allowed::allowed_room, crate::proofs::AnswerLemmas::frame_of_put, crate::proofs::AnswerLemmas::spans_of_put))]
     fn put_answer(
         &self,
@@ -201,8 +214,9 @@ impl Rows {
         moment: Moment,
     ) -> Result<Answer, AllocError>
         requires put { request.now.ask.op ≡ op.PutBlob }
-        requires allowed { object_refusal (part_value pieces_len (part_at self.now request.now.ask.key)) request.now ≡ None }
-        ensures frame { IfOk result (λ answer. answer.frame ≡ replies.frame (part_after pieces_len (change_of (part_value pieces_len (part_at self.now request.now.ask.key)) request.now moment) (part_value pieces_len (part_at self.now request.now.ask.key))) request.now) }
+        requires allowed { object_refusal (sizes_named self.now request.now) request.now ≡ None }
+        ensures frame { IfOk result (λ answer.
+            answer.frame ≡ replies.frame (sizes_after self.now request.now moment) request.now) }
         ensures spans { IfOk result (λ answer. answer.spans ≡ []) }
     {
         let ask = request.ask();
@@ -219,14 +233,16 @@ impl Rows {
         }
     }
 
-    /// The answer to a request that was allowed at the moment, by the container as it is after the request's change, if it
-    /// makes one. That change is not applied yet. Put Blob and Get Blob are answered so far. `reading` is what the request's
-    /// body says.
+    /// The answer to a request that was allowed at the moment. If the request makes a change, the
+    /// answer is made from the container as it is after that change, which is not applied yet. Put
+    /// Blob and Get Blob are answered so far. `reading` is what the request's body says.
     ///
-    /// The answer has shares of the content, of which no byte is copied, or the content's places in streams: whoever sends it
-    /// reads them. A range is not looked at: the answer is the whole blob (RFC 9110, section 14.2).
+    /// The answer has shares of the content, of which no byte is copied, or the content's places in
+    /// streams: whoever sends the answer reads the content there. A range is not looked at: the
+    /// answer is the whole blob (RFC 9110, section 14.2).
     ///
-    /// `AllocError` if memory runs out for the headers or the list of spans, or if the content can have no further owner.
+    /// `AllocError` if memory runs out for the headers or the list of spans, or if the content can
+    /// have no further owner.
     #[tactic(auto, using(crate::proofs::Allowed::allowed_blob, crate::proofs::AnswerLemmas::frame_of_get, crate::proofs::AnswerLemmas::spans_of_get, crate::proofs::AnswerLemmas::spans_of_put))]
     pub fn reply(
         &self,
@@ -236,12 +252,14 @@ impl Rows {
         moment: Moment,
     ) -> Result<Answer, AllocError>
         requires served { IsTrue (replies.is_served request.now.ask.op) }
-        requires allowed { object_refusal (part_value pieces_len (part_at self.now request.now.ask.key)) request.now ≡ None }
+        requires allowed { object_refusal (sizes_named self.now request.now) request.now ≡ None }
         requires read { _reading.now ≡ reading_of request.now }
-        ensures frame { IfOk result (λ answer. answer.frame ≡ replies.frame (part_after pieces_len (change_of (part_value pieces_len (part_at self.now request.now.ask.key)) request.now moment) (part_value pieces_len (part_at self.now request.now.ask.key))) request.now) }
+        ensures frame { IfOk result (λ answer.
+            answer.frame ≡ replies.frame (sizes_after self.now request.now moment) request.now) }
         ensures within { IfOk result (λ answer. IsTrue (list_all replies.is_within answer.spans)) }
         ensures short { IfOk result (λ answer. replies.spans_len answer.spans ≤ blob_limit) }
-        ensures spans { IfOk result (λ answer. answer.spans ≡ replies.spans (part_after same_pieces (change_of (part_value pieces_len (part_at self.now request.now.ask.key)) request.now moment) (part_at self.now request.now.ask.key)) request.now) }
+        ensures spans { IfOk result (λ answer.
+            answer.spans ≡ replies.spans (pieces_after self.now request.now moment) request.now) }
     {
         let ask = request.ask();
         match (ask.op, self.named_blob(ask)) {

@@ -9,7 +9,7 @@ use stamp_types::{Committed, Pieces, Text};
 use std::alloc::Global;
 use std::marker::Model;
 
-/// What a container holds under a name, seen as the name and the blob.
+/// The blob that a container holds under a name, seen as the name and the blob.
 #[derive(Debug, Drop)]
 pub(crate) struct Row {
     name: Text,
@@ -33,13 +33,13 @@ impl Model for Row {
 }
 
 impl Row {
-    ghost use Rattle.range_rows.specs.BlobRows.{written};
+    ghost use Rattle.range_rows.specs.BlobRows.{written_blob};
 
-    /// A blob that was not there before. Takes no memory.
+    /// A blob that did not exist before, with no uncommitted blocks. Takes no memory.
     pub(crate) fn new(alloc: Global, name: Text, committed: Committed<Pieces>) -> Self
         requires name { IsTrue (is_blob name) }
         requires blocks { IsTrue (are_blocks committed.blocks) }
-        ensures { result ≡ (name, written committed) }
+        ensures { result ≡ (name, written_blob committed) }
     {
         Self {
             name,
@@ -54,7 +54,7 @@ impl Row {
         &self.name
     }
 
-    /// What readers of the blob see, where there is anything.
+    /// What readers of the blob see, if the blob has a committed part.
     pub(crate) fn committed(&self) -> Option<&Committed<Pieces>>
         ensures value { option_copied result ≡ self.now.1.committed }
         ensures blocks { IsTrue (is_committed self.now.1.committed) }
@@ -63,10 +63,10 @@ impl Row {
         self.committed.as_ref()
     }
 
-    /// Replaces what readers see. The uncommitted blocks are dropped.
+    /// Replaces what readers see of the blob. The uncommitted blocks are dropped.
     pub(crate) fn write(&mut self, alloc: Global, committed: Committed<Pieces>)
         requires { IsTrue (are_blocks committed.blocks) }
-        ensures { self.new ≡ (self.old.0, written committed) }
+        ensures { self.new ≡ (self.old.0, written_blob committed) }
     {
         self.committed = Some(committed);
         self.uncommitted = Uncommitted::none(alloc);

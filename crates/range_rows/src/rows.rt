@@ -7,8 +7,8 @@ use stamp_types::{Change, Committed, Key, Moment, Pieces, Standing, Text};
 use std::alloc::{AllocError, Global};
 use std::marker::Model;
 
-/// One container and its blobs, as a partition holds them in memory, seen as a world that has no other
-/// container.
+/// One container and its blobs, as a partition holds them in memory, seen as a world that has no
+/// other container.
 ///
 /// Content is shared with the requests that brought it, and never copied.
 #[derive(Debug, Drop)]
@@ -42,12 +42,13 @@ impl Rows {
     ghost use Rattle.stamp_types.specs.Changes.{is_committed};
     ghost use Rattle.stamp_types.specs.World.{part_at, no_part, blob_in, changed_in, same_pieces};
     ghost use Rattle.range_rows.specs.ObjectRules.{count_limit};
-    ghost use Rattle.range_rows.specs.Opening.{one_part, opening};
+    ghost use Rattle.range_rows.specs.Opening.{one_part, container_just_made};
     ghost use Rattle.range_rows.specs.RequestChanges.{is_put_act};
 
-    /// A closed container without blobs, made at the moment by the first of its changes. Takes no memory.
+    /// A closed container without blobs, made at the moment by the first of its changes. Takes no
+    /// memory.
     pub fn new(alloc: Global, key: Key, moment: Moment) -> Self
-        ensures { result ≡ one_part key (opening moment) }
+        ensures { result ≡ one_part key (container_just_made moment) }
     {
         Self {
             key,
@@ -66,7 +67,8 @@ impl Rows {
         }
     }
 
-    /// How many changes the container of the key has seen: none where it isn't here.
+    /// How many changes the container of the key has seen: 0 if these rows don't hold that
+    /// container.
     pub fn count(&self, key: &Key) -> u64
         ensures { result ≡ (part_at self.now key.now).count }
     {
@@ -76,7 +78,7 @@ impl Rows {
         }
     }
 
-    /// The container of the key, where it stands.
+    /// What the container of the key has beside its blobs, if the container exists.
     pub fn container(&self, key: &Key) -> Option<&Standing>
         ensures { option_copied result ≡ (part_at self.now key.now).standing }
     {
@@ -84,20 +86,22 @@ impl Rows {
         Some(container.standing())
     }
 
-    /// What readers of a blob see, where it has a committed part.
+    /// What readers of a blob see, if the blob has a committed part.
     #[tactic(auto, using(crate::proofs::OneContainer::blob_in_no_part))]
     pub fn blob(&self, key: &Key, name: &Text) -> Option<&Committed<Pieces>>
-        ensures value { option_copied result ≡ (blob_in (part_at self.now key.now) name.now).committed }
+        ensures value { option_copied result
+            ≡ (blob_in (part_at self.now key.now) name.now).committed }
         ensures blocks { IsTrue (is_committed (option_copied result)) }
     {
         let container = self.held(key)?;
         container.blobs().committed(name)
     }
 
-    /// Makes a change of a container that exists, which is a Put Blob. The texts and the content of the change move
-    /// into the row, and nothing is copied.
+    /// Makes a change of a container that exists, which is a Put Blob. The texts and the content of
+    /// the change move into the row, and nothing is copied.
     ///
-    /// `AllocError` if memory runs out for a new row or its list of blocks. The rows are then as they were.
+    /// `AllocError` if memory runs out for a new row or its list of blocks. The rows are then as
+    /// they were.
     #[tactic(auto, using(crate::proofs::OneContainer::changed_own))]
     pub fn take(&mut self, alloc: Global, change: Change) -> Result<(), AllocError>
         requires put { IsTrue (is_put_act change.act) }
@@ -111,9 +115,11 @@ impl Rows {
         Ok(())
     }
 
-    /// Makes a copy of a change, as `take` makes the change itself. The copy has texts of its own, and shares the content.
+    /// Makes a copy of a change, as `take` makes the change itself. The copy has texts of its own,
+    /// and shares the content.
     ///
-    /// `AllocError` if memory runs out, or the content can have no further owner. The rows are then as they were.
+    /// `AllocError` if memory runs out, or the content can have no further owner. The rows are then
+    /// as they were.
     pub fn apply(&mut self, alloc: Global, change: &Change) -> Result<(), AllocError>
         requires put { IsTrue (is_put_act change.now.act) }
         requires standing { IsSome (part_at self.old change.now.key).standing }

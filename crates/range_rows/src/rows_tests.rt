@@ -1,5 +1,5 @@
-//! What no clause says of rows: that the rules mean the reference's, that each call can succeed, and that no body is copied.
-//! Printed replies, with their lines, are cases of `replay_cases`.
+//! What no clause says of rows: that the rules mean the reference's, that each call can succeed,
+//! and that no body is copied. Printed replies, with their lines, are cases of `replay_cases`.
 ghost use Rattle.std.specs.Prelude.{◌<◌, IsSome, IsTrue};
 ghost use Rattle.stamp_types.specs.World.{part_at};
 ghost use Rattle.range_rows.specs.ObjectRules.{count_limit};
@@ -25,8 +25,8 @@ fn threads_may_have_rows() {
     crosses::<Rows>();
 }
 
-// The operation, the container, the MD5 that the request gives of a body of no bytes, how many changes the container
-// `pics` has seen, which has no blobs, and the rule that refuses.
+// The operation, the container, the MD5 that the request gives of an empty body, how many changes
+// the container `pics` has seen, which has no blobs, and the rule that refuses.
 fn rules() -> [(Op, &'static str, Option<Sum>, u64, Option<Rule>); 10] {
     [
         (Op::ContainerProperties, "pics", None, LAST, None),
@@ -37,7 +37,7 @@ fn rules() -> [(Op, &'static str, Option<Sum>, u64, Option<Rule>); 10] {
         (Op::PutBlob, "pics", None, LAST - 1, None),
         (Op::PutBlob, "pics", ZEROS, 1, Some(Rule::O5)),
         (Op::PutBlob, "pics", None, LAST, Some(Rule::O6)),
-        // If several rules hold the first is named.
+        // If several rules hold, the first rule is named.
         (Op::PutBlob, "pics", ZEROS, LAST, Some(Rule::O5)),
         (Op::PutBlob, "jam", ZEROS, LAST, Some(Rule::O1)),
     ]
@@ -62,7 +62,8 @@ enum Way {
     Copied,
 }
 
-// A function of its own, since the eleven kinds of a change would cost the prover minutes in the body of `change`.
+// A function of its own, since the eleven kinds of a change would cost the prover minutes in the
+// body of `change`.
 fn make(alloc: Global, rows: &mut Rows, change: Change, way: Way) -> Result<(), AllocError>
     requires put { IsTrue (is_put_act change.act) }
     requires standing { IsSome (part_at rows.old change.key).standing }
@@ -116,7 +117,8 @@ fn put(rt: &impl Abort, alloc: Global, rows: &mut Rows, blob: &str, body: Body, 
     change(rt, alloc, rows, &request, way);
 }
 
-// What goes out of a blob of so many bytes. The metadata is on its line, after the type and the MD5.
+// The spans that go out on a Get Blob of a blob of so many bytes. The metadata has its line after
+// the type and the MD5.
 fn read(rt: &impl Abort, alloc: Global, rows: &Rows, blob: &str, length: u64) -> Items<Span> {
     let request = request(rt, alloc, Op::GetBlob, "pics", blob, None, Body::empty());
     let answer = answer(rt, alloc, rows, &request, Status::Success, length);
@@ -125,7 +127,7 @@ fn read(rt: &impl Abort, alloc: Global, rows: &Rows, blob: &str, length: u64) ->
     answer.spans
 }
 
-// Whether the spans are one, of all of a piece that holds these bytes.
+// Whether there is one span, and it is the whole of a piece that holds these bytes.
 fn is_whole(spans: &Items<Span>, bytes: &[u8]) -> bool {
     let [span] = spans.as_slice() else {
         return false;
@@ -138,7 +140,8 @@ fn name(rt: &impl Abort, alloc: Global, number: u64) -> String {
     format!(in alloc; "blob {number}").expect(rt, "memory")
 }
 
-// A hundred blobs that have their names as their content. The changes of every other blob are copied.
+// A hundred blobs that have their names as their content. The changes of every other blob are
+// copied.
 #[test]
 fn a_hundred_blobs_are_read_back(rt: HostRuntime) {
     let alloc = rt.alloc();
@@ -192,7 +195,7 @@ fn rows_and_answers_share_a_body(rt: HostRuntime) {
     }
     let more = resident(&rt).expect(&rt, "a status").saturating_sub(before);
     assert!(rt; more < 16 * 1024, "{more} kB more than {before} kB");
-    // All of them are still owned here.
+    // All answers are still owned here.
     assert!(rt; answers.iter().all(|spans| is_whole(spans, body.as_slice())));
     drop(rows);
 }

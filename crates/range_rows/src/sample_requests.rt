@@ -33,7 +33,7 @@ pub(crate) fn body(rt: &impl Abort, alloc: Global, bytes: Vec<u8>) -> Body {
     Body::of(Share::new(alloc, bytes).expect(rt, "memory"))
 }
 
-// The headers that a Put Blob asks to be kept; other operations have none.
+// The headers that a Put Blob asks to be kept. Other operations ask for no headers.
 fn kept(alloc: Global, op: Op) -> Option<Kept> {
     if op != Op::PutBlob {
         return None;
@@ -47,7 +47,7 @@ fn kept(alloc: Global, op: Op) -> Option<Kept> {
     })
 }
 
-// The level of the container that Create Container makes; other operations have none.
+// The level of the container that Create Container makes. Other operations give no level.
 fn level(op: Op) -> Option<Level> {
     if op == Op::CreateContainer {
         Some(Level::Closed)
@@ -56,7 +56,7 @@ fn level(op: Op) -> Option<Level> {
     }
 }
 
-// The metadata that a Put Blob brings: one name; other operations bring none.
+// The metadata that a Put Blob brings: one name. Other operations bring no metadata.
 fn metadata(rt: &impl Abort, alloc: Global, op: Op) -> Metadata {
     if op != Op::PutBlob {
         return Metadata::empty(alloc);

@@ -6,7 +6,8 @@ use stamp_types::{Items, UncommittedBlock};
 use std::alloc::Global;
 use std::marker::Model;
 
-/// Blocks that Put Block wrote, in the order of their ids. Contracts see them as the map from these ids to the content.
+/// Blocks that Put Block wrote, in the order of their ids. Contracts see the blocks as the map from
+/// their ids to their content.
 #[derive(Debug, Drop)]
 pub(crate) struct Uncommitted {
     blocks: Items<UncommittedBlock>,

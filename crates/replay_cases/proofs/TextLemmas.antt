@@ -30,7 +30,7 @@ after_all items old [] None none e = grind (arith, common_steps)
 after_all items old [] (Some more) none e = grind (arith, common_steps)
 after_all items old (b ∷ left) whole none e = grind (arith, common_steps)
 
--- what follows if what is left does not stand for bytes
+-- what follows if what is left does not mean bytes
 pub after_none : (items old : List ℕ) (left whole : Option (List ℕ)) → left ≡ None → after items left ≡ after old whole → whole ≡ None
 after_none items old None None none e = grind (arith, common_steps)
 after_none items old None (Some more) none e = grind (arith, common_steps)

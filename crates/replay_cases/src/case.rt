@@ -10,28 +10,34 @@ const READS: u64 = 4_294_967_296;
 
 /// One case of a file.
 #[derive(Drop)]
-pub struct Case {
-    pub name: String,
+pub(crate) struct Case {
+    pub(crate) name: String,
     /// The number of the line that begins the case.
-    pub line: usize,
+    pub(crate) line: usize,
     /// The account and its keys.
-    pub keys: Keys,
+    pub(crate) keys: Keys,
     /// The moment at which the service is made, if it is not the first of the moments.
-    pub made: Option<Moment>,
-    /// The moments of the clock, in turn.
-    pub moments: Vec<Moment>,
-    pub sent: Vec<u8>,
-    pub wanted: Vec<u8>,
-    pub reads: u64,
-    /// How many bytes a read gives, if only one way of reading is tried.
-    pub piece: Option<usize>,
+    pub(crate) made: Option<Moment>,
+    /// The moments of the clock, in order.
+    pub(crate) moments: Vec<Moment>,
+    pub(crate) sent: Vec<u8>,
+    pub(crate) wanted: Vec<u8>,
+    pub(crate) reads: u64,
+    /// How many bytes a read gives at most, if only one way of reading is tried.
+    pub(crate) piece: Option<usize>,
     /// How the connection must end.
-    pub end: Result<End, FrontFault>,
+    pub(crate) end: Result<End, FrontFault>,
 }
 
 impl Case {
     /// A case that sends nothing and wants nothing, and whose connection ends clean.
-    pub fn new(alloc: Global, name: String, line: usize, keys: Keys, made: Option<Moment>) -> Self {
+    pub(crate) fn new(
+        alloc: Global,
+        name: String,
+        line: usize,
+        keys: Keys,
+        made: Option<Moment>,
+    ) -> Self {
         Self {
             name,
             line,
@@ -47,7 +53,7 @@ impl Case {
     }
 
     /// The moment at which the service is made.
-    pub fn made_at(&self) -> Option<Moment> {
+    pub(crate) fn made_at(&self) -> Option<Moment> {
         self.made.or(self.moments.first().copied())
     }
 }

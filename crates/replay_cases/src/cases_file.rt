@@ -12,14 +12,14 @@ use hmac_sign::SigningKey;
 use stamp_types::{Moment, Text};
 use std::alloc::Global;
 
-/// A text that lines add by its name.
+/// A text that lines add by the name of the text.
 #[derive(Drop)]
 struct NamedText {
     name: String,
     bytes: Vec<u8>,
 }
 
-/// What holds for the cases after it, until a line says it anew.
+/// What holds for the cases after the lines that said it, until a line says something else.
 #[derive(Drop)]
 struct Setting {
     account: Option<Text>,
@@ -28,7 +28,7 @@ struct Setting {
 }
 
 impl Setting {
-    // The account and its keys, if both were said.
+    // The account and its keys, if lines gave both.
     fn keys(&self) -> Result<Keys, LineFault> {
         match (&self.account, &self.keys) {
             (Some(account), Some((first, second))) => {
@@ -49,7 +49,7 @@ impl Setting {
 
 /// What the lines of a file have said so far.
 #[derive(Drop)]
-pub struct CasesFile {
+pub(crate) struct CasesFile {
     alloc: Global,
     setting: Setting,
     texts: Vec<NamedText>,
@@ -58,8 +58,8 @@ pub struct CasesFile {
 }
 
 impl CasesFile {
-    /// A file of which no line has been read yet.
-    pub fn new(alloc: Global) -> Self {
+    /// A file before its first line is read.
+    pub(crate) fn new(alloc: Global) -> Self {
         Self {
             alloc,
             setting: Setting {
@@ -74,7 +74,11 @@ impl CasesFile {
     }
 
     /// Takes the line of this number, without its end. If the line ends a case, the answer is that case.
-    pub fn take_line(&mut self, line: &str, number: usize) -> Result<Option<Case>, LineFault> {
+    pub(crate) fn take_line(
+        &mut self,
+        line: &str,
+        number: usize,
+    ) -> Result<Option<Case>, LineFault> {
         if line.is_empty() || line.starts_with('#') {
             return Ok(None);
         }
@@ -90,8 +94,8 @@ impl CasesFile {
         Ok(None)
     }
 
-    /// The line of the case that was begun and has no end, if there is such a case.
-    pub fn open_line(&self) -> Option<usize> {
+    /// The line of the case that was begun and has no end, if a case was begun and has no end.
+    pub(crate) fn open_line(&self) -> Option<usize> {
         match &self.open {
             Some(case) => Some(case.line),
             None => None,
@@ -177,7 +181,7 @@ fn add_bytes(
     }
 }
 
-// Takes a line that is written in a case and does not end the case.
+// Takes a line inside a case that does not end the case.
 fn add_to_case(
     alloc: Global,
     case: &mut Case,

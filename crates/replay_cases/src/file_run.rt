@@ -13,7 +13,7 @@ use thiserror::Error;
 
 /// Why the cases of a file were not run to the end of the file.
 #[derive(Clone, Copy, Debug, PartialEq, Eq, Error)]
-pub enum Why {
+pub(crate) enum Why {
     /// The line is refused.
     #[error("{0}")]
     Line(LineFault),
@@ -31,9 +31,9 @@ pub enum Why {
 /// Why the run of a file stopped, and the number of the line that the message names.
 #[derive(Clone, Copy, Debug, PartialEq, Eq, Error)]
 #[error("{line}: {why}")]
-pub struct Fault {
-    pub line: usize,
-    pub why: Why,
+pub(crate) struct Fault {
+    pub(crate) line: usize,
+    pub(crate) why: Why,
 }
 
 // Runs a case, writes a line if it differs, and says whether it holds.
@@ -68,7 +68,7 @@ fn run_line<W: Write>(
 }
 
 /// Runs the cases of the text of a file, writes a line for each case that differs, and counts the cases.
-pub fn run_text<W: Write>(
+pub(crate) fn run_text<W: Write>(
     alloc: Global,
     writer: &mut W,
     file: &str,

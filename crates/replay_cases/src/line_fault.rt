@@ -7,7 +7,7 @@ use thiserror::Error;
 
 /// Why a line is refused.
 #[derive(Clone, Copy, Debug, PartialEq, Eq, Error)]
-pub enum LineFault {
+pub(crate) enum LineFault {
     /// No line begins with this word.
     #[error("unknown word")]
     Word,
@@ -41,16 +41,16 @@ pub enum LineFault {
     /// `is` comes before the first `text`.
     #[error("no text was begun")]
     NoText,
-    /// The line belongs in a case, and no case was begun.
+    /// The line is allowed in a case alone, and no case was begun.
     #[error("no case was begun")]
     NoCase,
-    /// The case before has no end, but the line belongs between two cases or the file ends.
+    /// A case was begun and has no end, but the line is allowed between two cases alone, or the file ends.
     #[error("the case has no end")]
     NoEnd,
     /// The lines before the case did not give both an account and keys.
     #[error("no account or no keys were said")]
     NoKeys,
-    /// Neither `moment` nor `made` was said for the case.
+    /// No line gave a moment for the case, neither `moment` nor `made`.
     #[error("the case has no moment")]
     NoMoment,
     /// Out of memory.

@@ -9,7 +9,7 @@ use std::alloc::Global;
 
 /// How a line gives bytes: as a text, by the name of a text, or as a count and the text that is repeated.
 #[derive(Clone, Copy, Debug, PartialEq, Eq)]
-pub enum Form {
+pub(crate) enum Form {
     Plain,
     Named,
     Repeated,
@@ -17,7 +17,7 @@ pub enum Form {
 
 /// The word that a line begins with.
 #[derive(Clone, Copy, Debug, PartialEq, Eq)]
-pub enum Word {
+pub(crate) enum Word {
     Account,
     Keys,
     Made,
@@ -33,7 +33,7 @@ pub enum Word {
 }
 
 /// The word that is written in this way.
-pub fn read_word(word: &str) -> Option<Word> {
+pub(crate) fn read_word(word: &str) -> Option<Word> {
     match word {
         "account" => Some(Word::Account),
         "keys" => Some(Word::Keys),
@@ -56,22 +56,22 @@ pub fn read_word(word: &str) -> Option<Word> {
 }
 
 /// The number that the text writes in decimal.
-pub fn read_number(text: &str) -> Result<u64, LineFault> {
+pub(crate) fn read_number(text: &str) -> Result<u64, LineFault> {
     text.parse::<u64>().map_err(|_| LineFault::Number)
 }
 
 /// The number that the text writes in decimal, as a count of bytes or of repetitions.
-pub fn read_count(text: &str) -> Result<usize, LineFault> {
+pub(crate) fn read_count(text: &str) -> Result<usize, LineFault> {
     text.parse::<usize>().map_err(|_| LineFault::Number)
 }
 
 /// The moment that the text writes in one of the accepted shapes.
-pub fn read_moment(text: &str) -> Result<Moment, LineFault> {
+pub(crate) fn read_moment(text: &str) -> Result<Moment, LineFault> {
     read_iso(text.as_bytes()).map_err(|_| LineFault::Moment)
 }
 
 /// The account that has this name.
-pub fn read_account(alloc: Global, text: &str) -> Result<Text, LineFault> {
+pub(crate) fn read_account(alloc: Global, text: &str) -> Result<Text, LineFault> {
     if !is_account(text.as_bytes()) {
         return Err(LineFault::Account);
     }
@@ -93,7 +93,7 @@ fn read_secret(alloc: Global, text: &str) -> Result<SigningKey, LineFault> {
 }
 
 /// The two keys of an account.
-pub fn read_keys(alloc: Global, text: &str) -> Result<(SigningKey, SigningKey), LineFault> {
+pub(crate) fn read_keys(alloc: Global, text: &str) -> Result<(SigningKey, SigningKey), LineFault> {
     let (first, second) = text.split_once(' ').ok_or(LineFault::Keys)?;
     let first = read_secret(alloc, first)?;
     let second = read_secret(alloc, second)?;
@@ -101,7 +101,7 @@ pub fn read_keys(alloc: Global, text: &str) -> Result<(SigningKey, SigningKey), 
 }
 
 /// The end of a connection that this word names.
-pub fn read_end(text: &str) -> Result<Result<End, FrontFault>, LineFault> {
+pub(crate) fn read_end(text: &str) -> Result<Result<End, FrontFault>, LineFault> {
     match text {
         "clean" => Ok(Ok(End::Clean)),
         "closed" => Ok(Ok(End::Closed)),
@@ -116,7 +116,7 @@ fn is_name_byte(byte: u8) -> bool {
 }
 
 /// The name of a case or of a text.
-pub fn read_name(alloc: Global, text: &str) -> Result<String, LineFault> {
+pub(crate) fn read_name(alloc: Global, text: &str) -> Result<String, LineFault> {
     if text.is_empty() || !text.as_bytes().iter().all(|byte| is_name_byte(*byte)) {
         return Err(LineFault::Name);
     }

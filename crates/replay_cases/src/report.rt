@@ -62,7 +62,7 @@ fn around(bytes: &[u8], index: usize) -> &[u8] {
 }
 
 /// Writes the line for a case that differs.
-pub fn write_difference<W: Write>(
+pub(crate) fn write_difference<W: Write>(
     writer: &mut W,
     file: &str,
     case: &Case,

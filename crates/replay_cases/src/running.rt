@@ -16,7 +16,7 @@ const SMALL_PIECES: [usize; 2] = [7, 1];
 
 const SMALL_INPUT: usize = 65_536;
 
-/// Gives at most `most` bytes a read.
+/// Gives at most `most` bytes at each read.
 #[derive(Drop)]
 struct Pieces<'a> {
     rest: &'a [u8],
@@ -30,7 +30,7 @@ impl Read for Pieces<'_> {
     }
 }
 
-/// Gives its moments in turn, and the last one from then on.
+/// Gives its moments in order, and the last moment from then on.
 #[derive(Drop)]
 struct Moments<'a> {
     left: &'a [Moment],
@@ -51,16 +51,16 @@ impl Clock for Moments<'_> {
 
 /// What a run wrote, and how it ended.
 #[derive(Drop)]
-pub struct Outcome {
-    pub written: Vec<u8>,
-    pub ended: Result<End, FrontFault>,
+pub(crate) struct Outcome {
+    pub(crate) written: Vec<u8>,
+    pub(crate) ended: Result<End, FrontFault>,
 }
 
 /// How many bytes a read gave at most in a run that was not as its case wants it, and that run.
 #[derive(Drop)]
-pub struct Difference {
-    pub piece: usize,
-    pub outcome: Outcome,
+pub(crate) struct Difference {
+    pub(crate) piece: usize,
+    pub(crate) outcome: Outcome,
 }
 
 // The service that a case runs against.
@@ -68,7 +68,7 @@ fn make_service(alloc: Global, case: &Case, moment: Moment) -> Result<Plain, Pla
     Plain::new(alloc, case.keys.clone()?, moment)
 }
 
-// Runs the case with reads of this many bytes.
+// Runs the case with reads of at most this many bytes.
 fn run_once(
     alloc: Global,
     case: &Case,
@@ -97,14 +97,14 @@ fn run_once(
 }
 
 /// Whether the run is as the case wants it.
-pub fn holds(case: &Case, outcome: &Outcome) -> bool
-    ensures { IsTrue result ↔
-        ((outcome.now.ended ≡ case.now.end) × (outcome.now.written.items ≡ case.now.wanted.items)) }
+pub(crate) fn holds(case: &Case, outcome: &Outcome) -> bool
+    ensures { IsTrue result ↔ ((outcome.now.ended ≡ case.now.end)
+        × (outcome.now.written.items ≡ case.now.wanted.items)) }
 {
     outcome.ended == case.end && outcome.written == case.wanted
 }
 
-// The run with reads of this many bytes, if it is not as the case wants it.
+// The run with reads of at most this many bytes, if the run is not as the case wants it.
 fn difference_in(
     alloc: Global,
     case: &Case,
@@ -119,7 +119,7 @@ fn difference_in(
 }
 
 /// Runs the case in each way of reading, and gives the first run that is not as the case wants it.
-pub fn find_difference(
+pub(crate) fn find_difference(
     alloc: Global,
     case: &Case,
     moment: Moment,

@@ -6,22 +6,23 @@ use std::alloc::{AllocError, Global};
 
 /// How many cases were run, and how many of them hold.
 #[derive(Clone, Copy, Debug, PartialEq, Eq)]
-pub struct Tally {
-    pub cases: usize,
-    pub holding: usize,
+pub(crate) struct Tally {
+    pub(crate) cases: usize,
+    pub(crate) holding: usize,
 }
 
 impl Tally {
-    /// No case yet.
-    pub const NONE: Self = Self {
+    /// The tally before the first case.
+    pub(crate) const NONE: Self = Self {
         cases: 0,
         holding: 0,
     };
 
     /// The tally with one more case, unless there are then too many cases to be counted.
-    pub fn with(self, holds: bool) -> Option<Self>
+    pub(crate) fn with(self, holds: bool) -> Option<Self>
         ensures cases { IfSome result (λ tally. tally.cases ≡ self.cases + 1) }
-        ensures holding { IfSome result (λ tally. tally.holding ≡ self.holding + (if holds then 1 else 0)) }
+        ensures holding { IfSome result (λ tally.
+            tally.holding ≡ self.holding + (if holds then 1 else 0)) }
     {
         let cases = self.cases.checked_add(1)?;
         let holding = self.holding.checked_add(usize::from(holds))?;
@@ -29,14 +30,14 @@ impl Tally {
     }
 
     /// Whether each case holds.
-    pub fn all_hold(self) -> bool
+    pub(crate) fn all_hold(self) -> bool
         ensures { IsTrue result ↔ (self.holding ≡ self.cases) }
     {
         self.holding == self.cases
     }
 
     /// The last line that is printed, with its end.
-    pub fn line(self, alloc: Global) -> Result<String, AllocError>
+    pub(crate) fn line(self, alloc: Global) -> Result<String, AllocError>
         ensures { IfOk result (λ line. string_bytes line ≡ tally_line self.holding self.cases) }
     {
         let Self { cases, holding } = self;

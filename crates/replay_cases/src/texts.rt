@@ -1,10 +1,10 @@
-//! The texts of lines, and the bytes that they stand for.
+//! The texts of lines, and the bytes that they mean.
 ghost use Rattle.std.specs.Prelude.{◌≡◌, ◌<◌, ◌++◌, ◌∷◌, Err, IfSome, IfNone, None, OnOk, IsSomeAnd, length};
 ghost use Rattle.std.specs.List.{repeat};
 ghost use Rattle.std.specs.Option.{option_map};
 ghost use Rattle.replay_cases.specs.Texts as texts;
 ghost use Rattle.replay_cases.specs.Texts.{bytes_from, bytes_of};
-ghost use Rattle.replay_cases.specs.Texts.Place.{Escape, Hex};
+ghost use Rattle.replay_cases.specs.Texts.TextState.{Escape, Hex};
 ghost use Rattle.replay_cases.specs.declared.line_fault.LineFault.{LineFault};
 
 use crate::line_fault::LineFault;
@@ -21,9 +21,10 @@ fn digit_value(digit: u8) -> Option<u8>
     }
 }
 
-// The byte that two hexadecimal digits stand for, and what comes after them.
+// The byte that two hexadecimal digits mean, and the bytes after them.
 fn hex_byte(text: &[u8]) -> Option<(u8, &[u8])>
-    ensures read { IfSome result (λ p. bytes_from Hex text.now ≡ option_map (λ bs. p.0 ∷ bs) (bytes_of p.1.now)) }
+    ensures read { IfSome result (λ p. bytes_from Hex text.now
+        ≡ option_map (λ bs. p.0 ∷ bs) (bytes_of p.1.now)) }
     ensures shorter { IfSome result (λ p. length p.1.now < length text.now) }
     ensures refused { IfNone result (bytes_from Hex text.now ≡ None) }
 {
@@ -48,9 +49,10 @@ fn escaped_byte(letter: u8) -> Option<u8>
     }
 }
 
-// The byte that is written after a backslash, and what comes after it.
+// The byte that an escape means, and the bytes after the escape. The backslash is not in `text`.
 fn escape(text: &[u8]) -> Option<(u8, &[u8])>
-    ensures read { IfSome result (λ p. bytes_from Escape text.now ≡ option_map (λ bs. p.0 ∷ bs) (bytes_of p.1.now)) }
+    ensures read { IfSome result (λ p. bytes_from Escape text.now
+        ≡ option_map (λ bs. p.0 ∷ bs) (bytes_of p.1.now)) }
     ensures shorter { IfSome result (λ p. length p.1.now < length text.now) }
     ensures refused { IfNone result (bytes_from Escape text.now ≡ None) }
 {
@@ -61,10 +63,11 @@ fn escape(text: &[u8]) -> Option<(u8, &[u8])>
     Some((escaped_byte(*letter)?, rest))
 }
 
-// The byte that a text begins with, and what comes after it.
+// The first byte that a text means, and the rest of the text.
 fn next_byte(text: &[u8]) -> Option<(u8, &[u8])>
     requires { 0 < length text.now }
-    ensures read { IfSome result (λ p. bytes_of text.now ≡ option_map (λ bs. p.0 ∷ bs) (bytes_of p.1.now)) }
+    ensures read { IfSome result (λ p. bytes_of text.now
+        ≡ option_map (λ bs. p.0 ∷ bs) (bytes_of p.1.now)) }
     ensures shorter { IfSome result (λ p. length p.1.now < length text.now) }
     ensures refused { IfNone result (bytes_of text.now ≡ None) }
 {
@@ -75,12 +78,13 @@ fn next_byte(text: &[u8]) -> Option<(u8, &[u8])>
     Some((*first, rest))
 }
 
-/// Adds the bytes that the text stands for.
+/// Adds the bytes that the text means.
 ///
-/// After `Escape`, the bytes before the bad escape have been added.
+/// After `Escape` or `NoMemory`, bytes that come before may have been added.
 #[tactic(auto, using(crate::proofs::TextLemmas::after_step, crate::proofs::TextLemmas::after_all, crate::proofs::TextLemmas::after_none))]
-pub fn add_text(bytes: &mut Vec<u8>, text: &str) -> Result<(), LineFault>
-    ensures added { OnOk result (IsSomeAnd (bytes_of text.now) (λ more. bytes.new.items ≡ bytes.old.items ++ more)) }
+pub(crate) fn add_text(bytes: &mut Vec<u8>, text: &str) -> Result<(), LineFault>
+    ensures added { OnOk result (IsSomeAnd (bytes_of text.now)
+        (λ more. bytes.new.items ≡ bytes.old.items ++ more)) }
     ensures refused { result ≡ Err LineFault.Escape → bytes_of text.now ≡ None }
 {
     let mut left = text.as_bytes();
@@ -98,7 +102,7 @@ pub fn add_text(bytes: &mut Vec<u8>, text: &str) -> Result<(), LineFault>
 ///
 /// `Number` if that is more bytes than can be counted.
 #[tactic(auto, using(crate::proofs::TextLemmas::repeat_next))]
-pub fn add_times(bytes: &mut Vec<u8>, count: usize, once: &[u8]) -> Result<(), LineFault>
+pub(crate) fn add_times(bytes: &mut Vec<u8>, count: usize, once: &[u8]) -> Result<(), LineFault>
     ensures added { OnOk result (bytes.new.items ≡ bytes.old.items ++ repeat count once.now) }
 {
     let more = once.len().checked_mul(count).ok_or(LineFault::Number)?;

@@ -4,11 +4,11 @@ use Rattle.reply_form.specs.ReplyBytes.{status_line, rule_line, connection_line,
 use Rattle.stamp_types.specs.declared.rule.Rule.TheVariants.{M1}
 use Rattle.stamp_types.specs.declared.status.Status.TheVariants.{InternalServerError}
 
--- the interim reply: a status line alone
+-- the interim reply: a status line, and the empty line
 abbrev pub interim_bytes : List ℕ
 interim_bytes = codes "HTTP/1.1 100 Continue\r\n" ++ codes "\r\n"
 
--- the reply that is given if memory runs out for a reply: it has neither a date nor a version
+-- the reply that is given if memory runs out for a reply: it has no date and no version
 abbrev pub out_of_memory_bytes : List ℕ
 out_of_memory_bytes =
     status_line InternalServerError ++ connection_line true ++ rule_line (Some M1)

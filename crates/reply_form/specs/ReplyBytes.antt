@@ -16,7 +16,7 @@ use Rattle.stamp_values.specs.declared.verb.Verb.TheVariants.{Head}
 unfoldable pub phrase : Status → List ℕ
 phrase status = unwrap_or (reason_phrase (status_number status)) []
 
--- the version, the number of the status, its phrase
+-- the version of HTTP, the number of the status, the phrase of the status
 unfoldable pub status_line : Status → List ℕ
 status_line status = codes "HTTP/1.1 " ++ decimal (status_number status) ++ codes " " ++ phrase status ++ codes "\r\n"
 
@@ -40,11 +40,11 @@ abbrev pub is_head : Option Verb → Bool
 is_head (Some Head) = true
 is_head other = false
 
--- the line of the length of the body that the reply to GET has; 304 has no such line
+-- the line of the length that the reply gives; a reply of 304 has no such line
 abbrev pub length_line : Status → ℕ → List ℕ
 length_line status length = if is_not_modified status then [] else line (codes "Content-Length") (decimal length)
 
--- whether the body is sent: not with 304, and not to HEAD
+-- whether the body is sent: a reply of 304 and a reply to HEAD send no body
 abbrev pub sends_body : Status → Option Verb → Bool
 sends_body status verb = not (is_not_modified status || is_head verb)
 
@@ -64,6 +64,6 @@ head_bytes reply moment close =
     ++ length_line reply.status reply.length
     ++ codes "\r\n"
 
--- a reply that was judged at the moment, to a request of the verb
+-- the reply to a request of the verb that was judged at the moment
 unfoldable pub reply_bytes : Reply → ℕ → Option Verb → Bool → List ℕ
 reply_bytes reply moment verb close = head_bytes reply moment close ++ sent_body reply.status verb reply.body

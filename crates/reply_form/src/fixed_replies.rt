@@ -9,8 +9,9 @@ pub fn interim_reply() -> &'static [u8]
     b"HTTP/1.1 100 Continue\r\n\r\n"
 }
 
-/// The reply that may be given in place of any reply if memory runs out for that reply: 94 bytes, after which the
-/// connection ends. The bytes have no date, so giving them takes no memory. The form is our own choice.
+/// The reply that may be given instead of any reply if memory runs out for that reply: 94 bytes,
+/// after which the connection ends. It has no date, so giving it takes no memory. The form is our
+/// own choice.
 #[tactic(auto, using(crate::proofs::FixedLemmas::out_of_memory_is))]
 pub fn out_of_memory_reply() -> &'static [u8]
     ensures { result.now ≡ out_of_memory_bytes }

@@ -12,7 +12,7 @@ use std::alloc::{AllocError, Global};
 ///
 /// `AllocError` if memory runs out.
 #[tactic(auto, unfolding(crate::specs::HeaderLines::line))]
-pub fn append_line(out: &mut Vec<u8>, name: &str, value: &[u8]) -> Result<(), AllocError>
+pub(crate) fn append_line(out: &mut Vec<u8>, name: &str, value: &[u8]) -> Result<(), AllocError>
     ensures { OnOk result (out.new.items ≡ out.old.items ++ line name.now value.now) }
 {
     out.extend_from_slice(name.as_bytes())?;
@@ -24,17 +24,23 @@ pub fn append_line(out: &mut Vec<u8>, name: &str, value: &[u8]) -> Result<(), Al
 /// Appends a line to `out`. The line's value is a number in decimal.
 ///
 /// `AllocError` if memory runs out.
-pub fn append_number_line(out: &mut Vec<u8>, name: &str, number: u64) -> Result<(), AllocError>
+pub(crate) fn append_number_line(
+    out: &mut Vec<u8>,
+    name: &str,
+    number: u64,
+) -> Result<(), AllocError>
     ensures { OnOk result (out.new.items ≡ out.old.items ++ line name.now (decimal number)) }
 {
     let mut digits = Buffer::new();
     append_line(out, name, digits.format(number).as_bytes())
 }
 
-// Metadata, with a prefix before its name.
+// The line of a name and value of the metadata. The name has a prefix.
 #[tactic(auto, unfolding(crate::specs::HeaderLines::line))]
 fn append_meta(out: &mut Vec<u8>, meta: &Meta) -> Result<(), AllocError>
-    ensures { OnOk result (out.new.items ≡ out.old.items ++ line (codes "x-ms-meta-" ++ meta.now.name) meta.now.value) }
+    ensures { OnOk result
+        (out.new.items
+        ≡ out.old.items ++ line (codes "x-ms-meta-" ++ meta.now.name) meta.now.value) }
 {
     out.extend_from_slice(b"x-ms-meta-")?;
     append_line(out, meta.name.as_str(), meta.value.as_str().as_bytes())
@@ -49,10 +55,11 @@ fn append_marked(out: &mut Vec<u8>, mark: &str, number: u64) -> Result<(), Alloc
     out.extend_from_slice(digits.format(number).as_bytes())
 }
 
-// Which bytes of the blob are sent (RFC 9110, section 14.4).
+// The line that says which bytes of the blob are sent (RFC 9110, section 14.4).
 #[tactic(auto, unfolding(crate::specs::HeaderLines::line))]
 fn append_range(out: &mut Vec<u8>, range: SentRange) -> Result<(), AllocError>
-    ensures { OnOk result (out.new.items ≡ out.old.items ++ line (codes "Content-Range") (range_text range)) }
+    ensures { OnOk result
+        (out.new.items ≡ out.old.items ++ line (codes "Content-Range") (range_text range)) }
 {
     append_marked(out, "Content-Range: bytes ", range.first)?;
     append_marked(out, "-", range.last)?;
@@ -60,7 +67,7 @@ fn append_range(out: &mut Vec<u8>, range: SentRange) -> Result<(), AllocError>
     out.extend_from_slice(b"\r\n")
 }
 
-// The level of a container that isn't closed.
+// The line of the level of a container. A closed container has no line.
 fn append_level(out: &mut Vec<u8>, level: Level) -> Result<(), AllocError>
     ensures { OnOk result (out.new.items ≡ out.old.items ++ level_line level) }
 {
@@ -80,7 +87,8 @@ fn md5_text(alloc: Global, md5: &[u8; 16]) -> Result<String, AllocError>
 }
 
 fn append_md5(alloc: Global, out: &mut Vec<u8>, md5: &[u8; 16]) -> Result<(), AllocError>
-    ensures { OnOk result (out.new.items ≡ out.old.items ++ line (codes "Content-MD5") (md5_text md5.now)) }
+    ensures { OnOk result
+        (out.new.items ≡ out.old.items ++ line (codes "Content-MD5") (md5_text md5.now)) }
 {
     let text = md5_text(alloc, md5)?;
     append_line(out, "Content-MD5", text.as_bytes())
@@ -89,7 +97,11 @@ fn append_md5(alloc: Global, out: &mut Vec<u8>, md5: &[u8; 16]) -> Result<(), Al
 /// Appends a header's line to `out`. The level of a closed container has no line.
 ///
 /// `AllocError` if memory runs out.
-pub fn append_header(alloc: Global, out: &mut Vec<u8>, header: &Header) -> Result<(), AllocError>
+pub(crate) fn append_header(
+    alloc: Global,
+    out: &mut Vec<u8>,
+    header: &Header,
+) -> Result<(), AllocError>
     ensures { OnOk result (out.new.items ≡ out.old.items ++ header_line header.now) }
 {
     match header {
@@ -119,7 +131,7 @@ pub fn append_header(alloc: Global, out: &mut Vec<u8>, header: &Header) -> Resul
 /// Appends the lines of the headers to `out`, in the order of the headers.
 ///
 /// `AllocError` if memory runs out.
-pub fn append_headers(
+pub(crate) fn append_headers(
     alloc: Global,
     out: &mut Vec<u8>,
     headers: &[Header],

@@ -57,7 +57,8 @@ fn append_connection(out: &mut Vec<u8>, close: bool) -> Result<(), AllocError>
     }
 }
 
-// The length of the body that the reply to GET has, which the reply to HEAD gives too (RFC 9110, section 9.3.2).
+// The line of the length that the reply gives; a reply of 304 has no such line (RFC 9110, section
+// 15.4.5). The reply to HEAD has the same line as the reply to GET (RFC 9110, section 9.3.2).
 fn append_length(out: &mut Vec<u8>, status: Status, length: u64) -> Result<(), AllocError>
     ensures { OnOk result (out.new.items ≡ out.old.items ++ length_line status length) }
 {
@@ -68,21 +69,26 @@ fn append_length(out: &mut Vec<u8>, status: Status, length: u64) -> Result<(), A
 }
 
 fn append_date(out: &mut Vec<u8>, moment: Moment) -> Result<(), AllocError>
-    ensures { OnOk result (out.new.items ≡ out.old.items ++ line (codes "Date") (http_text moment)) }
+    ensures { OnOk result
+        (out.new.items ≡ out.old.items ++ line (codes "Date") (http_text moment)) }
 {
     append_line(out, "Date", &write_http(moment))
 }
 
-// The version of the Blob service that the stamp speaks.
+// The line of the version of the Blob service that the stamp speaks.
 fn append_version(out: &mut Vec<u8>) -> Result<(), AllocError>
-    ensures { OnOk result (out.new.items ≡ out.old.items ++ line (codes "x-ms-version") (codes "2012-02-12")) }
+    ensures { OnOk result
+        (out.new.items ≡ out.old.items ++ line (codes "x-ms-version") (codes "2012-02-12")) }
 {
     append_line(out, "x-ms-version", b"2012-02-12")
 }
 
-// The lines that each reply has.
+// The first lines of each reply: the status line, the date and the version.
 fn append_opening(out: &mut Vec<u8>, status: Status, moment: Moment) -> Result<(), AllocError>
-    ensures { OnOk result (out.new.items ≡ out.old.items ++ status_line status ++ line (codes "Date") (http_text moment) ++ line (codes "x-ms-version") (codes "2012-02-12")) }
+    ensures { OnOk result
+        (out.new.items
+        ≡ out.old.items ++ status_line status ++ line (codes "Date") (http_text moment)
+        ++ line (codes "x-ms-version") (codes "2012-02-12")) }
 {
     append_status_line(out, status)?;
     append_date(out, moment)?;
@@ -121,8 +127,8 @@ fn is_head(verb: Option<Verb>) -> bool
     matches!(verb, Some(Verb::Head))
 }
 
-/// Whether a reply of the status to a request of the verb sends its body: not with 304, and not to HEAD
-/// (RFC 9110, sections 9.3.2 and 15.4.5).
+/// Whether a reply of the status to a request of the verb sends its body. A reply of 304 does not
+/// send its body, and a reply to HEAD does not (RFC 9110, sections 9.3.2 and 15.4.5).
 ///
 /// `verb` is `None` if the stamp does not serve the method, or if the head can't be read.
 pub fn sends_body(status: Status, verb: Option<Verb>) -> bool
@@ -140,11 +146,11 @@ fn append_shares(out: &mut Vec<u8>, shares: &[Share]) -> Result<(), AllocError>
     Ok(())
 }
 
-/// A reply up to and including the empty line, for a caller that writes the shares of the body itself if
-/// `sends_body` says so: then the body is not copied. The order of the lines is the product's own choice.
+/// A reply up to and including the empty line. A caller that writes the shares of the body itself,
+/// if `sends_body` says so, copies no body. The order of the lines is our own choice.
 ///
-/// `moment` is when the request was judged, and `close` is whether the connection ends after the reply.
-/// `AllocError` if memory runs out.
+/// `moment` is when the request was judged, and `close` is whether the connection ends after the
+/// reply. `AllocError` if memory runs out.
 pub fn write_head(
     alloc: Global,
     reply: &Reply,
@@ -160,8 +166,8 @@ pub fn write_head(
 
 /// A reply as it is sent: its head, and its body if `sends_body` says so (RFC 9110, section 15).
 ///
-/// `moment` is when the request was judged, and `close` is whether the connection ends after the reply.
-/// `AllocError` if memory runs out.
+/// `moment` is when the request was judged, and `close` is whether the connection ends after the
+/// reply. `AllocError` if memory runs out.
 #[tactic(auto, unfolding(crate::specs::ReplyBytes::reply_bytes))]
 pub fn write_reply(
     alloc: Global,

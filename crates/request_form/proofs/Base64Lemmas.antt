@@ -1,4 +1,4 @@
--- What a text decodes to, from what the decoder answers.
+-- What a text decodes to, by what the decoder answers.
 use Rattle.std.proofs.Common.{◌≡◌, refl, List, ℕ, Some, None, ap, ◌∙◌, subst, IfErr, Result}
 use Rattle.std.specs.Result.{result_ok}
 use Rattle.std.specs.declared.result.Result.TheVariants.{Ok, Err}
@@ -13,11 +13,11 @@ pub decoded_is : (e : GeneralPurpose) (text : List ℕ) → decoded_of e text �
 unfolding decoded_of
 decoded_is e text = refl
 
--- where the decoder answers bytes
+-- the decoder answers bytes
 pub decoded_some : (e : GeneralPurpose) (text bytes : List ℕ) → decode_of e text ≡ Ok bytes → decoded_of e text ≡ Some bytes
 decoded_some e text bytes same = decoded_is e text ∙ ap result_ok same
 
--- where it refuses
+-- the decoder refuses the text
 pub decoded_none : {T : Type 0} (e : GeneralPurpose) (text : List ℕ) (r : Result T DecodeAllocError) (whole : DecodeAllocError) (fault : DecodeError)
     → IfErr r (IsDecodeFailure e text) → r ≡ Err whole → whole ≡ Failed fault → decoded_of e text ≡ None
 decoded_none e text r whole fault known is kind =

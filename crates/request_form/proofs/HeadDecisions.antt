@@ -1,4 +1,4 @@
--- Whether bytes are a head: each piece of the grammar is read in one way, or it isn't there.
+-- Whether bytes are a head: each piece of the grammar is read in one way, or the text does not begin with it.
 use Rattle.std.proofs.Common.{◌≡◌, ◌⊎◌, inl, inr, ℕ, zero, suc, ◌<◌, ◌≤◌, Bool, true, false, List, [], ◌∷◌, ◌++◌, length, refl, sym, ap, ◌∙◌, subst, arith, append_assoc, length-append, true≢false}
 use Rattle.std.specs.Str as str
 use Rattle.std.specs.List.{flat_map}
@@ -10,7 +10,7 @@ use Rattle.httparse.specs.Pieces.{Piece, Begins, Then, Stops, is_newline, Bytes,
 use Rattle.httparse.proofs.PieceLemmas.{IsDeterministic, Word_deterministic, Blank_deterministic, Method_deterministic, Target_deterministic, Version_deterministic, Name_deterministic, FieldLine_deterministic, RequestStart_deterministic, newline_not_stopped, print_end_unique, Stops_value, space_ends_token, colon_ends_token, print_field-append, FieldLine_parts}
 use Rattle.httparse.proofs.GrammarLemmas.{request_tree, request_head, request_pieces, request_from_pieces, request_unique}
 
--- the text begins with the piece, or it doesn't
+-- the text begins with the piece, or it does not
 abbrev pub Found : {A : Type 0} → Piece A → List ℕ → Type 0
 Found G text = Begins G text ⊎ (¬ (Begins G text))
 
@@ -82,7 +82,7 @@ version_found text = version_by text (bytes_found (print_version 0) text) (bytes
 
 -- ---- words
 
--- bytes that pass the test, or none, and the byte stop
+-- no byte or more that pass the test, and then the byte stop
 abbrev Front : (ℕ → Bool) → ℕ → Piece (List ℕ)
 Front test stop word text rest = AllPass test word × (text ≡ word ++ stop ∷ rest)
 
@@ -315,6 +315,6 @@ head_by : (text : List ℕ) → Found (Then RequestStart Section) text
 head_by text (inl h) = whole_or_not text (request_head h.0) h.1 (request_from_pieces text h.0 h.1 h.2)
 head_by text (inr none) = inr (λ k reads. none (request_tree k, [], request_pieces text k [] reads))
 
--- Bytes are one head with nothing after it, or they aren't.
+-- bytes are one head with nothing after it, or they are not
 pub head_found : (text : List ℕ) → ((h : RequestHead) × ReadsRequest text h []) ⊎ ((h : RequestHead) → ReadsRequest text h [] → ⊥)
 head_found text = head_by text (then_found RequestStart Section RequestStart_deterministic start_found section_found text)

@@ -18,9 +18,9 @@ use Rattle.request_form.proofs.HeadDecisions.{head_found}
 use Rattle.request_form.specs.declared.denial.Denial.{Denial}
 use Rattle.request_form.specs.declared.denial.HeadFault.{HeadFault}
 use Rattle.request_form.specs.declared.denial.HeadFault.TheVariants as fault
-use Rattle.request_form.specs.declared.parsed_head.ParsedHead.{ParsedHead}
+use Rattle.request_form.specs.HeadParts.{HeadParts}
 
--- bytes are one head at most
+-- bytes are at most one head
 one_head : (text : List ℕ) (h k : RequestHead) → IsHead text h → IsHead text k → h ≡ k
 one_head text h k x y = (request_unique text h k [] [] x.reads y.reads).0
 
@@ -46,46 +46,46 @@ one_denial text d e (inl x) (inr y) = absurd (y.0 x.head x.is_head)
 one_denial text d e (inr x) (inl y) = absurd (x.0 y.head y.is_head)
 one_denial text d e (inr x) (inr y) = x.1 ∙ sym y.1
 
--- a head that was read is accepted or refused
-pub accepted : (text : List ℕ) (p : ParsedHead) (r : Result Form HeadFault) → (h : RequestHead) × IsHead text h × (p ≡ parsed_of h)
+-- a head that was read is accepted if it has a form
+pub accepted : (text : List ℕ) (p : HeadParts) (r : Result Form HeadFault) → (h : RequestHead) × IsHead text h × (p ≡ parsed_of h)
     → MatchResult r (λ form. (denial_of p ≡ None) × (form_of p ≡ Some form)) (Denies p head_rules) → IfOk r (λ form. Accepts text form)
 accepted text p (Ok form) (h, is, same) both = record { head = h; is_head = is; allowed = sym (ap denial_of same) ∙ both.0; asks = sym (ap form_of same) ∙ both.1 }
 accepted text p (Err fault) head both = tt
 
-pub refused : (text : List ℕ) (p : ParsedHead) (r : Result Form HeadFault) (d : Denial) → (h : RequestHead) × IsHead text h × (p ≡ parsed_of h)
+pub refused : (text : List ℕ) (p : HeadParts) (r : Result Form HeadFault) (d : Denial) → (h : RequestHead) × IsHead text h × (p ≡ parsed_of h)
     → MatchResult r (λ form. (denial_of p ≡ None) × (form_of p ≡ Some form)) (Denies p head_rules) → r ≡ Err (fault.Denied d) → Refuses text d
 refused text p r d (h, is, same) both e = let denied = rw e at both in inl (record { head = h; is_head = is; denied = sym (ap denial_of same) ∙ denied })
 
 -- ---- several rules in turn
 
--- of two lists of rules, one after the other
-among : (p : ParsedHead) (xs ys : List Rule) → denial_among p (xs ++ ys) ≡ option_or (denial_among p xs) (denial_among p ys)
+-- the refusal by two lists of rules, one after the other
+among : (p : HeadParts) (xs ys : List Rule) → denial_among p (xs ++ ys) ≡ option_or (denial_among p xs) (denial_among p ys)
 unfolding denial_among
 among p xs ys = by_found (find (head_holds p) xs) (find (head_holds p) ys) (find-append (head_holds p) xs ys)
   where
-    told : Option Rule → Option Denial
-    told found = option_map (λ rule. denied_by rule (head_code p rule) (denied_verb p rule)) found
+    denied : Option Rule → Option Denial
+    denied found = option_map (λ rule. denied_by rule (head_code p rule) (denied_verb p rule)) found
 
-    by_found : (a b : Option Rule) → find (head_holds p) (xs ++ ys) ≡ option_or a b → told (find (head_holds p) (xs ++ ys)) ≡ option_or (told a) (told b)
-    by_found None b e = ap told e
-    by_found (Some rule) b e = ap told e
+    by_found : (a b : Option Rule) → find (head_holds p) (xs ++ ys) ≡ option_or a b → denied (find (head_holds p) (xs ++ ys)) ≡ option_or (denied a) (denied b)
+    by_found None b e = ap denied e
+    by_found (Some rule) b e = ap denied e
 
 -- a refusal by the first rules
-pub denies_first : (p : ParsedHead) (xs ys : List Rule) (f : HeadFault) → Denies p xs f → Denies p (xs ++ ys) f
+pub denies_first : (p : HeadParts) (xs ys : List Rule) (f : HeadFault) → Denies p xs f → Denies p (xs ++ ys) f
 denies_first p xs ys (fault.Denied d) e = among p xs ys ∙ ap (λ o. option_or o (denial_among p ys)) e
 denies_first p xs ys fault.NoMemory e = tt
 
 -- a refusal by the rules that come after rules that do not hold
-pub denies_next : (p : ParsedHead) (xs ys : List Rule) (f : HeadFault) → Passes p xs → Denies p ys f → Denies p (xs ++ ys) f
+pub denies_next : (p : HeadParts) (xs ys : List Rule) (f : HeadFault) → Passes p xs → Denies p ys f → Denies p (xs ++ ys) f
 denies_next p xs ys (fault.Denied d) none e = among p xs ys ∙ ap (λ o. option_or o (denial_among p ys)) none ∙ e
 denies_next p xs ys fault.NoMemory none e = tt
 
-pub passes_both : (p : ParsedHead) (xs ys : List Rule) → Passes p xs → Passes p ys → Passes p (xs ++ ys)
+pub passes_both : (p : HeadParts) (xs ys : List Rule) → Passes p xs → Passes p ys → Passes p (xs ++ ys)
 passes_both p xs ys none more = among p xs ys ∙ ap (λ o. option_or o (denial_among p ys)) none ∙ more
 
 -- ---- each text is accepted or refused
 
--- a number is within a limit or isn't
+-- a number is within a limit, or it is not
 within : (n limit : ℕ) → (n ≤ limit) ⊎ (¬ (n ≤ limit))
 within n limit = by_order (cases_order n limit)
   where
@@ -94,7 +94,7 @@ within n limit = by_order (cases_order n limit)
     by_order (inr (inl less)) = inl (omega arith)
     by_order (inr (inr more)) = inr (λ small. omega arith)
 
--- what reads as a head is one, if it is neither too long nor of too many lines
+-- bytes that read as a head are a head, if they are not too long and do not have too many lines
 limited : (text : List ℕ) (h : RequestHead) → ReadsRequest text h [] → (length text ≤ head_limit) ⊎ (¬ (length text ≤ head_limit))
     → (length h.fields ≤ fields_limit) ⊎ (¬ (length h.fields ≤ fields_limit)) → ((k : RequestHead) × IsHead text k) ⊎ IsNoHead text
 limited text h reads (inl short) (inl few) = inl (h, record { reads = reads; short = short; few = few })
@@ -108,17 +108,17 @@ is_head_or_not text (inl h) = limited text h.0 h.1 (within (length text) head_li
 is_head_or_not text (inr none) = inr (λ k is. none k is.reads)
 
 -- an operation that is known makes a form, since it has a method
-some_form : (p : ParsedHead) (op : Option Op) (verb : Option Verb) → is_none op ≡ false → op ≡ option_and_then (λ verb. op_at verb (target_of p.target)) verb
+some_form : (p : HeadParts) (op : Option Op) (verb : Option Verb) → is_none op ≡ false → op ≡ option_and_then (λ verb. op_at verb (target_of p.target)) verb
     → (form : Form) × (option_and_then (λ o. option_map (λ v. form_by o v p) verb) op ≡ Some form)
 some_form p None verb known of = absurd (true≢false known)
 some_form p (Some op) None known of = absurd (cc)
 some_form p (Some op) (Some verb) known of = (form_by op verb p, refl)
 
-op_parts : (p : ParsedHead) → op_of p ≡ option_and_then (λ verb. op_at verb (target_of p.target)) (verb_of p.method)
+op_parts : (p : HeadParts) → op_of p ≡ option_and_then (λ verb. op_at verb (target_of p.target)) (verb_of p.method)
 unfolding op_of
 op_parts p = refl
 
--- nothing was found, so the first does not pass, and nothing is found after it
+-- if nothing is found, the first does not pass, and nothing is found after it
 not_found : {X : Type 0} (f : X → Bool) (x : X) (xs : List X) → find f (x ∷ xs) ≡ None → (f x ≡ false) × (find f xs ≡ None)
 not_found f x xs e = by_test (f x) refl
   where
@@ -126,15 +126,15 @@ not_found f x xs e = by_test (f x) refl
     by_test true t = let some : Some x ≡ None = rw t at e in absurd (cc)
     by_test false t = (t, rw t at e)
 
-none_told : {X Y : Type 0} (g : X → Y) (o : Option X) → option_map g o ≡ None → o ≡ None
-none_told g None e = refl
-none_told g (Some x) e = absurd (cc)
+denial_none : {X Y : Type 0} (g : X → Y) (o : Option X) → option_map g o ≡ None → o ≡ None
+denial_none g None e = refl
+denial_none g (Some x) e = absurd (cc)
 
 -- the operation of a head that no rule refuses is known
-known_op : (p : ParsedHead) → denial_of p ≡ None → is_none (op_of p) ≡ false
+known_op : (p : HeadParts) → denial_of p ≡ None → is_none (op_of p) ≡ false
 unfolding denial_among
 known_op p free =
-    let none = none_told (λ rule. denied_by rule (head_code p rule) (denied_verb p rule)) (find (head_holds p) head_rules) free in
+    let none = denial_none (λ rule. denied_by rule (head_code p rule) (denied_verb p rule)) (find (head_holds p) head_rules) free in
     let f1 = not_found (head_holds p) F1 (F2 ∷ F3 ∷ field_rules) none in
     let f2 = not_found (head_holds p) F2 (F3 ∷ field_rules) f1.1 in
     let f3 = not_found (head_holds p) F3 field_rules f2.1 in

@@ -1,5 +1,5 @@
--- The parts of a head are those of the grammar, and none is longer than the head.
-use Rattle.std.proofs.Common.{◌≡◌, ℕ, ◌+◌, ◌≤◌, List, [], ◌∷◌, ◌++◌, length, map, take, sym, ap, ◌∙◌, subst, arith, cond, true, false}
+-- The parts of a head are those of the grammar, and no part is longer than the head.
+use Rattle.std.proofs.Common.{◌≡◌, ℕ, ◌+◌, ◌≤◌, List, [], ◌∷◌, ◌++◌, length, map, take, sym, ap, ◌∙◌, subst, arith, cond, true, false, not}
 use Rattle.std.specs.Prelude.{reverse, sum_by, IsUtf8}
 use Rattle.std.specs.List.{flat_map}
 use Rattle.std.proofs.lemmas.List.{length-append, length-reverse}
@@ -11,24 +11,25 @@ use Rattle.httparse.specs.Spans.{IsRequestAt, header_bytes, name_and_value}
 use Rattle.httparse.specs.declared.spans.HeaderSpan.{HeaderSpan}
 use Rattle.httparse.specs.declared.spans.RequestSpans.{RequestSpans}
 use Rattle.stamp_values.specs.declared.signing.Field.{Field as Header}
+use Rattle.request_form.specs.HeadFields.{is_authorization, signed_headers, authorization_values}
 use Rattle.request_form.specs.Targets.{lowered}
 use Rattle.request_form.specs.Heads.{IsHead, parsed_of, parsed_field, version_of}
 use Rattle.request_form.specs.HeadSpans.{field_at, parts_at}
-use Rattle.request_form.specs.declared.parsed_head.ParsedHead.{ParsedHead}
+use Rattle.request_form.specs.HeadParts.{HeadParts}
 
 -- a header of a name and a value
 abbrev header_of : List ℕ × List ℕ → Header
 header_of p = record { name = lowered p.0; value = p.1 }
 
--- the parts at the places of a head are those of the head
-pub parts_are : {text : List ℕ} {headers : List HeaderSpan} {r : RequestSpans} {h : RequestHead} {p : ParsedHead} → IsRequestAt text headers r h → p ≡ parts_at text headers r → p ≡ parsed_of h
+-- the parts at the spans of a head are those of the head
+pub parts_are : {text : List ℕ} {headers : List HeaderSpan} {r : RequestSpans} {h : RequestHead} {p : HeadParts} → IsRequestAt text headers r h → p ≡ parts_at text headers r → p ≡ parsed_of h
 unfolding parts_at parsed_of
 parts_are {text} {headers} {r} {h} {p} at is =
     let fields : map (field_at text) (take r.headers headers) ≡ map parsed_field h.fields =
     sym (map-map header_of (header_bytes text) (take r.headers headers)) ∙ ap (map header_of) at.fields ∙ map-map header_of name_and_value h.fields in
-    is ∙ (λ i. record { method = at.method i; target = at.path i; version = version_of (at.version i); fields = fields i })
+    is ∙ (λ i. record { method = at.method i; target = at.path i; version = version_of (at.version i); fields = signed_headers (fields i); authorization = authorization_values (fields i) })
 
--- white space that is left out makes nothing longer
+-- a text without its white space is not longer
 skip_shortens : (bytes : List ℕ) → length (skip_ows bytes) ≤ length bytes
 skip_shortens [] = omega arith
 skip_shortens (b ∷ bytes) =
@@ -43,7 +44,7 @@ unfolding trim_ows
 trim_shortens bytes =
     omega (arith, length-reverse (skip_ows (reverse (skip_ows bytes))), skip_shortens (reverse (skip_ows bytes)), length-reverse (skip_ows bytes), skip_shortens bytes)
 
--- the values are no longer than the lines
+-- the values are not longer than the lines
 values_shorter : (fields : List Field) → sum_by (λ (f : Header). length f.value) (map parsed_field fields) ≤ length (flat_map print_field fields)
 values_shorter [] = omega arith
 values_shorter (f ∷ fields) =
@@ -53,24 +54,37 @@ values_shorter (f ∷ fields) =
     let lines : length (flat_map print_field (f ∷ fields)) ≡ length (print_field f) + length (flat_map print_field fields) = length-append (print_field f) (flat_map print_field fields) in
     omega (arith, value, rest, sum, lines, length-append (f.name ++ 58 ∷ f.raw) (print_end f.end), length-append f.name (58 ∷ f.raw))
 
+-- the headers that are signed have no more bytes of values than all headers
+signed_fewer : (fields : List Header) → sum_by (λ (f : Header). length f.value) (signed_headers fields) ≤ sum_by (λ (f : Header). length f.value) fields
+unfolding signed_headers
+signed_fewer [] = omega arith
+signed_fewer (f ∷ fields) =
+    let rest = signed_fewer fields in
+    let all = sum_by-cons (λ (f : Header). length f.value) f fields in
+    let kept = sum_by-cons (λ (f : Header). length f.value) f (signed_headers fields) in
+    elim (is_authorization f) as (λ t. sum_by (λ (f : Header). length f.value) (cond (not t) (f ∷ signed_headers fields) (signed_headers fields)) ≤ sum_by (λ (f : Header). length f.value) (f ∷ fields)) [
+      | true ↦ omega arith
+      | false ↦ omega arith
+    ]
+
 -- the bytes of a head, part by part
 bytes_of : (text : List ℕ) (h : RequestHead) → IsHead text h → text ≡ print_blank h.blank ++ (h.method ++ 32 ∷ (h.target ++ 32 ∷ (print_version h.minor ++ (print_end h.line_end ++ (print_section h.fields h.last ++ [])))))
 bytes_of text h is = is.reads.1 ∙ print_request-append h []
 
--- the values of a head are no longer than a head may be
-pub values_fit : {text : List ℕ} {h : RequestHead} {p : ParsedHead} → IsHead text h → p ≡ parsed_of h → sum_by (λ (f : Header). length f.value) p.fields ≤ 16384
+-- the values of a head are not longer than the limit of a head
+pub values_fit : {text : List ℕ} {h : RequestHead} {p : HeadParts} → IsHead text h → p ≡ parsed_of h → sum_by (λ (f : Header). length f.value) p.fields ≤ 16384
 unfolding parsed_of
 values_fit {text} {h} {p} is same =
     let bytes = simp length-append at (ap length (bytes_of text h is)) in
     let short = is.short in
-    let sum = ap (λ (p : ParsedHead). sum_by (λ (f : Header). length f.value) p.fields) same in
-    omega (arith, values_shorter h.fields, bytes, short, sum)
+    let sum = ap (λ (p : HeadParts). sum_by (λ (f : Header). length f.value) p.fields) same in
+    omega (arith, signed_fewer (map parsed_field h.fields), values_shorter h.fields, bytes, short, sum)
 
--- nor is the target, which is a text
-pub target_fits : {text : List ℕ} {h : RequestHead} {p : ParsedHead} → IsHead text h → p ≡ parsed_of h → (length p.target ≤ 16384) × IsUtf8 p.target
+-- the target of a head is a text, and is not longer than the limit of a head
+pub target_fits : {text : List ℕ} {h : RequestHead} {p : HeadParts} → IsHead text h → p ≡ parsed_of h → (length p.target ≤ 16384) × IsUtf8 p.target
 unfolding parsed_of
 target_fits {text} {h} {p} is same =
     let bytes = simp length-append at (ap length (bytes_of text h is)) in
     let short = is.short in
-    let whole = ap (λ (p : ParsedHead). p.target) same in
+    let whole = ap (λ (p : HeadParts). p.target) same in
     (omega (arith, bytes, short, ap length whole), subst IsUtf8 (sym whole) is.reads.0.target_text)

@@ -6,5 +6,6 @@ pub mod HeadLemmas
 pub mod NumberLemmas
 pub mod TargetLemmas
 pub mod TextLemmas
+pub mod TwiceLemmas
 pub mod Utf8Lemmas
 pub mod ValueLemmas

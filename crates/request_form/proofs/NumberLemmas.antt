@@ -22,12 +22,12 @@ all_digits : (ds : List ℕ) → is_number ds ≡ true → list_all is_digit ds 
 unfolding is_number
 all_digits ds number = (and_parts (is_within 1 19 (length ds)) (list_all is_digit ds) number).1
 
--- there are at most 19
+-- a number has at most 19 digits
 short : (ds : List ℕ) → is_number ds ≡ true → length ds ≤ 19
 unfolding is_number
 short ds number = let within = (and_parts (is_within 1 19 (length ds)) (list_all is_digit ds) number).0 in grind (arith, nat_tests)
 
--- each place has a digit
+-- each byte of a number is a digit
 pub digit_in : (ds : List ℕ) (i : ℕ) → is_number ds ≡ true → i < length ds → IsInRange 48 57 (get_or ds i 0)
 digit_in ds i number inside = digit_at ds i (own.to ds (all_digits ds number)) inside
 

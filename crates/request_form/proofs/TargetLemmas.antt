@@ -1,4 +1,4 @@
--- The origin form: as a test, as the grammar of the crate `http_uri` has it, and that it is a text where the target is one.
+-- The origin form: its test, its form in the grammar of the crate `http_uri`, and that it is a text if the target is a text.
 use Rattle.std.proofs.Common.{◌≡◌, ◌⊎◌, inl, inr, ℕ, suc, ◌+◌, ◌<◌, ◌≤◌, Bool, true, false, cond, not, ◌&&◌, List, [], ◌∷◌, ◌++◌, length, get_or, take, drop, refl, sym, ap, ◌∙◌, subst, arith, eqb-true, Option, Some, None}
 use Rattle.std.specs.Prelude.{◌==◌, slice_index, nat_lt, IsUtf8, codes, if◌then◌else◌, IfSome}
 use Rattle.std.specs.List.{list_all, position_or_len, prefix_len, AllPass}
@@ -16,7 +16,7 @@ use Rattle.http_uri.specs.declared.error.UriError.TheVariants.{Invalid}
 use Rattle.http_uri.specs.declared.error.InvalidUri.{InvalidUri}
 use Rattle.request_form.specs.Targets.{is_question_mark, path_of, query_text, is_origin, is_in_authority}
 
--- a byte that passes is none that fails
+-- a byte that passes is not a byte that fails
 other_byte : (p : ℕ → Bool) (c y : ℕ) → p c ≡ false → p y ≡ true → (y == c) ≡ false
 other_byte p c y fails passes =
     elim (y == c) as (λ b. (y == c) ≡ b → b ≡ false) [
@@ -31,7 +31,7 @@ unsigned_query (y ∷ ys) all =
     let each = and_parts (is_query_byte y) (list_all is_query_byte ys) all in
     rw (other_byte is_query_byte 35 y refl each.0, unsigned_query ys each.1) (omega arith)
 
--- nor have those of a path and a query
+-- bytes of a path and a query have no number sign
 unsigned : (text : List ℕ) → list_all is_path_byte (path_of text) ≡ true → list_all is_query_byte (query_text text) ≡ true → index_of 35 text ≡ length text
 unfolding path_of query_text
 unsigned [] p q = refl
@@ -51,7 +51,7 @@ unsigned (x ∷ xs) p q =
           rw (other_byte is_path_byte 35 x refl each.0, unsigned xs each.1 back) (omega arith)
     ] refl p q
 
--- what the test tells
+-- what the test says
 origin_parts : (text : List ℕ) → is_origin text ≡ true → (slice_index text 0 ≡ 47) × (list_all is_path_byte (path_of text) ≡ true) × (list_all is_query_byte (query_text text) ≡ true)
 unfolding is_origin
 origin_parts text is =
@@ -59,11 +59,11 @@ origin_parts text is =
     let each = and_parts (slice_index text 0 == 47) (list_all is_path_byte (path_of text)) both.0 in
     (eqb-true (slice_index text 0) 47 each.0, each.1, both.1)
 
--- what is kept of a text without a number sign is all of it
+-- all of a text without a number sign is kept
 whole : (text : List ℕ) → index_of 35 text ≡ length text → without_fragment text ≡ text
 whole text none = rw none (take_all (length text) text (omega arith))
 
--- a query passes where there is none
+-- the bytes of a query pass, if there is a query
 query_from : (text : List ℕ) → IfSome (split_once_back 63 text) (AllPass is_query_byte) → list_all is_query_byte (query_text text) ≡ true
 unfolding query_text
 query_from text some =
@@ -87,7 +87,7 @@ path_from text start is =
     let query = query_from text is.query in
     rw (start, path, query) refl
 
--- what the grammar takes of the texts that begin with `/` and have no number sign are origin forms
+-- a text that the grammar takes is an origin form, if it begins with `/` and has no number sign
 pub is_origin_spelled : (text : List ℕ) (scheme authority : Option (List ℕ)) (kept : List ℕ) → slice_index text 0 ≡ 47 → index_of 35 text ≡ length text → IsForm text scheme authority kept → is_origin text ≡ true
 is_origin_spelled text None None kept start none form = path_from text start (subst IsPathAndQuery (whole text none) form.0.1.kept)
 is_origin_spelled text None (Some a) kept start none form =
@@ -135,7 +135,7 @@ origin_spells text is utf8 short =
       ),
     )
 
--- with a number sign the text is no origin form
+-- a text with a number sign is not an origin form
 pub is_origin_signed : (text : List ℕ) → index_of 35 text < length text → is_origin text ≡ false
 is_origin_signed text less =
     elim (is_origin text) as (λ b. is_origin text ≡ b → b ≡ false) [
@@ -146,7 +146,7 @@ is_origin_signed text less =
       | false ↦ λ _. refl
     ] refl
 
--- what the grammar takes in no way is no origin form
+-- a text that the grammar does not take is not an origin form
 pub is_origin_unspelled : (text : List ℕ) → IsUtf8 text → length text ≤ 65534 → SpellsNone text → is_origin text ≡ false
 is_origin_unspelled text utf8 short none =
     elim (is_origin text) as (λ b. is_origin text ≡ b → b ≡ false) [
@@ -158,16 +158,16 @@ is_origin_unspelled text utf8 short none =
 ends_in_ascii : (b : ℕ) → is_in_authority b ≡ false → b < 128
 ends_in_ascii b ends = grind (arith, nat_tests)
 
--- what follows the authority is a text, where all is one
-pub text_behind : (target : List ℕ) (n : ℕ) → IsUtf8 target → n ≡ prefix_len is_in_authority (drop 7 target) → (7 + n < length target) ⊎ (length target ≤ 7 + n) → IsUtf8 (drop (7 + n) target)
-text_behind target n utf8 is (inl less) =
+-- what follows the authority is a text, if the whole is a text
+pub text_after : (target : List ℕ) (n : ℕ) → IsUtf8 target → n ≡ prefix_len is_in_authority (drop 7 target) → (7 + n < length target) ⊎ (length target ≤ 7 + n) → IsUtf8 (drop (7 + n) target)
+text_after target n utf8 is (inl less) =
     let long = length-drop 7 target in
     let inside : prefix_len is_in_authority (drop 7 target) < length (drop 7 target) = rw (← is) (omega arith) in
     let stops = prefix_len_stops is_in_authority (drop 7 target) 0 inside in
     let there : is_in_authority (get_or target (7 + n) 0) ≡ false = rw (← get_or-drop 7 target n 0, is) stops in
     IsUtf8-drop target (7 + n) utf8 (IsCharBoundary-before_ascii target (7 + n) less (ends_in_ascii (get_or target (7 + n) 0) there))
-text_behind target n utf8 is (inr more) = rw (drop_all (7 + n) target more) IsUtf8-nil
+text_after target n utf8 is (inr more) = rw (drop_all (7 + n) target more) IsUtf8-nil
 
--- bytes that are refused are no want of memory
+-- bytes that are refused for their form are not a lack of memory
 pub refused_by_form : (e : UriError) (why : InvalidUri) → e ≡ Invalid why → ¬ (IsOutOfMemory e)
 refused_by_form e why is = both_ways (is_out_of_memory e) (ap is_out_of_memory is)

@@ -3,7 +3,7 @@ use Rattle.std.proofs.Common.{◌≡◌, inl, inr, IsTrue, IsUtf8, sym, ℕ, zer
 use Rattle.std.proofs.lemmas.Bool.{and_parts, and_from, cases_Bool, or_parts, not-false}
 use Rattle.std.proofs.lemmas.Bool.Decides.{nat_tests}
 use Rattle.std.proofs.lemmas.List.Sums.{sum_by-cons}
-use Rattle.std.proofs.lemmas.Str.{IsCharBoundary-start, IsUtf8-from_ascii, utf8_valid_len-IsUtf8}
+use Rattle.std.proofs.lemmas.Str.{IsCharBoundary-start, IsUtf8-from_ascii}
 use Rattle.std.specs.List.{list_all}
 use Rattle.request_form.specs.BlobNames.{decoded_name, name_of}
 use Rattle.request_form.specs.declared.names.NameFault.TheVariants as fault
@@ -37,12 +37,7 @@ visible_ascii [] all i = omega arith
 visible_ascii (b ∷ t) all zero = omega (arith, (ends b (and_parts (is_visible_byte b) (list_all is_visible_byte t) all).0).1)
 visible_ascii (b ∷ t) all (suc i) = visible_ascii t (and_parts (is_visible_byte b) (list_all is_visible_byte t) all).1 i
 
--- what is visible is UTF-8
-pub visible_utf8 : (t : List ℕ) → is_visible t ≡ true → is_utf8 t ≡ true
-unfolding is_utf8
-visible_utf8 t all = let whole = utf8_valid_len-IsUtf8 t (IsUtf8-from_ascii t (visible_ascii t all)) in grind (arith, nat_tests)
-
--- and has no control characters
+-- a visible text has no control characters
 pub visible_clean : (t : List ℕ) → is_visible t ≡ true → is_clean t ≡ true
 visible_clean [] all = refl
 visible_clean (b ∷ t) all =
@@ -60,7 +55,7 @@ container_byte_visible b e = grind (arith, nat_tests)
 pub account_visible : (t : List ℕ) → is_account t ≡ true → is_visible t ≡ true
 account_visible t good = weaker is_lower_or_digit is_visible_byte letter_visible t (and_parts (is_within 3 24 (length t)) _ good).1
 
--- and so is a container's
+-- a container's name is visible
 pub container_visible : (t : List ℕ) → is_container t ≡ true → is_visible t ≡ true
 container_visible t good =
     let bytes = and_parts _ _ (and_parts _ _ (and_parts _ _ (and_parts _ _ good).0).0).0 in
@@ -79,7 +74,7 @@ not_utf8 t none = elim (cases_Bool (is_visible t)) [
   | inr some ↦ some
 ]
 
--- nor is a text that is not clean
+-- a text that is not clean is not visible
 pub not_clean : (t s : List ℕ) → s ≡ t → ¬ (IsTrue (is_clean s)) → is_visible t ≡ false
 not_clean t s same none = elim (cases_Bool (is_visible t)) [
   | inl all ↦ absurd (none (rw same (visible_clean t all)))
@@ -96,7 +91,7 @@ some_char (b ∷ t) text some =
     let one : ◌≡◌ {A = ℕ} (cond (not (is_continuation b)) 1 0) 1 = rw first in
     omega (arith, more, one)
 
--- what the tests of a name say of one that passes them
+-- what the tests of a name say about a name that passes them
 passed : (none text long clean : Bool) (name : List ℕ)
     → is_ok (cond none (Err fault.Empty) (cond (not text) (Err fault.NotUtf8) (cond long (Err fault.TooLong) (cond (not clean) (Err fault.Control) (Ok name))))) ≡ true
     → (none ≡ false) × (text ≡ true) × (long ≡ false) × (clean ≡ true)
@@ -128,7 +123,7 @@ name_is name read e = by_tests (is_nothing name) (is_utf8 name) (nat_lt 1024 (ch
     by_tests false true true clean e = absurd (cc)
     by_tests false true false false e = absurd (cc)
 
--- what the names of a path are if none is bad
+-- what the names of a path are if no name is bad
 pub record HasGoodNames (path : List ℕ) : Type 0 where
   pub account : is_account (account_of path) ≡ true
   pub container : is_container (container_of path) ≡ true
@@ -141,7 +136,7 @@ good_names path e =
     let places = or_parts _ _ parts.0 in
     record { account = not-false _ places.0; container = not-false _ places.1; blob = good_blob _ (not-false _ parts.1) }
 
--- a path whose names were read has no bad one
+-- a path whose names were read has no bad name
 pub no_bad_name : (path blob : List ℕ) → (is_account (account_of path) && is_container (container_of path)) ≡ true → name_of (blob_of path) ≡ Ok blob → has_bad_name path ≡ false
 unfolding has_bad_name
 no_bad_name path blob places named = let both = and_parts (is_account (account_of path)) (is_container (container_of path)) places in rw (both.0, both.1, named)

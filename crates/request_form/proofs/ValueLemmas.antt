@@ -1,18 +1,19 @@
 -- Values that were sent under a name.
-use Rattle.std.proofs.Common.{◌≡◌, ℕ, ◌+◌, ◌≤◌, Bool, true, false, ◌&&◌, ◌||◌, cond, List, [], ◌∷◌, length, find, sum_by, Option, Some, None, option_map, bytes_eq, codes, refl, ap, ◌∙◌, arith}
+use Rattle.std.proofs.Common.{◌≡◌, ℕ, ◌+◌, ◌≤◌, Bool, true, false, ◌||◌, cond, List, [], ◌∷◌, length, find, sum_by, Option, Some, None, option_map, bytes_eq, codes, refl, ap, ◌∙◌, arith}
 use Rattle.std.proofs.lemmas.List.Sums.{sum_by-cons}
 use Rattle.std.proofs.lemmas.Slice.Eq.{bytes_eq-Decides}
 use Rattle.std.specs.Option.{option_map_or, option_or}
 use Rattle.stamp_types.specs.Requests.{given_len, kept_len}
 use Rattle.stamp_types.specs.declared.args.Kept.{Kept}
+use Rattle.stamp_values.specs.Fields.{has_name, first_value}
+use Rattle.stamp_values.specs.declared.op.Op.{Op}
 use Rattle.stamp_values.specs.declared.signing.Field.{Field}
-use Rattle.request_form.specs.HeadFields.{has_name, is_bad, is_md5, value_under}
+use Rattle.request_form.specs.HeadFields.{is_bad, is_md5}
 use Rattle.request_form.specs.HeadForms.{md5_under, kept_of}
-use Rattle.request_form.specs.HeadRules.{has_bad_condition, has_bad_kept, has_bad_line, has_bad_md5, has_own_twice, has_standard_twice, kept_value}
+use Rattle.request_form.specs.HeadRules.{has_bad_condition, has_bad_kept_by, has_bad_line, has_bad_md5, has_own_twice, has_standard_twice, kept_value}
 
--- a value that was sent under a name is one of those that are counted
-under_short : (test : List ℕ → Bool) (name : List ℕ) → test name ≡ true → (fields : List Field) → given_len (value_under fields name) ≤ sum_by (λ f. cond (test f.name) (length f.value) 0) fields
-unfolding value_under
+-- the value that was sent under a name is counted if the test passes its name
+under_short : (test : List ℕ → Bool) (name : List ℕ) → test name ≡ true → (fields : List Field) → given_len (first_value fields name) ≤ sum_by (λ f. cond (test f.name) (length f.value) 0) fields
 under_short test name passes [] = omega arith
 under_short test name passes (f ∷ fs) = by_name (bytes_eq f.name name) refl (under_short test name passes fs)
   where
@@ -21,17 +22,18 @@ under_short test name passes (f ∷ fs) = by_name (bytes_eq f.name name) refl (u
 
     by_name : (b : Bool) → bytes_eq f.name name ≡ b → given_len (option_map (λ g. g.value) (find (has_name name) fs)) ≤ sum_by (λ g. cond (test g.name) (length g.value) 0) fs
         → given_len (option_map (λ g. g.value) (find (has_name name) (f ∷ fs))) ≤ sum_by (λ g. cond (test g.name) (length g.value) 0) (f ∷ fs)
-    by_name true e behind =
+    by_name true e rest =
         let same : f.name ≡ name = (bytes_eq-Decides f.name name).0 e in
         let counted : test f.name ≡ true = ap test same ∙ passes in
         rw (e, more, counted) (omega arith)
-    by_name false e behind = rw (e, more) (omega arith)
+    by_name false e rest = rw (e, more) (omega arith)
 
--- of two values the one that counts is no longer than what bounds both
-either_short : (m : ℕ) (a b : Option (List ℕ)) → given_len a ≤ m → given_len b ≤ m → length (option_map_or (λ v. v) (option_or a b) []) ≤ m
-either_short m None None x y = omega arith
-either_short m None (Some v) x y = y
-either_short m (Some v) b x y = x
+-- the first of two values is not longer than a bound of both; the second value counts or not
+either_short : (m : ℕ) (takes : Bool) (a b : Option (List ℕ)) → given_len a ≤ m → given_len b ≤ m → length (option_map_or (λ v. v) (option_or a (cond takes b None)) []) ≤ m
+either_short m takes (Some v) b x y = x
+either_short m false None b x y = omega arith
+either_short m true None None x y = omega arith
+either_short m true None (Some v) x y = y
 
 -- the headers that each of the four kept values may come from
 abbrev is_type : List ℕ → Bool
@@ -54,7 +56,7 @@ alone test own plain n first second e = by_own (bytes_eq n own) refl
     by_own true t = ap test ((bytes_eq-Decides n own).0 t) ∙ first
     by_own false t = ap test ((bytes_eq-Decides n plain).0 (rw t at e)) ∙ second
 
--- of four counts of which one at most counts
+-- if at most one of four counts counts, they are together not more than one of them
 one_counts : (a b c d : Bool) (n : ℕ) → (a ≡ true → b ≡ false) → (a ≡ true → c ≡ false) → (a ≡ true → d ≡ false) → (b ≡ true → c ≡ false) → (b ≡ true → d ≡ false) → (c ≡ true → d ≡ false)
     → cond a n 0 + cond b n 0 + cond c n 0 + cond d n 0 ≤ n
 one_counts true b c d n ab ac ad bc bd cd = rw (ab refl, ac refl, ad refl) (omega arith)
@@ -63,7 +65,7 @@ one_counts false false true d n ab ac ad bc bd cd = rw (cd refl) (omega arith)
 one_counts false false false true n ab ac ad bc bd cd = omega arith
 one_counts false false false false n ab ac ad bc bd cd = omega arith
 
--- how long the value of a header is that passes
+-- the length of a header's value if the header passes the test, and else 0
 abbrev counted : (List ℕ → Bool) → Field → ℕ
 counted test f = cond (test f.name) (length f.value) 0
 
@@ -81,38 +83,43 @@ sums_count : (v w x y z : Field → ℕ) → ((f : Field) → v f + w f + x f + 
 sums_count v w x y z each [] = omega arith
 sums_count v w x y z each (f ∷ fs) =
     let here = each f in
-    let behind = sums_count v w x y z each fs in
+    let rest = sums_count v w x y z each fs in
     rw (sum_by-cons v f fs, sum_by-cons w f fs, sum_by-cons x f fs, sum_by-cons y f fs, sum_by-cons z f fs) (omega arith)
 
-value_counts : (own plain : List ℕ) (test : List ℕ → Bool) (fields : List Field) → test own ≡ true → test plain ≡ true → length (kept_value fields own plain) ≤ sum_by (counted test) fields
+value_counts : (takes : Bool) (own plain : List ℕ) (test : List ℕ → Bool) (fields : List Field) → test own ≡ true → test plain ≡ true → length (kept_value takes fields own plain) ≤ sum_by (counted test) fields
 unfolding kept_value
-value_counts own plain test fields o p =
-    either_short (sum_by (counted test) fields) (value_under fields own) (value_under fields plain) (under_short test own o fields) (under_short test plain p fields)
+value_counts takes own plain test fields o p =
+    either_short (sum_by (counted test) fields) takes (first_value fields own) (first_value fields plain) (under_short test own o fields) (under_short test plain p fields)
 
--- the four kept values are no longer than all values together
-pub kept_short : (fields : List Field) → kept_len (Some (kept_of fields)) ≤ sum_by (λ f. length f.value) fields
+-- the four kept values are not longer than all values together
+pub kept_short : (takes : Bool) (fields : List Field) → kept_len (Some (kept_of takes fields)) ≤ sum_by (λ f. length f.value) fields
 unfolding kept_of
-kept_short fields =
-    let a = value_counts (codes "x-ms-blob-content-type") (codes "content-type") is_type fields refl refl in
-    let b = value_counts (codes "x-ms-blob-content-encoding") (codes "content-encoding") is_encoding fields refl refl in
-    let c = value_counts (codes "x-ms-blob-content-language") (codes "content-language") is_language fields refl refl in
-    let d = value_counts (codes "x-ms-blob-cache-control") (codes "cache-control") is_cache fields refl refl in
+kept_short takes fields =
+    let a = value_counts takes (codes "x-ms-blob-content-type") (codes "content-type") is_type fields refl refl in
+    let b = value_counts takes (codes "x-ms-blob-content-encoding") (codes "content-encoding") is_encoding fields refl refl in
+    let c = value_counts takes (codes "x-ms-blob-content-language") (codes "content-language") is_language fields refl refl in
+    let d = value_counts takes (codes "x-ms-blob-cache-control") (codes "cache-control") is_cache fields refl refl in
     let all = sums_count (counted is_type) (counted is_encoding) (counted is_language) (counted is_cache) (λ f. length f.value) name_counts fields in
     omega arith
 
--- lines of which none is bad
-pub no_bad_line : (keeps : Bool) (fields : List Field) → has_standard_twice fields ≡ false → has_own_twice fields ≡ false → has_bad_condition fields ≡ false
-    → is_bad fields (codes "content-md5") is_md5 ≡ false → is_bad fields (codes "x-ms-blob-content-md5") is_md5 ≡ false → (keeps && has_bad_kept fields) ≡ false → has_bad_line keeps fields ≡ false
+-- the lines are not bad if no test of them holds
+pub no_bad_line : (op : Op) (fields : List Field) → (has_standard_twice fields || has_own_twice fields) ≡ false → has_bad_condition fields ≡ false
+    → is_bad fields (codes "content-md5") is_md5 ≡ false → is_bad fields (codes "x-ms-blob-content-md5") is_md5 ≡ false → has_bad_kept_by op fields ≡ false → has_bad_line (Some op) fields ≡ false
 unfolding has_bad_line has_bad_md5
-no_bad_line keeps fields a b c d e f = rw (a, b, c, d, e, f)
+no_bad_line op fields twice condition md5 own_md5 kept = rw (condition, md5, own_md5, kept) (two (has_standard_twice fields) (has_own_twice fields) twice)
+  where
+    two : (a b : Bool) → (a || b) ≡ false → (a || b || false || false || false) ≡ false
+    two true b e = e
+    two false true e = e
+    two false false e = e
 
--- headers to keep of equal parts
-pub same_kept : (fields : List Field) (k : Kept)
-    → k.content_type ≡ kept_value fields (codes "x-ms-blob-content-type") (codes "content-type")
-    → k.encoding ≡ kept_value fields (codes "x-ms-blob-content-encoding") (codes "content-encoding")
-    → k.language ≡ kept_value fields (codes "x-ms-blob-content-language") (codes "content-language")
-    → k.cache_control ≡ kept_value fields (codes "x-ms-blob-cache-control") (codes "cache-control")
+-- headers to keep are equal if their parts are equal
+pub same_kept : (takes : Bool) (fields : List Field) (k : Kept)
+    → k.content_type ≡ kept_value takes fields (codes "x-ms-blob-content-type") (codes "content-type")
+    → k.encoding ≡ kept_value takes fields (codes "x-ms-blob-content-encoding") (codes "content-encoding")
+    → k.language ≡ kept_value takes fields (codes "x-ms-blob-content-language") (codes "content-language")
+    → k.cache_control ≡ kept_value takes fields (codes "x-ms-blob-cache-control") (codes "cache-control")
     → k.md5 ≡ md5_under fields (codes "x-ms-blob-content-md5")
-    → k ≡ kept_of fields
+    → k ≡ kept_of takes fields
 unfolding kept_of
-same_kept fields k a b c d e = λ i. record { content_type = a i; encoding = b i; language = c i; cache_control = d i; md5 = e i }
+same_kept takes fields k a b c d e = λ i. record { content_type = a i; encoding = b i; language = c i; cache_control = d i; md5 = e i }

@@ -8,18 +8,18 @@ use Rattle.stamp_values.specs.Texts.{is_utf8}
 use Rattle.request_form.specs.declared.names.NameFault.{NameFault}
 use Rattle.request_form.specs.declared.names.NameFault.TheVariants as fault
 
--- the name, or why it is none: one to 1,024 characters in UTF-8, none of them a control character
+-- the name, or why the bytes are not a name: a name is UTF-8, has 1 to 1,024 characters and has no control character
 unfoldable pub decoded_name : List ℕ → Result (List ℕ) NameFault
 decoded_name name =
     if is_nothing name then Err fault.Empty
     else (if not (is_utf8 name) then Err fault.NotUtf8
     else (if nat_lt 1024 (char_count name) then Err fault.TooLong else (if not (is_clean name) then Err fault.Control else Ok name)))
 
--- the name that a path has behind the container, decoded
+-- the name that a path has after the container, decoded
 abbrev pub name_of : List ℕ → Result (List ℕ) NameFault
 name_of rest = decoded_name (percent_decode rest)
 
--- the fault is that of the name; want of memory may take its place
+-- the fault is the fault of the name, unless memory runs out
 abbrev pub FaultOf : List ℕ → NameFault → Type 0
 FaultOf rest fault.NoMemory = Unit {0}
 FaultOf rest other = name_of rest ≡ Err other

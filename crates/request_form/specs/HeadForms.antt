@@ -1,13 +1,12 @@
 -- What a head asks for (Blob service REST reference, 2012-02-12, Authentication for the Azure Storage Services, Put Blob, Get Blob;
 -- RFC 9110, sections 7.6.1, 8.6 and 10.1.1; RFC 9112, sections 9.3 and 9.6).
-use Rattle.std.specs.Prelude.{ℕ, Bool, false, true, not, ◌&&◌, ◌||◌, ◌==◌, if◌then◌else◌, List, [], ◌∷◌, filter, map, Option, Some, None, option_map, option_and_then, bytes_eq, codes}
+use Rattle.std.specs.Prelude.{ℕ, Bool, false, true, not, ◌&&◌, ◌||◌, ◌==◌, if◌then◌else◌, List, [], ◌∷◌, Option, Some, None, option_map, option_and_then, bytes_eq, codes}
 use Rattle.std.specs.List.{list_any, slice_split}
 use Rattle.base64.specs.Engines.{standard}
 use Rattle.base64.specs.GeneralPurpose.{decoded_of}
 use Rattle.percent_encoding.specs.Percent.{percent_decode}
-use Rattle.httparse.specs.Grammar.{trim_ows}
 use Rattle.stamp_values.specs.declared.key.Key.{Key}
-use Rattle.stamp_values.specs.Fields.{lowered_field}
+use Rattle.stamp_values.specs.Fields.{has_name, first_value, is_sent, trimmed}
 use Rattle.stamp_values.specs.declared.op.Op.{Op}
 use Rattle.stamp_values.specs.declared.verb.Verb.{Verb}
 use Rattle.stamp_values.specs.declared.verb.Verb.TheVariants.{Put}
@@ -21,14 +20,14 @@ use Rattle.stamp_types.specs.declared.args.Kept.{Kept}
 use Rattle.stamp_types.specs.declared.ask.Ask.{Ask}
 use Rattle.stamp_types.specs.Requests.{Asked, asked}
 use Rattle.request_form.specs.Targets.{lowered, target_of, account_of, container_of, blob_of}
-use Rattle.request_form.specs.HeadFields.{has_name, value_under, values_under}
-use Rattle.request_form.specs.HeadRules.{verb_of, op_of, is_asked, kept_value, body_len_of}
-use Rattle.request_form.specs.declared.parsed_head.ParsedHead.{ParsedHead}
+use Rattle.stamp_values.specs.Ascii.{comma}
+use Rattle.request_form.specs.HeadRules.{verb_of, op_of, is_put_blob, kept_value, body_len_of}
+use Rattle.request_form.specs.HeadParts.{HeadParts}
 use Rattle.request_form.specs.declared.parsed_head.Version.{Version}
 use Rattle.request_form.specs.declared.parsed_head.Version.TheVariants.{Http10, Http11}
 
--- what a head asks for: a request but for its body, how long that is, whether the client waits to be told to send it, and
--- whether the connection ends behind the reply
+-- what a head asks for: a request without its body, how many bytes the body has, whether the client waits for the interim
+-- reply before it sends the body, and whether the connection ends after the reply
 pub record Form : Type 0 where
   pub ask : Ask
   pub body_len : ℕ
@@ -37,15 +36,15 @@ pub record Form : Type 0 where
 
 -- the MD5 that was sent under a name
 unfoldable pub md5_under : List Field → List ℕ → Option (List ℕ)
-md5_under fields name = option_and_then (decoded_of standard) (value_under fields name)
+md5_under fields name = option_and_then (decoded_of standard) (first_value fields name)
 
--- the headers that a blob is to keep
-unfoldable pub kept_of : List Field → Kept
-kept_of fields = record {
-  content_type = kept_value fields (codes "x-ms-blob-content-type") (codes "content-type");
-  encoding = kept_value fields (codes "x-ms-blob-content-encoding") (codes "content-encoding");
-  language = kept_value fields (codes "x-ms-blob-content-language") (codes "content-language");
-  cache_control = kept_value fields (codes "x-ms-blob-cache-control") (codes "cache-control");
+-- the headers that a blob is to keep; the plain headers count or not
+unfoldable pub kept_of : Bool → List Field → Kept
+kept_of takes_plain fields = record {
+  content_type = kept_value takes_plain fields (codes "x-ms-blob-content-type") (codes "content-type");
+  encoding = kept_value takes_plain fields (codes "x-ms-blob-content-encoding") (codes "content-encoding");
+  language = kept_value takes_plain fields (codes "x-ms-blob-content-language") (codes "content-language");
+  cache_control = kept_value takes_plain fields (codes "x-ms-blob-cache-control") (codes "cache-control");
   md5 = md5_under fields (codes "x-ms-blob-content-md5");
 }
 
@@ -53,14 +52,18 @@ kept_of fields = record {
 abbrev pub key_of : List ℕ → Key
 key_of path = record { account = account_of path; container = container_of path }
 
--- what comes with a request; neither conditions nor ranges nor metadata are taken yet
+-- the headers that a blob is to keep, if the operation keeps headers; the plain headers count for Put Blob alone
+abbrev pub kept_by : Op → List Field → Option Kept
+kept_by op fields = if keeps_headers op then Some (kept_of (is_put_blob (Some op)) fields) else None
+
+-- what comes with a request; conditions, ranges and metadata are not taken yet
 unfoldable pub args_of : Op → List Field → Args
 args_of op fields = record {
   if_match = None;
   if_none_match = None;
   content_md5 = if checks_md5 op then md5_under fields (codes "content-md5") else None;
   range = None;
-  kept = if keeps_headers op then Some (kept_of fields) else None;
+  kept = kept_by op fields;
   metadata = [];
   level = None;
   page = None;
@@ -68,34 +71,31 @@ args_of op fields = record {
   kinds = None;
 }
 
--- all headers but Authorization, in the order sent
-unfoldable pub signed_headers : List Field → List Field
-signed_headers fields = filter (λ f. not (has_name (codes "authorization") f)) fields
-
--- what the string to sign is made of; all names are in lower case
-unfoldable pub signing_of : Verb → ParsedHead → Signing
+-- what the string to sign is made of
+unfoldable pub signing_of : Verb → HeadParts → Signing
 signing_of verb p = record {
   verb = verb;
-  headers = map lowered_field (signed_headers p.fields);
+  headers = p.fields;
   path = (target_of p.target).path;
-  query = map lowered_field (target_of p.target).query;
+  query = (target_of p.target).query;
 }
 
--- by which word it asks: the header Authorization, however often it was sent; else the parameter sig; else none
+-- by which word a request asks: by the values of its Authorization headers, if it has any; else by the parameter sig; else by no word
 abbrev pub credential_by : List (List ℕ) → Bool → Credential
 credential_by [] true = Token
 credential_by [] false = Anonymous
 credential_by (value ∷ values) token = Shared (value ∷ values)
 
-unfoldable pub credential_of : ParsedHead → Credential
-credential_of p = credential_by (values_under p.fields (codes "authorization")) (is_asked (target_of p.target).query (codes "sig"))
+-- by which word a head asks
+unfoldable pub credential_of : HeadParts → Credential
+credential_of p = credential_by p.authorization (is_sent (target_of p.target).query (codes "sig"))
 
 -- the blob's name, decoded
 unfoldable pub blob_name_of : List ℕ → List ℕ
 blob_name_of path = percent_decode (blob_of path)
 
--- a request for a blob, but for its body
-unfoldable pub ask_of : Op → Verb → ParsedHead → Ask
+-- a request for a blob, without its body
+unfoldable pub ask_of : Op → Verb → HeadParts → Ask
 ask_of op verb p = record {
   op = op;
   key = key_of (target_of p.target).path;
@@ -110,27 +110,35 @@ abbrev pub is_newer : Version → Bool
 is_newer Http10 = false
 is_newer Http11 = true
 
+-- the header asks for the interim reply
+abbrev pub asks_to_go_on : Field → Bool
+asks_to_go_on f = has_name (codes "expect") f && bytes_eq (lowered f.value) (codes "100-continue")
+
 -- the client waits for the interim reply
-unfoldable pub expects_of : ParsedHead → Bool
-expects_of p = is_newer p.version && list_any (λ f. has_name (codes "expect") f && bytes_eq (lowered f.value) (codes "100-continue")) p.fields
+unfoldable pub expects_of : HeadParts → Bool
+expects_of p = is_newer p.version && list_any asks_to_go_on p.fields
 
--- the option `close` stands among those of a Connection header
+-- the value of a Connection header has the option `close`
 unfoldable pub has_close : List ℕ → Bool
-has_close value = list_any (λ option. bytes_eq (lowered (trim_ows option)) (codes "close")) (slice_split (λ b. b == 44) value)
+has_close value = list_any (λ option. bytes_eq (lowered (trimmed option)) (codes "close")) (slice_split (λ b. b == comma) value)
 
--- the connection ends behind the reply
-unfoldable pub closes_of : ParsedHead → Bool
-closes_of p = not (is_newer p.version) || list_any (λ f. has_name (codes "connection") f && has_close f.value) p.fields
+-- the header asks to end the connection
+abbrev pub asks_to_close : Field → Bool
+asks_to_close f = has_name (codes "connection") f && has_close f.value
+
+-- the connection ends after the reply
+unfoldable pub closes_of : HeadParts → Bool
+closes_of p = not (is_newer p.version) || list_any asks_to_close p.fields
 
 -- what a head asks for, of an operation that is built
-abbrev pub form_by : Op → Verb → ParsedHead → Form
+abbrev pub form_by : Op → Verb → HeadParts → Form
 form_by op verb p = record { ask = ask_of op verb p; body_len = body_len_of p.fields; expects = expects_of p; closes = closes_of p }
 
--- what a head asks for, where method and operation are known
-abbrev pub form_of : ParsedHead → Option Form
+-- what a head asks for, if its method and its operation are known
+abbrev pub form_of : HeadParts → Option Form
 form_of p = option_and_then (λ op. option_map (λ verb. form_by op verb p) (verb_of p.method)) (op_of p)
 
--- the body comes with PUT alone; another's is read and dropped
+-- the body of a PUT; the body of another method is read and dropped
 abbrev pub body_by : Verb → List ℕ → List ℕ
 body_by Put body = body
 body_by other body = []

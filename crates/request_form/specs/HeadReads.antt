@@ -12,28 +12,29 @@ use Rattle.request_form.specs.declared.denial.HeadFault.{HeadFault}
 use Rattle.request_form.specs.declared.denial.HeadFault.TheVariants as fault
 use Rattle.request_form.specs.declared.header_lines.Fields.{Fields}
 use Rattle.request_form.specs.declared.names.Names.{Names}
-use Rattle.request_form.specs.declared.parsed_head.ParsedHead.{ParsedHead}
+use Rattle.request_form.specs.HeadParts.{HeadParts}
 use Rattle.request_form.specs.declared.request_line.Line.{Line}
 use Rattle.request_form.specs.declared.values.ValueFault.{ValueFault}
 use Rattle.request_form.specs.declared.values.ValueFault.TheVariants as value_fault
 
--- the rules of the request line, and those of the names and the header lines
+-- the rules of the request line
 abbrev pub line_rules : List Rule
 line_rules = F1 ∷ F2 ∷ F3 ∷ []
 
+-- the rules of the names and the header lines
 abbrev pub field_rules : List Rule
 field_rules = F4 ∷ F5 ∷ F6 ∷ F7 ∷ F8 ∷ []
 
 -- none of these rules holds
-abbrev pub Passes : ParsedHead → List Rule → Type 0
+abbrev pub Passes : HeadParts → List Rule → Type 0
 Passes p rules = denial_among p rules ≡ None
 
--- the fault is the refusal by the first of these rules that holds; that memory runs out says nothing
-abbrev pub Denies : ParsedHead → List Rule → HeadFault → Type 0
+-- the fault is the refusal by the first of these rules that holds, unless memory runs out
+abbrev pub Denies : HeadParts → List Rule → HeadFault → Type 0
 Denies p rules (fault.Denied d) = denial_among p rules ≡ Some d
 Denies p rules fault.NoMemory = Unit {0}
 
--- the test of a value holds, and the fault has this code; that memory runs out says nothing
+-- the test of a value holds and the fault has this code, unless memory runs out
 abbrev pub RefusesValue : Bool → Code → ValueFault → Type 0
 RefusesValue holds code (value_fault.Refused c) = (holds ≡ true) × (c ≡ code)
 RefusesValue holds code value_fault.NoMemory = Unit {0}
@@ -45,13 +46,13 @@ pub record AreNames (path : List ℕ) (n : Names) : Type 0 where
   pub blob : n.blob ≡ blob_name_of path
 
 -- what a request line says
-pub record IsLine (p : ParsedHead) (l : Line) : Type 0 where
+pub record IsLine (p : HeadParts) (l : Line) : Type 0 where
   pub verb : verb_of p.method ≡ Some l.verb
   pub op : op_of p ≡ Some l.op
   pub target : l.target ≡ target_of p.target
 
 -- what the names and the header lines say
-pub record AreFields (p : ParsedHead) (op : Op) (f : Fields) : Type 0 where
+pub record AreFields (p : HeadParts) (op : Op) (f : Fields) : Type 0 where
   pub names : AreNames (target_of p.target).path f.names
   pub body_len : f.body_len ≡ body_len_of p.fields
   pub args : f.args ≡ args_of op p.fields

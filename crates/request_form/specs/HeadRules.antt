@@ -1,8 +1,8 @@
 -- The rules that refuse a head, each by itself, and the first that holds (Blob service REST reference, 2012-02-12, Common
--- REST API Error Codes and the page of each operation; RFC 9110, sections 8.6 and 9; RFC 9112, section 6). Which rules there
--- are, and their order, is the stamp's own.
-use Rattle.std.specs.Prelude.{ℕ, Bool, true, false, not, ◌&&◌, ◌||◌, ◌==◌, nat_lt, if◌then◌else◌, List, [], ◌∷◌, count_by, find, is_ok, Option, Some, None, is_none, option_map, option_and_then, bytes_eq, codes}
-use Rattle.std.specs.List.{list_any}
+-- REST API Error Codes and the page of each operation; RFC 9110, sections 8.6 and 9; RFC 9112, section 6). The stamp itself
+-- chooses the rules and their order.
+use Rattle.std.specs.Prelude.{ℕ, Bool, true, false, not, ◌&&◌, ◌||◌, ◌==◌, ◌-◌, nat_lt, if◌then◌else◌, List, [], ◌∷◌, find, is_ok, Option, Some, None, is_none, option_map, option_and_then, bytes_eq, codes, drop, length, slice_index, take}
+use Rattle.std.specs.List.{list_all, list_any}
 use Rattle.std.specs.Option.{option_map_or, option_or}
 use Rattle.std.specs.Str.Parse.{digits_value}
 use Rattle.stamp_values.specs.declared.op.Op.{Op}
@@ -18,34 +18,23 @@ use Rattle.stamp_types.specs.declared.code.Code.{Code}
 use Rattle.stamp_types.specs.declared.code.Code.TheVariants.{InvalidInput, UnsupportedHttpVerb, InvalidQueryParameterValue, MissingContentLengthHeader, InvalidHeaderValue, InvalidResourceName, UnsupportedHeader, InvalidMetadata, MissingRequiredHeader, RequestBodyTooLarge}
 use Rattle.stamp_types.specs.declared.rule.Rule.{Rule}
 use Rattle.stamp_types.specs.declared.rule.Rule.TheVariants.{F1, F2, F3, F4, F5, F6, F7, F8}
-use Rattle.stamp_values.specs.Fields.{standard_names}
+use Rattle.stamp_values.specs.Fields.{is_sent, is_sent_twice, first_value, standard_names}
 use Rattle.request_form.specs.BlobNames.{name_of}
-use Rattle.request_form.specs.Targets.{lowered, is_nothing, origin_of, is_origin, target_of, account_of, container_of, blob_of, kind_of}
-use Rattle.request_form.specs.HeadFields.{is_sent, is_twice, value_under, is_bad, has_bad, is_number, is_base64_within, is_md5, is_ms, is_meta}
+use Rattle.stamp_values.specs.Ascii.{quote}
+use Rattle.request_form.specs.Targets.{is_nothing, origin_of, is_origin, target_of, account_of, container_of, blob_of, kind_of}
+use Rattle.request_form.specs.HeadFields.{is_bad, has_bad, is_number, is_base64_within, is_md5, is_ms, is_meta}
 use Rattle.request_form.specs.declared.denial.Denial.{Denial}
 use Rattle.request_form.specs.declared.target.Target.{Target}
-use Rattle.request_form.specs.declared.parsed_head.ParsedHead.{ParsedHead}
+use Rattle.request_form.specs.HeadParts.{HeadParts}
 use Rattle.request_form.specs.declared.path_kind.PathKind.{PathKind}
 use Rattle.request_form.specs.declared.path_kind.PathKind.TheVariants as path
 
--- the method, where it is one that the stamp serves
+-- the method, if the stamp serves it
 unfoldable pub verb_of : List ℕ → Option Verb
 verb_of method =
     if bytes_eq method (codes "GET") then Some Get
     else (if bytes_eq method (codes "HEAD") then Some Head
     else (if bytes_eq method (codes "PUT") then Some Put else (if bytes_eq method (codes "DELETE") then Some Delete else None)))
-
--- the parameter has this name, in any case
-abbrev pub is_named : List ℕ → Field → Bool
-is_named name p = bytes_eq (lowered p.name) (lowered name)
-
--- the query has a parameter of the name
-unfoldable pub is_asked : List Field → List ℕ → Bool
-is_asked query name = list_any (is_named name) query
-
--- the first value that the query has under a name
-unfoldable pub parameter_under : List Field → List ℕ → Option (List ℕ)
-parameter_under query name = option_map (λ p. p.value) (find (is_named name) query)
 
 -- by what an operation is asked for: the method, what the path names, and the values of restype and comp, if it has them
 pub record OperationRow : Type 0 where
@@ -94,21 +83,21 @@ op_by verb kind restype comp = option_map (λ row. row.op) (find (is_row verb ki
 
 -- the operation of a method on a target
 unfoldable pub op_at : Verb → Target → Option Op
-op_at verb target = op_by verb (kind_of target.path) (parameter_under target.query (codes "restype")) (parameter_under target.query (codes "comp"))
+op_at verb target = op_by verb (kind_of target.path) (first_value target.query (codes "restype")) (first_value target.query (codes "comp"))
 
 -- the operation, if it is built
-unfoldable pub op_of : ParsedHead → Option Op
+unfoldable pub op_of : HeadParts → Option Op
 op_of p = option_and_then (λ verb. op_at verb (target_of p.target)) (verb_of p.method)
 
 -- the parameters that operations have, which are given at most once
 abbrev pub parameter_names : List (List ℕ)
 parameter_names = codes "restype" ∷ codes "comp" ∷ codes "prefix" ∷ codes "delimiter" ∷ codes "marker" ∷ codes "maxresults" ∷ codes "include" ∷ codes "blockid" ∷ codes "blocklisttype" ∷ []
 
--- kinds of blocks
+-- the value names a kind of blocks
 abbrev pub is_kinds : List ℕ → Bool
 is_kinds v = bytes_eq v (codes "committed") || bytes_eq v (codes "uncommitted") || bytes_eq v (codes "all")
 
--- a number that is not zero
+-- the value is a number that is not zero
 abbrev pub is_count : List ℕ → Bool
 is_count v = is_number v && not (digits_value 10 v == 0)
 
@@ -120,13 +109,13 @@ is_value_of name v =
     else (if bytes_eq name (codes "blockid") then is_base64_within 1 64 v
     else (if bytes_eq name (codes "blocklisttype") then is_kinds v else true)))
 
--- a text without control characters, of the parameter's form
+-- the value is a text without control characters, and has the form of the parameter
 abbrev pub is_good_value : List ℕ → List ℕ → Bool
 is_good_value name v = is_utf8 v && is_clean v && is_value_of name v
 
 -- the parameter is given twice, or its value is bad
 unfoldable pub is_bad_parameter : List Field → List ℕ → Bool
-is_bad_parameter query name = nat_lt 1 (count_by (is_named name) query) || option_map_or (λ v. not (is_good_value name v)) (parameter_under query name) false
+is_bad_parameter query name = is_sent_twice query name || is_bad query name (is_good_value name)
 
 -- a parameter that operations have is bad
 unfoldable pub has_bad_parameter : List Field → Bool
@@ -148,12 +137,12 @@ abbrev pub is_put_blob : Option Op → Bool
 is_put_blob (Some PutBlob) = true
 is_put_blob other = false
 
--- the account, the container or the blob has no good name
+-- the name of the account, the container or the blob is not good
 unfoldable pub has_bad_name : List ℕ → Bool
 has_bad_name path =
     not (is_account (account_of path)) || not (is_container (container_of path)) || not (is_ok (name_of (blob_of path)))
 
--- headers of which the stamp does not serve what they ask
+-- headers that ask for what the stamp does not serve
 abbrev pub unserved_names : List (List ℕ)
 unserved_names = codes "if-unmodified-since" ∷ codes "x-ms-lease-id" ∷ codes "x-ms-copy-source" ∷ codes "if-match" ∷ codes "if-none-match" ∷ []
 
@@ -161,92 +150,102 @@ unserved_names = codes "if-unmodified-since" ∷ codes "x-ms-lease-id" ∷ codes
 unfoldable pub has_unserved : List Field → Bool
 has_unserved fields = list_any (is_sent fields) unserved_names
 
--- bytes without a quotation mark, and one at their end
-abbrev pub is_closed : List ℕ → Bool
-is_closed [] = false
-is_closed (b ∷ rest) = if b == 34 then is_nothing rest else is_closed rest
+-- the text has no quotation mark
+abbrev pub is_unquoted : List ℕ → Bool
+is_unquoted text = list_all (λ b. not (b == quote)) text
 
--- a quotation mark, one or more bytes without one, and a quotation mark (RFC 9110, section 8.8.3)
-abbrev pub is_quoted : List ℕ → Bool
-is_quoted [] = false
-is_quoted (b ∷ []) = false
-is_quoted (b ∷ c ∷ rest) = b == 34 && not (c == 34) && is_closed rest
+-- the bytes between the first byte and the last byte
+abbrev pub inner : List ℕ → List ℕ
+inner v = take (length v - 2) (drop 1 v)
 
--- any, or the quoted form of an ETag (RFC 9110, sections 13.1.1 and 13.1.2)
+-- a quotation mark, one or more other bytes, and a quotation mark (RFC 9110, section 8.8.3)
+unfoldable pub is_quoted : List ℕ → Bool
+is_quoted v = nat_lt 2 (length v) && slice_index v 0 == quote && slice_index v (length v - 1) == quote && is_unquoted (inner v)
+
+-- the value is `*` or an ETag in quotation marks (RFC 9110, sections 13.1.1 and 13.1.2)
 unfoldable pub is_condition : List ℕ → Bool
 is_condition v = bytes_eq v (codes "*") || is_quoted v
 
--- the value of a header that is kept: the one under the service's own name where that was sent, else the plain one
-unfoldable pub kept_value : List Field → List ℕ → List ℕ → List ℕ
-kept_value fields own plain = option_map_or (λ v. v) (option_or (value_under fields own) (value_under fields plain)) []
+-- the value of a header that is kept: the value of the service's own header, else the value of the plain header, if that counts
+unfoldable pub kept_value : Bool → List Field → List ℕ → List ℕ → List ℕ
+kept_value takes_plain fields own plain =
+    option_map_or (λ v. v) (option_or (first_value fields own) (if takes_plain then first_value fields plain else None)) []
 
--- a value that would be kept has a byte that no kept value may have
-unfoldable pub has_bad_kept : List Field → Bool
-has_bad_kept fields =
-    not (is_visible (kept_value fields (codes "x-ms-blob-content-type") (codes "content-type")))
-    || not (is_visible (kept_value fields (codes "x-ms-blob-content-encoding") (codes "content-encoding")))
-    || not (is_visible (kept_value fields (codes "x-ms-blob-content-language") (codes "content-language")))
-    || not (is_visible (kept_value fields (codes "x-ms-blob-cache-control") (codes "cache-control")))
+-- a value that is to be kept has a byte that is not visible
+unfoldable pub has_bad_kept : Bool → List Field → Bool
+has_bad_kept takes_plain fields =
+    not (is_visible (kept_value takes_plain fields (codes "x-ms-blob-content-type") (codes "content-type")))
+    || not (is_visible (kept_value takes_plain fields (codes "x-ms-blob-content-encoding") (codes "content-encoding")))
+    || not (is_visible (kept_value takes_plain fields (codes "x-ms-blob-content-language") (codes "content-language")))
+    || not (is_visible (kept_value takes_plain fields (codes "x-ms-blob-cache-control") (codes "cache-control")))
 
--- one of the service's own headers, metadata apart, stands there twice
+-- the name is that of one of the service's own headers, but not of metadata, and was sent twice
+abbrev pub is_own_twice : List Field → List ℕ → Bool
+is_own_twice fields name = is_ms name && not (is_meta name) && is_sent_twice fields name
+
+-- one of the service's own headers was sent twice
 unfoldable pub has_own_twice : List Field → Bool
-has_own_twice fields = list_any (λ f. is_ms f.name && not (is_meta f.name) && is_twice fields f.name) fields
+has_own_twice fields = list_any (λ f. is_own_twice fields f.name) fields
 
--- a header that is signed stands there twice
+-- a header with a line of its own in the string to sign was sent twice
 unfoldable pub has_standard_twice : List Field → Bool
-has_standard_twice fields = list_any (is_twice fields) standard_names
+has_standard_twice fields = list_any (is_sent_twice fields) standard_names
 
--- a condition is not of its form
+-- a condition does not have its form
 unfoldable pub has_bad_condition : List Field → Bool
 has_bad_condition fields = is_bad fields (codes "if-match") is_condition || is_bad fields (codes "if-none-match") is_condition
 
--- an MD5 is not of its form
+-- an MD5 does not have its form
 unfoldable pub has_bad_md5 : List Field → Bool
 has_bad_md5 fields = is_bad fields (codes "content-md5") is_md5 || is_bad fields (codes "x-ms-blob-content-md5") is_md5
 
--- a header is there twice that may not be, or its value is bad; some values are kept, or none
-unfoldable pub has_bad_line : Bool → List Field → Bool
-has_bad_line keeps fields =
-    has_standard_twice fields || has_own_twice fields || has_bad_condition fields || has_bad_md5 fields || keeps && has_bad_kept fields
+-- the operation keeps headers, and the value of a header that is to be kept is bad; the plain headers count for Put Blob alone
+abbrev pub has_bad_kept_by : Op → List Field → Bool
+has_bad_kept_by op fields = keeps_headers op && has_bad_kept (is_put_blob (Some op)) fields
+
+-- a header was sent twice that may not be, or its value is bad
+unfoldable pub has_bad_line : Option Op → List Field → Bool
+has_bad_line op fields =
+    has_standard_twice fields || has_own_twice fields || has_bad_condition fields || has_bad_md5 fields || option_map_or (λ op. has_bad_kept_by op fields) op false
 
 -- how many bytes the body has
 unfoldable pub body_len_of : List Field → ℕ
-body_len_of fields = option_map_or (λ v. digits_value 10 v) (value_under fields (codes "content-length")) 0
+body_len_of fields = option_map_or (λ v. digits_value 10 v) (first_value fields (codes "content-length")) 0
 
--- F4: a PUT says no length, or a transfer coding is asked for
-unfoldable pub has_no_length : ParsedHead → Bool
+-- F4: a PUT has no length, or the head asks for a transfer coding
+unfoldable pub has_no_length : HeadParts → Bool
 has_no_length p = is_put (verb_of p.method) && not (is_sent p.fields (codes "content-length")) || is_sent p.fields (codes "transfer-encoding")
 
--- F4: the length is said twice, or is no number
-unfoldable pub has_bad_length : ParsedHead → Bool
-has_bad_length p = is_twice p.fields (codes "content-length") || is_bad p.fields (codes "content-length") is_number
+-- F4: the length was sent twice, or it is not a number
+unfoldable pub has_bad_length : HeadParts → Bool
+has_bad_length p = is_sent_twice p.fields (codes "content-length") || is_bad p.fields (codes "content-length") is_number
 
 -- a method that writes asks whether something was modified
-unfoldable pub has_date_of_a_write : ParsedHead → Bool
+unfoldable pub has_date_of_a_write : HeadParts → Bool
 has_date_of_a_write p = is_write (verb_of p.method) && is_sent p.fields (codes "if-modified-since")
 
 -- F6: a header asks for what the stamp does not serve
-unfoldable pub asks_the_unserved : ParsedHead → Bool
+unfoldable pub asks_the_unserved : HeadParts → Bool
 asks_the_unserved p =
     has_bad p.fields (codes "x-ms-version") (λ v. bytes_eq v (codes "2012-02-12"))
     || has_unserved p.fields
     || has_date_of_a_write p
     || is_put_blob (op_of p) && has_bad p.fields (codes "x-ms-blob-type") (λ v. bytes_eq v (codes "BlockBlob"))
 
--- F7: a header is there twice that may not be, or its value is bad
-unfoldable pub has_bad_value : ParsedHead → Bool
-has_bad_value p = has_bad_line (option_map_or keeps_headers (op_of p) false) p.fields
+-- F7: a header was sent twice that may not be, or its value is bad
+unfoldable pub has_bad_value : HeadParts → Bool
+has_bad_value p = has_bad_line (op_of p) p.fields
 
--- F7: metadata, which no operation that is built keeps
-unfoldable pub has_metadata : ParsedHead → Bool
+-- F7: metadata were sent; no operation that is built keeps metadata
+unfoldable pub has_metadata : HeadParts → Bool
 has_metadata p = list_any (λ f. is_meta f.name) p.fields
 
 -- F7: Put Blob without the type of blob
-unfoldable pub has_no_blob_type : ParsedHead → Bool
+unfoldable pub has_no_blob_type : HeadParts → Bool
 has_no_blob_type p = is_put_blob (op_of p) && not (is_sent p.fields (codes "x-ms-blob-type"))
 
 -- the rule holds of a head
-abbrev pub head_holds : ParsedHead → Rule → Bool
+abbrev pub head_holds : HeadParts → Rule → Bool
 head_holds p F1 = not (is_origin (origin_of p.target))
 head_holds p F2 = is_none (verb_of p.method)
 head_holds p F3 = is_none (op_of p) || has_bad_parameter (target_of p.target).query
@@ -261,8 +260,8 @@ head_holds p other = false
 abbrev pub head_rules : List Rule
 head_rules = F1 ∷ F2 ∷ F3 ∷ F4 ∷ F5 ∷ F6 ∷ F7 ∷ F8 ∷ []
 
--- the code that a rule is told with; of several causes the one that stands first
-abbrev pub head_code : ParsedHead → Rule → Code
+-- the code of a rule; if a rule has several causes, the first cause that holds decides
+abbrev pub head_code : HeadParts → Rule → Code
 head_code p F2 = UnsupportedHttpVerb
 head_code p F3 = InvalidQueryParameterValue
 head_code p F4 = if has_no_length p then MissingContentLengthHeader else InvalidHeaderValue
@@ -272,8 +271,8 @@ head_code p F7 = if has_bad_value p then InvalidHeaderValue else (if has_metadat
 head_code p F8 = RequestBodyTooLarge
 head_code p other = InvalidInput
 
--- the verb that a refusal names: none by F1
-abbrev pub denied_verb : ParsedHead → Rule → Option Verb
+-- the verb that a refusal names; a refusal by F1 names no verb
+abbrev pub denied_verb : HeadParts → Rule → Option Verb
 denied_verb p F1 = None
 denied_verb p other = verb_of p.method
 
@@ -282,13 +281,13 @@ abbrev pub denied_by : Rule → Code → Option Verb → Denial
 denied_by rule code verb = record { rule = rule; status = code_status code; code = code; verb = verb }
 
 -- the refusal by the first of these rules that holds
-unfoldable pub denial_among : ParsedHead → List Rule → Option Denial
+unfoldable pub denial_among : HeadParts → List Rule → Option Denial
 denial_among p rules = option_map (λ rule. denied_by rule (head_code p rule) (denied_verb p rule)) (find (head_holds p) rules)
 
 -- how a head is refused
-abbrev pub denial_of : ParsedHead → Option Denial
+abbrev pub denial_of : HeadParts → Option Denial
 denial_of p = denial_among p head_rules
 
--- how bytes are refused that are no head
+-- how bytes that are not a head are refused
 abbrev pub no_head : Denial
 no_head = denied_by F1 InvalidInput None

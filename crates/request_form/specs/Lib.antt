@@ -1,6 +1,7 @@
 pub mod BlobNames
 pub mod HeadFields
 pub mod HeadForms
+pub mod HeadParts
 pub mod HeadReads
 pub mod HeadRules
 pub mod HeadSpans

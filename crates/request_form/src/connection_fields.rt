@@ -1,14 +1,13 @@
-//! What a head says of the connection (RFC 9110, sections 7.6.1 and 10.1.1; RFC 9112, section 9).
-ghost use Rattle.std.specs.Prelude.{◌≡◌, ◌&&◌, bytes_eq, codes, reverse};
+//! What a head says about the connection (RFC 9110, sections 7.6.1 and 10.1.1; RFC 9112, section 9).
+ghost use Rattle.std.specs.Prelude.{◌≡◌, bytes_eq, codes};
 ghost use Rattle.std.specs.List.{list_any};
-ghost use Rattle.httparse.specs.Grammar.{is_ows, skip_ows, trim_ows};
-ghost use Rattle.request_form.specs.HeadFields.{has_name};
+ghost use Rattle.stamp_values.specs.Fields.{trimmed};
 ghost use Rattle.request_form.specs.HeadForms.{is_newer, expects_of, closes_of};
 ghost use Rattle.request_form.specs.HeadForms as head_forms;
 ghost use Rattle.request_form.specs.Targets.{lowered};
 
 use crate::parsed_head::{ParsedHead, Version};
-use stamp_types::Field;
+use stamp_types::{FieldList, FieldRef, trimmed};
 
 fn is_newer(version: Version) -> bool
     ensures { result ≡ is_newer version }
@@ -16,49 +15,9 @@ fn is_newer(version: Version) -> bool
     matches!(version, Version::Http11)
 }
 
-// A space or a tab.
-fn is_blank(byte: u8) -> bool
-    ensures { result ≡ is_ows byte }
-{
-    byte == b' ' || byte == b'\t'
-}
-
-fn without_front(value: &[u8]) -> &[u8]
-    ensures { result.now ≡ skip_ows value.now }
-{
-    let mut left = value;
-    while let [first, rest @ ..] = left {
-        if !is_blank(*first) {
-            return left;
-        }
-        left = rest;
-    }
-    left
-}
-
-fn without_end(value: &[u8]) -> &[u8]
-    ensures { result.now ≡ reverse (skip_ows (reverse value.now)) }
-{
-    let mut left = value;
-    while let [rest @ .., last] = left {
-        if !is_blank(*last) {
-            return left;
-        }
-        left = rest;
-    }
-    left
-}
-
-#[tactic(auto, unfolding(httparse::specs::Grammar::trim_ows))]
-fn trimmed(value: &[u8]) -> &[u8]
-    ensures { result.now ≡ trim_ows value.now }
-{
-    without_end(without_front(value))
-}
-
 // The option of a Connection header that ends the connection, in any case.
 fn is_close(option: &[u8]) -> bool
-    ensures { result ≡ bytes_eq (lowered (trim_ows option.now)) (codes "close") }
+    ensures { result ≡ bytes_eq (lowered (trimmed option.now)) (codes "close") }
 {
     trimmed(option).eq_ignore_ascii_case(b"close")
 }
@@ -72,43 +31,52 @@ fn has_close(value: &[u8]) -> bool
         .any(|option| is_close(option))
 }
 
-fn asks_to_close(field: &Field) -> bool
-    ensures { result ≡ (has_name (codes "connection") field.now && head_forms.has_close field.now.value) }
+fn asks_to_close(field: &FieldRef<'_>) -> bool
+    ensures { result ≡ head_forms.asks_to_close field.now }
 {
-    field.name.as_slice() == b"connection".as_slice() && has_close(field.value.as_slice())
+    field.name == b"connection".as_slice() && has_close(field.value)
 }
 
-fn some_asks_to_close(fields: &[Field]) -> bool
-    ensures { result ≡ list_any (λ f. has_name (codes "connection") f && head_forms.has_close f.value) fields.now }
+fn some_asks_to_close(fields: &FieldList) -> bool
+    ensures { result ≡ list_any head_forms.asks_to_close fields.now }
 {
-    fields.iter().any(|field| asks_to_close(field))
+    for field in fields.fields() {
+        if asks_to_close(&field) {
+            return true;
+        }
+    }
+    false
 }
 
-fn asks_to_go_on(field: &Field) -> bool
-    ensures { result ≡ (has_name (codes "expect") field.now && bytes_eq (lowered field.now.value) (codes "100-continue")) }
+fn asks_to_go_on(field: &FieldRef<'_>) -> bool
+    ensures { result ≡ head_forms.asks_to_go_on field.now }
 {
-    field.name.as_slice() == b"expect".as_slice()
-        && field.value.as_slice().eq_ignore_ascii_case(b"100-continue")
+    field.name == b"expect".as_slice() && field.value.eq_ignore_ascii_case(b"100-continue")
 }
 
-fn some_asks_to_go_on(fields: &[Field]) -> bool
-    ensures { result ≡ list_any (λ f. has_name (codes "expect") f && bytes_eq (lowered f.value) (codes "100-continue")) fields.now }
+fn some_asks_to_go_on(fields: &FieldList) -> bool
+    ensures { result ≡ list_any head_forms.asks_to_go_on fields.now }
 {
-    fields.iter().any(|field| asks_to_go_on(field))
+    for field in fields.fields() {
+        if asks_to_go_on(&field) {
+            return true;
+        }
+    }
+    false
 }
 
-/// Whether the client waits for the interim reply before it sends the body. One of HTTP/1.0 never does.
+/// Whether the client waits for the interim reply before it sends the body. A client of HTTP/1.0 never waits.
 #[tactic(auto, unfolding(crate::specs::HeadForms::expects_of))]
-pub fn expects(head: &ParsedHead) -> bool
+pub(crate) fn expects(head: &ParsedHead<'_>) -> bool
     ensures { result ≡ expects_of head.now }
 {
-    is_newer(head.version) && some_asks_to_go_on(head.fields.as_slice())
+    is_newer(head.version) && some_asks_to_go_on(&head.fields)
 }
 
-/// Whether the connection ends behind the reply: always with HTTP/1.0, else where the client asks for it.
+/// Whether the connection ends after the reply: always with HTTP/1.0, and else if the client asks for it.
 #[tactic(auto, unfolding(crate::specs::HeadForms::closes_of))]
-pub fn closes(head: &ParsedHead) -> bool
+pub(crate) fn closes(head: &ParsedHead<'_>) -> bool
     ensures { result ≡ closes_of head.now }
 {
-    !is_newer(head.version) || some_asks_to_close(head.fields.as_slice())
+    !is_newer(head.version) || some_asks_to_close(&head.fields)
 }

@@ -6,23 +6,23 @@ ghost use Rattle.request_form.specs.declared.denial.HeadFault.TheVariants.{NoMem
 use stamp_types::{Code, Rule, Status, Verb};
 use std::alloc::AllocError;
 
-/// Why a head is refused: the first of the rules F1 to F8 that holds. The connection ends behind the reply.
+/// Why a head is refused: the first of the rules F1 to F8 that holds. The connection ends after the reply.
 #[derive(Clone, Copy, Debug, PartialEq, Eq)]
 pub struct Denial {
     pub rule: Rule,
     /// The status of the code.
     pub status: Status,
     pub code: Code,
-    /// The method, where it is one that the stamp serves; none where no head can be read.
+    /// The method. `None` if the bytes are not a head, F1 refuses the head, or the stamp does not serve the method.
     pub verb: Option<Verb>,
 }
 
 /// Why a head gives no request.
 #[derive(Clone, Copy, Debug, PartialEq, Eq)]
 pub enum HeadFault {
-    /// A rule refuses it.
+    /// A rule refuses the head, or the bytes are not a head.
     Denied(Denial),
-    /// There was no memory for its parts.
+    /// Memory ran out.
     NoMemory,
 }
 
@@ -35,7 +35,7 @@ impl From<AllocError> for HeadFault {
 }
 
 /// The refusal by a rule with a code.
-pub fn denied(rule: Rule, code: Code, verb: Option<Verb>) -> Denial
+pub(crate) fn denied(rule: Rule, code: Code, verb: Option<Verb>) -> Denial
     ensures { result ≡ heads.denied_by rule code verb }
 {
     Denial {
@@ -46,7 +46,7 @@ pub fn denied(rule: Rule, code: Code, verb: Option<Verb>) -> Denial
     }
 }
 
-/// How bytes are refused that are no head: by F1, as bad input (400), with no verb, since none was read.
+/// How bytes that are not a head are refused: by F1, as bad input (400), without a verb.
 pub fn no_head() -> Denial
     ensures { result ≡ heads.no_head }
 {

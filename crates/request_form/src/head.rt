@@ -10,19 +10,19 @@ ghost use Rattle.request_form.specs.declared.denial.Denial.{Denial};
 ghost use Rattle.request_form.specs.declared.denial.HeadFault.TheVariants as fault;
 
 use crate::connection_fields::{closes, expects};
+use crate::credential::credential;
 use crate::denial::{HeadFault, no_head};
 use crate::head_parts::parse_head;
 use crate::header_lines::read_fields;
 use crate::names::Names;
 use crate::parsed_head::ParsedHead;
 use crate::request_line::{Line, read_line};
-use crate::signing::{credential, signing};
 use crate::target::Target;
-use stamp_types::{Args, Ask, Body, Request, Verb};
+use stamp_types::{Args, Ask, Body, Request, Signing, Verb};
 use std::alloc::{AllocError, Global};
 use std::marker::Model;
 
-/// A head that no rule refuses: a request but for its body.
+/// A head that no rule refuses: a request without its body.
 #[derive(Debug, Drop)]
 pub struct Head {
     ask: Ask,
@@ -39,7 +39,8 @@ impl Model for Head {
 
     ghost Value = { Form };
 
-    ghost view = { λ h. record { ask = h.ask; body_len = h.body_len; expects = h.expects; closes = h.closes } };
+    ghost view = { λ h.
+        record { ask = h.ask; body_len = h.body_len; expects = h.expects; closes = h.closes } };
 
     ghost invariant = { λ h. IsAsk h.ask × (h.body_len ≤ body_limit h.ask.op) };
 }
@@ -52,7 +53,7 @@ impl Head {
         self.ask.signing.verb
     }
 
-    /// How many bytes the body has that follows the head.
+    /// How many bytes the body has, which follows the head.
     pub fn body_len(&self) -> u64
         ensures { result ≡ self.now.body_len }
     {
@@ -66,16 +67,16 @@ impl Head {
         self.expects
     }
 
-    /// Whether the connection ends behind the reply (RFC 9112, section 9.6).
+    /// Whether the connection ends after the reply (RFC 9112, section 9.6).
     pub fn closes(&self) -> bool
         ensures { result ≡ self.now.closes }
     {
         self.closes
     }
 
-    /// The request of this head and its body, which has `body_len` bytes. The body of another method than PUT is dropped.
+    /// The request of this head and its body, which has `body_len` bytes. The body of a method other than PUT is dropped.
     ///
-    /// `AllocError` where there is no memory to share the parts in.
+    /// `AllocError` if memory runs out.
     pub fn with_body(self, alloc: Global, body: Body) -> Result<Request, AllocError>
         requires { length body ≡ self.body_len }
         ensures { IfOk result (λ q. q ≡ head_forms.with_body self body) }
@@ -88,7 +89,7 @@ impl Head {
     }
 }
 
-// The body, where the method has one.
+// The body, if the method has a body.
 fn body_by(verb: Verb, body: Body) -> Body
     ensures { result ≡ head_forms.body_by verb body }
 {
@@ -98,49 +99,44 @@ fn body_by(verb: Verb, body: Body) -> Body
     }
 }
 
-// What a head asks for that no rule refuses. It is used up.
-fn ask(
-    alloc: Global,
-    head: ParsedHead,
-    line: Line,
-    names: Names,
-    args: Args,
-) -> Result<Ask, AllocError>
+// What a head asks for that no rule refuses. Its fields and its query move into the answer.
+#[tactic(auto, unfolding(crate::specs::HeadForms::ask_of, crate::specs::HeadForms::signing_of, crate::specs::HeadForms::credential_of))]
+fn ask(head: ParsedHead<'_>, line: Line, names: Names, args: Args) -> Ask
     requires line { IsLine head line }
     requires names { AreNames line.target.path names }
     requires args { args ≡ args_of line.op head.fields }
-    ensures { IfOk result (λ a. a ≡ ask_of line.op line.verb head) }
+    ensures { result ≡ ask_of line.op line.verb head.entry }
 {
     let Target { path, query } = line.target;
-    let credential = credential(alloc, head.fields.as_slice(), query.as_slice())?;
-    let signing = signing(
-        alloc,
-        line.verb,
-        head.fields.into_vec(),
-        path,
-        query.as_slice(),
-    )?;
-    Ok(Ask {
+    let credential = credential(head.authorization, &query);
+    Ask {
         op: line.op,
         key: names.key,
         blob: Some(names.blob),
         args,
-        signing,
+        signing: Signing {
+            verb: line.verb,
+            headers: head.fields,
+            path,
+            query,
+        },
         credential,
-    })
+    }
 }
 
-// The form of a head by its rules, one after the other.
-fn form(alloc: Global, head: ParsedHead) -> Result<Head, HeadFault>
+// The form of a head that no rule refuses.
+fn form(alloc: Global, head: ParsedHead<'_>) -> Result<Head, HeadFault>
     requires target { (length head.target ≤ 16384) × IsUtf8 head.target }
     requires short { sum_by (λ f. length f.value) head.fields ≤ 16384 }
-    ensures { MatchResult result (λ form. (denial_of head ≡ None) × (form_of head ≡ Some form)) (Denies head head_rules) }
+    ensures { MatchResult result
+        (λ form. (denial_of head.entry ≡ None) × (form_of head.entry ≡ Some form))
+        (Denies head.entry head_rules) }
 {
     let line = read_line(alloc, &head)?;
     let fields = read_fields(alloc, &head, &line)?;
     let expects = expects(&head);
     let closes = closes(&head);
-    let ask = ask(alloc, head, line, fields.names, fields.args)?;
+    let ask = ask(head, line, fields.names, fields.args);
     Ok(Head {
         ask,
         body_len: fields.body_len,
@@ -149,14 +145,14 @@ fn form(alloc: Global, head: ParsedHead) -> Result<Head, HeadFault>
     })
 }
 
-/// Reads a head: its request line and header lines up to the empty line behind them (RFC 9112, section 2.1), of at most
-/// 16,384 bytes and 64 lines.
+/// Reads a head: a request line, and header lines up to the empty line after them (RFC 9112, section 2.1). A head has at most
+/// 16,384 bytes and 64 header lines.
 ///
-/// `Denied` by the first of the rules F1 to F8 that holds, and by F1 where the bytes are no such head; `NoMemory` where there is
-/// none for the parts.
+/// `Denied` by the first of the rules F1 to F8 that holds, and by F1 if the bytes are not a head. `NoMemory` if memory runs out.
 pub fn read_head(alloc: Global, text: &[u8]) -> Result<Head, HeadFault>
     ensures accepted { IfOk result (λ head. Accepts text.now head) }
-    ensures denied { (denial : Denial) → result ≡ Err (fault.Denied denial) → Refuses text.now denial }
+    ensures denied { (denial : Denial) →
+        result ≡ Err (fault.Denied denial) → Refuses text.now denial }
 {
     let Some(head) = parse_head(alloc, text)? else {
         return Err(HeadFault::Denied(no_head()));

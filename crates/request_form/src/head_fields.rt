@@ -9,67 +9,20 @@ ghost use Rattle.request_form.specs.HeadFields as heads;
 
 use base64::DecodeAllocError;
 use base64::engine::general_purpose::STANDARD;
-use stamp_types::{Bytes, Field};
+use stamp_types::FieldList;
 use std::alloc::{AllocError, Global};
 
-/// Whether a header of the name was sent.
-#[tactic(auto, unfolding(crate::specs::HeadFields::is_sent))]
-pub fn is_sent(fields: &[Field], name: &str) -> bool
-    ensures { result ≡ heads.is_sent fields.now name.now }
-{
-    fields
-        .iter()
-        .any(|field| field.name.as_slice() == name.as_bytes())
-}
-
-/// Whether it was sent more than once.
-#[tactic(auto, unfolding(crate::specs::HeadFields::is_twice))]
-pub fn is_twice(fields: &[Field], name: &[u8]) -> bool
-    ensures { result ≡ heads.is_twice fields.now name.now }
-{
-    1 < fields
-        .iter()
-        .filter(|field| field.name.as_slice() == name)
-        .count()
-}
-
-/// The first value that was sent under the name.
-#[tactic(auto, unfolding(crate::specs::HeadFields::value_under))]
-pub fn value_under<'a>(fields: &'a [Field], name: &str) -> Option<&'a [u8]>
-    ensures { option_map (λ v. v.now) result ≡ heads.value_under fields.now name.now }
-{
-    for field in fields {
-        if field.name.as_slice() == name.as_bytes() {
-            return Some(field.value.as_slice());
-        }
-    }
-    None
-}
-
-/// Whether some value that was sent under the name is another one.
+/// Whether a value other than this one was sent under the name.
 #[tactic(auto, unfolding(crate::specs::HeadFields::has_bad))]
-pub fn has_other(fields: &[Field], name: &str, value: &str) -> bool
+pub(crate) fn has_other(fields: &FieldList, name: &str, value: &str) -> bool
     ensures { result ≡ heads.has_bad fields.now name.now (λ v. bytes_eq v value.now) }
 {
-    fields.iter().any(|field| {
-        field.name.as_slice() == name.as_bytes() && field.value.as_slice() != value.as_bytes()
-    })
-}
-
-/// A copy of each value that was sent under the name, in their order.
-///
-/// `AllocError` where there is no memory for them.
-#[tactic(auto, unfolding(crate::specs::HeadFields::values_under))]
-pub fn values_under(alloc: Global, fields: &[Field], name: &str) -> Result<Vec<Bytes>, AllocError>
-    ensures { IfOk result (λ values. values.items ≡ heads.values_under fields.now name.now) }
-{
-    let mut values = Vec::new(alloc);
-    for field in fields {
-        if field.name.as_slice() == name.as_bytes() {
-            values.push(field.value.clone()?)?;
+    for field in fields.fields() {
+        if field.name == name.as_bytes() && field.value != value.as_bytes() {
+            return true;
         }
     }
-    Ok(values)
+    false
 }
 
 fn are_digits(text: &[u8]) -> bool
@@ -99,8 +52,9 @@ fn digits_number(digits: &[u8]) -> u64
 }
 
 /// The number that a text of 1 to 19 digits writes; `None` for any other text.
-pub fn number(text: &[u8]) -> Option<u64>
-    ensures { MatchOption result (heads.is_number text.now ≡ false) (λ n. (heads.is_number text.now ≡ true) × (n ≡ digits_value 10 text.now)) }
+pub(crate) fn number(text: &[u8]) -> Option<u64>
+    ensures { MatchOption result (heads.is_number text.now ≡ false)
+        (λ n. (heads.is_number text.now ≡ true) × (n ≡ digits_value 10 text.now)) }
 {
     if is_number(text) {
         Some(digits_number(text))
@@ -109,9 +63,7 @@ pub fn number(text: &[u8]) -> Option<u64>
     }
 }
 
-/// The bytes that a text is the strict Base64 of (RFC 4648, section 4).
-///
-/// `AllocError` where there is no memory for them.
+// The bytes that a text is the strict Base64 of (RFC 4648, section 4).
 fn decoded_base64(alloc: Global, text: &[u8]) -> Result<Option<Vec<u8>>, AllocError>
     ensures { IfOk result (λ o. option_map (λ v. v.items) o ≡ decoded_of standard text.now) }
 {
@@ -124,9 +76,9 @@ fn decoded_base64(alloc: Global, text: &[u8]) -> Result<Option<Vec<u8>>, AllocEr
 
 /// Whether the text is the strict Base64 of so many bytes.
 ///
-/// `AllocError` where there is no memory for them.
+/// `AllocError` if memory runs out.
 #[tactic(auto, unfolding(crate::specs::HeadFields::is_base64_within))]
-pub fn is_base64_within(
+pub(crate) fn is_base64_within(
     alloc: Global,
     least: usize,
     most: usize,
@@ -140,12 +92,13 @@ pub fn is_base64_within(
     }
 }
 
-/// The MD5 that a text is the strict Base64 of (RFC 1864), or `None` where it is none.
+/// The MD5 that a text is the strict Base64 of (RFC 1864), or `None` if the text is not the Base64 of an MD5.
 ///
-/// `AllocError` where there is no memory for its bytes.
+/// `AllocError` if memory runs out.
 #[tactic(auto, unfolding(crate::specs::HeadFields::is_base64_within))]
-pub fn md5_of(alloc: Global, text: &[u8]) -> Result<Option<[u8; 16]>, AllocError>
-    ensures { IfOk result (λ o. MatchOption o (heads.is_md5 text.now ≡ false) (λ md5. (heads.is_md5 text.now ≡ true) × (decoded_of standard text.now ≡ Some md5))) }
+pub(crate) fn md5_of(alloc: Global, text: &[u8]) -> Result<Option<[u8; 16]>, AllocError>
+    ensures { IfOk result (λ o. MatchOption o (heads.is_md5 text.now ≡ false)
+        (λ md5. (heads.is_md5 text.now ≡ true) × (decoded_of standard text.now ≡ Some md5))) }
 {
     let Some(bytes) = decoded_base64(alloc, text)? else {
         return Ok(None);
@@ -156,15 +109,15 @@ pub fn md5_of(alloc: Global, text: &[u8]) -> Result<Option<[u8; 16]>, AllocError
     }
 }
 
-/// Whether the name is that of a header of the service's own.
-pub fn is_ms(name: &[u8]) -> bool
+/// Whether the name is that of one of the service's own headers.
+pub(crate) fn is_ms(name: &[u8]) -> bool
     ensures { result ≡ heads.is_ms name.now }
 {
     name.starts_with(b"x-ms-".as_slice())
 }
 
 /// Whether the name is that of a header of metadata.
-pub fn is_meta(name: &[u8]) -> bool
+pub(crate) fn is_meta(name: &[u8]) -> bool
     ensures { result ≡ heads.is_meta name.now }
 {
     name.starts_with(b"x-ms-meta-".as_slice())

@@ -1,4 +1,4 @@
-//! What the names of a path and the header lines say: rules F4 to F8, one after the other.
+//! What the names of a path and the header lines say, by the rules F4 to F8 in their order.
 ghost use Rattle.std.specs.Prelude.{MatchResult};
 ghost use Rattle.request_form.specs.HeadReads.{AreFields, Denies, IsLine, Passes, field_rules};
 
@@ -20,14 +20,20 @@ pub struct Fields {
     pub args: Args,
 }
 
-/// What the names and the header lines say: the length by F4, the names by F5, no header that is not served by F6, the values
-/// by F7, and a body that is not too long by F8.
+/// What the names and the header lines say. F4 reads the length and F5 the names. F6 refuses headers that are not served. F7 reads
+/// the values, and F8 refuses a body that is too long.
 ///
 /// `Denied` by the first of these rules that holds; `NoMemory` if memory runs out.
 #[tactic(auto, unfolding(crate::specs::HeadRules::denial_among))]
-pub fn read_fields(alloc: Global, head: &ParsedHead, line: &Line) -> Result<Fields, HeadFault>
+pub(crate) fn read_fields(
+    alloc: Global,
+    head: &ParsedHead<'_>,
+    line: &Line,
+) -> Result<Fields, HeadFault>
     requires line { IsLine head.now line.now }
-    ensures { MatchResult result (λ f. Passes head.now field_rules × AreFields head.now line.now.op f) (Denies head.now field_rules) }
+    ensures { MatchResult result
+        (λ f. Passes head.now field_rules × AreFields head.now line.now.op f)
+        (Denies head.now field_rules) }
 {
     let verb = Some(line.verb);
     let body_len = match body_len(head, line.verb) {

@@ -1,7 +1,8 @@
-//! Heads of requests: what each asks for, or the first rule that refuses it.
+//! Heads of requests: what each head asks for, or the first rule that refuses it.
 #![tactic(auto)]
 
 mod connection_fields;
+mod credential;
 mod denial;
 mod head;
 mod head_fields;
@@ -14,7 +15,6 @@ mod operation;
 mod parsed_head;
 mod path_kind;
 mod request_line;
-mod signing;
 mod target;
 mod texts;
 mod unserved;

@@ -16,22 +16,22 @@ use stamp_types::{Key, Text, char_count, is_account, is_container};
 use std::alloc::{AllocError, Global};
 use thiserror::Error;
 
-/// Why a path names no blob.
+/// Why a path does not name a blob.
 #[derive(Clone, Copy, Debug, PartialEq, Eq, Error)]
 pub enum NameFault {
-    /// There is no name.
+    /// The name has no bytes.
     #[error("the name is empty")]
     Empty,
-    /// It has more than 1,024 characters.
+    /// The name has more than 1,024 characters.
     #[error("the name has more than 1,024 characters")]
     TooLong,
-    /// Its bytes are no UTF-8.
-    #[error("the name is no UTF-8")]
+    /// The bytes of the name are not UTF-8.
+    #[error("the name is not UTF-8")]
     NotUtf8,
-    /// A control character stands in it.
+    /// The name has a control character.
     #[error("the name has a control character")]
     Control,
-    /// There was no memory for the name.
+    /// Memory ran out.
     #[error("out of memory")]
     NoMemory,
 }
@@ -43,15 +43,15 @@ pub struct Names {
     pub blob: Text,
 }
 
-/// Whether the name, as it was sent, is an account's: 3 to 24 lower-case letters and digits.
+/// Whether a name, as it was sent, is the name of an account: 3 to 24 lower-case letters and digits.
 pub fn account_ok(name: &[u8]) -> bool
     ensures { result ≡ is_account name.now }
 {
     is_account(name)
 }
 
-/// Whether the name, as it was sent, is a container's: 3 to 63 lower-case letters, digits and hyphens, with a letter or a digit
-/// at both ends, and no two hyphens together.
+/// Whether a name, as it was sent, is the name of a container: 3 to 63 lower-case letters, digits and hyphens, with a letter or a
+/// digit at both ends, and no two hyphens together.
 pub fn container_ok(name: &[u8]) -> bool
     ensures { result ≡ is_container name.now }
 {
@@ -60,7 +60,8 @@ pub fn container_ok(name: &[u8]) -> bool
 
 // The bytes as a text, if they are UTF-8.
 fn utf8_text(bytes: Vec<u8>) -> Option<String>
-    ensures { MatchOption result (is_utf8 bytes.items ≡ false) (λ text. (is_utf8 bytes.items ≡ true) × (string_bytes text ≡ bytes.items)) }
+    ensures { MatchOption result (is_utf8 bytes.items ≡ false)
+        (λ text. (is_utf8 bytes.items ≡ true) × (string_bytes text ≡ bytes.items)) }
 {
     match String::from_utf8(bytes) {
         Ok(text) => Some(text),
@@ -68,10 +69,12 @@ fn utf8_text(bytes: Vec<u8>) -> Option<String>
     }
 }
 
-// The name that these bytes are.
+// The bytes as the name of a blob.
 #[tactic(auto, unfolding(crate::specs::BlobNames::decoded_name))]
 fn named(bytes: Vec<u8>) -> Result<Text, NameFault>
-    ensures { MatchResult result (λ name. decoded_name bytes.items ≡ Ok name) (λ fault. decoded_name bytes.items ≡ Err fault) }
+    ensures { MatchResult result
+        (λ name. decoded_name bytes.items ≡ Ok name)
+        (λ fault. decoded_name bytes.items ≡ Err fault) }
 {
     if bytes.is_empty() {
         return Err(NameFault::Empty);
@@ -97,12 +100,12 @@ fn blob_text(alloc: Global, rest: &[u8]) -> Result<Text, NameFault>
     }
 }
 
-/// The name of a blob: what a path has behind the container, percent-decoded once (RFC 3986, section 2.1). It is tried in the
-/// order `Empty`, `NotUtf8`, `TooLong`, `Control`.
+/// The name of a blob: what a path has after the container, percent-decoded once (RFC 3986, section 2.1).
 ///
-/// `NoMemory` where there was no memory for the decoded name.
+/// The first of the faults `Empty`, `NotUtf8`, `TooLong` and `Control` that the name has. `NoMemory` if memory runs out.
 pub fn blob_name(alloc: Global, rest: &[u8]) -> Result<String, NameFault>
-    ensures { MatchResult result (λ name. name_of rest.now ≡ Ok (string_bytes name)) (FaultOf rest.now) }
+    ensures { MatchResult result
+        (λ name. name_of rest.now ≡ Ok (string_bytes name)) (FaultOf rest.now) }
 {
     match blob_text(alloc, rest) {
         Ok(name) => Ok(name.into_string()),
@@ -110,9 +113,11 @@ pub fn blob_name(alloc: Global, rest: &[u8]) -> Result<String, NameFault>
     }
 }
 
-// The key of two names that are visible.
+// The key of two names, if both are visible.
 fn key(alloc: Global, account: &[u8], container: &[u8]) -> Result<Option<Key>, AllocError>
-    ensures { IfOk result (λ o. MatchOption o ((is_visible account.now && is_visible container.now) ≡ false) (λ k. k ≡ record { account = account.now; container = container.now })) }
+    ensures { IfOk result (λ o. MatchOption o
+        ((is_visible account.now && is_visible container.now) ≡ false)
+        (λ k. k ≡ record { account = account.now; container = container.now })) }
 {
     let Some(account) = visible(alloc, account)? else {
         return Ok(None);
@@ -128,7 +133,10 @@ fn key(alloc: Global, account: &[u8], container: &[u8]) -> Result<Option<Key>, A
 
 // The key that a path names, if both of its names are good.
 fn good_key(alloc: Global, path: &[u8]) -> Result<Option<Key>, AllocError>
-    ensures { IfOk result (λ o. MatchOption o ((is_account (account_of path.now) && is_container (container_of path.now)) ≡ false) (λ k. ((is_account (account_of path.now) && is_container (container_of path.now)) ≡ true) × (k ≡ key_of path.now))) }
+    ensures { IfOk result (λ o. MatchOption o
+        ((is_account (account_of path.now) && is_container (container_of path.now)) ≡ false)
+        (λ k. ((is_account (account_of path.now) && is_container (container_of path.now)) ≡ true)
+        × (k ≡ key_of path.now))) }
 {
     let account = target::account(path);
     let container = target::container(path);
@@ -141,11 +149,12 @@ fn good_key(alloc: Global, path: &[u8]) -> Result<Option<Key>, AllocError>
     }
 }
 
-/// The key and the blob that a path names, by rule F5: `None` if the account, the container or the blob has no good name.
+/// The key and the blob that a path names, by rule F5: `None` if the name of the account, the container or the blob is not
+/// good.
 ///
 /// `AllocError` if memory runs out.
 #[tactic(auto, unfolding(crate::specs::HeadRules::has_bad_name))]
-pub fn read_names(alloc: Global, path: &[u8]) -> Result<Option<Names>, AllocError>
+pub(crate) fn read_names(alloc: Global, path: &[u8]) -> Result<Option<Names>, AllocError>
     ensures { IfOk result (λ o. MatchOption o (has_bad_name path.now ≡ true) (AreNames path.now)) }
 {
     let Some(key) = good_key(alloc, path)? else {

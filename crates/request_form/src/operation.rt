@@ -1,13 +1,13 @@
 //! Rule F3: the operation, and the parameters of a query.
-ghost use Rattle.std.specs.Prelude.{◌≡◌, ◌||◌, IfOk, MatchOption, Some, count_by, false, is_none, map, not, option_map, true};
+ghost use Rattle.std.specs.Prelude.{◌≡◌, ◌||◌, IfOk, MatchOption, Some, false, is_none, map, true};
 ghost use Rattle.std.specs.List.{list_any};
-ghost use Rattle.std.specs.Option.{option_map_or};
+ghost use Rattle.request_form.specs.HeadFields.{is_bad};
 ghost use Rattle.request_form.specs.HeadRules as heads;
 
 use crate::head_fields::{is_base64_within, number};
 use crate::path_kind::PathKind;
 use crate::target::{Target, kind};
-use stamp_types::{Field, Op, Verb, is_clean, is_utf8};
+use stamp_types::{FieldList, Op, Verb, is_clean, is_utf8};
 use std::alloc::{AllocError, Global};
 
 // The parameters that operations have, which are given at most once.
@@ -23,35 +23,11 @@ const PARAMETERS: [&str; 9] = [
     "blocklisttype",
 ];
 
-// Whether the parameter has the name, in any case.
-fn is_named(parameter: &Field, name: &str) -> bool
-    ensures { result ≡ heads.is_named name.now parameter.now }
+/// Whether the operation is Put Blob.
+pub(crate) fn is_put_blob(op: Op) -> bool
+    ensures { result ≡ heads.is_put_blob (Some op) }
 {
-    parameter
-        .name
-        .as_slice()
-        .eq_ignore_ascii_case(name.as_bytes())
-}
-
-/// Whether the query has a parameter of the name, in any case.
-#[tactic(auto, unfolding(crate::specs::HeadRules::is_asked))]
-pub fn is_asked(query: &[Field], name: &str) -> bool
-    ensures { result ≡ heads.is_asked query.now name.now }
-{
-    query.iter().any(|parameter| is_named(parameter, name))
-}
-
-// The first value that the query has under the name, in any case.
-#[tactic(auto, unfolding(crate::specs::HeadRules::parameter_under))]
-fn parameter_under<'a>(query: &'a [Field], name: &str) -> Option<&'a [u8]>
-    ensures { option_map (λ v. v.now) result ≡ heads.parameter_under query.now name.now }
-{
-    for parameter in query {
-        if is_named(parameter, name) {
-            return Some(parameter.value.as_slice());
-        }
-    }
-    None
+    matches!(op, Op::PutBlob)
 }
 
 fn is_kinds(value: &[u8]) -> bool
@@ -93,37 +69,30 @@ fn is_good_value(alloc: Global, name: &str, value: &[u8]) -> Result<bool, AllocE
     is_value_of(alloc, name, value)
 }
 
-fn has_bad_value(alloc: Global, query: &[Field], name: &str) -> Result<bool, AllocError>
-    ensures { IfOk result (λ b. b ≡ option_map_or (λ v. not (heads.is_good_value name.now v)) (heads.parameter_under query.now name.now) false) }
+#[tactic(auto, unfolding(crate::specs::HeadFields::is_bad))]
+fn has_bad_value(alloc: Global, query: &FieldList, name: &str) -> Result<bool, AllocError>
+    ensures { IfOk result (λ b. b ≡ is_bad query.now name.now (heads.is_good_value name.now)) }
 {
-    match parameter_under(query, name) {
+    match query.first(name.as_bytes()) {
         Some(value) => Ok(!is_good_value(alloc, name, value)?),
         None => Ok(false),
     }
 }
 
-fn count(query: &[Field], name: &str) -> usize
-    ensures { result ≡ count_by (heads.is_named name.now) query.now }
-{
-    query
-        .iter()
-        .filter(|parameter| is_named(*parameter, name))
-        .count()
-}
-
 // Whether the parameter is given twice, or its value is bad.
 #[tactic(auto, unfolding(crate::specs::HeadRules::is_bad_parameter))]
-fn is_bad_parameter(alloc: Global, query: &[Field], name: &str) -> Result<bool, AllocError>
+fn is_bad_parameter(alloc: Global, query: &FieldList, name: &str) -> Result<bool, AllocError>
     ensures { IfOk result (λ b. b ≡ heads.is_bad_parameter query.now name.now) }
 {
-    if 1 < count(query, name) {
+    if query.is_sent_twice(name.as_bytes()) {
         return Ok(true);
     }
     has_bad_value(alloc, query, name)
 }
 
-fn is_any_bad(alloc: Global, query: &[Field], names: &[&str]) -> Result<bool, AllocError>
-    ensures { IfOk result (λ b. b ≡ list_any (heads.is_bad_parameter query.now) (map (λ name. name.now) names.now)) }
+fn is_any_bad(alloc: Global, query: &FieldList, names: &[&str]) -> Result<bool, AllocError>
+    ensures { IfOk result (λ b.
+        b ≡ list_any (heads.is_bad_parameter query.now) (map (λ name. name.now) names.now)) }
 {
     for name in names {
         if is_bad_parameter(alloc, query, *name)? {
@@ -135,20 +104,20 @@ fn is_any_bad(alloc: Global, query: &[Field], names: &[&str]) -> Result<bool, Al
 
 // Whether a parameter that operations have is given twice, or its value is bad.
 #[tactic(auto, unfolding(crate::specs::HeadRules::has_bad_parameter))]
-fn has_bad_parameter(alloc: Global, query: &[Field]) -> Result<bool, AllocError>
+fn has_bad_parameter(alloc: Global, query: &FieldList) -> Result<bool, AllocError>
     ensures { IfOk result (λ b. b ≡ heads.has_bad_parameter query.now) }
 {
     is_any_bad(alloc, query, &PARAMETERS)
 }
 
-// The operation that is asked for: by the method, what the path names, and the values of restype and comp.
+// The operation that a request asks for by its method, what its path names, and the values of restype and comp.
 #[tactic(auto, unfolding(crate::specs::HeadRules::op_at))]
 fn op_at(verb: Verb, target: &Target) -> Option<Op>
     ensures { result ≡ heads.op_at verb target.now }
 {
     let kind = kind(target.path.as_slice());
-    let restype = parameter_under(target.query.as_slice(), "restype");
-    let comp = parameter_under(target.query.as_slice(), "comp");
+    let restype = target.query.first(b"restype");
+    let comp = target.query.first(b"comp");
     match (verb, kind, restype, comp) {
         (Verb::Put, PathKind::Blob, None, None) => Some(Op::PutBlob),
         (Verb::Get, PathKind::Blob, None, None) => Some(Op::GetBlob),
@@ -156,17 +125,24 @@ fn op_at(verb: Verb, target: &Target) -> Option<Op>
     }
 }
 
-/// The operation of a method on a target, by rule F3: `None` if it is not built, or a parameter that operations have is given
-/// twice or has a bad value.
+/// The operation of a method on a target, by rule F3: `None` if the operation is not built, or a parameter that operations have
+/// is given twice or has a bad value.
 ///
 /// `AllocError` if memory runs out.
-pub fn operation(alloc: Global, verb: Verb, target: &Target) -> Result<Option<Op>, AllocError>
-    ensures { IfOk result (λ o. MatchOption o ((is_none (heads.op_at verb target.now) || heads.has_bad_parameter target.now.query) ≡ true) (λ op. (heads.op_at verb target.now ≡ Some op) × (heads.has_bad_parameter target.now.query ≡ false))) }
+pub(crate) fn operation(
+    alloc: Global,
+    verb: Verb,
+    target: &Target,
+) -> Result<Option<Op>, AllocError>
+    ensures { IfOk result (λ o. MatchOption o
+        ((is_none (heads.op_at verb target.now) || heads.has_bad_parameter target.now.query) ≡ true)
+        (λ op. (heads.op_at verb target.now ≡ Some op)
+        × (heads.has_bad_parameter target.now.query ≡ false))) }
 {
     let Some(op) = op_at(verb, target) else {
         return Ok(None);
     };
-    if has_bad_parameter(alloc, target.query.as_slice())? {
+    if has_bad_parameter(alloc, &target.query)? {
         return Ok(None);
     }
     Ok(Some(op))

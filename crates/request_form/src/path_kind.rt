@@ -3,7 +3,7 @@
 /// What a path names, by how many parts it has. Whether the parts are good names is another question.
 #[derive(Clone, Copy, Debug, PartialEq, Eq)]
 pub enum PathKind {
-    /// No account.
+    /// Nothing: the path has no account.
     Root,
     /// An account.
     Account,

@@ -1,4 +1,4 @@
-//! What a request line says: rules F1, F2 and F3, one after the other.
+//! What a request line says, by the rules F1, F2 and F3 in their order.
 ghost use Rattle.std.specs.Prelude.{◌≤◌, IsUtf8, MatchResult, length};
 ghost use Rattle.request_form.specs.HeadReads.{Denies, IsLine, Passes, line_rules};
 
@@ -22,14 +22,16 @@ pub struct Line {
 ///
 /// `Denied` by the first of these rules that holds; `NoMemory` if memory runs out.
 #[tactic(auto, unfolding(crate::specs::HeadRules::denial_among, crate::specs::HeadRules::op_of))]
-pub fn read_line(alloc: Global, head: &ParsedHead) -> Result<Line, HeadFault>
+pub(crate) fn read_line(alloc: Global, head: &ParsedHead<'_>) -> Result<Line, HeadFault>
     requires target { (length head.now.target ≤ 16384) × IsUtf8 head.now.target }
-    ensures { MatchResult result (λ l. Passes head.now line_rules × IsLine head.now l) (Denies head.now line_rules) }
+    ensures { MatchResult result
+        (λ l. Passes head.now line_rules × IsLine head.now l)
+        (Denies head.now line_rules) }
 {
-    let Some(target) = read_target(alloc, head.target.as_slice())? else {
+    let Some(target) = read_target(alloc, head.target)? else {
         return Err(HeadFault::Denied(no_head()));
     };
-    let Some(verb) = verb(head.method.as_slice()) else {
+    let Some(verb) = verb(head.method) else {
         return Err(HeadFault::Denied(denied(Rule::F2, Code::UnsupportedHttpVerb, None)));
     };
     let Some(op) = operation(alloc, verb, &target)? else {

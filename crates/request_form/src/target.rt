@@ -1,13 +1,14 @@
 //! Rule F1: the request target, and what it names.
-ghost use Rattle.std.specs.Prelude.{◌≡◌, ◌≤◌, ◌==◌, IfOk, MatchOption, false, true, length, map, filter, not, take, drop, bytes_eq, codes, IsTrue, IsUtf8, slice_index};
+ghost use Rattle.std.specs.Prelude.{◌≡◌, ◌≤◌, ◌==◌, ◌++◌, ◌∷◌, [], IfOk, MatchOption, OnOk, false, true, length, map, filter, not, take, drop, bytes_eq, codes, IsTrue, IsUtf8, slice_index};
 ghost use Rattle.std.specs.List.{position_or_len, before_first, after_first, prefix_len};
 ghost use Rattle.percent_encoding.specs.Percent.{percent_decode};
-ghost use Rattle.request_form.specs.Targets.{lowered, is_in_authority, origin_of, is_origin, path_of, query_text, query_of, target_of, parameter_of, account_of, behind_account, container_of, blob_of, kind_of, is_nothing, pieces_of};
+ghost use Rattle.stamp_values.specs.Ascii.{number_sign, slash};
+ghost use Rattle.request_form.specs.Targets.{lowered, is_in_authority, origin_of, is_origin, path_of, query_text, query_of, target_of, parameter_of, account_of, after_account, container_of, blob_of, kind_of, is_nothing, pieces_of};
 
 use crate::path_kind::PathKind;
 use http_uri::{Uri, UriError};
 use percent_encoding::percent_decode;
-use stamp_types::{Bytes, Field, Items};
+use stamp_types::{Bytes, FieldList};
 use std::alloc::{AllocError, Global};
 
 /// A request target as it is read.
@@ -15,12 +16,12 @@ use std::alloc::{AllocError, Global};
 pub struct Target {
     /// The path as it was sent, up to the first `?`.
     pub path: Bytes,
-    /// The parameters in the order sent, each decoded.
-    pub query: Items<Field>,
+    /// The parameters in the order sent, each decoded: names in lower case.
+    pub query: FieldList,
 }
 
-// Where a byte first stands, or the length.
-fn place(bytes: &[u8], wanted: u8) -> usize
+// The index of the first such byte, or the length.
+fn position(bytes: &[u8], wanted: u8) -> usize
     ensures value { result ≡ position_or_len (λ b. b == wanted) bytes.now }
     ensures bound { result ≤ length bytes.now }
 {
@@ -32,18 +33,18 @@ fn place(bytes: &[u8], wanted: u8) -> usize
     bytes.len()
 }
 
-// What stands before the first such byte, or all bytes.
+// The bytes before the first such byte, or all bytes.
 fn before(bytes: &[u8], mark: u8) -> &[u8]
     ensures { result.now ≡ before_first (λ b. b == mark) bytes.now }
 {
-    &bytes[..place(bytes, mark)]
+    &bytes[..position(bytes, mark)]
 }
 
-// What follows the first such byte.
-fn behind(bytes: &[u8], mark: u8) -> &[u8]
+// The bytes after the first such byte, or no bytes.
+fn after(bytes: &[u8], mark: u8) -> &[u8]
     ensures { result.now ≡ after_first (λ b. b == mark) bytes.now }
 {
-    let at = place(bytes, mark);
+    let at = position(bytes, mark);
     if at < bytes.len() {
         &bytes[at + 1..]
     } else {
@@ -51,7 +52,7 @@ fn behind(bytes: &[u8], mark: u8) -> &[u8]
     }
 }
 
-// How many bytes of an authority stand in front.
+// How many bytes of an authority there are before the first other byte.
 fn authority_len(bytes: &[u8]) -> usize
     ensures value { result ≡ prefix_len is_in_authority bytes.now }
     ensures bound { result ≤ length bytes.now }
@@ -64,7 +65,7 @@ fn authority_len(bytes: &[u8]) -> usize
     bytes.len()
 }
 
-// What follows `http://`, in any case.
+// Whether the target begins with `http://`, in any case.
 fn has_scheme(target: &[u8]) -> bool
     ensures value { result ≡ bytes_eq (lowered (take 7 target.now)) (codes "http://") }
     ensures long { IsTrue result → 7 ≤ length target.now }
@@ -75,8 +76,8 @@ fn has_scheme(target: &[u8]) -> bool
     }
 }
 
-/// The origin form of a target: what follows the authority of an absolute address, or else the target itself
-/// (RFC 9112, sections 3.2.1 and 3.2.2).
+// The origin form of a target: what follows the authority of an absolute address, or else the target itself
+// (RFC 9112, sections 3.2.1 and 3.2.2).
 #[tactic(auto, unfolding(crate::specs::Targets::origin_of, crate::specs::Targets::authority_len))]
 fn origin(target: &[u8]) -> &[u8]
     ensures value { result.now ≡ origin_of target.now }
@@ -95,8 +96,8 @@ fn origin(target: &[u8]) -> &[u8]
 
 // Whether a text that begins with `/` and has no `#` is an address.
 fn is_spelled(alloc: Global, origin: &[u8]) -> Result<bool, AllocError>
-    requires start { slice_index origin.now 0 ≡ 47 }
-    requires unsigned { position_or_len (λ b. b == 35) origin.now ≡ length origin.now }
+    requires start { slice_index origin.now 0 ≡ slash }
+    requires unsigned { position_or_len (λ b. b == number_sign) origin.now ≡ length origin.now }
     requires short { length origin.now ≤ 65534 }
     requires utf8 { IsUtf8 origin.now }
     ensures { IfOk result (λ b. b ≡ is_origin origin.now) }
@@ -108,24 +109,22 @@ fn is_spelled(alloc: Global, origin: &[u8]) -> Result<bool, AllocError>
     }
 }
 
-/// Whether a target's origin form is one: a `/` first, and bytes that a path and a query may have (RFC 9112, section 3.2.1;
-/// RFC 3986, section 3). Neither `*` nor a fragment is taken.
-///
-/// `AllocError` where there is no memory to tell.
+// Whether a text is an origin form: it begins with `/` and has only bytes of a path and a query (RFC 9112, section 3.2.1;
+// RFC 3986, section 3). So it is not `*`, and it has no fragment.
 #[tactic(auto, using(crate::proofs::TargetLemmas::is_origin_signed), unfolding(crate::specs::Targets::is_origin))]
 fn is_origin(alloc: Global, origin: &[u8]) -> Result<bool, AllocError>
     requires short { length origin.now ≤ 65534 }
     requires utf8 { IsUtf8 origin.now }
     ensures { IfOk result (λ b. b ≡ is_origin origin.now) }
 {
-    // The reader of addresses takes `*`, and leaves a fragment out without a word.
-    if origin.first() != Some(&b'/') || place(origin, b'#') < origin.len() {
+    // The reader of addresses takes `*`, and leaves out a fragment without an error.
+    if origin.first() != Some(&b'/') || position(origin, b'#') < origin.len() {
         return Ok(false);
     }
     is_spelled(alloc, origin)
 }
 
-/// The path of an origin form, as it was sent.
+// The path of an origin form, as it was sent.
 #[tactic(auto, unfolding(crate::specs::Targets::path_of))]
 fn path(origin: &[u8]) -> &[u8]
     ensures { result.now ≡ path_of origin.now }
@@ -137,13 +136,13 @@ fn path(origin: &[u8]) -> &[u8]
 fn query_text(origin: &[u8]) -> &[u8]
     ensures { result.now ≡ query_text origin.now }
 {
-    behind(origin, b'?')
+    after(origin, b'?')
 }
 
-/// The bytes with each escape read (RFC 3986, section 2.1). A `%` without two hexadecimal digits stays, and so does a `+`.
+/// The bytes with each escape decoded (RFC 3986, section 2.1). A `%` without two hexadecimal digits stays, and so does a `+`.
 ///
-/// `AllocError` where there is no memory for them.
-pub fn decoded(alloc: Global, text: &[u8]) -> Result<Vec<u8>, AllocError>
+/// `AllocError` if memory runs out.
+pub(crate) fn decoded(alloc: Global, text: &[u8]) -> Result<Vec<u8>, AllocError>
     ensures { IfOk result (λ v. v.items ≡ percent_decode text.now) }
 {
     let mut bytes = Vec::new(alloc);
@@ -151,46 +150,45 @@ pub fn decoded(alloc: Global, text: &[u8]) -> Result<Vec<u8>, AllocError>
     Ok(bytes)
 }
 
-fn read_parameter(alloc: Global, piece: &[u8]) -> Result<Field, AllocError>
-    ensures { IfOk result (λ f. f ≡ parameter_of piece.now) }
+// Puts the parameter of a piece at the end: the piece is cut at its first `=`, and each side is decoded.
+fn push_parameter(alloc: Global, parameters: &mut FieldList, piece: &[u8]) -> Result<(), AllocError>
+    ensures { OnOk result (parameters.new ≡ parameters.old ++ parameter_of piece.now ∷ []) }
 {
-    Ok(Field {
-        name: Bytes::new(decoded(alloc, before(piece, b'='))?),
-        value: Bytes::new(decoded(alloc, behind(piece, b'='))?),
-    })
+    let name = decoded(alloc, before(piece, b'='))?;
+    let value = decoded(alloc, after(piece, b'='))?;
+    parameters.push(&name, &value)
 }
 
-fn read_parameters(alloc: Global, query: &[u8]) -> Result<Vec<Field>, AllocError>
-    ensures { IfOk result (λ v. v.items ≡ map parameter_of (filter (λ piece. not (is_nothing piece)) (pieces_of query.now))) }
+// The parameters in the order sent. An empty piece between two `&` is not a parameter.
+fn read_parameters(alloc: Global, query: &[u8]) -> Result<FieldList, AllocError>
+    ensures { IfOk result (λ q.
+        q ≡ map parameter_of (filter (λ piece. not (is_nothing piece)) (pieces_of query.now))) }
 {
-    let mut parameters = Vec::new(alloc);
+    let mut parameters = FieldList::new(alloc);
     for piece in query.split(|b| *b == b'&') {
         if !piece.is_empty() {
-            parameters.push(read_parameter(alloc, piece)?)?;
+            push_parameter(alloc, &mut parameters, piece)?;
         }
     }
     Ok(parameters)
 }
 
-/// The parameters of an origin form's query in the order sent, each cut at its first `=` and decoded. A piece between two `&`
-/// without bytes is none.
-///
-/// `AllocError` where there is no memory for them.
 #[tactic(auto, unfolding(crate::specs::Targets::query_of))]
-fn query(alloc: Global, origin: &[u8]) -> Result<Items<Field>, AllocError>
+fn query(alloc: Global, origin: &[u8]) -> Result<FieldList, AllocError>
     ensures { IfOk result (λ q. q ≡ query_of origin.now) }
 {
-    Ok(Items::new(read_parameters(alloc, query_text(origin))?))
+    read_parameters(alloc, query_text(origin))
 }
 
-/// The path and the parameters of a target, by rule F1: `None` if its origin form is not one.
+/// The path and the parameters of a target, by rule F1: `None` if the target has no origin form.
 ///
 /// `AllocError` if memory runs out.
 #[tactic(auto, unfolding(crate::specs::Targets::target_of))]
-pub fn read_target(alloc: Global, target: &[u8]) -> Result<Option<Target>, AllocError>
+pub(crate) fn read_target(alloc: Global, target: &[u8]) -> Result<Option<Target>, AllocError>
     requires short { length target.now ≤ 65534 }
     requires utf8 { IsUtf8 target.now }
-    ensures { IfOk result (λ o. MatchOption o (is_origin (origin_of target.now) ≡ false) (λ t. (is_origin (origin_of target.now) ≡ true) × (t ≡ target_of target.now))) }
+    ensures { IfOk result (λ o. MatchOption o (is_origin (origin_of target.now) ≡ false)
+        (λ t. (is_origin (origin_of target.now) ≡ true) × (t ≡ target_of target.now))) }
 {
     let origin = origin(target);
     if !is_origin(alloc, origin)? {
@@ -201,7 +199,7 @@ pub fn read_target(alloc: Global, target: &[u8]) -> Result<Option<Target>, Alloc
     Ok(Some(Target { path, query }))
 }
 
-// The path behind its first byte.
+// The path after its first byte.
 fn tail(path: &[u8]) -> &[u8]
     ensures { result.now ≡ drop 1 path.now }
 {
@@ -213,43 +211,43 @@ fn tail(path: &[u8]) -> &[u8]
 
 /// The account that a path names, as it was sent: its first part.
 #[tactic(auto, unfolding(crate::specs::Targets::account_of))]
-pub fn account(path: &[u8]) -> &[u8]
+pub(crate) fn account(path: &[u8]) -> &[u8]
     ensures { result.now ≡ account_of path.now }
 {
     before(tail(path), b'/')
 }
 
-#[tactic(auto, unfolding(crate::specs::Targets::behind_account))]
-fn behind_account(path: &[u8]) -> &[u8]
-    ensures { result.now ≡ behind_account path.now }
+#[tactic(auto, unfolding(crate::specs::Targets::after_account))]
+fn after_account(path: &[u8]) -> &[u8]
+    ensures { result.now ≡ after_account path.now }
 {
-    behind(tail(path), b'/')
+    after(tail(path), b'/')
 }
 
 /// The container that a path names, as it was sent: its second part.
 #[tactic(auto, unfolding(crate::specs::Targets::container_of))]
-pub fn container(path: &[u8]) -> &[u8]
+pub(crate) fn container(path: &[u8]) -> &[u8]
     ensures { result.now ≡ container_of path.now }
 {
-    before(behind_account(path), b'/')
+    before(after_account(path), b'/')
 }
 
 /// The blob that a path names, as it was sent: all that follows the container, slashes too.
 #[tactic(auto, unfolding(crate::specs::Targets::blob_of))]
-pub fn blob(path: &[u8]) -> &[u8]
+pub(crate) fn blob(path: &[u8]) -> &[u8]
     ensures { result.now ≡ blob_of path.now }
 {
-    behind(behind_account(path), b'/')
+    after(after_account(path), b'/')
 }
 
-/// What a path names, by how many parts it has. A last part without bytes counts as absent.
+/// What a path names, by how many parts it has. An empty last part does not count.
 #[tactic(auto, unfolding(crate::specs::Targets::kind_of))]
-pub fn kind(path: &[u8]) -> PathKind
+pub(crate) fn kind(path: &[u8]) -> PathKind
     ensures { result ≡ kind_of path.now }
 {
     if tail(path).is_empty() {
         PathKind::Root
-    } else if behind_account(path).is_empty() {
+    } else if after_account(path).is_empty() {
         PathKind::Account
     } else if blob(path).is_empty() {
         PathKind::Container

@@ -1,14 +1,15 @@
 //! Rule F6: headers that ask for what the stamp does not serve.
 ghost use Rattle.std.specs.Prelude.{◌≡◌, Some, map};
 ghost use Rattle.std.specs.List.{list_any};
-ghost use Rattle.request_form.specs.HeadFields.{is_sent};
+ghost use Rattle.stamp_values.specs.Fields.{is_sent};
 ghost use Rattle.request_form.specs.HeadRules as heads;
 
-use crate::head_fields::{has_other, is_sent};
+use crate::head_fields::has_other;
+use crate::operation::is_put_blob;
 use crate::parsed_head::ParsedHead;
-use stamp_types::{Field, Op, Verb};
+use stamp_types::{FieldList, Op, Verb};
 
-// Headers of which the stamp does not serve what they ask.
+// Headers that ask for what the stamp does not serve.
 const UNSERVED: [&str; 5] = [
     "if-unmodified-since",
     "x-ms-lease-id",
@@ -17,11 +18,11 @@ const UNSERVED: [&str; 5] = [
     "if-none-match",
 ];
 
-fn is_any_sent(fields: &[Field], names: &[&str]) -> bool
+fn is_any_sent(fields: &FieldList, names: &[&str]) -> bool
     ensures { result ≡ list_any (is_sent fields.now) (map (λ name. name.now) names.now) }
 {
     for name in names {
-        if is_sent(fields, *name) {
+        if fields.is_sent(name.as_bytes()) {
             return true;
         }
     }
@@ -29,7 +30,7 @@ fn is_any_sent(fields: &[Field], names: &[&str]) -> bool
 }
 
 #[tactic(auto, unfolding(crate::specs::HeadRules::has_unserved))]
-fn has_unserved(fields: &[Field]) -> bool
+fn has_unserved(fields: &FieldList) -> bool
     ensures { result ≡ heads.has_unserved fields.now }
 {
     is_any_sent(fields, &UNSERVED)
@@ -37,27 +38,21 @@ fn has_unserved(fields: &[Field]) -> bool
 
 // Whether a method that writes asks if something was modified since a date.
 #[tactic(auto, unfolding(crate::specs::HeadRules::has_date_of_a_write))]
-fn has_date_of_a_write(head: &ParsedHead, verb: Verb) -> bool
+fn has_date_of_a_write(head: &ParsedHead<'_>, verb: Verb) -> bool
     requires verb { heads.verb_of head.now.method ≡ Some verb }
     ensures { result ≡ heads.has_date_of_a_write head.now }
 {
-    matches!(verb, Verb::Put | Verb::Delete) && is_sent(head.fields.as_slice(), "if-modified-since")
-}
-
-fn is_put_blob(op: Op) -> bool
-    ensures { result ≡ heads.is_put_blob (Some op) }
-{
-    matches!(op, Op::PutBlob)
+    matches!(verb, Verb::Put | Verb::Delete) && head.fields.is_sent(b"if-modified-since")
 }
 
 /// Rule F6: a header asks for what the stamp does not serve.
 #[tactic(auto, unfolding(crate::specs::HeadRules::asks_the_unserved))]
-pub fn asks_the_unserved(head: &ParsedHead, verb: Verb, op: Op) -> bool
+pub(crate) fn asks_the_unserved(head: &ParsedHead<'_>, verb: Verb, op: Op) -> bool
     requires verb { heads.verb_of head.now.method ≡ Some verb }
     requires op { heads.op_of head.now ≡ Some op }
     ensures { result ≡ heads.asks_the_unserved head.now }
 {
-    let fields = head.fields.as_slice();
+    let fields = &head.fields;
     if has_other(fields, "x-ms-version", "2012-02-12") || has_unserved(fields) {
         return true;
     }

@@ -1,22 +1,24 @@
 //! Rule F7: the values of the header lines.
-ghost use Rattle.std.specs.Prelude.{◌≡◌, ◌&&◌, MatchResult, None, Some, codes, cond, false, map, not, true};
+ghost use Rattle.std.specs.Prelude.{◌≡◌, ◌||◌, MatchResult, None, Some, codes, cond, false, map, not, true};
 ghost use Rattle.std.specs.List.{list_any};
+ghost use Rattle.stamp_values.specs.Fields.{is_sent_twice};
 ghost use Rattle.stamp_values.specs.Operations as operations;
 ghost use Rattle.stamp_values.specs.Texts.{is_visible};
 ghost use Rattle.stamp_types.specs.declared.code.Code.TheVariants.{InvalidHeaderValue};
 ghost use Rattle.stamp_types.specs.declared.rule.Rule.TheVariants.{F7};
-ghost use Rattle.request_form.specs.HeadFields.{is_bad, is_md5, is_twice};
+ghost use Rattle.request_form.specs.HeadFields.{is_bad, is_md5};
 ghost use Rattle.request_form.specs.HeadFields as fields_of;
-ghost use Rattle.request_form.specs.HeadForms.{args_of, kept_of};
+ghost use Rattle.request_form.specs.HeadForms.{args_of, kept_by, kept_of};
 ghost use Rattle.request_form.specs.HeadForms as head_forms;
 ghost use Rattle.request_form.specs.HeadReads.{RefusesValue};
 ghost use Rattle.request_form.specs.HeadRules as heads;
 ghost use Rattle.request_form.specs.declared.values.ValueFault.TheVariants as fault;
 
-use crate::head_fields::{is_meta, is_ms, is_sent, is_twice, md5_of, value_under};
+use crate::head_fields::{is_meta, is_ms, md5_of};
+use crate::operation::is_put_blob;
 use crate::parsed_head::ParsedHead;
 use crate::texts::visible;
-use stamp_types::{Args, Code, Field, Kept, Metadata, Op, STANDARD_NAMES, Visible};
+use stamp_types::{Args, Code, FieldList, Kept, Metadata, Op, STANDARD_NAMES, Visible};
 use std::alloc::{AllocError, Global};
 
 /// Why the values of the header lines are not read.
@@ -36,89 +38,111 @@ impl From<AllocError> for ValueFault {
     }
 }
 
-fn is_own_twice(fields: &[Field], name: &[u8]) -> bool
-    ensures { result ≡ (fields_of.is_ms name.now && not (fields_of.is_meta name.now) && is_twice fields.now name.now) }
+// Whether the name is that of one of the service's own headers, but not of metadata, and was sent twice.
+fn is_own_twice(fields: &FieldList, name: &[u8]) -> bool
+    ensures { result ≡ heads.is_own_twice fields.now name.now }
 {
-    is_ms(name) && !is_meta(name) && is_twice(fields, name)
+    is_ms(name) && !is_meta(name) && fields.is_sent_twice(name)
 }
 
-// Whether one of the service's own headers, metadata apart, stands there twice.
 #[tactic(auto, unfolding(crate::specs::HeadRules::has_own_twice))]
-fn has_own_twice(fields: &[Field]) -> bool
+fn has_own_twice(fields: &FieldList) -> bool
     ensures { result ≡ heads.has_own_twice fields.now }
 {
-    fields
-        .iter()
-        .any(|field| is_own_twice(fields, field.name.as_slice()))
-}
-
-fn is_any_twice(fields: &[Field], names: &[&str]) -> bool
-    ensures { result ≡ list_any (is_twice fields.now) (map (λ name. name.now) names.now) }
-{
-    for name in names {
-        if is_twice(fields, name.as_bytes()) {
+    for field in fields.fields() {
+        if is_own_twice(fields, field.name) {
             return true;
         }
     }
     false
 }
 
-// Whether a header that is signed stands there twice.
+fn is_any_twice(fields: &FieldList, names: &[&str]) -> bool
+    ensures { result ≡ list_any (is_sent_twice fields.now) (map (λ name. name.now) names.now) }
+{
+    for name in names {
+        if fields.is_sent_twice(name.as_bytes()) {
+            return true;
+        }
+    }
+    false
+}
+
+// Whether a header with a line of its own in the string to sign was sent twice.
 #[tactic(auto, unfolding(crate::specs::HeadRules::has_standard_twice))]
-fn has_standard_twice(fields: &[Field]) -> bool
+fn has_standard_twice(fields: &FieldList) -> bool
     ensures { result ≡ heads.has_standard_twice fields.now }
 {
     is_any_twice(fields, &STANDARD_NAMES)
 }
 
-// Whether the bytes are some without a quotation mark, and one at their end.
-fn is_closed(bytes: &[u8]) -> bool
-    ensures { result ≡ heads.is_closed bytes.now }
+// Whether some name was sent twice.
+fn some_name_is_twice(fields: &FieldList) -> bool
+    ensures { result ≡ list_any (λ f. is_sent_twice fields.now f.name) fields.now }
 {
-    let mut left = bytes;
-    while let [first, rest @ ..] = left {
-        if *first == b'"' {
-            return rest.is_empty();
+    for field in fields.fields() {
+        if fields.is_sent_twice(field.name) {
+            return true;
         }
-        left = rest;
     }
     false
 }
 
-// Whether the value is `*`, or one or more bytes without a quotation mark between two (RFC 9110, section 8.8.3).
+// Whether a header was sent twice that may be sent once. Most heads have no name twice, so this is looked at first.
+fn has_bad_twice(fields: &FieldList) -> bool
+    ensures { result ≡ (heads.has_standard_twice fields.now || heads.has_own_twice fields.now) }
+{
+    some_name_is_twice(fields) && (has_standard_twice(fields) || has_own_twice(fields))
+}
+
+fn is_unquoted(text: &[u8]) -> bool
+    ensures { result ≡ heads.is_unquoted text.now }
+{
+    text.iter().all(|byte| *byte != b'"')
+}
+
+// Whether the value is a quotation mark, one or more other bytes, and a quotation mark (RFC 9110, section 8.8.3).
+#[tactic(auto, unfolding(crate::specs::HeadRules::is_quoted))]
+fn is_quoted(value: &[u8]) -> bool
+    ensures { result ≡ heads.is_quoted value.now }
+{
+    let len = value.len();
+    2 < len && value[0] == b'"' && value[len - 1] == b'"' && is_unquoted(&value[1..len - 1])
+}
+
 #[tactic(auto, unfolding(crate::specs::HeadRules::is_condition))]
 fn is_condition(value: &[u8]) -> bool
     ensures { result ≡ heads.is_condition value.now }
 {
-    match value {
-        [b'"', inner, rest @ ..] => *inner != b'"' && is_closed(rest),
-        _ => value == b"*".as_slice(),
-    }
+    value == b"*".as_slice() || is_quoted(value)
 }
 
 #[tactic(auto, unfolding(crate::specs::HeadFields::is_bad))]
-fn is_bad_condition(fields: &[Field], name: &str) -> bool
+fn is_bad_condition(fields: &FieldList, name: &str) -> bool
     ensures { result ≡ is_bad fields.now name.now heads.is_condition }
 {
-    match value_under(fields, name) {
+    match fields.first(name.as_bytes()) {
         Some(value) => !is_condition(value),
         None => false,
     }
 }
 
 #[tactic(auto, unfolding(crate::specs::HeadRules::has_bad_condition))]
-fn has_bad_condition(fields: &[Field]) -> bool
+fn has_bad_condition(fields: &FieldList) -> bool
     ensures { result ≡ heads.has_bad_condition fields.now }
 {
     is_bad_condition(fields, "if-match") || is_bad_condition(fields, "if-none-match")
 }
 
-// The MD5 that was sent under the name, if one was.
+// The MD5 that was sent under the name, if an MD5 was sent.
 #[tactic(auto, unfolding(crate::specs::HeadFields::is_bad, crate::specs::HeadForms::md5_under))]
-fn md5_under(alloc: Global, fields: &[Field], name: &str) -> Result<Option<[u8; 16]>, ValueFault>
-    ensures { MatchResult result (λ md5. (is_bad fields.now name.now is_md5 ≡ false) × (md5 ≡ head_forms.md5_under fields.now name.now)) (RefusesValue (is_bad fields.now name.now is_md5) InvalidHeaderValue) }
+fn md5_under(alloc: Global, fields: &FieldList, name: &str) -> Result<Option<[u8; 16]>, ValueFault>
+    ensures { MatchResult result
+        (λ md5. (is_bad fields.now name.now is_md5 ≡ false)
+        × (md5 ≡ head_forms.md5_under fields.now name.now))
+        (RefusesValue (is_bad fields.now name.now is_md5) InvalidHeaderValue) }
 {
-    let Some(value) = value_under(fields, name) else {
+    let Some(value) = fields.first(name.as_bytes()) else {
         return Ok(None);
     };
     match md5_of(alloc, value)? {
@@ -127,53 +151,86 @@ fn md5_under(alloc: Global, fields: &[Field], name: &str) -> Result<Option<[u8; 
     }
 }
 
-// The value of a header that is kept: the one under the service's own name where that was sent, else
-// the plain one, else nothing.
+// The value of a header that is kept: the value of the service's own header, else the value of the plain header, if that counts,
+// else no bytes.
 #[tactic(auto, unfolding(crate::specs::HeadRules::kept_value))]
-fn kept_value<'a>(fields: &'a [Field], own: &str, plain: &str) -> &'a [u8]
-    ensures { result.now ≡ heads.kept_value fields.now own.now plain.now }
+fn kept_value<'a>(fields: &'a FieldList, takes_plain: bool, own: &str, plain: &str) -> &'a [u8]
+    ensures { result.now ≡ heads.kept_value takes_plain fields.now own.now plain.now }
 {
-    match (value_under(fields, own), value_under(fields, plain)) {
-        (Some(value), _) => value,
-        (None, Some(value)) => value,
-        (None, None) => &[],
+    if let Some(value) = fields.first(own.as_bytes()) {
+        return value;
+    }
+    if !takes_plain {
+        return &[];
+    }
+    match fields.first(plain.as_bytes()) {
+        Some(value) => value,
+        None => &[],
     }
 }
 
 fn visible_under(
     alloc: Global,
-    fields: &[Field],
+    fields: &FieldList,
+    takes_plain: bool,
     own: &str,
     plain: &str,
 ) -> Result<Visible, ValueFault>
-    ensures { MatchResult result (λ v. (is_visible (heads.kept_value fields.now own.now plain.now) ≡ true) × (v ≡ heads.kept_value fields.now own.now plain.now)) (RefusesValue (not (is_visible (heads.kept_value fields.now own.now plain.now))) InvalidHeaderValue) }
+    ensures { MatchResult result
+        (λ v. (is_visible (heads.kept_value takes_plain fields.now own.now plain.now) ≡ true)
+        × (v ≡ heads.kept_value takes_plain fields.now own.now plain.now))
+        (RefusesValue
+        (not (is_visible (heads.kept_value takes_plain fields.now own.now plain.now)))
+        InvalidHeaderValue) }
 {
-    match visible(alloc, kept_value(fields, own, plain))? {
+    match visible(alloc, kept_value(fields, takes_plain, own, plain))? {
         Some(value) => Ok(value),
         None => Err(ValueFault::Refused(Code::InvalidHeaderValue)),
     }
 }
 
-// The headers that a blob is to keep.
+// The headers that a blob is to keep. The plain headers count or not.
 #[tactic(auto, unfolding(crate::specs::HeadRules::has_bad_kept))]
-fn kept(alloc: Global, fields: &[Field], md5: Option<[u8; 16]>) -> Result<Kept, ValueFault>
+fn kept(
+    alloc: Global,
+    takes_plain: bool,
+    fields: &FieldList,
+    md5: Option<[u8; 16]>,
+) -> Result<Kept, ValueFault>
     requires md5 { md5 ≡ head_forms.md5_under fields.now (codes "x-ms-blob-content-md5") }
-    ensures { MatchResult result (λ k. (heads.has_bad_kept fields.now ≡ false) × (k ≡ kept_of fields.now)) (RefusesValue (heads.has_bad_kept fields.now) InvalidHeaderValue) }
+    ensures { MatchResult result
+        (λ k. (heads.has_bad_kept takes_plain fields.now ≡ false)
+        × (k ≡ kept_of takes_plain fields.now))
+        (RefusesValue (heads.has_bad_kept takes_plain fields.now) InvalidHeaderValue) }
 {
-    let content_type = visible_under(alloc, fields, "x-ms-blob-content-type", "content-type")?;
+    let content_type = visible_under(
+        alloc,
+        fields,
+        takes_plain,
+        "x-ms-blob-content-type",
+        "content-type",
+    )?;
     let encoding = visible_under(
         alloc,
         fields,
+        takes_plain,
         "x-ms-blob-content-encoding",
         "content-encoding",
     )?;
     let language = visible_under(
         alloc,
         fields,
+        takes_plain,
         "x-ms-blob-content-language",
         "content-language",
     )?;
-    let cache_control = visible_under(alloc, fields, "x-ms-blob-cache-control", "cache-control")?;
+    let cache_control = visible_under(
+        alloc,
+        fields,
+        takes_plain,
+        "x-ms-blob-cache-control",
+        "cache-control",
+    )?;
     Ok(Kept {
         content_type,
         encoding,
@@ -183,35 +240,39 @@ fn kept(alloc: Global, fields: &[Field], md5: Option<[u8; 16]>) -> Result<Kept, 
     })
 }
 
-// The headers that a blob is to keep, if the operation keeps them.
+// The headers that a blob is to keep, if the operation keeps headers. The plain headers count for Put Blob alone.
 fn kept_by(
     alloc: Global,
     op: Op,
-    fields: &[Field],
+    fields: &FieldList,
     md5: Option<[u8; 16]>,
 ) -> Result<Option<Kept>, ValueFault>
     requires md5 { md5 ≡ head_forms.md5_under fields.now (codes "x-ms-blob-content-md5") }
-    ensures { MatchResult result (λ k. ((operations.keeps_headers op && heads.has_bad_kept fields.now) ≡ false) × (k ≡ cond (operations.keeps_headers op) (Some (kept_of fields.now)) None)) (RefusesValue (operations.keeps_headers op && heads.has_bad_kept fields.now) InvalidHeaderValue) }
+    ensures { MatchResult result
+        (λ k. (heads.has_bad_kept_by op fields.now ≡ false) × (k ≡ kept_by op fields.now))
+        (RefusesValue (heads.has_bad_kept_by op fields.now) InvalidHeaderValue) }
 {
     if !op.keeps_headers() {
         return Ok(None);
     }
-    Ok(Some(kept(alloc, fields, md5)?))
+    Ok(Some(kept(alloc, is_put_blob(op), fields, md5)?))
 }
 
-// The MD5 that the body is to have, if the operation takes one.
+// The MD5 that the body is to have, if the operation takes an MD5.
 fn md5_by(op: Op, md5: Option<[u8; 16]>) -> Option<[u8; 16]>
     ensures { result ≡ cond (operations.checks_md5 op) md5 None }
 {
     if op.checks_md5() { md5 } else { None }
 }
 
-// What comes with a request in lines of which none is bad.
+// What comes with a request, if no line is bad.
 #[tactic(auto, unfolding(crate::specs::HeadRules::has_bad_line, crate::specs::HeadRules::has_bad_md5, crate::specs::HeadForms::args_of))]
-fn good_args(alloc: Global, op: Op, fields: &[Field]) -> Result<Args, ValueFault>
-    ensures { MatchResult result (λ v. (heads.has_bad_line (operations.keeps_headers op) fields.now ≡ false) × (v ≡ args_of op fields.now)) (RefusesValue (heads.has_bad_line (operations.keeps_headers op) fields.now) InvalidHeaderValue) }
+fn good_args(alloc: Global, op: Op, fields: &FieldList) -> Result<Args, ValueFault>
+    ensures { MatchResult result
+        (λ v. (heads.has_bad_line (Some op) fields.now ≡ false) × (v ≡ args_of op fields.now))
+        (RefusesValue (heads.has_bad_line (Some op) fields.now) InvalidHeaderValue) }
 {
-    if has_standard_twice(fields) || has_own_twice(fields) || has_bad_condition(fields) {
+    if has_bad_twice(fields) || has_bad_condition(fields) {
         return Err(ValueFault::Refused(Code::InvalidHeaderValue));
     }
     let content_md5 = md5_by(op, md5_under(alloc, fields, "content-md5")?);
@@ -231,34 +292,46 @@ fn good_args(alloc: Global, op: Op, fields: &[Field]) -> Result<Args, ValueFault
     })
 }
 
-// Whether metadata were sent.
-#[tactic(auto, unfolding(crate::specs::HeadRules::has_metadata))]
-fn has_metadata(head: &ParsedHead) -> bool
-    ensures { result ≡ heads.has_metadata head.now }
+fn some_is_meta(fields: &FieldList) -> bool
+    ensures { result ≡ list_any (λ f. fields_of.is_meta f.name) fields.now }
 {
-    head.fields
-        .as_slice()
-        .iter()
-        .any(|field| is_meta(field.name.as_slice()))
+    for field in fields.fields() {
+        if is_meta(field.name) {
+            return true;
+        }
+    }
+    false
 }
 
-// Put Blob without the type of blob.
+// Whether metadata were sent.
+#[tactic(auto, unfolding(crate::specs::HeadRules::has_metadata))]
+fn has_metadata(head: &ParsedHead<'_>) -> bool
+    ensures { result ≡ heads.has_metadata head.now }
+{
+    some_is_meta(&head.fields)
+}
+
+// Whether the operation is Put Blob and the type of blob was not sent.
 #[tactic(auto, unfolding(crate::specs::HeadRules::has_no_blob_type))]
-fn has_no_blob_type(head: &ParsedHead, op: Op) -> bool
+fn has_no_blob_type(head: &ParsedHead<'_>, op: Op) -> bool
     requires op { heads.op_of head.now ≡ Some op }
     ensures { result ≡ heads.has_no_blob_type head.now }
 {
-    matches!(op, Op::PutBlob) && !is_sent(head.fields.as_slice(), "x-ms-blob-type")
+    is_put_blob(op) && !head.fields.is_sent(b"x-ms-blob-type")
 }
 
-/// What comes with a request, by rule F7, which is told with its code: a header is there twice
-/// that may not be or its value is bad, metadata, or Put Blob without the type of blob.
+/// What comes with a request, by rule F7.
+///
+/// `Refused` with the code of rule F7 if a header was sent twice that may not be, a value is bad, metadata were sent, or Put Blob
+/// comes without the type of blob.
 #[tactic(auto, unfolding(crate::specs::HeadRules::has_bad_value))]
-pub fn read_args(alloc: Global, head: &ParsedHead, op: Op) -> Result<Args, ValueFault>
+pub(crate) fn read_args(alloc: Global, head: &ParsedHead<'_>, op: Op) -> Result<Args, ValueFault>
     requires op { heads.op_of head.now ≡ Some op }
-    ensures { MatchResult result (λ v. (heads.head_holds head.now F7 ≡ false) × (v ≡ args_of op head.now.fields)) (RefusesValue (heads.head_holds head.now F7) (heads.head_code head.now F7)) }
+    ensures { MatchResult result
+        (λ v. (heads.head_holds head.now F7 ≡ false) × (v ≡ args_of op head.now.fields))
+        (RefusesValue (heads.head_holds head.now F7) (heads.head_code head.now F7)) }
 {
-    let args = good_args(alloc, op, head.fields.as_slice())?;
+    let args = good_args(alloc, op, &head.fields)?;
     if has_metadata(head) {
         return Err(ValueFault::Refused(Code::InvalidMetadata));
     }

@@ -6,7 +6,7 @@ use stamp_types::Verb;
 
 /// The method, if it is one that the stamp serves (RFC 9110, section 9.3).
 #[tactic(auto, unfolding(crate::specs::HeadRules::verb_of))]
-pub fn verb(method: &[u8]) -> Option<Verb>
+pub(crate) fn verb(method: &[u8]) -> Option<Verb>
     ensures { result ≡ heads.verb_of method.now }
 {
     if method == b"GET".as_slice() {

@@ -1,4 +1,4 @@
--- A text that is cut at the first byte of a kind.
+-- A text that is cut at the first byte with a code.
 use Rattle.std.proofs.Common.{◌≡◌, ◌≢◌, ◌⊎◌, inl, inr, ℕ, zero, suc, ◌+◌, ◌<◌, Bool, true, false, cond, List, [], ◌∷◌, ◌++◌, length, get_or, take, drop, refl, ap, ◌∙◌, arith, eq-eqb, eqb-true}
 use Rattle.std.specs.Prelude.{◌==◌, ◌||◌, not, replicate, slice_index}
 use Rattle.std.specs.List.{list_any, position_or_len, before_first, after_first}
@@ -7,30 +7,34 @@ use Rattle.std.proofs.lemmas.List.{take_at, drop_all}
 use Rattle.std.proofs.lemmas.List.Sums.{split_at_first, passes_at_first}
 use Rattle.shared_key.specs.Authorizations.{unspaced}
 
+-- if it is not so that one of two tests was passed, neither was
 neither : (a b : Bool) → (a || b) ≡ false → (a ≡ false) × (b ≡ false)
 neither true b h = (cc, cc)
 neither false b h = (refl, h)
 
--- where the byte stands that is first
-pub place_at : (c : ℕ) (xs ys : List ℕ) → list_any (λ b. b == c) xs ≡ false → position_or_len (λ b. b == c) (xs ++ c ∷ ys) ≡ length xs
-place_at c [] ys none = rw (eq-eqb c c refl) refl
-place_at c (x ∷ xs) ys none =
+-- the position of the first byte c
+pub position_at : (c : ℕ) (xs ys : List ℕ) → list_any (λ b. b == c) xs ≡ false → position_or_len (λ b. b == c) (xs ++ c ∷ ys) ≡ length xs
+position_at c [] ys none = rw (eq-eqb c c refl) refl
+position_at c (x ∷ xs) ys none =
     let each = neither (x == c) (list_any (λ b. b == c) xs) none in
-    rw (each.0, place_at c xs ys each.1) (omega arith)
+    rw (each.0, position_at c xs ys each.1) (omega arith)
 
+-- what comes before the first byte c
 pub before_at : (c : ℕ) (xs ys : List ℕ) → list_any (λ b. b == c) xs ≡ false → before_first (λ b. b == c) (xs ++ c ∷ ys) ≡ xs
-before_at c xs ys none = rw (place_at c xs ys none) (take_at xs (c ∷ ys) (length xs) refl)
+before_at c xs ys none = rw (position_at c xs ys none) (take_at xs (c ∷ ys) (length xs) refl)
 
-drop_behind : (c : ℕ) (xs ys : List ℕ) → drop (length xs + 1) (xs ++ c ∷ ys) ≡ ys
-drop_behind c [] ys = refl
-drop_behind c (x ∷ xs) ys =
+-- what is left after the first bytes and the byte c are dropped
+drop_after : (c : ℕ) (xs ys : List ℕ) → drop (length xs + 1) (xs ++ c ∷ ys) ≡ ys
+drop_after c [] ys = refl
+drop_after c (x ∷ xs) ys =
     let next : suc (length xs) + 1 ≡ suc (length xs + 1) = omega arith in
-    rw next (drop_behind c xs ys)
+    rw next (drop_after c xs ys)
 
+-- what comes after the first byte c
 pub after_at : (c : ℕ) (xs ys : List ℕ) → list_any (λ b. b == c) xs ≡ false → after_first (λ b. b == c) (xs ++ c ∷ ys) ≡ ys
-after_at c xs ys none = rw (place_at c xs ys none) (drop_behind c xs ys)
+after_at c xs ys none = rw (position_at c xs ys none) (drop_after c xs ys)
 
--- no such byte stands before the first
+-- there is no byte c before the first byte c
 pub none_before : (c : ℕ) (xs : List ℕ) → list_any (λ b. b == c) (before_first (λ b. b == c) xs) ≡ false
 none_before c [] = refl
 none_before c (x ∷ xs) =
@@ -40,21 +44,22 @@ none_before c (x ∷ xs) =
       | false ↦ λ other. let next : 1 + n ≡ suc n = omega arith in rw (next, other) (none_before c xs)
     ] refl
 
+-- if there is a byte c, the text is what comes before the first, that byte, and what comes after it
 found : (c : ℕ) (xs : List ℕ) → position_or_len (λ b. b == c) xs < length xs → xs ≡ before_first (λ b. b == c) xs ++ c ∷ after_first (λ b. b == c) xs
 found c xs there =
     let is = eqb-true (get_or xs (position_or_len (λ b. b == c) xs) 0) c (passes_at_first (λ b. b == c) xs 0 there) in
     split_at_first (λ b. b == c) xs 0 there ∙ ap (λ x. before_first (λ b. b == c) xs ++ x ∷ after_first (λ b. b == c) xs) is
 
-whole_by_place : (c : ℕ) (xs : List ℕ) → after_first (λ b. b == c) xs ≢ [] → (position_or_len (λ b. b == c) xs + 1 ≡ length xs) ⊎ ((position_or_len (λ b. b == c) xs + 1 < length xs) ⊎ (length xs < position_or_len (λ b. b == c) xs + 1)) → xs ≡ before_first (λ b. b == c) xs ++ c ∷ after_first (λ b. b == c) xs
-whole_by_place c xs some (inl e) = found c xs (omega arith)
-whole_by_place c xs some (inr (inl l)) = found c xs (omega arith)
-whole_by_place c xs some (inr (inr g)) = absurd (some (drop_all (position_or_len (λ b. b == c) xs + 1) xs (omega arith)))
+whole_by_position : (c : ℕ) (xs : List ℕ) → after_first (λ b. b == c) xs ≢ [] → (position_or_len (λ b. b == c) xs + 1 ≡ length xs) ⊎ ((position_or_len (λ b. b == c) xs + 1 < length xs) ⊎ (length xs < position_or_len (λ b. b == c) xs + 1)) → xs ≡ before_first (λ b. b == c) xs ++ c ∷ after_first (λ b. b == c) xs
+whole_by_position c xs some (inl e) = found c xs (omega arith)
+whole_by_position c xs some (inr (inl l)) = found c xs (omega arith)
+whole_by_position c xs some (inr (inr g)) = absurd (some (drop_all (position_or_len (λ b. b == c) xs + 1) xs (omega arith)))
 
--- with something behind the first such byte, the text is its two parts
+-- if bytes come after the first byte c, the text is what comes before that byte, the byte, and what comes after it
 pub whole_from_cut : (c : ℕ) (xs : List ℕ) → after_first (λ b. b == c) xs ≢ [] → xs ≡ before_first (λ b. b == c) xs ++ c ∷ after_first (λ b. b == c) xs
-whole_from_cut c xs some = whole_by_place c xs some (cases_order (position_or_len (λ b. b == c) xs + 1) (length xs))
+whole_from_cut c xs some = whole_by_position c xs some (cases_order (position_or_len (λ b. b == c) xs + 1) (length xs))
 
--- spaces, and what follows them
+-- a text is some spaces, and after them the text without the spaces at its start
 pub spaces_of : (xs : List ℕ) → (n : ℕ) × (xs ≡ replicate n 32 ++ unspaced xs)
 spaces_of [] = (0, refl)
 spaces_of (x ∷ xs) =
@@ -63,6 +68,7 @@ spaces_of (x ∷ xs) =
       | false ↦ λ _. (0, refl)
     ] refl
 
+-- a text without the spaces at its start does not begin with a space
 pub unspaced-head : (xs : List ℕ) → slice_index (unspaced xs) 0 ≢ 32
 unspaced-head [] = λ e. absurd (omega arith)
 unspaced-head (x ∷ xs) =
@@ -71,6 +77,7 @@ unspaced-head (x ∷ xs) =
       | false ↦ λ other e. let same = eq-eqb x 32 e in cc
     ] refl
 
+-- some spaces before a text that does not begin with a space are taken away
 pub unspaced-replicate : (n : ℕ) (ys : List ℕ) → slice_index ys 0 ≢ 32 → unspaced (replicate n 32 ++ ys) ≡ ys
 unspaced-replicate zero [] h = refl
 unspaced-replicate zero (y ∷ ys) h =

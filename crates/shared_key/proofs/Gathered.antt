@@ -15,9 +15,9 @@ use Rattle.std.specs.declared.cmp.Ordering.{Ordering}
 use Rattle.std.specs.declared.cmp.Ordering.TheVariants.{Less, Equal, Greater}
 use Rattle.stamp_values.specs.Order.{name_cmp, names_total, names_exact}
 use Rattle.shared_key.specs.Arranged.{in_order}
-use Rattle.shared_key.specs.Strings.{Pair, parameter_line, values_of, gathered}
-use Rattle.shared_key.specs.Runs.{pair_cmp, written}
-use Rattle.shared_key.proofs.Grouped.{Group, grouped, taken, left, onto_groups-first, written_first}
+use Rattle.shared_key.specs.Strings.{Pair, parameter_line, values_of, values_by_name}
+use Rattle.shared_key.specs.Parameters.{pair_cmp, pairs_text}
+use Rattle.shared_key.proofs.Grouped.{Group, grouped, taken, left, onto_groups-first, pairs_text_first}
 use Rattle.shared_key.proofs.Ordered.{Rises, one, count, count_is, same-in_order, rises-in_order, only_rising}
 use Rattle.shared_key.proofs.Pairs.{pairs_total}
 
@@ -44,7 +44,7 @@ is_less Equal h = absurd h
 is_less Greater h = absurd h
 
 -- ---- names
--- no name of the pairs is before n
+-- no name of the pairs comes before n
 abbrev IsFrom : List ℕ → List Pair → Type 0
 IsFrom n ps = AllByRecursion (λ p. is_lt (name_cmp p.0 n) ≡ false) ps
 
@@ -62,9 +62,9 @@ turned_back Less s e h a = cc
 turned_back Equal s e h a = cc
 turned_back Greater s e h a = e
 
--- a name that is not before n and is another comes behind it
-behind : (n m : List ℕ) → is_lt (name_cmp m n) ≡ false → bytes_eq m n ≡ false → name_cmp n m ≡ Less
-behind n m h other =
+-- a name that does not come before n, and is not n, comes after n
+comes_after : (n m : List ℕ) → is_lt (name_cmp m n) ≡ false → bytes_eq m n ≡ false → name_cmp n m ≡ Less
+comes_after n m h other =
     let turned = names_total.antisymm n m in
     let apart : is_eq (name_cmp m n) ≡ false = is_eq-slice_cmp m n ∙ other in
     turned_back (name_cmp m n) (name_cmp n m) turned h apart
@@ -78,7 +78,7 @@ itself n = let d = bytes_eq-Decides n n in d.1 refl
 tied_name : (n m : List ℕ) → eq_by_cmp name_cmp n m ≡ true → n ≡ m
 tied_name n m h = same_name n m (sym (is_eq-slice_cmp n m) ∙ h)
 
--- names apart, seen from the other side
+-- if two names do not compare as equal, their bytes differ
 apart : (n m : List ℕ) → eq_by_cmp name_cmp n m ≡ false → bytes_eq m n ≡ false
 apart n m h =
     elim (bytes_eq m n) as (λ b. bytes_eq m n ≡ b → b ≡ false) [
@@ -86,8 +86,8 @@ apart n m h =
       | false ↦ λ _. refl
     ] refl
 
--- ---- values of a name
--- no pair of the name, where all come behind another that does
+-- ---- the values of a name
+-- if n comes before m, and no name of the pairs comes before m, the pairs have no value of n
 no_values : (n m : List ℕ) → name_cmp n m ≡ Less → (ps : List Pair) → IsFrom m ps → values_of ps n ≡ []
 no_values n m less [] from = refl
 no_values n m less (p ∷ ps) from =
@@ -108,7 +108,7 @@ taken_values n (p ∷ ps) from up =
     ap (taken n) (onto_groups-first p (grouped ps))
     ∙ elim (bytes_eq p.0 n) as (λ b. bytes_eq p.0 n ≡ b → cond b (p.1 ∷ taken p.0 (grouped ps)) [] ≡ map (λ p. p.1) (cond b (p ∷ filter (λ p. bytes_eq p.0 n) ps) (filter (λ p. bytes_eq p.0 n) ps))) [
       | true ↦ λ e. ap (λ r. p.1 ∷ r) (rest ∙ ap (values_of ps) (same_name p.0 n e))
-      | false ↦ λ e. sym (no_values n p.0 (behind n p.0 from.0 e) ps (names_from p ps up.0))
+      | false ↦ λ e. sym (no_values n p.0 (comes_after n p.0 from.0 e) ps (names_from p ps up.0))
     ] refl
 
 -- ---- the groups as a map
@@ -122,7 +122,7 @@ find_left q n (g ∷ gs) other =
       | false ↦ λ _. refl
     ] refl
 
--- a name that stands in the pairs has its values
+-- what the groups have for a name: its values, if the pairs have the name
 find_grouped : (q : List ℕ) (ps : List Pair) → Rises (λ p q. is_lt (pair_cmp p q)) ps → find name_cmp q (grouped ps) ≡ cond (list_any (λ p. eq_by_cmp name_cmp q p.0) ps) (Some (values_of ps q)) None
 find_grouped q [] up = refl
 find_grouped q (p ∷ ps) up =
@@ -138,7 +138,7 @@ find_grouped q (p ∷ ps) up =
           ∙ ap (λ vs. cond (list_any (λ p. eq_by_cmp name_cmp q p.0) ps) (Some vs) None) (sym others)
     ] refl
 
--- names, each with what a function of the name gives
+-- what is found for a name if each name has what a function of the name gives
 find_named : {V : Type 0} (f : List ℕ → V) (q : List ℕ) (ps : List Pair) → find name_cmp q (map (λ p. (p.0, f p.0)) ps) ≡ cond (list_any (λ p. eq_by_cmp name_cmp q p.0) ps) (Some (f q)) None
 find_named f q [] = refl
 find_named f q (p ∷ ps) =
@@ -183,7 +183,7 @@ below_rest n (g ∷ gs) from up =
     elim (bytes_eq g.0 n) as (λ b. bytes_eq g.0 n ≡ b → T (below_all name_cmp n (cond b gs (g ∷ gs)))) [
       | true ↦ λ e. subst (λ k. T (below_all name_cmp k gs)) (same_name g.0 n e) (former (below_all name_cmp g.0 gs) (is_sorted name_cmp gs) up)
       | false ↦ λ e.
-          let less = behind n g.0 from.0 e in
+          let less = comes_after n g.0 from.0 e in
           both (is_lt (name_cmp n g.0)) (below_all name_cmp n gs) (yes (is_lt (name_cmp n g.0)) (ap is_lt less)) (below_further n g.0 less gs (former (below_all name_cmp g.0 gs) (is_sorted name_cmp gs) up))
     ] refl
 
@@ -227,7 +227,7 @@ count_values q v (p ∷ ps) =
     ]
     ∙ sym (sum_by-cons (weight q v) p ps)
 
--- those of the pairs in order are those of the pairs, in order
+-- the values of a name in the pairs in order are the values of that name, in order
 arranged_values : (q : List ℕ) (ps : List Pair) → values_of (in_order pair_cmp ps) q ≡ in_order name_cmp (values_of ps q)
 arranged_values q ps =
     let a = in_order pair_cmp ps in
@@ -236,8 +236,8 @@ arranged_values q ps =
     (λ v. count_values q v a ∙ sum_by-IsPermutation (weight q v) ps a (same-in_order pair_cmp ps) ∙ sym (count_values q v ps)
     ∙ sym (count_is names_total names_exact v vs) ∙ sym (sum_by-IsPermutation (one names_total names_exact v) vs (in_order name_cmp vs) (same-in_order name_cmp vs)) ∙ count_is names_total names_exact v (in_order name_cmp vs))
 
--- the groups of the pairs in order are the names with their values in order
-pub grouped_arranged : (ps : List Pair) → grouped (in_order pair_cmp ps) ≡ gathered ps
+-- the groups of the pairs in order are the names, each with its values in order
+pub grouped_arranged : (ps : List Pair) → grouped (in_order pair_cmp ps) ≡ values_by_name ps
 grouped_arranged ps =
     let a = in_order pair_cmp ps in
     let up = rises-in_order pairs_total ps in
@@ -250,6 +250,6 @@ grouped_arranged ps =
     ∙ ap (λ vs. cond (list_any (λ p. eq_by_cmp name_cmp q p.0) ps) (Some vs) None) (arranged_values q ps)
     ∙ sym (find_named (λ n. in_order name_cmp (values_of ps n)) q ps) ∙ sym (get-from_entries names_total named q)))
 
--- pairs in order, written one behind the other, are the lines of their names
-pub written_arranged : (ps : List Pair) → written None (in_order pair_cmp ps) ≡ flat_map parameter_line (gathered ps)
-written_arranged ps = written_first (in_order pair_cmp ps) ∙ ap (flat_map parameter_line) (grouped_arranged ps)
+-- the text of the pairs in order is the lines of their names
+pub pairs_text_arranged : (ps : List Pair) → pairs_text None (in_order pair_cmp ps) ≡ flat_map parameter_line (values_by_name ps)
+pairs_text_arranged ps = pairs_text_first (in_order pair_cmp ps) ∙ ap (flat_map parameter_line) (grouped_arranged ps)

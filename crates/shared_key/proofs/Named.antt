@@ -1,4 +1,4 @@
--- The entries of a map that is filled from the last header to the first.
+-- The entries of a map into which headers are inserted from the last to the first.
 use Rattle.std.proofs.Common.{◌≡◌, ℕ, true, false, cond, List, [], ◌∷◌, ◌++◌, map, filter, refl, sym, ap, ◌∙◌}
 use Rattle.std.proofs.lemmas.List.{nil_from_length}
 use Rattle.std.specs.BTreeMap.{insert_entry}
@@ -28,7 +28,7 @@ read_insert (e ∷ es) k v =
       | Greater ↦ ap (λ r. deref_pair e ∷ r) (read_insert es k v)
     ]
 
--- one header of the service more at the end is put first
+-- if a header of the service is at the end, it is put first
 pub put_all_more : (hs : List Field) (h : Field) (es : List Pair) → is_ms h ≡ true → put_all (map field_pair (filter is_ms (hs ++ h ∷ []))) es ≡ put_all (map field_pair (filter is_ms hs)) (put name_cmp h.name h.value es)
 put_all_more [] h es ms = ap (λ b. put_all (map field_pair (cond b (h ∷ []) [])) es) ms
 put_all_more (x ∷ xs) h es ms =
@@ -37,7 +37,7 @@ put_all_more (x ∷ xs) h es ms =
       | false ↦ put_all_more xs h es ms
     ]
 
--- another header at the end is left out
+-- if another header is at the end, it is left out
 pub put_all_other : (hs : List Field) (h : Field) (es : List Pair) → is_ms h ≡ false → put_all (map field_pair (filter is_ms (hs ++ h ∷ []))) es ≡ put_all (map field_pair (filter is_ms hs)) es
 put_all_other [] h es other = ap (λ b. put_all (map field_pair (cond b (h ∷ []) [])) es) other
 put_all_other (x ∷ xs) h es other =
@@ -49,13 +49,13 @@ put_all_other (x ∷ xs) h es other =
 no_entries : entries (empty {X = List ℕ} {R = name_cmp}) ≡ []
 no_entries = nil_from_length _ (sym (len-entries _) ∙ len-empty name_cmp (List ℕ))
 
--- put over nothing, they are the map's entries
+-- put over no entries, the pairs are the entries of their map
 pub put_all-nothing : (ps : List Pair) → put_all ps [] ≡ entries (from_entries {R = name_cmp} ps)
 put_all-nothing [] = sym no_entries
 put_all-nothing (p ∷ ps) =
     ap (put name_cmp p.0 p.1) (put_all-nothing ps) ∙ sym (entries-insert names_total (from_entries ps) p.0 p.1)
 
--- one header of the service less at the end, and one entry more
+-- a header of the service is taken from the end, and inserted as an entry
 pub put_all_step : (hs left : List Field) (h : Field) (es later : List (Bor (List ℕ) × Bor (List ℕ))) (k v : Bor (List ℕ)) (whole : List Pair) → hs ≡ left ++ h ∷ [] → is_ms h ≡ true → k.now ≡ h.name → v.now ≡ h.value → later ≡ insert_entry (λ x y. slice_cmp nat_cmp x.now y.now) es k v → put_all (map field_pair (filter is_ms hs)) (map deref_pair es) ≡ whole → put_all (map field_pair (filter is_ms left)) (map deref_pair later) ≡ whole
 put_all_step hs left h es later k v whole last ms name value inserted so_far =
     let more = put_all_more left h (map deref_pair es) ms in

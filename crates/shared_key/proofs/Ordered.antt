@@ -1,4 +1,4 @@
--- A list put in order has the same members, is sorted, and is the only such list.
+-- A list that is put in order has the same members and is sorted, and no other list has both.
 use Rattle.std.proofs.Common.{◌≡◌, ℕ, zero, suc, ◌+◌, ◌<◌, Bool, true, false, cond, List, [], ◌∷◌, map, length, get_or, refl, sym, ap, subst, ◌∙◌, arith}
 use Rattle.std.proofs.lemmas.List.Sorted.{IsPermutation-refl, IsPermutation-trans, IsPermutation-sym, IsPermutation-cons, IsPermutation-middle, sum_by-IsPermutation, sorted_far, ranks_by}
 use Rattle.std.proofs.lemmas.List.Sums.{sum_by-cons}
@@ -9,28 +9,28 @@ use Rattle.std.specs.Cmp.{IsTotalOrder, IsStrictWeakOrder, tied_itself}
 use Rattle.std.specs.Ordering.{is_lt, is_eq, ordering_reverse}
 use Rattle.std.specs.declared.cmp.Ordering.{Ordering}
 use Rattle.std.specs.declared.cmp.Ordering.TheVariants.{Less, Equal, Greater}
-use Rattle.shared_key.specs.Arranged.{placed, in_order}
+use Rattle.shared_key.specs.Arranged.{inserted, in_order}
 
--- each is before none that stands in front of it
+-- no member comes before a member that is earlier in the list
 abbrev pub Rises : {X : Type 0} → (X → X → Bool) → List X → Type 0
 Rises lt [] = Unit {0}
 Rises lt (x ∷ xs) = AllByRecursion (λ y. lt y x ≡ false) xs × Rises lt xs
 
--- what holds at each place holds of each
-all_from_places : {X : Type 0} (P : X → Type 0) (xs : List X) → ((k : ℕ) (d : X) → k < length xs → P (get_or xs k d)) → AllByRecursion P xs
-all_from_places P [] h = tt
-all_from_places P (x ∷ xs) h = (h 0 x (omega arith), all_from_places P xs (λ k d less. h (suc k) d (omega arith)))
+-- what holds at each index holds for each member
+all_from_indexes : {X : Type 0} (P : X → Type 0) (xs : List X) → ((k : ℕ) (d : X) → k < length xs → P (get_or xs k d)) → AllByRecursion P xs
+all_from_indexes P [] h = tt
+all_from_indexes P (x ∷ xs) h = (h 0 x (omega arith), all_from_indexes P xs (λ k d less. h (suc k) d (omega arith)))
 
 tail_sorted : {X : Type 0} (lt : X → X → Bool) (x : X) (xs : List X) → IsSortedBy lt (x ∷ xs) → IsSortedBy lt xs
 tail_sorted lt x xs up = λ k d low next.
     let place : suc k + 1 ≡ suc (k + 1) = omega arith in
     rw place at (up (suc k) d (omega arith) (omega arith))
 
--- sorted by places
+-- a list that is sorted rises
 pub rises_from_sorted : {X : Type 0} (lt : X → X → Bool) → IsStrictWeakOrder lt → (xs : List X) → IsSortedBy lt xs → Rises lt xs
 rises_from_sorted lt o [] up = tt
 rises_from_sorted lt o (x ∷ xs) up = (
-  all_from_places (λ y. lt y x ≡ false) xs (λ k d less. sorted_far lt o (x ∷ xs) up 0 (suc k) d (omega arith) (omega arith)),
+  all_from_indexes (λ y. lt y x ≡ false) xs (λ k d less. sorted_far lt o (x ∷ xs) up 0 (suc k) d (omega arith) (omega arith)),
   rises_from_sorted lt o xs (tail_sorted lt x xs up),
 )
 
@@ -49,50 +49,50 @@ all-map : {X Y : Type 0} (P : Y → Type 0) (f : X → Y) (xs : List X) → AllB
 all-map P f [] all = tt
 all-map P f (x ∷ xs) all = (all.0, all-map P f xs all.1)
 
--- the members read by a function
+-- what a function reads from the members rises if the members rise by what it reads
 pub rises-map : {X Y : Type 0} (lt : Y → Y → Bool) (f : X → Y) (xs : List X) → Rises (λ x y. lt (f x) (f y)) xs → Rises lt (map f xs)
 rises-map lt f [] up = tt
 rises-map lt f (x ∷ xs) up = (all-map (λ y. lt y (f x) ≡ false) f xs up.0, rises-map lt f xs up.1)
 
 module _ {X : Type 0} {R : X → X → Ordering} (o : IsTotalOrder R) where
-  -- a member more
-  all_placed : (P : X → Type 0) (x : X) (ys : List X) → P x → AllByRecursion P ys → AllByRecursion P (placed R x ys)
-  unfolding placed
+  -- what holds for x and for each member holds for each member after x is inserted
+  all_placed : (P : X → Type 0) (x : X) (ys : List X) → P x → AllByRecursion P ys → AllByRecursion P (inserted R x ys)
+  unfolding inserted
   all_placed P x [] here all = (here, tt)
   all_placed P x (y ∷ ys) here all =
-      elim (is_lt (R y x)) as (λ b. AllByRecursion P (cond b (y ∷ placed R x ys) (x ∷ y ∷ ys))) [
+      elim (is_lt (R y x)) as (λ b. AllByRecursion P (cond b (y ∷ inserted R x ys) (x ∷ y ∷ ys))) [
         | true ↦ (all.0, all_placed P x ys here all.1)
         | false ↦ (here, all)
       ]
 
-  behind : (weak : IsStrictWeakOrder (λ x y. is_lt (R x y))) (x y : X) (ys : List X) → is_lt (R y x) ≡ false → AllByRecursion (λ z. is_lt (R z y) ≡ false) ys → AllByRecursion (λ z. is_lt (R z x) ≡ false) ys
-  behind weak x y [] h all = tt
-  behind weak x y (z ∷ zs) h all = (weak.chain z y x all.0 h, behind weak x y zs h all.1)
+  none_before : (weak : IsStrictWeakOrder (λ x y. is_lt (R x y))) (x y : X) (ys : List X) → is_lt (R y x) ≡ false → AllByRecursion (λ z. is_lt (R z y) ≡ false) ys → AllByRecursion (λ z. is_lt (R z x) ≡ false) ys
+  none_before weak x y [] h all = tt
+  none_before weak x y (z ∷ zs) h all = (weak.chain z y x all.0 h, none_before weak x y zs h all.1)
 
-  pub rises-placed : (x : X) (ys : List X) → Rises (λ x y. is_lt (R x y)) ys → Rises (λ x y. is_lt (R x y)) (placed R x ys)
-  unfolding placed
-  rises-placed x [] up = (tt, tt)
-  rises-placed x (y ∷ ys) up =
+  pub rises-inserted : (x : X) (ys : List X) → Rises (λ x y. is_lt (R x y)) ys → Rises (λ x y. is_lt (R x y)) (inserted R x ys)
+  unfolding inserted
+  rises-inserted x [] up = (tt, tt)
+  rises-inserted x (y ∷ ys) up =
       let weak = ranks_by o (λ (z : X). z) in
-      elim (is_lt (R y x)) as (λ b. is_lt (R y x) ≡ b → Rises (λ x y. is_lt (R x y)) (cond b (y ∷ placed R x ys) (x ∷ y ∷ ys))) [
-        | true ↦ λ h. (all_placed (λ z. is_lt (R z y) ≡ false) x ys (weak.one_way y x h) up.0, rises-placed x ys up.1)
-        | false ↦ λ h. ((h, behind weak x y ys h up.0), up)
+      elim (is_lt (R y x)) as (λ b. is_lt (R y x) ≡ b → Rises (λ x y. is_lt (R x y)) (cond b (y ∷ inserted R x ys) (x ∷ y ∷ ys))) [
+        | true ↦ λ h. (all_placed (λ z. is_lt (R z y) ≡ false) x ys (weak.one_way y x h) up.0, rises-inserted x ys up.1)
+        | false ↦ λ h. ((h, none_before weak x y ys h up.0), up)
       ] refl
 
   pub rises-in_order : (xs : List X) → Rises (λ x y. is_lt (R x y)) (in_order R xs)
   unfolding in_order
   rises-in_order [] = tt
-  rises-in_order (x ∷ xs) = rises-placed x (in_order R xs) (rises-in_order xs)
+  rises-in_order (x ∷ xs) = rises-inserted x (in_order R xs) (rises-in_order xs)
 
--- the same members
-pub same-placed : {X : Type 0} (R : X → X → Ordering) (x : X) (ys : List X) → IsPermutation (x ∷ ys) (placed R x ys)
-unfolding placed
-same-placed R x [] = IsPermutation-refl (x ∷ [])
-same-placed R x (y ∷ ys) =
-    elim (is_lt (R y x)) as (λ b. IsPermutation (x ∷ y ∷ ys) (cond b (y ∷ placed R x ys) (x ∷ y ∷ ys))) [
-      | true ↦ IsPermutation-trans (x ∷ y ∷ ys) (y ∷ x ∷ ys) (y ∷ placed R x ys)
+-- a list into which x is inserted has the members of the list, and x
+pub same-inserted : {X : Type 0} (R : X → X → Ordering) (x : X) (ys : List X) → IsPermutation (x ∷ ys) (inserted R x ys)
+unfolding inserted
+same-inserted R x [] = IsPermutation-refl (x ∷ [])
+same-inserted R x (y ∷ ys) =
+    elim (is_lt (R y x)) as (λ b. IsPermutation (x ∷ y ∷ ys) (cond b (y ∷ inserted R x ys) (x ∷ y ∷ ys))) [
+      | true ↦ IsPermutation-trans (x ∷ y ∷ ys) (y ∷ x ∷ ys) (y ∷ inserted R x ys)
           (IsPermutation-sym (y ∷ x ∷ ys) (x ∷ y ∷ ys) (IsPermutation-middle (y ∷ []) x ys))
-          (IsPermutation-cons y (x ∷ ys) (placed R x ys) (same-placed R x ys))
+          (IsPermutation-cons y (x ∷ ys) (inserted R x ys) (same-inserted R x ys))
       | false ↦ IsPermutation-refl (x ∷ y ∷ ys)
     ]
 
@@ -100,11 +100,11 @@ pub same-in_order : {X : Type 0} (R : X → X → Ordering) (xs : List X) → Is
 unfolding in_order
 same-in_order R [] = IsPermutation-refl []
 same-in_order R (x ∷ xs) =
-    IsPermutation-trans (x ∷ xs) (x ∷ in_order R xs) (placed R x (in_order R xs))
-    (IsPermutation-cons x xs (in_order R xs) (same-in_order R xs)) (same-placed R x (in_order R xs))
+    IsPermutation-trans (x ∷ xs) (x ∷ in_order R xs) (inserted R x (in_order R xs))
+    (IsPermutation-cons x xs (in_order R xs) (same-in_order R xs)) (same-inserted R x (in_order R xs))
 
 module _ {X : Type 0} {R : X → X → Ordering} (o : IsTotalOrder R) (exact : CmpEqualImpliesEq R) where
-  -- how often q is among them
+  -- 1 if the member is q, and else 0
   abbrev pub one : X → X → ℕ
   one q x = cond (is_eq (R q x)) 1 0
 
@@ -124,7 +124,7 @@ module _ {X : Type 0} {R : X → X → Ordering} (o : IsTotalOrder R) (exact : C
   tied Equal h = refl
   tied Greater h = cc
 
-  -- what holds of each holds of what is among them
+  -- what holds for each member holds for q if q is a member
   held : (P : X → Type 0) (q : X) (xs : List X) → AllByRecursion P xs → 0 < count q xs → P q
   held P q [] all some = absurd (omega arith)
   held P q (x ∷ xs) all some =
@@ -138,7 +138,7 @@ module _ {X : Type 0} {R : X → X → Ordering} (o : IsTotalOrder R) (exact : C
   level r Equal turned a b = turned
   level r Greater turned a b = let e : is_lt r ≡ true = ap is_lt turned in cc
 
-  -- two lists in order that have each member equally often are one
+  -- two lists that rise and have each member equally often are equal
   pub only_rising : (xs ys : List X) → Rises (λ x y. is_lt (R x y)) xs → Rises (λ x y. is_lt (R x y)) ys → ((q : X) → count q xs ≡ count q ys) → xs ≡ ys
   only_rising [] [] up too same = refl
   only_rising [] (y ∷ ys) up too same = let here = once y in let e = same y in absurd (omega arith)
@@ -152,13 +152,13 @@ module _ {X : Type 0} {R : X → X → Ordering} (o : IsTotalOrder R) (exact : C
       let at_y = same y in
       let x_there : 0 < count x (y ∷ ys) = omega arith in
       let y_there : 0 < count y (x ∷ xs) = omega arith in
-      let not_before = held (λ z. is_lt (R z y) ≡ false) x (y ∷ ys) (itself y, too.0) x_there in
-      let not_behind = held (λ z. is_lt (R z x) ≡ false) y (x ∷ xs) (itself x, up.0) y_there in
-      let first : x ≡ y = exact x y (level (R x y) (R y x) (o.antisymm x y) not_before not_behind) in
+      let not_before_y = held (λ z. is_lt (R z y) ≡ false) x (y ∷ ys) (itself y, too.0) x_there in
+      let not_before_x = held (λ z. is_lt (R z x) ≡ false) y (x ∷ xs) (itself x, up.0) y_there in
+      let first : x ≡ y = exact x y (level (R x y) (R y x) (o.antisymm x y) not_before_y not_before_x) in
       let rest = only_rising xs ys up.1 too.1 (λ q. let e = same q in let f = ap (one q) first in omega arith) in
       λ i. first i ∷ rest i
 
-  -- a sorted list of the same members is the list put in order
+  -- a list that rises and has the same members is the list put in order
   pub only_in_order : (xs ys : List X) → IsPermutation xs ys → Rises (λ x y. is_lt (R x y)) ys → ys ≡ in_order R xs
   only_in_order xs ys same up = only_rising ys (in_order R xs) up (rises-in_order o xs)
       (λ q. sym (count_is q ys) ∙ sum_by-IsPermutation (one q) xs ys same ∙ sym (sum_by-IsPermutation (one q) xs (in_order R xs) (same-in_order R xs)) ∙ count_is q (in_order R xs))

@@ -7,24 +7,19 @@ use Rattle.std.specs.Cmp.{IsTotalOrder, on_total}
 use Rattle.std.specs.List.Sorted.{IsSorted}
 use Rattle.std.specs.Ordering.{is_lt}
 use Rattle.stamp_values.specs.Order.{name_cmp, names_total, names_exact}
-use Rattle.shared_key.specs.Strings.{Pair}
-use Rattle.shared_key.specs.Runs.{pair_cmp}
+use Rattle.shared_key.specs.Parameters.{pair_of, pair_cmp}
 use Rattle.shared_key.specs.declared.query.Parameter.{Parameter}
 use Rattle.shared_key.proofs.Ordered.{Rises, rises_from_sorted, rises-map}
 
--- a parameter's name and value
-abbrev pub pair_of : Parameter → Pair
-pair_of p = (p.name.now, p.value.now)
-
--- of two pairs one comes first, or they compare alike
+-- of two pairs, one comes first or the two compare as equal
 pub pairs_total : IsTotalOrder pair_cmp
 pairs_total = then_total (on_total (λ p. p.0) names_total) (on_total (λ p. p.1) names_total)
 
--- pairs that compare alike are one
+-- pairs that compare as equal are the same pair
 pub pairs_exact : CmpEqualImpliesEq pair_cmp
 pairs_exact = exact_pairs name_cmp name_cmp names_exact names_exact
 
--- parameters that are sorted, read
+-- if parameters are sorted, their names and values rise
 pub rises_parameters : (ps : List Parameter) → IsSorted (λ p q. pair_cmp (pair_of p) (pair_of q)) ps → Rises (λ p q. is_lt (pair_cmp p q)) (map pair_of ps)
 rises_parameters ps up =
     rises-map (λ p q. is_lt (pair_cmp p q)) pair_of ps (rises_from_sorted (λ p q. is_lt (pair_cmp (pair_of p) (pair_of q))) (ranks_by pairs_total pair_of) ps up)

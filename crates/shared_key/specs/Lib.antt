@@ -1,6 +1,6 @@
 pub mod Arranged
 pub mod Authorizations
+pub mod Parameters
 pub mod Readings
 pub mod Rooms
-pub mod Runs
 pub mod Strings

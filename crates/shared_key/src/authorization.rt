@@ -2,30 +2,30 @@
 ghost use Rattle.std.specs.Prelude.{◌≡◌, ◌≢◌, ◌↔◌, ℕ, ◌≤◌, ◌+◌, ◌==◌, IfOk, Ok, List, [], ◌∷◌, length, drop, codes, Err, ◌⊎◌};
 ghost use Rattle.std.specs.List.{position_or_len, before_first};
 ghost use Rattle.shared_key.specs.Authorizations.{Claim, IsAuthorization, HasOtherScheme, HasNoClaim, unspaced, cut_claim};
-ghost use Rattle.shared_key.specs.Readings.{read_of, authorization_of};
+ghost use Rattle.shared_key.specs.Readings.{claim_or_fault, authorization_of};
 
 use stamp_values::Bytes;
 use std::marker::Model;
 use thiserror::Error;
 
-/// Why no Authorization is read.
+/// Why the header Authorization is not read.
 #[derive(Clone, Copy, Debug, PartialEq, Eq, Error)]
 pub enum HeaderFault {
-    /// The scheme is another one.
+    /// The scheme is not SharedKey.
     #[error("the scheme of the authorization is not SharedKey")]
     Scheme,
-    /// There is no account or no signature.
+    /// The header was not sent, or its value does not write an account and a signature.
     #[error("the authorization names no account or no signature")]
     Form,
     /// The header was sent more than once.
     #[error("there is more than one authorization")]
     Twice,
-    /// There was no memory. `read_authorization` never answers it.
+    /// Memory ran out. `read_authorization` takes no memory, and never answers this.
     #[error("out of memory")]
     NoMemory,
 }
 
-/// Whose key signed, and the signature, as they were sent.
+/// The account whose key signed, and the signature, as they were sent.
 #[derive(Debug, Drop)]
 pub struct Authorization<'a> {
     pub account: &'a [u8],
@@ -40,8 +40,8 @@ impl<'a> Model for Authorization<'a> {
     ghost view = { λ a. record { account = a.account.now; signature = a.signature.now } };
 }
 
-// Where a byte first stands, or the length.
-fn place(bytes: &[u8], wanted: u8) -> usize
+// The index of the first byte that is `wanted`, or the length if no byte is.
+fn position(bytes: &[u8], wanted: u8) -> usize
     ensures value { result ≡ position_or_len (λ b. b == wanted) bytes.now }
     ensures bound { result ≤ length bytes.now }
 {
@@ -53,8 +53,8 @@ fn place(bytes: &[u8], wanted: u8) -> usize
     bytes.len()
 }
 
-// What follows place `at`.
-fn behind(bytes: &[u8], at: usize) -> &[u8]
+// The bytes after index `at`.
+fn bytes_after(bytes: &[u8], at: usize) -> &[u8]
     requires { at ≤ length bytes.now }
     ensures { result.now ≡ drop (at + 1) bytes.now }
 {
@@ -78,21 +78,21 @@ fn without_spaces(bytes: &[u8]) -> &[u8]
     left
 }
 
-// The claim that stands in a text, cut at the first colon.
+// The claim that a text gives: the account comes before the first colon, and the signature comes after it.
 fn cut_claim(text: &[u8]) -> Authorization<'_>
     ensures { result ≡ cut_claim text.now }
 {
-    let colon = place(text, b':');
+    let colon = position(text, b':');
     Authorization {
         account: &text[..colon],
-        signature: behind(text, colon),
+        signature: bytes_after(text, colon),
     }
 }
 
 fn read_value(value: &[u8]) -> Result<Authorization<'_>, HeaderFault>
-    ensures { result ≡ read_of value.now }
+    ensures { result ≡ claim_or_fault value.now }
 {
-    let end = place(value, b' ');
+    let end = position(value, b' ');
     if &value[..end] != b"SharedKey".as_slice() {
         return Err(HeaderFault::Scheme);
     }
@@ -103,15 +103,16 @@ fn read_value(value: &[u8]) -> Result<Authorization<'_>, HeaderFault>
     Ok(claim)
 }
 
-/// Reads the values of the header Authorization, of which there has to be one: `SharedKey`, one or
-/// more spaces, the account, a colon, the signature. Bytes count as sent, with case. The account has
-/// no colon and begins with no space; the signature is all that follows.
+/// Reads the values of the header Authorization. There has to be one value: `SharedKey`, at least one space, the account, a
+/// colon, the signature. The bytes are taken as they were sent, and case counts. The account has no colon and does not begin
+/// with a space. The signature is all that follows the first colon.
 ///
 /// The first of these faults is answered: `Twice`, `Scheme`, `Form`.
 pub fn read_authorization(values: &[Bytes]) -> Result<Authorization<'_>, HeaderFault>
     ensures value { result ≡ authorization_of values.now }
     ensures read { IfOk result (λ claim. IsAuthorization values.now claim) }
-    ensures complete { (claim : Claim) → IsAuthorization values.now claim → result ≡ Ok claim }
+    ensures complete { (claim : Claim) → IsAuthorization values.now claim
+        → result ≡ Ok claim }
     ensures twice { (result ≡ Err HeaderFault.Twice) ↔ (2 ≤ length values.now) }
     ensures scheme { (result ≡ Err HeaderFault.Scheme) ↔ HasOtherScheme values.now }
     ensures form { (result ≡ Err HeaderFault.Form) ↔ HasNoClaim values.now }
@@ -132,7 +133,7 @@ mod tests {
 
     type Wanted = Result<(&'static str, &'static str), HeaderFault>;
 
-    // Whether this is read where each of the values was sent.
+    // Whether `wanted` is read if the values `sent` were sent.
     fn reads(rt: &impl Abort, alloc: Global, sent: &[&str], wanted: Wanted) -> bool {
         let mut values = Vec::new(alloc);
         for value in sent {

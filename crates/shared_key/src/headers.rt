@@ -1,15 +1,15 @@
 //! The headers in the string to sign.
-ghost use Rattle.std.specs.Prelude.{◌≡◌, ◌++◌, ◌∷◌, [], IfOk, OnOk, map, filter};
+ghost use Rattle.std.specs.Prelude.{◌≡◌, ◌++◌, IfOk, OnOk, map, filter};
 ghost use Rattle.std.specs.List.{flat_map};
 ghost use Rattle.std.specs.Map.Iter.{deref_pair};
 ghost use Rattle.stamp_values.specs.Fields.{standard_names};
-ghost use Rattle.shared_key.specs.Strings.{standard_value, is_ms, by_name, header_line, canonicalized_headers};
+ghost use Rattle.shared_key.specs.Strings.{standard_value, standard_lines, is_ms, by_name, header_line, canonicalized_headers};
 
 use stamp_values::{FieldList, FieldRef, STANDARD_NAMES, trimmed};
 use std::alloc::{AllocError, Global};
 use std::collections::BTreeMap;
 
-// What stands on the line of a header. The date is signed once: as `x-ms-date` where that is sent.
+// The line of a standard header. The date is signed only once: if `x-ms-date` was sent, the line of the date is empty.
 fn standard_value<'a>(headers: &'a FieldList, name: &[u8]) -> &'a [u8]
     ensures { result.now ≡ standard_value headers.now name.now }
 {
@@ -23,7 +23,8 @@ fn standard_value<'a>(headers: &'a FieldList, name: &[u8]) -> &'a [u8]
 }
 
 fn write_lines(out: &mut Vec<u8>, headers: &FieldList, names: &[&str]) -> Result<(), AllocError>
-    ensures { OnOk result (out.new.items ≡ out.old.items ++ flat_map (λ name. standard_value headers.now name ++ 10 ∷ []) (map (λ name. name.now) names.now)) }
+    ensures { OnOk result (out.new.items
+        ≡ out.old.items ++ standard_lines headers.now (map (λ name. name.now) names.now)) }
 {
     for name in names {
         out.extend_from_slice(standard_value(headers, name.as_bytes()))?;
@@ -32,10 +33,10 @@ fn write_lines(out: &mut Vec<u8>, headers: &FieldList, names: &[&str]) -> Result
     Ok(())
 }
 
-/// Puts the lines of the eleven standard headers at the end, each ended by LF, with those that were
-/// not sent empty.
+/// Puts the lines of the eleven standard headers at the end, each ended by LF. The line of a header that was not sent is empty.
 pub(crate) fn write_standard(out: &mut Vec<u8>, headers: &FieldList) -> Result<(), AllocError>
-    ensures { OnOk result (out.new.items ≡ out.old.items ++ flat_map (λ name. standard_value headers.now name ++ 10 ∷ []) standard_names) }
+    ensures { OnOk result (out.new.items
+        ≡ out.old.items ++ standard_lines headers.now standard_names) }
 {
     write_lines(out, headers, &STANDARD_NAMES)
 }
@@ -46,8 +47,8 @@ fn is_ms(header: &FieldRef<'_>) -> bool
     header.name.starts_with(b"x-ms-".as_slice())
 }
 
-// The headers of the service by their names. From the last to the first, so that of a name that
-// stands twice the first value stays.
+// The headers of the service by their names. They are inserted from the last to the first, so if a name was sent twice, its
+// first value is kept.
 fn named<'a>(
     alloc: Global,
     headers: &'a FieldList,
@@ -74,7 +75,8 @@ fn write_header(out: &mut Vec<u8>, name: &[u8], value: &[u8]) -> Result<(), Allo
 }
 
 fn write_named(out: &mut Vec<u8>, named: &BTreeMap<&[u8], &[u8]>) -> Result<(), AllocError>
-    ensures { OnOk result (out.new.items ≡ out.old.items ++ flat_map header_line (map deref_pair named.now.entries)) }
+    ensures { OnOk result (out.new.items
+        ≡ out.old.items ++ flat_map header_line (map deref_pair named.now.entries)) }
 {
     for (name, value) in named {
         write_header(out, *name, *value)?;

@@ -2,13 +2,13 @@
 ghost use Rattle.std.specs.Prelude.{◌≡◌, ◌++◌, IfOk, OnOk, Option, Some, None, map, List, ℕ};
 ghost use Rattle.shared_key.specs.Arranged.{in_order};
 ghost use Rattle.std.specs.Option.{option_map};
-ghost use Rattle.shared_key.specs.Runs.{pair_cmp, lead, written};
+ghost use Rattle.shared_key.specs.Parameters.{pairs_of, pair_cmp, text_before_value, pairs_text};
 ghost use Rattle.shared_key.specs.Strings.{field_pair, canonicalized_query};
 
 use stamp_values::FieldList;
 use std::alloc::{AllocError, Global};
 
-// A parameter. The derived order is that of the name, and then of the value.
+// A parameter. The derived order is by the name, and then by the value.
 #[derive(Debug, PartialEq, Eq, PartialOrd, Ord, Drop)]
 struct Parameter<'a> {
     name: &'a [u8],
@@ -16,7 +16,7 @@ struct Parameter<'a> {
 }
 
 fn read_parameters(alloc: Global, query: &FieldList) -> Result<Vec<Parameter<'_>>, AllocError>
-    ensures { IfOk result (λ v. map (λ p. (p.name.now, p.value.now)) v.items ≡ map field_pair query.now) }
+    ensures { IfOk result (λ v. pairs_of v.items ≡ map field_pair query.now) }
 {
     let mut parameters = Vec::with_capacity(alloc, query.len())?;
     for field in query.fields() {
@@ -28,24 +28,29 @@ fn read_parameters(alloc: Global, query: &FieldList) -> Result<Vec<Parameter<'_>
     Ok(parameters)
 }
 
-// No two parameters of one name and one value differ, so an unstable sort does, which takes no memory.
+// Two parameters with the same name and the same value are equal, so an unstable sort is enough. It takes no memory.
 fn arrange(parameters: &mut Vec<Parameter<'_>>)
-    ensures { map (λ p. (p.name.now, p.value.now)) parameters.new.items ≡ in_order pair_cmp (map (λ p. (p.name.now, p.value.now)) parameters.old.items) }
+    ensures { pairs_of parameters.new.items ≡ in_order pair_cmp (pairs_of parameters.old.items) }
 {
     parameters.sort_unstable();
 }
 
 fn arranged(alloc: Global, query: &FieldList) -> Result<Vec<Parameter<'_>>, AllocError>
-    ensures { IfOk result (λ v. map (λ p. (p.name.now, p.value.now)) v.items ≡ in_order pair_cmp (map field_pair query.now)) }
+    ensures { IfOk result (λ v. pairs_of v.items ≡ in_order pair_cmp (map field_pair query.now)) }
 {
     let mut parameters = read_parameters(alloc, query)?;
     arrange(&mut parameters);
     Ok(parameters)
 }
 
-// What stands before a value: a comma behind a parameter of the same name, else a new line.
-fn write_lead(out: &mut Vec<u8>, before: Option<&[u8]>, name: &[u8]) -> Result<(), AllocError>
-    ensures { OnOk result (out.new.items ≡ out.old.items ++ lead (option_map (λ b. b.now) before.entry) name.now) }
+// Writes what comes before a value: a comma if the parameter before it has the same name, and else a new line with the name.
+fn write_before_value(
+    out: &mut Vec<u8>,
+    before: Option<&[u8]>,
+    name: &[u8],
+) -> Result<(), AllocError>
+    ensures { OnOk result (out.new.items
+        ≡ out.old.items ++ text_before_value (option_map (λ b. b.now) before.entry) name.now) }
 {
     if let Some(before) = before
         && name == before
@@ -58,11 +63,12 @@ fn write_lead(out: &mut Vec<u8>, before: Option<&[u8]>, name: &[u8]) -> Result<(
 }
 
 fn write_arranged(out: &mut Vec<u8>, parameters: &[Parameter<'_>]) -> Result<(), AllocError>
-    ensures { OnOk result (out.new.items ≡ out.old.items ++ written None (map (λ p. (p.name.now, p.value.now)) parameters.now)) }
+    ensures { OnOk result
+        (out.new.items ≡ out.old.items ++ pairs_text None (pairs_of parameters.now)) }
 {
     let mut before: Option<&[u8]> = None;
     for parameter in parameters {
-        write_lead(out, before, parameter.name)?;
+        write_before_value(out, before, parameter.name)?;
         out.extend_from_slice(parameter.value)?;
         before = Some(parameter.name);
     }

@@ -21,7 +21,7 @@ fn fields(rt: &impl Abort, alloc: Global, pairs: Pairs) -> FieldList {
     fields
 }
 
-// What a request of the development account signs: its verb, headers, path and parameters, and the string.
+// What a request of the development account signs: its verb, its headers, its path and its parameters. Then the string.
 type Row = (Verb, Pairs, &'static str, Pairs, &'static str);
 
 const DATE: (&str, &str) = ("x-ms-date", "Mon, 01 Oct 2012 12:00:00 GMT");
@@ -51,7 +51,7 @@ fn rows() -> [Row; 7] {
             &[],
             "PUT\n\n\n5\n\n\n\n\n\n\n\n\nx-ms-blob-type:BlockBlob\nx-ms-date:Mon, 01 Oct 2012 12:00:00 GMT\nx-ms-version:2012-02-12\n/devstoreaccount1/devstoreaccount1/pics/a.txt",
         ),
-        // Each standard header has its line, and of a name that was sent twice the first value counts.
+        // Each standard header has its line. If a name was sent twice, the first value counts.
         (
             Verb::Delete,
             &[
@@ -73,7 +73,7 @@ fn rows() -> [Row; 7] {
             &[],
             "DELETE\na\nb\nc\nd\ne\nf\ng\nh\ni\nj\nk\n/devstoreaccount1/devstoreaccount1",
         ),
-        // The date is not signed where x-ms-date was sent, empty or not.
+        // The date is not signed if x-ms-date was sent, empty or not.
         (
             Verb::Head,
             &[("date", "Mon, 01 Oct 2012 12:00:00 GMT"), ("x-ms-date", "")],
@@ -81,7 +81,7 @@ fn rows() -> [Row; 7] {
             &[],
             "HEAD\n\n\n\n\n\n\n\n\n\n\n\nx-ms-date:\n/devstoreaccount1/",
         ),
-        // Own headers are sorted, and trimmed of spaces and tabs alone.
+        // The headers of the service are sorted. Their values are trimmed of spaces and tabs alone.
         (
             Verb::Get,
             &[

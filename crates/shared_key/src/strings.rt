@@ -1,7 +1,7 @@
 //! The string to sign of a request.
-ghost use Rattle.std.specs.Prelude.{◌≡◌, ◌++◌, ◌∷◌, IfOk, OnOk, min};
+ghost use Rattle.std.specs.Prelude.{◌≡◌, ◌++◌, IfOk, OnOk, min};
 ghost use Rattle.shared_key.specs.Rooms.{fields_room, room_of};
-ghost use Rattle.shared_key.specs.Strings.{key_string, verb_text, canonicalized_query};
+ghost use Rattle.shared_key.specs.Strings.{key_string, verb_text, canonicalized_resource};
 
 use crate::{headers, query};
 use stamp_values::{FieldList, Signing, Verb};
@@ -18,7 +18,7 @@ fn verb_text(verb: Verb) -> &'static str
     }
 }
 
-// The room of fields, each with a colon and a line feed, or all that a number can say.
+// The room for fields, each with a colon and a line feed, or the greatest `usize` if they need more.
 fn fields_room(fields: &FieldList) -> usize
     ensures { result ≡ min (fields_room fields.now) usize.MAX }
 {
@@ -27,7 +27,7 @@ fn fields_room(fields: &FieldList) -> usize
         .saturating_add(fields.len().saturating_mul(2))
 }
 
-// At least the length of the string, so that the string is put together in one allocation.
+// The room for the string. It is at least the length of the string, so the string is put together in one allocation.
 fn room(signing: &Signing, account: &[u8]) -> usize
     ensures { result ≡ min (room_of signing.now account.now) usize.MAX }
 {
@@ -44,7 +44,8 @@ fn write_resource(
     signing: &Signing,
     account: &[u8],
 ) -> Result<(), AllocError>
-    ensures { OnOk result (out.new.items ≡ out.old.items ++ 47 ∷ account.now ++ signing.now.path ++ canonicalized_query signing.now.query) }
+    ensures { OnOk result (out.new.items
+        ≡ out.old.items ++ canonicalized_resource signing.now account.now) }
 {
     out.push(b'/')?;
     out.extend_from_slice(account)?;
@@ -55,8 +56,8 @@ fn write_resource(
 /// The string to sign of Shared Key (Blob service REST reference, 2012-02-12, Authentication for the
 /// Azure Storage Services, versions 2009-09-19 and later).
 ///
-/// All values are bytes, and may be no text. Every header value is written without the spaces and
-/// tabs at its ends; nothing is decoded. Of a header name that was sent twice the first value counts.
+/// Values are bytes and need not be a text. Each value of a header is written without the spaces and tabs at its ends, and
+/// nothing is decoded. If a header name was sent twice, its first value counts. `AllocError` if memory runs out.
 #[tactic(auto, unfolding(crate::specs::Strings::key_string))]
 pub fn key_string(alloc: Global, signing: &Signing, account: &[u8]) -> Result<Vec<u8>, AllocError>
     ensures { IfOk result (λ string. string.items ≡ key_string signing.now account.now) }

@@ -1,4 +1,4 @@
--- Lemmas on replays: what a connection writes at one moment, and the words that ask for it.
+-- What a replay writes, and the account's name among its words.
 use Rattle.std.proofs.Common.{◌≡◌, ℕ, List, [], ◌∷◌, ◌++◌, true, map, flat_map, Option, Some, None, IfSome, OnOk, Result, Ok, Err, refl, sym, ap, ◌∙◌, subst}
 use Rattle.std.specs.Io.KnownBytes.{Appends}
 use Rattle.stamp_values.specs.Names.{is_account}
@@ -8,12 +8,12 @@ use Rattle.stamp_model.specs.Runs.{replies_to}
 use Rattle.http_front.specs.declared.end.End.{End}
 use Rattle.http_front.specs.declared.end.FrontFault.{FrontFault}
 use Rattle.http_front.specs.declared.end.FrontFault.TheVariants.{Read, Write, Turns, NoMemory}
-use Rattle.http_front.specs.Conversations.{Exchange, item_of, moment_of, bytes_of, Ticks, Replies-to, Replies, Converses, Conversed, Starved}
-use Rattle.http_front.specs.Conversations.Exchange.{Answered, Turned}
+use Rattle.http_front.specs.Conversations.{Exchange, item_of, moment_of, bytes_of, ClockGives, ServiceRepliesTo, ServiceReplies, AnswersInput, AnswersReceived, EndsOutOfMemory}
+use Rattle.http_front.specs.Conversations.Exchange.{Answered, RefusedAt}
 use Rattle.reply_form.specs.FixedReplies.{out_of_memory_bytes}
 use Rattle.request_form.specs.HeadForms.{with_body}
-use Rattle.http_front.specs.Outcomes.{Served}
-use Rattle.http_front.specs.PlainAnswers.{Held, Held-answers, held_first, held_reply}
+use Rattle.http_front.specs.Outcomes.{UnlessWriteOrMemoryFailed}
+use Rattle.http_front.specs.PlainAnswers.{Held, AnswersAsModel, held_first, held_reply}
 use Rattle.reply_form.specs.ReplyBytes.{reply_bytes}
 use Rattle.http_front.specs.Streams.{Item, Tail, Reads, interim, tail_bytes}
 use Rattle.http_front.specs.Streams.Item.{Requested, Refused}
@@ -21,7 +21,7 @@ use Rattle.http_front.proofs.Readings.{reading_of}
 use Rattle.http_front.proofs.StreamLemmas.{reads_one}
 use Rattle.request_form.proofs.TextLemmas.{account_visible, visible_clean}
 use Rattle.stamp_main.specs.declared.replay.Still.{Still}
-use Rattle.stamp_main.specs.Replays.{answer_of, held_behind, output_of, replay_output, requests_of, written_for, Is-output, Replays, Replayed, Starves}
+use Rattle.stamp_main.specs.Replays.{answer_of, held_after_item, output_of, replay_output, requests_of, written_for, IsOutput, ReplaysInput, ReplaysReceived, ReplayEndsOutOfMemory}
 
 -- an account's name has no control characters
 pub account_clean : (t : List ℕ) → is_account t ≡ true → is_clean t ≡ true
@@ -29,37 +29,37 @@ account_clean t good = visible_clean t (account_visible t good)
 
 -- ---- what is written at one moment
 
--- the clock always tells the same moment
-abbrev pub Stands : Still → ℕ → Still → Type 0
-Stands still moment new = (moment ≡ still.moment) × (new ≡ still)
+-- the clock always gives the same moment
+abbrev pub GivesSameMoment : Still → ℕ → Still → Type 0
+GivesSameMoment still moment new = (moment ≡ still.moment) × (new ≡ still)
 
 -- what is written for an item, and what is held after it
-item_step : (h h' : Held) (t : ℕ) (e : Exchange) → moment_of e ≡ t → Replies-to Held-answers h e h'
-    → (bytes_of e ≡ answer_of h t (item_of e)) × (h' ≡ held_behind h t (item_of e))
-unfolding bytes_of answer_of held_behind
+item_step : (h h' : Held) (t : ℕ) (e : Exchange) → moment_of e ≡ t → ServiceRepliesTo AnswersAsModel h e h'
+    → (bytes_of e ≡ answer_of h t (item_of e)) × (h' ≡ held_after_item h t (item_of e))
+unfolding bytes_of answer_of held_after_item
 item_step h h' t (Answered form body moment reply) told replied = (
   ap (λ r. interim form ++ reply_bytes r moment (Some form.ask.signing.verb) form.closes) replied.0
       ∙ ap (λ m. interim form ++ reply_bytes (held_reply h (with_body form body) m) m (Some form.ask.signing.verb) form.closes) told,
   rw (sym told) replied.1,
 )
-item_step h h' t (Turned denial moment) told replied = (rw told refl, replied)
+item_step h h' t (RefusedAt denial moment) told replied = (rw told refl, replied)
 
 -- what is written for the items in this order
-output_is : (h h' : Held) (c c' : Still) (es : List Exchange) → Ticks Stands c (map moment_of es) c' → Replies Held-answers h es h'
+output_is : (h h' : Held) (c c' : Still) (es : List Exchange) → ClockGives GivesSameMoment c (map moment_of es) c' → ServiceReplies AnswersAsModel h es h'
     → flat_map bytes_of es ≡ output_of h c.moment (map item_of es)
-output_is h h' c c' [] ticks replies = refl
-output_is h h' c c' (e ∷ es) ticks replies =
-    let step = item_step h replies.0 c.moment e ticks.1.0 replies.1 in
-    let rest = output_is replies.0 h' ticks.0 c' es ticks.2 replies.2 in
-    let moved : flat_map bytes_of es ≡ output_of (held_behind h c.moment (item_of e)) c.moment (map item_of es) =
-    rest ∙ ap (λ (s : Still). output_of replies.0 s.moment (map item_of es)) ticks.1.1 ∙ ap (λ g. output_of g c.moment (map item_of es)) step.1 in
+output_is h h' c c' [] told replies = refl
+output_is h h' c c' (e ∷ es) told replies =
+    let step = item_step h replies.0 c.moment e told.1.0 replies.1 in
+    let rest = output_is replies.0 h' told.0 c' es told.2 replies.2 in
+    let moved : flat_map bytes_of es ≡ output_of (held_after_item h c.moment (item_of e)) c.moment (map item_of es) =
+    rest ∙ ap (λ (s : Still). output_of replies.0 s.moment (map item_of es)) told.1.1 ∙ ap (λ g. output_of g c.moment (map item_of es)) step.1 in
     ap (λ l. l ++ flat_map bytes_of es) step.0 ∙ ap (λ l. answer_of h c.moment (item_of e) ++ l) moved
 
 module _ (keys : Keys) (t : ℕ) (c' : Still) (h' : Held) where
-  -- a connection's output is the replay's
+  -- the output of a connection is the output of the replay
   replays_of : (held held' : Option (List ℕ)) (result : Result End FrontFault) (turns : ℕ) (input : List ℕ)
-      → Converses Stands Held-answers (record { moment = t }) c' (held_first keys t) h' held held' result turns input
-      → Replays keys t held held' result turns input
+      → AnswersInput GivesSameMoment AnswersAsModel (record { moment = t }) c' (held_first keys t) h' held held' result turns input
+      → ReplaysInput keys t held held' result turns input
   unfolding replay_output
   replays_of held held' result turns input c = record {
     items = map item_of c.exchanges;
@@ -70,8 +70,8 @@ module _ (keys : Keys) (t : ℕ) (c' : Still) (h' : Held) where
   }
 
   replayed_of : (left left' held held' : Option (List ℕ)) (result : Result End FrontFault) (turns : ℕ)
-      → Conversed Stands Held-answers (record { moment = t }) c' (held_first keys t) h' left left' held held' result turns
-      → Replayed keys t left left' held held' result turns
+      → AnswersReceived GivesSameMoment AnswersAsModel (record { moment = t }) c' (held_first keys t) h' left left' held held' result turns
+      → ReplaysReceived keys t left left' held held' result turns
   replayed_of left left' held held' result turns c = record {
     received = c.received;
     consumed = c.consumed;
@@ -79,7 +79,7 @@ module _ (keys : Keys) (t : ℕ) (c' : Still) (h' : Held) where
     replays = replays_of held held' result turns c.received c.converses;
   }
 
-  served_map : {T : Type 0} (r : Result T FrontFault) (P Q : Type 0) → (P → Q) → Served r P → Served r Q
+  served_map : {T : Type 0} (r : Result T FrontFault) (P Q : Type 0) → (P → Q) → UnlessWriteOrMemoryFailed r P → UnlessWriteOrMemoryFailed r Q
   served_map (Ok x) P Q f p = f p
   served_map (Err Read) P Q f p = f p
   served_map (Err Turns) P Q f p = f p
@@ -87,8 +87,8 @@ module _ (keys : Keys) (t : ℕ) (c' : Still) (h' : Held) where
   served_map (Err NoMemory) P Q f p = p
 
   replayed_served : (left left' held held' : Option (List ℕ)) (result : Result End FrontFault) (turns : ℕ)
-      → Served result (Conversed Stands Held-answers (record { moment = t }) c' (held_first keys t) h' left left' held held' result turns)
-      → Served result (Replayed keys t left left' held held' result turns)
+      → UnlessWriteOrMemoryFailed result (AnswersReceived GivesSameMoment AnswersAsModel (record { moment = t }) c' (held_first keys t) h' left left' held held' result turns)
+      → UnlessWriteOrMemoryFailed result (ReplaysReceived keys t left left' held held' result turns)
   replayed_served left left' held held' result turns =
       served_map result _ _ (replayed_of left left' held held' result turns)
 
@@ -101,15 +101,15 @@ module _ (keys : Keys) (t : ℕ) (c' : Still) (h' : Held) where
   on_ok (Err e) P Q f p = p
 
   replays_whole : (left held held' : Option (List ℕ)) (result : Result End FrontFault) (turns : ℕ)
-      → OnOk result (IfSome left (Converses Stands Held-answers (record { moment = t }) c' (held_first keys t) h' held held' result turns))
-      → OnOk result (IfSome left (Replays keys t held held' result turns))
+      → OnOk result (IfSome left (AnswersInput GivesSameMoment AnswersAsModel (record { moment = t }) c' (held_first keys t) h' held held' result turns))
+      → OnOk result (IfSome left (ReplaysInput keys t held held' result turns))
   replays_whole left held held' result turns =
       on_ok result _ _ (if_some left _ _ (replays_of held held' result turns))
 
 -- the output of a run for which memory ran out
 starves_of : (starves : Held → Held → Type 0) (keys : Keys) (t : ℕ) (c' : Still) (h' : Held) (left left' held held' : Option (List ℕ))
-    → Starved Stands Held-answers starves (record { moment = t }) c' (held_first keys t) h' left left' held held' out_of_memory_bytes
-    → Starves keys t left left' held held'
+    → EndsOutOfMemory GivesSameMoment AnswersAsModel starves (record { moment = t }) c' (held_first keys t) h' left left' held held' out_of_memory_bytes
+    → ReplayEndsOutOfMemory keys t left left' held held'
 starves_of starves keys t c' h' left left' held held' s = record {
   received = s.received;
   consumed = s.consumed;
@@ -122,28 +122,28 @@ starves_of starves keys t c' h' left left' held held' s = record {
       (output_is (held_first keys t) s.world_then (record { moment = t }) s.clock_then s.exchanges s.moments s.replies) s.output;
 }
 
--- ---- the three clauses of a run whose service and clock are at first those of the replay
+-- ---- the three clauses of a run that begins with the service and the clock of the replay
 
 pub replayed_by : (keys : Keys) (t : ℕ) (c c' : Still) (h h' : Held) (left left' held held' : Option (List ℕ)) (result : Result End FrontFault) (turns : ℕ)
     → h ≡ held_first keys t → c ≡ record { moment = t }
-    → Served result (Conversed Stands Held-answers c c' h h' left left' held held' result turns)
-    → Served result (Replayed keys t left left' held held' result turns)
-replayed_by keys t c c' h h' left left' held held' result turns first stands conversed =
-    replayed_served keys t c' h' left left' held held' result turns (rw (first, stands) at conversed)
+    → UnlessWriteOrMemoryFailed result (AnswersReceived GivesSameMoment AnswersAsModel c c' h h' left left' held held' result turns)
+    → UnlessWriteOrMemoryFailed result (ReplaysReceived keys t left left' held held' result turns)
+replayed_by keys t c c' h h' left left' held held' result turns first is conversed =
+    replayed_served keys t c' h' left left' held held' result turns (rw (first, is) at conversed)
 
 pub whole_by : (keys : Keys) (t : ℕ) (c c' : Still) (h h' : Held) (left held held' : Option (List ℕ)) (result : Result End FrontFault) (turns : ℕ)
     → h ≡ held_first keys t → c ≡ record { moment = t }
-    → OnOk result (IfSome left (Converses Stands Held-answers c c' h h' held held' result turns))
-    → OnOk result (IfSome left (Replays keys t held held' result turns))
-whole_by keys t c c' h h' left held held' result turns first stands whole =
-    replays_whole keys t c' h' left held held' result turns (rw (first, stands) at whole)
+    → OnOk result (IfSome left (AnswersInput GivesSameMoment AnswersAsModel c c' h h' held held' result turns))
+    → OnOk result (IfSome left (ReplaysInput keys t held held' result turns))
+whole_by keys t c c' h h' left held held' result turns first is whole =
+    replays_whole keys t c' h' left held held' result turns (rw (first, is) at whole)
 
 pub starved_by : (starves : Held → Held → Type 0) (keys : Keys) (t : ℕ) (c c' : Still) (h h' : Held) (left left' held held' : Option (List ℕ))
     → h ≡ held_first keys t → c ≡ record { moment = t }
-    → Starved Stands Held-answers starves c c' h h' left left' held held' out_of_memory_bytes
-    → Starves keys t left left' held held'
-starved_by starves keys t c c' h h' left left' held held' first stands starved =
-    starves_of starves keys t c' h' left left' held held' (rw (first, stands) at starved)
+    → EndsOutOfMemory GivesSameMoment AnswersAsModel starves c c' h h' left left' held held' out_of_memory_bytes
+    → ReplayEndsOutOfMemory keys t left left' held held'
+starved_by starves keys t c c' h h' left left' held held' first is starved =
+    starves_of starves keys t c' h' left left' held held' (rw (first, is) at starved)
 
 -- ---- a replay has one output for each input
 
@@ -153,18 +153,18 @@ output_one keys t bytes items others tail other p q =
     let same = reads_one bytes items others tail other p q in
     ap (λ l. replay_output keys t l tail) same.0 ∙ ap (λ e. replay_output keys t others e) same.1
 
-pub one_output : (keys : Keys) (t : ℕ) (input output other : List ℕ) → Is-output keys t input output → Is-output keys t input other → output ≡ other
+pub one_output : (keys : Keys) (t : ℕ) (input output other : List ℕ) → IsOutput keys t input output → IsOutput keys t input other → output ≡ other
 one_output keys t input output other p q = p.3 ∙ output_one keys t input p.0 q.0 p.1 q.1 p.2 q.2 ∙ sym q.3
 
-pub some_output : (keys : Keys) (t : ℕ) (input : List ℕ) → (output : List ℕ) × Is-output keys t input output
+pub some_output : (keys : Keys) (t : ℕ) (input : List ℕ) → (output : List ℕ) × IsOutput keys t input output
 some_output keys t input = let read = reading_of input in (replay_output keys t read.0 read.1, (read.0, read.1, read.2, refl))
 
 -- ---- what is written has the replies of the model
 
 written : (h : Held) (t : ℕ) (items : List Item) → output_of h t items ≡ written_for t items (replies_to (Some h.keys) h.world (requests_of t items))
-unfolding answer_of held_behind
+unfolding answer_of held_after_item
 written h t [] = refl
-written h t (Requested form body ∷ items) = ap (λ l. answer_of h t (Requested form body) ++ l) (written (held_behind h t (Requested form body)) t items)
+written h t (Requested form body ∷ items) = ap (λ l. answer_of h t (Requested form body) ++ l) (written (held_after_item h t (Requested form body)) t items)
 written h t (Refused denial ∷ items) = ap (λ l. answer_of h t (Refused denial) ++ l) (written h t items)
 
 pub replay_output-written : (keys : Keys) (t : ℕ) (items : List Item) (tail : Tail) → replay_output keys t items tail ≡ written_for t items (replies_to (Some keys) (held_first keys t).world (requests_of t items)) ++ tail_bytes tail

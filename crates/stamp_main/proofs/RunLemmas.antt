@@ -1,59 +1,59 @@
--- Lemmas on what the program's words ask for, and on what was done for them.
+-- What the program's words ask for, and what was done for these words.
 use Rattle.std.proofs.Common.{◌≡◌, ◌≢◌, ◌⊎◌, ◌≤◌, ℕ, List, [], ◌∷◌, length, Option, IfSome, IsTrue, IsFalse, inl, inr, codes, refl, sym, ◌∙◌}
 use Rattle.std.specs.Io.KnownBytes.{IsAtEnd}
 use Rattle.hmac_sign.specs.Signature.{base64_of}
 use Rattle.stamp_main.specs.declared.ending.Ending.{Ending}
 use Rattle.stamp_main.specs.declared.ending.Ending.TheVariants.{Done, Usage, ReadFault, WriteFault, TurnsUsedUp, NoMemory}
 use Rattle.stamp_main.specs.Ending.{has_written, is_answered, is_fault}
-use Rattle.stamp_main.specs.Replays.{Is-replay, Has-replayed, Has-starved, replay_line, turn_limit}
-use Rattle.stamp_main.specs.Runs.{Is-asked, Outcome}
-use Rattle.stamp_main.specs.Signing.{Is-sign, Has-signed, sign_line}
+use Rattle.stamp_main.specs.Replays.{IsReplay, HasReplayed, HasEndedOutOfMemory, replay_line, turn_limit}
+use Rattle.stamp_main.specs.Runs.{IsSignOrReplay, Outcome}
+use Rattle.stamp_main.specs.Signing.{IsSign, HasSigned, sign_line}
 
 -- ---- what the words ask for
 
 -- words of `sign` whose key is bad ask for nothing
-unasked_sign : (words : List (List ℕ)) (text : List ℕ) → words ≡ sign_line text → ¬ Is-sign words → ¬ Is-asked words
+unasked_sign : (words : List (List ℕ)) (text : List ℕ) → words ≡ sign_line text → ¬ IsSign words → ¬ IsSignOrReplay words
 unasked_sign words text same none (inl asked) = none asked
 unasked_sign words text same none (inr (time, keys, asked)) = let both = sym same ∙ asked.line in absurd (cc)
 
 -- words of `replay` that are bad ask for nothing
 unasked_replay : (words : List (List ℕ)) (moment account first second : List ℕ) → words ≡ replay_line moment account first second
-    → ¬ Is-replay words → ¬ Is-asked words
+    → ¬ IsReplay words → ¬ IsSignOrReplay words
 unasked_replay words moment account first second same none (inl (key, asked)) = let both = sym same ∙ asked.1 in absurd (cc)
 unasked_replay words moment account first second same none (inr asked) = none asked
 
 -- words of `serve` ask for nothing yet
 pub unasked_serve : (words : List (List ℕ)) (address workers account first second : List ℕ)
-    → words ≡ codes "serve" ∷ address ∷ workers ∷ account ∷ first ∷ second ∷ [] → ¬ Is-asked words
+    → words ≡ codes "serve" ∷ address ∷ workers ∷ account ∷ first ∷ second ∷ [] → ¬ IsSignOrReplay words
 unasked_serve words address workers account first second same (inl (key, asked)) =
     let both = sym same ∙ asked.1 in absurd (cc)
 unasked_serve words address workers account first second same (inr (time, keys, asked)) =
     let both = sym same ∙ asked.line in absurd (cc)
 
--- words that are not a command's ask for nothing
+-- words that are not the words of a command ask for nothing
 pub unasked_none : (words : List (List ℕ)) → ((text : List ℕ) → sign_line text ≢ words)
-    → ((moment account first second : List ℕ) → replay_line moment account first second ≢ words) → ¬ Is-asked words
+    → ((moment account first second : List ℕ) → replay_line moment account first second ≢ words) → ¬ IsSignOrReplay words
 unasked_none words sign replay (inl (key, asked)) = sign (base64_of key) (sym asked.1)
 unasked_none words sign replay (inr (time, keys, asked)) =
     replay asked.moment keys.account (base64_of keys.first) (base64_of keys.second) (sym asked.line)
 
--- ---- what was done for them
+-- ---- what was done for the words
 
 module _ {R W : Type 0} (remaining : R → Option (List ℕ)) (contents : W → Option (List ℕ)) (words : List (List ℕ)) (reader reader' : R) (writer writer' : W) where
   -- memory ran out before or while an input was signed
-  sign_starved : (reader' ≡ reader) ⊎ Is-sign words → writer' ≡ writer → Outcome remaining contents words reader reader' writer writer' NoMemory
+  sign_starved : (reader' ≡ reader) ⊎ IsSign words → writer' ≡ writer → Outcome remaining contents words reader reader' writer writer' NoMemory
   sign_starved (inl unread) unwritten = inl (unread, unwritten)
   sign_starved (inr asked) unwritten = inr (inl (asked, unwritten))
 
-  -- the outcome for words of `sign` follows from what `run_sign` promises
+  -- the outcome for words of `sign` follows from the clauses of `run_sign`
   pub sign_outcome : (text : List ℕ) (ending : Ending) → words ≡ sign_line text
-      → (ending ≡ Done → Has-signed words (remaining reader) (contents writer) (contents writer'))
+      → (ending ≡ Done → HasSigned words (remaining reader) (contents writer) (contents writer'))
       → (IsFalse (has_written ending) → writer' ≡ writer)
       → (IsTrue (has_written ending) → IsAtEnd (remaining reader'))
       → (ending ≡ TurnsUsedUp → IfSome (remaining reader) (λ input. turn_limit ≤ length input))
-      → (IsTrue (is_fault ending) → Is-sign words)
-      → (ending ≡ NoMemory → (reader' ≡ reader) ⊎ Is-sign words)
-      → (ending ≡ Usage → ¬ Is-sign words)
+      → (IsTrue (is_fault ending) → IsSign words)
+      → (ending ≡ NoMemory → (reader' ≡ reader) ⊎ IsSign words)
+      → (ending ≡ Usage → ¬ IsSign words)
       → (ending ≡ Usage → reader' ≡ reader)
       → Outcome remaining contents words reader reader' writer writer' ending
   sign_outcome text Done same signed unwritten ended used_up asked starved refused unread = inl (signed refl, ended refl)
@@ -65,18 +65,18 @@ module _ {R W : Type 0} (remaining : R → Option (List ℕ)) (contents : W → 
   sign_outcome text NoMemory same signed unwritten ended used_up asked starved refused unread = sign_starved (starved refl) (unwritten refl)
 
   -- memory ran out before or while an input was replayed
-  replay_starved : ((reader' ≡ reader) × (writer' ≡ writer)) ⊎ Has-starved words (remaining reader) (remaining reader') (contents writer) (contents writer')
+  replay_starved : ((reader' ≡ reader) × (writer' ≡ writer)) ⊎ HasEndedOutOfMemory words (remaining reader) (remaining reader') (contents writer) (contents writer')
       → Outcome remaining contents words reader reader' writer writer' NoMemory
   replay_starved (inl untouched) = inl untouched
   replay_starved (inr starved) = inr (inr starved)
 
-  -- the outcome for words of `replay` follows from what `run_replay` promises
+  -- the outcome for words of `replay` follows from the clauses of `run_replay`
   pub replay_outcome : (moment account first second : List ℕ) (ending : Ending) → words ≡ replay_line moment account first second
-      → (IsTrue (is_answered ending) → Has-replayed words ending (remaining reader) (remaining reader') (contents writer) (contents writer'))
+      → (IsTrue (is_answered ending) → HasReplayed words ending (remaining reader) (remaining reader') (contents writer) (contents writer'))
       → (ending ≡ NoMemory → ((reader' ≡ reader) × (writer' ≡ writer))
-      ⊎ Has-starved words (remaining reader) (remaining reader') (contents writer) (contents writer'))
-      → (ending ≡ WriteFault → Is-replay words)
-      → (ending ≡ Usage → ¬ Is-replay words)
+      ⊎ HasEndedOutOfMemory words (remaining reader) (remaining reader') (contents writer) (contents writer'))
+      → (ending ≡ WriteFault → IsReplay words)
+      → (ending ≡ Usage → ¬ IsReplay words)
       → (ending ≡ Usage → (reader' ≡ reader) × (writer' ≡ writer))
       → Outcome remaining contents words reader reader' writer writer' ending
   replay_outcome moment account first second Done same replayed starved asked refused untouched = inr (replayed refl)

@@ -1,4 +1,4 @@
--- The commands as they are written (this product's own choice).
+-- The words of commands (this product's own choice).
 use Rattle.std.specs.Prelude.{ℕ, List, [], ◌∷◌, map, codes, string_bytes, String}
 use Rattle.std.specs.declared.alloc.Global.{Global}
 use Rattle.stamp_main.specs.declared.command.Command.{Command}

@@ -22,7 +22,7 @@ run_ending (Err faults.Write) = WriteFault
 run_ending (Err faults.Turns) = TurnsUsedUp
 run_ending (Err faults.NoMemory) = NoMemory
 
--- the run came as far as writing: it ended well, or at a write that failed
+-- the run came as far as writing: it ended well, or it ended at a write that failed
 abbrev pub has_written : Ending → Bool
 has_written Done = true
 has_written Usage = false
@@ -31,7 +31,7 @@ has_written WriteFault = true
 has_written TurnsUsedUp = false
 has_written NoMemory = false
 
--- the run began, and was broken off by the reader, the writer or the number of reads
+-- the run began, and it was broken off by the reader, the writer or the number of reads
 abbrev pub is_fault : Ending → Bool
 is_fault Done = false
 is_fault Usage = false
@@ -40,7 +40,7 @@ is_fault WriteFault = true
 is_fault TurnsUsedUp = true
 is_fault NoMemory = false
 
--- what the run took is answered: no write failed, and memory did not run out
+-- what the run took is answered: the run began, no write failed, and memory did not run out
 abbrev pub is_answered : Ending → Bool
 is_answered Done = true
 is_answered Usage = false

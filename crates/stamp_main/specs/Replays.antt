@@ -1,4 +1,4 @@
--- What `stamp replay` writes: the answers to its input in order, as the model says, by a clock that always tells the same moment
+-- What `stamp replay` writes: the answers to its input in order, as the model says, by a clock that always gives the same moment
 -- (Blob service REST reference, 2012-02-12; RFC 9112, section 9.3).
 use Rattle.std.specs.Prelude.{◌≡◌, ℕ, ◌*◌, ◌≤◌, List, [], ◌∷◌, ◌++◌, length, true, Option, Some, IfSome, OnOk, Result, Ok, codes}
 use Rattle.std.specs.Io.KnownBytes.{Consumes, Appends}
@@ -11,12 +11,13 @@ use Rattle.access_rules.specs.declared.keys.Keys.{Keys}
 use Rattle.stamp_model.specs.Runs.{Timed}
 use Rattle.http_front.specs.declared.end.End.{End}
 use Rattle.http_front.specs.declared.end.FrontFault.{FrontFault}
-use Rattle.http_front.specs.Conversations.{Begun, EndsAs}
+use Rattle.http_front.specs.Conversations.{IsInterimOrNothing, EndsAs}
+use Rattle.http_front.specs.Inputs.{read_size}
 use Rattle.reply_form.specs.FixedReplies.{out_of_memory_bytes}
 use Rattle.request_form.specs.HeadForms.{with_body}
 use Rattle.http_front.specs.PlainAnswers.{Held, held_first, held_reply, held_after}
 use Rattle.reply_form.specs.ReplyBytes.{reply_bytes}
-use Rattle.http_front.specs.Streams.{Item, Tail, Reads, Reads-front, interim, tail_bytes, refusal_of}
+use Rattle.http_front.specs.Streams.{Item, Tail, Reads, ReadsFront, interim, tail_bytes, refusal_of}
 use Rattle.http_front.specs.Streams.Item.{Requested, Refused}
 use Rattle.stamp_main.specs.declared.ending.Ending.{Ending}
 use Rattle.stamp_main.specs.Ending.{run_ending}
@@ -25,27 +26,27 @@ use Rattle.stamp_main.specs.Ending.{run_ending}
 abbrev pub keys_of : List ℕ → List ℕ → List ℕ → Keys
 keys_of account first second = record { account = account; first = first; second = second; epoch = 0 }
 
--- what is written for an item that is answered at the moment: the interim reply, if a request asks for it, and then the reply
+-- what is written for an item that is answered at the moment: the interim reply if a request asks for it, and then the reply
 unfoldable pub answer_of : Held → ℕ → Item → List ℕ
 answer_of h t (Requested form body) =
     interim form ++ reply_bytes (held_reply h (with_body form body) t) t (Some form.ask.signing.verb) form.closes
 answer_of h t (Refused denial) = reply_bytes (denied (refusal_of denial)) t denial.verb true
 
 -- what is held after an item; a head that is refused changes nothing
-unfoldable pub held_behind : Held → ℕ → Item → Held
-held_behind h t (Requested form body) = held_after h (with_body form body) t
-held_behind h t (Refused denial) = h
+unfoldable pub held_after_item : Held → ℕ → Item → Held
+held_after_item h t (Requested form body) = held_after h (with_body form body) t
+held_after_item h t (Refused denial) = h
 
--- what is written for items in this order, each answered at the moment
+-- what is written for items in this order, each item answered at the moment
 abbrev pub output_of : Held → ℕ → List Item → List ℕ
 output_of h t [] = []
-output_of h t (item ∷ items) = answer_of h t item ++ output_of (held_behind h t item) t items
+output_of h t (item ∷ items) = answer_of h t item ++ output_of (held_after_item h t item) t items
 
--- what a replay writes for a stream of these items that stops so
+-- what a replay writes for a stream that has these items and stops in this way
 unfoldable pub replay_output : Keys → ℕ → List Item → Tail → List ℕ
 replay_output keys t items tail = output_of (held_first keys t) t items ++ tail_bytes tail
 
--- the requests among items in this order, each at the moment
+-- the requests among items in this order, each request at the moment
 abbrev pub requests_of : ℕ → List Item → List Timed
 requests_of t [] = []
 requests_of t (Requested form body ∷ items) = record { request = with_body form body; moment = t } ∷ requests_of t items
@@ -60,42 +61,42 @@ written_for t (Requested form body ∷ items) (r ∷ replies) =
 written_for t (Refused denial ∷ items) replies = reply_bytes (denied (refusal_of denial)) t denial.verb true ++ written_for t items replies
 
 -- what a replay writes for an input: what it writes for the items of the input
-abbrev pub Is-output : Keys → ℕ → List ℕ → List ℕ → Type 0
-Is-output keys t input output = (items : List Item) × (tail : Tail) × Reads input items tail × (output ≡ replay_output keys t items tail)
+abbrev pub IsOutput : Keys → ℕ → List ℕ → List ℕ → Type 0
+IsOutput keys t input output = (items : List Item) × (tail : Tail) × Reads input items tail × (output ≡ replay_output keys t items tail)
 
--- What was written is the input's output, and the run ended as the input does.
-pub record Replays (keys : Keys) (moment : ℕ) (held held' : Option (List ℕ)) (result : Result End FrontFault) (turns : ℕ) (input : List ℕ) : Type 0 where
+-- What was written is the output for the input, and the run ended as the input stops.
+pub record ReplaysInput (keys : Keys) (moment : ℕ) (held held' : Option (List ℕ)) (result : Result End FrontFault) (turns : ℕ) (input : List ℕ) : Type 0 where
   pub items : List Item
   pub tail : Tail
   pub reads : Reads input items tail
   pub output : Appends held held' (replay_output keys moment items tail)
   pub ends : EndsAs result tail turns (length input)
 
--- `Replays` holds of the bytes that the run took, and they are at most 8,192 for each turn.
-pub record Replayed (keys : Keys) (moment : ℕ) (left left' held held' : Option (List ℕ)) (result : Result End FrontFault) (turns : ℕ) : Type 0 where
+-- `ReplaysInput` holds of the bytes that the run took, and these bytes are at most 8,192 for each turn.
+pub record ReplaysReceived (keys : Keys) (moment : ℕ) (left left' held held' : Option (List ℕ)) (result : Result End FrontFault) (turns : ℕ) : Type 0 where
   pub received : List ℕ
   pub consumed : Consumes left left' received
-  pub within : length received ≤ turns * 8192
-  pub replays : Replays keys moment held held' result turns received
+  pub within : length received ≤ turns * read_size
+  pub replays : ReplaysInput keys moment held held' result turns received
 
--- Memory ran out. The bytes that were taken begin with items that were answered in full. After their output come the bytes that
--- were written before the answer to the next item, and then the bytes that say that memory ran out.
-pub record Starves (keys : Keys) (moment : ℕ) (left left' held held' : Option (List ℕ)) : Type 0 where
+-- Memory ran out. The bytes that were taken begin with items that were answered in full. After the output for these items come
+-- the bytes that were written before the answer to the next item, and then the bytes that say that memory ran out.
+pub record ReplayEndsOutOfMemory (keys : Keys) (moment : ℕ) (left left' held held' : Option (List ℕ)) : Type 0 where
   pub received : List ℕ
   pub consumed : Consumes left left' received
   pub items : List Item
   pub rest : List ℕ
-  pub reads : Reads-front received items rest
+  pub reads : ReadsFront received items rest
   pub begun : List ℕ
-  pub begun_is : Begun rest begun
+  pub begun_is : IsInterimOrNothing rest begun
   pub output : Appends held held' ((output_of (held_first keys moment) moment items ++ begun) ++ out_of_memory_bytes)
 
 -- the words of a replay
 abbrev pub replay_line : List ℕ → List ℕ → List ℕ → List ℕ → List (List ℕ)
 replay_line moment account first second = codes "replay" ∷ moment ∷ account ∷ first ∷ second ∷ []
 
--- the words ask for a replay at the time, by the keys
-pub record Asks-replay (words : List (List ℕ)) (time : ℕ) (keys : Keys) : Type 0 where
+-- the words ask for a replay at the time, by the account's keys
+pub record AsksForReplay (words : List (List ℕ)) (time : ℕ) (keys : Keys) : Type 0 where
   pub moment : List ℕ
   pub line : words ≡ replay_line moment keys.account (base64_of keys.first) (base64_of keys.second)
   pub told : iso_moment moment ≡ Ok time
@@ -105,19 +106,20 @@ pub record Asks-replay (words : List (List ℕ)) (time : ℕ) (keys : Keys) : Ty
   pub unreplaced : keys.epoch ≡ 0
 
 -- the words ask for a replay
-abbrev pub Is-replay : List (List ℕ) → Type 0
-Is-replay words = (time : ℕ) × (keys : Keys) × Asks-replay words time keys
+abbrev pub IsReplay : List (List ℕ) → Type 0
+IsReplay words = (time : ℕ) × (keys : Keys) × AsksForReplay words time keys
 
 -- the most reads that the program makes of its input
 abbrev pub turn_limit : ℕ
 turn_limit = 4294967296
 
--- the words asked for a replay, which ended so: what was read is answered, and is the whole input if the replay ended well
-abbrev pub Has-replayed : List (List ℕ) → Ending → Option (List ℕ) → Option (List ℕ) → Option (List ℕ) → Option (List ℕ) → Type 0
-Has-replayed words ending left left' held held' =
-    (time : ℕ) × (keys : Keys) × Asks-replay words time keys × (result : Result End FrontFault) × (ending ≡ run_ending result)
-    × Replayed keys time left left' held held' result turn_limit × OnOk result (IfSome left (Replays keys time held held' result turn_limit))
+-- the words asked for a replay, which ended in this way: what was read is answered, and it is the whole input if the replay ended
+-- well
+abbrev pub HasReplayed : List (List ℕ) → Ending → Option (List ℕ) → Option (List ℕ) → Option (List ℕ) → Option (List ℕ) → Type 0
+HasReplayed words ending left left' held held' =
+    (time : ℕ) × (keys : Keys) × AsksForReplay words time keys × (result : Result End FrontFault) × (ending ≡ run_ending result)
+    × ReplaysReceived keys time left left' held held' result turn_limit × OnOk result (IfSome left (ReplaysInput keys time held held' result turn_limit))
 
 -- the words asked for a replay, and memory ran out while it was made
-abbrev pub Has-starved : List (List ℕ) → Option (List ℕ) → Option (List ℕ) → Option (List ℕ) → Option (List ℕ) → Type 0
-Has-starved words left left' held held' = (time : ℕ) × (keys : Keys) × Asks-replay words time keys × Starves keys time left left' held held'
+abbrev pub HasEndedOutOfMemory : List (List ℕ) → Option (List ℕ) → Option (List ℕ) → Option (List ℕ) → Option (List ℕ) → Type 0
+HasEndedOutOfMemory words left left' held held' = (time : ℕ) × (keys : Keys) × AsksForReplay words time keys × ReplayEndsOutOfMemory keys time left left' held held'

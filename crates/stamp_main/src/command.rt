@@ -6,7 +6,7 @@ ghost use Rattle.stamp_main.specs.declared.command.Command.{Command};
 /// A command and its words, as they were given. Whether a word is a key, a moment or an address is not tested here.
 /// It has no `Debug`, so that no text of a key is printed.
 #[derive(Clone, Copy, PartialEq, Eq)]
-pub enum Command<'a> {
+pub(crate) enum Command<'a> {
     /// `sign KEY`: write the signature of standard input under the key.
     Sign {
         key: &'a str,
@@ -29,9 +29,10 @@ pub enum Command<'a> {
 }
 
 /// Reads the command that the words give. The program's name is not among the words.
-pub fn read_command(words: &[String]) -> Option<Command<'_>>
+pub(crate) fn read_command(words: &[String]) -> Option<Command<'_>>
     ensures read { IfSome result (λ command. words_of command ≡ texts_of words.now) }
-    ensures refused { IfNone result ((command : Command) → words_of command ≢ texts_of words.now) }
+    ensures refused { IfNone result
+        ((command : Command) → words_of command ≢ texts_of words.now) }
 {
     match words {
         [verb, key] => {

@@ -6,7 +6,7 @@ use http_front::FrontFault;
 
 /// How the program ended.
 #[derive(Clone, Copy, Debug, PartialEq, Eq)]
-pub enum Ending {
+pub(crate) enum Ending {
     /// The command was carried out to its end.
     Done,
     /// The words were not a command.
@@ -22,8 +22,8 @@ pub enum Ending {
 }
 
 impl Ending {
-    /// The exit status that whoever started the process sees.
-    pub fn status(self) -> u8
+    /// The exit status of the process.
+    pub(crate) fn status(self) -> u8
         ensures { result ≡ ending_status self }
     {
         match self {
@@ -36,7 +36,7 @@ impl Ending {
 }
 
 /// How a run over a reader and a writer ends the program, whatever value the run gives if it ended well.
-pub fn status_of<T>(run: &Result<T, FrontFault>) -> Ending
+pub(crate) fn status_of<T>(run: &Result<T, FrontFault>) -> Ending
     ensures { result ≡ run_ending run.now }
 {
     match run {

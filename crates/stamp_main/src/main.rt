@@ -62,11 +62,11 @@ fn read_words(rt: &(impl Env + AllocGlobal)) -> Result<Vec<String>, Ending>
 /// Carries out the command that the words give, and returns how it ended. It is known what was written at every ending except a
 /// failed write.
 ///
-/// Two commands are built. The words of `serve` are answered like words that are not a command, and nothing is read or written
-/// then.
+/// Two commands are built. The words of `serve` are answered like words that are not a command, and nothing is read or written.
 #[tactic(auto, using(crate::proofs::RunLemmas::sign_outcome, crate::proofs::RunLemmas::replay_outcome, crate::proofs::RunLemmas::unasked_serve))]
 fn run<R: Read, W: Write>(alloc: Global, words: &[String], reader: &mut R, writer: &mut W) -> Ending
-    ensures outcome { Outcome R.remaining W.contents (texts_of words.now) reader.old reader.new writer.old writer.new result }
+    ensures outcome { Outcome R.remaining W.contents (texts_of words.now)
+        reader.old reader.new writer.old writer.new result }
 {
     match read_command(words) {
         Some(Command::Sign { key }) => run_sign(alloc, reader, writer, key),
@@ -86,7 +86,7 @@ fn run<R: Read, W: Write>(alloc: Global, words: &[String], reader: &mut R, write
     }
 }
 
-/// Writes the usage line. If that fails, only the exit status tells of the wrong usage.
+/// Writes the usage line. If that fails, only the exit status says that the usage was wrong.
 fn show_usage(rt: &impl Eprint) {
     let _ = rt.eprintln(USAGE);
 }

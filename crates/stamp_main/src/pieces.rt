@@ -5,9 +5,9 @@ use std::io::{ErrorKind, Read, Write};
 /// Gives at most `most` bytes at a read, and fails after `reads` reads.
 #[derive(Drop)]
 pub(crate) struct Pieces<'a> {
-    pub rest: &'a [u8],
-    pub most: usize,
-    pub reads: u64,
+    pub(crate) rest: &'a [u8],
+    pub(crate) most: usize,
+    pub(crate) reads: u64,
 }
 
 impl Read for Pieces<'_> {
@@ -24,7 +24,7 @@ impl Read for Pieces<'_> {
 /// Takes bytes or refuses them, and fails at each flush.
 #[derive(Drop)]
 pub(crate) struct Stuck {
-    pub takes: bool,
+    pub(crate) takes: bool,
 }
 
 impl Write for Stuck {

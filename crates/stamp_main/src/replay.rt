@@ -1,11 +1,12 @@
 //! `stamp replay`: one connection over a whole input, answered at one moment.
 ghost use Rattle.std.specs.Prelude.{◌≡◌, ◌⊎◌, Err, OnOk, IfSome, IsTrue};
 ghost use Rattle.stamp_values.specs.Names.{is_account};
-ghost use Rattle.http_front.specs.Outcomes.{Served};
+ghost use Rattle.http_front.specs.Outcomes.{UnlessWriteOrMemoryFailed};
 ghost use Rattle.http_front.specs.declared.end.FrontFault.TheVariants as faults;
 ghost use Rattle.stamp_main.specs.declared.ending.Ending.TheVariants.{Usage, WriteFault, NoMemory};
 ghost use Rattle.stamp_main.specs.Ending.{is_answered};
-ghost use Rattle.stamp_main.specs.Replays.{Has-replayed, Has-starved, Is-replay, Replays, Replayed, Starves, keys_of, replay_line};
+ghost use Rattle.stamp_main.specs.Replays.{HasReplayed, HasEndedOutOfMemory, IsReplay, ReplaysReceived, ReplaysInput};
+ghost use Rattle.stamp_main.specs.Replays.{ReplayEndsOutOfMemory, keys_of, replay_line};
 
 use crate::TURNS;
 use crate::ending::{Ending, status_of};
@@ -17,10 +18,10 @@ use stamp_types::{Moment, Text};
 use std::alloc::Global;
 use std::io::{Read, Write};
 
-/// A clock that always tells the same moment.
+/// A clock that always gives the same moment.
 #[derive(Drop)]
-pub struct Still {
-    pub moment: Moment,
+pub(crate) struct Still {
+    pub(crate) moment: Moment,
 }
 
 impl Clock for Still {
@@ -36,7 +37,7 @@ impl Clock for Still {
 ///
 /// If memory runs out for that container, nothing is read or written.
 #[tactic(auto, using(crate::proofs::ReplayLemmas::replayed_by, crate::proofs::ReplayLemmas::whole_by, crate::proofs::ReplayLemmas::starved_by))]
-pub fn replay_on<R: Read, W: Write>(
+pub(crate) fn replay_on<R: Read, W: Write>(
     alloc: Global,
     reader: &mut R,
     writer: &mut W,
@@ -48,14 +49,20 @@ pub fn replay_on<R: Read, W: Write>(
 ) -> Result<End, FrontFault>
     requires { IsTrue (is_account account) }
     // What is written is a function of the bytes that were read, the moment, the account and the keys.
-    ensures replayed { Served result (Replayed (keys_of account first second) moment (R.remaining reader.old) (R.remaining reader.new)
+    ensures replayed { UnlessWriteOrMemoryFailed result (ReplaysReceived
+        (keys_of account first second) moment
+        (R.remaining reader.old) (R.remaining reader.new)
         (W.contents writer.old) (W.contents writer.new) result turns) }
-    // These bytes are the whole input, however reads cut that input.
-    ensures whole { OnOk result (IfSome (R.remaining reader.old) (Replays (keys_of account first second) moment
+    // These bytes are the whole input, however the input was cut into reads.
+    ensures whole { OnOk result (IfSome (R.remaining reader.old) (ReplaysInput
+        (keys_of account first second) moment
         (W.contents writer.old) (W.contents writer.new) result turns)) }
-    // If memory ran out, the items before that are answered in full, and the last bytes say only that memory ran out.
-    ensures starved { result ≡ Err faults.NoMemory → ((reader.new ≡ reader.old) × (writer.new ≡ writer.old))
-        ⊎ Starves (keys_of account first second) moment (R.remaining reader.old) (R.remaining reader.new)
+    // If memory ran out, nothing was read or written, or the items before are answered in full and the last bytes say only that
+    // memory ran out.
+    ensures starved { result ≡ Err faults.NoMemory →
+        ((reader.new ≡ reader.old) × (writer.new ≡ writer.old))
+        ⊎ ReplayEndsOutOfMemory (keys_of account first second) moment
+        (R.remaining reader.old) (R.remaining reader.new)
         (W.contents writer.old) (W.contents writer.new) }
 {
     let keys = Keys {
@@ -83,9 +90,9 @@ pub fn replay_on<R: Read, W: Write>(
 /// Carries out `stamp replay MOMENT ACCOUNT KEY1 KEY2`: answers the whole input as one connection, at the moment and by the keys
 /// that these words give.
 ///
-/// If a word is bad, it is answered as wrong usage, and nothing is read or written then. It is known what was written at every
-/// ending except a failed write.
-pub fn run_replay<R: Read, W: Write>(
+/// If a word is bad, the ending is `Usage`, and nothing is read or written. It is known what was written at every ending except
+/// a failed write.
+pub(crate) fn run_replay<R: Read, W: Write>(
     alloc: Global,
     reader: &mut R,
     writer: &mut W,
@@ -94,14 +101,21 @@ pub fn run_replay<R: Read, W: Write>(
     first: &str,
     second: &str,
 ) -> Ending
-    ensures replayed { IsTrue (is_answered result) → Has-replayed (replay_line moment.now account.now first.now second.now) result
-        (R.remaining reader.old) (R.remaining reader.new) (W.contents writer.old) (W.contents writer.new) }
-    ensures starved { result ≡ NoMemory → ((reader.new ≡ reader.old) × (writer.new ≡ writer.old))
-        ⊎ Has-starved (replay_line moment.now account.now first.now second.now)
-        (R.remaining reader.old) (R.remaining reader.new) (W.contents writer.old) (W.contents writer.new) }
-    ensures asked { result ≡ WriteFault → Is-replay (replay_line moment.now account.now first.now second.now) }
-    ensures refused { result ≡ Usage → ¬ Is-replay (replay_line moment.now account.now first.now second.now) }
-    ensures untouched { result ≡ Usage → (reader.new ≡ reader.old) × (writer.new ≡ writer.old) }
+    ensures replayed { IsTrue (is_answered result) →
+        HasReplayed (replay_line moment.now account.now first.now second.now) result
+        (R.remaining reader.old) (R.remaining reader.new)
+        (W.contents writer.old) (W.contents writer.new) }
+    ensures starved { result ≡ NoMemory →
+        ((reader.new ≡ reader.old) × (writer.new ≡ writer.old))
+        ⊎ HasEndedOutOfMemory (replay_line moment.now account.now first.now second.now)
+        (R.remaining reader.old) (R.remaining reader.new)
+        (W.contents writer.old) (W.contents writer.new) }
+    ensures asked { result ≡ WriteFault →
+        IsReplay (replay_line moment.now account.now first.now second.now) }
+    ensures refused { result ≡ Usage →
+        ¬ IsReplay (replay_line moment.now account.now first.now second.now) }
+    ensures untouched { result ≡ Usage →
+        (reader.new ≡ reader.old) × (writer.new ≡ writer.old) }
 {
     match read_asked(alloc, moment, account, first, second) {
         Ok(

@@ -4,16 +4,22 @@ ghost use Rattle.access_rules.specs.declared.keys.Keys.{Keys};
 ghost use Rattle.stamp_model.specs.Runs.{replies_to};
 ghost use Rattle.http_front.specs.PlainAnswers.{held_first};
 ghost use Rattle.http_front.specs.Streams.{Item, Tail, tail_bytes};
-ghost use Rattle.stamp_main.specs.Replays.{Is-output, replay_output, requests_of, written_for};
+ghost use Rattle.stamp_main.specs.Replays.{IsOutput, replay_output, requests_of, written_for};
 
-/// A replay has one output for each input, and no other.
-pub fn an_input_has_one_output()
-    ensures some { (keys : Keys) (time : ℕ) (input : List ℕ) → (output : List ℕ) × Is-output keys time input output }
-    ensures once { (keys : Keys) (time : ℕ) (input output other : List ℕ) → Is-output keys time input output → Is-output keys time input other → output ≡ other }
+/// A replay has exactly one output for each input.
+pub(crate) fn an_input_has_one_output()
+    ensures some { (keys : Keys) (time : ℕ) (input : List ℕ) →
+        (output : List ℕ) × IsOutput keys time input output }
+    ensures once { (keys : Keys) (time : ℕ) (input output other : List ℕ) →
+        IsOutput keys time input output → IsOutput keys time input other → output ≡ other }
 {}
 
 /// What a replay writes is what is written for the items of its input if the requests among them have the replies that the model
 /// gives to these requests in this order, from what is held at first.
-pub fn a_replay_writes_the_replies_of_the_model()
-    ensures { (keys : Keys) (time : ℕ) (items : List Item) (tail : Tail) → replay_output keys time items tail ≡ written_for time items (replies_to (Some keys) (held_first keys time).world (requests_of time items)) ++ tail_bytes tail }
+pub(crate) fn a_replay_writes_the_replies_of_the_model()
+    ensures { (keys : Keys) (time : ℕ) (items : List Item) (tail : Tail) →
+        replay_output keys time items tail
+        ≡ written_for time items
+        (replies_to (Some keys) (held_first keys time).world (requests_of time items))
+        ++ tail_bytes tail }
 {}

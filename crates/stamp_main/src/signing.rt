@@ -5,7 +5,8 @@ ghost use Rattle.http_front.specs.declared.end.FrontFault.TheVariants.{Write, Tu
 ghost use Rattle.stamp_main.specs.declared.ending.Ending.TheVariants.{Done, Usage, TurnsUsedUp, NoMemory};
 ghost use Rattle.stamp_main.specs.Ending.{has_written, is_fault, run_ending};
 ghost use Rattle.stamp_main.specs.Replays.{turn_limit};
-ghost use Rattle.stamp_main.specs.Signing.{Has-signed, Is-sign, Signed, sign_line, signature_line};
+ghost use Rattle.http_front.specs.Inputs.{read_size};
+ghost use Rattle.stamp_main.specs.Signing.{HasSigned, IsSign, WritesSignature, sign_line, signature_line};
 
 use crate::TURNS;
 use crate::ending::{Ending, status_of};
@@ -20,21 +21,24 @@ const READ_SIZE: usize = 8192;
 
 /// Carries out `stamp sign KEY`: writes the signature of the whole input under the key that `key` gives in Base64.
 ///
-/// A text that is not Base64 is answered as wrong usage, and nothing is read then. It is known what was written at every ending
-/// except a failed write: the line at `Done`, and otherwise nothing.
-pub fn run_sign<R: Read, W: Write>(
+/// If the text is not Base64, the ending is `Usage`, and nothing is read. It is known what was written at every ending except a
+/// failed write: the line at `Done`, and nothing at each other ending.
+pub(crate) fn run_sign<R: Read, W: Write>(
     alloc: Global,
     reader: &mut R,
     writer: &mut W,
     key: &str,
 ) -> Ending
-    ensures signed { result ≡ Done → Has-signed (sign_line key.now) (R.remaining reader.old) (W.contents writer.old) (W.contents writer.new) }
+    ensures signed { result ≡ Done → HasSigned (sign_line key.now)
+        (R.remaining reader.old) (W.contents writer.old) (W.contents writer.new) }
     ensures unwritten { IsFalse (has_written result) → writer.new ≡ writer.old }
     ensures ended { IsTrue (has_written result) → IsAtEnd (R.remaining reader.new) }
-    ensures used_up { result ≡ TurnsUsedUp → IfSome (R.remaining reader.old) (λ input. turn_limit ≤ length input) }
-    ensures asked { IsTrue (is_fault result) → Is-sign (sign_line key.now) }
-    ensures starved { result ≡ NoMemory → (reader.new ≡ reader.old) ⊎ Is-sign (sign_line key.now) }
-    ensures refused { result ≡ Usage → ¬ Is-sign (sign_line key.now) }
+    ensures used_up { result ≡ TurnsUsedUp →
+        IfSome (R.remaining reader.old) (λ input. turn_limit ≤ length input) }
+    ensures asked { IsTrue (is_fault result) → IsSign (sign_line key.now) }
+    ensures starved { result ≡ NoMemory →
+        (reader.new ≡ reader.old) ⊎ IsSign (sign_line key.now) }
+    ensures refused { result ≡ Usage → ¬ IsSign (sign_line key.now) }
     ensures unread { result ≡ Usage → reader.new ≡ reader.old }
 {
     match read_secret(alloc, key) {
@@ -46,34 +50,39 @@ pub fn run_sign<R: Read, W: Write>(
 /// Reads the input to its end, in at most `turns` reads of at most 8,192 bytes, and then writes its signature under the
 /// key, and LF.
 ///
-/// Nothing is written before the input has ended: at `Read`, `Turns` and `NoMemory` the writer is as it was. `Turns`
-/// comes if `turns` reads were made and none of them found the end. Any error of a read is `Read`, even the error of an
+/// Nothing is written before the input has ended: at `Read`, `Turns` and `NoMemory` the writer is as it was. The fault is
+/// `Turns` if `turns` reads were made and no read found the end. Any error of a read is `Read`, even the error of an
 /// interrupted read. At `Write` part of the line may have been written.
-pub fn sign_on<R: Read, W: Write>(
+pub(crate) fn sign_on<R: Read, W: Write>(
     alloc: Global,
     reader: &mut R,
     writer: &mut W,
     key: &SigningKey,
     turns: u64,
 ) -> Result<(), FrontFault>
-    ensures signed { OnOk result (Signed key.now (R.remaining reader.old) (W.contents writer.old) (W.contents writer.new)) }
-    ensures within { OnOk result (IfSome (R.remaining reader.old) (λ input. length input < turns * 8192)) }
+    ensures signed { OnOk result (WritesSignature key.now
+        (R.remaining reader.old) (W.contents writer.old) (W.contents writer.new)) }
+    ensures within { OnOk result (IfSome (R.remaining reader.old)
+        (λ input. length input < turns * read_size)) }
     ensures ended { IsTrue (has_written (run_ending result)) → IsAtEnd (R.remaining reader.new) }
     ensures unwritten { IsFalse (has_written (run_ending result)) → writer.new ≡ writer.old }
-    ensures used_up { result ≡ Err Turns → IfSome (R.remaining reader.old) (λ input. turns ≤ length input) }
+    ensures used_up { result ≡ Err Turns →
+        IfSome (R.remaining reader.old) (λ input. turns ≤ length input) }
 {
     let input = read_whole(alloc, reader, turns)?;
     let line = write_line(alloc, key, &input).map_err(|_| FrontFault::NoMemory)?;
     send(writer, line.as_bytes())
 }
 
-/// The whole of what the reader gives, in at most `turns` reads.
+/// All that the reader gives, read in at most `turns` reads.
 fn read_whole<R: Read>(alloc: Global, reader: &mut R, turns: u64) -> Result<Vec<u8>, FrontFault>
-    ensures whole { IfOk result (λ input. IfSome (R.remaining reader.old) (λ known. input.items ≡ known)) }
+    ensures whole { IfOk result (λ input. IfSome (R.remaining reader.old)
+        (λ known. input.items ≡ known)) }
     ensures ended { OnOk result (IsAtEnd (R.remaining reader.new)) }
-    ensures within { IfOk result (λ input. length input.items < turns * 8192) }
+    ensures within { IfOk result (λ input. length input.items < turns * read_size) }
     ensures reading { result ≢ Err Write }
-    ensures used_up { result ≡ Err Turns → IfSome (R.remaining reader.old) (λ known. turns ≤ length known) }
+    ensures used_up { result ≡ Err Turns →
+        IfSome (R.remaining reader.old) (λ known. turns ≤ length known) }
 {
     let mut input = Vec::new(alloc);
     let mut piece = [0; READ_SIZE];

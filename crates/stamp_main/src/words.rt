@@ -4,7 +4,7 @@ ghost use Rattle.stamp_values.specs.Names as names;
 ghost use Rattle.moment_text.specs.IsoReader.{iso_moment};
 ghost use Rattle.hmac_sign.specs.Signature.{IsBytes, base64_of};
 ghost use Rattle.stamp_main.specs.declared.ending.Ending.TheVariants.{NoMemory, Usage};
-ghost use Rattle.stamp_main.specs.Replays.{Asks-replay, Is-replay, keys_of, replay_line};
+ghost use Rattle.stamp_main.specs.Replays.{AsksForReplay, IsReplay, keys_of, replay_line};
 
 use crate::ending::Ending;
 use hmac_sign::{SecretFault, SigningKey, read_key};
@@ -14,27 +14,29 @@ use std::alloc::Global;
 
 /// The moment, and the account with its pair of keys, by which a stream is replayed.
 #[derive(Drop)]
-pub struct Asked {
-    pub moment: Moment,
-    pub account: Text,
-    pub first: SigningKey,
-    pub second: SigningKey,
+pub(crate) struct Asked {
+    pub(crate) moment: Moment,
+    pub(crate) account: Text,
+    pub(crate) first: SigningKey,
+    pub(crate) second: SigningKey,
 }
 
 /// Reads the four words after `replay`.
 ///
-/// `Usage` if the first is not a time of the accepted shapes, the second is not an account's name, or the third or fourth is not
-/// padded Base64. `NoMemory` if memory ran out before that was found.
-pub fn read_asked(
+/// `Usage` if the first word is not a time of the accepted shapes, the second word is not an account's name, or the third or
+/// fourth word is not padded Base64. `NoMemory` if memory ran out before a bad word was found.
+pub(crate) fn read_asked(
     alloc: Global,
     moment: &str,
     account: &str,
     first: &str,
     second: &str,
 ) -> Result<Asked, Ending>
-    ensures read { IfOk result (λ asked. Asks-replay (replay_line moment.now account.now first.now second.now)
+    ensures read { IfOk result (λ asked.
+        AsksForReplay (replay_line moment.now account.now first.now second.now)
         asked.moment (keys_of asked.account asked.first asked.second)) }
-    ensures refused { IfErr result (λ ending. ending ≡ Usage → ¬ Is-replay (replay_line moment.now account.now first.now second.now)) }
+    ensures refused { IfErr result (λ ending. ending ≡ Usage →
+        ¬ IsReplay (replay_line moment.now account.now first.now second.now)) }
     ensures failed { IfErr result (λ ending. (ending ≡ Usage) ⊎ (ending ≡ NoMemory)) }
 {
     let moment = read_moment(moment)?;
@@ -65,7 +67,8 @@ fn read_moment(text: &str) -> Result<Moment, Ending>
 // An account's name.
 #[tactic(auto, using(crate::proofs::ReplayLemmas::account_clean))]
 fn read_account(alloc: Global, name: &str) -> Result<Text, Ending>
-    ensures read { IfOk result (λ text. (text ≡ name.now) × (names.is_account name.now ≡ true)) }
+    ensures read { IfOk result (λ text.
+        (text ≡ name.now) × (names.is_account name.now ≡ true)) }
     ensures refused { result ≡ Err Usage → names.is_account name.now ≢ true }
     ensures failed { IfErr result (λ ending. (ending ≡ Usage) ⊎ (ending ≡ NoMemory)) }
 {
@@ -84,9 +87,10 @@ fn read_account(alloc: Global, name: &str) -> Result<Text, Ending>
 /// Reads a key that is given in Base64.
 ///
 /// `Usage` if the text is not padded Base64, `NoMemory` if memory runs out for the key.
-pub fn read_secret(alloc: Global, text: &str) -> Result<SigningKey, Ending>
+pub(crate) fn read_secret(alloc: Global, text: &str) -> Result<SigningKey, Ending>
     ensures read { IfOk result (λ key. (text.now ≡ base64_of key) × IsBytes key) }
-    ensures refused { result ≡ Err Usage → (key : List ℕ) → IsBytes key → text.now ≢ base64_of key }
+    ensures refused { result ≡ Err Usage →
+        (key : List ℕ) → IsBytes key → text.now ≢ base64_of key }
     ensures failed { IfErr result (λ ending. (ending ≡ Usage) ⊎ (ending ≡ NoMemory)) }
 {
     match read_key(alloc, text.as_bytes()) {

@@ -47,8 +47,8 @@ module _ (pairs : List Keys) (key : Key) where
   -- what follows the first entry is legal after it
   IsLegalFrom-rest : (start : Part (List ℕ)) (e : Past) (rest : List Past) → IsLegalFrom pairs key start (e ∷ rest) → IsLegalFrom pairs key (after_entry pairs start e) rest
   IsLegalFrom-rest start e rest legal = record {
-    accepted = λ front x stands. legal.accepted (e ∷ front) x (stands.0, ap (λ (ys : List Past). e ∷ ys) stands.1);
-    epochs = λ front between x later stands. legal.epochs (e ∷ front) between x later (stands.0, ap (λ (ys : List Past). e ∷ ys) stands.1);
+    accepted = λ front x comes. legal.accepted (e ∷ front) x (comes.0, ap (λ (ys : List Past). e ∷ ys) comes.1);
+    epochs = λ front between x later comes. legal.epochs (e ∷ front) between x later (comes.0, ap (λ (ys : List Past). e ∷ ys) comes.1);
   }
 
   -- a legal history has an entry for each change
@@ -63,7 +63,7 @@ module _ (pairs : List Keys) (key : Key) where
 pub none_before : (history : List Past) → 0 + length history ≡ length history
 none_before history = grind (arith)
 
--- what is found passes the test
+-- an element that is found passes the test
 found_passes : {X : Type 0} (test : X → Bool) (xs : List X) (x : X) → find test xs ≡ Some x → test x ≡ true
 found_passes test [] x h = cc
 found_passes test (y ∷ ys) x h =

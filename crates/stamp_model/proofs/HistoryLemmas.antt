@@ -9,7 +9,7 @@ use Rattle.stamp_types.specs.World.{Part, World, part_at}
 use Rattle.access_rules.specs.declared.keys.Keys.{Keys}
 use Rattle.range_rows.specs.ObjectReplies.{byte_count}
 use Rattle.stamp_model.specs.Effects.{effect}
-use Rattle.stamp_model.specs.Histories.{pair_of, after_entry, replay_from, StandsBehind, NoneIsLater, IsAccepted, IsLegalFrom}
+use Rattle.stamp_model.specs.Histories.{pair_of, after_entry, replay_from, IsEntryAfter, NoneIsLater, IsAccepted, IsLegalFrom}
 use Rattle.stamp_model.proofs.EffectLemmas.{part_at-effect}
 
 no_more : {X : Type 0} (front : List X) (x : X) (rest : List X) → [] ≡ front ++ x ∷ rest → ⊥
@@ -48,39 +48,39 @@ part_at-accepted pairs key w start history e new =
 
 module _ (pairs : List Keys) (key : Key) (start : Part (List ℕ)) (history : List Past) (e : Past) where
   accepted_there : IsLegalFrom pairs key start history → IsAccepted pairs key (replay_from pairs start history) e → (front : List Past) (x : Past)
-      → ((front ≡ history) × (x ≡ e)) ⊎ StandsBehind front x history → IsAccepted pairs key (replay_from pairs start front) x
+      → ((front ≡ history) × (x ≡ e)) ⊎ IsEntryAfter front x history → IsAccepted pairs key (replay_from pairs start front) x
   accepted_there legal new front x (inl p) =
       subst (λ (f : List Past). IsAccepted pairs key (replay_from pairs start f) x) (sym p.0)
       (subst (λ (y : Past). IsAccepted pairs key (replay_from pairs start history) y) (sym p.1) new)
-  accepted_there legal new front x (inr stood) = legal.accepted front x stood
+  accepted_there legal new front x (inr came) = legal.accepted front x came
 
   rising : IsLegalFrom pairs key start history → NoneIsLater e.epoch history → (front between : List Past) (x later : Past)
-      → ((front ++ x ∷ between ≡ history) × (later ≡ e)) ⊎ StandsBehind (front ++ x ∷ between) later history → x.epoch ≤ later.epoch
+      → ((front ++ x ∷ between ≡ history) × (later ≡ e)) ⊎ IsEntryAfter (front ++ x ∷ between) later history → x.epoch ≤ later.epoch
   rising legal none front between x later (inl p) =
       subst (λ (y : Past). x.epoch ≤ y.epoch) (sym p.1) (none front x (between, sym p.0))
-  rising legal none front between x later (inr stood) = legal.epochs front between x later stood
+  rising legal none front between x later (inr came) = legal.epochs front between x later came
 
   -- the longer history is legal
   pub IsLegalFrom-append : IsLegalFrom pairs key start history → NoneIsLater e.epoch history → IsAccepted pairs key (replay_from pairs start history) e → IsLegalFrom pairs key start (history ++ e ∷ [])
   IsLegalFrom-append legal none new = record {
-    accepted = λ front x stands. accepted_there legal new front x (last_or_before history e x front stands.0 stands.1);
-    epochs = λ front between x later stands. rising legal none front between x later (last_or_before history e later (front ++ x ∷ between) stands.0 stands.1);
+    accepted = λ front x comes. accepted_there legal new front x (last_or_before history e x front comes.0 comes.1);
+    epochs = λ front between x later comes. rising legal none front between x later (last_or_before history e later (front ++ x ∷ between) comes.0 comes.1);
   }
 
--- what is in a front part of a list is in the whole list, at the same place
+-- what is in a front part of a list is in the whole list, at the same position
 still : {X : Type 0} (xs more front : List X) (x : X) → (rest : List X) × (xs ≡ front ++ x ∷ rest) → (rest : List X) × (xs ++ more ≡ front ++ x ∷ rest)
-still {X} xs more front x stands =
-    (stands.0 ++ more, ap (λ (ys : List X). ys ++ more) stands.1 ∙ append_assoc front (x ∷ stands.0) more)
+still {X} xs more front x comes =
+    (comes.0 ++ more, ap (λ (ys : List X). ys ++ more) comes.1 ∙ append_assoc front (x ∷ comes.0) more)
 
 module _ (pairs : List Keys) (key : Key) (start : Part (List ℕ)) where
   pub IsLegalFrom-nil : IsLegalFrom pairs key start []
   IsLegalFrom-nil = record {
-    accepted = λ front e stands. absurd (no_more front e stands.0 stands.1);
-    epochs = λ front between e later stands. absurd (no_more (front ++ e ∷ between) later stands.0 stands.1);
+    accepted = λ front e comes. absurd (no_more front e comes.0 comes.1);
+    epochs = λ front between e later comes. absurd (no_more (front ++ e ∷ between) later comes.0 comes.1);
   }
 
   pub IsLegalFrom-front : (history more : List Past) → IsLegalFrom pairs key start (history ++ more) → IsLegalFrom pairs key start history
   IsLegalFrom-front history more legal = record {
-    accepted = λ front e stands. legal.accepted front e (still history more front e stands);
-    epochs = λ front between e later stands. legal.epochs front between e later (still history more (front ++ e ∷ between) later stands);
+    accepted = λ front e comes. legal.accepted front e (still history more front e comes);
+    epochs = λ front between e later comes. legal.epochs front between e later (still history more (front ++ e ∷ between) later comes);
   }

@@ -27,7 +27,7 @@ use Rattle.stamp_types.specs.World.{Part, World, part_at}
 use Rattle.access_rules.specs.declared.keys.Keys.{Keys}
 use Rattle.access_rules.specs.Needs.{need_of}
 use Rattle.access_rules.specs.Routes.{ByPublic, Admits}
-use Rattle.access_rules.specs.Rules.{first_rule, there, is_lower}
+use Rattle.access_rules.specs.Rules.{allows_less, first_rule, some_passes}
 use Rattle.access_rules.proofs.RouteLaw.{asking, by_route}
 use Rattle.range_rows.specs.ObjectReplies.{sizes}
 use Rattle.range_rows.specs.ObjectRules.{object_refusal}
@@ -38,7 +38,7 @@ use Rattle.stamp_model.proofs.ReplyLemmas.{reply-unrefused, unrefused}
 
 -- the rule of the public route
 abbrev public_rule : Option Acl → Option Level → Option Rule
-public_rule access need = cond (is_none need) (Some P1) (cond (there (is_lower access) need) (Some P2) None)
+public_rule access need = cond (is_none need) (Some P1) (cond (some_passes (allows_less access) need) (Some P2) None)
 
 first_public : (keys : Option Keys) (access : Option Acl) (q : Ask) (t : ℕ) (c : Credential) → c ≡ Anonymous → first_rule keys access (asking q c) t ≡ public_rule access (need_of q.op q.args.kinds).level
 first_public keys access q t c is =
@@ -81,8 +81,8 @@ module _ (keys : Option Keys) (w : World (List ℕ)) (q : Asked) (t : ℕ) (boun
       ∙ (absent the_need).1
 
   closed_refused : (s : Standing) → q.ask.credential ≡ Anonymous → own_part.standing ≡ Some s → s.acl.level ≡ level.Closed → first_rule keys (acl_of own_part) q.ask t ≡ Some (absent the_need).0
-  closed_refused s anonymous stands closed =
-      ap (λ (o : Option Standing). first_rule keys (acl_of (record own_part { standing = o })) q.ask t) stands
+  closed_refused s anonymous exists closed =
+      ap (λ (o : Option Standing). first_rule keys (acl_of (record own_part { standing = o })) q.ask t) exists
       ∙ ap (λ (l : Level). first_rule keys (Some (record { level = l; policies = s.acl.policies })) q.ask t) closed
       ∙ first_public keys (Some (record { level = level.Closed; policies = s.acl.policies })) q.ask t q.ask.credential anonymous
       ∙ as_closed s.acl.policies q.ask.op q.ask.args.kinds

@@ -61,7 +61,7 @@ body-reply_of : (p : Part (List ℕ)) (q : Asked) → (reply_of p q).body ≡ co
 body-reply_of p q = ap (λ (bs : List ℕ). bs ++ content_sent p q) (frame_body q.ask.op q (blob_read (sizes p) q.ask))
 
 module _ (keys : Option Keys) (w : World (List ℕ)) (key : Key) (name : List ℕ) where
-  -- the same in a world of containers
+  -- what readers get of a blob in the world after its Put Blob
   body-effect : (q : Asked) (t : ℕ) → IsAsk q.ask → IsOn op.PutBlob key name q → (reply keys w q t None).rule ≡ None → blob_body (blob_in (part_at (effect keys w q t) key) name).committed ≡ q.body
   body-effect q t fits puts none =
       ap (λ (k : Key). blob_body (blob_in (part_at (effect keys w q t) k) name).committed) (sym puts.container)

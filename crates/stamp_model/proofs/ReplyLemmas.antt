@@ -104,7 +104,7 @@ module _ (keys : Option Keys) (w : World (List ℕ)) (q : Asked) (t : ℕ) (boun
       ∙ ap (λ (o : Option Refusal). option_or o (unserved_refusal q.ask.op)) free
       ∙ unserved_none (is_served q.ask.op) served
 
-  -- if nothing refuses the request, the reply is what the operation answers of the container after the effect
+  -- if nothing refuses the request, the reply is what the operation answers from the container after the effect
   pub reply-admitted : refusal keys (sizes own_part) q t ≡ None → reply keys w q t bound ≡ reply_of (part_at (effect keys w q t) q.ask.key) q
   reply-admitted free =
       ap (λ (o : Option Refusal). response o (change keys own_part q t) q) free

@@ -10,16 +10,16 @@ use Rattle.stamp_model.specs.Refusals.{acl_of}
 use Rattle.stamp_model.specs.Runs.{Timed, AreAnswered, world_after_one, world_after_all, reply_to_one, replies_to}
 use Rattle.stamp_model.proofs.ReplyLemmas.{reply-admits, effect-named}
 
--- if two lists are the same, they have the same element at one place, and the same elements before it and after it
-same_place : {X : Type 0} (a c : List X) (x y : X) (b d : List X) → a ++ x ∷ b ≡ c ++ y ∷ d → length a ≡ length c → (a ≡ c) × (x ≡ y) × (b ≡ d)
-same_place [] [] x y b d h long = (refl, cc, cc)
-same_place [] (z ∷ c) x y b d h long = cc
-same_place (z ∷ a) [] x y b d h long = cc
-same_place {X} (z ∷ a) (v ∷ c) x y b d h long =
+-- if two lists are the same, they have the same element at one position, and the same elements before it and after it
+same_position : {X : Type 0} (a c : List X) (x y : X) (b d : List X) → a ++ x ∷ b ≡ c ++ y ∷ d → length a ≡ length c → (a ≡ c) × (x ≡ y) × (b ≡ d)
+same_position [] [] x y b d h long = (refl, cc, cc)
+same_position [] (z ∷ c) x y b d h long = cc
+same_position (z ∷ a) [] x y b d h long = cc
+same_position {X} (z ∷ a) (v ∷ c) x y b d h long =
     let first : z ≡ v = cc in
     let less : a ++ x ∷ b ≡ c ++ y ∷ d = cc in
     let short : length a ≡ length c = cc in
-    let rest = same_place a c x y b d less short in
+    let rest = same_position a c x y b d less short in
     ((λ i. first i ∷ rest.0 i), rest.1, rest.2)
 
 -- the replies to a front part, and the replies to what comes after it
@@ -46,15 +46,15 @@ module _ (keys : Option Keys) (w : World (List ℕ)) (front : List Timed) (r : T
   answered_in_turn = record {
     replies = replies_to-append keys w front (r ∷ rest)
         ∙ ap (λ (v : World (List ℕ)). replies_to keys w front ++ reply_to_one keys then_held r ∷ replies_to keys v rest) (sym one_more);
-    place = length-replies_to keys w front;
+    position = length-replies_to keys w front;
   }
 
   module _ (before : List Reply) (answer : Reply) (after : List Reply) (given : AreAnswered keys w front r rest before answer after) where
-    -- and no other replies answer them
+    -- no other replies answer the requests
     pub answered_so : (before ≡ replies_to keys w front) × (answer ≡ reply_to_one keys then_held r) × (after ≡ replies_to keys (world_after_one keys then_held r) rest)
     answered_so =
-        same_place before (replies_to keys w front) answer (reply_to_one keys then_held r) after (replies_to keys (world_after_one keys then_held r) rest)
-        (sym given.replies ∙ replies_to-append keys w front (r ∷ rest)) (given.place ∙ sym (length-replies_to keys w front))
+        same_position before (replies_to keys w front) answer (reply_to_one keys then_held r) after (replies_to keys (world_after_one keys then_held r) rest)
+        (sym given.replies ∙ replies_to-append keys w front (r ∷ rest)) (given.position ∙ sym (length-replies_to keys w front))
 
     named_then : (o : Option Rule) → answer.rule ≡ o → (reply_to_one keys then_held r).rule ≡ o
     named_then o named = ap (λ (a : Reply). a.rule) (sym answered_so.1) ∙ named
@@ -74,7 +74,7 @@ module _ (keys : Option Keys) (w : World (List ℕ)) (front : List Timed) (r : T
           ∙ ap (λ (v : World (List ℕ)). replies_to keys w front ++ replies_to keys v rest) (sym stays)
           ∙ (λ i. sym answered_so.0 i ++ sym answered_so.2 i)
 
-      -- and the stamp holds the same in the end
+      -- without a refused request, the containers are the same in the end
       pub world_after_all-without : world_after_all keys w (front ++ rest) ≡ world_after_all keys w (front ++ r ∷ rest)
       world_after_all-without =
           fold-append (world_after_one keys) w front rest

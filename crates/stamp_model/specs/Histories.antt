@@ -27,16 +27,16 @@ replay_from pairs start history = fold (after_entry pairs) start history
 abbrev pub replay : List Keys → List Past → Part (List ℕ)
 replay pairs history = replay_from pairs no_part history
 
--- the entry is in the history, and the front is what comes before it
-abbrev pub StandsBehind : List Past → Past → List Past → Type 0
-StandsBehind front e history = (rest : List Past) × (history ≡ front ++ e ∷ rest)
+-- in the history, the entry comes right after the entries of the front
+abbrev pub IsEntryAfter : List Past → Past → List Past → Type 0
+IsEntryAfter front e history = (rest : List Past) × (history ≡ front ++ e ∷ rest)
 
 -- no entry of the history is of a later epoch than this epoch
 abbrev pub NoneIsLater : ℕ → List Past → Type 0
-NoneIsLater epoch history = (front : List Past) (e : Past) → StandsBehind front e history → e.epoch ≤ epoch
+NoneIsLater epoch history = (front : List Past) (e : Past) → IsEntryAfter front e history → e.epoch ≤ epoch
 
--- the entry changes the container as it is then: its request names the container and writes, and by the pair of its epoch nothing
--- refuses it
+-- the entry changes the container as it is then: its request names the container and makes a change, and nothing refuses the request
+-- by the pair of the entry's epoch
 pub record IsAccepted (pairs : List Keys) (key : Key) (p : Part (List ℕ)) (e : Past) : Type 0 where
   pub own : e.request.ask.key ≡ key
   pub writes : IsSome (change_of (sizes p) e.request e.moment)
@@ -44,8 +44,8 @@ pub record IsAccepted (pairs : List Keys) (key : Key) (p : Part (List ℕ)) (e :
 
 -- each entry is accepted by what the entries before it left, and no entry has a lower epoch than an entry before it
 pub record IsLegalFrom (pairs : List Keys) (key : Key) (start : Part (List ℕ)) (history : List Past) : Type 0 where
-  pub accepted : (front : List Past) (e : Past) → StandsBehind front e history → IsAccepted pairs key (replay_from pairs start front) e
-  pub epochs : (front between : List Past) (e later : Past) → StandsBehind (front ++ e ∷ between) later history → e.epoch ≤ later.epoch
+  pub accepted : (front : List Past) (e : Past) → IsEntryAfter front e history → IsAccepted pairs key (replay_from pairs start front) e
+  pub epochs : (front between : List Past) (e later : Past) → IsEntryAfter (front ++ e ∷ between) later history → e.epoch ≤ later.epoch
 
 -- the history is legal from a container that never was
 abbrev pub IsLegal : List Keys → Key → List Past → Type 0

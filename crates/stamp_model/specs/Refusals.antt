@@ -43,7 +43,7 @@ refusal keys p q t = option_or (option_map access_refusal (first_rule keys (acl_
 abbrev pub refusing_rule : Option Keys → Part ℕ → Asked → ℕ → Option Rule
 refusing_rule keys p q t = option_map (λ r. r.rule) (refusal keys p q t)
 
--- this is the rule of operations that are not served yet, and it holds
+-- the rule is the rule of operations that are not served yet, and it holds
 abbrev pub is_unserved : Asked → Rule → Bool
 is_unserved q rule.F3 = not (is_served q.ask.op)
 is_unserved q _ = false

@@ -11,16 +11,16 @@ use Rattle.range_rows.specs.ObjectReplies.{reply_of, sizes}
 use Rattle.stamp_model.specs.Refusals.{refusal}
 use Rattle.stamp_model.specs.Effects.{change}
 
--- the reply to a refused request, or else what the operation answers of this container
+-- the reply to a refused request, or else what the operation answers from this container
 abbrev pub response : Option Refusal → Part (List ℕ) → Asked → Reply
 response None p q = reply_of p q
 response (Some r) p q = denied r
 
--- the reply from a container, read off the container after the request
+-- the reply to a request on a container: if nothing refuses the request, the reply is made from the container after the request
 abbrev pub reply_in : Option Keys → Part (List ℕ) → Asked → ℕ → Reply
 reply_in keys p q t = response (refusal keys (sizes p) q t) (change keys p q t) q
 
--- The reply is the reply from the container that the request names. Only List Containers looks at the bound, which is the last key
--- up to which containers are listed. That operation is not served yet.
+-- The reply to a request follows from the container of its key. The bound is the last key up to which containers are listed. Only
+-- List Containers will look at the bound, and that operation is not served yet.
 abbrev pub reply : Option Keys → World (List ℕ) → Asked → ℕ → Option Key → Reply
 reply keys w q t bound = reply_in keys (part_at w q.ask.key) q t

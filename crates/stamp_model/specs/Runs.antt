@@ -36,7 +36,7 @@ replies_to keys w (r ∷ rs) = reply_to_one keys w r ∷ replies_to keys (world_
 -- request: as many replies come before the answer as requests come before this request.
 pub record AreAnswered (keys : Option Keys) (w : World (List ℕ)) (front : List Timed) (r : Timed) (rest : List Timed) (before : List Reply) (answer : Reply) (after : List Reply) : Type 0 where
   pub replies : replies_to keys w (front ++ r ∷ rest) ≡ before ++ answer ∷ after
-  pub place : length before ≡ length front
+  pub position : length before ≡ length front
 
 -- the request is of this operation, on the blob of this name in this container
 pub record IsOn (o : Op) (key : Key) (name : List ℕ) (q : Asked) : Type 0 where

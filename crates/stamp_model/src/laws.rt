@@ -1,4 +1,4 @@
-//! Laws of effects and replies. Each is the contract of a function that does nothing.
+//! Laws of effects and replies. Each law is the contract of a function that does nothing.
 ghost use Rattle.std.specs.Prelude.{◌≡◌, ◌≢◌, ◌≤◌, ℕ, List, Option, Some, None, IsSome, IsTrue, find};
 ghost use Rattle.stamp_values.specs.Operations.{names_container};
 ghost use Rattle.stamp_values.specs.declared.key.Key.{Key};
@@ -22,63 +22,114 @@ ghost use Rattle.stamp_model.specs.Refusals.{acl_of, refusing_rule, refuses, rul
 ghost use Rattle.stamp_model.specs.Effects.{change, effect, effect_as};
 ghost use Rattle.stamp_model.specs.Responses.{reply};
 
-/// If a request names a container, what the stamp holds of that container decides the reply to the request, and decides what the
-/// container is after the request.
+/// The container of a request's key decides what that container is after the request. If the
+/// operation names a container, the container also decides the reply to the request.
 pub fn an_own_container_decides_effect_and_reply()
-    ensures reply { (keys : Option Keys) (w v : World (List ℕ)) (q : Asked) (t : ℕ) (bound : Option Key) → IsTrue (names_container q.ask.op) → part_at w q.ask.key ≡ part_at v q.ask.key → reply keys w q t bound ≡ reply keys v q t bound }
-    ensures effect { (keys : Option Keys) (w v : World (List ℕ)) (q : Asked) (t : ℕ) → part_at w q.ask.key ≡ part_at v q.ask.key → part_at (effect keys w q t) q.ask.key ≡ part_at (effect keys v q t) q.ask.key }
+    ensures reply { (keys : Option Keys) (w v : World (List ℕ)) (q : Asked) (t : ℕ)
+        (bound : Option Key)
+        → IsTrue (names_container q.ask.op) → part_at w q.ask.key ≡ part_at v q.ask.key
+        → reply keys w q t bound ≡ reply keys v q t bound }
+    ensures effect { (keys : Option Keys) (w v : World (List ℕ)) (q : Asked) (t : ℕ)
+        → part_at w q.ask.key ≡ part_at v q.ask.key
+        → part_at (effect keys w q t) q.ask.key ≡ part_at (effect keys v q t) q.ask.key }
 {}
 
-/// An effect changes the container that the request names, and leaves every other container as it is.
+/// An effect changes the container that the request names, and leaves every other container as it
+/// is.
 pub fn an_effect_reaches_its_own_container_alone()
-    ensures own { (keys : Option Keys) (w : World (List ℕ)) (q : Asked) (t : ℕ) → part_at (effect keys w q t) q.ask.key ≡ change keys (part_at w q.ask.key) q t }
-    ensures others { (keys : Option Keys) (w : World (List ℕ)) (q : Asked) (t : ℕ) (k : Key) → k ≢ q.ask.key → part_at (effect keys w q t) k ≡ part_at w k }
+    ensures own { (keys : Option Keys) (w : World (List ℕ)) (q : Asked) (t : ℕ)
+        → part_at (effect keys w q t) q.ask.key ≡ change keys (part_at w q.ask.key) q t }
+    ensures others { (keys : Option Keys) (w : World (List ℕ)) (q : Asked) (t : ℕ) (k : Key)
+        → k ≢ q.ask.key → part_at (effect keys w q t) k ≡ part_at w k }
 {}
 
 /// The rule that refuses is the first rule that holds, in the order of all rules.
 pub fn the_refusal_is_the_first_rule_of_all()
-    ensures { (keys : Option Keys) (p : Part ℕ) (q : Asked) (t : ℕ) → refusing_rule keys p q t ≡ find (refuses keys p q t) rules_in_order }
+    ensures { (keys : Option Keys) (p : Part ℕ) (q : Asked) (t : ℕ)
+        → refusing_rule keys p q t ≡ find (refuses keys p q t) rules_in_order }
 {}
 
-/// A reply names the rule that refuses its request. If no rule refuses the request, the reply names no rule. A refused request
-/// changes nothing.
+/// A reply names the rule that refuses its request. If no rule refuses the request, the reply names
+/// no rule. A refused request changes nothing.
 pub fn a_refused_request_changes_nothing()
-    ensures named { (keys : Option Keys) (w : World (List ℕ)) (q : Asked) (t : ℕ) (bound : Option Key) → (reply keys w q t bound).rule ≡ refusing_rule keys (sizes (part_at w q.ask.key)) q t }
-    ensures unchanged { (keys : Option Keys) (w : World (List ℕ)) (q : Asked) (t : ℕ) (bound : Option Key) (rule : Rule) → (reply keys w q t bound).rule ≡ Some rule → effect keys w q t ≡ w }
+    ensures named { (keys : Option Keys) (w : World (List ℕ)) (q : Asked) (t : ℕ)
+        (bound : Option Key)
+        → (reply keys w q t bound).rule ≡ refusing_rule keys (sizes (part_at w q.ask.key)) q t }
+    ensures unchanged { (keys : Option Keys) (w : World (List ℕ)) (q : Asked) (t : ℕ)
+        (bound : Option Key) (rule : Rule)
+        → (reply keys w q t bound).rule ≡ Some rule → effect keys w q t ≡ w }
 {}
 
-/// A reply names no rule only if the request's own route admits the request, as that route is defined, no rule of the object holds,
-/// and the operation is served. If all three are so, the reply names no rule. A reply that names no rule is what the operation
-/// answers of the container as it is after the effect.
-pub fn success_is_where_the_own_route_admits()
-    ensures admitted { (keys : Option Keys) (w : World (List ℕ)) (q : Asked) (t : ℕ) (bound : Option Key) → (reply keys w q t bound).rule ≡ None → Admits keys (acl_of (part_at w q.ask.key)) q.ask.credential q.ask t }
-    ensures unopposed { (keys : Option Keys) (w : World (List ℕ)) (q : Asked) (t : ℕ) (bound : Option Key) → (reply keys w q t bound).rule ≡ None → object_refusal (sizes (part_at w q.ask.key)) q ≡ None }
-    ensures served { (keys : Option Keys) (w : World (List ℕ)) (q : Asked) (t : ℕ) (bound : Option Key) → (reply keys w q t bound).rule ≡ None → IsTrue (is_served q.ask.op) }
-    ensures unnamed { (keys : Option Keys) (w : World (List ℕ)) (q : Asked) (t : ℕ) (bound : Option Key) → Admits keys (acl_of (part_at w q.ask.key)) q.ask.credential q.ask t → object_refusal (sizes (part_at w q.ask.key)) q ≡ None → IsTrue (is_served q.ask.op) → (reply keys w q t bound).rule ≡ None }
-    ensures answered { (keys : Option Keys) (w : World (List ℕ)) (q : Asked) (t : ℕ) (bound : Option Key) → (reply keys w q t bound).rule ≡ None → reply keys w q t bound ≡ reply_of (part_at (effect keys w q t) q.ask.key) q }
+/// A reply names no rule if and only if three things are so: the request's own route admits the
+/// request, as that route is defined; the object does not refuse the request; and the operation is
+/// served. A reply that names no rule is what the operation answers from the container as it is
+/// after the effect.
+pub fn success_is_what_the_own_route_admits()
+    ensures admitted { (keys : Option Keys) (w : World (List ℕ)) (q : Asked) (t : ℕ)
+        (bound : Option Key)
+        → (reply keys w q t bound).rule ≡ None
+        → Admits keys (acl_of (part_at w q.ask.key)) q.ask.credential q.ask t }
+    ensures unopposed { (keys : Option Keys) (w : World (List ℕ)) (q : Asked) (t : ℕ)
+        (bound : Option Key)
+        → (reply keys w q t bound).rule ≡ None
+        → object_refusal (sizes (part_at w q.ask.key)) q ≡ None }
+    ensures served { (keys : Option Keys) (w : World (List ℕ)) (q : Asked) (t : ℕ)
+        (bound : Option Key)
+        → (reply keys w q t bound).rule ≡ None → IsTrue (is_served q.ask.op) }
+    ensures unnamed { (keys : Option Keys) (w : World (List ℕ)) (q : Asked) (t : ℕ)
+        (bound : Option Key)
+        → Admits keys (acl_of (part_at w q.ask.key)) q.ask.credential q.ask t
+        → object_refusal (sizes (part_at w q.ask.key)) q ≡ None → IsTrue (is_served q.ask.op)
+        → (reply keys w q t bound).rule ≡ None }
+    ensures answered { (keys : Option Keys) (w : World (List ℕ)) (q : Asked) (t : ℕ)
+        (bound : Option Key)
+        → (reply keys w q t bound).rule ≡ None
+        → reply keys w q t bound ≡ reply_of (part_at (effect keys w q t) q.ask.key) q }
 {}
 
-/// A request without a credential gets a reply that names no rule only if the container exists and its level is enough for the
-/// operation. If the container does not exist, the reply to this request says that the resource was not found (404), and a closed
-/// container gives the same reply.
+/// A request without a credential gets a reply that names no rule only if the container exists and
+/// its level is enough for the operation. If the container does not exist, the reply to this
+/// request says that the resource was not found (404), and a closed container gives the same reply.
 pub fn public_access_is_what_the_container_gives()
-    ensures given { (keys : Option Keys) (w : World (List ℕ)) (q : Asked) (t : ℕ) (bound : Option Key) → q.ask.credential ≡ Anonymous → (reply keys w q t bound).rule ≡ None → (need : Level) × (s : Standing) × ((need_of q.ask.op q.ask.args.kinds).level ≡ Some need) × ((part_at w q.ask.key).standing ≡ Some s) × (level_number need ≤ level_number s.acl.level) }
-    ensures same { (keys : Option Keys) (w v : World (List ℕ)) (q : Asked) (t : ℕ) (bound : Option Key) (s : Standing) → q.ask.credential ≡ Anonymous → (part_at w q.ask.key).standing ≡ None → (part_at v q.ask.key).standing ≡ Some s → s.acl.level ≡ level.Closed → reply keys w q t bound ≡ reply keys v q t bound }
-    ensures status { (keys : Option Keys) (w : World (List ℕ)) (q : Asked) (t : ℕ) (bound : Option Key) → q.ask.credential ≡ Anonymous → (part_at w q.ask.key).standing ≡ None → (reply keys w q t bound).status ≡ NotFound }
+    ensures given { (keys : Option Keys) (w : World (List ℕ)) (q : Asked) (t : ℕ)
+        (bound : Option Key)
+        → q.ask.credential ≡ Anonymous → (reply keys w q t bound).rule ≡ None
+        → (need : Level) × (s : Standing) × ((need_of q.ask.op q.ask.args.kinds).level ≡ Some need)
+        × ((part_at w q.ask.key).standing ≡ Some s)
+        × (level_number need ≤ level_number s.acl.level) }
+    ensures same { (keys : Option Keys) (w v : World (List ℕ)) (q : Asked) (t : ℕ)
+        (bound : Option Key) (s : Standing)
+        → q.ask.credential ≡ Anonymous → (part_at w q.ask.key).standing ≡ None
+        → (part_at v q.ask.key).standing ≡ Some s → s.acl.level ≡ level.Closed
+        → reply keys w q t bound ≡ reply keys v q t bound }
+    ensures status { (keys : Option Keys) (w : World (List ℕ)) (q : Asked) (t : ℕ)
+        (bound : Option Key)
+        → q.ask.credential ≡ Anonymous → (part_at w q.ask.key).standing ≡ None
+        → (reply keys w q t bound).status ≡ NotFound }
 {}
 
-/// If a request fits its operation and nothing refuses it, its reply is about a blob that readers see after the request.
+/// If a request fits its operation and nothing refuses it, its reply is about a blob that readers
+/// see after the request.
 pub fn an_answer_is_of_a_blob_that_exists()
-    ensures { (keys : Option Keys) (w : World (List ℕ)) (q : Asked) (t : ℕ) (bound : Option Key) → IsAsk q.ask → (reply keys w q t bound).rule ≡ None → IsSome (named_blob (part_at (effect keys w q t) q.ask.key) q.ask) }
+    ensures { (keys : Option Keys) (w : World (List ℕ)) (q : Asked) (t : ℕ) (bound : Option Key)
+        → IsAsk q.ask → (reply keys w q t bound).rule ≡ None
+        → IsSome (named_blob (part_at (effect keys w q t) q.ask.key) q.ask) }
 {}
 
-/// Content may be read before a request or after it, by any function that keeps the size of each content of the container: neither
-/// the rules nor the change see more of the content than its size. So rows that hold pieces are changed as the stamp's bytes are.
+/// Content may be read before a request or after it, by any function that keeps the size of each
+/// content of the container: the rules and the change see only the size of the content. So rows of
+/// pieces are changed as containers of bytes are changed.
 pub fn content_is_read_before_or_after_a_request<C, D>()
-    ensures { (read : C → D) (size : C → ℕ) (other : D → ℕ) (f : List Piece → C) (keys : Option Keys) (w : World C) (q : Asked) (t : ℕ) → EachContent (λ c. other (read c) ≡ size c) (part_at w q.ask.key) → world_value read (effect_as size f keys w q t) ≡ effect_as other (λ ps. read (f ps)) keys (world_value read w) q t }
+    ensures { (read : C → D) (size : C → ℕ) (other : D → ℕ) (f : List Piece → C)
+        (keys : Option Keys) (w : World C) (q : Asked) (t : ℕ)
+        → EachContent (λ c. other (read c) ≡ size c) (part_at w q.ask.key)
+        → world_value read (effect_as size f keys w q t)
+        ≡ effect_as other (λ ps. read (f ps)) keys (world_value read w) q t }
 {}
 
-/// So far, no request makes, alters or deletes a container: public access and policies stay as they are.
+/// So far, no request makes, alters or deletes a container: public access and policies stay as they
+/// are.
 pub fn containers_stay_as_they_are()
-    ensures { (keys : Option Keys) (w : World (List ℕ)) (q : Asked) (t : ℕ) (k : Key) → (part_at (effect keys w q t) k).standing ≡ (part_at w k).standing }
+    ensures { (keys : Option Keys) (w : World (List ℕ)) (q : Asked) (t : ℕ) (k : Key)
+        → (part_at (effect keys w q t) k).standing ≡ (part_at w k).standing }
 {}

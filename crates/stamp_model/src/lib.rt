@@ -1,4 +1,5 @@
-//! What a request does to what the stamp holds, and its reply: definitions and their laws, and no code that runs.
+//! What a request does to what the stamp holds, and its reply: definitions and their laws, and no
+//! code that runs.
 #![tactic(auto)]
 
 mod history_laws;
@@ -6,17 +7,17 @@ mod laws;
 mod run_laws;
 
 pub use history_laws::{
-    a_front_part_of_a_legal_history_is_legal, an_accepted_request_goes_on_a_legal_history,
+    a_front_part_of_a_legal_history_is_legal, an_accepted_request_continues_a_legal_history,
     each_entry_is_one_change,
 };
 pub use laws::{
     a_refused_request_changes_nothing, an_answer_is_of_a_blob_that_exists,
     an_effect_reaches_its_own_container_alone, an_own_container_decides_effect_and_reply,
     containers_stay_as_they_are, content_is_read_before_or_after_a_request,
-    public_access_is_what_the_container_gives, success_is_where_the_own_route_admits,
+    public_access_is_what_the_container_gives, success_is_what_the_own_route_admits,
     the_refusal_is_the_first_rule_of_all,
 };
 pub use run_laws::{
     a_blob_is_read_as_it_was_put, a_refused_request_changes_no_other_reply,
-    each_request_has_the_reply_of_its_place, only_what_the_own_route_admits_is_answered,
+    each_request_has_the_reply_of_its_position, only_what_the_own_route_admits_is_answered,
 };

@@ -28,14 +28,14 @@ access_by_act n (act.SetContainerMetadata a) o h = same_access n a o
 access_by_act n other o h = refl
 
 module _ {C : Type 0} (f : List Piece → C) (p : Part C) where
-  -- each change but a row of a checkpoint raises the count by one
+  -- each change raises the count by one, unless it is a row of a checkpoint
   pub count-changed : (a : Act) → is_row a ≡ false → (changed f a p).count ≡ p.count + 1
   count-changed a h = count_by_act a p.count h
 
-  -- no change alters who may, but those that set it
+  -- a change that does not set access leaves the level and the policies as they were
   pub access-changed : (a : Act) → sets_access a ≡ false → option_map (λ s. s.acl) (changed f a p).standing ≡ option_map (λ s. s.acl) p.standing
   access-changed a h = access_by_act (p.count + 1) a p.standing h
 
-  -- what is set stands
+  -- after Set Container ACL the container has what was set
   pub access-set : (a : SetAcl) (s : Standing) → p.standing ≡ Some s → option_map (λ s. s.acl) (changed f (act.SetAcl a) p).standing ≡ Some a.acl
   access-set a s h = ap (λ (o : Option Standing). option_map (λ s. s.acl) (option_map (standing_with_acl (p.count + 1) a) o)) h

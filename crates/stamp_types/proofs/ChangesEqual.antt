@@ -43,7 +43,7 @@ use Rattle.stamp_types.specs.Pieces.{pieces_len}
 use Rattle.stamp_types.specs.PropsFields.{PropsFields}
 use Rattle.stamp_types.specs.Changes.{KeyedAct}
 
--- lists, where `==` of the items says whether they are equal
+-- `==` of lists says whether the lists are equal, if `==` of the items says whether the items are equal
 lists_decide : {A : Type 0} {E : A → A → Bool} → ((a b : A) → Decides (E a b) (a ≡ b)) → (xs ys : List A) → Decides (pointwise E xs ys) (xs ≡ ys)
 lists_decide each xs ys = slice_eq-Decides each xs ys _ refl
 
@@ -130,7 +130,7 @@ piece_decides (pieces.At p n) (pieces.At q m) =
     Decides-like _ (λ e i. pieces.At (e.0 i) (e.1 i)) (λ e. (cc, cc)) (Decides-and _ _ (place_decides p q) (Decides-eqb n m))
 piece_decides a b = (λ e. cc, λ e. cc)
 
--- `==` compares the lengths of all pieces together, too
+-- `==` also compares the lengths of all pieces together
 abbrev content_eq : List Piece → List Piece → Bool
 content_eq ps qs = pointwise piece_eq ps qs && nat_eq (pieces_len ps) (pieces_len qs)
 

@@ -35,7 +35,7 @@ map-alike f g [] alike = refl
 map-alike f g (x ∷ xs) alike =
     λ i. All-head (λ y. f y ≡ g y) x xs alike i ∷ map-alike f g xs (All-tail (λ y. f y ≡ g y) x xs alike) i
 
--- two functions that agree on the value, if there is one
+-- two functions that agree on the value, if there is a value
 option_map-alike : {X Y : Type 0} (f g : X → Y) (o : Option X) → IfSome o (λ x. f x ≡ g x) → option_map f o ≡ option_map g o
 option_map-alike f g None alike = refl
 option_map-alike f g (Some x) alike = ap (λ y. Some y) alike
@@ -59,7 +59,7 @@ module _ {C D E : Type 0} (g : D → E) (f : C → D) where
   committed_value-chain : (c : Committed C) → committed_value g (committed_value f c) ≡ committed_value (λ x. g (f x)) c
   committed_value-chain c = λ i. record { etag = c.etag; made = c.made; props = c.props; metadata = c.metadata; blocks = map-chain (block_value g) (block_value f) c.blocks i }
 
-  -- a committed part, if there is one
+  -- a committed part, if there is a committed part
   committed_part_value-chain : (o : Option (Committed C)) → option_map (committed_value g) (option_map (committed_value f) o) ≡ option_map (committed_value (λ x. g (f x))) o
   committed_part_value-chain None = refl
   committed_part_value-chain (Some c) = ap (λ d. Some d) (committed_value-chain c)
@@ -76,7 +76,7 @@ module _ {C D E : Type 0} (g : D → E) (f : C → D) where
     blobs = (map_values-chain names_total names_exact (blob_value g) (blob_value f) p.blobs ∙ (λ j. map_values (λ b. blob_value-chain b j) p.blobs)) i;
   }
 
-  -- the same of a world
+  -- what is read of a world by f and then by g is read by both together
   pub world_value-chain : (w : World C) → world_value g (world_value f w) ≡ world_value (λ x. g (f x)) w
   world_value-chain w = map_values-chain keys_total keys_exact (part_value g) (part_value f) w ∙ (λ i. map_values (λ p. part_value-chain p i) w)
 
@@ -94,7 +94,7 @@ module _ {C D : Type 0} (f g : C → D) where
       blocks : map (block_value f) c.blocks ≡ map (block_value g) c.blocks
       blocks = map-alike (block_value f) (block_value g) c.blocks (All-weaker (λ (block : Block C). f block.content ≡ g block.content) (λ block. block_value f block ≡ block_value g block) block_value-alike c.blocks alike)
 
-  -- a committed part, if there is one
+  -- a committed part, if there is a committed part
   committed_part_value-alike : (o : Option (Committed C)) → IfSome o (EachCommittedContent (λ x. f x ≡ g x)) → option_map (committed_value f) o ≡ option_map (committed_value g) o
   committed_part_value-alike None alike = refl
   committed_part_value-alike (Some c) alike = ap (λ d. Some d) (committed_value-alike c alike)
@@ -183,7 +183,7 @@ module _ {C D : Type 0} (g : C → D) (f : List Piece → C) where
   pub part_value-changed : (a : Act) (p : Part C) → part_value g (changed f a p) ≡ changed (λ ps. g (f ps)) a (part_value g p)
   part_value-changed a p = λ i. record { count = count_after a p.count; standing = standing_after (p.count + 1) a p.standing; blobs = blobs_value (p.count + 1) a p i }
 
-  -- the same of a world
+  -- what is read of a world after a change is what the change leaves of what was read before
   pub world_value-changed_in : (w : World C) (c : KeyedAct) → world_value g (changed_in f w c) ≡ changed_in (λ ps. g (f ps)) (world_value g w) c
   world_value-changed_in w c =
       map_values-insert keys_total keys_exact (part_value g) w c.key _
@@ -211,14 +211,14 @@ module _ {D : Type 0} (f g : List Piece → D) (p : Part D) where
   }
   changed-alike other alike = refl
 
-  -- an act with other pieces, which f reads as g reads its own
+  -- an act with other pieces, if f reads these pieces as g reads the act's own pieces
   pub changed-act_with : (a : Act) (ps : List Piece) → IfSome (content_of a) (λ qs. f ps ≡ g qs) → (content_of a ≡ None → EachActContent (λ qs. f qs ≡ g qs) a) → changed f (act_with a ps) p ≡ changed g a p
   changed-act_with (act.PutBlob a) ps alike rest = ap (λ content. changed (λ qs. content) (act.PutBlob a) p) alike
   changed-act_with (act.PutBlock a) ps alike rest = ap (λ content. changed (λ qs. content) (act.PutBlock a) p) alike
   changed-act_with (act.StoredBlob a) ps alike rest = changed-alike (act.StoredBlob a) (rest refl)
   changed-act_with other ps alike rest = refl
 
--- the same over a container whose contents both read alike
+-- the same over a container whose contents both functions read alike
 pub changed-act_with_alike : {D : Type 0} (f g : List Piece → D) (a : Act) (ps : List Piece) (p : Part (List Piece)) → EachContent (λ qs. f qs ≡ g qs) p → IfSome (content_of a) (λ qs. f ps ≡ g qs) → (content_of a ≡ None → EachActContent (λ qs. f qs ≡ g qs) a) → changed f (act_with a ps) (part_value f p) ≡ changed g a (part_value g p)
 changed-act_with_alike f g a ps p kept alike rest =
     ap (changed f (act_with a ps)) (part_value-alike f g p kept) ∙ changed-act_with f g (part_value g p) a ps alike rest

@@ -8,7 +8,7 @@ use Rattle.stamp_types.specs.declared.piece.Piece.TheVariants.{Bytes}
 use Rattle.stamp_types.specs.Pieces.{cut, cut_at_most, held, piece_len, is_piece, is_pieces, pieces_len}
 use Rattle.stamp_values.proofs.Ranges.{range-capped}
 
--- the bytes are all there, once no more pieces than bytes are asked for
+-- the pieces have all bytes, if at least as many pieces are allowed as there are bytes
 held-cut_at_most : (n : ℕ) (bs : List ℕ) → length bs ≤ n → held (cut_at_most n bs) ≡ bs
 held-cut_at_most zero [] within = refl
 held-cut_at_most zero (b ∷ bs) within = absurd (omega arith)
@@ -20,26 +20,26 @@ held-cut_at_most (suc n) (b ∷ bs) within =
 pub held-cut : (bs : List ℕ) → held (cut bs) ≡ bs
 held-cut bs = held-cut_at_most (length bs) bs (omega arith)
 
--- more pieces than bytes make no difference
-enough : (n m : ℕ) (bs : List ℕ) → length bs ≤ n → length bs ≤ m → cut_at_most n bs ≡ cut_at_most m bs
-enough zero zero bs h k = refl
-enough zero (suc m) [] h k = refl
-enough zero (suc m) (b ∷ bs) h k = absurd (omega arith)
-enough (suc n) zero [] h k = refl
-enough (suc n) zero (b ∷ bs) h k = absurd (omega arith)
-enough (suc n) (suc m) [] h k = refl
-enough (suc n) (suc m) (b ∷ bs) h k =
+-- if at least as many pieces are allowed as there are bytes, the number that is allowed makes no difference
+cut_at_most-enough : (n m : ℕ) (bs : List ℕ) → length bs ≤ n → length bs ≤ m → cut_at_most n bs ≡ cut_at_most m bs
+cut_at_most-enough zero zero bs h k = refl
+cut_at_most-enough zero (suc m) [] h k = refl
+cut_at_most-enough zero (suc m) (b ∷ bs) h k = absurd (omega arith)
+cut_at_most-enough (suc n) zero [] h k = refl
+cut_at_most-enough (suc n) zero (b ∷ bs) h k = absurd (omega arith)
+cut_at_most-enough (suc n) (suc m) [] h k = refl
+cut_at_most-enough (suc n) (suc m) (b ∷ bs) h k =
     ap (λ rest. Bytes (take 4194304 (b ∷ bs)) ∷ rest)
-    (enough n m (drop 4194304 (b ∷ bs)) (omega (arith, length-drop 4194304 (b ∷ bs))) (omega (arith, length-drop 4194304 (b ∷ bs))))
+    (cut_at_most-enough n m (drop 4194304 (b ∷ bs)) (omega (arith, length-drop 4194304 (b ∷ bs))) (omega (arith, length-drop 4194304 (b ∷ bs))))
 
--- a piece, and then those of the rest
+-- first a piece, and then the pieces of the rest
 pub cut-step : (bs : List ℕ) → 0 < length bs → cut bs ≡ Bytes (take 4194304 bs) ∷ cut (drop 4194304 bs)
 cut-step [] some = absurd (omega arith)
 cut-step (b ∷ bs) some =
     ap (λ rest. Bytes (take 4194304 (b ∷ bs)) ∷ rest)
-    (enough (length bs) (length (drop 4194304 (b ∷ bs))) (drop 4194304 (b ∷ bs)) (omega (arith, length-drop 4194304 (b ∷ bs))) (omega arith))
+    (cut_at_most-enough (length bs) (length (drop 4194304 (b ∷ bs))) (drop 4194304 (b ∷ bs)) (omega (arith, length-drop 4194304 (b ∷ bs))) (omega arith))
 
--- one more piece in front of what is left
+-- one more piece before the pieces of what is left
 pub cut_more : (ps new whole : List Piece) (bs : List ℕ) (at : ℕ) (p : Piece) → at < length bs → p ≡ Bytes (take 4194304 (drop at bs)) → new ≡ ps ++ p ∷ [] → ps ++ cut (drop at bs) ≡ whole → new ++ cut (drop (at + 4194304) bs) ≡ whole
 cut_more ps new whole bs at p some is made was =
     let rest = cut (drop (at + 4194304) bs) in
@@ -49,53 +49,53 @@ cut_more ps new whole bs at p some is made was =
     ap (λ l. l ++ rest) made ∙ append_assoc ps (p ∷ []) rest ∙ ap (λ l. ps ++ l) step ∙ was
 
 -- what is taken from the front
-taken-some : (n : ℕ) (bs : List ℕ) → 1 ≤ n → 1 ≤ length bs → 1 ≤ length (take n bs)
-taken-some n bs some there = omega (arith, length-take n bs)
+take-some : (n : ℕ) (bs : List ℕ) → 1 ≤ n → 1 ≤ length bs → 1 ≤ length (take n bs)
+take-some n bs some there = omega (arith, length-take n bs)
 
-taken-within : (n : ℕ) (bs : List ℕ) → length (take n bs) ≤ n
-taken-within n bs = omega (arith, length-take n bs)
+length-take_within : (n : ℕ) (bs : List ℕ) → length (take n bs) ≤ n
+length-take_within n bs = omega (arith, length-take n bs)
 
-parts_len : (n : ℕ) (bs : List ℕ) → length (take n bs) + length (drop n bs) ≡ length bs
-parts_len n bs = omega (arith, length-take n bs, length-drop n bs)
+length-take_drop : (n : ℕ) (bs : List ℕ) → length (take n bs) + length (drop n bs) ≡ length bs
+length-take_drop n bs = omega (arith, length-take n bs, length-drop n bs)
 
 -- each piece has 1 to 4,194,304 bytes
-are_pieces : (n : ℕ) (bs : List ℕ) → list_all is_piece (cut_at_most n bs) ≡ true
-are_pieces zero bs = refl
-are_pieces (suc n) [] = refl
-are_pieces (suc n) (b ∷ bs) =
+is_piece-cut_at_most : (n : ℕ) (bs : List ℕ) → list_all is_piece (cut_at_most n bs) ≡ true
+is_piece-cut_at_most zero bs = refl
+is_piece-cut_at_most (suc n) [] = refl
+is_piece-cut_at_most (suc n) (b ∷ bs) =
     and_from (is_piece (Bytes (take 4194304 (b ∷ bs)))) (list_all is_piece (cut_at_most n (drop 4194304 (b ∷ bs))))
     (and_from (nat_le 1 (length (take 4194304 (b ∷ bs)))) (nat_le (length (take 4194304 (b ∷ bs))) 4194304)
-    (le-leb 1 (length (take 4194304 (b ∷ bs))) (taken-some 4194304 (b ∷ bs) (lit≤ tt) (omega arith)))
-    (le-leb (length (take 4194304 (b ∷ bs))) 4194304 (taken-within 4194304 (b ∷ bs))))
-    (are_pieces n (drop 4194304 (b ∷ bs)))
+    (le-leb 1 (length (take 4194304 (b ∷ bs))) (take-some 4194304 (b ∷ bs) (lit≤ tt) (omega arith)))
+    (le-leb (length (take 4194304 (b ∷ bs))) 4194304 (length-take_within 4194304 (b ∷ bs))))
+    (is_piece-cut_at_most n (drop 4194304 (b ∷ bs)))
 
--- as many pieces as there are times 4,194,304 bytes
-few : (k n : ℕ) (bs : List ℕ) → length bs ≤ k * 4194304 → length (cut_at_most n bs) ≤ k
-few k zero bs within = omega arith
-few k (suc n) [] within = omega arith
-few zero (suc n) (b ∷ bs) within = absurd (omega arith)
-few (suc k) (suc n) (b ∷ bs) within =
-    omega (arith, few k n (drop 4194304 (b ∷ bs)) (omega (arith, length-drop 4194304 (b ∷ bs))))
+-- if the bytes are at most k times 4,194,304, there are at most k pieces
+length-cut_at_most : (k n : ℕ) (bs : List ℕ) → length bs ≤ k * 4194304 → length (cut_at_most n bs) ≤ k
+length-cut_at_most k zero bs within = omega arith
+length-cut_at_most k (suc n) [] within = omega arith
+length-cut_at_most zero (suc n) (b ∷ bs) within = absurd (omega arith)
+length-cut_at_most (suc k) (suc n) (b ∷ bs) within =
+    omega (arith, length-cut_at_most k n (drop 4194304 (b ∷ bs)) (omega (arith, length-drop 4194304 (b ∷ bs))))
 
 pub is_pieces-cut : (bs : List ℕ) → length bs ≤ 67108864 → is_pieces (cut bs) ≡ true
 is_pieces-cut bs within =
-    and_from (nat_le (length (cut bs)) 16) (list_all is_piece (cut bs)) (le-leb (length (cut bs)) 16 (few 16 (length bs) bs within)) (are_pieces (length bs) bs)
+    and_from (nat_le (length (cut bs)) 16) (list_all is_piece (cut bs)) (le-leb (length (cut bs)) 16 (length-cut_at_most 16 (length bs) bs within)) (is_piece-cut_at_most (length bs) bs)
 
-len_at_most : (n : ℕ) (bs : List ℕ) → length bs ≤ n → pieces_len (cut_at_most n bs) ≡ length bs
-len_at_most zero [] within = refl
-len_at_most zero (b ∷ bs) within = absurd (omega arith)
-len_at_most (suc n) [] within = refl
-len_at_most (suc n) (b ∷ bs) within =
+pieces_len-cut_at_most : (n : ℕ) (bs : List ℕ) → length bs ≤ n → pieces_len (cut_at_most n bs) ≡ length bs
+pieces_len-cut_at_most zero [] within = refl
+pieces_len-cut_at_most zero (b ∷ bs) within = absurd (omega arith)
+pieces_len-cut_at_most (suc n) [] within = refl
+pieces_len-cut_at_most (suc n) (b ∷ bs) within =
     let rest = cut_at_most n (drop 4194304 (b ∷ bs)) in
     sum_by-cons piece_len (Bytes (take 4194304 (b ∷ bs))) rest
-    ∙ ap (λ k. length (take 4194304 (b ∷ bs)) + k) (len_at_most n (drop 4194304 (b ∷ bs)) (omega (arith, length-drop 4194304 (b ∷ bs))))
-    ∙ parts_len 4194304 (b ∷ bs)
+    ∙ ap (λ k. length (take 4194304 (b ∷ bs)) + k) (pieces_len-cut_at_most n (drop 4194304 (b ∷ bs)) (omega (arith, length-drop 4194304 (b ∷ bs))))
+    ∙ length-take_drop 4194304 (b ∷ bs)
 
 -- the pieces have as many bytes as were cut
 pub pieces_len-cut : (bs : List ℕ) → pieces_len (cut bs) ≡ length bs
-pieces_len-cut bs = len_at_most (length bs) bs (omega arith)
+pieces_len-cut bs = pieces_len-cut_at_most (length bs) bs (omega arith)
 
--- a slice from a place, of the bytes asked for or of as many as there are
+-- a slice from an index, of the bytes that are asked for, or of all bytes from there if there are fewer
 pub slice-capped : (bs : List ℕ) (at n : ℕ) → at < length bs → slice_range bs at (at + min (length bs - at) n) ≡ take n (drop at bs)
 slice-capped bs at n within =
     let end : at + min (length bs - at) n ≡ min (length bs) (at + n) = omega arith in

@@ -132,12 +132,12 @@ module _ {C : Type 0} (P : C → Type 0) where
   each_committed None id each = tt
   each_committed (Some c) id each = of_read P (λ (block : Block C). block.content) _ (of_found (λ (block : Block C). P block.content) (has_block_id id) c.blocks each)
 
-  -- the content that is found where a block list says
+  -- the content that is found among the blocks that a block list says
   pub IfSome-content_from : (s : Source) (id : List ℕ) (b : Blob C) → EachBlobContent P b → IfSome (content_from s id b) P
   IfSome-content_from source.Uncommitted id b each = each.uncommitted id
   IfSome-content_from source.Committed id b each = each_committed b.committed id each.committed
 
-  -- a block for content that was found, and none for content that was not
+  -- a block for content that was found, and no block if no content was found
   each_block : (id : List ℕ) (o : Option C) → IfSome o P → All (λ (block : Block C). P block.content) (option_to_list (option_map (block_of id) o))
   each_block id None is = All-nil _
   each_block id (Some content) is = All-cons (λ (block : Block C). P block.content) (block_of id content) [] is (All-nil _)
@@ -231,7 +231,7 @@ module _ {C : Type 0} (P : C → Type 0) (f : List Piece → C) where
       each_inserted P p.blobs a.blob _
       (record { committed = committed_read P f a.committed new.0; uncommitted = each_stored a.uncommitted new.1 }) old
 
-  -- after a change, a container has the content that it had and the content that the act brings, and no other
+  -- after a change, a container has the content that it had and the content that the act brings, and no other content
   pub EachContent-changed : (a : Act) (p : Part C) → EachContent P p → EachActContent (λ ps. P (f ps)) a → EachContent P (changed f a p)
   EachContent-changed a p old new = blobs_each (p.count + 1) a p old new
 

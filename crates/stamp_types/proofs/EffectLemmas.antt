@@ -25,7 +25,7 @@ use Rattle.stamp_types.specs.declared.act.SetMetadata.{SetMetadata}
 use Rattle.stamp_types.specs.declared.standing.Standing.{Standing}
 use Rattle.stamp_types.specs.ActKinds.{is_row}
 use Rattle.stamp_types.specs.World.{standing_with_metadata, standing_with_acl}
-use Rattle.stamp_types.proofs.WorldLemmas.{map-append, tied}
+use Rattle.stamp_types.proofs.WorldLemmas.{map-append, equal_if_is_eq}
 
 -- ---- look-ups in a map by names
 
@@ -42,13 +42,13 @@ module _ {X : Type 0} (m : FinMap name_cmp X) where
   get-insert_same k v = finite.get-insert names_total m k v k ∙ first_of _ _ _ ((eq_by_cmp_equiv names_total).refl k)
 
   pub get-insert_other : (k : List ℕ) (v : X) (q : List ℕ) → (q ≡ k → ⊥) → finite.get (finite.insert m k v) q ≡ finite.get m q
-  get-insert_other k v q other = finite.get-insert names_total m k v q ∙ second_of _ _ _ (λ h. other (names_exact q k (tied _ h)))
+  get-insert_other k v q other = finite.get-insert names_total m k v q ∙ second_of _ _ _ (λ h. other (names_exact q k (equal_if_is_eq _ h)))
 
   pub get-remove_same : (k : List ℕ) → finite.get (finite.remove m k) k ≡ None
   get-remove_same k = finite.get-remove names_total m k k ∙ first_of _ _ _ ((eq_by_cmp_equiv names_total).refl k)
 
   pub get-remove_other : (k q : List ℕ) → (q ≡ k → ⊥) → finite.get (finite.remove m k) q ≡ finite.get m q
-  get-remove_other k q other = finite.get-remove names_total m k q ∙ second_of _ _ _ (λ h. other (names_exact q k (tied _ h)))
+  get-remove_other k q other = finite.get-remove names_total m k q ∙ second_of _ _ _ (λ h. other (names_exact q k (equal_if_is_eq _ h)))
 
 -- ---- the blob that a change is about
 
@@ -65,7 +65,7 @@ module _ {C : Type 0} (f : List Piece → C) (p : Part C) where
   metadata_of_others a None other apart = refl
   metadata_of_others a (Some c) other apart = get-insert_other p.blobs a.blob _ other apart
 
-  -- the other blobs
+  -- a change of a blob leaves each blob of another name
   pub same_others : (a : Act) (name other : List ℕ) → blob_named a ≡ Some name → (other ≡ name → ⊥) → finite.get (changed f a p).blobs other ≡ finite.get p.blobs other
   same_others (act.CreateContainer a) name other h apart = cc
   same_others (act.SetContainerMetadata a) name other h apart = cc
@@ -79,7 +79,7 @@ module _ {C : Type 0} (f : List Piece → C) (p : Part C) where
   same_others (act.ContainerRow a) name other h apart = cc
   same_others (act.StoredBlob a) name other h apart = get-insert_other p.blobs a.blob _ other (λ e. apart cc)
 
-  -- a blob that was put is what was put
+  -- the blob under the name of a blob that was put is the blob that was put
   pub blob_in-insert : (count : ℕ) (standing : Option Standing) (name : List ℕ) (b : Blob C) → blob_in (record { count = count; standing = standing; blobs = finite.insert p.blobs name b }) name ≡ b
   blob_in-insert count standing name b = ap (λ o. unwrap_or o no_blob) (get-insert_same p.blobs name b)
 
@@ -198,28 +198,28 @@ module _ {C : Type 0} (f : List Piece → C) (p : Part C) (h : EtagsAtMost p.cou
   blobs_bounded (act.ContainerRow a) r = cc
   blobs_bounded (act.StoredBlob a) r = cc
 
-  abbrev StandsAtMost : ℕ → Option Standing → Type 0
-  StandsAtMost n o = IfSome o (λ s. s.etag ≤ n)
+  abbrev StandingAtMost : ℕ → Option Standing → Type 0
+  StandingAtMost n o = IfSome o (λ s. s.etag ≤ n)
 
-  stands_more : (o : Option Standing) → StandsAtMost p.count o → StandsAtMost (p.count + 1) o
-  stands_more None s = s
-  stands_more (Some t) s = omega arith
+  standing_more : (o : Option Standing) → StandingAtMost p.count o → StandingAtMost (p.count + 1) o
+  standing_more None s = s
+  standing_more (Some t) s = omega arith
 
-  stands_with_metadata : (n : ℕ) (a : _) (o : Option Standing) → StandsAtMost n (option_map (standing_with_metadata n a) o)
-  stands_with_metadata n a None = tt
-  stands_with_metadata n a (Some s) = omega arith
+  standing_with_metadata_bounded : (n : ℕ) (a : _) (o : Option Standing) → StandingAtMost n (option_map (standing_with_metadata n a) o)
+  standing_with_metadata_bounded n a None = tt
+  standing_with_metadata_bounded n a (Some s) = omega arith
 
-  stands_with_acl : (n : ℕ) (a : _) (o : Option Standing) → StandsAtMost n (option_map (standing_with_acl n a) o)
-  stands_with_acl n a None = tt
-  stands_with_acl n a (Some s) = omega arith
+  standing_with_acl_bounded : (n : ℕ) (a : _) (o : Option Standing) → StandingAtMost n (option_map (standing_with_acl n a) o)
+  standing_with_acl_bounded n a None = tt
+  standing_with_acl_bounded n a (Some s) = omega arith
 
-  container_bounded : (a : Act) → is_row a ≡ false → StandsAtMost (p.count + 1) (changed f a p).standing
+  container_bounded : (a : Act) → is_row a ≡ false → StandingAtMost (p.count + 1) (changed f a p).standing
   container_bounded (act.CreateContainer a) r = omega arith
-  container_bounded (act.SetContainerMetadata a) r = stands_with_metadata (p.count + 1) a p.standing
-  container_bounded (act.SetAcl a) r = stands_with_acl (p.count + 1) a p.standing
+  container_bounded (act.SetContainerMetadata a) r = standing_with_metadata_bounded (p.count + 1) a p.standing
+  container_bounded (act.SetAcl a) r = standing_with_acl_bounded (p.count + 1) a p.standing
   container_bounded act.DeleteContainer r = tt
   container_bounded (act.ContainerRow a) r = cc
-  container_bounded other r = stands_more p.standing h.container
+  container_bounded other r = standing_more p.standing h.container
 
   pub etags_bounded : (a : Act) → is_row a ≡ false → EtagsAtMost (p.count + 1) (changed f a p)
   etags_bounded a r = record { container = container_bounded a r; blobs = blobs_bounded a r }

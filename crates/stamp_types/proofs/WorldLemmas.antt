@@ -1,5 +1,5 @@
--- Content read by a function, before a change or after it.
-use Rattle.std.proofs.Common.{◌≡◌, ℕ, ◌+◌, List, [], ◌∷◌, ◌++◌, Option, Some, None, refl, sym, ap, ◌∙◌, map, unwrap_or}
+-- Look-ups in a container and in a world: after content is read by a function, and after a change.
+use Rattle.std.proofs.Common.{◌≡◌, ℕ, List, [], ◌∷◌, ◌++◌, Option, Some, None, refl, sym, ap, ◌∙◌, map, unwrap_or}
 use Rattle.std.specs.Prelude.{find, cond, Bool, true, false}
 use Rattle.std.specs.Ordering.{eq_by_cmp, is_eq}
 use Rattle.std.specs.Cmp.{eq_by_cmp_equiv}
@@ -7,9 +7,8 @@ use Rattle.std.specs.declared.cmp.Ordering.{Ordering}
 use Rattle.std.specs.declared.cmp.Ordering.TheVariants.{Less, Equal, Greater}
 use Rattle.std.specs.Option.{option_map, option_and_then, option_to_list}
 use Rattle.std.specs.FinMap as finite
-use Rattle.stamp_values.specs.Order.{name_cmp, names_total, names_exact, key_cmp, keys_total, keys_exact}
-use Rattle.stamp_values.specs.Maps.{map_values}
-use Rattle.stamp_types.specs.World.{Blob, Part, World, no_blob, no_part, blob_in, part_at, block_value, committed_value, blob_value, part_value, world_value, taken_blocks, content_from, committed_content, has_block_id, block_of, with_committed, committed_with_metadata, uncommitted_entry, whole_block, count_after, standing_after, blobs_after, changed, changed_in, same_pieces}
+use Rattle.stamp_values.specs.Order.{names_total, names_exact, key_cmp, keys_total, keys_exact}
+use Rattle.stamp_types.specs.World.{Blob, Part, World, no_blob, no_part, blob_in, part_at, block_value, committed_value, blob_value, part_value, world_value, taken_blocks, content_from, committed_content, has_block_id, block_of, changed, changed_in}
 use Rattle.stamp_types.specs.Changes.{KeyedAct}
 use Rattle.stamp_values.specs.declared.key.Key.{Key}
 use Rattle.stamp_values.specs.declared.block.Taken.{Taken}
@@ -18,15 +17,9 @@ use Rattle.stamp_values.specs.declared.block.Source.TheVariants as source
 use Rattle.stamp_types.specs.declared.piece.Piece.{Piece}
 use Rattle.stamp_types.specs.declared.committed.Block.{Block}
 use Rattle.stamp_types.specs.declared.committed.Committed.{Committed}
-use Rattle.stamp_types.specs.declared.act.SetMetadata.{SetMetadata}
-use Rattle.stamp_types.specs.declared.act.Act.{Act}
-use Rattle.stamp_types.specs.declared.act.Act.TheVariants as act
-use Rattle.stamp_values.proofs.MapsLemmas.{get-map_values, map_values-empty, map_values-insert, map_values-remove, map_values-from_entries}
+use Rattle.stamp_values.proofs.MapsLemmas.{get-map_values, map_values-empty}
 
--- two readings, one after the other
-map-chain : {X Y Z : Type 0} (g : Y → Z) (f : X → Y) (xs : List X) → map g (map f xs) ≡ map (λ x. g (f x)) xs
-map-chain g f [] = refl
-map-chain g f (x ∷ xs) = ap (λ ys. g (f x) ∷ ys) (map-chain g f xs)
+-- ---- readings
 
 pub map-append : {X Y : Type 0} (f : X → Y) (xs ys : List X) → map f (xs ++ ys) ≡ map f xs ++ map f ys
 map-append f [] ys = refl
@@ -79,73 +72,12 @@ module _ {C D : Type 0} (f : C → D) where
       ∙ ap (λ front. front ++ map (block_value f) (taken_blocks b es)) (one_block e.id (content_from e.from e.id b))
       ∙ sym (map-append (block_value f) (option_to_list (option_map (block_of e.id) (content_from e.from e.id b))) (taken_blocks b es))
 
-  with_new_metadata : (n : ℕ) (a : SetMetadata) (p : Part C) (o : Option (Committed C))
-      → map_values (blob_value f) (with_committed p a.blob (option_map (committed_with_metadata n a) o))
-      ≡ with_committed (part_value f p) a.blob (option_map (committed_with_metadata n a) (option_map (committed_value f) o))
-  with_new_metadata n a p None = refl
-  with_new_metadata n a p (Some c) =
-      map_values-insert names_total names_exact (blob_value f) p.blobs a.blob _
-      ∙ ap (λ b. finite.insert (map_values (blob_value f) p.blobs) a.blob b)
-      (λ i. record { committed = Some (committed_with_metadata n a (committed_value f c)); uncommitted = (sym (blob_in-part_value p a.blob) i).uncommitted })
+-- ---- what a change does to the container that it names, and to other containers
 
--- the content of a change is read before it or after it
-module _ {D : Type 0} (f : List Piece → D) where
-  again : (c : Committed (List Piece)) → committed_value f (committed_value same_pieces c) ≡ committed_value f c
-  again c = λ i. record { etag = c.etag; made = c.made; props = c.props; metadata = c.metadata; blocks = map-chain (block_value f) (block_value same_pieces) c.blocks i }
-
-  once_more : (o : Option (Committed (List Piece))) → option_map (committed_value f) (option_map (committed_value same_pieces) o) ≡ option_map (committed_value f) o
-  once_more None = refl
-  once_more (Some c) = ap (λ d. Some d) (again c)
-
-  blobs_value : (n : ℕ) (a : Act) (p : Part (List Piece)) → map_values (blob_value f) (blobs_after same_pieces n a p) ≡ blobs_after f n a (part_value f p)
-  blobs_value n (act.CreateContainer a) p = refl
-  blobs_value n (act.SetContainerMetadata a) p = refl
-  blobs_value n (act.SetAcl a) p = refl
-  blobs_value n act.DeleteContainer p = map_values-empty names_total names_exact (blob_value f)
-  blobs_value n (act.PutBlob a) p =
-      map_values-insert names_total names_exact (blob_value f) p.blobs a.blob _
-      ∙ ap (finite.insert (map_values (blob_value f) p.blobs) a.blob)
-      (λ i. record { committed = Some (record { etag = n; made = a.moment; props = a.props; metadata = a.metadata; blocks = whole_block (f a.content) ∷ [] }); uncommitted = map_values-empty names_total names_exact f i })
-  blobs_value n (act.SetMetadata a) p =
-      with_new_metadata f n a p (blob_in p a.blob).committed
-      ∙ ap (λ (b : Blob D). with_committed (part_value f p) a.blob (option_map (committed_with_metadata n a) b.committed)) (sym (blob_in-part_value f p a.blob))
-  blobs_value n (act.DeleteBlob a) p = map_values-remove names_total names_exact (blob_value f) p.blobs a.blob
-  blobs_value n (act.PutBlock a) p =
-      map_values-insert names_total names_exact (blob_value f) p.blobs a.blob _
-      ∙ ap (finite.insert (map_values (blob_value f) p.blobs) a.blob)
-      ((λ i. record { committed = option_map (committed_value f) (blob_in p a.blob).committed; uncommitted = map_values-insert names_total names_exact f (blob_in p a.blob).uncommitted a.id a.content i })
-      ∙ ap (λ (b : Blob D). record { committed = b.committed; uncommitted = finite.insert b.uncommitted a.id (f a.content) }) (sym (blob_in-part_value f p a.blob)))
-  blobs_value n (act.PutBlockList a) p =
-      map_values-insert names_total names_exact (blob_value f) p.blobs a.blob _
-      ∙ ap (finite.insert (map_values (blob_value f) p.blobs) a.blob)
-      (λ i. record {
-        committed = Some (record { etag = n; made = a.moment; props = a.props; metadata = a.metadata; blocks = (sym (taken_blocks-blob_value f (blob_in p a.blob) a.entries) ∙ ap (λ b. taken_blocks b a.entries) (sym (blob_in-part_value f p a.blob))) i });
-        uncommitted = map_values-empty names_total names_exact f i;
-      })
-  blobs_value n (act.ContainerRow a) p = refl
-  blobs_value n (act.StoredBlob a) p =
-      map_values-insert names_total names_exact (blob_value f) p.blobs a.blob _
-      ∙ ap (finite.insert (map_values (blob_value f) p.blobs) a.blob)
-      (λ i. record {
-        committed = once_more a.committed i;
-        uncommitted = (map_values-from_entries names_total names_exact f (map (uncommitted_entry same_pieces) a.uncommitted)
-            ∙ ap (λ es. finite.from_entries {R = name_cmp} es) (map-chain _ (uncommitted_entry same_pieces) a.uncommitted)) i;
-      })
-
-  pub changed-part_value : (a : Act) (p : Part (List Piece)) → part_value f (changed same_pieces a p) ≡ changed f a (part_value f p)
-  changed-part_value a p = λ i. record { count = count_after a p.count; standing = standing_after (p.count + 1) a p.standing; blobs = blobs_value (p.count + 1) a p i }
-
-  pub changed_in-world_value : (w : World (List Piece)) (c : KeyedAct) → world_value f (changed_in same_pieces w c) ≡ changed_in f (world_value f w) c
-  changed_in-world_value w c =
-      map_values-insert keys_total keys_exact (part_value f) w c.key _
-      ∙ ap (finite.insert (world_value f w) c.key)
-      (changed-part_value c.act (part_at w c.key) ∙ ap (changed f c.act) (sym (part_at-world_value f w c.key)))
-
--- what a change does to the container that it names, and to the others
-pub tied : (o : Ordering) → is_eq o ≡ true → o ≡ Equal
-tied Less h = cc
-tied Equal h = refl
-tied Greater h = cc
+pub equal_if_is_eq : (o : Ordering) → is_eq o ≡ true → o ≡ Equal
+equal_if_is_eq Less h = cc
+equal_if_is_eq Equal h = refl
+equal_if_is_eq Greater h = cc
 
 chosen : {X : Type 0} (b : Bool) (x : X) (o : Option X) (d : X) → b ≡ true → unwrap_or (cond b (Some x) o) d ≡ x
 chosen true x o d h = refl
@@ -164,4 +96,4 @@ pub part_at-changed_in_others : {C : Type 0} (f : List Piece → C) (w : World C
 part_at-changed_in_others f w c k other =
     ap (λ o. unwrap_or o no_part)
     (finite.get-insert keys_total w c.key (changed f c.act (part_at w c.key)) k
-    ∙ passed (eq_by_cmp key_cmp k c.key) (changed f c.act (part_at w c.key)) (finite.get w k) (λ h. other (keys_exact k c.key (tied (key_cmp k c.key) h))))
+    ∙ passed (eq_by_cmp key_cmp k c.key) (changed f c.act (part_at w c.key)) (finite.get w k) (λ h. other (keys_exact k c.key (equal_if_is_eq (key_cmp k c.key) h))))

@@ -4,13 +4,13 @@ use Rattle.std.specs.Prelude.{Bool, true, false}
 use Rattle.stamp_types.specs.declared.act.Act.{Act}
 use Rattle.stamp_types.specs.declared.act.Act.TheVariants as act
 
--- a row of a checkpoint, which is what changes before it left
+-- the act is a row of a checkpoint, which says what the changes before the checkpoint left
 abbrev pub is_row : Act → Bool
 is_row (act.ContainerRow a) = true
 is_row (act.StoredBlob a) = true
 is_row other = false
 
--- the change may alter who may: it makes the container, sets its access, deletes it, or is its row of a checkpoint
+-- the act may alter the level and the policies: it makes the container, sets its access, deletes it, or is its row of a checkpoint
 abbrev pub sets_access : Act → Bool
 sets_access (act.CreateContainer a) = true
 sets_access (act.SetAcl a) = true

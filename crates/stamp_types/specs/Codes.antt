@@ -37,7 +37,7 @@ code_text InternalError = codes "InternalError"
 code_text ServerBusy = codes "ServerBusy"
 code_text OperationTimedOut = codes "OperationTimedOut"
 
--- a reply of 304 has no content (RFC 9110, section 15.4.5)
+-- the code has an error body, unless its status is 304: such a reply has no content (RFC 9110, section 15.4.5)
 abbrev pub has_error_body : Code → Bool
 has_error_body NotModified = false
 has_error_body other = true

@@ -13,20 +13,20 @@ use Rattle.stamp_types.specs.World.{Blob, Part, World, blob_in, part_at}
 abbrev pub EachCommittedContent : {C : Type 0} → (C → Type 0) → Committed C → Type 0
 EachCommittedContent P c = All (λ block. P block.content) c.blocks
 
--- P holds of each content of a blob: that of each committed block, and that of each uncommitted block
+-- P holds of each content of a blob: of the content of each committed block, and of the content of each uncommitted block
 pub record EachBlobContent {C : Type 0} (P : C → Type 0) (b : Blob C) : Type 0 where
   pub committed : IfSome b.committed (EachCommittedContent P)
   pub uncommitted : (id : List ℕ) → IfSome (finite.get b.uncommitted id) P
 
--- P holds of each content in a container: that of each blob in it
+-- P holds of each content in a container: of each content of each blob
 abbrev pub EachContent : {C : Type 0} → (C → Type 0) → Part C → Type 0
 EachContent P p = (name : List ℕ) → EachBlobContent P (blob_in p name)
 
--- P holds of each content in a world: that of each container in it
+-- P holds of each content in a world: of each content in each container
 abbrev pub EachWorldContent : {C : Type 0} → (C → Type 0) → World C → Type 0
 EachWorldContent P w = (key : Key) → EachContent P (part_at w key)
 
--- P holds of each content that an act brings: of what Put Blob and Put Block write, and of that of each block in a stored blob's row
+-- P holds of each content that an act brings: of what Put Blob and Put Block write, and of the content of each block in a stored blob's row
 abbrev pub EachActContent : (List Piece → Type 0) → Act → Type 0
 EachActContent P (act.PutBlob a) = P a.content
 EachActContent P (act.PutBlock a) = P a.content

@@ -16,7 +16,7 @@ use Rattle.stamp_types.specs.declared.act.Act.{Act}
 use Rattle.stamp_types.specs.declared.act.Act.TheVariants as act
 use Rattle.stamp_types.specs.World.{Blob, Part, blob_in, content_from}
 
--- the blob that the change is about, if it is about one
+-- the blob that the change is about, if the change is about a blob
 abbrev pub blob_named : Act → Option (List ℕ)
 blob_named (act.PutBlob a) = Some a.blob
 blob_named (act.SetMetadata a) = Some a.blob
@@ -48,24 +48,24 @@ container_stamp s = (s.etag, s.made)
 abbrev pub blob_stamp : {C : Type 0} → Committed C → ℕ × ℕ
 blob_stamp c = (c.etag, c.made)
 
--- this count and this moment, if there is anything that has them
+-- this count and this moment, if there is something that has them
 abbrev pub stamp_if : {X : Type 0} → ℕ → ℕ → Option X → Option (ℕ × ℕ)
 stamp_if n t o = option_map (λ x. (n, t)) o
 
--- the blocks of a blob, and what is kept with it
+-- the blocks of a blob, and the headers that are kept with it
 abbrev pub blocks_and_props : {C : Type 0} → Committed C → List (Block C) × Props
 blocks_and_props c = (c.blocks, c.props)
 
--- what is kept with a blob, and its metadata
+-- the headers that are kept with a blob, and its metadata
 abbrev pub props_and_metadata : {C : Type 0} → Committed C → Props × List Meta
 props_and_metadata c = (c.props, c.metadata)
 
--- no ETag of the container, or of a blob in it, is over the number
+-- no ETag of the container, or of a blob of the container, is over the number
 pub record EtagsAtMost {C : Type 0} (n : ℕ) (p : Part C) : Type 0 where
   pub container : IfSome p.standing (λ s. s.etag ≤ n)
   pub blobs : (name : List ℕ) → IfSome (blob_in p name).committed (λ c. c.etag ≤ n)
 
--- the blob has a block for each entry, where the entry says
+-- the blob has a block for each entry, among the blocks that the entry says
 abbrev pub AreThere : {C : Type 0} → Blob C → List Taken → Type 0
 AreThere b entries = All (λ e. content_from e.from e.id b ≢ None) entries
 

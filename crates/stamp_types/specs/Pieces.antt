@@ -14,15 +14,15 @@ piece_len (At _ n) = n
 abbrev pub pieces_len : List Piece → ℕ
 pieces_len ps = sum_by piece_len ps
 
--- 1 to 4,194,304 bytes
+-- the piece has 1 to 4,194,304 bytes
 abbrev pub is_piece : Piece → Bool
 is_piece p = nat_le 1 (piece_len p) && nat_le (piece_len p) piece_limit
 
--- at most 16 pieces, each of 1 to 4,194,304 bytes
+-- there are at most 16 pieces, and each piece has 1 to 4,194,304 bytes
 abbrev pub is_pieces : List Piece → Bool
 is_pieces ps = nat_le (length ps) pieces_limit && list_all is_piece ps
 
--- the bytes that a piece holds itself: a place holds none
+-- the bytes that a piece holds itself: a piece that is a place in a stream holds no bytes
 abbrev pub piece_bytes : Piece → List ℕ
 piece_bytes (Bytes bs) = bs
 piece_bytes (At _ n) = []
@@ -31,10 +31,12 @@ piece_bytes (At _ n) = []
 abbrev pub held : List Piece → List ℕ
 held ps = flat_map piece_bytes ps
 
+-- the piece holds its bytes
 abbrev pub is_held_piece : Piece → Bool
 is_held_piece (Bytes bs) = true
 is_held_piece (At _ n) = false
 
+-- the piece is a place in a stream
 abbrev pub is_placed_piece : Piece → Bool
 is_placed_piece (Bytes bs) = false
 is_placed_piece (At _ n) = true
@@ -43,16 +45,16 @@ is_placed_piece (At _ n) = true
 abbrev pub is_held : List Piece → Bool
 is_held ps = list_all is_held_piece ps
 
--- each piece is a place
+-- each piece is a place in a stream
 abbrev pub is_placed : List Piece → Bool
 is_placed ps = list_all is_placed_piece ps
 
--- at most `n` pieces: 4,194,304 bytes from the front, and then the rest in the same way
+-- the bytes cut into at most `n` pieces: first a piece of 4,194,304 bytes from the front, then the rest in the same way
 abbrev pub cut_at_most : ℕ → List ℕ → List Piece
 cut_at_most zero bs = []
 cut_at_most (suc n) [] = []
 cut_at_most (suc n) (b ∷ bs) = Bytes (take piece_limit (b ∷ bs)) ∷ cut_at_most n (drop piece_limit (b ∷ bs))
 
--- slices of 4,194,304 bytes and the rest; there are no more pieces than bytes, and no bytes give none
+-- the bytes cut into pieces of 4,194,304 bytes and the rest; there are never more pieces than bytes, and an empty list gives no pieces
 abbrev pub cut : List ℕ → List Piece
 cut bs = cut_at_most (length bs) bs

@@ -26,7 +26,7 @@ refusal_reply r headers body = record {
   body = body;
 }
 
--- the reply to a request that is refused
+-- the reply to a request that is refused: the error in XML, if the code has an error body
 abbrev pub denied : Refusal → Reply
 denied r =
     if has_error_body r.code then refusal_reply r (ContentType (codes "application/xml") ∷ []) (error_body r.code r.rule)

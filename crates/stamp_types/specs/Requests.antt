@@ -10,114 +10,115 @@ use Rattle.stamp_values.specs.Names.{is_account, is_container, is_blob}
 use Rattle.stamp_values.specs.MetadataLists.{metadata_len}
 use Rattle.stamp_values.specs.Limits.{args_limit, page_limit}
 
--- the bytes of a text, none where it isn't given
+-- how many bytes a text has: 0 if the text isn't given
 abbrev pub given_len : Option (List ℕ) → ℕ
 given_len None = 0
 given_len (Some t) = length t
 
--- the bytes of the four texts that a blob is to keep
+-- how many bytes the four texts that a blob is to keep have together
 abbrev pub kept_len : Option Kept → ℕ
 kept_len None = 0
 kept_len (Some k) = length k.content_type + length k.encoding + length k.language + length k.cache_control
 
--- the bytes of the three texts of a page
+-- how many bytes the three texts of a page have together
 abbrev pub page_len : Option Page → ℕ
 page_len None = 0
 page_len (Some p) = given_len p.prefix + given_len p.delimiter + given_len p.marker
 
--- the bytes of all texts and ids that come with a request
+-- how many bytes all texts and ids that come with a request have together
 abbrev pub args_len : Args → ℕ
 args_len a = kept_len a.kept + metadata_len a.metadata + page_len a.page + given_len a.block
 
--- a text that is given is not empty
+-- the text is not empty, if it is given
 abbrev pub IsGiven : Option (List ℕ) → Type 0
 IsGiven t = IfSome t (λ t. 1 ≤ length t)
 
--- names may be listed so
+-- names may be listed in this way
 pub record IsPage (p : Page) : Type 0 where
   -- at least one name is asked for
   pub some : 1 ≤ p.max
-  -- and no more than a page may have
+  -- no more names are asked for than a page may have
   pub most : p.max ≤ page_limit
   -- a prefix that is given is not empty
   pub prefix : IsGiven p.prefix
-  -- nor is a delimiter
+  -- a delimiter that is given is not empty
   pub delimiter : IsGiven p.delimiter
-  -- nor a marker
+  -- a marker that is given is not empty
   pub marker : IsGiven p.marker
 
--- account, container and blob are named as the operation wants
+-- account, container and blob are named as the operation needs them
 pub record IsNamed (a : Ask) : Type 0 where
   -- the account's name is good
   pub account : IsTrue (is_account a.key.account)
-  -- a container is named where the operation has one, and nowhere else
+  -- a container is named if and only if the operation names a container
   pub container : not (length a.key.container == 0) ≡ names_container a.op
-  -- and its name is good
+  -- the container's name is good
   pub container_name : IsTrue (names_container a.op) → IsTrue (is_container a.key.container)
-  -- a blob is named where the operation has one, and nowhere else
+  -- a blob is named if and only if the operation names a blob
   pub blob : is_some a.blob ≡ names_blob a.op
-  -- and its name is good
+  -- the blob's name is good
   pub blob_name : IfSome a.blob (λ b. IsTrue (is_blob b))
 
--- what may be left out comes with no operation that has no use for it
+-- if the operation has no use for something that may be left out, the request does not have it
 pub record HasNoMore (a : Ask) : Type 0 where
-  -- If-Match comes where the operation has conditions, or not at all
+  -- If-Match comes only if the operation has conditions
   pub if_match : IsSome a.args.if_match → IsTrue (has_conditions a.op)
-  -- and so does If-None-Match
+  -- If-None-Match comes only if the operation has conditions
   pub if_none_match : IsSome a.args.if_none_match → IsTrue (has_conditions a.op)
-  -- Content-MD5 comes with PUT, or not at all
+  -- Content-MD5 comes only if the operation checks the MD5 of the body
   pub content_md5 : IsSome a.args.content_md5 → IsTrue (checks_md5 a.op)
-  -- a range comes with Get Blob, or not at all
+  -- a range comes only with Get Blob
   pub range : IsSome a.args.range → a.op ≡ GetBlob
-  -- and its first byte is not behind its last
+  -- the first byte of a range is not after its last byte
   pub range_order : IfSome a.args.range (λ r. IfSome r.last (λ last. r.first ≤ last))
-  -- metadata come where the operation keeps them, or not at all
+  -- metadata comes only if the operation keeps metadata
   pub metadata : keeps_metadata a.op ≡ false → a.args.metadata ≡ []
 
--- what the operation needs is there, and comes with no other
+-- what only some operations have comes with these operations, and with no other operation
 pub record HasItsOwn (a : Ask) : Type 0 where
-  -- headers to keep come where the operation keeps them, and nowhere else
+  -- headers to keep come if and only if the operation keeps headers
   pub kept : is_some a.args.kept ≡ keeps_headers a.op
-  -- a level of access comes where the operation sets one, and nowhere else
+  -- a level of access comes if and only if the operation sets a level
   pub level : is_some a.args.level ≡ sets_level a.op
-  -- the id of a block comes with Put Block, and nowhere else
+  -- the id of a block comes if and only if the operation is Put Block
   pub block : IsSome a.args.block ↔ (a.op ≡ PutBlock)
-  -- kinds of blocks come with Get Block List, and nowhere else
+  -- kinds of blocks come if and only if the operation is Get Block List
   pub kinds : IsSome a.args.kinds ↔ (a.op ≡ GetBlockList)
 
--- a page is asked for by operations that list names alone, and is a good one
+-- a page is asked for if and only if the operation lists names, and the page is good
 pub record HasItsPage (a : Ask) : Type 0 where
-  -- a page comes where the operation lists names, and nowhere else
+  -- a page comes if and only if the operation lists names
   pub page : is_some a.args.page ≡ lists_names a.op
-  -- and has good parts
+  -- the page has good parts
   pub parts : IfSome a.args.page IsPage
   -- containers are listed with no delimiter
   pub delimiter : a.op ≡ ListContainers → IfSome a.args.page (λ p. p.delimiter ≡ None)
 
 -- path and arguments fit the operation; what is signed and the credential may be any
 pub record IsAsk (a : Ask) : Type 0 where
-  -- good names stand where the operation has them
+  -- the names are good, and are the names that the operation needs
   pub names : IsNamed a
-  -- nothing comes that it has no use for
+  -- nothing comes that the operation has no use for
   pub no_more : HasNoMore a
-  -- what it needs is there
+  -- what the operation needs is there
   pub own : HasItsOwn a
-  -- and so is its page
+  -- a page is there if the operation needs a page
   pub page : HasItsPage a
   -- texts and ids have at most 16,384 bytes together
   pub short : args_len a.args ≤ args_limit
 
--- a request: what it asks, and its body
+-- a request as a value: what it asks, and its body
 pub record Asked : Type 0 where
   pub ask : Ask
   pub body : List ℕ
 
+-- the request that asks this with this body
 abbrev pub asked : Ask → List ℕ → Asked
 asked a b = record { ask = a; body = b }
 
 -- a request fits its operation
 pub record IsRequest (q : Asked) : Type 0 where
-  -- in all but the body
+  -- all parts except the body fit the operation
   pub ask : IsAsk q.ask
-  -- and the body is no longer than the operation takes
+  -- the body is not longer than the operation allows
   pub body : length q.body ≤ body_limit q.ask.op

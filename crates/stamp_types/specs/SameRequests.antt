@@ -6,10 +6,10 @@ use Rattle.stamp_types.specs.contracts.ask.AskPartialEq.TheImpl as ask_eq
 use Rattle.stamp_types.specs.declared.ask.Ask.{Ask}
 use Rattle.stamp_types.specs.Requests.{Asked}
 
--- both ask the same
+-- the requests ask the same
 abbrev pub asks_equal : Ask → Ask → Bool
 asks_equal = (ask_eq.ghosts).eq
 
--- both ask the same, with the same body
+-- the requests ask the same, with the same body
 abbrev pub requests_equal : Asked → Asked → Bool
 requests_equal = eq_of_both (on (λ q. q.ask) asks_equal) (on (λ q. q.body) (pointwise nat_eq))

@@ -1,5 +1,5 @@
 -- What the stamp holds, and how a change alters it (Calder et al., SOSP 2011, sections 2 and 5; Blob service REST reference, 2012-02-12).
--- Content is a parameter: a list of bytes, or the pieces that stand for one.
+-- Content is a parameter: a list of bytes, or the pieces that a list of bytes is cut into.
 use Rattle.std.specs.Prelude.{ℕ, ◌+◌, Bool, false, List, [], ◌∷◌, Option, Some, None, nat_eq, map, find, unwrap_or}
 use Rattle.std.specs.List.{flat_map}
 use Rattle.std.specs.Option.{option_map, option_and_then, option_to_list}
@@ -24,12 +24,12 @@ use Rattle.stamp_types.specs.declared.act.Act.{Act}
 use Rattle.stamp_types.specs.declared.act.Act.TheVariants as act
 use Rattle.stamp_types.specs.Changes.{KeyedAct}
 
--- a blob: its committed part, where it has one, and its uncommitted blocks by id
+-- a blob: its committed part, if it has a committed part, and its uncommitted blocks by their ids
 pub record Blob (C : Type 0) : Type 0 where
   pub committed : Option (Committed C)
   pub uncommitted : FinMap name_cmp C
 
--- one container: how many changes it has seen, the container where it stands, and its blobs by name
+-- one container: how many changes it has seen, what it has beside its blobs if it exists, and its blobs by their names
 pub record Part (C : Type 0) : Type 0 where
   pub count : ℕ
   pub standing : Option Standing
@@ -39,25 +39,25 @@ pub record Part (C : Type 0) : Type 0 where
 abbrev pub World : Type 0 → Type 0
 World C = FinMap key_cmp (Part C)
 
--- what a name that was never used holds
+-- the blob of a name that was never used
 abbrev pub no_blob : {C : Type 0} → Blob C
 no_blob = record { committed = None; uncommitted = finite.empty }
 
--- what a container that never was holds
+-- a container that never was
 abbrev pub no_part : {C : Type 0} → Part C
 no_part = record { count = 0; standing = None; blobs = finite.empty }
 
--- what the world holds of a container
+-- the container of this key in the world
 abbrev pub part_at : {C : Type 0} → World C → Key → Part C
 part_at w key = unwrap_or (finite.get w key) no_part
 
--- what a container holds of a blob
+-- the blob of this name in the container
 abbrev pub blob_in : {C : Type 0} → Part C → List ℕ → Blob C
 blob_in p name = unwrap_or (finite.get p.blobs name) no_blob
 
 -- ---- blocks that a Put Block List takes over
 
--- the block has this id; content of Put Blob has none
+-- the block has this id; a block that Put Blob wrote has no id
 abbrev pub has_block_id : {C : Type 0} → List ℕ → Block C → Bool
 has_block_id id block = unwrap_or (option_map (λ other. pointwise nat_eq id other) block.id) false
 
@@ -65,7 +65,7 @@ has_block_id id block = unwrap_or (option_map (λ other. pointwise nat_eq id oth
 abbrev pub committed_content : {C : Type 0} → List ℕ → Committed C → Option C
 committed_content id c = option_map (λ block. block.content) (find (has_block_id id) c.blocks)
 
--- the content of the block of an id, looked for where the list says
+-- the content of the block of an id, among the uncommitted or the committed blocks, as the list says
 abbrev pub content_from : {C : Type 0} → Source → List ℕ → Blob C → Option C
 content_from source.Uncommitted id b = finite.get b.uncommitted id
 content_from source.Committed id b = option_and_then (committed_content id) b.committed
@@ -74,7 +74,7 @@ content_from source.Committed id b = option_and_then (committed_content id) b.co
 abbrev pub block_of : {C : Type 0} → List ℕ → C → Block C
 block_of id content = record { id = Some id; content = content }
 
--- the blocks found, in the list's order
+-- the blocks that are found, in the order of the list
 abbrev pub taken_blocks : {C : Type 0} → Blob C → List Taken → List (Block C)
 taken_blocks b entries = flat_map (λ e. option_to_list (option_map (block_of e.id) (content_from e.from e.id b))) entries
 
@@ -100,9 +100,9 @@ part_value f p = record { count = p.count; standing = p.standing; blobs = map_va
 abbrev pub world_value : {C D : Type 0} → (C → D) → World C → World D
 world_value f w = map_values (part_value f) w
 
--- ---- changes, with the content that each holds read by f
+-- ---- changes, with the content that each change brings read by f
 
--- the blobs with this one under the name
+-- the blobs with this blob under the name
 abbrev pub with_blob : {C : Type 0} → Part C → List ℕ → Blob C → FinMap name_cmp (Blob C)
 with_blob p name b = finite.insert p.blobs name b
 
@@ -110,28 +110,28 @@ with_blob p name b = finite.insert p.blobs name b
 abbrev pub uncommitted_entry : {C : Type 0} → (List Piece → C) → UncommittedBlock → List ℕ × C
 uncommitted_entry f u = (u.id, f u.content)
 
--- content that Put Blob wrote: one block without an id
+-- the block that Put Blob writes: it has no id
 abbrev pub whole_block : {C : Type 0} → C → Block C
 whole_block content = record { id = None; content = content }
 
--- the blobs with this committed part in one of them, where there is one
+-- the blobs with this committed part in the blob of the name, if there is a committed part; otherwise the same blobs
 abbrev pub with_committed : {C : Type 0} → Part C → List ℕ → Option (Committed C) → FinMap name_cmp (Blob C)
 with_committed p name None = p.blobs
 with_committed p name (Some c) = with_blob p name (record { committed = Some c; uncommitted = (blob_in p name).uncommitted })
 
--- a container with other metadata: who may stays
+-- a container with other metadata: its level and its policies stay as they were
 abbrev pub standing_with_metadata : ℕ → SetContainerMetadata → Standing → Standing
 standing_with_metadata n a s = record { etag = n; made = a.moment; metadata = a.metadata; acl = s.acl }
 
--- a container with other level and policies: the metadata stay
+-- a container with another level and other policies: its metadata stays as it was
 abbrev pub standing_with_acl : ℕ → SetAcl → Standing → Standing
 standing_with_acl n a s = record { etag = n; made = a.moment; metadata = s.metadata; acl = a.acl }
 
--- a blob with other metadata: what is kept with it and its blocks stay
+-- a blob with other metadata: the headers that are kept with it and its blocks stay as they were
 abbrev pub committed_with_metadata : {C : Type 0} → ℕ → SetMetadata → Committed C → Committed C
 committed_with_metadata n a c = record { etag = n; made = a.moment; props = c.props; metadata = a.metadata; blocks = c.blocks }
 
--- the container's blobs as the act leaves them, where it has seen n changes then
+-- the container's blobs as the act leaves them, if the container has seen n changes after the act
 abbrev pub blobs_after : {C : Type 0} → (List Piece → C) → ℕ → Act → Part C → FinMap name_cmp (Blob C)
 blobs_after f n (act.CreateContainer a) p = p.blobs
 blobs_after f n (act.SetContainerMetadata a) p = p.blobs
@@ -161,7 +161,7 @@ blobs_after f n (act.StoredBlob a) p =
       uncommitted = finite.from_entries (map (uncommitted_entry f) a.uncommitted);
     })
 
--- the container itself as the act leaves it, where it has seen n changes then: a blob's change never touches it
+-- what the container has beside its blobs as the act leaves it, if the container has seen n changes after the act: a change of a blob leaves this as it was
 abbrev pub standing_after : ℕ → Act → Option Standing → Option Standing
 standing_after n (act.CreateContainer a) o = Some (record { etag = n; made = a.moment; metadata = a.metadata; acl = record { level = a.level; policies = [] } })
 standing_after n (act.SetContainerMetadata a) o = option_map (standing_with_metadata n a) o
@@ -170,7 +170,7 @@ standing_after n act.DeleteContainer o = None
 standing_after n (act.ContainerRow a) o = a.standing
 standing_after n other o = o
 
--- how many changes the container has seen then: each raises the count by one, and rows of a checkpoint are none
+-- how many changes the container has seen after the act: each change raises the count by one, and the row of a container sets it
 abbrev pub count_after : Act → ℕ → ℕ
 count_after (act.ContainerRow a) n = a.count
 count_after (act.StoredBlob a) n = n
@@ -188,6 +188,6 @@ changed f a p = record {
 abbrev pub changed_in : {C : Type 0} → (List Piece → C) → World C → KeyedAct → World C
 changed_in f w c = finite.insert w c.key (changed f c.act (part_at w c.key))
 
--- the pieces themselves, where content is pieces
+-- the pieces themselves, for a world whose content is pieces
 abbrev pub same_pieces : List Piece → List Piece
 same_pieces ps = ps

@@ -56,7 +56,7 @@ pub struct PutBlock {
     pub content: Pieces,
 }
 
-/// The blocks of the new content are those of `entries`, in their order.
+/// The new content is the blocks that `entries` name, in the order of the entries.
 #[derive(Clone, Debug, PartialEq, Eq, Drop)]
 pub struct PutBlockList {
     pub blob: Text,
@@ -66,15 +66,16 @@ pub struct PutBlockList {
     pub entries: Items<Taken>,
 }
 
-/// What stands of a container beside its blobs. `count` is that of its changes so far, also where the
-/// container is gone.
+/// The row of a container in a checkpoint: what the container has beside its blobs. `count` is the
+/// number of changes that the container has seen so far, even if the container was deleted.
 #[derive(Clone, Debug, PartialEq, Eq, Drop)]
 pub struct ContainerRow {
     pub count: u64,
     pub standing: Option<Standing>,
 }
 
-/// The row of a stored blob in a checkpoint: its committed part, and its uncommitted blocks by their ids.
+/// The row of a stored blob in a checkpoint: its committed part, and its uncommitted blocks by
+/// their ids.
 #[derive(Debug, PartialEq, Eq, Drop)]
 pub struct StoredBlob {
     pub blob: Text,
@@ -144,7 +145,7 @@ impl Act {
         }
     }
 
-    /// The same with other content, where the act comes with any.
+    /// The same act with other content, if the act comes with content.
     pub fn with_content(self, content: Pieces) -> Self
         ensures { result ≡ act_with self content }
     {

@@ -4,8 +4,8 @@ ghost use Rattle.std.specs.Prelude.{◌≡◌, [], None};
 use stamp_values::{BlockId, BlockKinds, ByteRange, Condition, Level, Metadata, Text, Visible};
 use std::alloc::Global;
 
-/// The headers that a blob is to keep. One that wasn't sent is empty, the content type too: what
-/// stands for it is chosen where the blob is kept.
+/// The headers that a blob is to keep. A header that wasn't sent is empty, and so is the content
+/// type: `Props::new` replaces an empty content type.
 #[derive(Clone, Debug, PartialEq, Eq, Drop)]
 pub struct Kept {
     pub content_type: Visible,
@@ -21,17 +21,19 @@ pub struct Kept {
 pub struct Page {
     /// What each name begins with.
     pub prefix: Option<Text>,
-    /// Behind what a name stands for all that begin alike.
+    /// All names that are alike up to and including this text, after the prefix, are listed as one
+    /// name.
     pub delimiter: Option<Text>,
-    /// Where the page before ended.
+    /// The point at which the page before this page ended.
     pub marker: Option<Text>,
-    /// The most names that are answered (`maxresults`).
+    /// The largest number of names that are answered (`maxresults`).
     pub max: u32,
-    /// Whether the metadata are asked for, too (`include=metadata`).
+    /// Whether the metadata is also asked for (`include=metadata`).
     pub metadata: bool,
 }
 
-/// What comes with a request beside its path and its body. What the operation has no use for isn't there.
+/// What comes with a request beside its path and its body. In a `Request`, nothing is here that the
+/// operation has no use for.
 #[derive(Clone, Debug, PartialEq, Eq, Drop)]
 pub struct Args {
     pub if_match: Option<Condition>,

@@ -6,10 +6,11 @@ ghost use Rattle.stamp_types.specs.Requests.{given_len, kept_len, page_len, args
 use crate::args::{Args, Kept, Page};
 use stamp_values::{ARGS_LIMIT, Meta, Text};
 
-// Each function takes how many bytes may still come, and answers how many may come behind its part, or
-// `None` where the part is longer. So no sum is made that could overflow.
+// Each function takes how many bytes are left of the limit. It answers how many bytes are left
+// after its part, or `None` if the part has more bytes than are left. So no sum is made that could
+// overflow.
 
-fn behind_text(left: usize, text: &Option<Text>) -> Option<usize>
+fn left_after_text(left: usize, text: &Option<Text>) -> Option<usize>
     ensures fits { IsSome result ↔ (given_len text.now ≤ left) }
     ensures value { IfSome result (λ rest. given_len text.now + rest ≡ left) }
 {
@@ -19,7 +20,7 @@ fn behind_text(left: usize, text: &Option<Text>) -> Option<usize>
     }
 }
 
-fn behind_kept(left: usize, kept: &Option<Kept>) -> Option<usize>
+fn left_after_kept(left: usize, kept: &Option<Kept>) -> Option<usize>
     ensures fits { IsSome result ↔ (kept_len kept.now ≤ left) }
     ensures value { IfSome result (λ rest. kept_len kept.now + rest ≡ left) }
 {
@@ -33,7 +34,7 @@ fn behind_kept(left: usize, kept: &Option<Kept>) -> Option<usize>
     }
 }
 
-fn behind_metadata(left: usize, metas: &[Meta]) -> Option<usize>
+fn left_after_metadata(left: usize, metas: &[Meta]) -> Option<usize>
     ensures fits { IsSome result ↔ (metadata_len metas.now ≤ left) }
     ensures value { IfSome result (λ rest. metadata_len metas.now + rest ≡ left) }
 {
@@ -46,27 +47,27 @@ fn behind_metadata(left: usize, metas: &[Meta]) -> Option<usize>
     Some(rest)
 }
 
-fn behind_page(left: usize, page: &Option<Page>) -> Option<usize>
+fn left_after_page(left: usize, page: &Option<Page>) -> Option<usize>
     ensures fits { IsSome result ↔ (page_len page.now ≤ left) }
     ensures value { IfSome result (λ rest. page_len page.now + rest ≡ left) }
 {
     match page {
         None => Some(left),
         Some(page) => {
-            let left = behind_text(left, &page.prefix)?;
-            let left = behind_text(left, &page.delimiter)?;
-            behind_text(left, &page.marker)
+            let left = left_after_text(left, &page.prefix)?;
+            let left = left_after_text(left, &page.delimiter)?;
+            left_after_text(left, &page.marker)
         }
     }
 }
 
-fn behind_args(left: usize, args: &Args) -> Option<usize>
+fn left_after_args(left: usize, args: &Args) -> Option<usize>
     ensures fits { IsSome result ↔ (args_len args.now ≤ left) }
     ensures value { IfSome result (λ rest. args_len args.now + rest ≡ left) }
 {
-    let left = behind_kept(left, &args.kept)?;
-    let left = behind_metadata(left, args.metadata.as_slice())?;
-    let left = behind_page(left, &args.page)?;
+    let left = left_after_kept(left, &args.kept)?;
+    let left = left_after_metadata(left, args.metadata.as_slice())?;
+    let left = left_after_page(left, &args.page)?;
     match &args.block {
         None => Some(left),
         Some(id) => left.checked_sub(id.as_slice().len()),
@@ -77,5 +78,5 @@ fn behind_args(left: usize, args: &Args) -> Option<usize>
 pub(crate) fn are_args_short(args: &Args) -> bool
     ensures { IsTrue result ↔ (args_len args.now ≤ 16384) }
 {
-    behind_args(ARGS_LIMIT, args).is_some()
+    left_after_args(ARGS_LIMIT, args).is_some()
 }

@@ -3,8 +3,8 @@
 use crate::args::Args;
 use stamp_values::{Credential, Key, Op, Signing, Text};
 
-/// A request without its body. What it signs and the credential need not go with the rest: that is
-/// judged where the request is authorized.
+/// A request without its body. What it signs and the credential need not fit the other parts: that
+/// is judged when the request is authorized.
 #[derive(Clone, Debug, PartialEq, Eq, Drop)]
 pub struct Ask {
     pub op: Op,

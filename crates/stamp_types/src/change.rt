@@ -9,7 +9,7 @@ use crate::pieces::Pieces;
 use stamp_values::Key;
 use std::marker::Model;
 
-/// A change of a container, as its log keeps it, seen as key and act.
+/// A change of a container, as the container's log keeps it, seen as key and act.
 #[derive(Clone, Debug, PartialEq, Eq, Drop)]
 pub struct Change {
     key: Key,
@@ -32,8 +32,9 @@ impl Model for Change {
 impl Change {
     ghost use Rattle.stamp_types.specs.Changes.{is_change, content_of, change_with};
 
-    /// The change, or `None` where it is none that is made: a name is bad, a block is in several pieces,
-    /// a list or a blob is over its limit, blocks don't stand as they must, or a row says nothing.
+    /// The change, or `None` if no container changes in this way: a name is bad, a block is in
+    /// several pieces, a list or a blob is over its limit, the ids of blocks are missing, not in
+    /// order or not of one length, or a row says nothing.
     pub fn new(key: Key, act: Act) -> Option<Self>
         ensures valid { IsSome result ↔ IsTrue (is_change (record { key = key; act = act })) }
         ensures value { IfSome result (λ c. c ≡ record { key = key; act = act }) }
@@ -76,7 +77,8 @@ impl Change {
 
     /// The same change with other content of as many pieces, which have the same lengths.
     pub fn with_content(self, content: Pieces) -> Self
-        requires { IsSomeAnd (content_of self.act) (λ ps. map piece_len ps ≡ map piece_len content) }
+        requires { IsSomeAnd (content_of self.act) (λ ps.
+            map piece_len ps ≡ map piece_len content) }
         ensures { result ≡ change_with self content }
     {
         let Self { key, act } = self;

@@ -74,10 +74,10 @@ fn is_committed(committed: &Option<Committed<Pieces>>) -> bool
     }
 }
 
-fn is_id_before_next(block: &UncommittedBlock, behind: &[UncommittedBlock]) -> bool
-    ensures { result ≡ is_id_before_next block.now behind.now }
+fn is_id_before_next(block: &UncommittedBlock, rest: &[UncommittedBlock]) -> bool
+    ensures { result ≡ is_id_before_next block.now rest.now }
 {
-    match behind {
+    match rest {
         [] => true,
         [next, ..] => block.id.cmp(&next.id).is_lt(),
     }
@@ -162,7 +162,7 @@ fn is_act(act: &Act) -> bool
     }
 }
 
-/// Whether account, container and act are good ones.
+/// Whether the names of the account and of the container are good, and the act is good.
 pub(crate) fn is_change(key: &Key, act: &Act) -> bool
     ensures { result ≡ is_change (record { key = key.now; act = act.now }) }
 {

@@ -3,8 +3,8 @@ ghost use Rattle.std.specs.Prelude.{◌≡◌};
 
 use crate::status::Status;
 
-/// The error code of a refusal ("Status and Error Codes", "Blob Service Error Codes"). Each has one
-/// status.
+/// The error code of a refusal ("Status and Error Codes", "Blob Service Error Codes"). Each code
+/// has one status.
 #[derive(Clone, Copy, Debug, PartialEq, Eq)]
 pub enum Code {
     InvalidInput,
@@ -24,7 +24,8 @@ pub enum Code {
     ContainerAlreadyExists,
     BlobNotFound,
     ConditionNotMet,
-    /// A condition of a read that fails: 304, of the same text as `ConditionNotMet` (412).
+    /// A condition of a read fails: 304. The text is the same as the text of `ConditionNotMet`
+    /// (412).
     NotModified,
     BlobAlreadyExists,
     Md5Mismatch,
@@ -79,7 +80,7 @@ impl Code {
         }
     }
 
-    /// Whether a reply that has the code carries the error in its body: one of 304 has none.
+    /// Whether a reply that has the code carries the error in its body: a reply of 304 has no body.
     pub fn has_error_body(self) -> bool
         ensures { result ≡ has_error_body self }
     {

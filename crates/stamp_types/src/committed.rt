@@ -4,15 +4,16 @@ use crate::pieces::Pieces;
 use crate::props::Props;
 use stamp_values::{BlockId, Items, Metadata, Moment};
 
-/// A block of a blob with its content of some form. Content that Put Blob wrote has no id.
+/// A block of a blob, with its content in some form. A block that Put Blob wrote has no id.
 #[derive(Clone, Debug, PartialEq, Eq, Drop)]
 pub struct Block<C> {
     pub id: Option<BlockId>,
     pub content: C,
 }
 
-/// What readers of a blob see, with blocks of some form of content in their order. `etag` is the count
-/// of changes of its container at which it was written, and `made` the moment of that (Last-Modified).
+/// What readers of a blob see, with its blocks in their order and their content in some form.
+/// `etag` is the count of changes of the blob's container at which this was written, and `made` is
+/// the moment at which this was written (Last-Modified).
 #[derive(Clone, Debug, PartialEq, Eq, Drop)]
 pub struct Committed<C> {
     pub etag: u64,
@@ -22,7 +23,7 @@ pub struct Committed<C> {
     pub blocks: Items<Block<C>>,
 }
 
-/// A block that Put Block wrote, and no Put Block List took over so far.
+/// A block that Put Block wrote, and that no Put Block List has taken over so far.
 #[derive(Clone, Debug, PartialEq, Eq, Drop)]
 pub struct UncommittedBlock {
     pub id: BlockId,

@@ -10,7 +10,7 @@ use std::alloc::{AllocError, Global};
 
 const SLICE: usize = 4_194_304;
 
-// The piece that begins at `at`: 4,194,304 bytes, or as many as there are.
+// The piece that begins at `at`: 4,194,304 bytes, or all bytes from there if there are fewer.
 fn piece_at(share: &Share, at: usize) -> Result<Piece, AllocError>
     requires { at < length share.now }
     ensures { IfOk result (λ p. p ≡ piece.Bytes (take 4194304 (drop at share.now))) }
@@ -19,9 +19,9 @@ fn piece_at(share: &Share, at: usize) -> Result<Piece, AllocError>
     Ok(Piece::Bytes(share.slice(at, at + count)?))
 }
 
-/// Cuts bytes into slices of 4,194,304 bytes and the rest. None of the bytes is copied.
+/// Cuts bytes into slices of 4,194,304 bytes and the rest. No byte is copied.
 ///
-/// `AllocError` where there is no memory for the list, or the allocation can have no further owner.
+/// `AllocError` if memory runs out for the list, or if the allocation can have no further owner.
 pub(crate) fn cut(alloc: Global, share: &Share) -> Result<Vec<Piece>, AllocError>
     requires { length share.now ≤ 67108864 }
     ensures { IfOk result (λ ps. ps.items ≡ pieces.cut share.now) }
@@ -35,7 +35,7 @@ pub(crate) fn cut(alloc: Global, share: &Share) -> Result<Vec<Piece>, AllocError
     Ok(pieces)
 }
 
-/// The pieces that bytes are cut into hold these bytes, none more and none less, in their order.
+/// The pieces that bytes are cut into hold exactly these bytes, in their order.
 pub fn cut_pieces_hold_the_bytes()
     ensures { (bytes : List ℕ) → held (pieces.cut bytes) ≡ bytes }
 {}

@@ -6,12 +6,12 @@ use crate::code::Code;
 use crate::rule::Rule;
 use std::alloc::{AllocError, Global};
 
-// What the longest error has, with a code of 26 bytes and a rule of 3.
+// How many bytes the longest error has: its code has 26 bytes, and its rule has 3 bytes.
 const ERROR_ROOM: usize = 131;
 
 /// The error in XML that a refusal sends ("Status and Error Codes"), on one line.
 ///
-/// `AllocError` where there is no memory for it.
+/// `AllocError` if memory runs out for it.
 #[tactic(auto, unfolding(crate::specs::Replies::error_body))]
 pub fn write_error(alloc: Global, code: Code, rule: Rule) -> Result<Vec<u8>, AllocError>
     ensures { IfOk result (λ text. text.items ≡ error_body code rule) }

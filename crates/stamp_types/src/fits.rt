@@ -20,7 +20,8 @@ fn is_container_there(op: Op, container: &Text) -> bool
 }
 
 fn is_container_good(op: Op, container: &Text) -> bool
-    ensures { IsTrue result ↔ (IsTrue (names_container op) → IsTrue (names.is_container container.now)) }
+    ensures { IsTrue result
+        ↔ (IsTrue (names_container op) → IsTrue (names.is_container container.now)) }
 {
     !op.names_container() || is_container(container.as_str().as_bytes())
 }

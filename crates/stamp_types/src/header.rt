@@ -4,14 +4,14 @@ use crate::sent_range::SentRange;
 use stamp_values::{Level, Meta, Moment, Visible};
 
 /// A header line of a reply, by its name, with what its value is made of. Date, x-ms-version,
-/// x-stamp-rule, Connection and Content-Length aren't among them: they are written from the moment,
-/// the rule, the connection and the length.
+/// x-stamp-rule, Connection and Content-Length aren't among these headers: they are written from
+/// the moment, the rule, the connection and the length.
 #[derive(Clone, Debug, PartialEq, Eq, Drop)]
 pub enum Header {
     ContentType(Visible),
     ContentEncoding(Visible),
     ContentLanguage(Visible),
-    /// The 16 bytes, which are written in Base64.
+    /// The 16 bytes of the MD5, which are written in Base64.
     ContentMd5([u8; 16]),
     CacheControl(Visible),
     ContentDisposition(Visible),

@@ -92,6 +92,7 @@ pub use stamp_values::Field;
 pub use stamp_values::FieldList;
 pub use stamp_values::FieldRef;
 pub use stamp_values::Fields;
+pub use stamp_values::GatherFault;
 pub use stamp_values::Gathering;
 pub use stamp_values::Items;
 pub use stamp_values::KEPT_LIMIT;

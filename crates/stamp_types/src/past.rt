@@ -5,7 +5,8 @@ ghost use Rattle.std.specs.Prelude.{◌≡◌, ◌↔◌, IsTrue};
 use crate::request::Request;
 use stamp_values::Moment;
 
-/// A request that was served: when, and in which epoch of the account's keys.
+/// A request that was served, the moment at which it was served, and the epoch of the account's
+/// keys in which it was served.
 #[derive(Clone, Debug, PartialEq, Eq, Drop)]
 pub struct Past {
     pub request: Request,

@@ -3,7 +3,8 @@ ghost use Rattle.std.specs.Prelude.{◌≡◌};
 
 use stamp_values::{Place, Share};
 
-/// A piece of content: its bytes, or the place in a stream where they stand and how many they are.
+/// A piece of content: its bytes, or the place in a stream where the bytes are and how many bytes
+/// there are.
 #[derive(Clone, Debug, PartialEq, Eq, Drop)]
 pub enum Piece {
     Bytes(Share),

@@ -10,12 +10,12 @@ use stamp_values::{Items, PIECE_LIMIT, PIECES_LIMIT, Share};
 use std::alloc::{AllocError, Global};
 use std::marker::Model;
 
-/// Content of at most 67,108,864 bytes, seen as its pieces in their order: at most 16 of them, each of
-/// 1 to 4,194,304 bytes.
+/// Content of at most 67,108,864 bytes, seen as its pieces in their order: at most 16 pieces, each
+/// of 1 to 4,194,304 bytes.
 #[derive(Debug, PartialEq, Eq, Drop)]
 pub struct Pieces {
     pieces: Items<Piece>,
-    // how many bytes they have together
+    // how many bytes the pieces have together
     total: u64,
 }
 
@@ -78,8 +78,8 @@ fn total_len(pieces: &[Piece]) -> u64
 }
 
 impl Pieces {
-    /// The pieces, or `None` where they are more than 16, or one of them is empty or longer than
-    /// 4,194,304 bytes.
+    /// The pieces, or `None` if there are more than 16 pieces, or if a piece is empty or longer
+    /// than 4,194,304 bytes.
     pub fn new(pieces: Vec<Piece>) -> Option<Self>
         ensures valid { IsSome result ↔ IsTrue (is_pieces pieces.items) }
         ensures value { IfSome result (λ p. p ≡ pieces.items) }
@@ -95,9 +95,10 @@ impl Pieces {
         }
     }
 
-    /// Bytes cut into slices of 4,194,304 bytes and the rest. None of the bytes is copied.
+    /// Bytes cut into slices of 4,194,304 bytes and the rest. No byte is copied.
     ///
-    /// `AllocError` where there is no memory for the list, or the allocation can have no further owner.
+    /// `AllocError` if memory runs out for the list, or if the allocation can have no further
+    /// owner.
     pub fn cut(alloc: Global, share: &Share) -> Result<Self, AllocError>
         requires { length share.now ≤ 67108864 }
         ensures { IfOk result (λ p. p ≡ pieces.cut share.now) }

@@ -7,8 +7,8 @@ use stamp_values::{KEPT_LIMIT, Visible};
 use std::alloc::{AllocError, Global};
 use std::marker::Model;
 
-/// The headers that are kept with a blob. The content type is never empty, and each text has at most
-/// 16,384 bytes.
+/// The headers that are kept with a blob. The content type is never empty, and each text has at
+/// most 16,384 bytes.
 #[derive(Debug, PartialEq, Eq, Drop)]
 pub struct Props {
     content_type: Visible,
@@ -24,11 +24,29 @@ impl Model for Props {
 
     ghost Value = { PropsFields };
 
-    ghost view = { λ p. record { content_type = p.content_type; encoding = p.encoding; language = p.language; cache_control = p.cache_control; md5 = p.md5 } };
+    ghost view = { λ p. record {
+      content_type = p.content_type;
+      encoding = p.encoding;
+      language = p.language;
+      cache_control = p.cache_control;
+      md5 = p.md5;
+    } };
 
-    ghost invariant = { λ p. IsTrue (is_props (record { content_type = p.content_type; encoding = p.encoding; language = p.language; cache_control = p.cache_control; md5 = p.md5 })) };
+    ghost invariant = { λ p. IsTrue (is_props (record {
+      content_type = p.content_type;
+      encoding = p.encoding;
+      language = p.language;
+      cache_control = p.cache_control;
+      md5 = p.md5;
+    })) };
 
-    ghost inverse = { λ v. record { content_type = v.content_type; encoding = v.encoding; language = v.language; cache_control = v.cache_control; md5 = v.md5 } };
+    ghost inverse = { λ v. record {
+      content_type = v.content_type;
+      encoding = v.encoding;
+      language = v.language;
+      cache_control = v.cache_control;
+      md5 = v.md5;
+    } };
 }
 
 impl Clone for Props {
@@ -62,11 +80,11 @@ fn type_or_default(alloc: Global, content_type: Visible) -> Result<Visible, Allo
 }
 
 impl Props {
-    /// What a request asks to be kept. An empty content type becomes `application/octet-stream`, and
-    /// where no MD5 is asked for, `otherwise` is kept: that of the body on Put Blob, and none on Put
-    /// Block List.
+    /// What a request asks to be kept. An empty content type becomes `application/octet-stream`. If
+    /// the request asks for no MD5, `otherwise` is kept: on Put Blob the MD5 of the body, on Put
+    /// Block List no MD5.
     ///
-    /// `AllocError` where there is no memory for the default type.
+    /// `AllocError` if memory runs out for the default type.
     pub fn new(alloc: Global, kept: Kept, otherwise: Option<[u8; 16]>) -> Result<Self, AllocError>
         requires { IsTrue (is_kept kept) }
         ensures { IfOk result (λ p. p ≡ kept_fields kept otherwise) }
@@ -80,8 +98,8 @@ impl Props {
         })
     }
 
-    /// The headers as a record of the log has them, or `None` where the content type is empty, or a text
-    /// has more than 16,384 bytes.
+    /// The headers as a record of the log has them, or `None` if the content type is empty, or if a
+    /// text has more than 16,384 bytes.
     pub fn from_parts(
         content_type: Visible,
         encoding: Visible,
@@ -89,8 +107,20 @@ impl Props {
         cache_control: Visible,
         md5: Option<[u8; 16]>,
     ) -> Option<Self>
-        ensures valid { IsSome result ↔ IsTrue (is_props (record { content_type = content_type; encoding = encoding; language = language; cache_control = cache_control; md5 = md5 })) }
-        ensures value { IfSome result (λ p. p ≡ record { content_type = content_type; encoding = encoding; language = language; cache_control = cache_control; md5 = md5 }) }
+        ensures valid { IsSome result ↔ IsTrue (is_props (record {
+          content_type = content_type;
+          encoding = encoding;
+          language = language;
+          cache_control = cache_control;
+          md5 = md5;
+        })) }
+        ensures value { IfSome result (λ p. p ≡ record {
+          content_type = content_type;
+          encoding = encoding;
+          language = language;
+          cache_control = cache_control;
+          md5 = md5;
+        }) }
     {
         if !content_type.as_str().is_empty()
             && is_kept_text(&content_type)

@@ -3,8 +3,8 @@
 use crate::code::Code;
 use crate::rule::Rule;
 
-/// The rule that refuses a request, and the error code of its cause ("Status and Error Codes"). A rule that has several causes
-/// has a code for each.
+/// The rule that refuses a request, and the error code of the cause ("Status and Error Codes"). If
+/// a rule has several causes, its refusals may have different codes.
 #[derive(Clone, Copy, Debug, PartialEq, Eq)]
 pub struct Refusal {
     pub rule: Rule,

@@ -10,18 +10,18 @@ use crate::status::Status;
 use stamp_values::{Items, Share, Shares, Visible};
 use std::alloc::{AllocError, Global};
 
-/// A reply, but for what the clock and the connection add to it.
+/// A reply without what the clock and the connection add to it.
 #[derive(Clone, Debug, PartialEq, Eq, Drop)]
 pub struct Reply {
     pub status: Status,
-    /// The error code, where the request was refused.
+    /// The error code, if the request was refused.
     pub code: Option<Code>,
-    /// The rule that refused the request. A reply with one is a refusal, and no other is.
+    /// The rule that refused the request. A reply is a refusal if and only if it has a rule.
     pub rule: Option<Rule>,
-    /// In the order in which they are written.
+    /// The headers, in the order in which they are written.
     pub headers: Items<Header>,
-    /// The bytes that Content-Length says. The body may have others: none where HEAD leaves it out, or
-    /// where it is fetched later.
+    /// The number of bytes that Content-Length says. The body may have another number of bytes: it
+    /// is empty if it is left out for HEAD, or if it is fetched later.
     pub length: u64,
     pub body: Shares,
 }
@@ -35,9 +35,10 @@ fn same_headers(headers: &[Header], others: &[Header]) -> bool
 impl Reply {
     ghost use Rattle.stamp_types.specs.Replies.{denied};
 
-    /// The reply to a request that is refused: the error in XML (RFC 7303), and of 304 nothing.
+    /// The reply to a request that is refused: its body is the error in XML (RFC 7303). A reply of
+    /// 304 has no body.
     ///
-    /// `AllocError` where there is no memory for the error.
+    /// `AllocError` if memory runs out for the error.
     pub fn denied(alloc: Global, refusal: Refusal) -> Result<Self, AllocError>
         ensures { IfOk result (λ reply. reply ≡ denied refusal) }
     {
@@ -58,8 +59,8 @@ impl Reply {
         })
     }
 
-    /// Whether the replies are equal. The bodies are compared last, and by their bytes: how they are cut
-    /// into shares makes no difference.
+    /// Whether the replies are equal. The bodies are compared last, by their bytes: how a body is
+    /// cut into shares makes no difference.
     pub fn same(&self, other: &Self) -> bool
         ensures { IsTrue result ↔ (self.now ≡ other.now) }
     {

@@ -33,7 +33,7 @@ impl Model for Request {
     ghost invariant = { λ r. IsRequest (asked (arc_value r.ask) r.body) };
 }
 
-// Whether all fits the operation.
+// Whether all parts of the request fit its operation.
 fn fits(ask: &Ask, body: &Body) -> bool
     ensures { IsTrue result ↔ IsRequest (asked ask.now body.now) }
 {
@@ -41,10 +41,11 @@ fn fits(ask: &Ask, body: &Body) -> bool
 }
 
 impl Request {
-    /// The request, or `None` where its parts don't fit its operation; what is signed and the
+    /// The request, or `None` if its parts don't fit its operation. What is signed and the
     /// credential may be any. A request that doesn't fit takes no memory.
     ///
-    /// `AllocError` where there is no memory to share `ask` in, which is dropped then, and `body` too.
+    /// `AllocError` if memory runs out for the allocation that shares `ask`. Then `ask` and `body`
+    /// are dropped.
     pub fn new(alloc: Global, ask: Ask, body: Body) -> Result<Option<Self>, AllocError>
         ensures valid { IfOk result (λ o. IsSome o ↔ IsRequest (asked ask body)) }
         ensures value { IfOk result (λ o. IfSome o (λ q. q ≡ asked ask body)) }
@@ -57,7 +58,7 @@ impl Request {
         Ok(Some(Self { ask, body }))
     }
 
-    /// All but the body.
+    /// All parts except the body.
     pub fn ask(&self) -> &Ask
         ensures value { result.now ≡ self.now.ask }
         ensures fits { IsRequest self.now }
@@ -75,9 +76,9 @@ impl Request {
         &self.body
     }
 
-    /// The same request with no body. Copies nothing.
+    /// The same request with an empty body. Copies nothing.
     ///
-    /// `AllocError` where what it asks can have no further owner.
+    /// `AllocError` if what the request asks can have no further owner.
     pub fn without_body(&self) -> Result<Self, AllocError>
         ensures { IfOk result (λ q. q ≡ record self.now { body = [] }) }
     {
@@ -87,14 +88,15 @@ impl Request {
         })
     }
 
-    /// Whether both are equal, body and all. Reads no body where the bodies' MD5 differ.
+    /// Whether the requests are equal, with their bodies. Reads no body if the MD5s of the bodies
+    /// differ.
     pub fn same(&self, other: &Self) -> bool
         ensures { IsTrue result ↔ (self.now ≡ other.now) }
     {
         self.same_ask(other) && self.body.same(&other.body)
     }
 
-    /// Whether all but the bodies is equal.
+    /// Whether the requests are equal in all parts except the body.
     pub fn same_ask(&self, other: &Self) -> bool
         ensures { IsTrue result ↔ (self.now.ask ≡ other.now.ask) }
     {
@@ -108,7 +110,8 @@ impl PartialEq for Request {
 
     ghost eq = { requests_equal };
 
-    ghost laws = { partial_equiv_from_equiv (and_equiv (on_equiv (λ q. q.ask) laws-law) (on_equiv (λ q. q.body) nat_list_eq_equiv)) };
+    ghost laws = { partial_equiv_from_equiv
+        (and_equiv (on_equiv (λ q. q.ask) laws-law) (on_equiv (λ q. q.body) nat_list_eq_equiv)) };
 
     fn eq(&self, other: &Self) -> bool {
         *self.ask == *other.ask && self.body == other.body
@@ -118,5 +121,6 @@ impl PartialEq for Request {
 impl Eq for Request {
     ghost use Rattle.stamp_types.specs.contracts.ask.AskEq.TheImpl.Laws.{laws-law};
 
-    ghost laws = { and_equiv (on_equiv (λ q. q.ask) laws-law) (on_equiv (λ q. q.body) nat_list_eq_equiv) };
+    ghost laws = { and_equiv (on_equiv (λ q. q.ask) laws-law)
+        (on_equiv (λ q. q.body) nat_list_eq_equiv) };
 }

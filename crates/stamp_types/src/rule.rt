@@ -1,18 +1,19 @@
 //! Rules that refuse requests.
 ghost use Rattle.std.specs.Prelude.{◌≡◌};
 
-/// The rule by which a request is refused, as the header x-stamp-rule and the error's message name it.
-/// F is about the form of the head, K about a signature with the account's key, S about a shared access
-/// signature, P about public access, O about what is stored, M and N about the stamp itself.
+/// The rule by which a request is refused, as the header x-stamp-rule and the error's message name
+/// it. F is about the form of the head, K about a signature with the account's key, S about a
+/// shared access signature, P about public access, O about what is stored, M and N about the stamp
+/// itself.
 #[derive(Clone, Copy, Debug, PartialEq, Eq)]
 pub enum Rule {
-    /// No request head can be read, it is too long, or its target is no path on the stamp.
+    /// No request head can be read, the head is too long, or its target is not a path on the stamp.
     F1,
-    /// The method is none that the stamp serves.
+    /// The stamp does not serve the method.
     F2,
     /// No operation is asked for in this way, or one of its query parameters is bad or given twice.
     F3,
-    /// The length of the body isn't given, or is no number.
+    /// The length of the body isn't given, or is not a number.
     F4,
     /// The name of the account, the container or the blob is bad.
     F5,
@@ -22,9 +23,10 @@ pub enum Rule {
     F7,
     /// The body is longer than the operation allows.
     F8,
-    /// There is more than one Authorization value, or it can't be read as one of a shared key.
+    /// There is more than one Authorization value, or the value can't be read as a shared key's
+    /// value.
     K1,
-    /// The account isn't the path's, or not the stamp's.
+    /// The account isn't the account of the path, or isn't an account of the stamp.
     K2,
     /// The request has no date that can be read.
     K3,
@@ -34,9 +36,9 @@ pub enum Rule {
     K5,
     /// The parameters of the token can't be read.
     S1,
-    /// The account is not the stamp's.
+    /// The account isn't an account of the stamp.
     S2,
-    /// The request names no container, or no blob where the token is for one.
+    /// The request names no container, or it names no blob and the token is for a blob.
     S3,
     /// No key of the account gives the token's signature.
     S4,
@@ -44,7 +46,7 @@ pub enum Rule {
     S5,
     /// The token and the policy both give the start, the expiry or the permissions.
     S6,
-    /// Neither gives the expiry, or neither the permissions.
+    /// Neither the token nor the policy gives the expiry, or neither gives the permissions.
     S7,
     /// The token isn't valid yet.
     S8,
@@ -56,25 +58,26 @@ pub enum Rule {
     S11,
     /// No level of public access allows the operation.
     P1,
-    /// The container's level doesn't allow the operation, or the container doesn't stand.
+    /// The container's level doesn't allow the operation, or the container doesn't exist.
     P2,
-    /// The container doesn't stand.
+    /// The container doesn't exist.
     O1,
-    /// The container that is to be created stands.
+    /// The container that is to be created exists.
     O2,
-    /// The blob doesn't stand.
+    /// The blob doesn't exist.
     O3,
     /// A condition on the blob's ETag fails.
     O4,
-    /// The body has another MD5 than the headers give, isn't of its form, or names blocks that can't be found.
+    /// The body has another MD5 than the headers give, doesn't have its form, or names blocks that
+    /// can't be found.
     O5,
-    /// A limit on blocks, blobs or counts would be passed, or no byte of the range is there.
+    /// A limit on blocks, blobs or counts would be passed, or the blob has no byte of the range.
     O6,
-    /// There is no memory to serve the request.
+    /// Memory ran out while the request was served.
     M1,
     /// Nodes that the request needs can't be reached. Nothing was changed.
     N1,
-    /// Whether the change was logged isn't known: it may show later.
+    /// It isn't known whether the change was logged. The change may show later.
     N2,
 }
 

@@ -2,8 +2,9 @@
 
 use stamp_values::{Acl, Metadata, Moment};
 
-/// What a container has while it stands. `etag` is the count of its changes at which it was made, or its
-/// metadata or its access was last set, and `made` the moment of that (Last-Modified).
+/// What a container has while it exists. `etag` is the count of its changes at which it was made,
+/// or at which its metadata or its access was last set, and `made` is the moment of that change
+/// (Last-Modified).
 #[derive(Clone, Debug, PartialEq, Eq, Drop)]
 pub struct Standing {
     pub etag: u64,

@@ -1,8 +1,8 @@
 //! Status codes of replies.
 ghost use Rattle.std.specs.Prelude.{◌≡◌};
 
-/// The status of a reply (RFC 9110, section 15), of those that the stamp gives. `Success` is 200 OK,
-/// `Partial` 206 Partial Content; the others go by the words of their phrases.
+/// The status of a reply (RFC 9110, section 15), if the stamp gives this status. `Success` is 200
+/// OK, and `Partial` is 206 Partial Content. Each other name is the words of the status's phrase.
 #[derive(Clone, Copy, Debug, PartialEq, Eq)]
 pub enum Status {
     Success,

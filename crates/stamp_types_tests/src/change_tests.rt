@@ -61,8 +61,8 @@ fn a_bad_account_is_refused(rt: HostRuntime) {
     assert!(rt; change.map(drop).is_none());
 }
 
-// Whether a copy of the change is equal to the change. Both are dropped by calls: at the end of a body, each kind of act
-// is proved by itself, which takes a minute or more.
+// Whether a copy of the change is equal to the change. Both are dropped by calls: at the end of a
+// body, each kind of act is proved by itself, which takes a minute or more.
 fn has_equal_copy(rt: &impl Abort, change: Change) -> bool {
     let copy = change.clone().expect(rt, "memory");
     let same = copy.same(&change);
@@ -96,7 +96,8 @@ fn changes_of_blobs_are_copied(rt: HostRuntime) {
     assert!(rt; is_copied(&rt, alloc, stored_blob(&rt, alloc)));
 }
 
-// A change that puts a block of five bytes in the first extent. Five bytes in the second extent then replace its content.
+// A change that puts a block of five bytes in the first extent. Five bytes in the second extent
+// then replace its content.
 fn put_elsewhere(rt: &impl Abort, alloc: Global, first: u64, second: u64) -> Change {
     let put = PutBlock {
         blob: text(rt, alloc, "a"),

@@ -6,7 +6,7 @@ use std::process::Abort;
 
 type Pairs = &'static [(&'static str, &'static str)];
 
-// `Ä` is C3 84 in UTF-8, and no letter of ASCII.
+// `Ä` is C3 84 in UTF-8, and is not a letter of ASCII.
 const SENT: Pairs = &[
     ("Host", "H"),
     ("X-MS-Date", ""),
@@ -55,7 +55,8 @@ fn fields_come_from_the_end_too(rt: HostRuntime) {
     assert!(rt; third.value == b"Mon".as_slice());
 }
 
-// RFC 9110, section 5.3: fields of one name are in the order sent, and an empty one is sent too.
+// RFC 9110, section 5.3: fields of one name are in the order in which they were sent, and an empty
+// field counts too.
 #[test]
 fn fields_are_found_by_their_names(rt: HostRuntime) {
     let sent = list(&rt, rt.alloc(), SENT);
@@ -112,7 +113,8 @@ fn letters_of_ascii_alone_are_put_in_lower_case(rt: HostRuntime) {
     assert!(rt; lower.as_slice() == "azaz@[\u{c4}".as_bytes());
 }
 
-// RFC 3629, section 3: the last character, an overlong form, a surrogate, what follows the last character, a cut one.
+// RFC 3629, section 3: the last character, an overlong form, a surrogate, what follows the last
+// character, a character that is cut off.
 #[test]
 fn bytes_are_told_from_texts(rt: HostRuntime) {
     let rows: [(&[u8], bool); 6] = [

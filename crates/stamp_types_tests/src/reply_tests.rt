@@ -11,7 +11,7 @@ use std::process::Abort;
 fn crosses<T: Send + Sync>() {}
 
 #[test]
-fn threads_may_have_each() {
+fn threads_may_have_each_type() {
     crosses::<Share>();
     crosses::<Body>();
     crosses::<Gathering>();
@@ -44,7 +44,7 @@ fn the_error_of_a_public_read(rt: HostRuntime) {
 }
 
 #[test]
-fn the_longest_error_and_none(rt: HostRuntime) {
+fn the_longest_error_and_no_error(rt: HostRuntime) {
     let alloc = rt.alloc();
     for (rule, code, number, length) in [
         (Rule::F3, Code::InvalidQueryParameterValue, 400, 130),

@@ -1,4 +1,5 @@
-//! What no clause says about requests: that each call can succeed, and how much memory requests take.
+//! What no clause says about requests: that each call can succeed, and how much memory requests
+//! take.
 
 use crate::resident::resident;
 use crate::sample_values::{key, long_share, moment, share, text};

@@ -2,7 +2,7 @@
 
 use std::fs;
 
-// How many kilobytes of the process lie in memory, if the system says so.
+// How many kilobytes of the process are in memory, if the system says so.
 pub(crate) fn resident(rt: &HostRuntime) -> Option<u64> {
     let status = fs::read_to_string(rt, "/proc/self/status").ok()?;
     let mut count = None;

@@ -1,4 +1,5 @@
-//! Small values for tests. A test ends if memory runs out, so none of these functions returns an error.
+//! Small values for tests. A test ends if memory runs out, so none of these functions returns an
+//! error.
 ghost use Rattle.std.specs.Prelude.{◌≡◌};
 
 use stamp_types::{

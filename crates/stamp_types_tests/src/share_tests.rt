@@ -1,4 +1,5 @@
-//! What no clause says about shared bytes: that each call can succeed, sums from outside, printed text, and memory.
+//! What no clause says about shared bytes: that each call can succeed, sums from outside, printed
+//! text, and memory.
 
 use crate::resident::resident;
 use crate::sample_values::{long_share, share, shares};
@@ -73,6 +74,17 @@ fn pieces_are_gathered(rt: HostRuntime) {
     assert!(rt; gathered_sum(&rt, alloc, empty, &[b"a", b"", b"bc"]) == SUM_OF_ABC);
     let roomy = Gathering::with_room(alloc, 5).expect(&rt, "memory");
     assert!(rt; gathered_sum(&rt, alloc, roomy, &[b"hel", b"lo"]) == SUM_OF_HELLO);
+}
+
+#[test]
+fn bytes_are_read_and_hashed(rt: HostRuntime) {
+    let alloc = rt.alloc();
+    let mut reader = b"hello".as_slice();
+    let mut gathering = Gathering::new(alloc);
+    assert!(rt; gathering.read_from(&mut reader, 3) == Ok(3));
+    assert!(rt; gathering.read_from(&mut reader, 8) == Ok(2));
+    assert!(rt; gathering.read_from(&mut reader, 8) == Ok(0));
+    assert!(rt; gathering.finish(alloc).expect(&rt, "memory").sum() == SUM_OF_HELLO);
 }
 
 #[test]

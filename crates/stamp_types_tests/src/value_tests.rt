@@ -1,4 +1,5 @@
-//! Small values: names and limits as the reference has them, printed texts, and that each call can succeed.
+//! Small values: names and limits as the reference has them, printed texts, and that each call can
+//! succeed.
 
 use crate::sample_values::{acl, key, metadata, text};
 use stamp_types::{
@@ -60,7 +61,8 @@ fn names_have_limits_in_characters(rt: HostRuntime) {
     }
 }
 
-// The numbers come from GNU date: `date -u -d 9999-12-31T23:59:59 +%s`, times 10,000,000, and 9,999,999 more.
+// The numbers come from GNU date: `date -u -d 9999-12-31T23:59:59 +%s`, times 10,000,000, and
+// 9,999,999 more.
 #[test]
 fn moments_reach_from_1970_to_9999(rt: HostRuntime) {
     for (ticks, good) in [

@@ -1,8 +1,10 @@
 pub mod Entries
 pub mod EtagLemmas
 pub mod FieldLemmas
+pub mod GatheringLemmas
 pub mod Joined
 pub mod MapsLemmas
 pub mod Parts
 pub mod Ranges
+pub mod Sums
 pub mod Utf8Lemmas

@@ -1,8 +1,10 @@
 pub mod Acls
+pub mod Ascii
 pub mod Entries
 pub mod Etags
 pub mod FieldLists
 pub mod Fields
+pub mod Gatherings
 pub mod Letters
 pub mod Levels
 pub mod Limits

@@ -4,7 +4,8 @@ ghost use Rattle.std.specs.Prelude.{◌≡◌, ◌↔◌, ◌≤◌, IsSome, IfS
 use crate::bytes::Bytes;
 use std::marker::Model;
 
-/// A block's id, decoded: 1 to 64 bytes, ordered by them (Put Block: a Base64 text of at most 64 bytes before encoding).
+/// A block's id, decoded: 1 to 64 bytes. Ids are ordered by their bytes (Put Block: the id has at most 64 bytes before it is
+/// encoded as Base64).
 #[derive(Clone, Debug, PartialEq, Eq, PartialOrd, Ord, Drop)]
 pub struct BlockId {
     bytes: Bytes,
@@ -23,7 +24,7 @@ impl Model for BlockId {
 }
 
 impl BlockId {
-    /// The id, or `None` where there are no bytes or more than 64.
+    /// The id, or `None` if there are no bytes or more than 64 bytes.
     pub fn new(bytes: Bytes) -> Option<Self>
         ensures valid { IsSome result ↔ ((1 ≤ length bytes) × (length bytes ≤ 64)) }
         ensures value { IfSome result (λ id. id ≡ bytes) }

@@ -4,7 +4,7 @@ ghost use Rattle.stamp_values.specs.Letters.{Permissions, has_permission, letter
 
 use std::marker::Model;
 
-/// Permissions of a shared access signature or a stored policy. At least one is given.
+/// Permissions of a shared access signature or a stored policy. At least one permission is given.
 #[derive(Clone, Copy, Debug, PartialEq, Eq)]
 pub struct Letters {
     read: bool,
@@ -19,18 +19,21 @@ impl Model for Letters {
 
     ghost Value = { Permissions };
 
-    ghost view = { λ l. record { read = l.read; write = l.write; delete = l.delete; list = l.list } };
+    ghost view = { λ l.
+        record { read = l.read; write = l.write; delete = l.delete; list = l.list } };
 
     ghost invariant = { λ l. IsTrue (l.read || l.write || l.delete || l.list) };
 
-    ghost inverse = { λ p. record { read = p.read; write = p.write; delete = p.delete; list = p.list } };
+    ghost inverse = { λ p.
+        record { read = p.read; write = p.write; delete = p.delete; list = p.list } };
 }
 
 impl Letters {
-    /// The permissions, or `None` where none is given.
+    /// The permissions, or `None` if no permission is given.
     pub fn new(read: bool, write: bool, delete: bool, list: bool) -> Option<Self>
         ensures valid { IsSome result ↔ IsTrue (read || write || delete || list) }
-        ensures value { IfSome result (λ p. (p.read ≡ read) × (p.write ≡ write) × (p.delete ≡ delete) × (p.list ≡ list)) }
+        ensures value { IfSome result (λ p.
+            (p.read ≡ read) × (p.write ≡ write) × (p.delete ≡ delete) × (p.list ≡ list)) }
     {
         if read || write || delete || list {
             Some(Self {
@@ -44,35 +47,35 @@ impl Letters {
         }
     }
 
-    /// To read content, properties, metadata and block lists (`r`).
+    /// Whether it is allowed to read content, properties, metadata and block lists (`r`).
     pub fn reads(self) -> bool
         ensures { result ≡ self.read }
     {
         self.read
     }
 
-    /// To write content, metadata and block lists (`w`).
+    /// Whether it is allowed to write content, metadata and block lists (`w`).
     pub fn writes(self) -> bool
         ensures { result ≡ self.write }
     {
         self.write
     }
 
-    /// To delete a blob (`d`).
+    /// Whether it is allowed to delete a blob (`d`).
     pub fn deletes(self) -> bool
         ensures { result ≡ self.delete }
     {
         self.delete
     }
 
-    /// To list blobs (`l`).
+    /// Whether it is allowed to list blobs (`l`).
     pub fn lists(self) -> bool
         ensures { result ≡ self.list }
     {
         self.list
     }
 
-    /// The letters of what is allowed, in the order `r`, `w`, `d`, `l`.
+    /// The letters of the permissions that are given, in the order `r`, `w`, `d`, `l`.
     pub fn as_str(self) -> &'static str
         ensures { result.now ≡ letters_text self }
     {
@@ -96,11 +99,12 @@ impl Letters {
         }
     }
 
-    /// The permissions that the letters give, or `None` where there is no letter, another one, one
-    /// twice, or two in the other order.
+    /// The permissions that the letters give. `None` if there is no letter, if another byte is among them, if a letter is there
+    /// twice, or if the letters are in another order.
     pub fn read(text: &[u8]) -> Option<Self>
         ensures value { IfSome result (λ p. text.now ≡ letters_text p) }
-        ensures complete { (p : Permissions) → IsTrue (has_permission p) → text.now ≡ letters_text p → result ≡ Some p }
+        ensures complete { (p : Permissions) → IsTrue (has_permission p) → text.now ≡ letters_text p
+            → result ≡ Some p }
     {
         let read = text.contains(&b'r');
         let write = text.contains(&b'w');

@@ -45,7 +45,7 @@ pub use clean::{char_count, is_clean, is_utf8, is_visible};
 pub use condition::{ByteRange, Condition};
 pub use etag::{read_etag, write_etag};
 pub use field_list::{FieldList, FieldRef, Fields};
-pub use gathering::Gathering;
+pub use gathering::{GatherFault, Gathering};
 pub use header_names::STANDARD_NAMES;
 pub use items::Items;
 pub use key::Key;

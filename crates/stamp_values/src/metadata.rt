@@ -11,8 +11,8 @@ use crate::names::is_metadata_name;
 use std::alloc::Global;
 use std::marker::Model;
 
-/// Metadata, rising by name, which have at most 8,192 bytes together. A name is a lower-case letter or
-/// `_`, and behind it letters, digits and `_`.
+/// Metadata, which rise by name. Names and values have at most 8,192 bytes together. A name is a lower-case letter or `_`, and
+/// after it lower-case letters, digits and `_`.
 #[derive(Clone, Debug, PartialEq, Eq, Drop)]
 pub struct Metadata {
     metas: Items<Meta>,
@@ -32,10 +32,10 @@ impl Model for Metadata {
     ghost inverse = { λ ms. record { metas = ms } };
 }
 
-fn is_before_next(meta: &Meta, behind: &[Meta]) -> bool
-    ensures { result ≡ is_before_next meta.now behind.now }
+fn is_before_next(meta: &Meta, others: &[Meta]) -> bool
+    ensures { result ≡ is_before_next meta.now others.now }
 {
-    match behind {
+    match others {
         [] => true,
         [next, ..] => meta.name.cmp(&next.name).is_lt(),
     }
@@ -85,8 +85,8 @@ fn is_metadata(metas: &[Meta]) -> bool
 }
 
 impl Metadata {
-    /// The metadata, or `None` where a name is bad, the names don't rise, or names and values have
-    /// more than 8,192 bytes together.
+    /// The metadata. `None` if a name is bad, if the names do not rise, or if names and values have more than 8,192 bytes
+    /// together.
     pub fn new(metas: Items<Meta>) -> Option<Self>
         ensures valid { IsSome result ↔ IsTrue (is_metadata metas) }
         ensures value { IfSome result (λ m. m ≡ metas) }

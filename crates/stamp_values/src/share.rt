@@ -12,11 +12,10 @@ use std::sync::Arc;
 
 /// A range of one allocation that any number of owners share, seen as the bytes in it.
 ///
-/// Sharing and slicing copy no byte. The allocation is kept as long as any of its shares, a slice
-/// of it too.
+/// To share and to slice copies no byte. The allocation is kept as long as one of its shares or slices is kept.
 #[derive(Drop)]
 pub struct Share {
-    // `None` has no bytes, so that none of them needs no memory.
+    // `None` is no bytes, so a share of no bytes takes no memory.
     shared: Option<Arc<Vec<u8>>>,
     start: usize,
     end: usize,
@@ -44,7 +43,7 @@ fn owner(shared: &Option<Arc<Vec<u8>>>) -> Result<Option<Arc<Vec<u8>>>, AllocErr
 }
 
 impl Share {
-    /// No bytes. Takes no memory.
+    /// No bytes. The call takes no memory.
     pub fn empty() -> Self
         ensures { result ≡ [] }
     {
@@ -55,9 +54,9 @@ impl Share {
         }
     }
 
-    /// All of `bytes`, which are moved and not copied; the room behind them stays theirs.
+    /// All of `bytes`. They are moved and not copied, and the room after them is kept too.
     ///
-    /// Where there is no memory for the count of owners, `bytes` come back as they were.
+    /// If memory runs out for the count of owners, `bytes` come back as they were.
     pub fn new(alloc: Global, bytes: Vec<u8>) -> Result<Self, AllocFailed<Vec<u8>>>
         ensures whole { IfOk result (λ s. s ≡ bytes.items) }
         ensures refused { IfErr result (λ e. e.value ≡ bytes) }
@@ -71,9 +70,9 @@ impl Share {
         })
     }
 
-    /// The same bytes, with one more owner. None of them is copied.
+    /// The same bytes, with one more owner. No byte is copied.
     ///
-    /// `AllocError` where the allocation can have no further owner.
+    /// `AllocError` if the allocation cannot have another owner.
     pub fn share(&self) -> Result<Self, AllocError>
         ensures { IfOk result (λ s. s ≡ self.now) }
     {
@@ -84,10 +83,9 @@ impl Share {
         })
     }
 
-    /// The bytes from `start`, short of `end`, counted from the share's own first. None of them
-    /// is copied.
+    /// The bytes from `start` up to but not including `end`, counted from the first byte of the share. No byte is copied.
     ///
-    /// `AllocError` where the allocation can have no further owner.
+    /// `AllocError` if the allocation cannot have another owner.
     pub fn slice(&self, start: usize, end: usize) -> Result<Self, AllocError>
         requires order { start ≤ end }
         requires within { end ≤ length self.now }
@@ -124,7 +122,7 @@ impl Share {
         self.as_slice().is_empty()
     }
 
-    /// Whether the bytes are equal. Reads them, also where both are of one allocation.
+    /// Whether the bytes are equal. The call reads them, also if both shares are of one allocation.
     pub fn same(&self, other: &Self) -> bool
         ensures { IsTrue result ↔ (self.now ≡ other.now) }
     {
@@ -154,7 +152,7 @@ impl Eq for Share {
     ghost laws = { nat_list_eq_equiv };
 }
 
-// The length alone: the bytes may be 64 MiB.
+// Prints the length alone: there may be 64 MiB of bytes.
 impl fmt::Debug for Share {
     fn fmt<W: fmt::Write>(&self, f: &mut fmt::Formatter<W>) -> fmt::Result {
         let count = self.len();

@@ -1,4 +1,4 @@
-use Rattle.std.proofs.Common.{◌+◌, ◌*◌, length}
+use Rattle.http_front.specs.Inputs.{work_left}
 use Rattle.http_front.proofs.Talks.{Serving}
 use Rattle.http_front.proofs.connection.converse.Given as goal
 
@@ -8,4 +8,4 @@ invariant-loop-buffer g l =
     (g.R.Read.remaining l.fn.reader) (g.R.Read.remaining l.reader) (g.W.Write.contents l.fn.writer) (g.W.Write.contents l.writer) l.buffer l.turns l.left
 
 abbrev pub decreases-loop-buffer : goal.decreases-loop-buffer
-decreases-loop-buffer g l = l.left * 8193 + length l.buffer
+decreases-loop-buffer g l = work_left l.left l.buffer

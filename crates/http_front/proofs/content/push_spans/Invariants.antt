@@ -4,7 +4,7 @@ use Rattle.range_rows.specs.ObjectReplies.{is_within}
 use Rattle.http_front.specs.PlainAnswers.{bytes_held}
 use Rattle.http_front.proofs.content.push_spans.Given as goal
 
--- what is there and what is left make the whole, and the pieces that are left have the bytes of their spans
+-- the body so far and the bytes of the spans that are left make the whole, and the spans that are left lie within their pieces
 abbrev pub invariant-loop-left : goal.invariant-loop-left
 invariant-loop-left l = (l.body ++ bytes_held l.left ≡ l.initial.body ++ bytes_held l.spans) × (list_all is_within l.left ≡ true)
 

@@ -12,22 +12,22 @@ await_body-requires-clause-waiting g c =
     λ short. c.in_ok-body.ensures.rest ∙ drop_short c.body_len-body_len.result (drop c.args.count c.args.buffer.now)
     (subst (λ l. length l < c.body_len-body_len.result) c.in_ok-body.ensures.body short)
 
-pub returns-in_err-await_body-clause-bodies : goal.returns-in_err-await_body-clause-bodies
-returns-in_err-await_body-clause-bodies g c =
+pub returns-in_err-await_body-clause-read : goal.returns-in_err-await_body-clause-read
+returns-in_err-await_body-clause-read g c =
     let p = err_from_is_err_and c.from_residual-in_err-await_body.result c.from_residual-in_err-await_body.ensures.1 in
     let at = starts c.args.count c.body_len-body_len.result c.args.buffer.now c.in_ok-body.body c.take_start.new.buffer c.in_ok-body.ensures.body c.in_ok-body.ensures.rest in
     rw (p.1, p.2) (bodies_cut (Unit {0}) c.in_err-await_body.field-0.0 c.args.head.now c.args.count c.body_len-body_len.result _ _ _ _ _
     c.args.buffer.now (c.in_ok-body.body ++ c.take_start.new.buffer) (c.await_body.new.body ++ c.await_body.new.buffer) c.await_body.new.buffer c.args.turns.now c.await_body.new.turns
-    c.requires c.body_len-body_len.ensures at c.in_ok-send_interim.ensures.sent c.in_err-await_body.ensures.fills
-    c.in_err-await_body.ensures.cut c.in_err-await_body.ensures.held c.in_err-await_body.ensures.within_fault (λ e. c.in_err-await_body.ensures.exhausted (ap Err e)))
+    c.requires c.body_len-body_len.ensures at c.in_ok-send_interim.ensures.sent c.in_err-await_body.ensures.read
+    c.in_err-await_body.ensures.cut c.in_err-await_body.ensures.unwritten c.in_err-await_body.ensures.within_fault (λ e. c.in_err-await_body.ensures.exhausted (ap Err e)))
 
-pub returns-clause-bodies : goal.returns-clause-bodies
-returns-clause-bodies g c =
+pub returns-clause-read : goal.returns-clause-read
+returns-clause-read g c =
     let at = starts c.args.count c.body_len-body_len.result c.args.buffer.now c.in_ok-body.body c.take_start.new.buffer c.in_ok-body.ensures.body c.in_ok-body.ensures.rest in
     bodies_whole (Unit {0}) _ c.args.head.now c.args.count c.body_len-body_len.result _ _ _ _ _
     c.args.buffer.now (c.in_ok-body.body ++ c.take_start.new.buffer) c.await_body.new.body c.await_body.new.buffer c.args.turns.now c.await_body.new.turns
     c.requires c.body_len-body_len.ensures at c.in_ok-send_interim.ensures.sent
-    c.in_ok-await_body.ensures.fills c.in_ok-await_body.ensures.whole c.in_ok-await_body.ensures.held c.in_ok-await_body.ensures.spent c.in_ok-await_body.ensures.within
+    c.in_ok-await_body.ensures.read c.in_ok-await_body.ensures.whole c.in_ok-await_body.ensures.unwritten c.in_ok-await_body.ensures.spent c.in_ok-await_body.ensures.within
 
 pub returns-clause-measure : goal.returns-clause-measure
 returns-clause-measure g c =

@@ -1,6 +1,6 @@
 use Rattle.std.proofs.Common.{◌≡◌, map, drop}
 use Rattle.std.specs.List.{list_any}
-use Rattle.request_form.specs.HeadFields.{is_sent}
+use Rattle.stamp_values.specs.Fields.{is_sent}
 use Rattle.request_form.proofs.unserved.is_any_sent.Given as goal
 
 -- what is left gives the answer

@@ -1,5 +1,5 @@
 use Rattle.std.proofs.Common.{List, None, Option, ap, cond, sym, ◌∙◌, ℕ}
-use Rattle.stamp_values.specs.Operations.{checks_md5, keeps_headers}
+use Rattle.stamp_values.specs.Operations.{checks_md5}
 use Rattle.request_form.specs.HeadForms.{args_of}
 use Rattle.request_form.proofs.ValueLemmas.{no_bad_line}
 use Rattle.request_form.proofs.values.good_args.Goals as goal
@@ -7,8 +7,8 @@ use Rattle.request_form.proofs.values.good_args.Goals as goal
 pub returns : goal.returns
 unfolding args_of
 returns c = (
-  no_bad_line (keeps_headers c.args.op) c.args.fields.now (sym c.has_standard_twice.ensures ∙ c.if-has_standard_twice.false)
-      (sym c.has_own_twice.ensures ∙ c.if-has_own_twice.false) (sym c.has_bad_condition.ensures ∙ c.if-has_bad_condition.false)
+  no_bad_line c.args.op c.args.fields.now (sym c.has_bad_twice.ensures ∙ c.if-has_bad_twice.false)
+      (sym c.has_bad_condition.ensures ∙ c.if-has_bad_condition.false)
       c.in_ok-md5_under.ensures.0 c.in_ok-blob_md5.ensures.0 c.in_ok-kept.ensures.0,
   λ i. record {
     if_match = None;

@@ -2,7 +2,7 @@ use Rattle.std.proofs.Common.{◌≡◌, length}
 use Rattle.shared_key.specs.Authorizations.{unspaced}
 use Rattle.shared_key.proofs.authorization.without_spaces.Given as goal
 
--- what is left gives the answer
+-- the answer for the bytes that are left is the answer for all bytes
 abbrev pub invariant-loop-left : goal.invariant-loop-left
 invariant-loop-left l = unspaced l.left ≡ unspaced l.bytes
 

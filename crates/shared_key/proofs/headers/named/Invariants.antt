@@ -4,7 +4,7 @@ use Rattle.shared_key.specs.Strings.{field_pair, is_ms}
 use Rattle.shared_key.proofs.Named.{put_all}
 use Rattle.shared_key.proofs.headers.named.Given as goal
 
--- the headers that are left, put over what is there, give the answer
+-- the headers that are left, put over the entries so far, give the answer
 abbrev pub invariant-loop-header : goal.invariant-loop-header
 invariant-loop-header l = put_all (map field_pair (filter is_ms l.left)) (map deref_pair l.named.entries) ≡ put_all (map field_pair (filter is_ms l.headers)) []
 

@@ -1,7 +1,8 @@
 use Rattle.std.proofs.Common.{map}
 use Rattle.std.proofs.lemmas.List.Sorted.{IsPermutation-map}
 use Rattle.shared_key.proofs.Ordered.{only_in_order}
-use Rattle.shared_key.proofs.Pairs.{pair_of, pairs_total, pairs_exact, rises_parameters}
+use Rattle.shared_key.specs.Parameters.{pair_of}
+use Rattle.shared_key.proofs.Pairs.{pairs_total, pairs_exact, rises_parameters}
 use Rattle.shared_key.proofs.query.arrange.Goals as goal
 
 pub returns : goal.returns

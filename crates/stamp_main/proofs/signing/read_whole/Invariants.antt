@@ -1,5 +1,6 @@
 use Rattle.std.proofs.Common.{◌*◌, ◌≤◌, length}
 use Rattle.std.specs.Io.KnownBytes.{Consumes}
+use Rattle.http_front.specs.Inputs.{read_size}
 use Rattle.stamp_main.proofs.signing.read_whole.Given as goal
 
 abbrev pub invariant-loop-turn : goal.invariant-loop-turn
@@ -8,5 +9,5 @@ invariant-loop-turn g l =
     record {
       came : Consumes (remaining l.fn.reader) (remaining l.reader) l.input.items;
       least : l._turn ≤ length l.input.items;
-      most : length l.input.items ≤ l._turn * 8192;
+      most : length l.input.items ≤ l._turn * read_size;
     }

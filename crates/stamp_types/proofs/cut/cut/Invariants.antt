@@ -2,7 +2,7 @@ use Rattle.std.proofs.Common.{◌≡◌, ◌-◌, ◌+◌, ◌≤◌, ◌++◌, 
 use Rattle.stamp_types.specs.Pieces as pieces
 use Rattle.stamp_types.proofs.cut.cut.Given as goal
 
--- the pieces so far and those of what is left give all
+-- the pieces so far and the pieces of what is left are the pieces of the whole
 abbrev pub invariant-loop-at : goal.invariant-loop-at
 invariant-loop-at l = record {
   same : l.pieces.items ++ pieces.cut (drop l.at l.share) ≡ pieces.cut l.share;

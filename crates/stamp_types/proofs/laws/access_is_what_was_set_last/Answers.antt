@@ -6,7 +6,7 @@ pub returns-clause-stays : goal.returns-clause-stays
 returns-clause-stays g c = λ f a p kind. access-changed f p a kind
 
 pub returns-clause-set : goal.returns-clause-set
-returns-clause-set g c = λ f a p s stands. access-set f p a s stands
+returns-clause-set g c = λ f a p s exists. access-set f p a s exists
 
 pub returns-clause-deleted : goal.returns-clause-deleted
 returns-clause-deleted g c = λ f p. (refl, refl)

@@ -2,7 +2,7 @@ use Rattle.std.proofs.Common.{◌≡◌, rules, ap}
 use Rattle.stamp_types.specs.declared.reply.Reply.{Reply}
 use Rattle.stamp_types.proofs.reply.Reply.same.Goals as goal
 
--- replies are equal where their parts are
+-- replies are equal if their parts are equal
 same_replies : (a b : Reply) → a.status ≡ b.status → a.code ≡ b.code → a.rule ≡ b.rule → a.headers ≡ b.headers → a.length ≡ b.length → a.body ≡ b.body → a ≡ b
 same_replies a b status code rule headers length body =
     λ i. record { status = status i; code = code i; rule = rule i; headers = headers i; length = length i; body = body i }
