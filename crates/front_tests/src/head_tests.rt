@@ -1,9 +1,7 @@
 //! What the replies on a connection do not show about a head: what the head lends, and the request that a head and its body
 //! make.
 
-use request_form::{
-    Denial, Head, HeadFault, NameFault, account_ok, blob_name, container_ok, no_head, read_head,
-};
+use request_form::{Denial, Head, HeadFault, no_head, read_head};
 use stamp_types::{
     Ask, Body, Code, Credential, FieldList, Kept, Op, Request, Rule, Share, Signing, Status, Verb,
 };
@@ -139,27 +137,4 @@ fn a_denial_names_the_verb_that_was_read(rt: HostRuntime) {
         verb: Some(Verb::Head),
     };
     assert!(rt; denial(rt.alloc(), "HEAD /acct/box/b HTTP/1.1\r\n\r\n") == Some(unserved));
-}
-
-fn is_named(alloc: Global, rest: &str, wanted: Result<&str, NameFault>) -> bool {
-    match blob_name(alloc, rest.as_bytes()) {
-        Ok(name) => wanted == Ok(name.as_str()),
-        Err(fault) => wanted == Err(fault),
-    }
-}
-
-#[test]
-fn names_as_a_path_has_them(rt: HostRuntime) {
-    let names = [
-        ("a%2Fb", Ok("a/b")),
-        ("%2500", Ok("%00")),
-        ("", Err(NameFault::Empty)),
-        ("%FF", Err(NameFault::NotUtf8)),
-        ("%00", Err(NameFault::Control)),
-    ];
-    for (rest, wanted) in names {
-        assert!(rt; is_named(rt.alloc(), rest, wanted), "{rest}");
-    }
-    assert!(rt; account_ok(b"acct") && !account_ok(b"a-b"));
-    assert!(rt; container_ok(b"a-b") && !container_ok(b"a--b"));
 }

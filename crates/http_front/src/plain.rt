@@ -14,8 +14,8 @@ ghost use Rattle.http_front.specs.declared.plain.PlainFault.TheVariants.{NoMemor
 use crate::content::reply_with_content;
 use crate::service::Service;
 use access_rules::{Keys, Verdict, verdict};
+use name_rules::account_ok;
 use range_rows::{Reading, Rows, read_request};
-use request_form::account_ok;
 use stamp_types::{Code, Key, Moment, Op, Refusal, Reply, Request, Rule, Text};
 use std::alloc::{AllocError, Global};
 use std::marker::Model;

@@ -1,5 +1,6 @@
 //! What writing requests do.
 ghost use Rattle.std.specs.Prelude.{◌≡◌, ◌<◌, ◌≤◌, ℕ, IfOk, IsSome, IsTrue, None, Some, length};
+ghost use Rattle.stamp_values.specs.Limits.{put_blob_limit};
 ghost use Rattle.stamp_types.specs.World.{Part};
 ghost use Rattle.stamp_types.specs.PropsFields.{is_kept};
 ghost use Rattle.stamp_values.specs.declared.op.Op.TheVariants as op;
@@ -40,7 +41,7 @@ fn put_blob(
     kept: &Kept,
 ) -> Result<PutBlob, AllocError>
     requires kept { IsTrue (is_kept kept.now) }
-    requires body { length request.now.body ≤ 67108864 }
+    requires body { length request.now.body ≤ put_blob_limit }
     ensures { IfOk result (λ put. put ≡ changes.put_blob request.now moment blob.now kept.now) }
 {
     let body = request.body();

@@ -7,5 +7,4 @@ pub mod NumberLemmas
 pub mod TargetLemmas
 pub mod TextLemmas
 pub mod TwiceLemmas
-pub mod Utf8Lemmas
 pub mod ValueLemmas

@@ -1,19 +1,16 @@
 -- Bytes that are texts: names in ASCII, and values that are visible.
-use Rattle.std.proofs.Common.{◌≡◌, inl, inr, IsTrue, IsUtf8, sym, ℕ, zero, suc, ◌≤◌, ◌<◌, Bool, true, false, not, ◌&&◌, ◌==◌, cond, nat_lt, nat_le, List, [], ◌∷◌, length, slice_index, is_ok, Ok, Err, refl, arith, leb-true, true≢false}
+use Rattle.std.proofs.Common.{◌≡◌, inl, inr, IsTrue, IsUtf8, ℕ, zero, suc, ◌≤◌, ◌<◌, Bool, true, false, ◌&&◌, ◌==◌, nat_lt, nat_le, List, [], ◌∷◌, length, slice_index, Ok, refl, arith, leb-true}
 use Rattle.std.proofs.lemmas.Bool.{and_parts, and_from, cases_Bool, or_parts, not-false}
 use Rattle.std.proofs.lemmas.Bool.Decides.{nat_tests}
-use Rattle.std.proofs.lemmas.List.Sums.{sum_by-cons}
-use Rattle.std.proofs.lemmas.Str.{IsCharBoundary-start, IsUtf8-from_ascii}
+use Rattle.std.proofs.lemmas.Str.{IsUtf8-from_ascii}
 use Rattle.std.specs.List.{list_all}
-use Rattle.request_form.specs.BlobNames.{decoded_name, name_of}
-use Rattle.request_form.specs.declared.names.NameFault.TheVariants as fault
-use Rattle.request_form.proofs.Utf8Lemmas.{is_utf8-IsUtf8}
-use Rattle.stamp_values.specs.Texts.{is_utf8}
+use Rattle.name_rules.specs.BlobNames.{name_of}
+use Rattle.name_rules.proofs.NameLemmas.{good_blob}
 use Rattle.request_form.specs.HeadForms.{blob_name_of}
 use Rattle.request_form.specs.HeadRules.{has_bad_name}
-use Rattle.request_form.specs.Targets.{is_nothing, account_of, container_of, blob_of}
+use Rattle.request_form.specs.Targets.{account_of, container_of, blob_of}
 use Rattle.stamp_values.specs.Names.{is_lower_or_digit, is_container_byte, is_account, is_container, is_blob, is_within}
-use Rattle.stamp_values.specs.Texts.{is_visible, is_visible_byte, is_clean, is_continuation, char_count}
+use Rattle.stamp_values.specs.Texts.{is_visible, is_visible_byte, is_clean}
 
 weaker : (p q : ℕ → Bool) → ((b : ℕ) → p b ≡ true → q b ≡ true) → (t : List ℕ) → list_all p t ≡ true → list_all q t ≡ true
 weaker p q each [] all = refl
@@ -80,48 +77,6 @@ not_clean t s same none = elim (cases_Bool (is_visible t)) [
   | inl all ↦ absurd (none (rw same (visible_clean t all)))
   | inr some ↦ some
 ]
-
--- a text that is not empty has a character
-some_char : (t : List ℕ) → is_utf8 t ≡ true → is_nothing t ≡ false → 1 ≤ char_count t
-some_char [] text some = absurd (true≢false some)
-some_char (b ∷ t) text some =
-    let start = (IsCharBoundary-start (b ∷ t) ((is_utf8-IsUtf8 (b ∷ t)).0 text)).1 (omega arith) in
-    let first : not (is_continuation b) ≡ true = grind (arith, nat_tests) in
-    let more = sum_by-cons (λ c. cond (not (is_continuation c)) 1 0) b t in
-    let one : ◌≡◌ {A = ℕ} (cond (not (is_continuation b)) 1 0) 1 = rw first in
-    omega (arith, more, one)
-
--- what the tests of a name say about a name that passes them
-passed : (none text long clean : Bool) (name : List ℕ)
-    → is_ok (cond none (Err fault.Empty) (cond (not text) (Err fault.NotUtf8) (cond long (Err fault.TooLong) (cond (not clean) (Err fault.Control) (Ok name))))) ≡ true
-    → (none ≡ false) × (text ≡ true) × (long ≡ false) × (clean ≡ true)
-passed false true false true name good = (refl, refl, refl, refl)
-passed true text long clean name good = absurd (true≢false (sym good))
-passed false false long clean name good = absurd (true≢false (sym good))
-passed false true true clean name good = absurd (true≢false (sym good))
-passed false true false false name good = absurd (true≢false (sym good))
-
--- a name that is read is a good one
-good_blob : (name : List ℕ) → is_ok (decoded_name name) ≡ true → is_blob name ≡ true
-unfolding decoded_name
-good_blob name good =
-    let (some, text, short, clean) = passed (is_nothing name) (is_utf8 name) (nat_lt 1024 (char_count name)) (is_clean name) name good in
-    let least = some_char name text some in
-    let within : is_within 1 1024 (char_count name) ≡ true = grind (arith, nat_tests) in
-    and_from (is_within 1 1024 (char_count name)) (is_clean name) within clean
-
--- a name that is read is what was decoded
-pub name_is : (name read : List ℕ) → decoded_name name ≡ Ok read → read ≡ name
-unfolding decoded_name
-name_is name read e = by_tests (is_nothing name) (is_utf8 name) (nat_lt 1024 (char_count name)) (is_clean name) e
-  where
-    by_tests : (none text long clean : Bool)
-        → cond none (Err fault.Empty) (cond (not text) (Err fault.NotUtf8) (cond long (Err fault.TooLong) (cond (not clean) (Err fault.Control) (Ok name)))) ≡ Ok read → read ≡ name
-    by_tests false true false true e = cc
-    by_tests true text long clean e = absurd (cc)
-    by_tests false false long clean e = absurd (cc)
-    by_tests false true true clean e = absurd (cc)
-    by_tests false true false false e = absurd (cc)
 
 -- what the names of a path are if no name is bad
 pub record HasGoodNames (path : List ℕ) : Type 0 where

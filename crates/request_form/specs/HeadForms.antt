@@ -4,7 +4,7 @@ use Rattle.std.specs.Prelude.{ℕ, Bool, false, true, not, ◌&&◌, ◌||◌, �
 use Rattle.std.specs.List.{list_any, slice_split}
 use Rattle.base64.specs.Engines.{standard}
 use Rattle.base64.specs.GeneralPurpose.{decoded_of}
-use Rattle.percent_encoding.specs.Percent.{percent_decode}
+use Rattle.name_rules.specs.BlobNames.{percent_decode}
 use Rattle.stamp_values.specs.declared.key.Key.{Key}
 use Rattle.stamp_values.specs.Fields.{has_name, first_value, is_sent, trimmed}
 use Rattle.stamp_values.specs.declared.op.Op.{Op}

@@ -19,7 +19,7 @@ use Rattle.stamp_types.specs.declared.code.Code.TheVariants.{InvalidInput, Unsup
 use Rattle.stamp_types.specs.declared.rule.Rule.{Rule}
 use Rattle.stamp_types.specs.declared.rule.Rule.TheVariants.{F1, F2, F3, F4, F5, F6, F7, F8}
 use Rattle.stamp_values.specs.Fields.{is_sent, is_sent_twice, first_value, standard_names}
-use Rattle.request_form.specs.BlobNames.{name_of}
+use Rattle.name_rules.specs.BlobNames.{name_of}
 use Rattle.stamp_values.specs.Ascii.{quote}
 use Rattle.request_form.specs.Targets.{is_nothing, origin_of, is_origin, target_of, account_of, container_of, blob_of, kind_of}
 use Rattle.request_form.specs.HeadFields.{is_bad, has_bad, is_number, is_base64_within, is_md5, is_ms, is_meta}

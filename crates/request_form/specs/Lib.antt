@@ -1,4 +1,3 @@
-pub mod BlobNames
 pub mod HeadFields
 pub mod HeadForms
 pub mod HeadParts

@@ -3,7 +3,7 @@
 use Rattle.std.specs.Prelude.{ℕ, Bool, not, ◌&&◌, ◌||◌, ◌==◌, nat_lt, ◌+◌, if◌then◌else◌, List, map, filter, take, drop, length, slice_index, bytes_eq, codes}
 use Rattle.std.specs.List.{list_all, prefix_len, before_first, after_first, slice_split}
 use Rattle.http_uri.specs.ByteClasses.{is_path_byte, is_query_byte}
-use Rattle.percent_encoding.specs.Percent.{percent_decode}
+use Rattle.name_rules.specs.BlobNames.{percent_decode}
 use Rattle.stamp_values.specs.declared.signing.Field.{Field}
 -- passed on: in lower case
 pub use Rattle.stamp_values.specs.Fields.{lowered}
@@ -11,6 +11,10 @@ use Rattle.stamp_values.specs.Ascii.{number_sign, ampersand, slash, equals_sign,
 use Rattle.request_form.specs.declared.target.Target.{Target}
 use Rattle.request_form.specs.declared.path_kind.PathKind.{PathKind}
 use Rattle.request_form.specs.declared.path_kind.PathKind.TheVariants.{Root, Account, Container, Blob}
+
+-- the most bytes of an address that the library reads
+abbrev pub address_limit : ℕ
+address_limit = 65534
 
 -- the text has no bytes
 abbrev pub is_nothing : List ℕ → Bool

@@ -5,7 +5,7 @@ ghost use Rattle.request_form.specs.HeadForms.{args_of, ask_of, form_of};
 ghost use Rattle.request_form.specs.HeadForms as head_forms;
 ghost use Rattle.request_form.specs.HeadReads.{AreNames, Denies, IsLine};
 ghost use Rattle.request_form.specs.HeadRules.{denial_of, head_rules};
-ghost use Rattle.request_form.specs.Heads.{Accepts, Refuses};
+ghost use Rattle.request_form.specs.Heads.{Accepts, Refuses, head_limit};
 ghost use Rattle.request_form.specs.declared.denial.Denial.{Denial};
 ghost use Rattle.request_form.specs.declared.denial.HeadFault.TheVariants as fault;
 
@@ -126,8 +126,8 @@ fn ask(head: ParsedHead<'_>, line: Line, names: Names, args: Args) -> Ask
 
 // The form of a head that no rule refuses.
 fn form(alloc: Global, head: ParsedHead<'_>) -> Result<Head, HeadFault>
-    requires target { (length head.target ≤ 16384) × IsUtf8 head.target }
-    requires short { sum_by (λ f. length f.value) head.fields ≤ 16384 }
+    requires target { (length head.target ≤ head_limit) × IsUtf8 head.target }
+    requires short { sum_by (λ f. length f.value) head.fields ≤ head_limit }
     ensures { MatchResult result
         (λ form. (denial_of head.entry ≡ None) × (form_of head.entry ≡ Some form))
         (Denies head.entry head_rules) }

@@ -3,7 +3,7 @@ ghost use Rattle.std.specs.Prelude.{◌≡◌, ◌≤◌, All, IfOk, IfSome, IsU
 ghost use Rattle.httparse.specs.Grammar.{RequestHead};
 ghost use Rattle.httparse.specs.Spans.{IsWithin, IsHeaderWithin, IsRequestWithin, IsRequestAt, span_bytes};
 ghost use Rattle.request_form.specs.HeadFields.{is_authorization, signed_headers, authorization_values};
-ghost use Rattle.request_form.specs.Heads.{IsHead, IsNoHead, parsed_of, version_of};
+ghost use Rattle.request_form.specs.Heads.{IsHead, IsNoHead, head_limit, parsed_of, version_of};
 ghost use Rattle.request_form.specs.HeadSpans.{field_at, fields_at, parts_at};
 
 use crate::parsed_head::{ParsedHead, Version};
@@ -128,9 +128,9 @@ pub(crate) fn parse_head(alloc: Global, text: &[u8]) -> Result<Option<ParsedHead
         (h : RequestHead) × IsHead text.now h × (p ≡ parsed_of h))) }
     ensures none { IfOk result (λ o. o ≡ None → IsNoHead text.now) }
     ensures short { IfOk result (λ o. IfSome o (λ p.
-        sum_by (λ f. length f.value) p.fields ≤ 16384)) }
+        sum_by (λ f. length f.value) p.fields ≤ head_limit)) }
     ensures target { IfOk result (λ o. IfSome o (λ p.
-        (length p.target ≤ 16384) × IsUtf8 p.target)) }
+        (length p.target ≤ head_limit) × IsUtf8 p.target)) }
 {
     let mut headers = [EMPTY_HEADER_SPAN; FIELDS_LIMIT];
     let Some(head) = find_parts(text, &mut headers) else {

@@ -25,4 +25,3 @@ pub use denial::{Denial, HeadFault, no_head};
 pub use head::{Head, read_head};
 pub use head_laws::{a_head_is_read_in_one_way, each_head_is_accepted_or_refused};
 pub use head_parts::HEAD_LIMIT;
-pub use names::{NameFault, account_ok, blob_name, container_ok};

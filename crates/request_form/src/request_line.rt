@@ -1,5 +1,6 @@
 //! What a request line says, by the rules F1, F2 and F3 in their order.
 ghost use Rattle.std.specs.Prelude.{◌≤◌, IsUtf8, MatchResult, length};
+ghost use Rattle.request_form.specs.Heads.{head_limit};
 ghost use Rattle.request_form.specs.HeadReads.{Denies, IsLine, Passes, line_rules};
 
 use crate::denial::{HeadFault, denied, no_head};
@@ -23,7 +24,7 @@ pub struct Line {
 /// `Denied` by the first of these rules that holds; `NoMemory` if memory runs out.
 #[tactic(auto, unfolding(crate::specs::HeadRules::denial_among, crate::specs::HeadRules::op_of))]
 pub(crate) fn read_line(alloc: Global, head: &ParsedHead<'_>) -> Result<Line, HeadFault>
-    requires target { (length head.now.target ≤ 16384) × IsUtf8 head.now.target }
+    requires target { (length head.now.target ≤ head_limit) × IsUtf8 head.now.target }
     ensures { MatchResult result
         (λ l. Passes head.now line_rules × IsLine head.now l)
         (Denies head.now line_rules) }

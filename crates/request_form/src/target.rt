@@ -1,13 +1,12 @@
 //! Rule F1: the request target, and what it names.
 ghost use Rattle.std.specs.Prelude.{◌≡◌, ◌≤◌, ◌==◌, ◌++◌, ◌∷◌, [], IfOk, MatchOption, OnOk, false, true, length, map, filter, not, take, drop, bytes_eq, codes, IsTrue, IsUtf8, slice_index};
 ghost use Rattle.std.specs.List.{position_or_len, before_first, after_first, prefix_len};
-ghost use Rattle.percent_encoding.specs.Percent.{percent_decode};
 ghost use Rattle.stamp_values.specs.Ascii.{number_sign, slash};
-ghost use Rattle.request_form.specs.Targets.{lowered, is_in_authority, origin_of, is_origin, path_of, query_text, query_of, target_of, parameter_of, account_of, after_account, container_of, blob_of, kind_of, is_nothing, pieces_of};
+ghost use Rattle.request_form.specs.Targets.{address_limit, lowered, is_in_authority, origin_of, is_origin, path_of, query_text, query_of, target_of, parameter_of, account_of, after_account, container_of, blob_of, kind_of, is_nothing, pieces_of};
 
 use crate::path_kind::PathKind;
 use http_uri::{Uri, UriError};
-use percent_encoding::percent_decode;
+use name_rules::decoded;
 use stamp_types::{Bytes, FieldList};
 use std::alloc::{AllocError, Global};
 
@@ -98,7 +97,7 @@ fn origin(target: &[u8]) -> &[u8]
 fn is_spelled(alloc: Global, origin: &[u8]) -> Result<bool, AllocError>
     requires start { slice_index origin.now 0 ≡ slash }
     requires unsigned { position_or_len (λ b. b == number_sign) origin.now ≡ length origin.now }
-    requires short { length origin.now ≤ 65534 }
+    requires short { length origin.now ≤ address_limit }
     requires utf8 { IsUtf8 origin.now }
     ensures { IfOk result (λ b. b ≡ is_origin origin.now) }
 {
@@ -113,7 +112,7 @@ fn is_spelled(alloc: Global, origin: &[u8]) -> Result<bool, AllocError>
 // RFC 3986, section 3). So it is not `*`, and it has no fragment.
 #[tactic(auto, using(crate::proofs::TargetLemmas::is_origin_signed), unfolding(crate::specs::Targets::is_origin))]
 fn is_origin(alloc: Global, origin: &[u8]) -> Result<bool, AllocError>
-    requires short { length origin.now ≤ 65534 }
+    requires short { length origin.now ≤ address_limit }
     requires utf8 { IsUtf8 origin.now }
     ensures { IfOk result (λ b. b ≡ is_origin origin.now) }
 {
@@ -137,17 +136,6 @@ fn query_text(origin: &[u8]) -> &[u8]
     ensures { result.now ≡ query_text origin.now }
 {
     after(origin, b'?')
-}
-
-/// The bytes with each escape decoded (RFC 3986, section 2.1). A `%` without two hexadecimal digits stays, and so does a `+`.
-///
-/// `AllocError` if memory runs out.
-pub(crate) fn decoded(alloc: Global, text: &[u8]) -> Result<Vec<u8>, AllocError>
-    ensures { IfOk result (λ v. v.items ≡ percent_decode text.now) }
-{
-    let mut bytes = Vec::new(alloc);
-    percent_decode(text).append_to(&mut bytes)?;
-    Ok(bytes)
 }
 
 // Puts the parameter of a piece at the end: the piece is cut at its first `=`, and each side is decoded.
@@ -185,7 +173,7 @@ fn query(alloc: Global, origin: &[u8]) -> Result<FieldList, AllocError>
 /// `AllocError` if memory runs out.
 #[tactic(auto, unfolding(crate::specs::Targets::target_of))]
 pub(crate) fn read_target(alloc: Global, target: &[u8]) -> Result<Option<Target>, AllocError>
-    requires short { length target.now ≤ 65534 }
+    requires short { length target.now ≤ address_limit }
     requires utf8 { IsUtf8 target.now }
     ensures { IfOk result (λ o. MatchOption o (is_origin (origin_of target.now) ≡ false)
         (λ t. (is_origin (origin_of target.now) ≡ true) × (t ≡ target_of target.now))) }

@@ -1,5 +1,6 @@
 //! How long the texts of a request are together.
 ghost use Rattle.std.specs.Prelude.{◌≡◌, ◌↔◌, ◌+◌, ◌≤◌, IsTrue, IsSome, IfSome, length};
+ghost use Rattle.stamp_values.specs.Limits.{args_limit};
 ghost use Rattle.stamp_values.specs.MetadataLists.{metadata_len};
 ghost use Rattle.stamp_types.specs.Requests.{given_len, kept_len, page_len, args_len};
 
@@ -76,7 +77,7 @@ fn left_after_args(left: usize, args: &Args) -> Option<usize>
 
 // Whether texts and ids have at most 16,384 bytes together.
 pub(crate) fn are_args_short(args: &Args) -> bool
-    ensures { IsTrue result ↔ (args_len args.now ≤ 16384) }
+    ensures { IsTrue result ↔ (args_len args.now ≤ args_limit) }
 {
     left_after_args(ARGS_LIMIT, args).is_some()
 }

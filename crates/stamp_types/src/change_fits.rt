@@ -1,6 +1,7 @@
 //! Tests of whether the parts of a change fit its act.
 ghost use Rattle.std.specs.Prelude.{◌≡◌, ◌↔◌, ◌≤◌, ◌==◌, IsTrue, length, is_some};
 ghost use Rattle.std.specs.List.{list_all};
+ghost use Rattle.stamp_values.specs.Limits.{blob_limit};
 ghost use Rattle.stamp_values.specs.Names as names;
 ghost use Rattle.stamp_types.specs.Changes.{is_in_one_piece, is_block, has_ids_or_one, blocks_len, are_blocks, is_committed, is_id_before_next, has_rising_ids, has_ids_of_one_length, are_uncommitted, is_stored_blob, is_act, is_change};
 
@@ -43,7 +44,7 @@ fn has_ids_or_one(blocks: &[Block<Pieces>]) -> bool
 
 // Whether the blocks have at most 268,435,456 bytes together.
 fn are_short(blocks: &[Block<Pieces>]) -> bool
-    ensures { IsTrue result ↔ (blocks_len blocks.now ≤ 268435456) }
+    ensures { IsTrue result ↔ (blocks_len blocks.now ≤ blob_limit) }
 {
     let mut left = BLOB_LIMIT;
     for block in blocks {

@@ -1,6 +1,7 @@
 //! Content in pieces.
 ghost use Rattle.std.specs.Prelude.{◌≡◌, ◌↔◌, ◌≤◌, IsSome, IfSome, IfOk, IsTrue, [], length};
 ghost use Rattle.std.specs.List.{list_all};
+ghost use Rattle.stamp_values.specs.Limits.{put_blob_limit};
 ghost use Rattle.stamp_types.specs.Pieces.{is_piece, is_pieces, pieces_len, is_held, is_placed};
 ghost use Rattle.stamp_types.specs.Pieces as pieces;
 
@@ -100,7 +101,7 @@ impl Pieces {
     /// `AllocError` if memory runs out for the list, or if the allocation can have no further
     /// owner.
     pub fn cut(alloc: Global, share: &Share) -> Result<Self, AllocError>
-        requires { length share.now ≤ 67108864 }
+        requires { length share.now ≤ put_blob_limit }
         ensures { IfOk result (λ p. p ≡ pieces.cut share.now) }
     {
         let pieces = cut(alloc, share)?;

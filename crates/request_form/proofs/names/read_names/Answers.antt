@@ -1,9 +1,9 @@
 use Rattle.std.proofs.Common.{◌≡◌, Ok}
-use Rattle.percent_encoding.specs.Percent.{percent_decode}
-use Rattle.request_form.specs.BlobNames.{name_of}
+use Rattle.name_rules.specs.BlobNames.{name_of, percent_decode}
+use Rattle.name_rules.proofs.NameLemmas.{name_is}
 use Rattle.request_form.specs.HeadForms.{blob_name_of}
 use Rattle.request_form.specs.Targets.{blob_of}
-use Rattle.request_form.proofs.TextLemmas.{name_is, no_bad_name}
+use Rattle.request_form.proofs.TextLemmas.{no_bad_name}
 use Rattle.request_form.proofs.names.read_names.Goals as goal
 
 pub returns-in-Ok : goal.returns-in-Ok

@@ -1,0 +1,12 @@
+//! Which names of accounts, containers and blobs are good, as a request sends them.
+#![tactic(auto)]
+
+mod blob_names;
+mod escapes;
+#[cfg(test)]
+mod name_tests;
+mod names;
+
+pub use blob_names::{NameFault, blob_name, blob_text};
+pub use escapes::decoded;
+pub use names::{account_ok, container_ok};
