@@ -88,7 +88,7 @@ way_of (credential.Shared values) = way.Shared
 way_of credential.Token = way.Token
 way_of credential.Anonymous = way.Anonymous
 
--- the verdict of a rule, or of the route if there is no rule: the rule refuses the request, and the route allows it
+-- the verdict: the first rule refuses the request; without a rule that refuses, the route allows it
 abbrev pub verdict_by : Option Rule → Way → Verdict
 verdict_by None way = Allow way
 verdict_by (Some rule) way = Deny rule

@@ -73,7 +73,7 @@ fn after_text(state: LineState, text: &[u8]) -> LineState
     }
 }
 
-// The bytes before the first LF and the bytes after it, or `None` if there is no LF.
+// The bytes before the first LF and the bytes after it, or `None` without an LF.
 fn split_line(bytes: &[u8]) -> Option<(&[u8], &[u8])>
     ensures { MatchOption result (All (λ b. b ≢ line_feed) bytes.now)
         (λ parts. All (λ b. b ≢ line_feed) parts.0.now

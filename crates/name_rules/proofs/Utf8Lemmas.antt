@@ -1,4 +1,4 @@
--- The test of UTF-8.
+-- Bytes that pass the test of UTF-8 are a text.
 use Rattle.std.proofs.Common.{◌≡◌, ◌≤◌, ◌↔◌, List, [], ℕ, zero, suc, length, IsTrue, IsUtf8, arith, refl, subst, take, true, inl, inr}
 use Rattle.std.proofs.lemmas.Bool.{cases_Bool}
 use Rattle.std.proofs.lemmas.List.{take_all}
@@ -6,14 +6,9 @@ use Rattle.std.specs.Str as str
 use Rattle.std.specs.Str.Lossy.{valid_len_up_to}
 use Rattle.std.proofs.lemmas.Str.{IsUtf8-from_is_utf8}
 use Rattle.std.specs.Str.Lossy.{utf8_valid_len}
-use Rattle.std.proofs.lemmas.Str.{utf8_valid_len-IsUtf8}
 use Rattle.std.proofs.lemmas.Bool.Decides.{nat_tests}
 use Rattle.stamp_values.specs.Texts.{is_utf8}
-
--- a text in UTF-8 passes
-pub utf8_passes : (bytes : List ℕ) → IsUtf8 bytes → is_utf8 bytes ≡ true
-unfolding is_utf8
-utf8_passes bytes text = let whole = utf8_valid_len-IsUtf8 bytes text in grind (arith, nat_tests)
+use Rattle.stamp_values.proofs.Utf8Lemmas.{utf8_passes}
 
 -- the good bytes are not more than the bytes that were looked at
 valid_le : (bytes : List ℕ) (n : ℕ) → valid_len_up_to bytes n ≤ n

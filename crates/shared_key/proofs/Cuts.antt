@@ -34,7 +34,7 @@ drop_after c (x ∷ xs) ys =
 pub after_at : (c : ℕ) (xs ys : List ℕ) → list_any (λ b. b == c) xs ≡ false → after_first (λ b. b == c) (xs ++ c ∷ ys) ≡ ys
 after_at c xs ys none = rw (position_at c xs ys none) (drop_after c xs ys)
 
--- there is no byte c before the first byte c
+-- no byte before the first byte c is c
 pub none_before : (c : ℕ) (xs : List ℕ) → list_any (λ b. b == c) (before_first (λ b. b == c) xs) ≡ false
 none_before c [] = refl
 none_before c (x ∷ xs) =

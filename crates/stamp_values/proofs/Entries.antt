@@ -40,7 +40,7 @@ found_later true r i h = (cc, cc)
 found_later false None i h = (cc, cc)
 found_later false (Some n) i h = (refl, cc)
 
--- if there is no index, the first element does not pass, and the others give no index
+-- without an index, the first element does not pass, and the others give no index
 not_found : (b : Bool) (r : Option ℕ) → cond b (Some 0) (option_map (λ n. suc n) r) ≡ None → (b ≡ false) × (r ≡ None)
 not_found true r h = (cc, cc)
 not_found false None h = (refl, refl)
@@ -113,7 +113,7 @@ module _ {K X : Type 0} {R : K → K → Ordering} (o : IsTotalOrder R) where
       let t = found_later (eq_by_cmp R k e.0) (first_index (λ e. eq_by_cmp R k e.0) es) i h in
       ap (λ b. cond b (Some e.1) (find R k es)) t.0 ∙ find-first_index k d es i t.1
 
-  -- if there is no index, nothing is found
+  -- without an index, nothing is found
   pub find-first_index_none : (k : K) (es : List (K × X)) → first_index (λ e. eq_by_cmp R k e.0) es ≡ None → find R k es ≡ None
   find-first_index_none k [] h = refl
   find-first_index_none k (e ∷ es) h =

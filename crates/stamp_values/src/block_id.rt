@@ -24,7 +24,7 @@ impl Model for BlockId {
 }
 
 impl BlockId {
-    /// The id, or `None` if there are no bytes or more than 64 bytes.
+    /// The id, or `None` if it is empty or has more than 64 bytes.
     pub fn new(bytes: Bytes) -> Option<Self>
         ensures valid { IsSome result ↔ ((1 ≤ length bytes) × (length bytes ≤ 64)) }
         ensures value { IfSome result (λ id. id ≡ bytes) }

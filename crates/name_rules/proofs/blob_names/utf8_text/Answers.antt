@@ -2,7 +2,8 @@ use Rattle.std.proofs.Common.{◌≡◌, IsOk, IsUtf8, inl, inr, rules, string_b
 use Rattle.std.proofs.lemmas.Bool.{cases_Bool}
 use Rattle.std.proofs.lemmas.Str.{IsUtf8-string_bytes}
 use Rattle.stamp_values.specs.Texts.{is_utf8}
-use Rattle.name_rules.proofs.Utf8Lemmas.{is_utf8-IsUtf8, utf8_passes}
+use Rattle.stamp_values.proofs.Utf8Lemmas.{utf8_passes}
+use Rattle.name_rules.proofs.Utf8Lemmas.{is_utf8-IsUtf8}
 use Rattle.name_rules.proofs.blob_names.utf8_text.Goals as goal
 
 pub returns-in-Ok : goal.returns-in-Ok
