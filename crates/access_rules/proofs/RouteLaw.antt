@@ -1,5 +1,5 @@
 -- No rule holds if and only if the request's own route admits the request.
-use Rattle.std.proofs.Common.{◌≡◌, ℕ, ◌+◌, ◌≤◌, ◌↔◌, ◌⊎◌, inl, inr, Bool, true, false, cond, not, ◌||◌, List, [], ◌∷◌, Option, Some, None, Result, Ok, Err, refl, sym, ap, ◌∙◌, arith, nat_lt, subst, is_none}
+use Rattle.std.proofs.Common.{◌≡◌, ℕ, ◌+◌, ◌≤◌, ◌↔◌, ◌⊎◌, inl, inr, Bool, true, false, cond, not, ◌||◌, List, [], ◌∷◌, Option, Some, None, Result, Ok, Err, refl, sym, ap, ◌∙◌, arith, nat_le, subst, is_none}
 use Rattle.std.proofs.lemmas.Bool.Decides.{nat_tests}
 use Rattle.std.proofs.lemmas.Slice.Eq.{bytes_eq-Decides}
 use Rattle.std.specs.Prelude.{bytes_eq, option_and_then}
@@ -203,25 +203,25 @@ by_key keys acl q t values =
 abbrev public_rule : Option Acl → Option Level → Option Rule
 public_rule acl level = cond (is_none level) (Some P1) (cond (some_passes (allows_less acl) level) (Some P2) None)
 
-not_less : (m n : ℕ) → cond (nat_lt m n) (Some P2) None ≡ None → n ≤ m
-not_less m n h =
-    elim (nat_lt m n) as (λ b. nat_lt m n ≡ b → cond b (Some P2) None ≡ None → n ≤ m) [
-      | true ↦ λ e h. cc
-      | false ↦ λ e h. grind (arith, nat_tests)
+permits_enough : (need has : ℕ) → cond (not (nat_le need has)) (Some P2) None ≡ None → need ≤ has
+permits_enough need has h =
+    elim (nat_le need has) as (λ b. nat_le need has ≡ b → cond (not b) (Some P2) None ≡ None → need ≤ has) [
+      | true ↦ λ e h. grind (arith, nat_tests)
+      | false ↦ λ e h. cc
     ] refl h
 
-enough_is_not_less : (m n : ℕ) → n ≤ m → cond (nat_lt m n) (Some P2) None ≡ None
-enough_is_not_less m n h = let e : nat_lt m n ≡ false = grind (arith, nat_tests) in ap (λ b. cond b (Some P2) None) e
+enough_permits : (need has : ℕ) → need ≤ has → cond (not (nat_le need has)) (Some P2) None ≡ None
+enough_permits need has h = let e : nat_le need has ≡ true = grind (arith, nat_tests) in ap (λ b. cond (not b) (Some P2) None) e
 
 by_public : (acl : Option Acl) (q : Ask) (need : Option Level) → (need_of q.op q.args.kinds).level ≡ need → (public_rule acl need ≡ None) ↔ ByPublic acl q
 by_public acl q None e = (λ h. cc, λ b. let f : None ≡ Some b.need = sym e ∙ b.needed in cc)
 by_public None q (Some need) e = (λ h. cc, λ b. let f = b.exists in cc)
 by_public (Some has) q (Some need) e = (
-  λ h. record { need = need; needed = e; has = has; exists = refl; enough = not_less (level_number has.level) (level_number need) h },
+  λ h. record { need = need; needed = e; has = has; exists = refl; enough = permits_enough (level_number need) (level_number has.level) h },
   λ b.
       let same_need : need ≡ b.need = let f : Some need ≡ Some b.need = sym e ∙ b.needed in cc in
       let same_has : has ≡ b.has = let f = b.exists in cc in
-      enough_is_not_less (level_number has.level) (level_number need)
+      enough_permits (level_number need) (level_number has.level)
       (subst (λ (l : Level). level_number l ≤ level_number has.level) (sym same_need) (subst (λ (a : Acl). level_number b.need ≤ level_number a.level) (sym same_has) b.enough)),
 )
 

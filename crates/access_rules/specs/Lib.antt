@@ -1,4 +1,5 @@
 pub mod Needs
+pub mod Openings
 pub mod Parts
 pub mod Routes
 pub mod Rules

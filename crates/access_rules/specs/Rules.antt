@@ -1,15 +1,15 @@
 -- The rules of permission, each by itself, and the first rule that holds (Blob service REST reference, 2012-02-12,
 -- Authentication for the Azure Storage Services; Set Container ACL). Which rules there are, and their order, is the
 -- stamp's own.
-use Rattle.std.specs.Prelude.{ℕ, Bool, true, false, not, ◌&&◌, ◌||◌, nat_lt, List, [], ◌∷◌, Option, Some, None, is_none, bytes_eq, find}
+use Rattle.std.specs.Prelude.{ℕ, Bool, true, false, not, ◌&&◌, ◌||◌, List, [], ◌∷◌, Option, Some, None, is_none, bytes_eq, find}
 use Rattle.stamp_values.specs.declared.level.Level.{Level}
 use Rattle.stamp_values.specs.declared.acl.Acl.{Acl}
 use Rattle.stamp_values.specs.declared.signing.Credential.{Credential}
 use Rattle.stamp_values.specs.declared.signing.Credential.TheVariants as credential
-use Rattle.stamp_values.specs.Levels.{level_number}
 use Rattle.stamp_types.specs.declared.ask.Ask.{Ask}
 use Rattle.stamp_types.specs.declared.rule.Rule.{Rule}
 use Rattle.stamp_types.specs.declared.rule.Rule.TheVariants.{K1, K2, K3, K4, K5, S1, P1, P2}
+use Rattle.container_acl.specs.PublicAccess.{permits}
 use Rattle.access_rules.specs.declared.judgement.Verdict.{Verdict}
 use Rattle.access_rules.specs.declared.judgement.Verdict.TheVariants.{Allow, Deny}
 use Rattle.access_rules.specs.declared.judgement.Way.{Way}
@@ -44,7 +44,7 @@ some_passes test (Some part) = test part
 -- the container allows less than the level, or it does not exist
 abbrev pub allows_less : Option Acl → Level → Bool
 allows_less None need = true
-allows_less (Some acl) need = nat_lt (level_number acl.level) (level_number need)
+allows_less (Some acl) need = not (permits acl need)
 
 -- the rule holds; a rule about a part that is missing does not hold
 abbrev pub holds : Option Keys → Option Acl → Ask → ℕ → Rule → Bool

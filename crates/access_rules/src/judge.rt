@@ -1,5 +1,6 @@
 //! The verdict on a request.
-ghost use Rattle.std.specs.Prelude.{◌≡◌, ℕ, IfOk, IsErr, IsTrue, Option, None, option_copied};
+ghost use Rattle.std.specs.Prelude.{◌≡◌, ℕ, IfOk, IsErr, IsTrue, Option, option_copied};
+ghost use Rattle.stamp_values.specs.declared.acl.Acl.{Acl};
 ghost use Rattle.stamp_values.specs.declared.signing.Credential.TheVariants as credential;
 ghost use Rattle.access_rules.specs.declared.keys.Keys.{Keys};
 ghost use Rattle.access_rules.specs.Rules.{verdict_of, needs_signature};
@@ -8,6 +9,7 @@ use crate::judgement::{Verdict, Way};
 use crate::keys::Keys;
 use crate::needs::need_of;
 use crate::parts::{claim_in, date_in, is_far, is_signed, keys_for};
+use container_acl::{Acl, permits};
 use stamp_types::{Ask, Bytes, Credential, Moment, Request, Rule};
 use std::alloc::{AllocError, Global};
 
@@ -20,10 +22,10 @@ fn by_key(
     now: Moment,
 ) -> Result<Verdict, AllocError>
     requires { ask.now.credential ≡ credential.Shared values.now }
-    ensures value { IfOk result (λ v.
-        v ≡ verdict_of (option_copied keys.entry) None ask.now now) }
-    ensures memory { IsErr result
-        → IsTrue (needs_signature (option_copied keys.entry) None ask.now now) }
+    ensures value { (acl : Option Acl) → IfOk result (λ v.
+        v ≡ verdict_of (option_copied keys.entry) acl ask.now now) }
+    ensures memory { (acl : Option Acl) → IsErr result
+        → IsTrue (needs_signature (option_copied keys.entry) acl ask.now now) }
 {
     let Some(claim) = claim_in(values) else {
         return Ok(Verdict::Deny(Rule::K1));
@@ -47,41 +49,49 @@ fn by_key(
     }
 }
 
-// No container has a level of public access yet, so public access allows no request.
-fn by_public(ask: &Ask) -> Verdict
+// A container that does not exist is refused like a closed container, so that nobody can tell the two apart.
+fn by_public(acl: Option<&Acl>, ask: &Ask) -> Verdict
     requires { ask.now.credential ≡ credential.Anonymous }
-    ensures { (keys : Option Keys) (t : ℕ) → result ≡ verdict_of keys None ask.now t }
+    ensures { (keys : Option Keys) (t : ℕ)
+        → result ≡ verdict_of keys (option_copied acl.entry) ask.now t }
 {
-    match need_of(ask.op, ask.args.kinds).level {
-        None => Verdict::Deny(Rule::P1),
-        Some(_) => Verdict::Deny(Rule::P2),
+    let Some(need) = need_of(ask.op, ask.args.kinds).level else {
+        return Verdict::Deny(Rule::P1);
+    };
+    if acl.is_some_and(|acl| permits(acl, need)) {
+        Verdict::Allow(Way::Anonymous)
+    } else {
+        Verdict::Deny(Rule::P2)
     }
 }
 
 /// Whether a request may be served at a moment.
 ///
-/// `keys` are the keys that the stamp has for the request's account; keys of another account count as no keys. The answer is the
-/// first rule that holds, in the order K1 to K5, S1, P1, P2. If no rule holds, the answer is the request's route. A request is
-/// judged by its own route alone. S1 refuses each shared access signature, and P1 or P2 refuses public access, since no
-/// container has a level of public access yet.
+/// `keys` are the keys that the stamp has for the request's account; keys of another account count as no keys. `acl` is what the
+/// request's container says about who may read it; `None` means that the container does not exist. The answer is the first rule
+/// that holds, in the order K1 to K5, S1, P1, P2. If no rule holds, the answer is the request's route. A request is judged by
+/// its own route alone, so a bad signature is refused even if the container is public. S1 refuses each shared access signature.
 ///
 /// `AllocError` if memory runs out for the string to sign or for a signature. Only the key route takes memory, and only if no
-/// rule of K1 to K4 holds. Blob service REST reference, 2012-02-12, Authentication for the Azure Storage Services.
+/// rule of K1 to K4 holds. Blob service REST reference, 2012-02-12, Authentication for the Azure Storage Services; Set Container
+/// ACL.
 pub fn verdict(
     alloc: Global,
     keys: Option<&Keys>,
+    acl: Option<&Acl>,
     request: &Request,
     now: Moment,
 ) -> Result<Verdict, AllocError>
     ensures value { IfOk result (λ v.
-        v ≡ verdict_of (option_copied keys.entry) None request.now.ask now) }
+        v ≡ verdict_of (option_copied keys.entry) (option_copied acl.entry) request.now.ask now) }
     ensures memory { IsErr result
-        → IsTrue (needs_signature (option_copied keys.entry) None request.now.ask now) }
+        → IsTrue (needs_signature (option_copied keys.entry) (option_copied acl.entry)
+        request.now.ask now) }
 {
     let ask = request.ask();
     match &ask.credential {
         Credential::Shared(values) => by_key(alloc, keys, ask, values.as_slice(), now),
         Credential::Token => Ok(Verdict::Deny(Rule::S1)),
-        Credential::Anonymous => Ok(by_public(ask)),
+        Credential::Anonymous => Ok(by_public(acl, ask)),
     }
 }

@@ -26,24 +26,12 @@ impl fmt::Debug for Keys {
 
 #[cfg(test)]
 mod tests {
-    use super::*;
-    use std::alloc::Global;
-    use std::process::Abort;
-
-    fn key(rt: &impl Abort, alloc: Global, text: &str) -> SigningKey {
-        SigningKey::new(text.as_bytes().to_vec(alloc).expect(rt, "memory"))
-    }
+    use crate::test_requests::keys;
 
     #[test]
     fn no_byte_of_a_key_is_printed(rt: HostRuntime) {
         let alloc = rt.alloc();
-        let account = String::from_str(alloc, "devstoreaccount1").expect(&rt, "memory");
-        let keys = Keys {
-            account: Text::new(account).expect(&rt, "no control character"),
-            first: key(&rt, alloc, "key1"),
-            second: key(&rt, alloc, "key2"),
-            epoch: 0,
-        };
+        let keys = keys(&rt, alloc, "devstoreaccount1");
         let printed = format!(in alloc; "{keys:?} {keys:#?}").expect(&rt, "memory");
         assert!(rt; printed.as_str() == "Keys(..) Keys(..)");
     }

@@ -10,12 +10,15 @@ mod parts;
 #[cfg(test)]
 mod rule_tests;
 #[cfg(test)]
+mod slow_rules;
+#[cfg(test)]
 mod test_requests;
 
 pub use judge::verdict;
 pub use judgement::{Verdict, Way};
 pub use keys::Keys;
 pub use laws::{
-    a_container_that_does_not_exist_is_as_closed, no_rule_holds_if_and_only_if_the_own_route_admits,
+    a_container_that_does_not_exist_is_as_closed, each_level_opens_what_it_names,
+    no_rule_holds_if_and_only_if_the_own_route_admits, nobody_writes_by_public_access,
 };
 pub use needs::{Letter, Need, need_of};

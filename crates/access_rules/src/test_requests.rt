@@ -1,13 +1,50 @@
-//! Requests for tests.
+//! Cases for tests: what was sent, what the stamp has, and the verdict.
 
 use crate::{Keys, Verdict, verdict};
+use container_acl::Acl;
 use hmac_sign::SigningKey;
 use stamp_types::{
-    Args, Ask, BlockKinds, Body, Bytes, Credential, FieldList, Items, Kept, Key, Moment, Op,
-    Request, Signing, Text, Verb, Visible,
+    Args, Ask, BlockId, BlockKinds, Body, Bytes, Credential, FieldList, Items, Kept, Key, Level,
+    Moment, Op, PAGE_LIMIT, Page, Policies, Request, Signing, Text, Verb, Visible,
 };
 use std::alloc::Global;
 use std::process::Abort;
+
+/// The account of each request.
+pub(crate) const ACCOUNT: &str = "devstoreaccount1";
+
+/// The header with the date, and the values of Authorization by which the two keys of the stamp sign a request with this header.
+#[derive(Clone, Copy)]
+pub(crate) struct Dated {
+    pub name: &'static str,
+    pub date: &'static str,
+    pub by_first: &'static str,
+    pub by_second: &'static str,
+}
+
+/// The credential that was sent.
+#[derive(Clone, Copy)]
+pub(crate) enum Sent {
+    Nothing,
+    /// The values of Authorization.
+    Authorization(&'static [&'static str]),
+    Token,
+}
+
+/// A request, and what the stamp has when the request is judged.
+#[derive(Clone, Copy)]
+pub(crate) struct Case {
+    pub op: Op,
+    pub kinds: Option<BlockKinds>,
+    pub sent: Sent,
+    pub dated: Dated,
+    /// The account that the stamp has keys for.
+    pub account: &'static str,
+    /// The level of the container. `None` if the container does not exist.
+    pub level: Option<Level>,
+    /// The moment, in steps of 100 ns.
+    pub now: i64,
+}
 
 fn text(rt: &impl Abort, alloc: Global, text: &str) -> Text {
     let text = String::from_str(alloc, text).expect(rt, "memory");
@@ -22,14 +59,24 @@ fn key(rt: &impl Abort, alloc: Global, text: &str) -> SigningKey {
     SigningKey::new(text.as_bytes().to_vec(alloc).expect(rt, "memory"))
 }
 
-// What `PUT /devstoreaccount1/pics/a.txt` with five bytes signs, with one header more.
-fn signing(rt: &impl Abort, alloc: Global, name: &str, value: &str) -> Signing {
+/// The keys that the stamp has for the account.
+pub(crate) fn keys(rt: &impl Abort, alloc: Global, account: &str) -> Keys {
+    Keys {
+        account: text(rt, alloc, account),
+        first: key(rt, alloc, "key1"),
+        second: key(rt, alloc, "key2"),
+        epoch: 0,
+    }
+}
+
+// What `PUT /devstoreaccount1/pics/a.txt` with five bytes signs, with the date in one more header.
+fn signing(rt: &impl Abort, alloc: Global, dated: Dated) -> Signing {
     let mut headers = FieldList::new(alloc);
     for (name, value) in [
         ("content-length", "5"),
         ("x-ms-blob-type", "BlockBlob"),
         ("x-ms-version", "2012-02-12"),
-        (name, value),
+        (dated.name, dated.date),
     ] {
         headers
             .push(name.as_bytes(), value.as_bytes())
@@ -43,87 +90,95 @@ fn signing(rt: &impl Abort, alloc: Global, name: &str, value: &str) -> Signing {
     }
 }
 
-fn args(alloc: Global, op: Op, kinds: Option<BlockKinds>) -> Args {
+fn kept(alloc: Global) -> Kept {
+    Kept {
+        content_type: Visible::empty(alloc),
+        encoding: Visible::empty(alloc),
+        language: Visible::empty(alloc),
+        cache_control: Visible::empty(alloc),
+        md5: None,
+    }
+}
+
+fn page() -> Page {
+    Page {
+        prefix: None,
+        delimiter: None,
+        marker: None,
+        max: PAGE_LIMIT,
+        metadata: false,
+    }
+}
+
+// What the operation cannot come without.
+fn args(rt: &impl Abort, alloc: Global, op: Op, kinds: Option<BlockKinds>) -> Args {
     let mut args = Args::none(alloc);
     args.kinds = kinds;
-    if op == Op::PutBlob {
-        args.kept = Some(Kept {
-            content_type: Visible::empty(alloc),
-            encoding: Visible::empty(alloc),
-            language: Visible::empty(alloc),
-            cache_control: Visible::empty(alloc),
-            md5: None,
-        });
+    match op {
+        Op::PutBlob | Op::PutBlockList => args.kept = Some(kept(alloc)),
+        Op::CreateContainer | Op::SetAcl => args.level = Some(Level::Closed),
+        Op::ListContainers | Op::ListBlobs => args.page = Some(page()),
+        Op::PutBlock => args.block = BlockId::new(bytes(rt, alloc, "0001")),
+        _ => {}
     }
     args
 }
 
-// The verdict on a request for the blob `a.txt` that has this header as its date.
-fn judged(
-    rt: &impl Abort,
-    alloc: Global,
-    op: Op,
-    kinds: Option<BlockKinds>,
-    credential: Credential,
-    (name, value): (&str, &str),
-    keys: Option<&Keys>,
-    ticks: i64,
-) -> Verdict {
+fn blob(rt: &impl Abort, alloc: Global, op: Op) -> Option<Text> {
+    if op.names_blob() {
+        Some(text(rt, alloc, "a.txt"))
+    } else {
+        None
+    }
+}
+
+fn credential(rt: &impl Abort, alloc: Global, sent: Sent) -> Credential {
+    match sent {
+        Sent::Nothing => Credential::Anonymous,
+        Sent::Token => Credential::Token,
+        Sent::Authorization(sent) => {
+            let mut values = Vec::new(alloc);
+            for value in sent {
+                values.push(bytes(rt, alloc, value)).expect(rt, "memory");
+            }
+            Credential::Shared(Items::new(values))
+        }
+    }
+}
+
+fn request(rt: &impl Abort, alloc: Global, case: &Case) -> Request {
+    let container = if case.op.names_container() {
+        "pics"
+    } else {
+        ""
+    };
     let ask = Ask {
-        op,
+        op: case.op,
         key: Key {
-            account: text(rt, alloc, "devstoreaccount1"),
-            container: text(rt, alloc, "pics"),
+            account: text(rt, alloc, ACCOUNT),
+            container: text(rt, alloc, container),
         },
-        blob: Some(text(rt, alloc, "a.txt")),
-        args: args(alloc, op, kinds),
-        signing: signing(rt, alloc, name, value),
-        credential,
+        blob: blob(rt, alloc, case.op),
+        args: args(rt, alloc, case.op, case.kinds),
+        signing: signing(rt, alloc, case.dated),
+        credential: credential(rt, alloc, case.sent),
     };
     let request = Request::new(alloc, ask, Body::empty()).expect(rt, "memory");
-    let request = request.expect(rt, "parts that fit");
-    let now = Moment::new(ticks).expect(rt, "a moment");
-    verdict(alloc, keys, &request, now).expect(rt, "memory")
+    request.expect(rt, "parts that fit")
 }
 
-/// The verdict on a Put Blob with this Authorization if the stamp has the keys of `account`.
-pub(crate) fn key_verdict(
-    rt: &impl Abort,
-    alloc: Global,
-    authorization: &str,
-    date: (&str, &str),
-    account: &str,
-    ticks: i64,
-) -> Verdict {
-    let mut sent = Vec::new(alloc);
-    sent.push(bytes(rt, alloc, authorization))
-        .expect(rt, "memory");
-    let keys = Keys {
-        account: text(rt, alloc, account),
-        first: key(rt, alloc, "key1"),
-        second: key(rt, alloc, "key2"),
-        epoch: 0,
+/// The verdict on a case.
+pub(crate) fn case_verdict(rt: &impl Abort, alloc: Global, case: &Case) -> Verdict {
+    let policies = Policies::empty(alloc);
+    let level = case.level.unwrap_or(Level::Closed);
+    let acl = Acl { level, policies };
+    let acl = if case.level.is_some() {
+        Some(&acl)
+    } else {
+        None
     };
-    let credential = Credential::Shared(Items::new(sent));
-    judged(
-        rt,
-        alloc,
-        Op::PutBlob,
-        None,
-        credential,
-        date,
-        Some(&keys),
-        ticks,
-    )
-}
-
-/// The verdict on a request without an Authorization.
-pub(crate) fn other_verdict(
-    rt: &impl Abort,
-    alloc: Global,
-    op: Op,
-    kinds: Option<BlockKinds>,
-    credential: Credential,
-) -> Verdict {
-    judged(rt, alloc, op, kinds, credential, ("x-ms-date", ""), None, 0)
+    let keys = keys(rt, alloc, case.account);
+    let request = request(rt, alloc, case);
+    let now = Moment::new(case.now).expect(rt, "a moment");
+    verdict(alloc, Some(&keys), acl, &request, now).expect(rt, "memory")
 }

@@ -1,33 +1,28 @@
--- What a service holds whose containers are all closed and whose content is in memory, and what it answers.
-use Rattle.std.proofs.Common.{◌≡◌, ◌≤◌, ◌<◌, ℕ, ◌-◌, arith, Bool, true, false, cond, ◌&&◌, ◌⊎◌, inl, inr, List, [], ◌∷◌, ◌++◌, length, length-append, take, drop, zero, suc, get_or, Option, Some, None, Result, Ok, Err, IfOk, OnOk, OnErr, refl, sym, ap, ◌∙◌, subst, unwrap_or}
+-- What a service holds whose content is in memory, and what it answers.
+use Rattle.std.proofs.Common.{◌≡◌, ◌≤◌, ◌<◌, ℕ, ◌-◌, arith, Bool, true, false, cond, List, [], ◌∷◌, ◌++◌, length, length-append, take, drop, zero, suc, get_or, Option, Some, None, Result, Ok, Err, IfOk, OnOk, OnErr, refl, sym, ap, ◌∙◌, subst, unwrap_or}
 use Rattle.std.proofs.lemmas.List.{length-take}
 use Rattle.std.proofs.lemmas.List.Sums.{sum_by-cons, AllPass-from_list_all}
-use Rattle.std.specs.Prelude.{⊤, codes}
+use Rattle.std.specs.Prelude.{⊤}
 use Rattle.std.specs.declared.alloc.AllocError.{AllocError}
 use Rattle.std.specs.FinMap as finite
 use Rattle.std.specs.Option.{option_map, option_and_then, option_or}
 use Rattle.std.specs.Ordering.{eq_by_cmp}
-use Rattle.stamp_values.specs.Acls.{closed_acl}
 use Rattle.stamp_values.specs.Order.{key_cmp, keys_total, keys_exact, names_total, names_exact}
 use Rattle.stamp_values.proofs.MapsLemmas.{map_values-empty, map_values-insert}
 use Rattle.stamp_values.specs.declared.acl.Acl.{Acl}
 use Rattle.stamp_values.specs.declared.key.Key.{Key}
-use Rattle.stamp_values.specs.declared.block.BlockKinds.{BlockKinds}
-use Rattle.stamp_values.specs.declared.block.BlockKinds.TheVariants as kinds
+use Rattle.stamp_values.specs.declared.level.Level.TheVariants as level
 use Rattle.stamp_values.specs.declared.op.Op.{Op}
 use Rattle.stamp_values.specs.declared.op.Op.TheVariants as op
 use Rattle.stamp_types.specs.declared.act.Act.{Act}
 use Rattle.stamp_types.specs.declared.act.Act.TheVariants as act
 use Rattle.stamp_types.specs.declared.args.Kept.{Kept}
-use Rattle.stamp_types.specs.declared.ask.Ask.{Ask}
 use Rattle.stamp_types.specs.declared.committed.Committed.{Committed}
 use Rattle.stamp_types.specs.declared.piece.Piece.{Piece}
 use Rattle.stamp_types.specs.declared.piece.Piece.TheVariants as piece
 use Rattle.stamp_types.specs.declared.refusal.Refusal.{Refusal}
 use Rattle.stamp_types.specs.declared.reply.Reply.{Reply}
 use Rattle.stamp_types.specs.declared.rule.Rule.{Rule}
-use Rattle.stamp_types.specs.declared.rule.Rule.TheVariants.{K1, K2, K3, K4, K5, S1, P1, P2}
-use Rattle.stamp_types.specs.declared.standing.Standing.{Standing}
 use Rattle.stamp_types.specs.Changes.{KeyedAct}
 use Rattle.stamp_types.specs.Contents.{EachActContent, EachContent}
 use Rattle.stamp_types.specs.Pieces.{cut_at_most, held, is_held, is_held_piece, piece_bytes, piece_len, pieces_len}
@@ -40,30 +35,40 @@ use Rattle.stamp_types.proofs.EachContents.{EachContent-changed, EachContent-emp
 use Rattle.access_rules.specs.declared.judgement.Verdict.TheVariants.{Allow, Deny}
 use Rattle.access_rules.specs.declared.judgement.Way.{Way}
 use Rattle.access_rules.specs.declared.keys.Keys.{Keys}
-use Rattle.access_rules.specs.Needs.{need_of, of_block_list}
-use Rattle.access_rules.specs.Rules.{some_passes, allows_less, holds, on_public, first_rule, verdict_by, verdict_of, way_of}
+use Rattle.access_rules.specs.Rules.{first_rule, verdict_by, verdict_of, way_of}
 use Rattle.range_rows.specs.declared.answer.Span.{Span}
 use Rattle.range_rows.specs.ObjectReplies.{ReadsWhole, byte_count, frame, frame_by, blob_read, is_served, reply_of, sizes, span_bytes, spans, spans_len, with_content}
 use Rattle.range_rows.specs.ObjectRules.{object_refusal}
 use Rattle.range_rows.specs.Opening.{one_part, container_just_made}
 use Rattle.range_rows.specs.RequestChanges.{put_blob, act_by, change_of, part_after}
+use Rattle.range_rows.specs.Fits.{fits}
+use Rattle.range_rows.proofs.ChangeLemmas.{changed_in-create, fits-create}
 use Rattle.range_rows.proofs.SpanLemmas.{length-read, reply_of-read}
 use Rattle.stamp_model.specs.Effects.{unless_refused, world_after, effect_as}
-use Rattle.stamp_model.specs.Refusals.{acl_of, access_refusal, refusal}
+use Rattle.range_rows.specs.Access.{acl_of}
+use Rattle.stamp_model.specs.Refusals.{access_refusal, refusal}
 use Rattle.stamp_model.specs.Responses.{response, reply}
-use Rattle.stamp_model.proofs.AccessLemmas.{standing-effect}
 use Rattle.stamp_model.proofs.ContentLemmas.{sizes-read, world_value-effect}
 use Rattle.stamp_model.proofs.EffectLemmas.{on_key, effect-refused}
 use Rattle.stamp_model.proofs.ReplyLemmas.{unrefused}
-use Rattle.http_front.specs.PlainAnswers.{HeldRows, held_first, rows_first, AreClosed, AreHeld, AnswersAsModel, bytes_held, held_of, held_reply, held_after, object_or_unserved, row_refusal, rows_after}
+use Rattle.http_front.specs.PlainAnswers.{HeldRows, change_first, key_first, held_first, rows_first, AreHeld, AnswersAsModel, bytes_held, held_of, held_reply, held_after, object_or_unserved, row_refusal, row_verdict, rows_after}
 
 -- ---- the rows at first
 
-abbrev IsClosedPart : Part (List Piece) → Type 0
-IsClosedPart p = (acl_of p ≡ None) ⊎ (acl_of p ≡ Some closed_acl)
-
 abbrev IsHeldPart : Part (List Piece) → Type 0
 IsHeldPart p = EachContent (λ ps. is_held ps ≡ true) p
+
+-- the change that makes the first container fits rows without containers
+pub first_fits : (w : World (List Piece)) (c : KeyedAct) (account : List ℕ) (t : ℕ) → w ≡ finite.empty → c ≡ change_first account t
+    → fits (part_value pieces_len (part_at w c.key)) c.act ≡ true
+first_fits w c account t none is =
+    (λ i. fits (part_value pieces_len (part_at (none i) (is i).key)) (is i).act)
+    ∙ fits-create (key_first account) (record { moment = t; level = level.Closed; metadata = [] })
+
+-- rows that made this change hold one container, which was just made
+pub first_made : (w v : World (List Piece)) (c : KeyedAct) (account : List ℕ) (t : ℕ) → w ≡ finite.empty → c ≡ change_first account t
+    → v ≡ changed_in same_pieces w c → v ≡ one_part (key_first account) (container_just_made t)
+first_made w v c account t none is made = made ∙ (λ i. changed_in same_pieces (none i) (is i)) ∙ changed_in-create same_pieces (key_first account) t
 
 module _ (P : Part (List Piece) → Type 0) (t : ℕ) (none : P no_part) (first : P (container_just_made t)) where
   looked_up : (b : Bool) (o : Option (Part (List Piece))) → o ≡ None → P (unwrap_or (cond b (Some (container_just_made t)) o) no_part)
@@ -74,10 +79,6 @@ module _ (P : Part (List Piece) → Type 0) (t : ℕ) (none : P no_part) (first 
   each_first key k =
       subst (λ (x : Option (Part (List Piece))). P (unwrap_or x no_part)) (sym (finite.get-insert keys_total finite.empty key (container_just_made t) k))
       (looked_up (eq_by_cmp key_cmp k key) (finite.get finite.empty k) (finite.get-empty key_cmp k))
-
--- the container that was just made is closed, and no other container exists
-pub first_closed : (key : Key) (t : ℕ) → AreClosed (one_part key (container_just_made t))
-first_closed key t k = each_first IsClosedPart t (inl refl) (inr refl) key k
 
 -- the container that was just made has no content
 pub first_held : (key : Key) (t : ℕ) → AreHeld (one_part key (container_just_made t))
@@ -94,37 +95,12 @@ part_value-container_just_made t = λ i. record {
 -- in bytes, what the rows hold at first is also one container that was just made
 pub held_of-rows_first : (keys : Keys) (t : ℕ) → held_of (rows_first keys t) ≡ held_first keys t
 held_of-rows_first keys t =
-    let key : Key = record { account = keys.account; container = codes "pics" } in
+    let key : Key = key_first keys.account in
     ap (λ (w : World (List ℕ)). record { keys = keys; world = w })
     (map_values-insert keys_total keys_exact (part_value held) finite.empty key (container_just_made t)
     ∙ (λ i. finite.insert (map_values-empty keys_total keys_exact (part_value held) i) key (part_value-container_just_made t i)))
 
 -- ---- the verdict
-
--- public access needs a level above that of a closed container
-by_list : (k : BlockKinds) → some_passes (allows_less None) (of_block_list k).level ≡ some_passes (allows_less (Some closed_acl)) (of_block_list k).level
-by_list kinds.Committed = refl
-by_list kinds.Uncommitted = refl
-by_list kinds.All = refl
-
-lowest : (o : Op) (k : Option BlockKinds) → some_passes (allows_less None) (need_of o k).level ≡ some_passes (allows_less (Some closed_acl)) (need_of o k).level
-lowest op.GetBlockList k = by_list (unwrap_or k kinds.Committed)
-lowest other k = refl
-
-module _ (keys : Option Keys) (q : Ask) (t : ℕ) where
-  abbrev first_by : Bool → Option Rule
-  first_by low =
-      cond (holds keys None q t K1) (Some K1) (cond (holds keys None q t K2) (Some K2) (cond (holds keys None q t K3) (Some K3)
-      (cond (holds keys None q t K4) (Some K4) (cond (holds keys None q t K5) (Some K5) (cond (holds keys None q t S1) (Some S1)
-      (cond (holds keys None q t P1) (Some P1) (cond (on_public q.credential && low) (Some P2) None)))))))
-
-  -- a container that does not exist is refused as a closed one
-  first_rule-closed : first_rule keys None q t ≡ first_rule keys (Some closed_acl) q t
-  first_rule-closed = ap first_by (lowest q.op q.args.kinds)
-
-  by_acl : (a : Option Acl) → (a ≡ None) ⊎ (a ≡ Some closed_acl) → first_rule keys None q t ≡ first_rule keys a q t
-  by_acl a (inl none) = ap (λ (x : Option Acl). first_rule keys x q t) (sym none)
-  by_acl a (inr shut) = first_rule-closed ∙ ap (λ (x : Option Acl). first_rule keys x q t) (sym shut)
 
 denied_by : (rule : Option Rule) (way : Way) (r : Rule) → verdict_by rule way ≡ Deny r → rule ≡ Some r
 denied_by None way r e = cc
@@ -134,25 +110,26 @@ allowed_by : (rule : Option Rule) (way w : Way) → verdict_by rule way ≡ Allo
 allowed_by None way w e = refl
 allowed_by (Some x) way w e = cc
 
+module _ (h : HeldRows) (q : Asked) (t : ℕ) where
+  by_first : (o : Option Rule) → first_rule (Some h.keys) (acl_of (part_at h.rows q.ask.key)) q.ask t ≡ o
+      → option_or (option_map access_refusal o) (object_or_unserved (part_at h.rows q.ask.key) q) ≡ row_refusal h q t
+  by_first o e = sym (ap (λ (o : Option Rule). option_or (option_map access_refusal o) (object_or_unserved (part_at h.rows q.ask.key) q)) e)
+
+  -- a verdict that denies gives the refusal
+  pub refusal_denied : (r : Rule) → Deny r ≡ row_verdict h q t → Some (access_refusal r) ≡ row_refusal h q t
+  refusal_denied r e = by_first (Some r) (denied_by _ (way_of q.ask.credential) r (sym e))
+
+  -- a verdict that allows leaves the refusal to the object and to whether the operation is served
+  pub refusal_allowed : (way : Way) → Allow way ≡ row_verdict h q t → object_or_unserved (part_at h.rows q.ask.key) q ≡ row_refusal h q t
+  refusal_allowed way e = by_first None (allowed_by _ (way_of q.ask.credential) way (sym e))
+
 module _ (keys : Keys) (w : World (List Piece)) (h : HeldRows) (is : record { keys = keys; rows = w } ≡ h) (q : Asked) (t : ℕ) where
   abbrev own : Part (List Piece)
   own = part_at w q.ask.key
 
-  first_own : AreClosed w → first_rule (Some keys) None q.ask t ≡ first_rule (Some keys) (acl_of own) q.ask t
-  first_own all = by_acl (Some keys) q.ask t (acl_of own) (all q.ask.key)
-
-  by_first : (o : Option Rule) → first_rule (Some keys) (acl_of own) q.ask t ≡ o → option_or (option_map access_refusal o) (object_or_unserved own q) ≡ row_refusal h q t
-  by_first o e =
-      sym (ap (λ (o : Option Rule). option_or (option_map access_refusal o) (object_or_unserved own q)) e)
-      ∙ ap (λ (x : HeldRows). row_refusal x q t) is
-
-  -- a verdict that denies gives the refusal
-  pub refusal_denied : (r : Rule) → AreClosed w → Deny r ≡ verdict_of (Some keys) None q.ask t → Some (access_refusal r) ≡ row_refusal h q t
-  refusal_denied r all e = by_first (Some r) (sym (first_own all) ∙ denied_by _ (way_of q.ask.credential) r (sym e))
-
-  -- a verdict that allows leaves the refusal to the object and to whether the operation is served
-  pub refusal_allowed : (way : Way) → AreClosed w → Allow way ≡ verdict_of (Some keys) None q.ask t → object_or_unserved own q ≡ row_refusal h q t
-  refusal_allowed way all e = by_first None (sym (first_own all) ∙ allowed_by _ (way_of q.ask.credential) way (sym e))
+  -- the verdict by what the rows say of the container is the verdict on the request
+  pub verdict-rows : (a : Option Acl) → a ≡ acl_of own → verdict_of (Some keys) a q.ask t ≡ row_verdict h q t
+  verdict-rows a e = ap (λ (a : Option Acl). verdict_of (Some keys) a q.ask t) e ∙ ap (λ (x : HeldRows). row_verdict x q t) is
 
   own_free : row_refusal h q t ≡ None → refusal (Some keys) (part_value pieces_len own) q t ≡ None
   own_free free = ap (λ (x : HeldRows). row_refusal x q t) is ∙ free
@@ -181,21 +158,6 @@ module _ (keys : Keys) (w : World (List Piece)) (h : HeldRows) (is : record { ke
   pub rows_after_put : (c : KeyedAct) → row_refusal h q t ≡ None → change_of (part_value pieces_len own) q t ≡ Some c
       → record { keys = keys; rows = changed_in same_pieces w c } ≡ rows_after h q t
   rows_after_put c free change = rows_by (Some c) free change
-
-  -- no request opens a container to the public
-  closed_after : AreClosed w → AreClosed (effect_as pieces_len same_pieces (Some keys) w q t)
-  closed_after all k =
-      subst (λ (s : Option Standing). IsClosedPart (record { count = 0; standing = s; blobs = finite.empty })) (sym (standing-effect pieces_len same_pieces (Some keys) w q t k)) (all k)
-
-  closed_by : (r : Result (Unit {0}) AllocError) (c : KeyedAct) (w' : World (List Piece)) → row_refusal h q t ≡ None → change_of (part_value pieces_len own) q t ≡ Some c → AreClosed w
-      → OnOk r (w' ≡ changed_in same_pieces w c) → OnErr r (w' ≡ w) → AreClosed w'
-  closed_by (Ok x) c w' free change all ok err = subst AreClosed (effect_by (Some c) free change ∙ sym ok) (closed_after all)
-  closed_by (Err e) c w' free change all ok err = subst AreClosed (sym err) all
-
-  -- whether the change is made or not, no container is open to the public
-  pub closed_kept : (r : Result (Unit {0}) AllocError) (c : KeyedAct) (w' : World (List Piece)) → row_refusal h q t ≡ None → change_of (part_value pieces_len own) q t ≡ Some c → AreClosed w
-      → OnOk r (w' ≡ changed_in same_pieces w c) → OnErr r (w' ≡ w) → AreClosed w'
-  closed_kept = closed_by
 
 -- ---- content in memory
 

@@ -1,27 +1,32 @@
 -- What a service over one account's rows holds, and what it answers (Calder et al., SOSP 2011, section 5; Blob service REST reference,
 -- 2012-02-12, the page of each operation).
-use Rattle.std.specs.Prelude.{◌≡◌, ◌⊎◌, ℕ, List, true, Option, Some, None, codes, refl}
+use Rattle.std.specs.Prelude.{◌≡◌, ℕ, List, [], true, Option, Some, None, codes, refl}
 use Rattle.std.specs.Coded.{Coded, code_by, coded_ℕ, coded×}
 use Rattle.std.specs.List.{flat_map}
 use Rattle.std.specs.Option.{option_or}
-use Rattle.stamp_values.specs.Acls.{closed_acl}
 use Rattle.stamp_values.specs.declared.key.Key.{Key}
+use Rattle.stamp_values.specs.declared.level.Level.TheVariants as level
+use Rattle.stamp_types.specs.declared.act.Act.TheVariants as act
 use Rattle.stamp_types.specs.declared.piece.Piece.{Piece}
 use Rattle.stamp_types.specs.declared.refusal.Refusal.{Refusal}
 use Rattle.stamp_types.specs.declared.reply.Reply.{Reply}
+use Rattle.stamp_types.specs.Changes.{KeyedAct}
 use Rattle.stamp_types.specs.Contents.{EachWorldContent}
 use Rattle.stamp_types.specs.Pieces.{held, is_held, piece_bytes, pieces_len}
 use Rattle.stamp_types.specs.Requests.{Asked}
 use Rattle.stamp_types.specs.World.{Part, World, part_at, part_value, world_value, same_pieces}
 use Rattle.stamp_types.specs.WorldCodes.{text_code}
+use Rattle.access_rules.specs.declared.judgement.Verdict.{Verdict}
 use Rattle.access_rules.specs.declared.keys.Keys.{Keys}
+use Rattle.access_rules.specs.Rules.{verdict_of}
 use Rattle.range_rows.specs.declared.answer.Span.{Span}
 use Rattle.range_rows.specs.BlobRows.{rows_code}
 use Rattle.range_rows.specs.ObjectReplies.{span_bytes}
 use Rattle.range_rows.specs.ObjectRules.{object_refusal}
 use Rattle.range_rows.specs.Opening.{one_part, container_just_made}
 use Rattle.stamp_model.specs.Effects.{effect, effect_as}
-use Rattle.stamp_model.specs.Refusals.{acl_of, refusal, unserved_refusal}
+use Rattle.range_rows.specs.Access.{acl_of}
+use Rattle.stamp_model.specs.Refusals.{refusal, unserved_refusal}
 use Rattle.stamp_model.specs.Responses.{reply}
 
 -- an account's keys, and the containers that the stamp holds
@@ -44,25 +49,33 @@ keys_code =
 abbrev pub rows_held_code : Coded HeldRows
 rows_held_code = code_by (Keys × World (List Piece)) (coded× keys_code rows_code) (λ h. (h.keys, h.rows)) (λ p. record { keys = p.0; rows = p.1 }) (λ _. refl)
 
--- each container that exists lets no one in without a credential
-abbrev pub AreClosed : World (List Piece) → Type 0
-AreClosed w = (k : Key) → (acl_of (part_at w k) ≡ None) ⊎ (acl_of (part_at w k) ≡ Some closed_acl)
-
 -- each content is held in memory, and no content is a place in a stream
 abbrev pub AreHeld : World (List Piece) → Type 0
 AreHeld w = EachWorldContent (λ ps. is_held ps ≡ true) w
 
+-- the key of an account's first container
+abbrev pub key_first : List ℕ → Key
+key_first account = record { account = account; container = codes "pics" }
+
+-- the change that makes an account's first container
+abbrev pub change_first : List ℕ → ℕ → KeyedAct
+change_first account t = record { key = key_first account; act = act.CreateContainer (record { moment = t; level = level.Closed; metadata = [] }) }
+
 -- what rows hold at first: the container `pics` of the keys' account, made at the moment
 abbrev pub rows_first : Keys → ℕ → HeldRows
-rows_first keys t = record { keys = keys; rows = one_part (record { account = keys.account; container = codes "pics" }) (container_just_made t) }
+rows_first keys t = record { keys = keys; rows = one_part (key_first keys.account) (container_just_made t) }
 
 -- what is held at first, in bytes
 abbrev pub held_first : Keys → ℕ → Held
-held_first keys t = record { keys = keys; world = one_part (record { account = keys.account; container = codes "pics" }) (container_just_made t) }
+held_first keys t = record { keys = keys; world = one_part (key_first keys.account) (container_just_made t) }
 
 -- what rows hold, in bytes
 abbrev pub held_of : HeldRows → Held
 held_of h = record { keys = h.keys; world = world_value held h.rows }
+
+-- the verdict on a request, by what its container says about who may
+abbrev pub row_verdict : HeldRows → Asked → ℕ → Verdict
+row_verdict h q t = verdict_of (Some h.keys) (acl_of (part_at h.rows q.ask.key)) q.ask t
 
 -- the refusal of a request that is permitted, from the sizes of what the rows hold
 abbrev pub object_or_unserved : Part (List Piece) → Asked → Option Refusal

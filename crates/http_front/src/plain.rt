@@ -1,12 +1,14 @@
 //! The service over the rows of one account.
-ghost use Rattle.std.specs.Prelude.{◌≡◌, false, None, Some, Err, IfOk, IsTrue, OnErr, OnOk, codes};
+ghost use Rattle.std.specs.Prelude.{◌≡◌, false, None, Some, Err, IfOk, IsTrue, OnErr, OnOk};
 ghost use Rattle.stamp_values.specs.declared.op.Op.TheVariants as op;
 ghost use Rattle.stamp_values.specs.Names.{is_account};
 ghost use Rattle.stamp_types.specs.Replies.{denied};
 ghost use Rattle.range_rows.specs.RequestChanges.{reading_of};
 ghost use Rattle.stamp_model.specs.Refusals as refusals;
+ghost use Rattle.range_rows.specs.Opening.{container_just_made, one_part};
+ghost use Rattle.http_front.specs.PlainAnswers.{change_first, key_first};
 ghost use Rattle.http_front.specs.PlainAnswers.{AnswersAsModel, AreHeld, Held, held_first, held_of, held_reply};
-ghost use Rattle.http_front.specs.PlainAnswers.{object_or_unserved, row_refusal, rows_after, rows_first};
+ghost use Rattle.http_front.specs.PlainAnswers.{object_or_unserved, row_refusal, row_verdict, rows_after, rows_first};
 ghost use Rattle.stamp_types.specs.World.{part_at};
 ghost use Rattle.http_front.specs.declared.plain.PlainFault.{PlainFault};
 ghost use Rattle.http_front.specs.declared.plain.PlainFault.TheVariants.{NoMemory};
@@ -16,7 +18,10 @@ use crate::service::Service;
 use access_rules::{Keys, Verdict, verdict};
 use name_rules::account_ok;
 use range_rows::{Reading, Rows, read_request};
-use stamp_types::{Code, Key, Moment, Op, Refusal, Reply, Request, Rule, Text};
+use stamp_types::{
+    Act, Change, Code, CreateContainer, Key, Level, Metadata, Moment, Op, Refusal, Reply, Request,
+    Rule, Text,
+};
 use std::alloc::{AllocError, Global};
 use std::marker::Model;
 use thiserror::Error;
@@ -53,7 +58,7 @@ impl From<AllocError> for PlainFault {
 }
 
 impl Model for Plain {
-    ghost use Rattle.http_front.specs.PlainAnswers.{HeldRows, rows_held_code, AreClosed, AreHeld};
+    ghost use Rattle.http_front.specs.PlainAnswers.{HeldRows, rows_held_code, AreHeld};
 
     ghost Value = { HeldRows };
 
@@ -61,9 +66,8 @@ impl Model for Plain {
 
     ghost view = { λ p. record { keys = p.keys; rows = p.rows } };
 
-    // No operation opens a container to the public yet, and permission is judged as for a closed container. Content is held in
-    // memory.
-    ghost invariant = { λ p. AreClosed p.rows × AreHeld p.rows };
+    // Content is held in memory.
+    ghost invariant = { λ p. AreHeld p.rows };
 }
 
 // The refusal by a rule of permission.
@@ -93,8 +97,7 @@ fn unserved_refusal(op: Op) -> Option<Refusal>
 
 // The key of the account's first container.
 fn first_key(alloc: Global, account: &Text) -> Result<Key, AllocError>
-    ensures { IfOk result (λ key.
-        key ≡ record { account = account.now; container = codes "pics" }) }
+    ensures { IfOk result (λ key. key ≡ key_first account.now) }
 {
     let account = account.clone()?;
     let name = String::from_str(alloc, FIRST_CONTAINER)?;
@@ -104,11 +107,41 @@ fn first_key(alloc: Global, account: &Text) -> Result<Key, AllocError>
     }
 }
 
+// The change that makes the account's first container.
+fn first_change(alloc: Global, account: &Text, moment: Moment) -> Result<Change, AllocError>
+    requires { IsTrue (is_account account.now) }
+    ensures { IfOk result (λ change. change ≡ change_first account.now moment) }
+{
+    let key = first_key(alloc, account)?;
+    let create = CreateContainer {
+        moment,
+        level: Level::Closed,
+        metadata: Metadata::empty(alloc),
+    };
+    match Change::new(key, Act::CreateContainer(create)) {
+        Some(change) => Ok(change),
+        None => unreachable!(),
+    }
+}
+
+// Rows that hold the account's first container alone.
+#[tactic(auto, using(crate::proofs::PlainLemmas::first_made))]
+fn first_rows(alloc: Global, account: &Text, moment: Moment) -> Result<Rows, AllocError>
+    requires { IsTrue (is_account account.now) }
+    ensures { IfOk result (λ rows. rows
+        ≡ one_part (key_first account.now) (container_just_made moment)) }
+{
+    let change = first_change(alloc, account, moment)?;
+    let mut rows = Rows::new(alloc);
+    rows.take(alloc, change)?;
+    Ok(rows)
+}
+
 impl Plain {
     /// The service of the keys' account, which holds one closed container, `pics`, made at the moment by its first change.
     ///
     /// `Account` if the name in the keys is not the name of an account, `NoMemory` if memory runs out.
-    #[tactic(auto, using(crate::proofs::PlainLemmas::first_closed, crate::proofs::PlainLemmas::first_held))]
+    #[tactic(auto, using(crate::proofs::PlainLemmas::first_held))]
     pub fn new(alloc: Global, keys: Keys, moment: Moment) -> Result<Self, PlainFault>
         ensures value { IfOk result (λ plain. plain ≡ rows_first keys moment) }
         ensures held { IfOk result (λ plain. held_of plain ≡ held_first keys moment) }
@@ -118,11 +151,8 @@ impl Plain {
         if !account_ok(keys.account.as_str().as_bytes()) {
             return Err(PlainFault::Account);
         }
-        let key = first_key(alloc, &keys.account)?;
-        Ok(Self {
-            rows: Rows::new(alloc, key, moment),
-            keys,
-        })
+        let rows = first_rows(alloc, &keys.account, moment)?;
+        Ok(Self { keys, rows })
     }
 
     // The refusal of a request that is permitted.
@@ -142,8 +172,21 @@ impl Plain {
         }
     }
 
+    // Whether the request may be served, by what its container says about who may.
+    fn permission(
+        &self,
+        alloc: Global,
+        request: &Request,
+        moment: Moment,
+    ) -> Result<Verdict, AllocError>
+        ensures { IfOk result (λ verdict. verdict
+            ≡ row_verdict self.now request.now moment) }
+    {
+        let who = self.rows.acl(&request.ask().key);
+        verdict(alloc, Some(&self.keys), who, request, moment)
+    }
+
     // The refusal of a request: by permission, or else by the object, or else since the operation is not served yet.
-    #[tactic(auto, using(crate::proofs::PlainLemmas::refusal_denied, crate::proofs::PlainLemmas::refusal_allowed))]
     fn refusal(
         &self,
         alloc: Global,
@@ -156,9 +199,10 @@ impl Plain {
             refusal ≡ row_refusal self.now request.now moment) }
         ensures held { AreHeld self.now.rows }
     {
-        match verdict(alloc, Some(&self.keys), request, moment)? {
+        let _rows = &self.rows;
+        match self.permission(alloc, request, moment)? {
             Verdict::Deny(rule) => Ok(Some(access_refusal(rule))),
-            Verdict::Allow(_) => self.object_refusal(alloc, request, reading),
+            Verdict::Allow(_way) => self.object_refusal(alloc, request, reading),
         }
     }
 

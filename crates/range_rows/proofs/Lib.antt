@@ -1,8 +1,8 @@
 pub mod Allowed
 pub mod AnswerLemmas
-pub mod BlobLists
-pub mod OneContainer
-pub mod Orderings
+pub mod ChangeLemmas
+pub mod FitLemmas
+pub mod Parts
 pub mod PutBlocks
 pub mod PutParts
 pub mod SpanLemmas

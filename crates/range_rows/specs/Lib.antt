@@ -1,5 +1,8 @@
+pub mod Access
 pub mod BlobRows
+pub mod Fits
+pub mod Lending
+pub mod ObjectReplies
 pub mod ObjectRules
 pub mod Opening
 pub mod RequestChanges
-pub mod ObjectReplies

@@ -1,5 +1,5 @@
 -- What writing requests do ("Put Blob" of the Blob service REST reference, 2012-02-12; RFC 1321).
-use Rattle.std.specs.Prelude.{ℕ, Bool, true, false, List, Option, Some, None}
+use Rattle.std.specs.Prelude.{ℕ, List, Option, Some, None}
 use Rattle.std.specs.Option.{option_map, option_and_then}
 use Rattle.md5.specs.Md5.{md5}
 use Rattle.stamp_values.specs.declared.op.Op.{Op}
@@ -38,11 +38,6 @@ act_by _ p q t = None
 -- the change that an allowed request makes at a moment, in the container that it names; the sizes of content decide the change
 abbrev pub change_of : Part ℕ → Asked → ℕ → Option KeyedAct
 change_of p q t = option_map (λ a. record { key = q.ask.key; act = a }) (act_by q.ask.op p q t)
-
--- the act is a Put Blob
-abbrev pub is_put_act : Act → Bool
-is_put_act (act.PutBlob a) = true
-is_put_act _ = false
 
 -- the container after the change, or the same container if there is no change
 abbrev pub part_after : {C : Type 0} → (List Piece → C) → Option KeyedAct → Part C → Part C

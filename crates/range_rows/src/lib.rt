@@ -1,17 +1,20 @@
-//! What a partition holds in memory of one container and its blobs, the rules of the object over
+//! What a partition holds in memory of its containers and their blobs, the rules of the object over
 //! it, what allowed requests change, and how they are answered.
 #![tactic(auto)]
 
+mod acts;
 mod answer;
 mod answer_laws;
-mod blobs;
+mod change_fits;
+mod change_laws;
+#[cfg(test)]
+mod change_tests;
 mod container;
 mod object_rules;
 mod reading;
 mod replies;
 mod request_changes;
 mod row;
-mod row_index;
 mod rows;
 #[cfg(test)]
 mod rows_tests;
@@ -21,5 +24,6 @@ mod uncommitted;
 
 pub use answer::{Answer, Span};
 pub use answer_laws::spans_say_what_content_goes_out;
+pub use change_laws::a_change_that_no_rule_refuses_fits;
 pub use reading::{Reading, read_request};
 pub use rows::Rows;

@@ -1,5 +1,5 @@
 //! What writing requests do.
-ghost use Rattle.std.specs.Prelude.{◌≡◌, ◌<◌, ◌≤◌, ℕ, IfOk, IsSome, IsTrue, None, Some, length};
+ghost use Rattle.std.specs.Prelude.{◌≡◌, ◌≤◌, ℕ, IfOk, IsTrue, None, Some, length};
 ghost use Rattle.stamp_values.specs.Limits.{put_blob_limit};
 ghost use Rattle.stamp_types.specs.World.{Part};
 ghost use Rattle.stamp_types.specs.PropsFields.{is_kept};
@@ -58,10 +58,8 @@ fn put_blob(
 #[tactic(auto, using(crate::proofs::PutParts::kept_fits))]
 fn put_change(alloc: Global, request: &Request, moment: Moment) -> Result<Change, AllocError>
     requires { request.now.ask.op ≡ op.PutBlob }
-    ensures value { IfOk result (λ change.
+    ensures { IfOk result (λ change.
         (p : Part ℕ) → changes.change_of p request.now moment ≡ Some change) }
-    ensures put { IfOk result (λ change. IsTrue (changes.is_put_act change.act)) }
-    ensures key { IfOk result (λ change. change.key ≡ request.now.ask.key) }
 {
     let ask = request.ask();
     match (&ask.blob, &ask.args.kept) {
@@ -78,15 +76,16 @@ fn put_change(alloc: Global, request: &Request, moment: Moment) -> Result<Change
 }
 
 impl Rows {
-    ghost use Rattle.stamp_types.specs.World.{part_at};
-    ghost use Rattle.range_rows.specs.ObjectRules.{object_refusal, count_limit, sizes_named};
+    ghost use Rattle.stamp_types.specs.Pieces.{pieces_len};
+    ghost use Rattle.stamp_types.specs.World.{part_at, part_value};
+    ghost use Rattle.range_rows.specs.Fits.{fits};
+    ghost use Rattle.range_rows.specs.ObjectRules.{object_refusal, sizes_named};
 
-    /// The change that an allowed Put Blob makes at the moment. The change meets the conditions of
-    /// `take` and `apply`. `reading` is what the request's body says. The ETag is given when the
+    /// The change that an allowed Put Blob makes at the moment. The change meets the condition
+    /// of `take` and `apply`. `reading` is what the request's body says. The ETag is given when the
     /// change is applied.
     ///
     /// `AllocError` if memory runs out for the change, or if the body can have no further owner.
-    #[tactic(auto, using(crate::proofs::Allowed::allowed_exists, crate::proofs::Allowed::allowed_room))]
     pub fn change(
         &self,
         alloc: Global,
@@ -99,9 +98,8 @@ impl Rows {
         requires read { _reading.now ≡ changes.reading_of request.now }
         ensures value { IfOk result (λ change.
             changes.change_of (sizes_named self.now request.now) request.now moment ≡ Some change) }
-        ensures put { IfOk result (λ change. IsTrue (changes.is_put_act change.act)) }
-        ensures standing { IfOk result (λ change. IsSome (part_at self.now change.key).standing) }
-        ensures count { IfOk result (λ change. (part_at self.now change.key).count < count_limit) }
+        ensures fits { IfOk result (λ change. IsTrue
+            (fits (part_value pieces_len (part_at self.now change.key)) change.act)) }
     {
         // A count has 64 bits, so each count but the largest is below the largest, and O6 refuses
         // the largest.

@@ -1,34 +1,33 @@
-//! The rows of a container.
-ghost use Rattle.std.specs.Prelude.{◌≡◌, ◌<◌, IfOk, IsTrue, IsSome, OnOk, OnErr, unwrap_or};
+//! The rows of a partition.
+ghost use Rattle.std.specs.Prelude.{◌≡◌, IsOk, IsTrue, IfOk, None, OnOk, OnErr};
 ghost use Rattle.std.specs.Option.{option_copied};
 
 use crate::container::Container;
-use stamp_types::{Change, Committed, Key, Moment, Pieces, Standing, Text};
+use stamp_types::{Acl, Act, Change, Committed, Key, Pieces, Standing, Text};
 use std::alloc::{AllocError, Global};
+use std::collections::BTreeMap;
 use std::marker::Model;
 
-/// One container and its blobs, as a partition holds them in memory, seen as a world that has no
-/// other container.
+/// The containers of a partition and their blobs in memory, seen as the world that they make.
 ///
+/// A container that was deleted stays with its count. A container that never was takes no memory.
 /// Content is shared with the requests that brought it, and never copied.
 #[derive(Debug, Drop)]
 pub struct Rows {
-    key: Key,
-    container: Container,
+    containers: BTreeMap<Key, Container>,
 }
 
 impl Model for Rows {
     ghost use Rattle.std.specs.Prelude.{List};
     ghost use Rattle.stamp_types.specs.declared.piece.Piece.{Piece};
     ghost use Rattle.stamp_types.specs.World.{World};
-    ghost use Rattle.range_rows.specs.BlobRows.{rows_code};
-    ghost use Rattle.range_rows.specs.Opening.{one_part};
+    ghost use Rattle.range_rows.specs.BlobRows.{rows_code, world_of};
 
     ghost Value = { World (List Piece) };
 
     ghost coded = { rows_code };
 
-    ghost view = { λ r. one_part r.key r.container };
+    ghost view = { λ r. world_of r.containers };
 }
 
 // The same change, with texts of its own. The content is shared.
@@ -39,36 +38,52 @@ fn copy_of(change: &Change) -> Result<Change, AllocError>
 }
 
 impl Rows {
-    ghost use Rattle.stamp_types.specs.Changes.{is_committed};
-    ghost use Rattle.stamp_types.specs.World.{part_at, no_part, blob_in, changed_in, same_pieces};
-    ghost use Rattle.range_rows.specs.ObjectRules.{count_limit};
-    ghost use Rattle.range_rows.specs.Opening.{one_part, container_just_made};
-    ghost use Rattle.range_rows.specs.RequestChanges.{is_put_act};
+    ghost use Rattle.std.specs.Borrow.{sem};
+    ghost use Rattle.std.specs.FinMap as finite;
+    ghost use Rattle.std.specs.Option.{option_copied_mut};
+    ghost use Rattle.stamp_types.specs.Changes.{is_act, is_committed};
+    ghost use Rattle.stamp_types.specs.Pieces.{pieces_len};
+    ghost use Rattle.stamp_types.specs.World.{part_at, part_value, no_part, blob_in, changed, changed_in, same_pieces};
+    ghost use Rattle.range_rows.specs.Access.{acl_of};
+    ghost use Rattle.range_rows.specs.Fits.{deletes, fits};
+    ghost use Rattle.range_rows.specs.Lending.{LendsPart};
 
-    /// A closed container without blobs, made at the moment by the first of its changes. Takes no
-    /// memory.
-    pub fn new(alloc: Global, key: Key, moment: Moment) -> Self
-        ensures { result ≡ one_part key (container_just_made moment) }
+    /// No containers. Takes no memory.
+    pub fn new(alloc: Global) -> Self
+        ensures { result ≡ finite.empty }
     {
         Self {
-            key,
-            container: Container::new(alloc, moment),
+            containers: BTreeMap::new(alloc),
         }
     }
 
-    // The container of the key, with its blobs.
+    // The container of the key, if it exists or was deleted.
+    #[tactic(auto, using(crate::proofs::Parts::found_part))]
     fn held(&self, key: &Key) -> Option<&Container>
-        ensures { part_at self.now key.now ≡ unwrap_or (option_copied result) no_part }
+        ensures { option_copied result ≡ finite.get self.now key.now }
     {
-        if self.key.same(key) {
-            Some(&self.container)
-        } else {
-            None
-        }
+        self.containers.get(key)
     }
 
-    /// How many changes the container of the key has seen: 0 if these rows don't hold that
-    /// container.
+    // The container of the key, to be changed in its place.
+    fn lent(&mut self, key: &Key) -> Option<&mut Container>
+        ensures* writes_back { sem 𝓛 (LendsPart self.entry key.now result) }
+        ensures value { option_copied_mut result ≡ finite.get self.old key.now }
+    {
+        self.containers.get_mut(key)
+    }
+
+    // One more container.
+    #[tactic(auto, using(crate::proofs::Parts::added_part))]
+    fn add(&mut self, key: Key, container: Container) -> Result<(), AllocError>
+        ensures added { OnOk result (self.new ≡ finite.insert self.old key container) }
+        ensures refused { OnErr result (self.new ≡ self.old) }
+    {
+        self.containers.insert(key, container)?;
+        Ok(())
+    }
+
+    /// How many changes the container of the key has seen: 0 if the container never was.
     pub fn count(&self, key: &Key) -> u64
         ensures { result ≡ (part_at self.now key.now).count }
     {
@@ -83,36 +98,58 @@ impl Rows {
         ensures { option_copied result ≡ (part_at self.now key.now).standing }
     {
         let container = self.held(key)?;
-        Some(container.standing())
+        container.standing()
+    }
+
+    /// The level and the policies of the container of the key, if the container exists.
+    pub fn acl(&self, key: &Key) -> Option<&Acl>
+        ensures { option_copied result ≡ acl_of (part_at self.now key.now) }
+    {
+        let standing = self.container(key)?;
+        Some(&standing.acl)
     }
 
     /// What readers of a blob see, if the blob has a committed part.
-    #[tactic(auto, using(crate::proofs::OneContainer::blob_in_no_part))]
+    #[tactic(auto, using(crate::proofs::Parts::blob_of_no_part))]
     pub fn blob(&self, key: &Key, name: &Text) -> Option<&Committed<Pieces>>
         ensures value { option_copied result
             ≡ (blob_in (part_at self.now key.now) name.now).committed }
         ensures blocks { IsTrue (is_committed (option_copied result)) }
     {
         let container = self.held(key)?;
-        container.blobs().committed(name)
+        container.committed(name)
     }
 
-    /// Makes a change of a container that exists, which is a Put Blob. The texts and the content of
-    /// the change move into the row, and nothing is copied.
+    // The first change of a container that never was.
+    fn add_changed(&mut self, alloc: Global, key: Key, act: Act) -> Result<(), AllocError>
+        requires fits { IsTrue (fits (part_value pieces_len no_part) act) }
+        requires valid { IsTrue (is_act act) }
+        ensures changed { OnOk result
+            (self.new ≡ finite.insert self.old key (changed same_pieces act no_part)) }
+        ensures refused { OnErr result (self.new ≡ self.old) }
+    {
+        let mut container = Container::none(alloc);
+        container.take(alloc, act)?;
+        self.add(key, container)
+    }
+
+    /// Makes a change that fits. The texts and the content of the change move into the rows, and
+    /// nothing is copied. A deletion takes no memory.
     ///
     /// `AllocError` if memory runs out for a new row or its list of blocks. The rows are then as
     /// they were.
-    #[tactic(auto, using(crate::proofs::OneContainer::changed_own))]
+    #[tactic(auto, using(crate::proofs::Parts::same_world, crate::proofs::FitLemmas::no_deletion, crate::proofs::FitLemmas::act_of_change))]
     pub fn take(&mut self, alloc: Global, change: Change) -> Result<(), AllocError>
-        requires put { IsTrue (is_put_act change.act) }
-        requires standing { IsSome (part_at self.old change.key).standing }
-        requires count { (part_at self.old change.key).count < count_limit }
+        requires { IsTrue (fits (part_value pieces_len (part_at self.old change.key)) change.act) }
         ensures changed { OnOk result (self.new ≡ changed_in same_pieces self.old change) }
         ensures refused { OnErr result (self.new ≡ self.old) }
+        ensures deletes { IsTrue (deletes change.act) → IsOk result }
     {
-        let (_key, act) = change.into_parts();
-        self.container.take(alloc, act)?;
-        Ok(())
+        let (key, act) = change.into_parts();
+        match self.lent(&key) {
+            Some(container) => container.take(alloc, act),
+            None => self.add_changed(alloc, key, act),
+        }
     }
 
     /// Makes a copy of a change, as `take` makes the change itself. The copy has texts of its own,
@@ -121,20 +158,11 @@ impl Rows {
     /// `AllocError` if memory runs out, or the content can have no further owner. The rows are then
     /// as they were.
     pub fn apply(&mut self, alloc: Global, change: &Change) -> Result<(), AllocError>
-        requires put { IsTrue (is_put_act change.now.act) }
-        requires standing { IsSome (part_at self.old change.now.key).standing }
-        requires count { (part_at self.old change.now.key).count < count_limit }
+        requires { IsTrue
+            (fits (part_value pieces_len (part_at self.old change.now.key)) change.now.act) }
         ensures changed { OnOk result (self.new ≡ changed_in same_pieces self.old change.now) }
         ensures refused { OnErr result (self.new ≡ self.old) }
     {
         self.take(alloc, copy_of(change)?)
-    }
-}
-
-#[cfg(test)]
-impl Rows {
-    // As if the container had seen so many changes.
-    pub(crate) fn set_count(&mut self, seen: u64) {
-        self.container.set_count(seen);
     }
 }

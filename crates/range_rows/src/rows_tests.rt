@@ -1,14 +1,10 @@
 //! What no clause says of rows: that the rules mean the reference's, that each call can succeed,
 //! and that no body is copied. Printed replies, with their lines, are cases of `replay_cases`.
-ghost use Rattle.std.specs.Prelude.{◌<◌, IsSome, IsTrue};
-ghost use Rattle.stamp_types.specs.World.{part_at};
-ghost use Rattle.range_rows.specs.ObjectRules.{count_limit};
-ghost use Rattle.range_rows.specs.RequestChanges.{is_put_act};
 
 use crate::answer::{Answer, Span};
 use crate::reading::read_request;
 use crate::rows::Rows;
-use crate::sample_requests::{Sum, body, moment, pics, request};
+use crate::sample_requests::{Sum, body, make, moment, pics, request};
 use stamp_types::{Body, Change, Header, Items, Op, Piece, Request, Rule, Status};
 use std::alloc::{AllocError, Global};
 use std::fs;
@@ -46,8 +42,7 @@ fn rules() -> [(Op, &'static str, Option<Sum>, u64, Option<Rule>); 10] {
 #[test]
 fn the_first_rule_that_holds_is_named(rt: HostRuntime) {
     for (op, container, sum, count, rule) in rules() {
-        let mut rows = pics(&rt, rt.alloc());
-        rows.set_count(count);
+        let rows = pics(&rt, rt.alloc(), count);
         let request = request(&rt, rt.alloc(), op, container, "a.txt", sum, Body::empty());
         let refusal = rows.object_rule(rt.alloc(), &request, &read_request(&request));
         let named = refusal.expect(&rt, "memory").map(|refusal| refusal.rule);
@@ -64,17 +59,13 @@ enum Way {
 
 // A function of its own, since the eleven kinds of a change would cost the prover minutes in the
 // body of `change`.
-fn make(alloc: Global, rows: &mut Rows, change: Change, way: Way) -> Result<(), AllocError>
-    requires put { IsTrue (is_put_act change.act) }
-    requires standing { IsSome (part_at rows.old change.key).standing }
-    requires count { (part_at rows.old change.key).count < count_limit }
-{
+fn make_as(rt: &impl Abort, alloc: Global, rows: &mut Rows, change: Change, way: Way) {
     match way {
-        Way::Moved => rows.take(alloc, change),
+        Way::Moved => make(rt, alloc, rows, change),
         Way::Copied => {
-            let applied = rows.apply(alloc, &change);
+            assert!(rt; rows.fits(&change), "a change that does not fit");
+            rows.apply(alloc, &change).expect(rt, "memory");
             drop(change);
-            applied
         }
     }
 }
@@ -87,7 +78,7 @@ fn change(rt: &impl Abort, alloc: Global, rows: &mut Rows, request: &Request, wa
     assert!(rt; refusal.expect(rt, "memory").is_none());
     let change = rows.change(alloc, request, &reading, moment(rt));
     let change = change.expect(rt, "memory");
-    make(alloc, rows, change, way).expect(rt, "memory");
+    make_as(rt, alloc, rows, change, way);
 }
 
 // The answer, whose frame has this status and length, and no body.
@@ -145,7 +136,7 @@ fn name(rt: &impl Abort, alloc: Global, number: u64) -> String {
 #[test]
 fn a_hundred_blobs_are_read_back(rt: HostRuntime) {
     let alloc = rt.alloc();
-    let mut rows = pics(&rt, alloc);
+    let mut rows = pics(&rt, alloc, 1);
     for number in 0..100 {
         let name = name(&rt, alloc, number);
         let bytes = name.as_bytes().to_vec(alloc).expect(&rt, "memory");
@@ -183,7 +174,7 @@ const MIB: usize = 1024 * 1024;
 fn rows_and_answers_share_a_body(rt: HostRuntime) {
     let alloc = rt.alloc();
     let body = body(&rt, alloc, vec![in alloc; 7; MIB].expect(&rt, "memory"));
-    let mut rows = pics(&rt, alloc);
+    let mut rows = pics(&rt, alloc, 1);
     let mut answers = Vec::new(alloc);
     let before = resident(&rt).expect(&rt, "a status");
     for number in 0..100 {

@@ -2,8 +2,9 @@
 
 use crate::rows::Rows;
 use stamp_types::{
-    Args, Ask, Body, Bytes, Credential, FieldList, Items, Kept, Key, Level, Meta, Metadata, Moment,
-    Op, Request, Share, Signing, Text, Verb, Visible,
+    Acl, Act, Args, Ask, Body, Bytes, Change, ContainerRow, Credential, FieldList, Items, Kept,
+    Key, Level, Meta, Metadata, Moment, Op, Policies, Request, Share, Signing, Standing, Text,
+    Verb, Visible,
 };
 use std::alloc::Global;
 use std::process::Abort;
@@ -13,18 +14,23 @@ const NOON: i64 = 13_490_928_000_000_000;
 
 pub(crate) type Sum = [u8; 16];
 
-pub(crate) fn moment(rt: &impl Abort) -> Moment {
-    Moment::new(NOON).expect(rt, "a moment")
+/// So many steps of 100 ns after noon.
+pub(crate) fn moment_after(rt: &impl Abort, ticks: u8) -> Moment {
+    Moment::new(NOON + i64::from(ticks)).expect(rt, "a moment")
 }
 
-fn text(rt: &impl Abort, alloc: Global, text: &str) -> Text {
+pub(crate) fn moment(rt: &impl Abort) -> Moment {
+    moment_after(rt, 0)
+}
+
+pub(crate) fn text(rt: &impl Abort, alloc: Global, text: &str) -> Text {
     let text = String::from_str(alloc, text).expect(rt, "memory");
     Text::new(text).expect(rt, "a clean text")
 }
 
-fn key(rt: &impl Abort, alloc: Global, container: &str) -> Key {
+pub(crate) fn key(rt: &impl Abort, alloc: Global, account: &str, container: &str) -> Key {
     Key {
-        account: text(rt, alloc, "pantry"),
+        account: text(rt, alloc, account),
         container: text(rt, alloc, container),
     }
 }
@@ -56,17 +62,27 @@ fn level(op: Op) -> Option<Level> {
     }
 }
 
-// The metadata that a Put Blob brings: one name. Other operations bring no metadata.
-fn metadata(rt: &impl Abort, alloc: Global, op: Op) -> Metadata {
-    if op != Op::PutBlob {
-        return Metadata::empty(alloc);
-    }
+pub(crate) fn visible(rt: &impl Abort, alloc: Global, value: &str) -> Visible {
+    Visible::new(text(rt, alloc, value)).expect(rt, "a visible text")
+}
+
+/// Metadata of one name, which has this value.
+pub(crate) fn author(rt: &impl Abort, alloc: Global, value: &str) -> Metadata {
     let meta = Meta {
         name: text(rt, alloc, "author"),
-        value: Visible::new(text(rt, alloc, "me")).expect(rt, "a visible text"),
+        value: visible(rt, alloc, value),
     };
     let metas = vec![in alloc; meta].expect(rt, "memory");
     Metadata::new(Items::new(metas)).expect(rt, "good metadata")
+}
+
+// The metadata that a Put Blob brings: one name. Other operations bring no metadata.
+fn metadata(rt: &impl Abort, alloc: Global, op: Op) -> Metadata {
+    if op == Op::PutBlob {
+        author(rt, alloc, "me")
+    } else {
+        Metadata::empty(alloc)
+    }
 }
 
 fn args(rt: &impl Abort, alloc: Global, op: Op, content_md5: Option<Sum>) -> Args {
@@ -105,7 +121,7 @@ pub(crate) fn request(
 ) -> Request {
     let ask = Ask {
         op,
-        key: key(rt, alloc, container),
+        key: key(rt, alloc, "pantry", container),
         blob: named(rt, alloc, op, blob),
         args: args(rt, alloc, op, content_md5),
         signing: Signing {
@@ -120,7 +136,31 @@ pub(crate) fn request(
     request.expect(rt, "parts that fit")
 }
 
-/// The closed container `pics`.
-pub(crate) fn pics(rt: &impl Abort, alloc: Global) -> Rows {
-    Rows::new(alloc, key(rt, alloc, "pics"), moment(rt))
+// What a closed container has that was made by its first change.
+fn closed(rt: &impl Abort, alloc: Global) -> Standing {
+    Standing {
+        etag: 1,
+        made: moment(rt),
+        metadata: Metadata::empty(alloc),
+        acl: Acl {
+            level: Level::Closed,
+            policies: Policies::empty(alloc),
+        },
+    }
+}
+
+/// The closed container `pics`, as if it had seen so many changes.
+pub(crate) fn pics(rt: &impl Abort, alloc: Global, count: u64) -> Rows {
+    let mut rows = Rows::new(alloc);
+    let standing = Some(closed(rt, alloc));
+    let row = Act::ContainerRow(ContainerRow { count, standing });
+    let change = Change::new(key(rt, alloc, "pantry", "pics"), row).expect(rt, "a good row");
+    make(rt, alloc, &mut rows, change);
+    rows
+}
+
+/// Makes a change, which has to fit.
+pub(crate) fn make(rt: &impl Abort, alloc: Global, rows: &mut Rows, change: Change) {
+    assert!(rt; rows.fits(&change), "a change that does not fit");
+    rows.take(alloc, change).expect(rt, "memory");
 }

@@ -1,6 +1,8 @@
 //! The uncommitted blocks of a blob.
-ghost use Rattle.std.specs.Prelude.{◌≡◌};
+ghost use Rattle.std.specs.Prelude.{◌≡◌, IsTrue, map};
 ghost use Rattle.std.specs.FinMap as finite;
+ghost use Rattle.stamp_types.specs.Changes.{are_uncommitted};
+ghost use Rattle.stamp_types.specs.World.{uncommitted_entry, same_pieces};
 
 use stamp_types::{Items, UncommittedBlock};
 use std::alloc::Global;
@@ -39,5 +41,13 @@ impl Uncommitted {
         Self {
             blocks: Items::new(Vec::new(alloc)),
         }
+    }
+
+    /// The blocks of the row of a checkpoint. Takes no memory.
+    pub(crate) fn stored(blocks: Items<UncommittedBlock>) -> Self
+        requires { IsTrue (are_uncommitted blocks) }
+        ensures { result ≡ finite.from_entries (map (uncommitted_entry same_pieces) blocks) }
+    {
+        Self { blocks }
     }
 }

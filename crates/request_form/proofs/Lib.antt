@@ -1,5 +1,4 @@
 pub mod AskLemmas
-pub mod Base64Lemmas
 pub mod HeadDecisions
 pub mod HeadLaws
 pub mod HeadLemmas

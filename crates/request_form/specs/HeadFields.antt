@@ -2,8 +2,7 @@
 use Rattle.std.specs.Prelude.{ℕ, Bool, false, not, ◌&&◌, List, filter, length, bytes_eq, codes, take}
 use Rattle.std.specs.List.{list_all, list_any}
 use Rattle.std.specs.Option.{option_map_or}
-use Rattle.base64.specs.Engines.{standard}
-use Rattle.base64.specs.GeneralPurpose.{decoded_of}
+use Rattle.base64_text.specs.Base64.{is_base64_within}
 use Rattle.stamp_values.specs.Fields.{has_name, first_value, values_under}
 use Rattle.stamp_values.specs.Names.{is_digit, is_within}
 use Rattle.stamp_values.specs.declared.signing.Field.{Field}
@@ -31,10 +30,6 @@ has_bad fields name test = list_any (λ f. has_name name f && not (test f.value)
 -- 1 to 19 digits
 unfoldable pub is_number : List ℕ → Bool
 is_number text = is_within 1 19 (length text) && list_all is_digit text
-
--- strict Base64 of so many bytes
-unfoldable pub is_base64_within : ℕ → ℕ → List ℕ → Bool
-is_base64_within least most text = option_map_or (λ bytes. is_within least most (length bytes)) (decoded_of standard text) false
 
 -- strict Base64 of 16 bytes
 abbrev pub is_md5 : List ℕ → Bool

@@ -2,8 +2,7 @@
 -- RFC 9110, sections 7.6.1, 8.6 and 10.1.1; RFC 9112, sections 9.3 and 9.6).
 use Rattle.std.specs.Prelude.{ℕ, Bool, false, true, not, ◌&&◌, ◌||◌, ◌==◌, if◌then◌else◌, List, [], ◌∷◌, Option, Some, None, option_map, option_and_then, bytes_eq, codes}
 use Rattle.std.specs.List.{list_any, slice_split}
-use Rattle.base64.specs.Engines.{standard}
-use Rattle.base64.specs.GeneralPurpose.{decoded_of}
+use Rattle.base64_text.specs.Base64.{standard, decoded_of}
 use Rattle.name_rules.specs.BlobNames.{percent_decode}
 use Rattle.stamp_values.specs.declared.key.Key.{Key}
 use Rattle.stamp_values.specs.Fields.{has_name, first_value, is_sent, trimmed}

@@ -22,7 +22,8 @@ use Rattle.stamp_values.specs.Fields.{is_sent, is_sent_twice, first_value, stand
 use Rattle.name_rules.specs.BlobNames.{name_of}
 use Rattle.stamp_values.specs.Ascii.{quote}
 use Rattle.request_form.specs.Targets.{is_nothing, origin_of, is_origin, target_of, account_of, container_of, blob_of, kind_of}
-use Rattle.request_form.specs.HeadFields.{is_bad, has_bad, is_number, is_base64_within, is_md5, is_ms, is_meta}
+use Rattle.base64_text.specs.Base64.{is_base64_within}
+use Rattle.request_form.specs.HeadFields.{is_bad, has_bad, is_number, is_md5, is_ms, is_meta}
 use Rattle.request_form.specs.declared.denial.Denial.{Denial}
 use Rattle.request_form.specs.declared.target.Target.{Target}
 use Rattle.request_form.specs.HeadParts.{HeadParts}

@@ -3,12 +3,10 @@ ghost use Rattle.std.specs.Prelude.{◌≡◌, IfOk, MatchOption, Some, bytes_eq
 ghost use Rattle.std.specs.Str.Parse.{digits_value};
 ghost use Rattle.std.specs.List.{list_all};
 ghost use Rattle.stamp_values.specs.Names.{is_digit};
-ghost use Rattle.base64.specs.Engines.{standard};
-ghost use Rattle.base64.specs.GeneralPurpose.{decoded_of};
+ghost use Rattle.base64_text.specs.Base64.{standard, decoded_of};
 ghost use Rattle.request_form.specs.HeadFields as heads;
 
-use base64::DecodeAllocError;
-use base64::engine::general_purpose::STANDARD;
+use base64_text::decoded_base64;
 use stamp_types::FieldList;
 use std::alloc::{AllocError, Global};
 
@@ -63,39 +61,10 @@ pub(crate) fn number(text: &[u8]) -> Option<u64>
     }
 }
 
-// The bytes that a text is the strict Base64 of (RFC 4648, section 4).
-fn decoded_base64(alloc: Global, text: &[u8]) -> Result<Option<Vec<u8>>, AllocError>
-    ensures { IfOk result (λ o. option_map (λ v. v.items) o ≡ decoded_of standard text.now) }
-{
-    match STANDARD.decode(alloc, text) {
-        Ok(bytes) => Ok(Some(bytes)),
-        Err(DecodeAllocError::DecodeError(_)) => Ok(None),
-        Err(DecodeAllocError::OutOfMemory) => Err(AllocError),
-    }
-}
-
-/// Whether the text is the strict Base64 of so many bytes.
-///
-/// `AllocError` if memory runs out.
-#[tactic(auto, unfolding(crate::specs::HeadFields::is_base64_within))]
-pub(crate) fn is_base64_within(
-    alloc: Global,
-    least: usize,
-    most: usize,
-    text: &[u8],
-) -> Result<bool, AllocError>
-    ensures { IfOk result (λ b. b ≡ heads.is_base64_within least most text.now) }
-{
-    match decoded_base64(alloc, text)? {
-        Some(bytes) => Ok((least..=most).contains(&bytes.len())),
-        None => Ok(false),
-    }
-}
-
 /// The MD5 that a text is the strict Base64 of (RFC 1864), or `None` if the text is not the Base64 of an MD5.
 ///
 /// `AllocError` if memory runs out.
-#[tactic(auto, unfolding(crate::specs::HeadFields::is_base64_within))]
+#[tactic(auto, unfolding(base64_text::specs::Base64::is_base64_within))]
 pub(crate) fn md5_of(alloc: Global, text: &[u8]) -> Result<Option<[u8; 16]>, AllocError>
     ensures { IfOk result (λ o. MatchOption o (heads.is_md5 text.now ≡ false)
         (λ md5. (heads.is_md5 text.now ≡ true) × (decoded_of standard text.now ≡ Some md5))) }

@@ -4,9 +4,10 @@ ghost use Rattle.std.specs.List.{list_any};
 ghost use Rattle.request_form.specs.HeadFields.{is_bad};
 ghost use Rattle.request_form.specs.HeadRules as heads;
 
-use crate::head_fields::{is_base64_within, number};
+use crate::head_fields::number;
 use crate::path_kind::PathKind;
 use crate::target::{Target, kind};
+use base64_text::is_base64_within;
 use stamp_types::{FieldList, Op, Verb, is_clean, is_utf8};
 use std::alloc::{AllocError, Global};
 

@@ -1,5 +1,5 @@
 -- Requests without a credential.
-use Rattle.std.proofs.Common.{◌≡◌, ℕ, ◌≤◌, cond, List, Option, Some, None, refl, sym, ap, ◌∙◌, subst, is_none}
+use Rattle.std.proofs.Common.{◌≡◌, ℕ, ◌≤◌, cond, List, Option, Some, None, IsSome, refl, sym, ap, ◌∙◌, subst, is_none}
 use Rattle.std.specs.Option.{option_map, option_or}
 use Rattle.stamp_values.specs.declared.acl.Acl.{Acl}
 use Rattle.stamp_values.specs.declared.block.BlockKinds.{BlockKinds}
@@ -31,7 +31,8 @@ use Rattle.access_rules.specs.Rules.{allows_less, first_rule, some_passes}
 use Rattle.access_rules.proofs.RouteLaw.{asking, by_route}
 use Rattle.range_rows.specs.ObjectReplies.{sizes}
 use Rattle.range_rows.specs.ObjectRules.{object_refusal}
-use Rattle.stamp_model.specs.Refusals.{acl_of, access_code, access_refusal, unserved_refusal}
+use Rattle.range_rows.specs.Access.{acl_of}
+use Rattle.stamp_model.specs.Refusals.{access_code, access_refusal, unserved_refusal}
 use Rattle.stamp_model.specs.Effects.{change}
 use Rattle.stamp_model.specs.Responses.{response, reply}
 use Rattle.stamp_model.proofs.ReplyLemmas.{reply-unrefused, unrefused}
@@ -88,14 +89,16 @@ module _ (keys : Option Keys) (w : World (List ℕ)) (q : Asked) (t : ℕ) (boun
       ∙ as_closed s.acl.policies q.ask.op q.ask.args.kinds
       ∙ (absent the_need).1
 
-  told_absent : q.ask.credential ≡ Anonymous → own_part.standing ≡ None → reply keys w q t bound ≡ denied (record { rule = (absent the_need).0; code = code.ResourceNotFound })
-  told_absent anonymous none =
-      told (absent the_need).0 (absent_refused anonymous none)
-      ∙ ap (λ (c : Code). denied (record { rule = (absent the_need).0; code = c })) (absent the_need).2
+  told_absent : first_rule keys (acl_of own_part) q.ask t ≡ Some (absent the_need).0 → reply keys w q t bound ≡ denied (record { rule = (absent the_need).0; code = code.ResourceNotFound })
+  told_absent is = told (absent the_need).0 is ∙ ap (λ (c : Code). denied (record { rule = (absent the_need).0; code = c })) (absent the_need).2
 
   -- if the container does not exist, the reply says that the resource was not found
   pub status-absent : q.ask.credential ≡ Anonymous → own_part.standing ≡ None → (reply keys w q t bound).status ≡ NotFound
-  status-absent anonymous none = ap (λ (x : Reply). x.status) (told_absent anonymous none)
+  status-absent anonymous none = ap (λ (x : Reply). x.status) (told_absent (absent_refused anonymous none))
+
+  -- a closed container refuses each request without a credential
+  pub rule-closed : (s : Standing) → q.ask.credential ≡ Anonymous → own_part.standing ≡ Some s → s.acl.level ≡ level.Closed → IsSome (reply keys w q t bound).rule
+  rule-closed s anonymous exists closed = subst (λ (x : Reply). IsSome x.rule) (sym (told_absent (closed_refused s anonymous exists closed))) refl
 
   -- a request without a credential is answered only if its container exists and the container's level is enough
   pub given-publicly : q.ask.credential ≡ Anonymous → (reply keys w q t bound).rule ≡ None

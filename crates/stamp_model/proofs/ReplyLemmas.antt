@@ -21,7 +21,8 @@ use Rattle.access_rules.specs.Rules.{first_rule}
 use Rattle.access_rules.proofs.RouteLaw.{by_route}
 use Rattle.range_rows.specs.ObjectReplies.{is_served, byte_count, sizes, blob_read, frame_by, reply_of}
 use Rattle.range_rows.specs.ObjectRules.{object_refusal}
-use Rattle.stamp_model.specs.Refusals.{acl_of, access_refusal, unserved_refusal, refusal, refusing_rule}
+use Rattle.range_rows.specs.Access.{acl_of}
+use Rattle.stamp_model.specs.Refusals.{access_refusal, unserved_refusal, refusal, refusing_rule}
 use Rattle.stamp_model.specs.Effects.{change, effect}
 use Rattle.stamp_model.specs.Responses.{response, reply}
 use Rattle.stamp_model.proofs.EffectLemmas.{part_at-effect, effect-refused}

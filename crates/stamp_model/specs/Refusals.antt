@@ -2,7 +2,6 @@
 -- Service Error Codes). The rules, their order and the codes of the rules of permission are the stamp's own.
 use Rattle.std.specs.Prelude.{ℕ, Bool, false, not, ◌||◌, List, [], ◌∷◌, ◌++◌, Option, Some, None, if◌then◌else◌}
 use Rattle.std.specs.Option.{option_map, option_or}
-use Rattle.stamp_values.specs.declared.acl.Acl.{Acl}
 use Rattle.stamp_values.specs.declared.op.Op.{Op}
 use Rattle.stamp_types.specs.declared.code.Code.{Code}
 use Rattle.stamp_types.specs.declared.code.Code.TheVariants as code
@@ -13,12 +12,9 @@ use Rattle.stamp_types.specs.Requests.{Asked}
 use Rattle.stamp_types.specs.World.{Part}
 use Rattle.access_rules.specs.declared.keys.Keys.{Keys}
 use Rattle.access_rules.specs.Rules.{holds, access_rules, first_rule}
+use Rattle.range_rows.specs.Access.{acl_of}
 use Rattle.range_rows.specs.ObjectReplies.{is_served}
 use Rattle.range_rows.specs.ObjectRules.{object_holds, object_rules, object_refusal}
-
--- what a container says about who may do what, if the container exists
-abbrev pub acl_of : {C : Type 0} → Part C → Option Acl
-acl_of p = option_map (λ s. s.acl) p.standing
 
 -- the error code of a rule of permission
 abbrev pub access_code : Rule → Code

@@ -18,7 +18,8 @@ ghost use Rattle.access_rules.specs.Needs.{need_of};
 ghost use Rattle.access_rules.specs.Routes.{Admits};
 ghost use Rattle.range_rows.specs.ObjectRules.{named_blob, object_refusal};
 ghost use Rattle.range_rows.specs.ObjectReplies.{is_served, reply_of, sizes};
-ghost use Rattle.stamp_model.specs.Refusals.{acl_of, refusing_rule, refuses, rules_in_order};
+ghost use Rattle.range_rows.specs.Access.{acl_of};
+ghost use Rattle.stamp_model.specs.Refusals.{refusing_rule, refuses, rules_in_order};
 ghost use Rattle.stamp_model.specs.Effects.{change, effect, effect_as};
 ghost use Rattle.stamp_model.specs.Responses.{reply};
 
@@ -88,8 +89,9 @@ pub fn success_is_what_the_own_route_admits()
 {}
 
 /// A request without a credential gets a reply that names no rule only if the container exists and
-/// its level is enough for the operation. If the container does not exist, the reply to this
-/// request says that the resource was not found (404), and a closed container gives the same reply.
+/// its level is enough for the operation; a closed container refuses each such request. If the
+/// container does not exist, the reply to this request says that the resource was not found (404),
+/// and a closed container gives the same reply.
 pub fn public_access_is_what_the_container_gives()
     ensures given { (keys : Option Keys) (w : World (List ℕ)) (q : Asked) (t : ℕ)
         (bound : Option Key)
@@ -106,6 +108,10 @@ pub fn public_access_is_what_the_container_gives()
         (bound : Option Key)
         → q.ask.credential ≡ Anonymous → (part_at w q.ask.key).standing ≡ None
         → (reply keys w q t bound).status ≡ NotFound }
+    ensures closed { (keys : Option Keys) (w : World (List ℕ)) (q : Asked) (t : ℕ)
+        (bound : Option Key) (s : Standing)
+        → q.ask.credential ≡ Anonymous → (part_at w q.ask.key).standing ≡ Some s
+        → s.acl.level ≡ level.Closed → IsSome (reply keys w q t bound).rule }
 {}
 
 /// If a request fits its operation and nothing refuses it, its reply is about a blob that readers

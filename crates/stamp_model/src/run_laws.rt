@@ -9,7 +9,7 @@ ghost use Rattle.stamp_types.specs.Requests.{IsAsk};
 ghost use Rattle.stamp_types.specs.World.{World, part_at};
 ghost use Rattle.access_rules.specs.declared.keys.Keys.{Keys};
 ghost use Rattle.access_rules.specs.Routes.{Admits};
-ghost use Rattle.stamp_model.specs.Refusals.{acl_of};
+ghost use Rattle.range_rows.specs.Access.{acl_of};
 ghost use Rattle.stamp_model.specs.Runs.{Timed, AreAnswered, IsOn, world_after_one, world_after_all, reply_to_one, replies_to};
 
 /// Each request has one reply, which follows from what the requests before it left. So the replies

@@ -16,7 +16,6 @@ pub mod WorkedChanges
 pub mod World
 pub mod WorldCodes
 pub use Rattle.stamp_values.specs.Acls
-pub use Rattle.stamp_values.specs.Entries
 pub use Rattle.stamp_values.specs.Etags
 pub use Rattle.stamp_values.specs.Letters
 pub use Rattle.stamp_values.specs.Levels

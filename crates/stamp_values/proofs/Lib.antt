@@ -1,10 +1,11 @@
-pub mod Entries
 pub mod EtagLemmas
 pub mod FieldLemmas
 pub mod GatheringLemmas
 pub mod Joined
 pub mod MapsLemmas
+pub mod NamedTrees
 pub mod Parts
 pub mod Ranges
 pub mod Sums
+pub mod TreeMaps
 pub mod Utf8Lemmas

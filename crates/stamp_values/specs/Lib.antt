@@ -1,10 +1,10 @@
 pub mod Acls
 pub mod Ascii
-pub mod Entries
 pub mod Etags
 pub mod FieldLists
 pub mod Fields
 pub mod Gatherings
+pub mod Lending
 pub mod Letters
 pub mod Levels
 pub mod Limits
@@ -16,3 +16,4 @@ pub mod Order
 pub mod Policies
 pub mod Shares
 pub mod Texts
+pub mod Trees

@@ -30,6 +30,6 @@ returns c =
     let free = ap (λ (h : HeldRows). row_refusal h q t) c.self.view_is ∙ c.requires.allowed in
     let is : with_content answer.frame (bytes_held answer.spans) ≡ held_reply (held_of c.args.self.now) q t =
     (λ i. with_content (c.in_ok-answer.ensures.frame i) (bytes_held (c.in_ok-answer.ensures.spans i)))
-    ∙ reply_with_spans rows q t c.self.invariant.1 free
+    ∙ reply_with_spans rows q t c.self.invariant free
     ∙ ap (λ (h : HeldRows). held_reply (held_of h) q t) c.self.view_is in
     subst (λ r. IfOk c.reply_with_content.result (λ reply. reply ≡ r)) is c.reply_with_content.ensures

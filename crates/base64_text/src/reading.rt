@@ -1,0 +1,51 @@
+//! The text of bytes in Base64, and the bytes of a text.
+ghost use Rattle.std.specs.Prelude.{◌≡◌, ◌++◌, IfOk, IfSome, OnOk, option_map, string_bytes};
+ghost use Rattle.base64_text.specs.Base64.{standard, encode_of, decoded_of, IsBytes};
+ghost use Rattle.base64_text.specs.Base64 as base64;
+
+use base64::DecodeAllocError;
+use base64::engine::general_purpose::STANDARD;
+use std::alloc::{AllocError, Global};
+
+/// The bytes whose Base64 is the text (RFC 4648, section 4), or `None` if the text is not the Base64 of any bytes. The text has
+/// to be padded, without any other byte, and no bit may be left over. An empty text gives no bytes.
+///
+/// `AllocError` if memory runs out.
+pub fn decoded_base64(alloc: Global, text: &[u8]) -> Result<Option<Vec<u8>>, AllocError>
+    ensures value { IfOk result (λ o. option_map (λ v. v.items) o ≡ decoded_of standard text.now) }
+    ensures read { IfOk result (λ o. IfSome o (λ v. text.now ≡ encode_of standard v.items)) }
+{
+    match STANDARD.decode(alloc, text) {
+        Ok(bytes) => Ok(Some(bytes)),
+        Err(DecodeAllocError::DecodeError(_)) => Ok(None),
+        Err(DecodeAllocError::OutOfMemory) => Err(AllocError),
+    }
+}
+
+/// Appends the Base64 of the bytes, padded (RFC 4648, section 4).
+///
+/// `AllocError` if memory runs out.
+pub fn append_base64(out: &mut String, bytes: &[u8]) -> Result<(), AllocError>
+    ensures { OnOk result
+        (string_bytes out.new ≡ string_bytes out.old ++ encode_of standard bytes.now) }
+{
+    STANDARD.encode_string(bytes, out)
+}
+
+/// Whether the text is the strict Base64 of so many bytes. Both ends are in the range.
+///
+/// `AllocError` if memory runs out.
+#[tactic(auto, unfolding(crate::specs::Base64::is_base64_within))]
+pub fn is_base64_within(
+    alloc: Global,
+    least: usize,
+    most: usize,
+    text: &[u8],
+) -> Result<bool, AllocError>
+    ensures { IfOk result (λ b. b ≡ base64.is_base64_within least most text.now) }
+{
+    match decoded_base64(alloc, text)? {
+        Some(bytes) => Ok((least..=most).contains(&bytes.len())),
+        None => Ok(false),
+    }
+}

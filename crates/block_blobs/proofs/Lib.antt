@@ -1,0 +1,4 @@
+pub mod Blocks
+pub mod EntryLemmas
+pub mod FirstContents
+pub mod ListLemmas

@@ -1,0 +1,70 @@
+-- Block lists: where their blocks are found, and what is wrong with a list ("Put Block List" of the Blob service REST reference, 2012-02-12).
+use Rattle.std.specs.Prelude.{ℕ, IsTrue, IfSome, if◌then◌else◌, nat_lt, is_some, is_none, List, [], ◌∷◌, length, Option, Some, None, find, position, flat_map, unwrap_or}
+use Rattle.std.specs.Option.{option_map, option_and_then, option_to_list}
+use Rattle.stamp_values.specs.Limits.{entries_limit, blob_limit}
+use Rattle.stamp_values.specs.declared.block.Lookup.{Lookup}
+use Rattle.stamp_values.specs.declared.block.Lookup.TheVariants as lookup
+use Rattle.stamp_values.specs.declared.block.Source.{Source}
+use Rattle.stamp_values.specs.declared.block.Source.TheVariants as source
+use Rattle.stamp_values.specs.declared.block.Taken.{Taken}
+use Rattle.stamp_values.specs.declared.block.Wanted.{Wanted}
+use Rattle.stamp_types.specs.declared.piece.Piece.{Piece}
+use Rattle.stamp_types.specs.Pieces.{pieces_len}
+use Rattle.stamp_types.specs.Changes.{blocks_len, is_in_one_piece}
+use Rattle.stamp_types.specs.World.{Blob, content_from, taken_blocks}
+use Rattle.block_blobs.specs.declared.block_fault.BlockFault.{BlockFault}
+use Rattle.block_blobs.specs.declared.block_fault.BlockFault.TheVariants as fault
+
+-- where Put Block List looks for a block, in this order
+abbrev pub sources_of : Lookup → List Source
+sources_of lookup.Latest = source.Uncommitted ∷ source.Committed ∷ []
+sources_of lookup.Committed = source.Committed ∷ []
+sources_of lookup.Uncommitted = source.Uncommitted ∷ []
+
+-- where the wanted block is found: the first of these sources in which the blob has a block of the id
+abbrev pub source_of : {C : Type 0} → Blob C → Wanted → Option Source
+source_of b w = find (λ s. is_some (content_from s w.id b)) (sources_of w.lookup)
+
+-- the entry of a block that is found in this source
+abbrev pub taken_from : Wanted → Source → Taken
+taken_from w s = record { id = w.id; from = s }
+
+-- the entries of the wanted blocks that are found, in their order
+abbrev pub found_entries : {C : Type 0} → Blob C → List Wanted → List Taken
+found_entries b ws = flat_map (λ w. option_to_list (option_map (taken_from w) (source_of b w))) ws
+
+-- the position of the first wanted block that is not found
+abbrev pub first_missing : {C : Type 0} → Blob C → List Wanted → Option ℕ
+first_missing b ws = position (λ w. is_none (source_of b w)) ws
+
+-- the position of the first entry whose block is not where the entry says
+abbrev pub first_absent : {C : Type 0} → Blob C → List Taken → Option ℕ
+first_absent b ts = position (λ t. is_none (content_from t.from t.id b)) ts
+
+-- how many bytes the blocks of the entries have together, each block as often as it is listed
+abbrev pub listed_len : Blob (List Piece) → List Taken → ℕ
+listed_len b ts = blocks_len (taken_blocks b ts)
+
+-- how many bytes the wanted block has; 0 if it is not found
+abbrev pub wanted_len : Blob (List Piece) → Wanted → ℕ
+wanted_len b w = unwrap_or (option_map pieces_len (option_and_then (λ s. content_from s w.id b) (source_of b w))) 0
+
+-- the fault of a list from its first block that is not found, the number of its entries, and the bytes of its blocks: the first of the
+-- three faults whose cause exists
+abbrev pub list_fault : Option ℕ → ℕ → ℕ → Option BlockFault
+list_fault (Some i) count len = Some (fault.NotFound i)
+list_fault None count len =
+    if nat_lt entries_limit count then Some fault.TooMany
+    else (if nat_lt blob_limit len then Some fault.TooLarge else None)
+
+-- the fault of a list of wanted blocks
+abbrev pub wanted_fault : Blob (List Piece) → List Wanted → Option BlockFault
+wanted_fault b ws = list_fault (first_missing b ws) (length ws) (listed_len b (found_entries b ws))
+
+-- the fault of a list whose entries say where their blocks are
+abbrev pub taken_fault : Blob (List Piece) → List Taken → Option BlockFault
+taken_fault b ts = list_fault (first_absent b ts) (length ts) (listed_len b ts)
+
+-- each block that a list may take is in one piece
+abbrev pub EachInOnePiece : Blob (List Piece) → Type 0
+EachInOnePiece b = (s : Source) (id : List ℕ) → IfSome (content_from s id b) (λ content. IsTrue (is_in_one_piece content))

@@ -1,0 +1,5 @@
+pub mod Faults
+pub mod UncommittedBlocks
+pub mod FirstBlocks
+pub mod BlockLists
+pub mod BlobChanges

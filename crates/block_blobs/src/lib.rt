@@ -1,0 +1,18 @@
+//! One blob of blocks: what readers see of it, the blocks that wait for a commit, and its changes.
+#![tactic(auto)]
+
+mod blob_row;
+mod block_fault;
+mod block_lists;
+mod first_blocks;
+mod laws;
+mod uncommitted;
+
+pub use blob_row::BlobRow;
+pub use block_fault::BlockFault;
+pub use laws::a_commit_is_its_list;
+
+#[cfg(test)]
+mod row_tests;
+#[cfg(test)]
+mod sample_blobs;

@@ -1,0 +1,155 @@
+//! The uncommitted blocks of a blob.
+ghost use Rattle.std.specs.Prelude.{◌≡◌, ◌≤◌, ℕ, List, IsSome, false, IsTrue, IfOk, IfErr, OnOk, OnErr, None, map};
+ghost use Rattle.std.specs.Option.{option_copied};
+ghost use Rattle.std.specs.FinMap as finite;
+ghost use Rattle.stamp_values.specs.Limits.{uncommitted_limit};
+ghost use Rattle.stamp_values.specs.Trees.{entry_key, name_of};
+ghost use Rattle.stamp_types.specs.Changes.{is_in_one_piece};
+ghost use Rattle.block_blobs.specs.Faults.{IsFault};
+ghost use Rattle.block_blobs.specs.UncommittedBlocks as blocks;
+ghost use Rattle.block_blobs.specs.UncommittedBlocks.{block_count, are_in_one_piece};
+
+use crate::block_fault::BlockFault;
+use stamp_types::{BlockId, Bytes, Pieces, UNCOMMITTED_LIMIT};
+use stamp_values::Named;
+use std::alloc::{AllocError, Global};
+use std::collections::btree_map::Iter;
+use std::marker::Model;
+
+/// At most 50,000 blocks, each in one piece, under ids of one length. Contracts see the map from
+/// the ids to the content.
+#[derive(Debug, Drop)]
+pub(crate) struct Uncommitted {
+    blocks: Named<Pieces>,
+    // how many bytes each id has, if there is a block
+    id_len: usize,
+}
+
+impl Model for Uncommitted {
+    ghost use Rattle.std.specs.Prelude.{◌≤◌, List, IsTrue};
+    ghost use Rattle.std.specs.FinMap.{FinMap};
+    ghost use Rattle.stamp_values.specs.Limits.{uncommitted_limit};
+    ghost use Rattle.stamp_values.specs.Order.{name_cmp};
+    ghost use Rattle.stamp_types.specs.declared.piece.Piece.{Piece};
+    ghost use Rattle.stamp_types.specs.ContentCodes.{blocks_code};
+    ghost use Rattle.block_blobs.specs.UncommittedBlocks.{block_count, are_in_one_piece, have_ids_of_length};
+
+    ghost Value = { FinMap name_cmp (List Piece) };
+
+    ghost coded = { blocks_code };
+
+    ghost view = { λ u. u.blocks };
+
+    ghost invariant = { λ u. (block_count u.blocks ≤ uncommitted_limit)
+        × IsTrue (are_in_one_piece u.blocks) × IsTrue (have_ids_of_length u.id_len u.blocks) };
+}
+
+// The bytes of an id in memory of their own.
+fn id_bytes(alloc: Global, id: &BlockId) -> Result<Bytes, AllocError>
+    ensures { IfOk result (λ bytes. bytes ≡ id.now) }
+{
+    Ok(Bytes::new(Vec::from_slice(alloc, id.as_slice())?))
+}
+
+impl Uncommitted {
+    /// No blocks. Takes no memory.
+    pub(crate) fn new(alloc: Global) -> Self
+        ensures { result ≡ finite.empty }
+    {
+        Self {
+            blocks: Named::new(alloc),
+            id_len: 0,
+        }
+    }
+
+    pub(crate) fn len(&self) -> usize
+        ensures count { result ≡ block_count self.now }
+        ensures bound { result ≤ uncommitted_limit }
+    {
+        let _id_len = self.id_len;
+        self.blocks.len()
+    }
+
+    /// The content of the block of an id.
+    pub(crate) fn get(&self, id: &[u8]) -> Option<&Pieces>
+        ensures { option_copied result ≡ finite.get self.now id.now }
+    {
+        self.blocks.get(id)
+    }
+
+    /// Says that each block is in one piece, and that the ids have one length.
+    pub(crate) fn keeps_limits(&self)
+        ensures pieces { IsTrue (are_in_one_piece self.now) }
+        ensures lengths { (id : List ℕ) → IsSome (finite.get self.now id)
+            → blocks.has_other_length id self.now ≡ false }
+    {
+        let _id_len = self.id_len;
+    }
+
+    /// The ids with their content, in the order of the ids.
+    pub(crate) fn iter(&self) -> Iter<'_, Vec<u8>, Pieces>
+        ensures { map (entry_key name_of) result ≡ finite.entries self.now }
+    {
+        self.blocks.iter()
+    }
+
+    // Whether the blocks have ids of another length than this id.
+    fn has_other_length(&self, id: &[u8]) -> bool
+        ensures { result ≡ blocks.has_other_length id.now self.now }
+    {
+        self.blocks.len() > 0 && id.len() != self.id_len
+    }
+
+    // Whether the id is new, and there is no room for one more block.
+    fn is_one_too_many(&self, id: &[u8]) -> bool
+        ensures { result ≡ blocks.is_one_too_many id.now self.now }
+    {
+        self.blocks.get(id).is_none() && self.blocks.len() >= UNCOMMITTED_LIMIT
+    }
+
+    // Why no block can be put under this id, if no block can be put under it.
+    fn fault(&self, id: &[u8]) -> Option<BlockFault>
+        ensures { result ≡ blocks.block_fault id.now self.now }
+    {
+        if self.has_other_length(id) {
+            return Some(BlockFault::Length);
+        }
+        if self.is_one_too_many(id) {
+            return Some(BlockFault::TooMany);
+        }
+        None
+    }
+
+    // Puts a block for which there is room, and whose id has the length of the other ids.
+    fn insert(&mut self, id: Bytes, content: Pieces) -> Result<(), AllocError>
+        requires fits { blocks.block_fault id self.old ≡ None }
+        requires piece { IsTrue (is_in_one_piece content) }
+        ensures put { OnOk result (self.new ≡ finite.insert self.old id content) }
+        ensures refused { OnErr result (self.new ≡ self.old) }
+    {
+        let len = id.as_slice().len();
+        self.blocks.insert(id, content)?;
+        self.id_len = len;
+        Ok(())
+    }
+
+    /// Puts a block under an id. If the id has a block, the new content replaces the old content.
+    pub(crate) fn put(
+        &mut self,
+        alloc: Global,
+        id: &BlockId,
+        content: Pieces,
+    ) -> Result<(), BlockFault>
+        requires { IsTrue (is_in_one_piece content) }
+        ensures put { OnOk result (self.new ≡ finite.insert self.old id.now content) }
+        ensures refused { OnErr result (self.new ≡ self.old) }
+        ensures fits { OnOk result (blocks.block_fault id.now self.old ≡ None) }
+        ensures fault { IfErr result (IsFault (blocks.block_fault id.now self.old)) }
+    {
+        if let Some(fault) = self.fault(id.as_slice()) {
+            return Err(fault);
+        }
+        self.insert(id_bytes(alloc, id)?, content)?;
+        Ok(())
+    }
+}

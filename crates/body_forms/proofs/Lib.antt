@@ -1,0 +1,13 @@
+pub mod AttributeTurns
+pub mod Complete
+pub mod ElementTurns
+pub mod FaultLemmas
+pub mod FrontLemmas
+pub mod IdLemmas
+pub mod IdTurns
+pub mod ListComplete
+pub mod ListSound
+pub mod Readings
+pub mod Runs
+pub mod Sound
+pub mod TextLemmas

@@ -1,0 +1,34 @@
+-- The reading of a body as a function: what comes before the root, and then the list.
+use Rattle.std.specs.Prelude.{ℕ, ◌&&◌, ◌==◌, if◌then◌else◌, List, [], ◌∷◌, take, drop, slice_index, codes, bytes_eq, Option, Some, None, option_and_then}
+use Rattle.stamp_values.specs.Ascii.{question_mark}
+use Rattle.stamp_values.specs.Texts.{is_utf8}
+use Rattle.body_forms.specs.Markup.{greater_than, is_white}
+use Rattle.body_forms.specs.Bodies.{has_clean_parts, byte_order_mark}
+use Rattle.body_forms.specs.BlockLists.{Entry}
+use Rattle.body_forms.specs.ElementReading.{entries_of}
+
+-- the text after the byte order mark, if the text begins with it
+abbrev pub after_mark : List ℕ → List ℕ
+after_mark t = if bytes_eq (take 3 t) byte_order_mark then drop 3 t else t
+
+-- the text after the first `?>`
+unfoldable pub after_end : List ℕ → Option (List ℕ)
+after_end [] = None
+after_end (c ∷ cs) = if c == question_mark && slice_index cs 0 == greater_than then Some (drop 1 cs) else after_end cs
+
+-- the text after the prolog, from what follows `<?xml`
+abbrev pub prolog_end : List ℕ → Option (List ℕ)
+prolog_end [] = None
+prolog_end (c ∷ cs) =
+    if c == question_mark && slice_index cs 0 == greater_than then Some (drop 1 cs)
+    else if is_white c then after_end cs
+    else None
+
+-- the text after the prolog, if the text begins with a prolog
+abbrev pub after_prolog : List ℕ → Option (List ℕ)
+after_prolog t = if bytes_eq (take 5 t) (codes "<?xml") then prolog_end (drop 5 t) else Some t
+
+-- the entries of the block list that the body is
+abbrev pub body_entries : List ℕ → Option (List Entry)
+body_entries body =
+    if is_utf8 body && has_clean_parts body then option_and_then entries_of (after_prolog (after_mark body)) else None

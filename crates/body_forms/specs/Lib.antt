@@ -1,0 +1,11 @@
+pub mod BlockLists
+pub mod Bodies
+pub mod ElementReading
+pub mod FrontReading
+pub mod Ids
+pub mod Markup
+pub mod Outcomes
+pub mod Reading
+pub mod Texts
+pub mod Tokens
+pub mod WrittenLists

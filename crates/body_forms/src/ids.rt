@@ -1,0 +1,120 @@
+//! The ids of a block list.
+ghost use Rattle.std.specs.Prelude.{◌≡◌, ◌==◌, map, reverse, None, Some, IfOk, IfSome, MatchOption, MatchResult};
+ghost use Rattle.std.specs.List.{list_any};
+ghost use Rattle.stamp_values.specs.Ascii.{ampersand};
+ghost use Rattle.base64_text.specs.Base64.{standard, encode_of};
+ghost use Rattle.body_forms.specs.BlockLists.{unindented};
+ghost use Rattle.body_forms.specs.BlockLists as lists;
+ghost use Rattle.body_forms.specs.ElementReading.{unescaped, entry_view};
+ghost use Rattle.body_forms.specs.Ids.{wanted_entry, wanted_list};
+ghost use Rattle.body_forms.specs.Ids as ids;
+ghost use Rattle.body_forms.specs.Outcomes.{OnId};
+
+use crate::body_fault::BodyFault;
+use crate::bytes::is_white;
+use crate::elements::Element;
+use base64_text::decoded_base64;
+use stamp_values::{BlockId, Bytes, Wanted};
+use std::alloc::{AllocError, Global};
+
+fn without_front(text: &[u8]) -> &[u8]
+    ensures { result.now ≡ unindented text.now }
+{
+    let mut left = text;
+    while let [first, rest @ ..] = left {
+        if !is_white(*first) {
+            return left;
+        }
+        left = rest;
+    }
+    left
+}
+
+fn without_end(text: &[u8]) -> &[u8]
+    ensures { result.now ≡ reverse (unindented (reverse text.now)) }
+{
+    let mut left = text;
+    while let [rest @ .., last] = left {
+        if !is_white(*last) {
+            return left;
+        }
+        left = rest;
+    }
+    left
+}
+
+// The text without the white space at both ends.
+fn trimmed(text: &[u8]) -> &[u8]
+    ensures { result.now ≡ lists.trimmed text.now }
+{
+    without_end(without_front(text))
+}
+
+fn has_reference(written: &[u8]) -> bool
+    ensures { result ≡ list_any (λ c. c == ampersand) written.now }
+{
+    written.iter().any(|&byte| byte == b'&')
+}
+
+// The id that the text is the Base64 of.
+#[tactic(auto, unfolding(crate::specs::Ids::id_of))]
+fn decoded_id(alloc: Global, text: &[u8]) -> Result<Option<BlockId>, AllocError>
+    ensures value { IfOk result (λ o. MatchOption o (ids.id_of text.now ≡ None)
+        (λ id. ids.id_of text.now ≡ Some id)) }
+    ensures read { IfOk result (λ o. IfSome o (λ id. text.now ≡ encode_of standard id)) }
+{
+    match decoded_base64(alloc, text)? {
+        Some(bytes) => Ok(BlockId::new(Bytes::new(bytes))),
+        None => Ok(None),
+    }
+}
+
+// The id of a text that is written so. A text with a reference is not copied: its value has a byte that Base64 does not have.
+fn id(alloc: Global, written: &[u8]) -> Result<Option<BlockId>, AllocError>
+    ensures value { IfOk result (λ o. MatchOption o
+        (ids.id_of (lists.trimmed (unescaped 0 written.now)) ≡ None)
+        (λ id. ids.id_of (lists.trimmed (unescaped 0 written.now)) ≡ Some id)) }
+    ensures read { IfOk result (λ o. IfSome o
+        (λ id. lists.trimmed (unescaped 0 written.now) ≡ encode_of standard id)) }
+{
+    if has_reference(written) {
+        return Ok(None);
+    }
+    decoded_id(alloc, trimmed(written))
+}
+
+// The block that an element wants, if its text is the text of an id.
+fn wanted(alloc: Global, element: &Element<'_>) -> Result<Option<Wanted>, AllocError>
+    ensures value { IfOk result (λ o. MatchOption o (ids.wanted_of (entry_view element.now) ≡ None)
+        (λ w. ids.wanted_of (entry_view element.now) ≡ Some w)) }
+    ensures read { IfOk result (λ o. IfSome o (λ w. entry_view element.now ≡ wanted_entry w)) }
+{
+    let lookup = element.lookup;
+    match id(alloc, element.written)? {
+        Some(id) => Ok(Some(Wanted { id, lookup })),
+        None => Ok(None),
+    }
+}
+
+/// The blocks that the elements want, in their order.
+///
+/// `Id` if the text of an element is not the strict Base64 of 1 to 64 bytes, and `NoMemory` if memory runs out.
+pub(crate) fn read_ids(alloc: Global, elements: &[Element<'_>]) -> Result<Vec<Wanted>, BodyFault>
+    ensures value { MatchResult result
+        (λ ws. wanted_list (map entry_view elements.now) ≡ Some ws.items)
+        (OnId (wanted_list (map entry_view elements.now) ≡ None)) }
+    ensures read { IfOk result (λ ws. map entry_view elements.now ≡ map wanted_entry ws.items) }
+{
+    let mut blocks = Vec::with_capacity(alloc, elements.len())?;
+    for element in elements {
+        match wanted(alloc, element)? {
+            Some(block) => {
+                if blocks.push(block).is_err() {
+                    return Err(BodyFault::NoMemory);
+                }
+            }
+            None => return Err(BodyFault::Id),
+        }
+    }
+    Ok(blocks)
+}

@@ -1,0 +1,22 @@
+//! Bodies in XML: block lists, read and written.
+#![tactic(auto)]
+
+mod block_list;
+#[cfg(test)]
+mod block_list_tests;
+mod body_fault;
+mod bytes;
+mod elements;
+mod front;
+mod ids;
+mod laws;
+mod tokens;
+mod written_list;
+#[cfg(test)]
+mod written_list_tests;
+
+pub use block_list::read_block_list;
+pub use body_fault::BodyFault;
+pub use laws::{a_body_is_read_in_one_way, the_reading_is_the_grammar};
+pub use stamp_types::write_error;
+pub use written_list::{ListedBlock, write_block_list};

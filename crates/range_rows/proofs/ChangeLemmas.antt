@@ -1,0 +1,81 @@
+-- The change that an allowed request makes fits, and the first change of a world.
+use Rattle.std.proofs.Common.{◌≡◌, ◌<◌, ◌≤◌, ℕ, true, false, ◌||◌, List, [], Option, Some, None, nat_lt, arith, unwrap_or, refl, sym, ap, ◌∙◌, subst}
+use Rattle.std.proofs.lemmas.Bool.{and_from, lt-ltb}
+use Rattle.std.specs.Prelude.{IsSome, IfSome, IfOk, IsTrue, Result, Ok, Err, is_some}
+use Rattle.std.specs.Option.{option_map, option_and_then}
+use Rattle.std.specs.FinMap as finite
+use Rattle.std.specs.declared.alloc.AllocError.{AllocError}
+use Rattle.stamp_values.specs.Order.{key_cmp}
+use Rattle.stamp_values.specs.declared.key.Key.{Key}
+use Rattle.stamp_values.specs.declared.level.Level.TheVariants as level
+use Rattle.stamp_values.specs.declared.op.Op.{Op}
+use Rattle.stamp_values.specs.declared.op.Op.TheVariants as op
+use Rattle.stamp_types.specs.declared.act.Act.{Act}
+use Rattle.stamp_types.specs.declared.act.Act.TheVariants as act
+use Rattle.stamp_types.specs.declared.act.CreateContainer.{CreateContainer}
+use Rattle.stamp_types.specs.declared.act.PutBlob.{PutBlob}
+use Rattle.stamp_types.specs.declared.args.Kept.{Kept}
+use Rattle.stamp_types.specs.declared.piece.Piece.{Piece}
+use Rattle.stamp_types.specs.Changes.{KeyedAct}
+use Rattle.stamp_types.specs.Pieces.{pieces_len}
+use Rattle.stamp_types.specs.Requests.{Asked}
+use Rattle.stamp_types.specs.World.{Part, World, no_part, part_at, part_value, changed, changed_in}
+use Rattle.range_rows.specs.Fits.{fits}
+use Rattle.range_rows.specs.ObjectRules.{count_limit, object_refusal, sizes_named}
+use Rattle.range_rows.specs.Opening.{one_part, container_just_made}
+use Rattle.range_rows.specs.RequestChanges.{put_blob, act_by, change_of}
+use Rattle.range_rows.proofs.Allowed.{allowed_exists, allowed_room}
+
+-- a Put Blob fits a container that exists and takes one more change
+fits_put : (p : Part ℕ) (a : PutBlob) → IsSome p.standing → p.count < count_limit → fits p (act.PutBlob a) ≡ true
+fits_put p a exists room = and_from (is_some p.standing || false) (nat_lt p.count count_limit) (ap (λ b. b || false) exists) (lt-ltb p.count count_limit room)
+
+module _ (p : Part ℕ) (q : Asked) (t : ℕ) (within : p.count ≤ count_limit) (free : object_refusal p q ≡ None) where
+  abbrev keyed : Option Act → Option KeyedAct
+  keyed a = option_map (λ a. record { key = q.ask.key; act = a }) a
+
+  put_fits : q.ask.op ≡ op.PutBlob → (blob : Option (List ℕ)) (kept : Option Kept)
+      → IfSome (keyed (option_and_then (λ name. option_map (λ kept. act.PutBlob (put_blob q t name kept)) kept) blob)) (λ c. IsTrue (fits p c.act))
+  put_fits is None kept = tt
+  put_fits is (Some name) None = tt
+  put_fits is (Some name) (Some kept) = fits_put p (put_blob q t name kept) (allowed_exists p q free is) (allowed_room p q free is (omega (arith, within)))
+
+  fits_by : (o : Op) → q.ask.op ≡ o → IfSome (keyed (act_by o p q t)) (λ c. IsTrue (fits p c.act))
+  fits_by op.PutBlob is = put_fits is q.ask.blob q.ask.args.kept
+  fits_by other is = tt
+
+  -- the change of a request that no rule of the object refuses fits
+  pub change_of-fits : IfSome (change_of p q t) (λ c. IsTrue (fits p c.act))
+  change_of-fits = fits_by q.ask.op refl
+
+key_of_change : (k : Key) (o : Option Act) (c : KeyedAct) → option_map (λ a. record { key = k; act = a }) o ≡ Some c → k ≡ c.key
+key_of_change k None c h = cc
+key_of_change k (Some a) c h = ap (λ (o : Option KeyedAct). (unwrap_or o c).key) h
+
+-- the change of a request that no rule of the object refuses fits the container of its key
+pub change_fits_world : (w : World (List Piece)) (q : Asked) (t : ℕ) (c : KeyedAct) → (part_at w q.ask.key).count < 18446744073709551616
+    → object_refusal (sizes_named w q) q ≡ None → change_of (sizes_named w q) q t ≡ Some c → fits (part_value pieces_len (part_at w c.key)) c.act ≡ true
+change_fits_world w q t c within free change =
+    let fitting : fits (sizes_named w q) c.act ≡ true =
+    subst (λ (o : Option KeyedAct). IfSome o (λ c. IsTrue (fits (sizes_named w q) c.act))) change (change_of-fits (sizes_named w q) q t (omega (arith, within)) free) in
+    ap (λ k. fits (part_value pieces_len (part_at w k)) c.act) (sym (key_of_change q.ask.key (act_by q.ask.op (sizes_named w q) q t) c change)) ∙ fitting
+
+-- the same if the change was made, or else memory ran out
+pub made_change_fits : (w : World (List Piece)) (q : Asked) (t : ℕ) (made : Result KeyedAct AllocError) → (part_at w q.ask.key).count < 18446744073709551616
+    → object_refusal (sizes_named w q) q ≡ None → IfOk made (λ c. (p : Part ℕ) → change_of p q t ≡ Some c)
+    → IfOk made (λ c. IsTrue (fits (part_value pieces_len (part_at w c.key)) c.act))
+made_change_fits w q t (Ok c) within free change = change_fits_world w q t c within free (change (sizes_named w q))
+made_change_fits w q t (Err e) within free change = tt
+
+-- ---- the first change of a world
+
+module _ {C : Type 0} (f : List Piece → C) (key : Key) where
+  -- a closed container is created in a world without containers
+  pub changed_in-create : (t : ℕ) → changed_in f finite.empty (record { key = key; act = act.CreateContainer (record { moment = t; level = level.Closed; metadata = [] }) }) ≡ one_part key (container_just_made t)
+  changed_in-create t =
+      ap (λ (o : Option (Part C)). finite.insert finite.empty key (changed f (act.CreateContainer (record { moment = t; level = level.Closed; metadata = [] })) (unwrap_or o no_part))) (finite.get-empty key_cmp key)
+
+-- each creation fits a world without containers
+pub fits-create : (key : Key) (a : CreateContainer) → fits (part_value pieces_len (part_at (finite.empty {X = Part (List Piece)} {R = key_cmp}) key)) (act.CreateContainer a) ≡ true
+fits-create key a =
+    ap (λ (o : Option (Part (List Piece))). fits (part_value pieces_len (unwrap_or o no_part)) (act.CreateContainer a)) (finite.get-empty key_cmp key)

@@ -1,0 +1,17 @@
+use Rattle.stamp_values.specs.Order.{keys_total, keys_exact}
+use Rattle.stamp_values.proofs.TreeMaps.{get-held, tree_map-lends}
+use Rattle.range_rows.proofs.rows.Rows.lent.Goals as goal
+
+pub returns : goal.returns
+returns c =
+    let world = c.args.self.now in
+    let tree = c.self.inside.containers in
+    let key = c.args.key.now in
+    let lent = c.get_mut.follows in
+    let found = c.get_mut.ensures.value in (
+      tree_map-lends keys_total (λ key. key) keys_exact world tree key c.get_mut.result lent.lender lent.lender-at-none c.self.view_is found lent.holds lent.holds-at-none,
+      record {
+        writes_back = tt;
+        value = get-held keys_total (λ key. key) world tree key _ c.self.view_is found;
+      },
+    )
