@@ -45,14 +45,14 @@ read_lookup (e ∷ es) q =
     ]
 
 module _ {C : Type 0} where
-  -- the entries of blocks, with one more block with an id in front
+  -- the entries of blocks, with one more block, which has an id, before them
   pub first_contents-id : (b : Block C) (bs : List (Block C)) (id : List ℕ) → b.id ≡ Some id
       → entries (first_contents (b ∷ bs)) ≡ put name_cmp id b.content (entries (first_contents bs))
   first_contents-id b bs id is =
       ap (λ (o : Option (List ℕ)). entries (from_entries {R = name_cmp} (option_to_list (option_map (λ id. (id, b.content)) o) ++ flat_map id_entries bs))) is
       ∙ entries-insert names_total (first_contents bs) id b.content
 
-  -- the entries of blocks, with one more block without an id in front
+  -- the entries of blocks, with one more block, which has no id, before them
   pub first_contents-whole : (b : Block C) (bs : List (Block C)) → b.id ≡ None → entries (first_contents (b ∷ bs)) ≡ entries (first_contents bs)
   first_contents-whole b bs is =
       ap (λ (o : Option (List ℕ)). entries (from_entries {R = name_cmp} (option_to_list (option_map (λ id. (id, b.content)) o) ++ flat_map id_entries bs))) is

@@ -26,9 +26,9 @@ plain_value (c ∷ cs) h =
     let (one, more) = neither (c == ampersand) (list_any (λ c. c == ampersand) cs) h in
     rw (one, plain_value cs more) refl
 
--- ---- a byte that a reference stands for is in the text
+-- ---- a byte that a reference writes is in the text
 
--- one of the five bytes that references stand for
+-- one of the five bytes that references write
 abbrev is_referred : ℕ → Bool
 is_referred c = c == ampersand || c == less_than || c == greater_than || c == quote || c == apostrophe
 

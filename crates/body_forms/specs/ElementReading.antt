@@ -20,7 +20,7 @@ pub record Element : Type 0 where
 abbrev pub element_view : code.Element → Element
 element_view e = record { lookup = e.lookup; written = e.written.now }
 
--- the byte that a reference stands for, from what follows its `&`
+-- the byte that a reference writes, from what follows its `&`
 abbrev pub reference_value : List ℕ → ℕ
 reference_value s =
     if bytes_eq (take 4 s) (codes "amp;") then ampersand

@@ -14,7 +14,7 @@ pub data Piece : Type 0 where
   quot : Piece
   apos : Piece
 
--- the byte that a piece stands for
+-- the byte that a piece writes
 abbrev pub piece_value : Piece → ℕ
 piece_value (plain c) = c
 piece_value amp = ampersand
