@@ -1,6 +1,6 @@
 -- Uncommitted blocks, as one more block is put among them.
 use Rattle.std.proofs.Common.{◌≡◌, ℕ, ◌+◌, ◌≤◌, ◌<◌, Bool, true, false, cond, ◌&&◌, ◌||◌, ◌==◌, List, [], ◌∷◌, length, Option, Some, None, refl, sym, ap, ◌∙◌, subst, arith, eqb-true, eq-eqb, leb-false}
-use Rattle.std.specs.Prelude.{not, nat_le, is_none, is_some}
+use Rattle.std.specs.Prelude.{MatchOption, not, nat_le, is_none, is_some}
 use Rattle.std.specs.List.{list_all, list_any}
 use Rattle.std.specs.FinMap as finite
 use Rattle.std.specs.FinMap.{FinMap, entries, entries-insert, get, insert, len-insert, len-entries}
@@ -69,7 +69,7 @@ module _ {X : Type 0} (n k : ℕ) where
 
 module _ {K X : Type 0} (R : K → K → Ordering) (k : K) (v : X) where
   -- each key passes, and the key that is put
-  all_keys-put : (p : K → Bool) (es : List (K × X)) → p k ≡ true → list_all (λ e. p e.0) es ≡ true → list_all (λ e. p e.0) (put R k v es) ≡ true
+  pub all_keys-put : (p : K → Bool) (es : List (K × X)) → p k ≡ true → list_all (λ e. p e.0) es ≡ true → list_all (λ e. p e.0) (put R k v es) ≡ true
   all_keys-put p [] own all = both (p k) true own refl
   all_keys-put p (e ∷ es) own all =
       let parts = and_parts (p e.0) (list_all (λ e. p e.0) es) all in
@@ -80,7 +80,7 @@ module _ {K X : Type 0} (R : K → K → Ordering) (k : K) (v : X) where
       ]
 
   -- each value passes, and the value that is put
-  all_values-put : (p : X → Bool) (es : List (K × X)) → p v ≡ true → list_all (λ e. p e.1) es ≡ true → list_all (λ e. p e.1) (put R k v es) ≡ true
+  pub all_values-put : (p : X → Bool) (es : List (K × X)) → p v ≡ true → list_all (λ e. p e.1) es ≡ true → list_all (λ e. p e.1) (put R k v es) ≡ true
   all_values-put p [] own all = both (p v) true own refl
   all_values-put p (e ∷ es) own all =
       let parts = and_parts (p e.1) (list_all (λ e. p e.1) es) all in
@@ -129,10 +129,10 @@ module _ (m : FinMap name_cmp (List Piece)) (k : List ℕ) (v : List Piece) wher
 
 -- ---- what the type of uncommitted blocks keeps
 
-abbrev Keeps : ℕ → FinMap name_cmp (List Piece) → Type 0
+abbrev pub Keeps : ℕ → FinMap name_cmp (List Piece) → Type 0
 Keeps n m = (block_count m ≤ 50000) × (are_in_one_piece m ≡ true) × (have_ids_of_length n m ≡ true)
 
-no_entries : entries (finite.empty {X = List Piece} {R = name_cmp}) ≡ []
+pub no_entries : entries (finite.empty {X = List Piece} {R = name_cmp}) ≡ []
 no_entries = nil_from_length _ (sym (len-entries _) ∙ finite.len-empty name_cmp (List Piece))
 
 keeps_nothing : (es : List (List ℕ × List Piece)) → es ≡ [] → (length es ≤ 50000) × (list_all (λ e. is_in_one_piece e.1) es ≡ true) × (list_all (λ e. length e.0 == 0) es ≡ true)
@@ -172,3 +172,12 @@ pub has_their_length : (n : ℕ) (m : FinMap name_cmp (List Piece)) → have_ids
 has_their_length n m all id some =
     let long : length id ≡ n = found_length n id (entries m) all (ap is_some (sym (finite.get-entries m id)) ∙ some) in
     no_other_length n (length id) (entries m) all (λ h. long)
+
+-- a block whose id had a block is put, or nothing is put
+pub keeps_replaced : (m u : FinMap name_cmp (List Piece)) (n : ℕ) (id : List ℕ) (v : List Piece) (back : Option (List Piece))
+    → MatchOption back ((u ≡ finite.insert m id v) × (is_some (get m id) ≡ true)) (λ given. (given ≡ v) × (u ≡ m))
+    → block_fault id m ≡ None → is_in_one_piece v ≡ true → Keeps n m → Keeps n u
+keeps_replaced m u n id v None told fits piece keeps =
+    let long : length id ≡ n = found_length n id (entries m) keeps.2 (ap is_some (sym (finite.get-entries m id)) ∙ told.1) in
+    keeps_put m u n n id v told.0 (sym long) fits piece keeps
+keeps_replaced m u n id v (Some given) told fits piece keeps = subst (Keeps n) (sym told.1) keeps

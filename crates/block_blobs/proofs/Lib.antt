@@ -1,4 +1,6 @@
+pub mod BlobsAfter
 pub mod Blocks
 pub mod EntryLemmas
 pub mod FirstContents
 pub mod ListLemmas
+pub mod StoredBlocks

@@ -4,12 +4,16 @@ ghost use Rattle.std.specs.Option.{option_copied};
 ghost use Rattle.std.specs.FinMap as finite;
 ghost use Rattle.stamp_values.specs.Limits.{uncommitted_limit};
 ghost use Rattle.stamp_values.specs.Trees.{entry_key, name_of};
-ghost use Rattle.stamp_types.specs.Changes.{is_in_one_piece, is_committed, are_blocks, blocks_len};
-ghost use Rattle.stamp_types.specs.World.{no_blob, whole_block};
+ghost use Rattle.stamp_types.specs.Changes.{is_in_one_piece, is_committed, are_blocks, are_uncommitted, blocks_len};
+ghost use Rattle.stamp_types.specs.World.{no_blob, whole_block, uncommitted_entry, same_pieces};
+ghost use Rattle.block_blobs.specs.BlobChanges as blobs;
 
 use crate::block_fault::BlockFault;
+use crate::block_lists::total_len;
 use crate::uncommitted::Uncommitted;
-use stamp_types::{Block, BlockId, Committed, Items, Moment, Pieces, PutBlob, SetMetadata};
+use stamp_types::{
+    Block, BlockId, Committed, Items, Moment, Pieces, PutBlob, SetMetadata, UncommittedBlock,
+};
 use std::alloc::{AllocError, Global};
 use std::collections::btree_map::Iter;
 use std::marker::Model;
@@ -53,10 +57,24 @@ fn whole(alloc: Global, content: Pieces) -> Result<Items<Block<Pieces>>, AllocEr
     Ok(Items::new(vec![in alloc; Block { id: None, content }]?))
 }
 
+// How many bytes the content has. 0 if there is no committed part.
+#[tactic(auto, using(crate::proofs::Blocks::within_blob))]
+fn content_len(committed: &Option<Committed<Pieces>>) -> u64
+    requires { IsTrue (is_committed committed.now) }
+    ensures { result ≡ blobs.content_len committed.now }
+{
+    let Some(committed) = committed else {
+        return 0;
+    };
+    match total_len(committed.blocks.as_slice()) {
+        Some(len) => len,
+        None => unreachable!(),
+    }
+}
+
 impl BlobRow {
     ghost use Rattle.block_blobs.specs.UncommittedBlocks as blocks;
     ghost use Rattle.block_blobs.specs.UncommittedBlocks.{block_count, are_in_one_piece};
-    ghost use Rattle.block_blobs.specs.BlobChanges as blobs;
     ghost use Rattle.block_blobs.specs.BlobChanges.{blob_with_block, blob_of_put, blob_with_metadata};
 
     /// A blob that never was. Takes no memory.
@@ -68,6 +86,30 @@ impl BlobRow {
             content_len: 0,
             uncommitted: Uncommitted::new(alloc),
         }
+    }
+
+    /// A blob as the row of a checkpoint says it. The committed part and the content of each block move.
+    /// The ids of uncommitted blocks are copied: an id has at most 64 bytes.
+    ///
+    /// `AllocError` if memory runs out for these ids or for the tree of uncommitted blocks.
+    pub fn stored(
+        alloc: Global,
+        committed: Option<Committed<Pieces>>,
+        uncommitted: Items<UncommittedBlock>,
+    ) -> Result<Self, AllocError>
+        requires committed { IsTrue (is_committed committed) }
+        requires uncommitted { IsTrue (are_uncommitted uncommitted) }
+        ensures { IfOk result (λ row. row ≡ record {
+          committed = committed;
+          uncommitted = finite.from_entries (map (uncommitted_entry same_pieces) uncommitted);
+        }) }
+    {
+        let content_len = content_len(&committed);
+        Ok(Self {
+            committed,
+            content_len,
+            uncommitted: Uncommitted::stored(alloc, uncommitted)?,
+        })
     }
 
     /// What readers of the blob see, if the blob has a committed part.
@@ -106,7 +148,7 @@ impl BlobRow {
     }
 
     /// Puts an uncommitted block under an id, which replaces the uncommitted block of that id
-    /// ("Put Block"). No byte of content is copied.
+    /// ("Put Block"). No byte of content is copied, and the id is copied only if it is new.
     ///
     /// `Length` if the uncommitted blocks have ids of another length, or else `TooMany` if the id is
     /// new and there are 50,000 uncommitted blocks. `NoMemory` if memory runs out. After a fault

@@ -20,8 +20,8 @@ use stamp_types::{
 };
 use std::alloc::{AllocError, Global};
 
-// How many bytes the blocks have together, or `None` if they have more than 268,435,456 bytes.
-fn total_len(blocks: &[Block<Pieces>]) -> Option<u64>
+/// How many bytes the blocks have together, or `None` if they have more than 268,435,456 bytes.
+pub(crate) fn total_len(blocks: &[Block<Pieces>]) -> Option<u64>
     ensures { MatchOption result (blob_limit < blocks_len blocks.now)
         (λ n. (n ≡ blocks_len blocks.now) × (n ≤ blob_limit)) }
 {

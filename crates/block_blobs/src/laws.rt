@@ -1,10 +1,15 @@
-//! The law of block lists. It is the contract of a function that does nothing.
+//! Laws of blobs. Each law is the contract of a function that does nothing.
 ghost use Rattle.std.specs.Prelude.{◌≡◌, ℕ, List, All, None, Some, option_map, length};
 ghost use Rattle.stamp_values.specs.declared.block.Wanted.{Wanted};
+ghost use Rattle.std.specs.FinMap.{get};
+ghost use Rattle.stamp_types.specs.declared.act.Act.TheVariants as act;
+ghost use Rattle.stamp_types.specs.declared.act.PutBlob.{PutBlob};
+ghost use Rattle.stamp_types.specs.declared.act.PutBlock.{PutBlock};
 ghost use Rattle.stamp_types.specs.declared.act.PutBlockList.{PutBlockList};
+ghost use Rattle.stamp_types.specs.declared.act.SetMetadata.{SetMetadata};
 ghost use Rattle.stamp_types.specs.declared.piece.Piece.{Piece};
-ghost use Rattle.stamp_types.specs.World.{Blob, content_from};
-ghost use Rattle.block_blobs.specs.BlobChanges.{blob_of_list};
+ghost use Rattle.stamp_types.specs.World.{Blob, Part, blob_in, blobs_after, content_from, same_pieces, with_blob};
+ghost use Rattle.block_blobs.specs.BlobChanges.{blob_of_list, blob_of_put, blob_with_block, blob_with_metadata};
 ghost use Rattle.block_blobs.specs.BlockLists.{first_absent, first_missing, found_entries, taken_fault, wanted_fault};
 
 /// If all wanted blocks are found, as many entries are found as blocks are wanted, and no block of
@@ -24,4 +29,24 @@ pub fn a_commit_is_its_list<C>()
     ensures alike { (n : ℕ) (a : PutBlockList) (b d : Blob C)
         → All (λ t. content_from t.from t.id b ≡ content_from t.from t.id d) a.entries
         → blob_of_list n a b ≡ blob_of_list n a d }
+{}
+
+/// Each change of a blob changes the blobs of its container by that blob alone. Put Blob, Put Block and
+/// Put Block List leave it under its name. So does Set Blob Metadata if the container has the blob, and
+/// else the blobs stay as they were. `n` is the count of the container after the change.
+pub fn a_container_changes_by_its_blob()
+    ensures put { (n : ℕ) (a : PutBlob) (p : Part (List Piece))
+        → blobs_after same_pieces n (act.PutBlob a) p ≡ with_blob p a.blob (blob_of_put n a) }
+    ensures metadata { (n : ℕ) (a : SetMetadata) (p : Part (List Piece)) (b : Blob (List Piece))
+        → get p.blobs a.blob ≡ Some b
+        → blobs_after same_pieces n (act.SetMetadata a) p
+        ≡ with_blob p a.blob (blob_with_metadata n a b) }
+    ensures absent { (n : ℕ) (a : SetMetadata) (p : Part (List Piece))
+        → get p.blobs a.blob ≡ None → blobs_after same_pieces n (act.SetMetadata a) p ≡ p.blobs }
+    ensures block { (n : ℕ) (a : PutBlock) (p : Part (List Piece))
+        → blobs_after same_pieces n (act.PutBlock a) p
+        ≡ with_blob p a.blob (blob_with_block a.id a.content (blob_in p a.blob)) }
+    ensures list { (n : ℕ) (a : PutBlockList) (p : Part (List Piece))
+        → blobs_after same_pieces n (act.PutBlockList a) p
+        ≡ with_blob p a.blob (blob_of_list n a (blob_in p a.blob)) }
 {}

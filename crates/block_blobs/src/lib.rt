@@ -10,7 +10,7 @@ mod uncommitted;
 
 pub use blob_row::BlobRow;
 pub use block_fault::BlockFault;
-pub use laws::a_commit_is_its_list;
+pub use laws::{a_commit_is_its_list, a_container_changes_by_its_blob};
 
 #[cfg(test)]
 mod row_tests;

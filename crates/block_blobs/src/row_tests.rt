@@ -3,7 +3,7 @@
 use crate::blob_row::BlobRow;
 use crate::block_fault::BlockFault;
 use crate::sample_blobs::{content, id, long_content, put_blob, put_block_list, set_metadata};
-use stamp_types::{Block, Lookup, Piece, Pieces, Wanted};
+use stamp_types::{Block, Items, Lookup, Piece, Pieces, UncommittedBlock, Wanted};
 use std::alloc::Global;
 use std::process::Abort;
 
@@ -201,6 +201,19 @@ fn a_put_blob_has_no_id_and_drops_all_blocks(rt: HostRuntime) {
     assert!(rt; has_content(&row, &["hello"]));
     row.remove(alloc);
     assert!(rt; row.committed().is_none());
+}
+
+#[test]
+fn a_stored_blob_has_its_blocks(rt: HostRuntime) {
+    let alloc = rt.alloc();
+    let block = UncommittedBlock {
+        id: id(&rt, alloc, A),
+        content: content(&rt, alloc, "one"),
+    };
+    let blocks = Items::new(vec![in alloc; block].expect(&rt, "memory"));
+    let mut row = BlobRow::stored(alloc, None, blocks).expect(&rt, "memory");
+    assert_eq!(rt; row.uncommitted_len(), 1);
+    commits(&rt, alloc, &mut row, &[(Lookup::Uncommitted, A)], &["one"]);
 }
 
 fn put_number(

@@ -1,16 +1,18 @@
 //! The uncommitted blocks of a blob.
-ghost use Rattle.std.specs.Prelude.{◌≡◌, ◌≤◌, ℕ, List, IsSome, false, IsTrue, IfOk, IfErr, OnOk, OnErr, None, map};
+ghost use Rattle.std.specs.Prelude.{◌≡◌, ◌==◌, ◌≤◌, ℕ, List, IsSome, false, IsTrue, IfOk, IfErr, OnOk, OnErr, MatchOption, None, length, map};
+ghost use Rattle.std.specs.List.{list_all};
 ghost use Rattle.std.specs.Option.{option_copied};
 ghost use Rattle.std.specs.FinMap as finite;
 ghost use Rattle.stamp_values.specs.Limits.{uncommitted_limit};
 ghost use Rattle.stamp_values.specs.Trees.{entry_key, name_of};
-ghost use Rattle.stamp_types.specs.Changes.{is_in_one_piece};
+ghost use Rattle.stamp_types.specs.Changes.{is_in_one_piece, are_uncommitted, has_ids_of_one_length};
+ghost use Rattle.stamp_types.specs.World.{uncommitted_entry, same_pieces};
 ghost use Rattle.block_blobs.specs.Faults.{IsFault};
 ghost use Rattle.block_blobs.specs.UncommittedBlocks as blocks;
 ghost use Rattle.block_blobs.specs.UncommittedBlocks.{block_count, are_in_one_piece};
 
 use crate::block_fault::BlockFault;
-use stamp_types::{BlockId, Bytes, Pieces, UNCOMMITTED_LIMIT};
+use stamp_types::{BlockId, Bytes, Items, Pieces, UNCOMMITTED_LIMIT, UncommittedBlock};
 use stamp_values::Named;
 use std::alloc::{AllocError, Global};
 use std::collections::btree_map::Iter;
@@ -51,6 +53,48 @@ fn id_bytes(alloc: Global, id: &BlockId) -> Result<Bytes, AllocError>
     Ok(Bytes::new(Vec::from_slice(alloc, id.as_slice())?))
 }
 
+// How many bytes each id has, if the ids have one length. 0 if there is no block.
+#[tactic(auto, using(crate::proofs::StoredBlocks::each_as_long_as_first))]
+fn id_len_of(blocks: &[UncommittedBlock]) -> usize
+    requires { IsTrue (has_ids_of_one_length blocks.now) }
+    ensures { IsTrue (list_all (λ block. length block.id == result) blocks.now) }
+{
+    match blocks.first() {
+        Some(block) => block.id.as_slice().len(),
+        None => 0,
+    }
+}
+
+// The blocks by their ids, from the last block to the first. The content moves, and the bytes of the
+// ids are copied.
+fn tree_of(alloc: Global, blocks: Vec<UncommittedBlock>) -> Result<Named<Pieces>, AllocError>
+    ensures { IfOk result (λ tree. tree
+        ≡ finite.from_entries (map (uncommitted_entry same_pieces) blocks.items)) }
+{
+    let mut left = blocks;
+    let mut tree = Named::new(alloc);
+    while let Some(block) = left.pop() {
+        tree.insert(id_bytes(alloc, &block.id)?, block.content)?;
+    }
+    Ok(tree)
+}
+
+// Replaces the content of an id. If the id has no content, the new content is given back.
+fn replace(blocks: &mut Named<Pieces>, id: &[u8], content: Pieces) -> Option<Pieces>
+    ensures { MatchOption result
+        ((blocks.new ≡ finite.insert blocks.old id.now content)
+        × IsSome (finite.get blocks.old id.now))
+        (λ back. (back ≡ content) × (blocks.new ≡ blocks.old)) }
+{
+    match blocks.get_mut(id) {
+        Some(block) => {
+            *block = content;
+            None
+        }
+        None => Some(content),
+    }
+}
+
 impl Uncommitted {
     /// No blocks. Takes no memory.
     pub(crate) fn new(alloc: Global) -> Self
@@ -60,6 +104,21 @@ impl Uncommitted {
             blocks: Named::new(alloc),
             id_len: 0,
         }
+    }
+
+    /// The blocks of the row of a checkpoint. The content moves, and the bytes of the ids are copied.
+    ///
+    /// `AllocError` if memory runs out for the ids or for the tree.
+    pub(crate) fn stored(alloc: Global, blocks: Items<UncommittedBlock>) -> Result<Self, AllocError>
+        requires { IsTrue (are_uncommitted blocks) }
+        ensures { IfOk result (λ stored. stored
+            ≡ finite.from_entries (map (uncommitted_entry same_pieces) blocks)) }
+    {
+        let id_len = id_len_of(blocks.as_slice());
+        Ok(Self {
+            blocks: tree_of(alloc, blocks.into_vec())?,
+            id_len,
+        })
     }
 
     pub(crate) fn len(&self) -> usize
@@ -120,6 +179,17 @@ impl Uncommitted {
         None
     }
 
+    // Replaces the content of the block of an id. If the id has no block, the new content is given
+    // back.
+    fn replace(&mut self, id: &[u8], content: Pieces) -> Option<Pieces>
+        requires fits { blocks.block_fault id.now self.old ≡ None }
+        requires piece { IsTrue (is_in_one_piece content) }
+        ensures { MatchOption result (self.new ≡ finite.insert self.old id.now content)
+            (λ back. (back ≡ content) × (self.new ≡ self.old)) }
+    {
+        replace(&mut self.blocks, id, content)
+    }
+
     // Puts a block for which there is room, and whose id has the length of the other ids.
     fn insert(&mut self, id: Bytes, content: Pieces) -> Result<(), AllocError>
         requires fits { blocks.block_fault id self.old ≡ None }
@@ -149,7 +219,9 @@ impl Uncommitted {
         if let Some(fault) = self.fault(id.as_slice()) {
             return Err(fault);
         }
-        self.insert(id_bytes(alloc, id)?, content)?;
+        if let Some(content) = self.replace(id.as_slice(), content) {
+            self.insert(id_bytes(alloc, id)?, content)?;
+        }
         Ok(())
     }
 }

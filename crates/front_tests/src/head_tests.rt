@@ -136,5 +136,5 @@ fn a_denial_names_the_verb_that_was_read(rt: HostRuntime) {
         code: Code::InvalidQueryParameterValue,
         verb: Some(Verb::Head),
     };
-    assert!(rt; denial(rt.alloc(), "HEAD /acct/box/b HTTP/1.1\r\n\r\n") == Some(unserved));
+    assert!(rt; denial(rt.alloc(), "HEAD /acct/box/b?comp=x HTTP/1.1\r\n\r\n") == Some(unserved));
 }

@@ -7,4 +7,8 @@ mod connection_tests;
 mod head_tests;
 #[cfg(test)]
 mod reply_tests;
+#[cfg(test)]
+mod row_tests;
 mod sample_parts;
+#[cfg(test)]
+mod value_tests;

@@ -12,6 +12,7 @@ use Rattle.stamp_values.proofs.MapsLemmas.{map_values-empty, map_values-insert}
 use Rattle.stamp_values.specs.declared.acl.Acl.{Acl}
 use Rattle.stamp_values.specs.declared.key.Key.{Key}
 use Rattle.stamp_values.specs.declared.level.Level.TheVariants as level
+use Rattle.stamp_values.specs.Operations.{writes}
 use Rattle.stamp_values.specs.declared.op.Op.{Op}
 use Rattle.stamp_values.specs.declared.op.Op.TheVariants as op
 use Rattle.stamp_types.specs.declared.act.Act.{Act}
@@ -23,6 +24,7 @@ use Rattle.stamp_types.specs.declared.piece.Piece.TheVariants as piece
 use Rattle.stamp_types.specs.declared.refusal.Refusal.{Refusal}
 use Rattle.stamp_types.specs.declared.reply.Reply.{Reply}
 use Rattle.stamp_types.specs.declared.rule.Rule.{Rule}
+use Rattle.stamp_types.specs.declared.standing.Standing.{Standing}
 use Rattle.stamp_types.specs.Changes.{KeyedAct}
 use Rattle.stamp_types.specs.Contents.{EachActContent, EachContent}
 use Rattle.stamp_types.specs.Pieces.{cut_at_most, held, is_held, is_held_piece, piece_bytes, piece_len, pieces_len}
@@ -37,10 +39,10 @@ use Rattle.access_rules.specs.declared.judgement.Way.{Way}
 use Rattle.access_rules.specs.declared.keys.Keys.{Keys}
 use Rattle.access_rules.specs.Rules.{first_rule, verdict_by, verdict_of, way_of}
 use Rattle.range_rows.specs.declared.answer.Span.{Span}
-use Rattle.range_rows.specs.ObjectReplies.{ReadsWhole, byte_count, frame, frame_by, blob_read, is_served, reply_of, sizes, span_bytes, spans, spans_len, with_content}
+use Rattle.range_rows.specs.ObjectReplies.{ReadsWhole, byte_count, frame, frame_by, blob_read, standing_read, is_served, reply_of, sizes, span_bytes, spans, spans_len, with_content}
 use Rattle.range_rows.specs.ObjectRules.{object_refusal}
 use Rattle.range_rows.specs.Opening.{one_part, container_just_made}
-use Rattle.range_rows.specs.RequestChanges.{put_blob, act_by, change_of, part_after}
+use Rattle.range_rows.specs.RequestChanges.{delete_blob, put_blob, set_metadata, act_by, change_of, part_after}
 use Rattle.range_rows.specs.Fits.{fits}
 use Rattle.range_rows.proofs.ChangeLemmas.{changed_in-create, fits-create}
 use Rattle.range_rows.proofs.SpanLemmas.{length-read, reply_of-read}
@@ -128,8 +130,8 @@ module _ (keys : Keys) (w : World (List Piece)) (h : HeldRows) (is : record { ke
   own = part_at w q.ask.key
 
   -- the verdict by what the rows say of the container is the verdict on the request
-  pub verdict-rows : (a : Option Acl) → a ≡ acl_of own → verdict_of (Some keys) a q.ask t ≡ row_verdict h q t
-  verdict-rows a e = ap (λ (a : Option Acl). verdict_of (Some keys) a q.ask t) e ∙ ap (λ (x : HeldRows). row_verdict x q t) is
+  pub verdict_by_rows : (a : Option Acl) → a ≡ acl_of own → verdict_of (Some keys) a q.ask t ≡ row_verdict h q t
+  verdict_by_rows a e = ap (λ (a : Option Acl). verdict_of (Some keys) a q.ask t) e ∙ ap (λ (x : HeldRows). row_verdict x q t) is
 
   own_free : row_refusal h q t ≡ None → refusal (Some keys) (part_value pieces_len own) q t ≡ None
   own_free free = ap (λ (x : HeldRows). row_refusal x q t) is ∙ free
@@ -155,9 +157,9 @@ module _ (keys : Keys) (w : World (List Piece)) (h : HeldRows) (is : record { ke
       ∙ ap (λ (x : HeldRows). rows_after x q t) is
 
   -- a change that is made is the change of the request
-  pub rows_after_put : (c : KeyedAct) → row_refusal h q t ≡ None → change_of (part_value pieces_len own) q t ≡ Some c
+  pub rows_after_write : (c : KeyedAct) → row_refusal h q t ≡ None → change_of (part_value pieces_len own) q t ≡ Some c
       → record { keys = keys; rows = changed_in same_pieces w c } ≡ rows_after h q t
-  rows_after_put c free change = rows_by (Some c) free change
+  rows_after_write c free change = rows_by (Some c) free change
 
 -- ---- content in memory
 
@@ -172,6 +174,19 @@ module _ (z : Part ℕ) (q : Asked) (t : ℕ) where
   BringsHeld (Some a) = EachActContent (λ ps. is_held ps ≡ true) a
 
   brought_by : (o : Op) → BringsHeld (act_by o z q t)
+  brought_by op.CreateContainer = tt
+  brought_by op.SetContainerMetadata = tt
+  brought_by op.DeleteContainer = tt
+  brought_by op.SetMetadata = by_name q.ask.blob
+    where
+      by_name : (blob : Option (List ℕ)) → BringsHeld (option_map (λ name. act.SetMetadata (set_metadata q t name)) blob)
+      by_name None = tt
+      by_name (Some name) = tt
+  brought_by op.DeleteBlob = by_name q.ask.blob
+    where
+      by_name : (blob : Option (List ℕ)) → BringsHeld (option_map (λ name. act.DeleteBlob (delete_blob name)) blob)
+      by_name None = tt
+      by_name (Some name) = tt
   brought_by op.PutBlob = by_parts q.ask.blob q.ask.args.kept
     where
       by_parts : (blob : Option (List ℕ)) (kept : Option Kept) → BringsHeld (option_and_then (λ name. option_map (λ kept. act.PutBlob (put_blob q t name kept)) kept) blob)
@@ -284,14 +299,19 @@ module _ (h : HeldRows) (q : Asked) (t : ℕ) (all : AreHeld h.rows) where
   answered_allowed (Ok reply) h' is new = answers_allowed h q t all reply h' is new
   answered_allowed (Err x) h' is new = is
 
--- an operation other than Put Blob changes nothing
-unchanging : (z : Part ℕ) (q : Asked) (t : ℕ) (o : Op) → (o ≡ op.PutBlob → ⊥) → act_by o z q t ≡ None
-unchanging z q t op.PutBlob apart = absurd (apart refl)
-unchanging z q t other apart = refl
+-- an operation that reads changes nothing
+unchanging : (z : Part ℕ) (q : Asked) (t : ℕ) (o : Op) → writes o ≡ false → act_by o z q t ≡ None
+unchanging z q t op.CreateContainer reads = cc
+unchanging z q t op.SetContainerMetadata reads = cc
+unchanging z q t op.DeleteContainer reads = cc
+unchanging z q t op.PutBlob reads = cc
+unchanging z q t op.SetMetadata reads = cc
+unchanging z q t op.DeleteBlob reads = cc
+unchanging z q t other reads = refl
 
-pub rows_after_read : (h : HeldRows) (q : Asked) (t : ℕ) → row_refusal h q t ≡ None → (q.ask.op ≡ op.PutBlob → ⊥) → h ≡ rows_after h q t
-rows_after_read h q t free apart =
-    rows_by h.keys h.rows h refl q t None free (ap (option_map (on_key q.ask.key)) (unchanging (part_value pieces_len (part_at h.rows q.ask.key)) q t q.ask.op apart))
+pub rows_after_read : (h : HeldRows) (q : Asked) (t : ℕ) → row_refusal h q t ≡ None → writes q.ask.op ≡ false → h ≡ rows_after h q t
+rows_after_read h q t free reads =
+    rows_by h.keys h.rows h refl q t None free (ap (option_map (on_key q.ask.key)) (unchanging (part_value pieces_len (part_at h.rows q.ask.key)) q t q.ask.op reads))
 
 -- ---- memory
 
@@ -303,13 +323,21 @@ length-bytes_held [] = omega arith
 length-bytes_held (s ∷ ss) =
     omega (arith, length-append (span_bytes piece_bytes s) (bytes_held ss), shortened (s.to - s.from) (piece_bytes s.piece) s.from, length-bytes_held ss, sum_by-cons (λ (s : Span). s.to - s.from) s ss)
 
-frame_body : (o : Op) (q : Asked) (c : Committed ℕ) → (frame_by o q c).body ≡ []
-frame_body op.PutBlob q c = refl
-frame_body op.GetBlob q c = refl
-frame_body other q c = refl
+frame_body : (o : Op) (q : Asked) (s : Standing) (c : Committed ℕ) → (frame_by o q s c).body ≡ []
+frame_body op.CreateContainer q s c = refl
+frame_body op.ContainerProperties q s c = refl
+frame_body op.SetContainerMetadata q s c = refl
+frame_body op.DeleteContainer q s c = refl
+frame_body op.PutBlob q s c = refl
+frame_body op.GetBlob q s c = refl
+frame_body op.BlobProperties q s c = refl
+frame_body op.GetMetadata q s c = refl
+frame_body op.SetMetadata q s c = refl
+frame_body op.DeleteBlob q s c = refl
+frame_body other q s c = refl
 
 -- a reply with its content fits in memory
 pub fits_memory : (r : Reply) (p : Part ℕ) (q : Asked) (ss : List Span) → r ≡ frame p q → spans_len ss ≤ 268435456 → length (r.body ++ bytes_held ss) < 18446744073709551616
 fits_memory r p q ss is short =
-    let none : r.body ≡ [] = ap (λ (r : Reply). r.body) is ∙ frame_body q.ask.op q (blob_read p q.ask) in
+    let none : r.body ≡ [] = ap (λ (r : Reply). r.body) is ∙ frame_body q.ask.op q (standing_read p) (blob_read p q.ask) in
     subst (λ (bs : List ℕ). length (bs ++ bytes_held ss) < 18446744073709551616) (sym none) (omega (arith, length-bytes_held ss, short))

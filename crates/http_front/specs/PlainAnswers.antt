@@ -73,7 +73,7 @@ held_first keys t = record { keys = keys; world = one_part (key_first keys.accou
 abbrev pub held_of : HeldRows → Held
 held_of h = record { keys = h.keys; world = world_value held h.rows }
 
--- the verdict on a request, by what its container says about who may
+-- the verdict on a request, by the keys and by what its container says about who may read it
 abbrev pub row_verdict : HeldRows → Asked → ℕ → Verdict
 row_verdict h q t = verdict_of (Some h.keys) (acl_of (part_at h.rows q.ask.key)) q.ask t
 

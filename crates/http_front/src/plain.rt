@@ -1,6 +1,6 @@
 //! The service over the rows of one account.
 ghost use Rattle.std.specs.Prelude.{◌≡◌, false, None, Some, Err, IfOk, IsTrue, OnErr, OnOk};
-ghost use Rattle.stamp_values.specs.declared.op.Op.TheVariants as op;
+ghost use Rattle.stamp_values.specs.Operations.{writes};
 ghost use Rattle.stamp_values.specs.Names.{is_account};
 ghost use Rattle.stamp_types.specs.Replies.{denied};
 ghost use Rattle.range_rows.specs.RequestChanges.{reading_of};
@@ -87,11 +87,17 @@ fn unserved_refusal(op: Op) -> Option<Refusal>
     ensures { result ≡ refusals.unserved_refusal op }
 {
     match op {
-        Op::PutBlob | Op::GetBlob => None,
-        _ => Some(Refusal {
+        Op::ListContainers
+        | Op::GetAcl
+        | Op::SetAcl
+        | Op::ListBlobs
+        | Op::PutBlock
+        | Op::PutBlockList
+        | Op::GetBlockList => Some(Refusal {
             rule: Rule::F3,
             code: Code::InvalidQueryParameterValue,
         }),
+        _ => None,
     }
 }
 
@@ -172,7 +178,8 @@ impl Plain {
         }
     }
 
-    // Whether the request may be served, by what its container says about who may.
+    // Whether the request may be served, by the keys and by what its container says about who may
+    // read it.
     fn permission(
         &self,
         alloc: Global,
@@ -182,8 +189,8 @@ impl Plain {
         ensures { IfOk result (λ verdict. verdict
             ≡ row_verdict self.now request.now moment) }
     {
-        let who = self.rows.acl(&request.ask().key);
-        verdict(alloc, Some(&self.keys), who, request, moment)
+        let access = self.rows.acl(&request.ask().key);
+        verdict(alloc, Some(&self.keys), access, request, moment)
     }
 
     // The refusal of a request: by permission, or else by the object, or else since the operation is not served yet.
@@ -206,8 +213,8 @@ impl Plain {
         }
     }
 
-    // Makes the change of a Put Blob that nothing refuses.
-    #[tactic(auto, using(crate::proofs::PlainLemmas::unopposed, crate::proofs::PlainLemmas::rows_after_put))]
+    // Makes the change of a request that nothing refuses.
+    #[tactic(auto, using(crate::proofs::PlainLemmas::unopposed, crate::proofs::PlainLemmas::served, crate::proofs::PlainLemmas::rows_after_write))]
     fn keep(
         &mut self,
         alloc: Global,
@@ -215,7 +222,7 @@ impl Plain {
         reading: &Reading,
         moment: Moment,
     ) -> Result<(), AllocError>
-        requires put { request.now.ask.op ≡ op.PutBlob }
+        requires write { IsTrue (writes request.now.ask.op) }
         requires allowed { row_refusal self.old request.now moment ≡ None }
         requires read { reading.now ≡ reading_of request.now }
         ensures kept { OnOk result (self.new ≡ rows_after self.old request.now moment) }
@@ -260,7 +267,7 @@ impl Plain {
         ensures unchanged { OnErr result (self.new ≡ self.old) }
     {
         let reply = self.reply(alloc, request, reading, moment)?;
-        if request.ask().op == Op::PutBlob {
+        if request.ask().op.writes() {
             self.keep(alloc, request, reading, moment)?;
         }
         Ok(reply)

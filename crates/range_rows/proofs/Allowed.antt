@@ -1,5 +1,5 @@
 -- What holds of a container if the object does not refuse a request.
-use Rattle.std.proofs.Common.{◌≡◌, ◌<◌, ℕ, Bool, true, false, cond, not, ◌&&◌, List, [], ◌∷◌, Option, Some, None, nat_eq, arith, refl, ap, ◌∙◌, subst}
+use Rattle.std.proofs.Common.{◌≡◌, ◌<◌, ℕ, Bool, true, false, cond, not, ◌&&◌, List, [], ◌∷◌, Option, Some, None, nat_le, arith, refl, ap, ◌∙◌, subst}
 use Rattle.std.proofs.lemmas.Bool.{and_parts}
 use Rattle.std.specs.Prelude.{IsSome, is_none, find}
 use Rattle.std.specs.List.{list_all}
@@ -11,6 +11,8 @@ use Rattle.stamp_types.specs.declared.piece.Piece.{Piece}
 use Rattle.stamp_types.specs.Pieces.{pieces_len}
 use Rattle.stamp_types.specs.Requests.{Asked}
 use Rattle.stamp_types.specs.World.{Part, committed_value, part_value}
+use Rattle.range_rows.specs.BlobRows.{sizes_held}
+use Rattle.range_rows.specs.ObjectReplies.{is_served}
 use Rattle.range_rows.specs.ObjectRules.{needs_container, needs_blob, named_blob, cause_holds, causes, object_refusal, count_limit}
 use Rattle.range_rows.specs.ObjectRules.Cause.{ContainerIsAbsent, BlobIsAbsent, BodyIsDamaged, CountIsFull}
 use Rattle.range_rows.proofs.AnswerLemmas.{named_blob-part_value}
@@ -32,6 +34,9 @@ there : {X : Type 0} (o : Option X) → not (is_none o) ≡ true → IsSome o
 there None h = h
 there (Some x) h = refl
 
+below_limit : (n : ℕ) → not (nat_le count_limit n) ≡ true → n < count_limit
+below_limit n h = grind arith
+
 module _ (p : Part ℕ) (q : Asked) (free : object_refusal p q ≡ None) where
   none_holds : list_all (λ c. not (cause_holds p q c)) causes ≡ true
   none_holds = none_passes (cause_holds p q) causes (none_mapped _ (find (cause_holds p q) causes) free)
@@ -45,23 +50,43 @@ module _ (p : Part ℕ) (q : Asked) (free : object_refusal p q ≡ None) where
   after_damage : list_all (λ c. not (cause_holds p q c)) (CountIsFull ∷ []) ≡ true
   after_damage = (and_parts _ _ (and_parts _ _ after_existence).1).1
 
-  -- the container of an allowed Put Blob exists
-  pub allowed_exists : q.ask.op ≡ op.PutBlob → IsSome p.standing
-  allowed_exists put = there p.standing (subst (λ (o : Op). not (needs_container o && is_none p.standing) ≡ true) put no_absence)
+  -- the container of an allowed request exists, if the operation needs it
+  pub needed_container : needs_container q.ask.op ≡ true → IsSome p.standing
+  needed_container needs = there p.standing (subst (λ b. not (b && is_none p.standing) ≡ true) needs no_absence)
 
-  -- the container of an allowed Put Blob takes one more change
-  pub allowed_room : q.ask.op ≡ op.PutBlob → p.count < 18446744073709551616 → p.count < count_limit
-  allowed_room put within =
-      let below : not (nat_eq p.count count_limit) ≡ true = subst (λ (o : Op). not (writes o && nat_eq p.count count_limit) ≡ true) put (and_parts _ _ after_damage).0 in
-      grind arith
+  -- the container of an allowed request takes one more change, if the operation writes
+  pub room_for_write : writes q.ask.op ≡ true → p.count < count_limit
+  room_for_write writing =
+      let below : not (nat_le count_limit p.count) ≡ true = subst (λ b. not (b && nat_le count_limit p.count) ≡ true) writing (and_parts _ _ after_damage).0 in
+      below_limit p.count below
+
+  -- readers see the blob of an allowed request, if the operation needs it
+  pub needed_blob : needs_blob q.ask.op ≡ true → IsSome (named_blob p q.ask)
+  needed_blob needs = there (named_blob p q.ask) (subst (λ b. not (b && is_none (named_blob p q.ask)) ≡ true) needs (and_parts _ _ after_existence).0)
 
   -- readers see the blob of an allowed Get Blob
   pub read_there : q.ask.op ≡ op.GetBlob → IsSome (named_blob p q.ask)
-  read_there get = there (named_blob p q.ask) (subst (λ (o : Op). not (needs_blob o && is_none (named_blob p q.ask)) ≡ true) get (and_parts _ _ after_existence).0)
+  read_there get = needed_blob (ap needs_blob get)
 
--- the blob of an allowed Get Blob exists
-pub allowed_blob : (p : Part (List Piece)) (q : Asked) → q.ask.op ≡ op.GetBlob → object_refusal (part_value pieces_len p) q ≡ None → named_blob p q.ask ≡ None → ⊥
-allowed_blob p q get free none =
-    let read : IsSome (named_blob (part_value pieces_len p) q.ask) = read_there (part_value pieces_len p) q free get in
+-- the container of an allowed request exists, if the operation needs it
+pub allowed_container : (p : Part (List Piece)) (q : Asked) → needs_container q.ask.op ≡ true → object_refusal (part_value pieces_len p) q ≡ None → p.standing ≡ None → ⊥
+allowed_container p q needs free absent = let exists = needed_container (part_value pieces_len p) q free needs in cc
+
+-- the blob of an allowed request exists, if the operation needs it
+pub allowed_blob : (p : Part (List Piece)) (q : Asked) → needs_blob q.ask.op ≡ true → object_refusal (part_value pieces_len p) q ≡ None → named_blob p q.ask ≡ None → ⊥
+allowed_blob p q needs free none =
+    let read : IsSome (named_blob (part_value pieces_len p) q.ask) = needed_blob (part_value pieces_len p) q free needs in
     let is_none_there : named_blob (part_value pieces_len p) q.ask ≡ None = named_blob-part_value pieces_len p q.ask ∙ ap (option_map (committed_value pieces_len)) none in
+    cc
+
+needs_container_by : (o : Op) → is_served o ≡ true → writes o ≡ false → needs_container o ≡ true
+needs_container_by op.ListContainers served reads = cc
+needs_container_by op.CreateContainer served reads = cc
+needs_container_by other served reads = refl
+
+-- the container of an allowed request that reads is found
+pub found_for_read : (o : Option (Part (List Piece))) (q : Asked) → object_refusal (sizes_held o) q ≡ None → is_served q.ask.op ≡ true → writes q.ask.op ≡ false → o ≡ None → ⊥
+found_for_read o q free served reads none =
+    let exists : IsSome (sizes_held o).standing = needed_container (sizes_held o) q free (needs_container_by q.ask.op served reads) in
+    let absent : (sizes_held o).standing ≡ None = ap (λ (o : Option (Part (List Piece))). (sizes_held o).standing) none in
     cc

@@ -1,10 +1,11 @@
 -- The change that an allowed request makes fits, and the first change of a world.
-use Rattle.std.proofs.Common.{◌≡◌, ◌<◌, ◌≤◌, ℕ, true, false, ◌||◌, List, [], Option, Some, None, nat_lt, arith, unwrap_or, refl, sym, ap, ◌∙◌, subst}
+use Rattle.std.proofs.Common.{◌≡◌, ℕ, Bool, true, false, ◌||◌, ◌&&◌, List, [], Option, Some, None, nat_lt, unwrap_or, refl, sym, ap, ◌∙◌, subst}
 use Rattle.std.proofs.lemmas.Bool.{and_from, lt-ltb}
-use Rattle.std.specs.Prelude.{IsSome, IfSome, IfOk, IsTrue, Result, Ok, Err, is_some}
+use Rattle.std.specs.Prelude.{IfSome, IfOk, IsTrue, Result, Ok, Err, is_some}
 use Rattle.std.specs.Option.{option_map, option_and_then}
 use Rattle.std.specs.FinMap as finite
 use Rattle.std.specs.declared.alloc.AllocError.{AllocError}
+use Rattle.stamp_values.specs.Operations.{writes}
 use Rattle.stamp_values.specs.Order.{key_cmp}
 use Rattle.stamp_values.specs.declared.key.Key.{Key}
 use Rattle.stamp_values.specs.declared.level.Level.TheVariants as level
@@ -13,7 +14,6 @@ use Rattle.stamp_values.specs.declared.op.Op.TheVariants as op
 use Rattle.stamp_types.specs.declared.act.Act.{Act}
 use Rattle.stamp_types.specs.declared.act.Act.TheVariants as act
 use Rattle.stamp_types.specs.declared.act.CreateContainer.{CreateContainer}
-use Rattle.stamp_types.specs.declared.act.PutBlob.{PutBlob}
 use Rattle.stamp_types.specs.declared.args.Kept.{Kept}
 use Rattle.stamp_types.specs.declared.piece.Piece.{Piece}
 use Rattle.stamp_types.specs.Changes.{KeyedAct}
@@ -21,27 +21,48 @@ use Rattle.stamp_types.specs.Pieces.{pieces_len}
 use Rattle.stamp_types.specs.Requests.{Asked}
 use Rattle.stamp_types.specs.World.{Part, World, no_part, part_at, part_value, changed, changed_in}
 use Rattle.range_rows.specs.Fits.{fits}
-use Rattle.range_rows.specs.ObjectRules.{count_limit, object_refusal, sizes_named}
+use Rattle.range_rows.specs.ObjectRules.{count_limit, needs_container, object_refusal, sizes_named}
 use Rattle.range_rows.specs.Opening.{one_part, container_just_made}
-use Rattle.range_rows.specs.RequestChanges.{put_blob, act_by, change_of}
-use Rattle.range_rows.proofs.Allowed.{allowed_exists, allowed_room}
+use Rattle.range_rows.specs.RequestChanges.{put_blob, set_metadata, delete_blob, act_by, change_of}
+use Rattle.range_rows.proofs.Allowed.{needed_container, room_for_write}
 
--- a Put Blob fits a container that exists and takes one more change
-fits_put : (p : Part ℕ) (a : PutBlob) → IsSome p.standing → p.count < count_limit → fits p (act.PutBlob a) ≡ true
-fits_put p a exists room = and_from (is_some p.standing || false) (nat_lt p.count count_limit) (ap (λ b. b || false) exists) (lt-ltb p.count count_limit room)
+or_true : (b : Bool) → (b || true) ≡ true
+or_true true = refl
+or_true false = refl
 
-module _ (p : Part ℕ) (q : Asked) (t : ℕ) (within : p.count ≤ count_limit) (free : object_refusal p q ≡ None) where
+module _ (p : Part ℕ) (q : Asked) (t : ℕ) (free : object_refusal p q ≡ None) where
   abbrev keyed : Option Act → Option KeyedAct
-  keyed a = option_map (λ a. record { key = q.ask.key; act = a }) a
+  keyed o = option_map (λ a. record { key = q.ask.key; act = a }) o
 
-  put_fits : q.ask.op ≡ op.PutBlob → (blob : Option (List ℕ)) (kept : Option Kept)
-      → IfSome (keyed (option_and_then (λ name. option_map (λ kept. act.PutBlob (put_blob q t name kept)) kept) blob)) (λ c. IsTrue (fits p c.act))
-  put_fits is None kept = tt
-  put_fits is (Some name) None = tt
-  put_fits is (Some name) (Some kept) = fits_put p (put_blob q t name kept) (allowed_exists p q free is) (allowed_room p q free is (omega (arith, within)))
+  -- the act fits, if there is an act
+  abbrev AllFit : Option Act → Type 0
+  AllFit o = IfSome (keyed o) (λ c. IsTrue (fits p c.act))
 
-  fits_by : (o : Op) → q.ask.op ≡ o → IfSome (keyed (act_by o p q t)) (λ c. IsTrue (fits p c.act))
-  fits_by op.PutBlob is = put_fits is q.ask.blob q.ask.args.kept
+  -- the container exists if the operation needs it, and it takes one more change
+  fits_if_there : (new : Bool) → writes q.ask.op ≡ true → (is_some p.standing || new) ≡ true → ((is_some p.standing || new) && nat_lt p.count count_limit) ≡ true
+  fits_if_there new writing exists =
+      and_from (is_some p.standing || new) (nat_lt p.count count_limit) exists (lt-ltb p.count count_limit (room_for_write p q free writing))
+
+  fits_in_existing : writes q.ask.op ≡ true → needs_container q.ask.op ≡ true → ((is_some p.standing || false) && nat_lt p.count count_limit) ≡ true
+  fits_in_existing writing needs = fits_if_there false writing (ap (λ b. b || false) (needed_container p q free needs))
+
+  fits_put : q.ask.op ≡ op.PutBlob → (blob : Option (List ℕ)) (kept : Option Kept)
+      → AllFit (option_and_then (λ name. option_map (λ kept. act.PutBlob (put_blob q t name kept)) kept) blob)
+  fits_put is None kept = tt
+  fits_put is (Some name) None = tt
+  fits_put is (Some name) (Some kept) = fits_in_existing (ap writes is) (ap needs_container is)
+
+  fits_named : (make : List ℕ → Act) → ((name : List ℕ) → fits p (make name) ≡ true) → (blob : Option (List ℕ)) → AllFit (option_map make blob)
+  fits_named make each None = tt
+  fits_named make each (Some name) = each name
+
+  fits_by : (o : Op) → q.ask.op ≡ o → AllFit (act_by o p q t)
+  fits_by op.CreateContainer is = fits_if_there true (ap writes is) (or_true (is_some p.standing))
+  fits_by op.SetContainerMetadata is = fits_in_existing (ap writes is) (ap needs_container is)
+  fits_by op.DeleteContainer is = fits_in_existing (ap writes is) (ap needs_container is)
+  fits_by op.PutBlob is = fits_put is q.ask.blob q.ask.args.kept
+  fits_by op.SetMetadata is = fits_named (λ name. act.SetMetadata (set_metadata q t name)) (λ name. fits_in_existing (ap writes is) (ap needs_container is)) q.ask.blob
+  fits_by op.DeleteBlob is = fits_named (λ name. act.DeleteBlob (delete_blob name)) (λ name. fits_in_existing (ap writes is) (ap needs_container is)) q.ask.blob
   fits_by other is = tt
 
   -- the change of a request that no rule of the object refuses fits
@@ -53,19 +74,19 @@ key_of_change k None c h = cc
 key_of_change k (Some a) c h = ap (λ (o : Option KeyedAct). (unwrap_or o c).key) h
 
 -- the change of a request that no rule of the object refuses fits the container of its key
-pub change_fits_world : (w : World (List Piece)) (q : Asked) (t : ℕ) (c : KeyedAct) → (part_at w q.ask.key).count < 18446744073709551616
+pub change_fits_world : (w : World (List Piece)) (q : Asked) (t : ℕ) (c : KeyedAct)
     → object_refusal (sizes_named w q) q ≡ None → change_of (sizes_named w q) q t ≡ Some c → fits (part_value pieces_len (part_at w c.key)) c.act ≡ true
-change_fits_world w q t c within free change =
+change_fits_world w q t c free change =
     let fitting : fits (sizes_named w q) c.act ≡ true =
-    subst (λ (o : Option KeyedAct). IfSome o (λ c. IsTrue (fits (sizes_named w q) c.act))) change (change_of-fits (sizes_named w q) q t (omega (arith, within)) free) in
+    subst (λ (o : Option KeyedAct). IfSome o (λ c. IsTrue (fits (sizes_named w q) c.act))) change (change_of-fits (sizes_named w q) q t free) in
     ap (λ k. fits (part_value pieces_len (part_at w k)) c.act) (sym (key_of_change q.ask.key (act_by q.ask.op (sizes_named w q) q t) c change)) ∙ fitting
 
 -- the same if the change was made, or else memory ran out
-pub made_change_fits : (w : World (List Piece)) (q : Asked) (t : ℕ) (made : Result KeyedAct AllocError) → (part_at w q.ask.key).count < 18446744073709551616
+pub made_change_fits : (w : World (List Piece)) (q : Asked) (t : ℕ) (made : Result KeyedAct AllocError)
     → object_refusal (sizes_named w q) q ≡ None → IfOk made (λ c. (p : Part ℕ) → change_of p q t ≡ Some c)
     → IfOk made (λ c. IsTrue (fits (part_value pieces_len (part_at w c.key)) c.act))
-made_change_fits w q t (Ok c) within free change = change_fits_world w q t c within free (change (sizes_named w q))
-made_change_fits w q t (Err e) within free change = tt
+made_change_fits w q t (Ok c) free change = change_fits_world w q t c free (change (sizes_named w q))
+made_change_fits w q t (Err e) free change = tt
 
 -- ---- the first change of a world
 

@@ -2,7 +2,7 @@ pub mod Allowed
 pub mod AnswerLemmas
 pub mod ChangeLemmas
 pub mod FitLemmas
+pub mod FrameLemmas
 pub mod Parts
-pub mod PutBlocks
 pub mod PutParts
 pub mod SpanLemmas

@@ -1,9 +1,11 @@
--- Replies to allowed requests (Blob service REST reference, 2012-02-12, "Put Blob", "Get Blob"; RFC 9110, sections 8.8 and 15.3).
+-- Replies to allowed requests (Blob service REST reference, 2012-02-12, the page of each operation; RFC 9110, sections 8.8 and 15.3).
 -- A reply is a frame, which follows from the sizes of content, and the content that goes out with it.
 use Rattle.std.specs.Prelude.{◌≡◌, ℕ, ◌-◌, Bool, true, false, ◌&&◌, nat_le, All, List, [], ◌∷◌, ◌++◌, length, None, map, sum_by, slice_range, unwrap_or}
 use Rattle.std.specs.List.{flat_map}
 use Rattle.std.specs.Option.{option_to_list}
 use Rattle.md5.specs.Md5.{md5}
+use Rattle.stamp_values.specs.Acls.{closed_acl}
+use Rattle.stamp_values.specs.declared.meta.Meta.{Meta}
 use Rattle.stamp_values.specs.declared.op.Op.{Op}
 use Rattle.stamp_values.specs.declared.op.Op.TheVariants as op
 use Rattle.stamp_types.specs.declared.ask.Ask.{Ask}
@@ -12,6 +14,7 @@ use Rattle.stamp_types.specs.declared.header.Header.{Header}
 use Rattle.stamp_types.specs.declared.header.Header.TheVariants as header
 use Rattle.stamp_types.specs.declared.piece.Piece.{Piece}
 use Rattle.stamp_types.specs.declared.reply.Reply.{Reply}
+use Rattle.stamp_types.specs.declared.standing.Standing.{Standing}
 use Rattle.stamp_types.specs.declared.status.Status.{Status}
 use Rattle.stamp_types.specs.declared.status.Status.TheVariants as status
 use Rattle.stamp_types.specs.Pieces.{piece_len}
@@ -23,8 +26,16 @@ use Rattle.range_rows.specs.ObjectRules.{named_blob}
 
 -- the operations that are answered so far; any other is refused
 abbrev pub is_served : Op → Bool
+is_served op.CreateContainer = true
+is_served op.ContainerProperties = true
+is_served op.SetContainerMetadata = true
+is_served op.DeleteContainer = true
 is_served op.PutBlob = true
 is_served op.GetBlob = true
+is_served op.BlobProperties = true
+is_served op.GetMetadata = true
+is_served op.SetMetadata = true
+is_served op.DeleteBlob = true
 is_served _ = false
 
 -- a header of a text, which has no line if the text is empty
@@ -42,7 +53,11 @@ kept_lines k =
     header.ContentType k.content_type ∷ line_of header.ContentEncoding k.encoding ++ line_of header.ContentLanguage k.language
     ++ map header.ContentMd5 (option_to_list k.md5) ++ line_of header.CacheControl k.cache_control
 
--- the headers of a blob that is read
+-- metadata by name, which change wrote last, and when
+abbrev pub metadata_headers : List Meta → ℕ → ℕ → List Header
+metadata_headers metas etag made = map header.Meta metas ++ date_headers etag made
+
+-- the headers of a blob that is read, or whose properties are read
 abbrev pub read_headers : {C : Type 0} → Committed C → List Header
 read_headers c = kept_lines c.props ++ map header.Meta c.metadata ++ header.BlobType ∷ header.AcceptRanges ∷ date_headers c.etag c.made
 
@@ -54,13 +69,16 @@ success_reply s headers length = record { status = s; code = None; rule = None; 
 abbrev pub put_reply : List ℕ → ℕ → ℕ → Reply
 put_reply sum etag made = success_reply status.Created (header.ContentMd5 sum ∷ date_headers etag made) 0
 
--- the frame of the reply to Get Blob: its length is the length of all blocks together
+-- the frame of the reply to Get Blob and to Get Blob Properties: its length is the length of all blocks together
 abbrev pub get_frame : Committed ℕ → Reply
 get_frame c = success_reply status.Success (read_headers c) (sum_by (λ b. b.content) c.blocks)
 
--- A blob without a byte. It takes the part of a blob that does not exist in the reply to a request that no rule refuses. For
--- the operations that are served, no request is answered in this way: Put Blob makes its blob, and a rule refuses a Get Blob
--- without a blob.
+-- A container and a blob without anything. They take the part of what does not exist in the reply to a request that no rule
+-- refuses. For the operations that are served, no request is answered in this way: what a request answers from is made by its
+-- change, or a rule refuses the request without it.
+abbrev pub empty_standing : Standing
+empty_standing = record { etag = 0; made = 0; acl = closed_acl; metadata = [] }
+
 abbrev pub empty_blob : {C : Type 0} → Committed C
 empty_blob = record {
   etag = 0;
@@ -70,19 +88,35 @@ empty_blob = record {
   blocks = [];
 }
 
--- what readers see of the blob that a request names, or else the blob without a byte
+-- what a container has beside its blobs, or else the container without anything
+abbrev pub standing_read : {C : Type 0} → Part C → Standing
+standing_read p = unwrap_or p.standing empty_standing
+
+-- what readers see of the blob that a request names, or else the blob without anything
 abbrev pub blob_read : {C : Type 0} → Part C → Ask → Committed C
 blob_read p a = unwrap_or (named_blob p a) empty_blob
 
--- the frame of the reply to an operation, if this is the blob after the operation
-abbrev pub frame_by : Op → Asked → Committed ℕ → Reply
-frame_by op.PutBlob q c = put_reply (md5 q.body) c.etag c.made
-frame_by op.GetBlob q c = get_frame c
-frame_by _ q c = success_reply status.Success [] 0
+-- the frame of the reply to an operation, if this is what the container has beside its blobs, and this is the blob, after the operation
+abbrev pub frame_by : Op → Asked → Standing → Committed ℕ → Reply
+frame_by op.CreateContainer q s c = success_reply status.Created (date_headers s.etag s.made) 0
+frame_by op.ContainerProperties q s c = success_reply status.Success (metadata_headers s.metadata s.etag s.made) 0
+frame_by op.SetContainerMetadata q s c = success_reply status.Success (date_headers s.etag s.made) 0
+frame_by op.DeleteContainer q s c = success_reply status.Accepted [] 0
+frame_by op.PutBlob q s c = put_reply (md5 q.body) c.etag c.made
+frame_by op.GetBlob q s c = get_frame c
+frame_by op.BlobProperties q s c = get_frame c
+frame_by op.GetMetadata q s c = success_reply status.Success (metadata_headers c.metadata c.etag c.made) 0
+frame_by op.SetMetadata q s c = success_reply status.Success (date_headers c.etag c.made) 0
+frame_by op.DeleteBlob q s c = success_reply status.Accepted [] 0
+frame_by _ q s c = success_reply status.Success [] 0
 
 -- the frame of the reply to an allowed request, from the container after the request's change
 abbrev pub frame : Part ℕ → Asked → Reply
-frame p q = frame_by q.ask.op q (blob_read p q.ask)
+frame p q = frame_by q.ask.op q (standing_read p) (blob_read p q.ask)
+
+-- the frame of the reply to an allowed request that writes, from the number and the moment of its change
+abbrev pub write_frame : Asked → ℕ → ℕ → Reply
+write_frame q n t = frame_by q.ask.op q (record empty_standing { etag = n; made = t }) (record empty_blob { etag = n; made = t })
 
 -- the content that goes out: on Get Blob all content of the blob, on other operations no content
 abbrev pub content_by : {C : Type 0} → Op → Committed (List C) → List C

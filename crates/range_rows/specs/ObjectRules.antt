@@ -1,6 +1,6 @@
 -- Rules of the object (Blob service REST reference, 2012-02-12, the pages of the operations, "Status and Error Codes", "Blob Service Error Codes"; RFC 1321).
 -- They are stated over a container whose content is its size: no rule depends on a byte of the content.
-use Rattle.std.specs.Prelude.{ℕ, Bool, true, false, ◌&&◌, ◌||◌, not, nat_eq, is_some, is_none, List, [], ◌∷◌, Option, Some, None, find}
+use Rattle.std.specs.Prelude.{ℕ, Bool, true, false, ◌&&◌, ◌||◌, not, nat_eq, nat_le, is_some, is_none, List, [], ◌∷◌, Option, Some, None, find}
 use Rattle.std.specs.Option.{option_map, option_and_then}
 use Rattle.std.specs.Cmp.Lexicographic.{pointwise}
 use Rattle.md5.specs.Md5.{md5}
@@ -82,7 +82,7 @@ cause_holds p q ContainerIsAbsent = needs_container q.ask.op && is_none p.standi
 cause_holds p q ContainerExists = is_create q.ask.op && is_some p.standing
 cause_holds p q BlobIsAbsent = needs_blob q.ask.op && is_none (named_blob p q.ask)
 cause_holds p q BodyIsDamaged = is_damaged q
-cause_holds p q CountIsFull = writes q.ask.op && nat_eq p.count count_limit
+cause_holds p q CountIsFull = writes q.ask.op && nat_le count_limit p.count
 
 -- the causes in the order in which the first cause that exists is looked for
 abbrev pub causes : List Cause

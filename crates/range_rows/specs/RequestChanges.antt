@@ -1,12 +1,18 @@
--- What writing requests do ("Put Blob" of the Blob service REST reference, 2012-02-12; RFC 1321).
-use Rattle.std.specs.Prelude.{ℕ, List, Option, Some, None}
+-- What writing requests do (Blob service REST reference, 2012-02-12, "Create Container", "Set Container Metadata", "Delete Container",
+-- "Put Blob", "Set Blob Metadata", "Delete Blob"; RFC 1321).
+use Rattle.std.specs.Prelude.{ℕ, List, Option, Some, None, unwrap_or}
 use Rattle.std.specs.Option.{option_map, option_and_then}
 use Rattle.md5.specs.Md5.{md5}
+use Rattle.stamp_values.specs.declared.level.Level.TheVariants as level
 use Rattle.stamp_values.specs.declared.op.Op.{Op}
 use Rattle.stamp_values.specs.declared.op.Op.TheVariants as op
 use Rattle.stamp_types.specs.declared.act.Act.{Act}
 use Rattle.stamp_types.specs.declared.act.Act.TheVariants as act
+use Rattle.stamp_types.specs.declared.act.CreateContainer.{CreateContainer}
+use Rattle.stamp_types.specs.declared.act.DeleteBlob.{DeleteBlob}
 use Rattle.stamp_types.specs.declared.act.PutBlob.{PutBlob}
+use Rattle.stamp_types.specs.declared.act.SetContainerMetadata.{SetContainerMetadata}
+use Rattle.stamp_types.specs.declared.act.SetMetadata.{SetMetadata}
 use Rattle.stamp_types.specs.declared.args.Kept.{Kept}
 use Rattle.stamp_types.specs.Changes.{KeyedAct}
 use Rattle.stamp_types.specs.Pieces.{cut, pieces_len}
@@ -26,13 +32,34 @@ reading_of q = reading.Nothing
 abbrev pub put_props : Asked → Kept → PropsFields
 put_props q kept = kept_fields kept (Some (md5 q.body))
 
+-- what a Create Container does: the container gets the metadata, and the level that is asked for, or else it is closed
+abbrev pub create_container : Asked → ℕ → CreateContainer
+create_container q t = record { moment = t; level = unwrap_or q.ask.args.level level.Closed; metadata = q.ask.args.metadata }
+
+-- what a Set Container Metadata does: the metadata of the request replaces all metadata
+abbrev pub set_container_metadata : Asked → ℕ → SetContainerMetadata
+set_container_metadata q t = record { moment = t; metadata = q.ask.args.metadata }
+
 -- what a Put Blob does: the blob gets the body in pieces, the kept headers and the metadata
 abbrev pub put_blob : Asked → ℕ → List ℕ → Kept → PutBlob
 put_blob q t name kept = record { blob = name; moment = t; props = put_props q kept; metadata = q.ask.args.metadata; content = cut q.body }
 
--- what a request of the operation does to a container at a moment; so far only Put Blob changes a container
+-- what a Set Blob Metadata does: the metadata of the request replaces all metadata
+abbrev pub set_metadata : Asked → ℕ → List ℕ → SetMetadata
+set_metadata q t name = record { blob = name; moment = t; metadata = q.ask.args.metadata }
+
+-- what a Delete Blob does
+abbrev pub delete_blob : List ℕ → DeleteBlob
+delete_blob name = record { blob = name }
+
+-- what a request of the operation does to a container at a moment; the other operations change nothing so far
 abbrev pub act_by : Op → Part ℕ → Asked → ℕ → Option Act
+act_by op.CreateContainer p q t = Some (act.CreateContainer (create_container q t))
+act_by op.SetContainerMetadata p q t = Some (act.SetContainerMetadata (set_container_metadata q t))
+act_by op.DeleteContainer p q t = Some act.DeleteContainer
 act_by op.PutBlob p q t = option_and_then (λ name. option_map (λ kept. act.PutBlob (put_blob q t name kept)) q.ask.args.kept) q.ask.blob
+act_by op.SetMetadata p q t = option_map (λ name. act.SetMetadata (set_metadata q t name)) q.ask.blob
+act_by op.DeleteBlob p q t = option_map (λ name. act.DeleteBlob (delete_blob name)) q.ask.blob
 act_by _ p q t = None
 
 -- the change that an allowed request makes at a moment, in the container that it names; the sizes of content decide the change

@@ -1,31 +1,20 @@
 //! What each change does to a container.
-ghost use Rattle.std.specs.Prelude.{◌≡◌, ◌<◌, IsOk, IsTrue, IfOk, OnOk, OnErr, [], ◌∷◌};
-ghost use Rattle.stamp_types.specs.declared.act.PutBlob.{PutBlob};
+ghost use Rattle.std.specs.Prelude.{◌≡◌, ◌<◌, IsOk, IsTrue, OnOk, OnErr};
 ghost use Rattle.stamp_types.specs.declared.act.Act.TheVariants as act;
-ghost use Rattle.stamp_types.specs.Changes.{is_act, are_blocks, is_stored_blob};
+ghost use Rattle.stamp_types.specs.Changes.{is_act, is_stored_blob};
 ghost use Rattle.stamp_types.specs.Pieces.{pieces_len};
-ghost use Rattle.stamp_types.specs.World.{changed, part_value, same_pieces, whole_block};
+ghost use Rattle.stamp_types.specs.World.{changed, part_value, same_pieces};
 ghost use Rattle.range_rows.specs.Fits.{deletes, fits};
 ghost use Rattle.range_rows.specs.ObjectRules.{count_limit};
 
 use crate::container::Container;
-use crate::row::Row;
+use block_blobs::BlobRow;
 use stamp_types::{
-    Acl, Act, Block, Bytes, Committed, ContainerRow, CreateContainer, DeleteBlob, Items, Pieces,
-    Policies, PutBlob, SetContainerMetadata, SetMetadata, Standing, StoredBlob, Text,
+    Acl, Act, Bytes, ContainerRow, CreateContainer, DeleteBlob, Policies, PutBlob,
+    SetContainerMetadata, SetMetadata, Standing, StoredBlob, Text,
 };
 use stamp_values::Named;
 use std::alloc::{AllocError, Global};
-
-// The blocks of content that Put Blob brings: one block without an id.
-#[tactic(auto, using(crate::proofs::PutBlocks::are_blocks_whole))]
-fn whole(alloc: Global, content: Pieces) -> Result<Items<Block<Pieces>>, AllocError>
-    ensures value { IfOk result (λ blocks. blocks ≡ whole_block content ∷ []) }
-    ensures valid { IfOk result (λ blocks. IsTrue (are_blocks blocks)) }
-{
-    let _pieces = content.as_slice();
-    Ok(Items::new(vec![in alloc; Block { id: None, content }]?))
-}
 
 // The bytes of a name, which are not copied.
 fn bytes_of(name: Text) -> Bytes
@@ -78,34 +67,27 @@ impl Container {
         ensures refused { OnErr result (self.new ≡ self.old) }
     {
         let count = self.count + 1;
-        let PutBlob {
-            blob,
-            moment,
-            props,
-            metadata,
-            content,
-        } = put;
-        let committed = Committed {
-            etag: count,
-            made: moment,
-            props,
-            metadata,
-            blocks: whole(alloc, content)?,
+        let name = bytes_of(put.blob);
+        let mut row = BlobRow::new(alloc);
+        // A row has no name of its own: the name moves to the row's key.
+        let unnamed = PutBlob {
+            blob: Text::empty(alloc),
+            ..put
         };
-        self.blobs
-            .insert(bytes_of(blob), Row::new(alloc, committed))?;
+        row.replace(alloc, unnamed, count)?;
+        self.blobs.insert(name, row)?;
         self.count = count;
         Ok(())
     }
 
-    #[tactic(auto, using(crate::proofs::Parts::with_row_metadata))]
+    #[tactic(auto, using(block_blobs::proofs::BlobsAfter::blobs_after_set_metadata))]
     fn set_metadata(&mut self, set: SetMetadata)
         requires { self.old.count < count_limit }
         ensures { self.new ≡ changed same_pieces (act.SetMetadata set) self.old }
     {
         self.count += 1;
         if let Some(row) = self.blobs.get_mut(set.blob.as_str().as_bytes()) {
-            row.set_metadata(self.count, set);
+            row.set_metadata(set, self.count);
         }
     }
 
@@ -125,7 +107,7 @@ impl Container {
     }
 
     #[tactic(auto, using(crate::proofs::Parts::same_committed, crate::proofs::FitLemmas::uncommitted_of_row))]
-    fn store_blob(&mut self, row: StoredBlob) -> Result<(), AllocError>
+    fn store_blob(&mut self, alloc: Global, row: StoredBlob) -> Result<(), AllocError>
         requires { IsTrue (is_stored_blob row) }
         ensures changed { OnOk result
             (self.new ≡ changed same_pieces (act.StoredBlob row) self.old) }
@@ -136,15 +118,15 @@ impl Container {
             committed,
             uncommitted,
         } = row;
-        self.blobs
-            .insert(bytes_of(blob), Row::stored(committed, uncommitted))?;
+        let row = BlobRow::stored(alloc, committed, uncommitted)?;
+        self.blobs.insert(bytes_of(blob), row)?;
         Ok(())
     }
 
     /// Makes a change that fits. What the change holds moves into the container.
     ///
-    /// `AllocError` if memory runs out for a new row or its list of blocks. The container is then
-    /// as it was.
+    /// `AllocError` if memory runs out for a new row, its list of blocks or the tree of its
+    /// uncommitted blocks. The container is then as it was.
     #[tactic(auto, using(crate::proofs::FitLemmas::room_for_change))]
     pub(crate) fn take(&mut self, alloc: Global, act: Act) -> Result<(), AllocError>
         requires fits { IsTrue (fits (part_value pieces_len self.old) act) }
@@ -161,7 +143,7 @@ impl Container {
             Act::SetMetadata(set) => self.set_metadata(set),
             Act::DeleteBlob(delete) => self.delete_blob(delete),
             Act::ContainerRow(row) => self.take_row(row),
-            Act::StoredBlob(row) => self.store_blob(row)?,
+            Act::StoredBlob(row) => self.store_blob(alloc, row)?,
             Act::SetAcl(_) | Act::PutBlock(_) | Act::PutBlockList(_) => unreachable!(),
         }
         Ok(())

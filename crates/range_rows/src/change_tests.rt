@@ -4,8 +4,9 @@
 use crate::rows::Rows;
 use crate::sample_requests::{author, key, make, moment_after, text, visible};
 use stamp_types::{
-    Act, Block, Change, Committed, CreateContainer, DeleteBlob, Level, Metadata, Moment, Piece,
-    Pieces, Props, PutBlob, SetContainerMetadata, SetMetadata, Share, Standing, Text,
+    Act, Block, BlockId, Bytes, Change, Committed, CreateContainer, DeleteBlob, Items, Level,
+    Metadata, Moment, Piece, Pieces, Props, PutBlob, SetContainerMetadata, SetMetadata, Share,
+    Standing, StoredBlob, Text, UncommittedBlock,
 };
 use std::alloc::Global;
 use std::process::Abort;
@@ -34,7 +35,7 @@ struct Step {
     count: u64,
 }
 
-// Stands for a name of 1,024 characters.
+// This word is in place of a name of 1,024 characters.
 const LONG: &str = "long";
 
 fn planned(
@@ -271,4 +272,44 @@ fn six_changes_leave_what_they_do_not_name(rt: HostRuntime) {
             "{at_key:?} {blob}"
         );
     }
+}
+
+fn uncommitted(rt: &impl Abort, alloc: Global, id: u8, word: &str) -> UncommittedBlock {
+    let id = BlockId::new(Bytes::new(vec![in alloc; id].expect(rt, "memory")));
+    UncommittedBlock {
+        id: id.expect(rt, "an id"),
+        content: content(rt, alloc, word),
+    }
+}
+
+fn stored(rt: &impl Abort, alloc: Global) -> Act {
+    let block = Block {
+        id: None,
+        content: content(rt, alloc, "six"),
+    };
+    let blocks = [
+        uncommitted(rt, alloc, 1, "seven"),
+        uncommitted(rt, alloc, 2, "eight"),
+    ];
+    Act::StoredBlob(StoredBlob {
+        blob: name(rt, alloc, "a"),
+        committed: Some(Committed {
+            etag: 3,
+            made: moment_after(rt, 5),
+            props: props(rt, alloc),
+            metadata: author(rt, alloc, "five"),
+            blocks: Items::new(vec![in alloc; block].expect(rt, "memory")),
+        }),
+        uncommitted: Items::new(Vec::from_array(alloc, blocks).expect(rt, "memory")),
+    })
+}
+
+#[test]
+fn the_row_of_a_checkpoint_is_a_blob(rt: HostRuntime) {
+    let alloc = rt.alloc();
+    let mut rows = Rows::new(alloc);
+    let change = Change::new(key(&rt, alloc, PICS.0, PICS.1), stored(&rt, alloc));
+    make(&rt, alloc, &mut rows, change.expect(&rt, "a good change"));
+    let written = Some((3, 5, "five", "six"));
+    assert!(rt; has_blob(&rt, alloc, &rows, PICS, "a", written));
 }

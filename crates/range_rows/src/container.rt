@@ -3,7 +3,7 @@ ghost use Rattle.std.specs.Prelude.{◌≡◌, IsTrue};
 ghost use Rattle.std.specs.Option.{option_copied};
 ghost use Rattle.stamp_types.specs.Changes.{is_committed};
 
-use crate::row::Row;
+use block_blobs::BlobRow;
 use stamp_types::{Committed, Pieces, Standing, Text};
 use stamp_values::Named;
 use std::alloc::Global;
@@ -17,7 +17,7 @@ pub(crate) struct Container {
     pub(crate) count: u64,
     // what the container has beside its blobs, if it exists
     pub(crate) standing: Option<Standing>,
-    pub(crate) blobs: Named<Row>,
+    pub(crate) blobs: Named<BlobRow>,
 }
 
 impl Model for Container {

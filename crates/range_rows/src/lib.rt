@@ -11,16 +11,16 @@ mod change_laws;
 mod change_tests;
 mod container;
 mod object_rules;
+#[cfg(test)]
+mod operation_tests;
 mod reading;
 mod replies;
 mod request_changes;
-mod row;
 mod rows;
 #[cfg(test)]
 mod rows_tests;
 #[cfg(test)]
 mod sample_requests;
-mod uncommitted;
 
 pub use answer::{Answer, Span};
 pub use answer_laws::spans_say_what_content_goes_out;

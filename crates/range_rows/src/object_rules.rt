@@ -1,9 +1,12 @@
 //! The rules of the object.
-ghost use Rattle.std.specs.Prelude.{◌≡◌, IfOk, IsErr, IsTrue, is_none};
+ghost use Rattle.std.specs.Prelude.{◌≡◌, IfOk, IsErr, IsTrue, is_none, is_some, nat_le};
 ghost use Rattle.std.specs.Option.{option_copied};
 ghost use Rattle.stamp_values.specs.declared.op.Op.TheVariants as op;
+ghost use Rattle.stamp_types.specs.Changes.{is_committed};
+ghost use Rattle.range_rows.specs.BlobRows.{sizes_held};
 ghost use Rattle.range_rows.specs.ObjectRules as rules;
 
+use crate::container::Container;
 use crate::reading::Reading;
 use crate::rows::Rows;
 use stamp_types::{Ask, Body, Code, Committed, Op, Pieces, Refusal, Request, Rule};
@@ -63,58 +66,100 @@ fn refused(rule: Rule, code: Code) -> Refusal
     Refusal { rule, code }
 }
 
+// Whether the container exists.
+fn exists(held: Option<&Container>) -> bool
+    ensures { result ≡ is_some (sizes_held (option_copied held.entry)).standing }
+{
+    match held {
+        Some(container) => container.standing().is_some(),
+        None => false,
+    }
+}
+
+/// What readers see of the blob that the request names, if it names one.
+pub(crate) fn named_blob<'a>(container: &'a Container, ask: &Ask) -> Option<&'a Committed<Pieces>>
+    ensures value { option_copied result ≡ rules.named_blob container.now ask.now }
+    ensures blocks { IsTrue (is_committed (option_copied result)) }
+{
+    match &ask.blob {
+        Some(name) => container.committed(name),
+        None => None,
+    }
+}
+
+// Whether the blob that the request names has no committed part in the container, or the request
+// names no blob.
+fn lacks_named(container: &Container, ask: &Ask) -> bool
+    ensures { result ≡ is_none (rules.named_blob container.now ask.now) }
+{
+    named_blob(container, ask).is_none()
+}
+
+// The same for a container that may never have been.
+#[tactic(auto, using(crate::proofs::AnswerLemmas::absent_by_sizes))]
+fn lacks_blob(held: Option<&Container>, ask: &Ask) -> bool
+    ensures { result
+        ≡ is_none (rules.named_blob (sizes_held (option_copied held.entry)) ask.now) }
+{
+    match held {
+        Some(container) => lacks_named(container, ask),
+        None => true,
+    }
+}
+
+/// How many changes the container has seen: 0 if the container never was.
+pub(crate) fn count(held: Option<&Container>) -> u64
+    ensures { result ≡ (sizes_held (option_copied held.entry)).count }
+{
+    match held {
+        Some(container) => container.count(),
+        None => 0,
+    }
+}
+
+// Whether the container takes no further change.
+fn is_full(held: Option<&Container>) -> bool
+    ensures { result
+        ≡ nat_le rules.count_limit (sizes_held (option_copied held.entry)).count }
+{
+    u64::MAX <= count(held)
+}
+
+// The refusal by the first cause for which the object refuses the request, with the cause's rule
+// and code.
+fn refusal(held: Option<&Container>, request: &Request) -> Option<Refusal>
+    ensures { result
+        ≡ rules.object_refusal (sizes_held (option_copied held.entry)) request.now }
+{
+    let ask = request.ask();
+    let exists = exists(held);
+    if needs_container(ask.op) && !exists {
+        return Some(refused(Rule::O1, Code::ContainerNotFound));
+    }
+    if ask.op == Op::CreateContainer && exists {
+        return Some(refused(Rule::O2, Code::ContainerAlreadyExists));
+    }
+    if needs_blob(ask.op) && lacks_blob(held, ask) {
+        return Some(refused(Rule::O3, Code::BlobNotFound));
+    }
+    if is_damaged(request) {
+        return Some(refused(Rule::O5, Code::Md5Mismatch));
+    }
+    if ask.op.writes() && is_full(held) {
+        return Some(refused(Rule::O6, Code::InternalError));
+    }
+    None
+}
+
 impl Rows {
-    ghost use Rattle.stamp_types.specs.World.{part_at, part_value};
-    ghost use Rattle.stamp_types.specs.Pieces.{pieces_len};
-    ghost use Rattle.stamp_types.specs.Changes.{is_committed};
     ghost use Rattle.range_rows.specs.RequestChanges.{reading_of};
 
-    /// What readers see of the blob that the request names, if it names one.
-    pub(crate) fn named_blob(&self, ask: &Ask) -> Option<&Committed<Pieces>>
-        ensures value { option_copied result
-            ≡ rules.named_blob (part_at self.now ask.now.key) ask.now }
-        ensures blocks { IsTrue (is_committed (option_copied result)) }
-    {
-        match &ask.blob {
-            Some(name) => self.blob(&ask.key, name),
-            None => None,
-        }
-    }
-
-    // Whether the blob that the request names has no committed part, or the request names no blob.
-    #[tactic(auto, using(crate::proofs::AnswerLemmas::absent_by_either_reading))]
-    fn lacks_blob(&self, ask: &Ask) -> bool
-        ensures { result
-            ≡ is_none
-            (rules.named_blob (part_value pieces_len (part_at self.now ask.now.key)) ask.now) }
-    {
-        self.named_blob(ask).is_none()
-    }
-
-    // The refusal by the first cause for which the object refuses the request, with the cause's
-    // rule and code.
+    // The same for the container that the request names. The request walks to it once.
     fn refusal(&self, request: &Request) -> Option<Refusal>
         ensures { result
             ≡ rules.object_refusal (rules.sizes_named self.now request.now) request.now }
     {
-        let ask = request.ask();
-        let exists = self.container(&ask.key).is_some();
-        if needs_container(ask.op) && !exists {
-            return Some(refused(Rule::O1, Code::ContainerNotFound));
-        }
-        if ask.op == Op::CreateContainer && exists {
-            return Some(refused(Rule::O2, Code::ContainerAlreadyExists));
-        }
-        if needs_blob(ask.op) && self.lacks_blob(ask) {
-            return Some(refused(Rule::O3, Code::BlobNotFound));
-        }
-        if is_damaged(request) {
-            return Some(refused(Rule::O5, Code::Md5Mismatch));
-        }
-        if ask.op.writes() && self.count(&ask.key) == u64::MAX {
-            return Some(refused(Rule::O6, Code::InternalError));
-        }
-        None
+        refusal(self.held(&request.ask().key), request)
     }
 
     /// The refusal of a request by the object, if the object refuses it: the rule and the code of

@@ -1,21 +1,28 @@
 //! Replies to requests that were allowed.
-ghost use Rattle.std.specs.Prelude.{◌≡◌, ◌+◌, ◌^◌, ◌<◌, ◌≤◌, [], ◌++◌, IfOk, IsTrue, None, OnOk, Some, length, map};
+ghost use Rattle.std.specs.Prelude.{◌≡◌, ◌+◌, ◌^◌, ◌<◌, ◌≤◌, [], ◌++◌, IfOk, IsTrue, None, OnOk, Some, false, length, map};
 ghost use Rattle.std.specs.List.{flat_map, list_all};
 ghost use Rattle.stamp_values.specs.Limits.{blob_limit};
-ghost use Rattle.stamp_values.specs.declared.op.Op.TheVariants as op;
-ghost use Rattle.std.specs.Option.{option_to_list};
+ghost use Rattle.std.specs.Option.{option_copied, option_to_list};
+ghost use Rattle.stamp_values.specs.Operations.{writes};
 ghost use Rattle.stamp_types.specs.declared.header.Header.TheVariants as header;
 ghost use Rattle.stamp_types.specs.Changes.{are_blocks, blocks_len};
 ghost use Rattle.stamp_types.specs.Pieces.{pieces_len};
-ghost use Rattle.stamp_types.specs.World.{committed_value};
+ghost use Rattle.stamp_types.specs.Requests.{IsRequest};
+ghost use Rattle.stamp_types.specs.World.{committed_value, part_value};
+ghost use Rattle.stamp_types.specs.declared.status.Status.TheVariants as status;
+ghost use Rattle.range_rows.specs.BlobRows.{sizes_held};
 ghost use Rattle.range_rows.specs.ObjectReplies as replies;
+ghost use Rattle.range_rows.specs.ObjectRules.{object_refusal};
+ghost use Rattle.range_rows.specs.RequestChanges.{change_of, part_after};
 
 use crate::answer::{Answer, Span};
+use crate::container::Container;
+use crate::object_rules::{count, named_blob};
 use crate::reading::Reading;
 use crate::rows::Rows;
 use stamp_types::{
-    Block, Committed, Header, Items, Meta, Moment, Op, Piece, Pieces, Props, Reply, Request,
-    Shares, Status, Visible,
+    Block, Committed, Header, Items, Meta, Metadata, Moment, Op, Piece, Pieces, Props, Reply,
+    Request, Shares, Status, Visible,
 };
 use std::alloc::{AllocError, Global};
 
@@ -96,14 +103,39 @@ fn push_dates(headers: &mut Vec<Header>, etag: u64, made: Moment) -> Result<(), 
 fn read_headers(alloc: Global, blob: &Committed<Pieces>) -> Result<Vec<Header>, AllocError>
     ensures { IfOk result (λ headers. headers.items ≡ replies.read_headers blob.now) }
 {
-    // Room for the kept headers that most blobs have, and for the last four lines.
-    let mut headers = Vec::with_capacity(alloc, 6)?;
+    let metas = blob.metadata.as_slice();
+    // Room for the five kept headers, the metadata, and the last four lines.
+    let mut headers = Vec::with_capacity(alloc, metas.len() + 9)?;
     push_kept(&mut headers, &blob.props)?;
-    push_metadata(&mut headers, blob.metadata.as_slice())?;
+    push_metadata(&mut headers, metas)?;
     headers.push(Header::BlobType)?;
     headers.push(Header::AcceptRanges)?;
     push_dates(&mut headers, blob.etag, blob.made)?;
     Ok(headers)
+}
+
+// A reply that refuses nothing, with an empty body.
+fn success_reply(alloc: Global, status: Status, headers: Vec<Header>, length: u64) -> Reply
+    ensures { result ≡ replies.success_reply status headers.items length }
+{
+    Reply {
+        status,
+        code: None,
+        rule: None,
+        headers: Items::new(headers),
+        length,
+        body: Shares::empty(alloc),
+    }
+}
+
+// The reply that says which change wrote last, and when.
+fn dates_reply(alloc: Global, status: Status, etag: u64, made: Moment) -> Result<Reply, AllocError>
+    ensures { IfOk result (λ reply.
+        reply ≡ replies.success_reply status (replies.date_headers etag made) 0) }
+{
+    let mut headers = Vec::with_capacity(alloc, 2)?;
+    push_dates(&mut headers, etag, made)?;
+    Ok(success_reply(alloc, status, headers, 0))
 }
 
 fn put_reply(alloc: Global, sum: [u8; 16], etag: u64, made: Moment) -> Result<Reply, AllocError>
@@ -112,14 +144,50 @@ fn put_reply(alloc: Global, sum: [u8; 16], etag: u64, made: Moment) -> Result<Re
     let mut headers = Vec::with_capacity(alloc, 3)?;
     headers.push(Header::ContentMd5(sum))?;
     push_dates(&mut headers, etag, made)?;
-    Ok(Reply {
-        status: Status::Created,
-        code: None,
-        rule: None,
-        headers: Items::new(headers),
-        length: 0,
-        body: Shares::empty(alloc),
-    })
+    Ok(success_reply(alloc, Status::Created, headers, 0))
+}
+
+// The reply with the metadata by name, which change wrote last, and when.
+fn metadata_reply(
+    alloc: Global,
+    metadata: &Metadata,
+    etag: u64,
+    made: Moment,
+) -> Result<Reply, AllocError>
+    ensures { IfOk result (λ reply. reply
+        ≡ replies.success_reply status.Success
+        (replies.metadata_headers metadata.now etag made) 0) }
+{
+    let metas = metadata.as_slice();
+    let mut headers = Vec::with_capacity(alloc, metas.len() + 2)?;
+    push_metadata(&mut headers, metas)?;
+    push_dates(&mut headers, etag, made)?;
+    Ok(success_reply(alloc, Status::Success, headers, 0))
+}
+
+// The frame of the answer to a request that writes, from the number and the moment of its change.
+fn write_frame(
+    alloc: Global,
+    request: &Request,
+    etag: u64,
+    moment: Moment,
+) -> Result<Reply, AllocError>
+    requires served { IsTrue (replies.is_served request.now.ask.op) }
+    requires writes { IsTrue (writes request.now.ask.op) }
+    ensures frame { IfOk result (λ reply. reply ≡ replies.write_frame request.now etag moment) }
+    ensures fits { IsRequest request.now }
+{
+    match request.ask().op {
+        Op::CreateContainer => dates_reply(alloc, Status::Created, etag, moment),
+        Op::SetContainerMetadata | Op::SetMetadata => {
+            dates_reply(alloc, Status::Success, etag, moment)
+        }
+        Op::PutBlob => put_reply(alloc, request.body().sum(), etag, moment),
+        Op::DeleteContainer | Op::DeleteBlob => {
+            Ok(success_reply(alloc, Status::Accepted, Vec::new(alloc), 0))
+        }
+        _ => unreachable!(),
+    }
 }
 
 // Puts the whole of each piece after the spans. No byte is copied.
@@ -171,14 +239,19 @@ fn get_frame(alloc: Global, blob: &Committed<Pieces>) -> Result<Reply, AllocErro
         reply ≡ replies.get_frame (committed_value pieces_len blob.now)) }
 {
     let headers = read_headers(alloc, blob)?;
-    Ok(Reply {
-        status: Status::Success,
-        code: None,
-        rule: None,
-        headers: Items::new(headers),
-        length: total_len(blob.blocks.as_slice()),
-        body: Shares::empty(alloc),
-    })
+    let length = total_len(blob.blocks.as_slice());
+    Ok(success_reply(alloc, Status::Success, headers, length))
+}
+
+// The answer without content.
+fn without_content(alloc: Global, frame: Reply) -> Answer
+    ensures frame { result.frame ≡ frame }
+    ensures spans { result.spans ≡ [] }
+{
+    Answer {
+        frame,
+        spans: Items::new(Vec::new(alloc)),
+    }
 }
 
 // The answer to a Get Blob: all of the blob.
@@ -200,42 +273,76 @@ fn get_answer(alloc: Global, blob: &Committed<Pieces>) -> Result<Answer, AllocEr
     })
 }
 
+// The answer to an allowed request that writes: its ETag is the number of the change that the
+// request makes.
+#[tactic(auto, using(crate::proofs::Allowed::room_for_write, crate::proofs::FrameLemmas::frame_of_write))]
+fn write_answer(
+    alloc: Global,
+    held: Option<&Container>,
+    request: &Request,
+    moment: Moment,
+) -> Result<Answer, AllocError>
+    requires served { IsTrue (replies.is_served request.now.ask.op) }
+    requires writes { IsTrue (writes request.now.ask.op) }
+    requires allowed { object_refusal (sizes_held (option_copied held)) request.now ≡ None }
+    ensures frame { IfOk result (λ answer. answer.frame
+        ≡ replies.frame
+        (part_after pieces_len
+        (change_of (sizes_held (option_copied held.entry)) request.now moment)
+        (sizes_held (option_copied held.entry))) request.now) }
+    ensures spans { IfOk result (λ answer. answer.spans ≡ []) }
+{
+    let frame = write_frame(alloc, request, count(held) + 1, moment)?;
+    Ok(without_content(alloc, frame))
+}
+
+// The answer to an allowed request that reads. The request walks to its blob once.
+#[tactic(auto, using(crate::proofs::Allowed::allowed_blob, crate::proofs::Allowed::allowed_container, crate::proofs::FrameLemmas::frame_of_container_properties, crate::proofs::FrameLemmas::frame_of_get_blob, crate::proofs::FrameLemmas::frame_of_blob_properties, crate::proofs::FrameLemmas::frame_of_get_metadata, crate::proofs::FrameLemmas::spans_of_get, crate::proofs::FrameLemmas::spans_of_others))]
+fn read_answer(
+    alloc: Global,
+    container: &Container,
+    request: &Request,
+) -> Result<Answer, AllocError>
+    requires served { IsTrue (replies.is_served request.now.ask.op) }
+    requires reads { writes request.now.ask.op ≡ false }
+    requires allowed { object_refusal (part_value pieces_len container.now) request.now ≡ None }
+    ensures frame { IfOk result (λ answer.
+        answer.frame ≡ replies.frame (part_value pieces_len container.now) request.now) }
+    ensures within { IfOk result (λ answer. IsTrue (list_all replies.is_within answer.spans)) }
+    ensures short { IfOk result (λ answer. replies.spans_len answer.spans ≤ blob_limit) }
+    ensures spans { IfOk result (λ answer.
+        answer.spans ≡ replies.spans container.now request.now) }
+{
+    let ask = request.ask();
+    match (ask.op, container.standing(), named_blob(container, ask)) {
+        (Op::ContainerProperties, Some(standing), _) => {
+            let frame = metadata_reply(alloc, &standing.metadata, standing.etag, standing.made)?;
+            Ok(without_content(alloc, frame))
+        }
+        (Op::BlobProperties, _, Some(blob)) => {
+            let frame = get_frame(alloc, blob)?;
+            Ok(without_content(alloc, frame))
+        }
+        (Op::GetMetadata, _, Some(blob)) => {
+            let frame = metadata_reply(alloc, &blob.metadata, blob.etag, blob.made)?;
+            Ok(without_content(alloc, frame))
+        }
+        (Op::GetBlob, _, Some(blob)) => {
+            let answer = get_answer(alloc, blob)?;
+            Ok(answer)
+        }
+        _ => unreachable!(),
+    }
+}
+
 impl Rows {
-    ghost use Rattle.range_rows.specs.ObjectRules.{object_refusal, sizes_named};
+    ghost use Rattle.range_rows.specs.ObjectReplies.{is_served};
+    ghost use Rattle.range_rows.specs.ObjectRules.{sizes_named};
     ghost use Rattle.range_rows.specs.RequestChanges.{pieces_after, reading_of, sizes_after};
 
-    // The answer to a Put Blob that was allowed: the ETag is the ETag of the change that the Put
-    // Blob makes.
-    #[tactic(auto, using(crate::proofs::Allowed::allowed_room, crate::proofs::AnswerLemmas::frame_of_put, crate::proofs::AnswerLemmas::spans_of_put))]
-    fn put_answer(
-        &self,
-        alloc: Global,
-        request: &Request,
-        moment: Moment,
-    ) -> Result<Answer, AllocError>
-        requires put { request.now.ask.op ≡ op.PutBlob }
-        requires allowed { object_refusal (sizes_named self.now request.now) request.now ≡ None }
-        ensures frame { IfOk result (λ answer.
-            answer.frame ≡ replies.frame (sizes_after self.now request.now moment) request.now) }
-        ensures spans { IfOk result (λ answer. answer.spans ≡ []) }
-    {
-        let ask = request.ask();
-        match (&ask.blob, &ask.args.kept) {
-            (Some(_), Some(_)) => {
-                let etag = self.count(&ask.key) + 1;
-                let frame = put_reply(alloc, request.body().sum(), etag, moment)?;
-                Ok(Answer {
-                    frame,
-                    spans: Items::new(Vec::new(alloc)),
-                })
-            }
-            _ => unreachable!(),
-        }
-    }
-
     /// The answer to a request that was allowed at the moment. If the request makes a change, the
-    /// answer is made from the container as it is after that change, which is not applied yet. Put
-    /// Blob and Get Blob are answered so far. `reading` is what the request's body says.
+    /// answer is made from the container as it is after that change, which is not applied yet.
+    /// `reading` is what the request's body says.
     ///
     /// The answer has shares of the content, of which no byte is copied, or the content's places in
     /// streams: whoever sends the answer reads the content there. A range is not looked at: the
@@ -243,7 +350,7 @@ impl Rows {
     ///
     /// `AllocError` if memory runs out for the headers or the list of spans, or if the content can
     /// have no further owner.
-    #[tactic(auto, using(crate::proofs::Allowed::allowed_blob, crate::proofs::AnswerLemmas::frame_of_get, crate::proofs::AnswerLemmas::spans_of_get, crate::proofs::AnswerLemmas::spans_of_put))]
+    #[tactic(auto, using(crate::proofs::Allowed::found_for_read, crate::proofs::FrameLemmas::spans_of_write, crate::proofs::FrameLemmas::sizes_after_read, crate::proofs::FrameLemmas::pieces_after_read))]
     pub fn reply(
         &self,
         alloc: Global,
@@ -251,7 +358,7 @@ impl Rows {
         _reading: &Reading,
         moment: Moment,
     ) -> Result<Answer, AllocError>
-        requires served { IsTrue (replies.is_served request.now.ask.op) }
+        requires served { IsTrue (is_served request.now.ask.op) }
         requires allowed { object_refusal (sizes_named self.now request.now) request.now ≡ None }
         requires read { _reading.now ≡ reading_of request.now }
         ensures frame { IfOk result (λ answer.
@@ -262,10 +369,17 @@ impl Rows {
             answer.spans ≡ replies.spans (pieces_after self.now request.now moment) request.now) }
     {
         let ask = request.ask();
-        match (ask.op, self.named_blob(ask)) {
-            (Op::PutBlob, _) => self.put_answer(alloc, request, moment),
-            (Op::GetBlob, Some(blob)) => get_answer(alloc, blob),
-            _ => unreachable!(),
+        let held = self.held(&ask.key);
+        if ask.op.writes() {
+            let answer = write_answer(alloc, held, request, moment)?;
+            return Ok(answer);
+        }
+        match held {
+            Some(container) => {
+                let answer = read_answer(alloc, container, request)?;
+                Ok(answer)
+            }
+            None => unreachable!(),
         }
     }
 }

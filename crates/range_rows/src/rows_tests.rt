@@ -4,7 +4,7 @@
 use crate::answer::{Answer, Span};
 use crate::reading::read_request;
 use crate::rows::Rows;
-use crate::sample_requests::{Sum, body, make, moment, pics, request};
+use crate::sample_requests::{Sum, body, make, moment, pics, pics_and_gone, request};
 use stamp_types::{Body, Change, Header, Items, Op, Piece, Request, Rule, Status};
 use std::alloc::{AllocError, Global};
 use std::fs;
@@ -22,31 +22,63 @@ fn threads_may_have_rows() {
 }
 
 // The operation, the container, the MD5 that the request gives of an empty body, how many changes
-// the container `pics` has seen, which has no blobs, and the rule that refuses.
-fn rules() -> [(Op, &'static str, Option<Sum>, u64, Option<Rule>); 10] {
+// the containers `pics` and `gone` have seen, and the rule that refuses. `pics` has no blobs,
+// `gone` was deleted, and `jam` never was.
+type Case = (Op, &'static str, Option<Sum>, u64, Option<Rule>);
+
+// No rule, or one rule alone.
+fn single_rules() -> [Case; 13] {
     [
         (Op::ContainerProperties, "pics", None, LAST, None),
-        (Op::ContainerProperties, "jam", None, 1, Some(Rule::O1)),
-        (Op::CreateContainer, "pics", None, 1, Some(Rule::O2)),
         (Op::CreateContainer, "jam", None, 1, None),
-        (Op::GetBlob, "pics", None, 1, Some(Rule::O3)),
+        (Op::CreateContainer, "gone", None, LAST - 1, None),
         (Op::PutBlob, "pics", None, LAST - 1, None),
+        (Op::ContainerProperties, "jam", None, 1, Some(Rule::O1)),
+        (Op::SetContainerMetadata, "gone", None, 1, Some(Rule::O1)),
+        (Op::CreateContainer, "pics", None, 1, Some(Rule::O2)),
+        (Op::GetBlob, "pics", None, 1, Some(Rule::O3)),
+        (Op::SetMetadata, "pics", None, 1, Some(Rule::O3)),
         (Op::PutBlob, "pics", ZEROS, 1, Some(Rule::O5)),
-        (Op::PutBlob, "pics", None, LAST, Some(Rule::O6)),
-        // If several rules hold, the first rule is named.
-        (Op::PutBlob, "pics", ZEROS, LAST, Some(Rule::O5)),
-        (Op::PutBlob, "jam", ZEROS, LAST, Some(Rule::O1)),
+        (Op::SetContainerMetadata, "pics", ZEROS, 1, Some(Rule::O5)),
+        (Op::DeleteContainer, "pics", None, LAST, Some(Rule::O6)),
+        (Op::CreateContainer, "gone", None, LAST, Some(Rule::O6)),
     ]
+}
+
+// Two rules that hold at once: the first rule is named.
+fn pairs_of_rules() -> [Case; 8] {
+    [
+        // O1 with O3, O5, O6
+        (Op::GetBlob, "jam", None, 1, Some(Rule::O1)),
+        (Op::PutBlob, "jam", ZEROS, 1, Some(Rule::O1)),
+        (Op::PutBlob, "gone", None, LAST, Some(Rule::O1)),
+        // O2 with O5, O6
+        (Op::CreateContainer, "pics", ZEROS, 1, Some(Rule::O2)),
+        (Op::CreateContainer, "pics", None, LAST, Some(Rule::O2)),
+        // O3 with O5, O6
+        (Op::SetMetadata, "pics", ZEROS, 1, Some(Rule::O3)),
+        (Op::DeleteBlob, "pics", None, LAST, Some(Rule::O3)),
+        // O5 with O6
+        (Op::PutBlob, "pics", ZEROS, LAST, Some(Rule::O5)),
+    ]
+}
+
+fn judge(rt: &impl Abort, alloc: Global, case: Case) {
+    let (op, container, sum, count, rule) = case;
+    let rows = pics_and_gone(rt, alloc, count);
+    let request = request(rt, alloc, op, container, "a.txt", sum, Body::empty());
+    let refusal = rows.object_rule(alloc, &request, &read_request(&request));
+    let named = refusal.expect(rt, "memory").map(|refusal| refusal.rule);
+    assert!(rt; named == rule, "{op:?} {container} {count}");
 }
 
 #[test]
 fn the_first_rule_that_holds_is_named(rt: HostRuntime) {
-    for (op, container, sum, count, rule) in rules() {
-        let rows = pics(&rt, rt.alloc(), count);
-        let request = request(&rt, rt.alloc(), op, container, "a.txt", sum, Body::empty());
-        let refusal = rows.object_rule(rt.alloc(), &request, &read_request(&request));
-        let named = refusal.expect(&rt, "memory").map(|refusal| refusal.rule);
-        assert!(rt; named == rule, "{op:?} {container} {count}");
+    for case in single_rules() {
+        judge(&rt, rt.alloc(), case);
+    }
+    for case in pairs_of_rules() {
+        judge(&rt, rt.alloc(), case);
     }
 }
 

@@ -85,14 +85,35 @@ fn metadata(rt: &impl Abort, alloc: Global, op: Op) -> Metadata {
     }
 }
 
-fn args(rt: &impl Abort, alloc: Global, op: Op, content_md5: Option<Sum>) -> Args {
+fn meta(rt: &impl Abort, alloc: Global, name: &str, value: &str) -> Meta {
+    Meta {
+        name: text(rt, alloc, name),
+        value: visible(rt, alloc, value),
+    }
+}
+
+/// Metadata of four names in their order, with digits, `_` and letters. The value of `a_` is empty,
+/// and the other values are the word. Operations that keep no metadata bring no metadata.
+pub(crate) fn four_names(rt: &impl Abort, alloc: Global, op: Op, word: &str) -> Metadata {
+    if !op.keeps_metadata() {
+        return Metadata::empty(alloc);
+    }
+    let mut metas = Vec::with_capacity(alloc, 4).expect(rt, "memory");
+    for (name, value) in [("_a", word), ("a1", word), ("a_", ""), ("ab", word)] {
+        let meta = meta(rt, alloc, name, value);
+        metas.push(meta).expect(rt, "memory");
+    }
+    Metadata::new(Items::new(metas)).expect(rt, "good metadata")
+}
+
+fn args(alloc: Global, op: Op, content_md5: Option<Sum>, metadata: Metadata) -> Args {
     Args {
         if_match: None,
         if_none_match: None,
         content_md5,
         range: None,
         kept: kept(alloc, op),
-        metadata: metadata(rt, alloc, op),
+        metadata,
         level: level(op),
         page: None,
         block: None,
@@ -102,10 +123,27 @@ fn args(rt: &impl Abort, alloc: Global, op: Op, content_md5: Option<Sum>) -> Arg
 
 // The name of the blob, if the operation names one.
 fn named(rt: &impl Abort, alloc: Global, op: Op, blob: &str) -> Option<Text> {
-    if op == Op::PutBlob || op == Op::GetBlob {
+    if op.names_blob() {
         Some(text(rt, alloc, blob))
     } else {
         None
+    }
+}
+
+// The parts of a request in the account `pantry`.
+fn asked(rt: &impl Abort, alloc: Global, op: Op, container: &str, blob: &str, args: Args) -> Ask {
+    Ask {
+        op,
+        key: key(rt, alloc, "pantry", container),
+        blob: named(rt, alloc, op, blob),
+        args,
+        signing: Signing {
+            verb: Verb::Put,
+            headers: FieldList::new(alloc),
+            path: Bytes::new(Vec::new(alloc)),
+            query: FieldList::new(alloc),
+        },
+        credential: Credential::Anonymous,
     }
 }
 
@@ -119,19 +157,23 @@ pub(crate) fn request(
     content_md5: Option<Sum>,
     body: Body,
 ) -> Request {
-    let ask = Ask {
-        op,
-        key: key(rt, alloc, "pantry", container),
-        blob: named(rt, alloc, op, blob),
-        args: args(rt, alloc, op, content_md5),
-        signing: Signing {
-            verb: Verb::Put,
-            headers: FieldList::new(alloc),
-            path: Bytes::new(Vec::new(alloc)),
-            query: FieldList::new(alloc),
-        },
-        credential: Credential::Anonymous,
-    };
+    let args = args(alloc, op, content_md5, metadata(rt, alloc, op));
+    let ask = asked(rt, alloc, op, container, blob, args);
+    let request = Request::new(alloc, ask, body).expect(rt, "memory");
+    request.expect(rt, "parts that fit")
+}
+
+/// A request with this metadata on the container `pics`, or, if the operation names a blob, on its
+/// blob `a.txt`.
+pub(crate) fn request_with(
+    rt: &impl Abort,
+    alloc: Global,
+    op: Op,
+    metadata: Metadata,
+    body: Body,
+) -> Request {
+    let args = args(alloc, op, None, metadata);
+    let ask = asked(rt, alloc, op, "pics", "a.txt", args);
     let request = Request::new(alloc, ask, body).expect(rt, "memory");
     request.expect(rt, "parts that fit")
 }
@@ -149,13 +191,32 @@ fn closed(rt: &impl Abort, alloc: Global) -> Standing {
     }
 }
 
+// The row of a container of the account `pantry`.
+fn set_row(
+    rt: &impl Abort,
+    alloc: Global,
+    rows: &mut Rows,
+    container: &str,
+    count: u64,
+    standing: Option<Standing>,
+) {
+    let row = Act::ContainerRow(ContainerRow { count, standing });
+    let change = Change::new(key(rt, alloc, "pantry", container), row).expect(rt, "a good row");
+    make(rt, alloc, rows, change);
+}
+
 /// The closed container `pics`, as if it had seen so many changes.
 pub(crate) fn pics(rt: &impl Abort, alloc: Global, count: u64) -> Rows {
     let mut rows = Rows::new(alloc);
     let standing = Some(closed(rt, alloc));
-    let row = Act::ContainerRow(ContainerRow { count, standing });
-    let change = Change::new(key(rt, alloc, "pantry", "pics"), row).expect(rt, "a good row");
-    make(rt, alloc, &mut rows, change);
+    set_row(rt, alloc, &mut rows, "pics", count, standing);
+    rows
+}
+
+/// The same rows with a container `gone`, which was deleted by as many changes.
+pub(crate) fn pics_and_gone(rt: &impl Abort, alloc: Global, count: u64) -> Rows {
+    let mut rows = pics(rt, alloc, count);
+    set_row(rt, alloc, &mut rows, "gone", count, None);
     rows
 }
 

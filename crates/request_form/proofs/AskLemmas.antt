@@ -1,14 +1,20 @@
 -- What a head asks for fits its operation.
-use Rattle.std.proofs.Common.{◌≡◌, ℕ, ◌≤◌, Bool, true, false, not, ◌==◌, cond, List, [], ◌∷◌, find, length, sum_by, Option, Some, None, option_and_then, option_map, codes, refl, sym, ap, ◌∙◌, arith, subst}
+use Rattle.std.proofs.Common.{◌≡◌, ℕ, ◌≤◌, Bool, true, false, true≢false, not, ◌&&◌, ◌==◌, cond, List, [], ◌∷◌, find, length, Option, Some, None, option_and_then, option_map, codes, refl, sym, ap, ◌∙◌, arith, subst}
+use Rattle.std.proofs.lemmas.Bool.{and_parts}
 use Rattle.std.proofs.lemmas.Bool.Decides.{nat_tests}
-use Rattle.stamp_types.specs.Requests.{IsAsk, IsNamed}
+use Rattle.std.specs.List.{list_all}
+use Rattle.std.specs.Prelude.{IsSome, IsTrue, is_some}
+use Rattle.std.specs.Option.{option_map_or}
+use Rattle.stamp_types.specs.Requests.{HasItsOwn, HasItsPage, HasNoMore, IsAsk, IsNamed}
 use Rattle.stamp_types.specs.declared.ask.Ask.{Ask}
-use Rattle.stamp_values.specs.Fields.{first_value}
-use Rattle.stamp_values.specs.Operations.{body_limit}
+use Rattle.stamp_values.specs.Fields.{fields_len, first_value}
+use Rattle.stamp_values.specs.Operations.{body_limit, checks_md5, keeps_headers, lists_names, names_blob, names_container, sets_level}
+use Rattle.stamp_values.specs.declared.level.Level.TheVariants.{Closed}
 use Rattle.stamp_values.specs.declared.op.Op.{Op}
-use Rattle.stamp_values.specs.declared.op.Op.TheVariants.{PutBlob, GetBlob}
+use Rattle.stamp_values.specs.declared.op.Op.TheVariants.{PutBlock, GetBlockList}
 use Rattle.stamp_values.specs.declared.verb.Verb.{Verb}
-use Rattle.request_form.specs.HeadForms.{args_of, ask_of, closes_of, expects_of, form_of}
+use Rattle.request_form.specs.HeadForms.{args_of, ask_of, blob_name_of, closes_of, expects_of, form_of, kept_of, level_named, line_args_of, md5_under}
+use Rattle.request_form.specs.HeadMetadata.{metadata_by}
 use Rattle.request_form.specs.HeadReads.{AreFields, IsLine}
 use Rattle.request_form.specs.HeadRules.{OperationRow, body_len_of, is_put_blob, is_row, op_at, op_of, operations, verb_of}
 use Rattle.request_form.specs.Targets.{container_of, kind_of, target_of}
@@ -17,75 +23,121 @@ use Rattle.request_form.specs.HeadParts.{HeadParts}
 use Rattle.request_form.specs.declared.request_line.Line.{Line}
 use Rattle.request_form.specs.declared.target.Target.{Target}
 use Rattle.request_form.proofs.TextLemmas.{HasGoodNames, good_names, container_some}
-use Rattle.request_form.proofs.ValueLemmas.{kept_short}
+use Rattle.request_form.proofs.ValueLemmas.{args_short}
 
--- the property holds of the operation of each row
-abbrev EachOp : (Op → Type 0) → List OperationRow → Type 0
-EachOp P [] = Unit {0}
-EachOp P (row ∷ rows) = P row.op × EachOp P rows
-
--- the property holds of the operation that is found in these rows
-found_op : (P : Op → Type 0) (test : OperationRow → Bool) (rows : List OperationRow) (op : Op) → EachOp P rows → option_map (λ row. row.op) (find test rows) ≡ Some op → P op
-found_op P test [] op each e = absurd (cc)
-found_op P test (row ∷ rows) op each e = by_test (test row) (found_op P test rows op each.1) e
+-- what is found in these rows passes a test that the operation of each row passes
+found_op : (passes : Op → Bool) (test : OperationRow → Bool) (rows : List OperationRow) (op : Op) → list_all (λ row. passes row.op) rows ≡ true
+    → option_map (λ row. row.op) (find test rows) ≡ Some op → passes op ≡ true
+found_op passes test [] op each e = absurd (cc)
+found_op passes test (row ∷ rows) op each e =
+    let both = and_parts (passes row.op) (list_all (λ row. passes row.op) rows) each in
+    by_test (test row) both.0 (found_op passes test rows op both.1) e
   where
-    by_test : (b : Bool) → (option_map (λ row. row.op) (find test rows) ≡ Some op → P op) → option_map (λ row. row.op) (cond b (Some row) (find test rows)) ≡ Some op → P op
-    by_test true rest e = let same : row.op ≡ op = cc in subst P same each.0
-    by_test false rest e = rest e
+    by_test : (b : Bool) → passes row.op ≡ true → (option_map (λ row. row.op) (find test rows) ≡ Some op → passes op ≡ true)
+        → option_map (λ row. row.op) (cond b (Some row) (find test rows)) ≡ Some op → passes op ≡ true
+    by_test true first rest e = let same : row.op ≡ op = cc in subst (λ (o : Op). passes o ≡ true) same first
+    by_test false first rest e = rest e
 
-by_verb : (P : Op → Type 0) (verb : Option Verb) (target : Target) (op : Op) → EachOp P operations → option_and_then (λ verb. op_at verb target) verb ≡ Some op → P op
+by_verb : (passes : Op → Bool) (verb : Option Verb) (target : Target) (op : Op) → list_all (λ row. passes row.op) operations ≡ true
+    → option_and_then (λ verb. op_at verb target) verb ≡ Some op → passes op ≡ true
 unfolding op_at
-by_verb P None target op each e = absurd (cc)
-by_verb P (Some verb) target op each e =
-    found_op P (is_row verb (kind_of target.path) (first_value target.query (codes "restype")) (first_value target.query (codes "comp"))) operations op each e
+by_verb passes None target op each e = absurd (cc)
+by_verb passes (Some verb) target op each e =
+    found_op passes (is_row verb (kind_of target.path) (first_value target.query (codes "restype")) (first_value target.query (codes "comp"))) operations op each e
 
--- the property holds of the operation of a head
-of_head : (P : Op → Type 0) (p : HeadParts) (op : Op) → EachOp P operations → op_of p ≡ Some op → P op
+-- the operation of a head passes a test that the operation of each row passes
+of_head : (passes : Op → Bool) (p : HeadParts) (op : Op) → list_all (λ row. passes row.op) operations ≡ true → op_of p ≡ Some op → passes op ≡ true
 unfolding op_of
-of_head P p op each e = by_verb P (verb_of p.method) (target_of p.target) op each e
+of_head passes p op each e = by_verb passes (verb_of p.method) (target_of p.target) op each e
 
 -- a text of three bytes or more is not empty
 not_nothing : (t : List ℕ) → 3 ≤ length t → not (length t == 0) ≡ true
 not_nothing t some = grind (arith, nat_tests)
 
-named_put : (verb : Verb) (p : HeadParts) → HasGoodNames (target_of p.target).path → IsNamed (ask_of PutBlob verb p)
+-- the operation needs the id of a block or kinds of blocks
+abbrev needs_blocks : Op → Bool
+needs_blocks PutBlock = true
+needs_blocks GetBlockList = true
+needs_blocks other = false
+
+-- the operation names a container, and needs no page, no block and no kinds of blocks
+abbrev is_plain : Op → Bool
+is_plain op = names_container op && not (lists_names op) && not (needs_blocks op)
+
+record IsPlain (op : Op) : Type 0 where
+  container : names_container op ≡ true
+  page : lists_names op ≡ false
+  block : op ≡ PutBlock → ⊥
+  kinds : op ≡ GetBlockList → ⊥
+
+not_true : (b : Bool) → not b ≡ true → b ≡ false
+not_true true e = sym e
+not_true false e = refl
+
+plain_parts : (op : Op) → is_plain op ≡ true → IsPlain op
+plain_parts op plain =
+    let parts = and_parts (names_container op && not (lists_names op)) (not (needs_blocks op)) plain in
+    let first = and_parts (names_container op) (not (lists_names op)) parts.0 in
+    let none = not_true (needs_blocks op) parts.1 in
+    record {
+      container = first.0;
+      page = not_true (lists_names op) first.1;
+      block = λ same. true≢false (sym (ap needs_blocks same) ∙ none);
+      kinds = λ same. true≢false (sym (ap needs_blocks same) ∙ none);
+    }
+
+-- what is there only under a condition is there if and only if the condition holds
+there : {X : Type 0} (b : Bool) (x : X) → is_some (cond b (Some x) None) ≡ b
+there true x = refl
+there false x = refl
+
+-- what is not there without a condition is not there unless the condition holds
+there_only : {X : Type 0} (b : Bool) (o : Option X) → IsSome (cond b o None) → IsTrue b
+there_only true o some = refl
+there_only false o some = absurd (cc)
+
+named : (op : Op) (verb : Verb) (p : HeadParts) → IsPlain op → HasGoodNames op (target_of p.target).path → IsNamed (ask_of op verb p)
 unfolding ask_of
-named_put verb p good = record {
+named op verb p plain good = record {
   account = good.account;
-  container = not_nothing (container_of (target_of p.target).path) (container_some (container_of (target_of p.target).path) good.container);
+  container = not_nothing (container_of (target_of p.target).path) (container_some (container_of (target_of p.target).path) good.container) ∙ sym plain.container;
   container_name = λ t. good.container;
-  blob = refl;
+  blob = there (names_blob op) (blob_name_of (target_of p.target).path);
   blob_name = good.blob;
 }
 
-named_get : (verb : Verb) (p : HeadParts) → HasGoodNames (target_of p.target).path → IsNamed (ask_of GetBlob verb p)
-unfolding ask_of
-named_get verb p good = record {
-  account = good.account;
-  container = not_nothing (container_of (target_of p.target).path) (container_some (container_of (target_of p.target).path) good.container);
-  container_name = λ t. good.container;
-  blob = refl;
-  blob_name = good.blob;
+no_more : (op : Op) (verb : Verb) (p : HeadParts) → HasNoMore (ask_of op verb p)
+unfolding ask_of args_of line_args_of metadata_by
+no_more op verb p = record {
+  if_match = λ s. absurd (cc);
+  if_none_match = λ s. absurd (cc);
+  content_md5 = there_only (checks_md5 op) (md5_under p.fields (codes "content-md5"));
+  range = λ s. absurd (cc);
+  range_order = tt;
+  metadata = λ none. rw none refl;
 }
 
-fits_put : (verb : Verb) (p : HeadParts) → HasGoodNames (target_of p.target).path → sum_by (λ f. length f.value) p.fields ≤ 16384 → IsAsk (ask_of PutBlob verb p)
-unfolding ask_of args_of
-fits_put verb p good short = record {
-  names = named_put verb p good;
-  no_more = record { if_match = λ s. refl; if_none_match = λ s. refl; content_md5 = λ s. refl; range = λ s. absurd (cc); range_order = tt; metadata = λ s. refl };
-  own = record { kept = refl; level = refl; block = (λ s. absurd (cc), λ s. absurd (cc)); kinds = (λ s. absurd (cc), λ s. absurd (cc)) };
-  page = record { page = refl; parts = tt; delimiter = λ s. tt };
-  short = omega (arith, kept_short (is_put_blob (Some PutBlob)) p.fields);
+own : (op : Op) (verb : Verb) (p : HeadParts) → IsPlain op → HasItsOwn (ask_of op verb p)
+unfolding ask_of args_of line_args_of
+own op verb p plain = record {
+  kept = there (keeps_headers op) (kept_of (is_put_blob (Some op)) p.fields);
+  level = there (sets_level op) (option_map_or level_named (first_value p.fields (codes "x-ms-blob-public-access")) Closed);
+  block = (λ s. absurd (cc), λ e. absurd (plain.block e));
+  kinds = (λ s. absurd (cc), λ e. absurd (plain.kinds e));
 }
 
-fits_get : (verb : Verb) (p : HeadParts) → HasGoodNames (target_of p.target).path → IsAsk (ask_of GetBlob verb p)
-unfolding ask_of args_of
-fits_get verb p good = record {
-  names = named_get verb p good;
-  no_more = record { if_match = λ s. refl; if_none_match = λ s. refl; content_md5 = λ s. absurd (cc); range = λ s. absurd (cc); range_order = tt; metadata = λ s. refl };
-  own = record { kept = refl; level = refl; block = (λ s. absurd (cc), λ s. absurd (cc)); kinds = (λ s. absurd (cc), λ s. absurd (cc)) };
-  page = record { page = refl; parts = tt; delimiter = λ s. tt };
-  short = omega arith;
+page : (op : Op) (verb : Verb) (p : HeadParts) → IsPlain op → HasItsPage (ask_of op verb p)
+unfolding ask_of args_of line_args_of
+page op verb p plain = record { page = sym plain.page; parts = tt; delimiter = λ s. tt }
+
+fits_op : (op : Op) (verb : Verb) (p : HeadParts) → IsPlain op → HasGoodNames op (target_of p.target).path → fields_len p.fields ≤ 16384 → IsAsk (ask_of op verb p)
+unfolding ask_of args_of line_args_of
+fits_op op verb p plain good short = record {
+  names = named op verb p plain good;
+  no_more = no_more op verb p;
+  own = own op verb p plain;
+  page = page op verb p plain;
+  short = omega (arith, args_short op p.fields);
 }
 
 asked_op : (op : Op) (verb : Verb) (p : HeadParts) → (ask_of op verb p).op ≡ op
@@ -93,13 +145,13 @@ unfolding ask_of
 asked_op op verb p = refl
 
 -- what a head asks for fits its operation if no rule refuses the head, and so does the length of the body
-pub fits : (p : HeadParts) (l : Line) (f : Fields) (a : Ask) → IsLine p l → AreFields p l.op f → sum_by (λ f. length f.value) p.fields ≤ 16384 → a ≡ ask_of l.op l.verb p
+pub fits : (p : HeadParts) (l : Line) (f : Fields) (a : Ask) → IsLine p l → AreFields p l.op f → fields_len p.fields ≤ 16384 → a ≡ ask_of l.op l.verb p
     → IsAsk a × (f.body_len ≤ body_limit a.op)
 fits p l f a line fields short asked =
-    let good = good_names (target_of p.target).path fields.names.good in
+    let good = good_names l.op (target_of p.target).path fields.names.good in
     let same : a.op ≡ l.op = ap (λ (x : Ask). x.op) asked ∙ asked_op l.op l.verb p in
-    let each : EachOp (λ op. IsAsk (ask_of op l.verb p)) operations = (fits_put l.verb p good short, (fits_get l.verb p good, tt)) in
-    let whole : IsAsk (ask_of l.op l.verb p) = of_head (λ op. IsAsk (ask_of op l.verb p)) p l.op each line.op in
+    let plain = plain_parts l.op (of_head is_plain p l.op refl line.op) in
+    let whole : IsAsk (ask_of l.op l.verb p) = fits_op l.op l.verb p plain good short in
     (subst (λ (x : Ask). IsAsk x) (sym asked) whole, rw same fields.limit)
 
 -- the form of these parts

@@ -1,8 +1,9 @@
 -- The parts of a head are those of the grammar, and no part is longer than the head.
 use Rattle.std.proofs.Common.{◌≡◌, ℕ, ◌+◌, ◌≤◌, List, [], ◌∷◌, ◌++◌, length, map, take, sym, ap, ◌∙◌, subst, arith, cond, true, false, not}
-use Rattle.std.specs.Prelude.{reverse, sum_by, IsUtf8}
+use Rattle.std.specs.Prelude.{reverse, IsUtf8}
+use Rattle.std.specs.Char.{to_ascii_lowercase}
 use Rattle.std.specs.List.{flat_map}
-use Rattle.std.proofs.lemmas.List.{length-append, length-reverse}
+use Rattle.std.proofs.lemmas.List.{length-append, length-map, length-reverse}
 use Rattle.std.proofs.lemmas.List.Sums.{sum_by-cons}
 use Rattle.std.proofs.lemmas.Simd.{map-map}
 use Rattle.httparse.specs.Grammar.{RequestHead, Field, print_field, print_blank, print_version, print_end, print_section, field_value, trim_ows, skip_ows, is_ows}
@@ -11,6 +12,7 @@ use Rattle.httparse.specs.Spans.{IsRequestAt, header_bytes, name_and_value}
 use Rattle.httparse.specs.declared.spans.HeaderSpan.{HeaderSpan}
 use Rattle.httparse.specs.declared.spans.RequestSpans.{RequestSpans}
 use Rattle.stamp_values.specs.declared.signing.Field.{Field as Header}
+use Rattle.stamp_values.specs.Fields.{field_len, fields_len}
 use Rattle.request_form.specs.HeadFields.{is_authorization, signed_headers, authorization_values}
 use Rattle.request_form.specs.Targets.{lowered}
 use Rattle.request_form.specs.Heads.{IsHead, parsed_of, parsed_field, version_of}
@@ -44,25 +46,26 @@ unfolding trim_ows
 trim_shortens bytes =
     omega (arith, length-reverse (skip_ows (reverse (skip_ows bytes))), skip_shortens (reverse (skip_ows bytes)), length-reverse (skip_ows bytes), skip_shortens bytes)
 
--- the values are not longer than the lines
-values_shorter : (fields : List Field) → sum_by (λ (f : Header). length f.value) (map parsed_field fields) ≤ length (flat_map print_field fields)
-values_shorter [] = omega arith
-values_shorter (f ∷ fields) =
+-- names and values are not longer than the lines
+fields_shorter : (fields : List Field) → fields_len (map parsed_field fields) ≤ length (flat_map print_field fields)
+fields_shorter [] = omega arith
+fields_shorter (f ∷ fields) =
+    let name = length-map f.name to_ascii_lowercase in
     let value = trim_shortens f.raw in
-    let rest = values_shorter fields in
-    let sum : sum_by (λ (f : Header). length f.value) (map parsed_field (f ∷ fields)) ≡ length (field_value f) + sum_by (λ (f : Header). length f.value) (map parsed_field fields) = sum_by-cons (λ (f : Header). length f.value) (parsed_field f) (map parsed_field fields) in
+    let rest = fields_shorter fields in
+    let sum : fields_len (map parsed_field (f ∷ fields)) ≡ length (lowered f.name) + length (field_value f) + fields_len (map parsed_field fields) = sum_by-cons field_len (parsed_field f) (map parsed_field fields) in
     let lines : length (flat_map print_field (f ∷ fields)) ≡ length (print_field f) + length (flat_map print_field fields) = length-append (print_field f) (flat_map print_field fields) in
-    omega (arith, value, rest, sum, lines, length-append (f.name ++ 58 ∷ f.raw) (print_end f.end), length-append f.name (58 ∷ f.raw))
+    omega (arith, name, value, rest, sum, lines, length-append (f.name ++ 58 ∷ f.raw) (print_end f.end), length-append f.name (58 ∷ f.raw))
 
--- the headers that are signed have no more bytes of values than all headers
-signed_fewer : (fields : List Header) → sum_by (λ (f : Header). length f.value) (signed_headers fields) ≤ sum_by (λ (f : Header). length f.value) fields
+-- the headers that are signed have no more bytes than all headers
+signed_fewer : (fields : List Header) → fields_len (signed_headers fields) ≤ fields_len fields
 unfolding signed_headers
 signed_fewer [] = omega arith
 signed_fewer (f ∷ fields) =
     let rest = signed_fewer fields in
-    let all = sum_by-cons (λ (f : Header). length f.value) f fields in
-    let kept = sum_by-cons (λ (f : Header). length f.value) f (signed_headers fields) in
-    elim (is_authorization f) as (λ t. sum_by (λ (f : Header). length f.value) (cond (not t) (f ∷ signed_headers fields) (signed_headers fields)) ≤ sum_by (λ (f : Header). length f.value) (f ∷ fields)) [
+    let all = sum_by-cons field_len f fields in
+    let kept = sum_by-cons field_len f (signed_headers fields) in
+    elim (is_authorization f) as (λ t. fields_len (cond (not t) (f ∷ signed_headers fields) (signed_headers fields)) ≤ fields_len (f ∷ fields)) [
       | true ↦ omega arith
       | false ↦ omega arith
     ]
@@ -71,14 +74,14 @@ signed_fewer (f ∷ fields) =
 bytes_of : (text : List ℕ) (h : RequestHead) → IsHead text h → text ≡ print_blank h.blank ++ (h.method ++ 32 ∷ (h.target ++ 32 ∷ (print_version h.minor ++ (print_end h.line_end ++ (print_section h.fields h.last ++ [])))))
 bytes_of text h is = is.reads.1 ∙ print_request-append h []
 
--- the values of a head are not longer than the limit of a head
-pub values_fit : {text : List ℕ} {h : RequestHead} {p : HeadParts} → IsHead text h → p ≡ parsed_of h → sum_by (λ (f : Header). length f.value) p.fields ≤ 16384
+-- the names and values of a head are not longer than the limit of a head
+pub fields_fit : {text : List ℕ} {h : RequestHead} {p : HeadParts} → IsHead text h → p ≡ parsed_of h → fields_len p.fields ≤ 16384
 unfolding parsed_of
-values_fit {text} {h} {p} is same =
+fields_fit {text} {h} {p} is same =
     let bytes = simp length-append at (ap length (bytes_of text h is)) in
     let short = is.short in
-    let sum = ap (λ (p : HeadParts). sum_by (λ (f : Header). length f.value) p.fields) same in
-    omega (arith, signed_fewer (map parsed_field h.fields), values_shorter h.fields, bytes, short, sum)
+    let sum = ap (λ (p : HeadParts). fields_len p.fields) same in
+    omega (arith, signed_fewer (map parsed_field h.fields), fields_shorter h.fields, bytes, short, sum)
 
 -- the target of a head is a text, and is not longer than the limit of a head
 pub target_fits : {text : List ℕ} {h : RequestHead} {p : HeadParts} → IsHead text h → p ≡ parsed_of h → (length p.target ≤ 16384) × IsUtf8 p.target

@@ -2,6 +2,7 @@ pub mod AskLemmas
 pub mod HeadDecisions
 pub mod HeadLaws
 pub mod HeadLemmas
+pub mod MetadataLemmas
 pub mod NumberLemmas
 pub mod TargetLemmas
 pub mod TextLemmas

@@ -1,15 +1,18 @@
 -- Bytes that are texts: names in ASCII, and values that are visible.
-use Rattle.std.proofs.Common.{◌≡◌, inl, inr, IsTrue, IsUtf8, ℕ, zero, suc, ◌≤◌, ◌<◌, Bool, true, false, ◌&&◌, ◌==◌, nat_lt, nat_le, List, [], ◌∷◌, length, slice_index, Ok, refl, arith, leb-true}
+use Rattle.std.proofs.Common.{◌≡◌, inl, inr, ap, cond, not, IsTrue, Some, None, IsUtf8, ℕ, zero, suc, ◌≤◌, ◌<◌, Bool, true, false, ◌&&◌, ◌==◌, nat_lt, nat_le, List, [], ◌∷◌, length, slice_index, Ok, refl, arith, leb-true}
 use Rattle.std.proofs.lemmas.Bool.{and_parts, and_from, cases_Bool, or_parts, not-false}
 use Rattle.std.proofs.lemmas.Bool.Decides.{nat_tests}
 use Rattle.std.proofs.lemmas.Str.{IsUtf8-from_ascii}
+use Rattle.std.specs.Prelude.{IfSome, is_ok}
 use Rattle.std.specs.List.{list_all}
-use Rattle.name_rules.specs.BlobNames.{name_of}
-use Rattle.name_rules.proofs.NameLemmas.{good_blob}
-use Rattle.request_form.specs.HeadForms.{blob_name_of}
+use Rattle.stamp_values.specs.Operations.{names_blob}
+use Rattle.stamp_values.specs.declared.op.Op.{Op}
+use Rattle.name_rules.specs.BlobNames.{name_of, percent_decode}
+use Rattle.name_rules.proofs.NameLemmas.{good_blob, name_is}
+use Rattle.request_form.specs.HeadForms.{blob_by, blob_name_of}
 use Rattle.request_form.specs.HeadRules.{has_bad_name}
 use Rattle.request_form.specs.Targets.{account_of, container_of, blob_of}
-use Rattle.stamp_values.specs.Names.{is_lower_or_digit, is_container_byte, is_account, is_container, is_blob, is_within}
+use Rattle.stamp_values.specs.Names.{is_lower_or_digit, is_container_byte, is_account, is_container, is_blob, is_within, is_metadata_name, begins_metadata_name, goes_on_metadata_name}
 use Rattle.stamp_values.specs.Texts.{is_visible, is_visible_byte, is_clean}
 
 weaker : (p q : ℕ → Bool) → ((b : ℕ) → p b ≡ true → q b ≡ true) → (t : List ℕ) → list_all p t ≡ true → list_all q t ≡ true
@@ -48,6 +51,19 @@ letter_visible b e = grind (arith, nat_tests)
 container_byte_visible : (b : ℕ) → is_container_byte b ≡ true → is_visible_byte b ≡ true
 container_byte_visible b e = grind (arith, nat_tests)
 
+first_byte_visible : (b : ℕ) → begins_metadata_name b ≡ true → is_visible_byte b ≡ true
+first_byte_visible b e = grind (arith, nat_tests)
+
+next_byte_visible : (b : ℕ) → goes_on_metadata_name b ≡ true → is_visible_byte b ≡ true
+next_byte_visible b e = grind (arith, nat_tests)
+
+-- a name of metadata is visible
+pub metadata_name_visible : (t : List ℕ) → is_metadata_name t ≡ true → is_visible t ≡ true
+metadata_name_visible [] good = refl
+metadata_name_visible (b ∷ t) good =
+    let parts = and_parts (begins_metadata_name b) (list_all goes_on_metadata_name t) good in
+    and_from (is_visible_byte b) (list_all is_visible_byte t) (first_byte_visible b parts.0) (weaker goes_on_metadata_name is_visible_byte next_byte_visible t parts.1)
+
 -- an account's name is visible
 pub account_visible : (t : List ℕ) → is_account t ≡ true → is_visible t ≡ true
 account_visible t good = weaker is_lower_or_digit is_visible_byte letter_visible t (and_parts (is_within 3 24 (length t)) _ good).1
@@ -79,22 +95,33 @@ not_clean t s same none = elim (cases_Bool (is_visible t)) [
 ]
 
 -- what the names of a path are if no name is bad
-pub record HasGoodNames (path : List ℕ) : Type 0 where
+pub record HasGoodNames (op : Op) (path : List ℕ) : Type 0 where
   pub account : is_account (account_of path) ≡ true
   pub container : is_container (container_of path) ≡ true
-  pub blob : is_blob (blob_name_of path) ≡ true
+  pub blob : IfSome (blob_by op path) (λ t. IsTrue (is_blob t))
 
-pub good_names : (path : List ℕ) → has_bad_name path ≡ false → HasGoodNames path
+pub good_names : (op : Op) (path : List ℕ) → has_bad_name op path ≡ false → HasGoodNames op path
 unfolding has_bad_name blob_name_of
-good_names path e =
+good_names op path e =
     let parts = or_parts _ _ e in
     let places = or_parts _ _ parts.0 in
-    record { account = not-false _ places.0; container = not-false _ places.1; blob = good_blob _ (not-false _ parts.1) }
+    record { account = not-false _ places.0; container = not-false _ places.1; blob = by_op (names_blob op) parts.1 }
+  where
+    by_op : (b : Bool) → (b && not (is_ok (name_of (blob_of path)))) ≡ false → IfSome (cond b (Some (percent_decode (blob_of path))) None) (λ t. IsTrue (is_blob t))
+    by_op true good = good_blob _ (not-false _ good)
+    by_op false good = tt
 
 -- a path whose names were read has no bad name
-pub no_bad_name : (path blob : List ℕ) → (is_account (account_of path) && is_container (container_of path)) ≡ true → name_of (blob_of path) ≡ Ok blob → has_bad_name path ≡ false
+pub no_bad_name : (op : Op) (path : List ℕ) → (is_account (account_of path) && is_container (container_of path)) ≡ true
+    → (names_blob op && not (is_ok (name_of (blob_of path)))) ≡ false → has_bad_name op path ≡ false
 unfolding has_bad_name
-no_bad_name path blob places named = let both = and_parts (is_account (account_of path)) (is_container (container_of path)) places in rw (both.0, both.1, named)
+no_bad_name op path places blob = let both = and_parts (is_account (account_of path)) (is_container (container_of path)) places in rw (both.0, both.1, blob) refl
+
+-- the name of a blob that was read is good
+pub blob_named : (op : Op) (path blob : List ℕ) → names_blob op ≡ true → name_of (blob_of path) ≡ Ok blob
+    → ((names_blob op && not (is_ok (name_of (blob_of path)))) ≡ false) × (Some blob ≡ blob_by op path)
+unfolding blob_name_of
+blob_named op path blob names named = rw (names, named) (refl, ap (λ (t : List ℕ). Some t) (name_is (percent_decode (blob_of path)) blob named))
 
 -- two good names are visible
 pub key_visible : (account container : List ℕ) → is_account account ≡ true → is_container container ≡ true → (is_visible account && is_visible container) ≡ true

@@ -2,6 +2,7 @@
 -- RFC 9110, sections 7.6.1, 8.6 and 10.1.1; RFC 9112, sections 9.3 and 9.6).
 use Rattle.std.specs.Prelude.{ℕ, Bool, false, true, not, ◌&&◌, ◌||◌, ◌==◌, if◌then◌else◌, List, [], ◌∷◌, Option, Some, None, option_map, option_and_then, bytes_eq, codes}
 use Rattle.std.specs.List.{list_any, slice_split}
+use Rattle.std.specs.Option.{option_map_or}
 use Rattle.base64_text.specs.Base64.{standard, decoded_of}
 use Rattle.name_rules.specs.BlobNames.{percent_decode}
 use Rattle.stamp_values.specs.declared.key.Key.{Key}
@@ -13,13 +14,16 @@ use Rattle.stamp_values.specs.declared.signing.Credential.{Credential}
 use Rattle.stamp_values.specs.declared.signing.Credential.TheVariants.{Shared, Token, Anonymous}
 use Rattle.stamp_values.specs.declared.signing.Field.{Field}
 use Rattle.stamp_values.specs.declared.signing.Signing.{Signing}
-use Rattle.stamp_values.specs.Operations.{checks_md5, keeps_headers}
+use Rattle.stamp_values.specs.Operations.{checks_md5, keeps_headers, names_blob, sets_level}
+use Rattle.stamp_values.specs.declared.level.Level.{Level}
+use Rattle.stamp_values.specs.declared.level.Level.TheVariants.{Closed, Blob, Container}
 use Rattle.stamp_types.specs.declared.args.Args.{Args}
 use Rattle.stamp_types.specs.declared.args.Kept.{Kept}
 use Rattle.stamp_types.specs.declared.ask.Ask.{Ask}
 use Rattle.stamp_types.specs.Requests.{Asked, asked}
 use Rattle.request_form.specs.Targets.{lowered, target_of, account_of, container_of, blob_of}
 use Rattle.stamp_values.specs.Ascii.{comma}
+use Rattle.request_form.specs.HeadMetadata.{metadata_by}
 use Rattle.request_form.specs.HeadRules.{verb_of, op_of, is_put_blob, kept_value, body_len_of}
 use Rattle.request_form.specs.HeadParts.{HeadParts}
 use Rattle.request_form.specs.declared.parsed_head.Version.{Version}
@@ -55,20 +59,32 @@ key_of path = record { account = account_of path; container = container_of path 
 abbrev pub kept_by : Op → List Field → Option Kept
 kept_by op fields = if keeps_headers op then Some (kept_of (is_put_blob (Some op)) fields) else None
 
--- what comes with a request; conditions, ranges and metadata are not taken yet
-unfoldable pub args_of : Op → List Field → Args
-args_of op fields = record {
+-- the level of public access that a value names
+abbrev pub level_named : List ℕ → Level
+level_named v = if bytes_eq v (codes "container") then Container else (if bytes_eq v (codes "blob") then Blob else Closed)
+
+-- the level that a request sets, if the operation sets a level; closed if no level was sent
+abbrev pub level_by : Op → List Field → Option Level
+level_by op fields = if sets_level op then Some (option_map_or level_named (first_value fields (codes "x-ms-blob-public-access")) Closed) else None
+
+-- what comes with a request beside its metadata; conditions and ranges are not taken yet
+unfoldable pub line_args_of : Op → List Field → Args
+line_args_of op fields = record {
   if_match = None;
   if_none_match = None;
   content_md5 = if checks_md5 op then md5_under fields (codes "content-md5") else None;
   range = None;
   kept = kept_by op fields;
   metadata = [];
-  level = None;
+  level = level_by op fields;
   page = None;
   block = None;
   kinds = None;
 }
+
+-- what comes with a request
+unfoldable pub args_of : Op → List Field → Args
+args_of op fields = record (line_args_of op fields) { metadata = metadata_by op fields }
 
 -- what the string to sign is made of
 unfoldable pub signing_of : Verb → HeadParts → Signing
@@ -93,12 +109,16 @@ credential_of p = credential_by p.authorization (is_sent (target_of p.target).qu
 unfoldable pub blob_name_of : List ℕ → List ℕ
 blob_name_of path = percent_decode (blob_of path)
 
--- a request for a blob, without its body
+-- the blob's name, decoded, if the operation names a blob
+abbrev pub blob_by : Op → List ℕ → Option (List ℕ)
+blob_by op path = if names_blob op then Some (blob_name_of path) else None
+
+-- a request without its body
 unfoldable pub ask_of : Op → Verb → HeadParts → Ask
 ask_of op verb p = record {
   op = op;
   key = key_of (target_of p.target).path;
-  blob = Some (blob_name_of (target_of p.target).path);
+  blob = blob_by op (target_of p.target).path;
   args = args_of op p.fields;
   signing = signing_of verb p;
   credential = credential_of p;

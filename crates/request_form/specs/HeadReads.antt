@@ -7,15 +7,15 @@ use Rattle.stamp_types.specs.declared.rule.Rule.{Rule}
 use Rattle.stamp_types.specs.declared.rule.Rule.TheVariants.{F1, F2, F3, F4, F5, F6, F7, F8}
 use Rattle.request_form.specs.Targets.{target_of}
 use Rattle.request_form.specs.HeadRules.{verb_of, op_of, has_bad_name, body_len_of, denial_among}
-use Rattle.request_form.specs.HeadForms.{args_of, key_of, blob_name_of}
+use Rattle.request_form.specs.HeadForms.{args_of, key_of, blob_by}
 use Rattle.request_form.specs.declared.denial.HeadFault.{HeadFault}
 use Rattle.request_form.specs.declared.denial.HeadFault.TheVariants as fault
 use Rattle.request_form.specs.declared.header_lines.Fields.{Fields}
 use Rattle.request_form.specs.declared.names.Names.{Names}
 use Rattle.request_form.specs.HeadParts.{HeadParts}
 use Rattle.request_form.specs.declared.request_line.Line.{Line}
-use Rattle.request_form.specs.declared.values.ValueFault.{ValueFault}
-use Rattle.request_form.specs.declared.values.ValueFault.TheVariants as value_fault
+use Rattle.request_form.specs.declared.value_fault.ValueFault.{ValueFault}
+use Rattle.request_form.specs.declared.value_fault.ValueFault.TheVariants as value_fault
 
 -- the rules of the request line
 abbrev pub line_rules : List Rule
@@ -39,11 +39,11 @@ abbrev pub RefusesValue : Bool → Code → ValueFault → Type 0
 RefusesValue holds code (value_fault.Refused c) = (holds ≡ true) × (c ≡ code)
 RefusesValue holds code value_fault.NoMemory = Unit {0}
 
--- the names of a path, which are good
-pub record AreNames (path : List ℕ) (n : Names) : Type 0 where
-  pub good : has_bad_name path ≡ false
+-- the names of a path that the operation needs, which are good
+pub record AreNames (op : Op) (path : List ℕ) (n : Names) : Type 0 where
+  pub good : has_bad_name op path ≡ false
   pub key : n.key ≡ key_of path
-  pub blob : n.blob ≡ blob_name_of path
+  pub blob : n.blob ≡ blob_by op path
 
 -- what a request line says
 pub record IsLine (p : HeadParts) (l : Line) : Type 0 where
@@ -53,7 +53,7 @@ pub record IsLine (p : HeadParts) (l : Line) : Type 0 where
 
 -- what the names and the header lines say
 pub record AreFields (p : HeadParts) (op : Op) (f : Fields) : Type 0 where
-  pub names : AreNames (target_of p.target).path f.names
+  pub names : AreNames op (target_of p.target).path f.names
   pub body_len : f.body_len ≡ body_len_of p.fields
   pub args : f.args ≡ args_of op p.fields
   pub limit : f.body_len ≤ body_limit op

@@ -6,12 +6,12 @@ use Rattle.std.specs.List.{list_all, list_any}
 use Rattle.std.specs.Option.{option_map_or, option_or}
 use Rattle.std.specs.Str.Parse.{digits_value}
 use Rattle.stamp_values.specs.declared.op.Op.{Op}
-use Rattle.stamp_values.specs.declared.op.Op.TheVariants.{PutBlob, GetBlob}
+use Rattle.stamp_values.specs.declared.op.Op.TheVariants.{CreateContainer, ContainerProperties, SetContainerMetadata, DeleteContainer, PutBlob, GetBlob, BlobProperties, GetMetadata, SetMetadata, DeleteBlob}
 use Rattle.stamp_values.specs.declared.verb.Verb.{Verb}
 use Rattle.stamp_values.specs.declared.verb.Verb.TheVariants.{Get, Head, Put, Delete}
 use Rattle.stamp_values.specs.declared.signing.Field.{Field}
 use Rattle.stamp_values.specs.Names.{is_account, is_container}
-use Rattle.stamp_values.specs.Operations.{body_limit, keeps_headers}
+use Rattle.stamp_values.specs.Operations.{body_limit, keeps_headers, names_blob, sets_level}
 use Rattle.stamp_values.specs.Texts.{is_clean, is_utf8, is_visible}
 use Rattle.stamp_types.specs.Codes.{code_status}
 use Rattle.stamp_types.specs.declared.code.Code.{Code}
@@ -24,6 +24,7 @@ use Rattle.stamp_values.specs.Ascii.{quote}
 use Rattle.request_form.specs.Targets.{is_nothing, origin_of, is_origin, target_of, account_of, container_of, blob_of, kind_of}
 use Rattle.base64_text.specs.Base64.{is_base64_within}
 use Rattle.request_form.specs.HeadFields.{is_bad, has_bad, is_number, is_md5, is_ms, is_meta}
+use Rattle.request_form.specs.HeadMetadata.{has_bad_metadata_by}
 use Rattle.request_form.specs.declared.denial.Denial.{Denial}
 use Rattle.request_form.specs.declared.target.Target.{Target}
 use Rattle.request_form.specs.HeadParts.{HeadParts}
@@ -48,8 +49,18 @@ pub record OperationRow : Type 0 where
 -- the operations that are built
 abbrev pub operations : List OperationRow
 operations =
-    record { verb = Put; kind = path.Blob; restype = None; comp = None; op = PutBlob }
+    record { verb = Put; kind = path.Container; restype = Some (codes "container"); comp = None; op = CreateContainer }
+    ∷ record { verb = Get; kind = path.Container; restype = Some (codes "container"); comp = None; op = ContainerProperties }
+    ∷ record { verb = Head; kind = path.Container; restype = Some (codes "container"); comp = None; op = ContainerProperties }
+    ∷ record { verb = Put; kind = path.Container; restype = Some (codes "container"); comp = Some (codes "metadata"); op = SetContainerMetadata }
+    ∷ record { verb = Delete; kind = path.Container; restype = Some (codes "container"); comp = None; op = DeleteContainer }
+    ∷ record { verb = Put; kind = path.Blob; restype = None; comp = None; op = PutBlob }
     ∷ record { verb = Get; kind = path.Blob; restype = None; comp = None; op = GetBlob }
+    ∷ record { verb = Head; kind = path.Blob; restype = None; comp = None; op = BlobProperties }
+    ∷ record { verb = Get; kind = path.Blob; restype = None; comp = Some (codes "metadata"); op = GetMetadata }
+    ∷ record { verb = Head; kind = path.Blob; restype = None; comp = Some (codes "metadata"); op = GetMetadata }
+    ∷ record { verb = Put; kind = path.Blob; restype = None; comp = Some (codes "metadata"); op = SetMetadata }
+    ∷ record { verb = Delete; kind = path.Blob; restype = None; comp = None; op = DeleteBlob }
     ∷ []
 
 -- the methods are the same
@@ -138,10 +149,10 @@ abbrev pub is_put_blob : Option Op → Bool
 is_put_blob (Some PutBlob) = true
 is_put_blob other = false
 
--- the name of the account, the container or the blob is not good
-unfoldable pub has_bad_name : List ℕ → Bool
-has_bad_name path =
-    not (is_account (account_of path)) || not (is_container (container_of path)) || not (is_ok (name_of (blob_of path)))
+-- the name of the account or the container is not good, or the operation names a blob whose name is not good
+unfoldable pub has_bad_name : Op → List ℕ → Bool
+has_bad_name op path =
+    not (is_account (account_of path)) || not (is_container (container_of path)) || names_blob op && not (is_ok (name_of (blob_of path)))
 
 -- headers that ask for what the stamp does not serve
 abbrev pub unserved_names : List (List ℕ)
@@ -204,10 +215,22 @@ has_bad_md5 fields = is_bad fields (codes "content-md5") is_md5 || is_bad fields
 abbrev pub has_bad_kept_by : Op → List Field → Bool
 has_bad_kept_by op fields = keeps_headers op && has_bad_kept (is_put_blob (Some op)) fields
 
+-- the value names a level of public access
+abbrev pub is_level : List ℕ → Bool
+is_level v = bytes_eq v (codes "container") || bytes_eq v (codes "blob")
+
+-- the operation sets a level, and the value that was sent does not name a level
+abbrev pub has_bad_level_by : Op → List Field → Bool
+has_bad_level_by op fields = sets_level op && is_bad fields (codes "x-ms-blob-public-access") is_level
+
+-- the operation keeps or sets what a header says, and the value of the header is bad
+abbrev pub has_bad_value_by : Op → List Field → Bool
+has_bad_value_by op fields = has_bad_kept_by op fields || has_bad_level_by op fields
+
 -- a header was sent twice that may not be, or its value is bad
 unfoldable pub has_bad_line : Option Op → List Field → Bool
 has_bad_line op fields =
-    has_standard_twice fields || has_own_twice fields || has_bad_condition fields || has_bad_md5 fields || option_map_or (λ op. has_bad_kept_by op fields) op false
+    has_standard_twice fields || has_own_twice fields || has_bad_condition fields || has_bad_md5 fields || option_map_or (λ op. has_bad_value_by op fields) op false
 
 -- how many bytes the body has
 unfoldable pub body_len_of : List Field → ℕ
@@ -237,9 +260,9 @@ asks_the_unserved p =
 unfoldable pub has_bad_value : HeadParts → Bool
 has_bad_value p = has_bad_line (op_of p) p.fields
 
--- F7: metadata were sent; no operation that is built keeps metadata
-unfoldable pub has_metadata : HeadParts → Bool
-has_metadata p = list_any (λ f. is_meta f.name) p.fields
+-- F7: the metadata that were sent are bad
+unfoldable pub has_bad_metadata : HeadParts → Bool
+has_bad_metadata p = option_map_or (λ op. has_bad_metadata_by op p.fields) (op_of p) false
 
 -- F7: Put Blob without the type of blob
 unfoldable pub has_no_blob_type : HeadParts → Bool
@@ -251,9 +274,9 @@ head_holds p F1 = not (is_origin (origin_of p.target))
 head_holds p F2 = is_none (verb_of p.method)
 head_holds p F3 = is_none (op_of p) || has_bad_parameter (target_of p.target).query
 head_holds p F4 = has_no_length p || has_bad_length p
-head_holds p F5 = has_bad_name (target_of p.target).path
+head_holds p F5 = option_map_or (λ op. has_bad_name op (target_of p.target).path) (op_of p) false
 head_holds p F6 = asks_the_unserved p
-head_holds p F7 = has_bad_value p || has_metadata p || has_no_blob_type p
+head_holds p F7 = has_bad_value p || has_bad_metadata p || has_no_blob_type p
 head_holds p F8 = option_map_or (λ op. nat_lt (body_limit op) (body_len_of p.fields)) (op_of p) false
 head_holds p other = false
 
@@ -268,7 +291,7 @@ head_code p F3 = InvalidQueryParameterValue
 head_code p F4 = if has_no_length p then MissingContentLengthHeader else InvalidHeaderValue
 head_code p F5 = InvalidResourceName
 head_code p F6 = UnsupportedHeader
-head_code p F7 = if has_bad_value p then InvalidHeaderValue else (if has_metadata p then InvalidMetadata else MissingRequiredHeader)
+head_code p F7 = if has_bad_value p then InvalidHeaderValue else (if has_bad_metadata p then InvalidMetadata else MissingRequiredHeader)
 head_code p F8 = RequestBodyTooLarge
 head_code p other = InvalidInput
 

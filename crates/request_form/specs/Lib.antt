@@ -1,5 +1,6 @@
 pub mod HeadFields
 pub mod HeadForms
+pub mod HeadMetadata
 pub mod HeadParts
 pub mod HeadReads
 pub mod HeadRules

@@ -1,6 +1,7 @@
 //! Reading a request's head.
-ghost use Rattle.std.specs.Prelude.{◌≡◌, ◌≤◌, Err, IfOk, MatchResult, None, Some, length, sum_by};
+ghost use Rattle.std.specs.Prelude.{◌≡◌, ◌≤◌, Err, IfOk, MatchResult, None, Some, length};
 ghost use Rattle.std.specs.Str.{IsUtf8};
+ghost use Rattle.stamp_values.specs.Fields.{fields_len};
 ghost use Rattle.request_form.specs.HeadForms.{args_of, ask_of, form_of};
 ghost use Rattle.request_form.specs.HeadForms as head_forms;
 ghost use Rattle.request_form.specs.HeadReads.{AreNames, Denies, IsLine};
@@ -103,7 +104,7 @@ fn body_by(verb: Verb, body: Body) -> Body
 #[tactic(auto, unfolding(crate::specs::HeadForms::ask_of, crate::specs::HeadForms::signing_of, crate::specs::HeadForms::credential_of))]
 fn ask(head: ParsedHead<'_>, line: Line, names: Names, args: Args) -> Ask
     requires line { IsLine head line }
-    requires names { AreNames line.target.path names }
+    requires names { AreNames line.op line.target.path names }
     requires args { args ≡ args_of line.op head.fields }
     ensures { result ≡ ask_of line.op line.verb head.entry }
 {
@@ -112,7 +113,7 @@ fn ask(head: ParsedHead<'_>, line: Line, names: Names, args: Args) -> Ask
     Ask {
         op: line.op,
         key: names.key,
-        blob: Some(names.blob),
+        blob: names.blob,
         args,
         signing: Signing {
             verb: line.verb,
@@ -127,7 +128,7 @@ fn ask(head: ParsedHead<'_>, line: Line, names: Names, args: Args) -> Ask
 // The form of a head that no rule refuses.
 fn form(alloc: Global, head: ParsedHead<'_>) -> Result<Head, HeadFault>
     requires target { (length head.target ≤ head_limit) × IsUtf8 head.target }
-    requires short { sum_by (λ f. length f.value) head.fields ≤ head_limit }
+    requires short { fields_len head.fields ≤ head_limit }
     ensures { MatchResult result
         (λ form. (denial_of head.entry ≡ None) × (form_of head.entry ≡ Some form))
         (Denies head.entry head_rules) }

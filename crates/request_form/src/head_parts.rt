@@ -1,7 +1,8 @@
 //! Request heads as they are read (RFC 9112, sections 2 to 5).
-ghost use Rattle.std.specs.Prelude.{◌≡◌, ◌≤◌, All, IfOk, IfSome, IsUtf8, None, length, sum_by};
+ghost use Rattle.std.specs.Prelude.{◌≡◌, ◌≤◌, All, IfOk, IfSome, IsUtf8, None, length};
 ghost use Rattle.httparse.specs.Grammar.{RequestHead};
 ghost use Rattle.httparse.specs.Spans.{IsWithin, IsHeaderWithin, IsRequestWithin, IsRequestAt, span_bytes};
+ghost use Rattle.stamp_values.specs.Fields.{fields_len};
 ghost use Rattle.request_form.specs.HeadFields.{is_authorization, signed_headers, authorization_values};
 ghost use Rattle.request_form.specs.Heads.{IsHead, IsNoHead, head_limit, parsed_of, version_of};
 ghost use Rattle.request_form.specs.HeadSpans.{field_at, fields_at, parts_at};
@@ -128,7 +129,7 @@ pub(crate) fn parse_head(alloc: Global, text: &[u8]) -> Result<Option<ParsedHead
         (h : RequestHead) × IsHead text.now h × (p ≡ parsed_of h))) }
     ensures none { IfOk result (λ o. o ≡ None → IsNoHead text.now) }
     ensures short { IfOk result (λ o. IfSome o (λ p.
-        sum_by (λ f. length f.value) p.fields ≤ head_limit)) }
+        fields_len p.fields ≤ head_limit)) }
     ensures target { IfOk result (λ o. IfSome o (λ p.
         (length p.target ≤ head_limit) × IsUtf8 p.target)) }
 {

@@ -8,7 +8,8 @@ use crate::names::{Names, read_names};
 use crate::parsed_head::ParsedHead;
 use crate::request_line::Line;
 use crate::unserved::asks_the_unserved;
-use crate::values::{ValueFault, read_args};
+use crate::value_fault::ValueFault;
+use crate::values::read_args;
 use stamp_types::{Args, Code, Rule};
 use std::alloc::Global;
 
@@ -40,7 +41,7 @@ pub(crate) fn read_fields(
         Ok(len) => len,
         Err(code) => return Err(HeadFault::Denied(denied(Rule::F4, code, verb))),
     };
-    let Some(names) = read_names(alloc, line.target.path.as_slice())? else {
+    let Some(names) = read_names(alloc, line.op, line.target.path.as_slice())? else {
         let code = Code::InvalidResourceName;
         return Err(HeadFault::Denied(denied(Rule::F5, code, verb)));
     };

@@ -10,6 +10,8 @@ mod head_laws;
 mod head_parts;
 mod header_lines;
 mod length;
+mod level_field;
+mod metadata_fields;
 mod names;
 mod operation;
 mod parsed_head;
@@ -18,6 +20,7 @@ mod request_line;
 mod target;
 mod texts;
 mod unserved;
+mod value_fault;
 mod values;
 mod verb;
 

@@ -1,8 +1,9 @@
 //! Rule F3: the operation, and the parameters of a query.
-ghost use Rattle.std.specs.Prelude.{◌≡◌, ◌||◌, IfOk, MatchOption, Some, false, is_none, map, true};
+ghost use Rattle.std.specs.Prelude.{◌≡◌, ◌||◌, IfOk, MatchOption, None, Some, codes, false, is_none, map, option_map, true};
 ghost use Rattle.std.specs.List.{list_any};
 ghost use Rattle.request_form.specs.HeadFields.{is_bad};
 ghost use Rattle.request_form.specs.HeadRules as heads;
+ghost use Rattle.request_form.specs.declared.path_kind.PathKind.TheVariants as path;
 
 use crate::head_fields::number;
 use crate::path_kind::PathKind;
@@ -111,17 +112,61 @@ fn has_bad_parameter(alloc: Global, query: &FieldList) -> Result<bool, AllocErro
     is_any_bad(alloc, query, &PARAMETERS)
 }
 
+// The value is this text, or both are missing.
+fn is_value(value: Option<&[u8]>, wanted: Option<&str>) -> bool
+    ensures { result
+        ≡ heads.is_value (option_map (λ v. v.now) value.entry) (option_map (λ w. w.now) wanted.entry) }
+{
+    match (value, wanted) {
+        (None, None) => true,
+        (Some(value), Some(wanted)) => value == wanted.as_bytes(),
+        _ => false,
+    }
+}
+
+// The operation on a container that fits a method and a value of comp.
+fn container_op(verb: Verb, comp: Option<&[u8]>) -> Option<Op>
+    ensures { result ≡ heads.op_by verb path.Container (Some (codes "container"))
+        (option_map (λ v. v.now) comp.entry) }
+{
+    let plain = is_value(comp, None);
+    let metadata = is_value(comp, Some("metadata"));
+    match verb {
+        Verb::Put if plain => Some(Op::CreateContainer),
+        Verb::Put if metadata => Some(Op::SetContainerMetadata),
+        Verb::Get | Verb::Head if plain => Some(Op::ContainerProperties),
+        Verb::Delete if plain => Some(Op::DeleteContainer),
+        _ => None,
+    }
+}
+
+// The operation on a blob that fits a method and a value of comp.
+fn blob_op(verb: Verb, comp: Option<&[u8]>) -> Option<Op>
+    ensures { result ≡ heads.op_by verb path.Blob None (option_map (λ v. v.now) comp.entry) }
+{
+    let plain = is_value(comp, None);
+    let metadata = is_value(comp, Some("metadata"));
+    match verb {
+        Verb::Put if plain => Some(Op::PutBlob),
+        Verb::Get if plain => Some(Op::GetBlob),
+        Verb::Head if plain => Some(Op::BlobProperties),
+        Verb::Delete if plain => Some(Op::DeleteBlob),
+        Verb::Put if metadata => Some(Op::SetMetadata),
+        Verb::Get | Verb::Head if metadata => Some(Op::GetMetadata),
+        _ => None,
+    }
+}
+
 // The operation that a request asks for by its method, what its path names, and the values of restype and comp.
 #[tactic(auto, unfolding(crate::specs::HeadRules::op_at))]
 fn op_at(verb: Verb, target: &Target) -> Option<Op>
     ensures { result ≡ heads.op_at verb target.now }
 {
-    let kind = kind(target.path.as_slice());
     let restype = target.query.first(b"restype");
     let comp = target.query.first(b"comp");
-    match (verb, kind, restype, comp) {
-        (Verb::Put, PathKind::Blob, None, None) => Some(Op::PutBlob),
-        (Verb::Get, PathKind::Blob, None, None) => Some(Op::GetBlob),
+    match kind(target.path.as_slice()) {
+        PathKind::Container if is_value(restype, Some("container")) => container_op(verb, comp),
+        PathKind::Blob if is_value(restype, None) => blob_op(verb, comp),
         _ => None,
     }
 }

@@ -7,36 +7,20 @@ ghost use Rattle.stamp_values.specs.Texts.{is_visible};
 ghost use Rattle.stamp_types.specs.declared.code.Code.TheVariants.{InvalidHeaderValue};
 ghost use Rattle.stamp_types.specs.declared.rule.Rule.TheVariants.{F7};
 ghost use Rattle.request_form.specs.HeadFields.{is_bad, is_md5};
-ghost use Rattle.request_form.specs.HeadFields as fields_of;
-ghost use Rattle.request_form.specs.HeadForms.{args_of, kept_by, kept_of};
+ghost use Rattle.request_form.specs.HeadForms.{args_of, kept_by, kept_of, line_args_of};
 ghost use Rattle.request_form.specs.HeadForms as head_forms;
 ghost use Rattle.request_form.specs.HeadReads.{RefusesValue};
 ghost use Rattle.request_form.specs.HeadRules as heads;
-ghost use Rattle.request_form.specs.declared.values.ValueFault.TheVariants as fault;
 
 use crate::head_fields::{is_meta, is_ms, md5_of};
+use crate::level_field::level_by;
+use crate::metadata_fields::read_metadata;
 use crate::operation::is_put_blob;
 use crate::parsed_head::ParsedHead;
 use crate::texts::visible;
+use crate::value_fault::ValueFault;
 use stamp_types::{Args, Code, FieldList, Kept, Metadata, Op, STANDARD_NAMES, Visible};
-use std::alloc::{AllocError, Global};
-
-/// Why the values of the header lines are not read.
-#[derive(Clone, Copy, Debug, PartialEq, Eq)]
-pub enum ValueFault {
-    /// Rule F7 refuses them, with this code.
-    Refused(Code),
-    /// Memory ran out.
-    NoMemory,
-}
-
-impl From<AllocError> for ValueFault {
-    ghost from_gives = { λ _ e. e ≡ fault.NoMemory };
-
-    fn from(_error: AllocError) -> Self {
-        Self::NoMemory
-    }
-}
+use std::alloc::Global;
 
 // Whether the name is that of one of the service's own headers, but not of metadata, and was sent twice.
 fn is_own_twice(fields: &FieldList, name: &[u8]) -> bool
@@ -265,11 +249,11 @@ fn md5_by(op: Op, md5: Option<[u8; 16]>) -> Option<[u8; 16]>
     if op.checks_md5() { md5 } else { None }
 }
 
-// What comes with a request, if no line is bad.
-#[tactic(auto, unfolding(crate::specs::HeadRules::has_bad_line, crate::specs::HeadRules::has_bad_md5, crate::specs::HeadForms::args_of))]
+// What comes with a request beside its metadata, if no line is bad.
+#[tactic(auto, unfolding(crate::specs::HeadRules::has_bad_line, crate::specs::HeadRules::has_bad_md5, crate::specs::HeadForms::line_args_of))]
 fn good_args(alloc: Global, op: Op, fields: &FieldList) -> Result<Args, ValueFault>
     ensures { MatchResult result
-        (λ v. (heads.has_bad_line (Some op) fields.now ≡ false) × (v ≡ args_of op fields.now))
+        (λ v. (heads.has_bad_line (Some op) fields.now ≡ false) × (v ≡ line_args_of op fields.now))
         (RefusesValue (heads.has_bad_line (Some op) fields.now) InvalidHeaderValue) }
 {
     if has_bad_twice(fields) || has_bad_condition(fields) {
@@ -278,6 +262,7 @@ fn good_args(alloc: Global, op: Op, fields: &FieldList) -> Result<Args, ValueFau
     let content_md5 = md5_by(op, md5_under(alloc, fields, "content-md5")?);
     let blob_md5 = md5_under(alloc, fields, "x-ms-blob-content-md5")?;
     let kept = kept_by(alloc, op, fields, blob_md5)?;
+    let level = level_by(op, fields)?;
     Ok(Args {
         if_match: None,
         if_none_match: None,
@@ -285,30 +270,11 @@ fn good_args(alloc: Global, op: Op, fields: &FieldList) -> Result<Args, ValueFau
         range: None,
         kept,
         metadata: Metadata::empty(alloc),
-        level: None,
+        level,
         page: None,
         block: None,
         kinds: None,
     })
-}
-
-fn some_is_meta(fields: &FieldList) -> bool
-    ensures { result ≡ list_any (λ f. fields_of.is_meta f.name) fields.now }
-{
-    for field in fields.fields() {
-        if is_meta(field.name) {
-            return true;
-        }
-    }
-    false
-}
-
-// Whether metadata were sent.
-#[tactic(auto, unfolding(crate::specs::HeadRules::has_metadata))]
-fn has_metadata(head: &ParsedHead<'_>) -> bool
-    ensures { result ≡ heads.has_metadata head.now }
-{
-    some_is_meta(&head.fields)
 }
 
 // Whether the operation is Put Blob and the type of blob was not sent.
@@ -322,19 +288,17 @@ fn has_no_blob_type(head: &ParsedHead<'_>, op: Op) -> bool
 
 /// What comes with a request, by rule F7.
 ///
-/// `Refused` with the code of rule F7 if a header was sent twice that may not be, a value is bad, metadata were sent, or Put Blob
+/// `Refused` with the code of rule F7 if a header was sent twice that may not be, a value is bad, the metadata are bad, or Put Blob
 /// comes without the type of blob.
-#[tactic(auto, unfolding(crate::specs::HeadRules::has_bad_value))]
+#[tactic(auto, unfolding(crate::specs::HeadRules::has_bad_value, crate::specs::HeadRules::has_bad_metadata, crate::specs::HeadForms::args_of))]
 pub(crate) fn read_args(alloc: Global, head: &ParsedHead<'_>, op: Op) -> Result<Args, ValueFault>
     requires op { heads.op_of head.now ≡ Some op }
     ensures { MatchResult result
         (λ v. (heads.head_holds head.now F7 ≡ false) × (v ≡ args_of op head.now.fields))
         (RefusesValue (heads.head_holds head.now F7) (heads.head_code head.now F7)) }
 {
-    let args = good_args(alloc, op, &head.fields)?;
-    if has_metadata(head) {
-        return Err(ValueFault::Refused(Code::InvalidMetadata));
-    }
+    let mut args = good_args(alloc, op, &head.fields)?;
+    args.metadata = read_metadata(alloc, op, &head.fields)?;
     if has_no_blob_type(head, op) {
         return Err(ValueFault::Refused(Code::MissingRequiredHeader));
     }

@@ -1,65 +1,65 @@
--- What a container says about who may do what stays as it is.
-use Rattle.std.proofs.Common.{◌≡◌, ℕ, Bool, true, false, List, Option, Some, None, refl, sym, ap, ◌∙◌}
-use Rattle.std.specs.Option.{option_map, option_and_then}
-use Rattle.std.specs.Cmp.{eq_by_cmp_equiv}
-use Rattle.std.specs.Ordering.{eq_by_cmp, is_eq}
-use Rattle.std.specs.declared.cmp.Ordering.{Ordering}
-use Rattle.std.specs.declared.cmp.Ordering.TheVariants.{Less, Equal, Greater}
-use Rattle.stamp_values.specs.Order.{key_cmp, keys_total, keys_exact}
+-- What a container has beside its blobs, and what it says about who may do what, before a request and after it.
+use Rattle.std.proofs.Common.{◌≡◌, ℕ, false, List, Option, IfSome, refl}
+use Rattle.std.specs.Option.{option_map}
 use Rattle.stamp_values.specs.declared.key.Key.{Key}
 use Rattle.stamp_values.specs.declared.op.Op.{Op}
 use Rattle.stamp_values.specs.declared.op.Op.TheVariants as op
 use Rattle.stamp_types.specs.declared.act.Act.{Act}
 use Rattle.stamp_types.specs.declared.act.Act.TheVariants as act
-use Rattle.stamp_types.specs.declared.args.Kept.{Kept}
 use Rattle.stamp_types.specs.declared.piece.Piece.{Piece}
-use Rattle.stamp_types.specs.declared.refusal.Refusal.{Refusal}
 use Rattle.stamp_types.specs.Requests.{Asked}
-use Rattle.stamp_types.specs.World.{Part, World, part_at, part_value}
+use Rattle.stamp_types.specs.World.{Part, World, part_at, changed}
+use Rattle.stamp_types.proofs.ActLaws.{access-changed}
 use Rattle.access_rules.specs.declared.keys.Keys.{Keys}
-use Rattle.range_rows.specs.RequestChanges.{put_blob, act_by, part_after}
-use Rattle.stamp_model.specs.Refusals.{refusal}
-use Rattle.stamp_model.specs.Effects.{unless_refused, effect_as}
-use Rattle.stamp_model.proofs.EffectLemmas.{on_key, part_at-effect, part_at-effect_others}
+use Rattle.range_rows.specs.Access.{acl_of}
+use Rattle.range_rows.specs.RequestChanges.{delete_blob, set_container_metadata, set_metadata, act_by, part_after}
+use Rattle.stamp_model.specs.Effects.{alters_container, alters_access, effect_as}
+use Rattle.stamp_model.proofs.EffectLemmas.{on_key, said_of_put, said_of_named, related-after_act, related-effect}
 
-module _ {C : Type 0} (f : List Piece → C) (z : Part ℕ) (p : Part C) (q : Asked) (t : ℕ) where
-  abbrev after_act : Option Act → Part C
-  after_act a = part_after f (option_map (on_key q.ask.key) a) p
+module _ {C : Type 0} (f : List Piece → C) where
+  abbrev KeepsStanding : Part C → Part C → Type 0
+  KeepsStanding p r = r.standing ≡ p.standing
 
-  by_put : (blob : Option (List ℕ)) (kept : Option Kept) → (after_act (option_and_then (λ name. option_map (λ kept. act.PutBlob (put_blob q t name kept)) kept) blob)).standing ≡ p.standing
-  by_put None kept = refl
-  by_put (Some name) None = refl
-  by_put (Some name) (Some kept) = refl
+  abbrev KeepsAccess : Part C → Part C → Type 0
+  KeepsAccess p r = acl_of r ≡ acl_of p
 
-  by_op : (o : Op) → (after_act (act_by o z q t)).standing ≡ p.standing
-  by_op op.PutBlob = by_put q.ask.blob q.ask.args.kept
-  by_op other = refl
+  module _ (z : Part ℕ) (p : Part C) (q : Asked) (t : ℕ) where
+    abbrev Keeps : Act → Type 0
+    Keeps a = KeepsStanding p (changed f a p)
 
-  unless : (r : Option Refusal) → (part_after f (unless_refused r (option_map (on_key q.ask.key) (act_by q.ask.op z q t))) p).standing ≡ p.standing
-  unless None = by_op q.ask.op
-  unless (Some r) = refl
+    keeps : (o : Op) → alters_container o ≡ false → IfSome (act_by o z q t) Keeps
+    keeps op.CreateContainer unaltered = cc
+    keeps op.SetContainerMetadata unaltered = cc
+    keeps op.DeleteContainer unaltered = cc
+    keeps op.PutBlob unaltered = said_of_put Keeps (λ a. refl) q t q.ask.blob q.ask.args.kept
+    keeps op.SetMetadata unaltered = said_of_named Keeps (λ name. act.SetMetadata (set_metadata q t name)) (λ name. refl) q.ask.blob
+    keeps op.DeleteBlob unaltered = said_of_named Keeps (λ name. act.DeleteBlob (delete_blob name)) (λ name. refl) q.ask.blob
+    keeps _ unaltered = tt
 
-equal : (o : Ordering) → is_eq o ≡ true → o ≡ Equal
-equal Less h = cc
-equal Equal h = refl
-equal Greater h = cc
+    -- what the container has beside its blobs stays as it is, if the operation does not alter it
+    pub standing-after_act : (k : Key) (o : Op) → alters_container o ≡ false → (part_after f (option_map (on_key k) (act_by o z q t)) p).standing ≡ p.standing
+    standing-after_act k o unaltered = related-after_act f KeepsStanding (λ p. refl) k p (act_by o z q t) (keeps o unaltered)
 
-module _ {C : Type 0} (size : C → ℕ) (f : List Piece → C) (keys : Option Keys) (w : World C) (q : Asked) (t : ℕ) where
-  own_standing : (part_at (effect_as size f keys w q t) q.ask.key).standing ≡ (part_at w q.ask.key).standing
-  own_standing =
-      ap (λ (p : Part C). p.standing) (part_at-effect size f keys w q t)
-      ∙ unless f (part_value size (part_at w q.ask.key)) (part_at w q.ask.key) q t (refusal keys (part_value size (part_at w q.ask.key)) q t)
+    abbrev KeepsAcl : Act → Type 0
+    KeepsAcl a = KeepsAccess p (changed f a p)
 
-  by_key : (k : Key) (b : Bool) → eq_by_cmp key_cmp k q.ask.key ≡ b → (part_at (effect_as size f keys w q t) k).standing ≡ (part_at w k).standing
-  by_key k true e =
-      let same : k ≡ q.ask.key = keys_exact k q.ask.key (equal (key_cmp k q.ask.key) e) in
-      ap (λ (x : Key). (part_at (effect_as size f keys w q t) x).standing) same ∙ own_standing ∙ ap (λ (x : Key). (part_at w x).standing) (sym same)
-  by_key k false e = ap (λ (p : Part C). p.standing) (part_at-effect_others size f keys w q t k (λ same. apart same e))
-    where
-      apart : k ≡ q.ask.key → eq_by_cmp key_cmp k q.ask.key ≡ false → ⊥
-      apart same e =
-          let tied : true ≡ false = sym ((eq_by_cmp_equiv keys_total).refl q.ask.key) ∙ ap (λ (x : Key). eq_by_cmp key_cmp x q.ask.key) (sym same) ∙ e in cc
+    keeps_access : (o : Op) → alters_access o ≡ false → IfSome (act_by o z q t) KeepsAcl
+    keeps_access op.CreateContainer unaltered = cc
+    keeps_access op.SetContainerMetadata unaltered = access-changed f p (act.SetContainerMetadata (set_container_metadata q t)) refl
+    keeps_access op.DeleteContainer unaltered = cc
+    keeps_access op.PutBlob unaltered = said_of_put KeepsAcl (λ a. refl) q t q.ask.blob q.ask.args.kept
+    keeps_access op.SetMetadata unaltered = said_of_named KeepsAcl (λ name. act.SetMetadata (set_metadata q t name)) (λ name. refl) q.ask.blob
+    keeps_access op.DeleteBlob unaltered = said_of_named KeepsAcl (λ name. act.DeleteBlob (delete_blob name)) (λ name. refl) q.ask.blob
+    keeps_access _ unaltered = tt
 
-  -- what a container has besides its blobs stays as it is
-  pub standing-effect : (k : Key) → (part_at (effect_as size f keys w q t) k).standing ≡ (part_at w k).standing
-  standing-effect k = by_key k (eq_by_cmp key_cmp k q.ask.key) refl
+  module _ (size : C → ℕ) (keys : Option Keys) (w : World C) (q : Asked) (t : ℕ) where
+    -- what a container has beside its blobs stays as it is, unless the operation alters it
+    pub standing-effect : alters_container q.ask.op ≡ false → (k : Key) → (part_at (effect_as size f keys w q t) k).standing ≡ (part_at w k).standing
+    standing-effect unaltered =
+        related-effect f KeepsStanding (λ p. refl) size keys w q t (λ z p. standing-after_act z p q t q.ask.key q.ask.op unaltered)
+
+    -- the level and the policies stay as they are, unless the operation sets them
+    pub access-effect : alters_access q.ask.op ≡ false → (k : Key) → acl_of (part_at (effect_as size f keys w q t) k) ≡ acl_of (part_at w k)
+    access-effect unaltered =
+        related-effect f KeepsAccess (λ p. refl) size keys w q t
+        (λ z p. related-after_act f KeepsAccess (λ p. refl) q.ask.key p (act_by q.ask.op z q t) (keeps_access z p q t q.ask.op unaltered))

@@ -1,6 +1,6 @@
--- If a request is answered, the blob that it names exists.
-use Rattle.std.proofs.Common.{◌≡◌, ℕ, true, List, Option, Some, None, refl, ap, ◌∙◌}
-use Rattle.std.specs.Prelude.{is_some, is_none, IsSome}
+-- If a request is answered, what the answer tells of exists.
+use Rattle.std.proofs.Common.{◌≡◌, ℕ, ◌+◌, true, false, List, Option, Some, None, refl, ap, ◌∙◌}
+use Rattle.std.specs.Prelude.{is_some}
 use Rattle.std.specs.Option.{option_map, option_and_then}
 use Rattle.stamp_values.specs.Operations.{names_blob, keeps_headers}
 use Rattle.stamp_values.specs.declared.op.Op.{Op}
@@ -10,24 +10,22 @@ use Rattle.stamp_types.specs.declared.act.Act.TheVariants as act
 use Rattle.stamp_types.specs.declared.args.Kept.{Kept}
 use Rattle.stamp_types.specs.declared.committed.Committed.{Committed}
 use Rattle.stamp_types.specs.declared.refusal.Refusal.{Refusal}
+use Rattle.stamp_types.specs.declared.standing.Standing.{Standing}
 use Rattle.stamp_types.specs.Pieces.{held}
 use Rattle.stamp_types.specs.Requests.{Asked, IsAsk}
-use Rattle.stamp_types.specs.World.{Part, blob_in}
+use Rattle.stamp_types.specs.World.{Blob, Part, blob_in, committed_with_metadata, standing_with_metadata}
+use Rattle.stamp_types.proofs.EffectLemmas.{blob_in-set_metadata}
 use Rattle.access_rules.specs.declared.keys.Keys.{Keys}
-use Rattle.range_rows.specs.ObjectReplies.{is_served, byte_count, sizes}
-use Rattle.range_rows.specs.ObjectRules.{named_blob, object_refusal}
-use Rattle.range_rows.specs.RequestChanges.{put_blob, act_by, change_of, part_after}
-use Rattle.range_rows.proofs.Allowed.{read_there}
-use Rattle.range_rows.proofs.AnswerLemmas.{blob_in-put, absent_by_either_reading}
+use Rattle.range_rows.specs.ObjectReplies.{sizes, standing_read, blob_read, frame_by, content_by, with_content, reply_of}
+use Rattle.range_rows.specs.ObjectRules.{needs_container, needs_blob, named_blob, object_refusal}
+use Rattle.range_rows.specs.RequestChanges.{put_blob, set_container_metadata, set_metadata, act_by, change_of, part_after}
+use Rattle.range_rows.proofs.AnswerLemmas.{blob_in-put}
 use Rattle.stamp_model.specs.Refusals.{refusal}
 use Rattle.stamp_model.specs.Effects.{unless_refused, change}
+use Rattle.stamp_model.specs.Responses.{tells_container, tells_blob}
 use Rattle.stamp_model.proofs.EffectLemmas.{on_key}
+use Rattle.stamp_model.proofs.ObjectLemmas.{is_some-mapped, container_needed, blob_needed}
 use Rattle.stamp_model.proofs.ReplyLemmas.{unrefused}
-
-is_some_read : {X Y : Type 0} (o : Option X) (r : Option Y) → is_none r ≡ is_none o → IsSome r → is_some o ≡ true
-is_some_read None None same there = cc
-is_some_read None (Some y) same there = cc
-is_some_read (Some x) r same there = refl
 
 module _ (p : Part (List ℕ)) (q : Asked) (t : ℕ) where
   abbrev after_act : Option Act → Part (List ℕ)
@@ -42,17 +40,57 @@ module _ (p : Part (List ℕ)) (q : Asked) (t : ℕ) where
   put (Some name) None b k = cc
   put (Some name) (Some kept) b k = ap (λ (o : Option (Committed (List ℕ))). is_some o) (blob_in-put held (put_blob q t name kept) p)
 
-  abbrev Found : Op → Type 0
-  Found o = is_some (named q.ask.blob (after_act (act_by o (sizes p) q t))) ≡ true
+  set : (blob : Option (List ℕ)) → is_some (named blob p) ≡ true → is_some (named blob (after_act (option_map (λ name. act.SetMetadata (set_metadata q t name)) blob))) ≡ true
+  set None there = cc
+  set (Some name) there =
+      ap (λ (b : Blob (List ℕ)). is_some b.committed) (blob_in-set_metadata held p (set_metadata q t name))
+      ∙ is_some-mapped (committed_with_metadata (p.count + 1) (set_metadata q t name)) (blob_in p name).committed
+      ∙ there
 
-  found : (o : Op) → q.ask.op ≡ o → IsAsk q.ask → object_refusal (sizes p) q ≡ None → is_served o ≡ true → Found o
-  found op.PutBlob is fits free served = put q.ask.blob q.ask.args.kept (fits.names.blob ∙ ap names_blob is) (fits.own.kept ∙ ap keeps_headers is)
-  found op.GetBlob is fits free served = is_some_read (named_blob p q.ask) (named_blob (sizes p) q.ask) (absent_by_either_reading byte_count p q.ask) (read_there (sizes p) q free is)
-  found other is fits free served = cc
+  module _ (free : object_refusal (sizes p) q ≡ None) where
+    -- the container exists after the request
+    container_told : (o : Op) → q.ask.op ≡ o → tells_container o ≡ true → is_some (after_act (act_by o (sizes p) q t)).standing ≡ true
+    container_told op.CreateContainer is tells = refl
+    container_told op.ContainerProperties is tells = container_needed p q free (ap needs_container is)
+    container_told op.SetContainerMetadata is tells =
+        is_some-mapped (standing_with_metadata (p.count + 1) (set_container_metadata q t)) p.standing ∙ container_needed p q free (ap needs_container is)
+    container_told other is tells = cc
 
--- if nothing refuses a request, readers see the blob that it names after the request
-pub named_blob-unrefused : (keys : Option Keys) (p : Part (List ℕ)) (q : Asked) (t : ℕ) → IsAsk q.ask → refusal keys (sizes p) q t ≡ None → is_some (named_blob (change keys p q t) q.ask) ≡ true
-named_blob-unrefused keys p q t fits free =
-    let all = unrefused keys (sizes p) q t free in
-    ap (λ (o : Option Refusal). is_some (named_blob (part_after held (unless_refused o (change_of (sizes p) q t)) p) q.ask)) free
-    ∙ found p q t q.ask.op refl fits all.unopposed all.served
+    -- readers see the blob after the request
+    blob_told : (o : Op) → q.ask.op ≡ o → IsAsk q.ask → tells_blob o ≡ true → is_some (named q.ask.blob (after_act (act_by o (sizes p) q t))) ≡ true
+    blob_told op.PutBlob is fits tells = put q.ask.blob q.ask.args.kept (fits.names.blob ∙ ap names_blob is) (fits.own.kept ∙ ap keeps_headers is)
+    blob_told op.GetBlob is fits tells = blob_needed p q free (ap needs_blob is)
+    blob_told op.BlobProperties is fits tells = blob_needed p q free (ap needs_blob is)
+    blob_told op.GetMetadata is fits tells = blob_needed p q free (ap needs_blob is)
+    blob_told op.SetMetadata is fits tells = set q.ask.blob (blob_needed p q free (ap needs_blob is))
+    blob_told other is fits tells = cc
+
+module _ (keys : Option Keys) (p : Part (List ℕ)) (q : Asked) (t : ℕ) (free : refusal keys (sizes p) q t ≡ None) where
+  -- if nothing refuses a request whose answer tells of its container, the container exists after the request
+  pub standing-unrefused : tells_container q.ask.op ≡ true → is_some (change keys p q t).standing ≡ true
+  standing-unrefused tells =
+      ap (λ (o : Option Refusal). is_some (part_after held (unless_refused o (change_of (sizes p) q t)) p).standing) free
+      ∙ container_told p q t (unrefused keys (sizes p) q t free).unopposed q.ask.op refl tells
+
+  -- if nothing refuses a request whose answer tells of its blob, readers see the blob after the request
+  pub named_blob-unrefused : IsAsk q.ask → tells_blob q.ask.op ≡ true → is_some (named_blob (change keys p q t) q.ask) ≡ true
+  named_blob-unrefused fits tells =
+      ap (λ (o : Option Refusal). is_some (named_blob (part_after held (unless_refused o (change_of (sizes p) q t)) p) q.ask)) free
+      ∙ blob_told p q t (unrefused keys (sizes p) q t free).unopposed q.ask.op refl fits tells
+
+module _ (q : Asked) (s r : Standing) (c d : Committed ℕ) (e h : Committed (List ℕ)) where
+  neither_told : (o : Op) → tells_container o ≡ false → tells_blob o ≡ false → with_content (frame_by o q s c) (content_by o e) ≡ with_content (frame_by o q r d) (content_by o h)
+  neither_told op.CreateContainer container blob = cc
+  neither_told op.ContainerProperties container blob = cc
+  neither_told op.SetContainerMetadata container blob = cc
+  neither_told op.PutBlob container blob = cc
+  neither_told op.GetBlob container blob = cc
+  neither_told op.BlobProperties container blob = cc
+  neither_told op.GetMetadata container blob = cc
+  neither_told op.SetMetadata container blob = cc
+  neither_told other container blob = refl
+
+-- an answer that tells neither of the container nor of the blob is the same whatever the container is
+pub reply_of-neither : (p r : Part (List ℕ)) (q : Asked) → tells_container q.ask.op ≡ false → tells_blob q.ask.op ≡ false → reply_of p q ≡ reply_of r q
+reply_of-neither p r q container blob =
+    neither_told q (standing_read (sizes p)) (standing_read (sizes r)) (blob_read (sizes p) q.ask) (blob_read (sizes r) q.ask) (blob_read p q.ask) (blob_read r q.ask) q.ask.op container blob

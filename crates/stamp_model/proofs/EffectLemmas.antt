@@ -1,16 +1,22 @@
 -- An effect and the container that it reaches.
-use Rattle.std.proofs.Common.{◌≡◌, ℕ, List, Option, Some, None, refl, sym, ap, ◌∙◌}
-use Rattle.std.specs.Option.{option_map}
+use Rattle.std.proofs.Common.{◌≡◌, ℕ, Bool, true, false, List, Option, Some, None, IfSome, refl, sym, ap, ◌∙◌, subst}
+use Rattle.std.specs.Option.{option_map, option_and_then}
+use Rattle.std.specs.Cmp.{eq_by_cmp_equiv}
+use Rattle.std.specs.Ordering.{eq_by_cmp}
+use Rattle.stamp_values.specs.Order.{key_cmp, keys_total, keys_exact}
 use Rattle.stamp_values.specs.declared.key.Key.{Key}
 use Rattle.stamp_types.specs.declared.act.Act.{Act}
+use Rattle.stamp_types.specs.declared.act.Act.TheVariants as act
+use Rattle.stamp_types.specs.declared.act.PutBlob.{PutBlob}
+use Rattle.stamp_types.specs.declared.args.Kept.{Kept}
 use Rattle.stamp_types.specs.declared.piece.Piece.{Piece}
 use Rattle.stamp_types.specs.declared.refusal.Refusal.{Refusal}
 use Rattle.stamp_types.specs.Changes.{KeyedAct}
 use Rattle.stamp_types.specs.Requests.{Asked}
-use Rattle.stamp_types.specs.World.{Part, World, part_at, part_value}
-use Rattle.stamp_types.proofs.WorldLemmas.{part_at-changed_in, part_at-changed_in_others}
+use Rattle.stamp_types.specs.World.{Part, World, part_at, part_value, changed}
+use Rattle.stamp_types.proofs.WorldLemmas.{equal_if_is_eq, part_at-changed_in, part_at-changed_in_others}
 use Rattle.access_rules.specs.declared.keys.Keys.{Keys}
-use Rattle.range_rows.specs.RequestChanges.{act_by, change_of, part_after}
+use Rattle.range_rows.specs.RequestChanges.{put_blob, act_by, change_of, part_after}
 use Rattle.stamp_model.specs.Refusals.{refusal}
 use Rattle.stamp_model.specs.Effects.{unless_refused, world_after, change_as, effect_as}
 
@@ -49,3 +55,45 @@ module _ {C : Type 0} (size : C → ℕ) (f : List Piece → C) where
   pub part_at-effect_agrees : (keys : Option Keys) (w v : World C) (q : Asked) (t : ℕ) → part_at w q.ask.key ≡ part_at v q.ask.key → part_at (effect_as size f keys w q t) q.ask.key ≡ part_at (effect_as size f keys v q t) q.ask.key
   part_at-effect_agrees keys w v q t same =
       part_at-effect keys w q t ∙ ap (λ (p : Part C). change_as size f keys p q t) same ∙ sym (part_at-effect keys v q t)
+
+-- ---- what is said of each act
+
+-- what is said of each Put Blob is said of the act of a request, if the request has an act
+pub said_of_put : (said : Act → Type 0) → ((a : PutBlob) → said (act.PutBlob a)) → (q : Asked) (t : ℕ) (blob : Option (List ℕ)) (kept : Option Kept)
+    → IfSome (option_and_then (λ name. option_map (λ kept. act.PutBlob (put_blob q t name kept)) kept) blob) said
+said_of_put said each q t None kept = tt
+said_of_put said each q t (Some name) None = tt
+said_of_put said each q t (Some name) (Some kept) = each (put_blob q t name kept)
+
+-- what is said of the act of each name is said of the act of the name that is given, if a name is given
+pub said_of_named : (said : Act → Type 0) (make : List ℕ → Act) → ((name : List ℕ) → said (make name)) → (blob : Option (List ℕ)) → IfSome (option_map make blob) said
+said_of_named said make each None = tt
+said_of_named said make each (Some name) = each name
+
+-- ---- each container before a request and after it
+
+module _ {C : Type 0} (f : List Piece → C) (related : Part C → Part C → Type 0) (stays : (p : Part C) → related p p) where
+  -- a container is related to what it is after an act, if it is so related to what each act makes of it
+  pub related-after_act : (k : Key) (p : Part C) (a : Option Act) → IfSome a (λ a. related p (changed f a p)) → related p (part_after f (option_map (on_key k) a) p)
+  related-after_act k p None said = stays p
+  related-after_act k p (Some a) said = said
+
+  by_refusal : (p : Part C) (r : Option Refusal) (c : Option KeyedAct) → related p (part_after f c p) → related p (part_after f (unless_refused r c) p)
+  by_refusal p None c own = own
+  by_refusal p (Some r) c own = stays p
+
+  module _ (size : C → ℕ) (keys : Option Keys) (w : World C) (q : Asked) (t : ℕ) (own : (z : Part ℕ) (p : Part C) → related p (part_after f (change_of z q t) p)) where
+    by_key : (k : Key) (b : Bool) → eq_by_cmp key_cmp k q.ask.key ≡ b → related (part_at w k) (part_at (effect_as size f keys w q t) k)
+    by_key k true e =
+        subst (λ (x : Key). related (part_at w x) (part_at (effect_as size f keys w q t) x)) (sym (keys_exact k q.ask.key (equal_if_is_eq (key_cmp k q.ask.key) e)))
+        (subst (λ (p : Part C). related (part_at w q.ask.key) p) (sym (part_at-effect size f keys w q t))
+        (by_refusal (part_at w q.ask.key) (refusal keys (own_sizes size f keys w q t) q t) (change_of (own_sizes size f keys w q t) q t) (own (own_sizes size f keys w q t) (part_at w q.ask.key))))
+    by_key k false e = subst (λ (p : Part C). related (part_at w k) p) (sym (part_at-effect_others size f keys w q t k (λ same. apart same e))) (stays (part_at w k))
+      where
+        apart : k ≡ q.ask.key → eq_by_cmp key_cmp k q.ask.key ≡ false → ⊥
+        apart same e =
+            let tied : true ≡ false = sym ((eq_by_cmp_equiv keys_total).refl q.ask.key) ∙ ap (λ (x : Key). eq_by_cmp key_cmp x q.ask.key) (sym same) ∙ e in cc
+
+    -- each container is related to what it is after a request, if it is so related to what the request's change makes of it
+    pub related-effect : (k : Key) → related (part_at w k) (part_at (effect_as size f keys w q t) k)
+    related-effect k = by_key k (eq_by_cmp key_cmp k q.ask.key) refl

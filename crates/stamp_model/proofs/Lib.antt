@@ -4,8 +4,11 @@ pub mod ContentLemmas
 pub mod CountLemmas
 pub mod EffectLemmas
 pub mod HistoryLemmas
+pub mod MakingLemmas
+pub mod ObjectLemmas
 pub mod PublicLemmas
-pub mod PutLemmas
+pub mod ReadLemmas
 pub mod ReplyLemmas
 pub mod RuleLemmas
 pub mod RunLemmas
+pub mod WrittenLemmas

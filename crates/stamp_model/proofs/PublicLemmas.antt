@@ -13,14 +13,17 @@ use Rattle.stamp_values.specs.declared.policy.Policy.{Policy}
 use Rattle.stamp_values.specs.declared.signing.Credential.{Credential}
 use Rattle.stamp_values.specs.declared.signing.Credential.TheVariants.{Anonymous}
 use Rattle.stamp_values.specs.Levels.{level_number}
+use Rattle.stamp_types.specs.declared.act.Act.{Act}
 use Rattle.stamp_types.specs.declared.ask.Ask.{Ask}
 use Rattle.stamp_types.specs.declared.code.Code.{Code}
 use Rattle.stamp_types.specs.declared.code.Code.TheVariants as code
+use Rattle.stamp_types.specs.declared.refusal.Refusal.{Refusal}
 use Rattle.stamp_types.specs.declared.reply.Reply.{Reply}
 use Rattle.stamp_types.specs.declared.rule.Rule.{Rule}
 use Rattle.stamp_types.specs.declared.rule.Rule.TheVariants.{P1, P2}
 use Rattle.stamp_types.specs.declared.standing.Standing.{Standing}
 use Rattle.stamp_types.specs.declared.status.Status.TheVariants.{NotFound}
+use Rattle.stamp_types.specs.Pieces.{held}
 use Rattle.stamp_types.specs.Replies.{denied}
 use Rattle.stamp_types.specs.Requests.{Asked}
 use Rattle.stamp_types.specs.World.{Part, World, part_at}
@@ -29,12 +32,14 @@ use Rattle.access_rules.specs.Needs.{need_of}
 use Rattle.access_rules.specs.Routes.{ByPublic, Admits}
 use Rattle.access_rules.specs.Rules.{allows_less, first_rule, some_passes}
 use Rattle.access_rules.proofs.RouteLaw.{asking, by_route}
-use Rattle.range_rows.specs.ObjectReplies.{sizes}
+use Rattle.range_rows.specs.ObjectReplies.{byte_count, sizes}
 use Rattle.range_rows.specs.ObjectRules.{object_refusal}
 use Rattle.range_rows.specs.Access.{acl_of}
-use Rattle.stamp_model.specs.Refusals.{access_code, access_refusal, unserved_refusal}
-use Rattle.stamp_model.specs.Effects.{change}
+use Rattle.range_rows.specs.RequestChanges.{act_by}
+use Rattle.stamp_model.specs.Refusals.{access_code, access_refusal, unserved_refusal, refusal}
+use Rattle.stamp_model.specs.Effects.{unless_refused, world_after, change, effect}
 use Rattle.stamp_model.specs.Responses.{response, reply}
+use Rattle.stamp_model.proofs.EffectLemmas.{on_key, effect-refused}
 use Rattle.stamp_model.proofs.ReplyLemmas.{reply-unrefused, unrefused}
 
 -- the rule of the public route
@@ -100,12 +105,16 @@ module _ (keys : Option Keys) (w : World (List ℕ)) (q : Asked) (t : ℕ) (boun
   pub rule-closed : (s : Standing) → q.ask.credential ≡ Anonymous → own_part.standing ≡ Some s → s.acl.level ≡ level.Closed → IsSome (reply keys w q t bound).rule
   rule-closed s anonymous exists closed = subst (λ (x : Reply). IsSome x.rule) (sym (told_absent (closed_refused s anonymous exists closed))) refl
 
+  public_route : q.ask.credential ≡ Anonymous → refusal keys (sizes own_part) q t ≡ None → ByPublic (acl_of own_part) q.ask
+  public_route anonymous free =
+      subst (λ (c : Credential). Admits keys (acl_of own_part) c q.ask t) anonymous
+      ((by_route keys (acl_of own_part) q.ask t q.ask.credential).0 (unrefused keys (sizes own_part) q t free).permitted)
+
   -- a request without a credential is answered only if its container exists and the container's level is enough
   pub given-publicly : q.ask.credential ≡ Anonymous → (reply keys w q t bound).rule ≡ None
       → (need : Level) × (s : Standing) × (the_need ≡ Some need) × (own_part.standing ≡ Some s) × (level_number need ≤ level_number s.acl.level)
   given-publicly anonymous none =
-      let admits = (by_route keys (acl_of own_part) q.ask t q.ask.credential).0 (unrefused keys (sizes own_part) q t (reply-unrefused keys w q t bound none)).permitted in
-      let by : ByPublic (acl_of own_part) q.ask = subst (λ (c : Credential). Admits keys (acl_of own_part) c q.ask t) anonymous admits in
+      let by = public_route anonymous (reply-unrefused keys w q t bound none) in
       let there = acl_exists own_part.standing by.has by.exists in
       (by.need, there.0, by.needed, there.1, subst (λ (a : Acl). level_number by.need ≤ level_number a.level) (sym there.2) by.enough)
 
@@ -115,3 +124,31 @@ pub reply-absent_as_closed : (keys : Option Keys) (w v : World (List ℕ)) (q : 
 reply-absent_as_closed keys w v q t bound s anonymous none exists closed =
     told keys w q t bound (absent (need_of q.ask.op q.ask.args.kinds).level).0 (absent_refused keys w q t bound anonymous none)
     ∙ sym (told keys v q t bound (absent (need_of q.ask.op q.ask.args.kinds).level).0 (closed_refused keys v q t bound s anonymous exists closed))
+
+-- ---- requests without a credential write nothing
+
+-- an operation that a level of public access allows changes nothing
+act_by-public : (o : Op) (kinds : Option BlockKinds) (need : Level) (z : Part ℕ) (q : Asked) (t : ℕ) → (need_of o kinds).level ≡ Some need → act_by o z q t ≡ None
+act_by-public op.CreateContainer kinds need z q t h = cc
+act_by-public op.SetContainerMetadata kinds need z q t h = cc
+act_by-public op.DeleteContainer kinds need z q t h = cc
+act_by-public op.PutBlob kinds need z q t h = cc
+act_by-public op.SetMetadata kinds need z q t h = cc
+act_by-public op.DeleteBlob kinds need z q t h = cc
+act_by-public other kinds need z q t h = refl
+
+module _ (keys : Option Keys) (w : World (List ℕ)) (q : Asked) (t : ℕ) (anonymous : q.ask.credential ≡ Anonymous) where
+  abbrev their_refusal : Option Refusal
+  their_refusal = refusal keys (sizes (part_at w q.ask.key)) q t
+
+  by_refusal : (r : Option Refusal) → their_refusal ≡ r → effect keys w q t ≡ w
+  by_refusal (Some r) is = effect-refused byte_count held keys w q t r is
+  by_refusal None is =
+      let by = public_route keys w q t None anonymous is in
+      ap (λ (a : Option Act). world_after held (unless_refused their_refusal (option_map (on_key q.ask.key) a)) w)
+      (act_by-public q.ask.op q.ask.args.kinds by.need (sizes (part_at w q.ask.key)) q t by.needed)
+      ∙ ap (λ (o : Option Refusal). world_after held (unless_refused o None) w) is
+
+  -- a request without a credential leaves all containers as they are
+  pub effect-public : effect keys w q t ≡ w
+  effect-public = by_refusal their_refusal refl

@@ -10,6 +10,7 @@ use Rattle.stamp_types.specs.declared.reply.Reply.{Reply}
 use Rattle.stamp_types.specs.declared.rule.Rule.{Rule}
 use Rattle.stamp_types.specs.declared.rule.Rule.TheVariants.{F3}
 use Rattle.stamp_types.specs.declared.code.Code.TheVariants.{InvalidQueryParameterValue}
+use Rattle.stamp_types.specs.declared.standing.Standing.{Standing}
 use Rattle.stamp_types.specs.Codes.{has_error_body}
 use Rattle.stamp_types.specs.Pieces.{held}
 use Rattle.stamp_types.specs.Replies.{denied}
@@ -19,7 +20,7 @@ use Rattle.access_rules.specs.declared.keys.Keys.{Keys}
 use Rattle.access_rules.specs.Routes.{Admits}
 use Rattle.access_rules.specs.Rules.{first_rule}
 use Rattle.access_rules.proofs.RouteLaw.{by_route}
-use Rattle.range_rows.specs.ObjectReplies.{is_served, byte_count, sizes, blob_read, frame_by, reply_of}
+use Rattle.range_rows.specs.ObjectReplies.{is_served, byte_count, sizes, standing_read, blob_read, frame_by, reply_of}
 use Rattle.range_rows.specs.ObjectRules.{object_refusal}
 use Rattle.range_rows.specs.Access.{acl_of}
 use Rattle.stamp_model.specs.Refusals.{access_refusal, unserved_refusal, refusal, refusing_rule}
@@ -35,13 +36,12 @@ either_names false x y rule first second = second
 pub denied-names : (r : Refusal) → (denied r).rule ≡ Some r.rule
 denied-names r = either_names (has_error_body r.code) _ _ (Some r.rule) refl refl
 
-frame_names_none : (o : Op) (q : Asked) (c : Committed ℕ) → (frame_by o q c).rule ≡ None
-frame_names_none op.PutBlob q c = refl
-frame_names_none op.GetBlob q c = refl
-frame_names_none other q c = refl
+frame_names_none : (o : Op) (q : Asked) (s : Standing) (c : Committed ℕ) → (frame_by o q s c).rule ≡ None
+frame_names_none op.CreateContainer q s c = refl
+frame_names_none other q s c = refl
 
 names : (r : Option Refusal) (p : Part (List ℕ)) (q : Asked) → (response r p q).rule ≡ option_map (λ r. r.rule) r
-names None p q = frame_names_none q.ask.op q (blob_read (sizes p) q.ask)
+names None p q = frame_names_none q.ask.op q (standing_read (sizes p)) (blob_read (sizes p) q.ask)
 names (Some r) p q = denied-names r
 
 -- if three options have no first refusal, each of the three is `None`

@@ -1,7 +1,9 @@
 -- What a request does to what the stamp holds (Blob service REST reference, 2012-02-12, the operations that write; Calder et
 -- al., SOSP 2011, section 5). The stamp's content is bytes. The effect is stated over any content that has a size and can be
 -- read from pieces, since rows hold pieces.
-use Rattle.std.specs.Prelude.{ℕ, List, Option, Some, None}
+use Rattle.std.specs.Prelude.{ℕ, Bool, true, false, List, Option, Some, None}
+use Rattle.stamp_values.specs.declared.op.Op.{Op}
+use Rattle.stamp_values.specs.declared.op.Op.TheVariants as op
 use Rattle.stamp_types.specs.declared.piece.Piece.{Piece}
 use Rattle.stamp_types.specs.declared.refusal.Refusal.{Refusal}
 use Rattle.stamp_types.specs.Changes.{KeyedAct}
@@ -12,6 +14,21 @@ use Rattle.access_rules.specs.declared.keys.Keys.{Keys}
 use Rattle.range_rows.specs.ObjectReplies.{byte_count}
 use Rattle.range_rows.specs.RequestChanges.{change_of, part_after}
 use Rattle.stamp_model.specs.Refusals.{refusal}
+
+-- the operation makes a container, alters what it has beside its blobs, or deletes it
+abbrev pub alters_container : Op → Bool
+alters_container op.CreateContainer = true
+alters_container op.SetContainerMetadata = true
+alters_container op.SetAcl = true
+alters_container op.DeleteContainer = true
+alters_container _ = false
+
+-- the operation may alter the level and the policies of a container: it makes the container, sets its access or deletes it
+abbrev pub alters_access : Op → Bool
+alters_access op.CreateContainer = true
+alters_access op.SetAcl = true
+alters_access op.DeleteContainer = true
+alters_access _ = false
 
 -- the change, if nothing refuses the request
 abbrev pub unless_refused : Option Refusal → Option KeyedAct → Option KeyedAct

@@ -1,8 +1,10 @@
 -- The accepted changes of one container (Calder et al., SOSP 2011, section 5, a partition's commit log). What a history is, and
 -- its epochs, are the stamp's own.
-use Rattle.std.specs.Prelude.{◌≡◌, ◌≤◌, ℕ, nat_eq, List, ◌∷◌, ◌++◌, Option, None, IsSome, find}
+use Rattle.std.specs.Prelude.{◌≡◌, ◌≤◌, ℕ, nat_eq, Bool, true, false, List, ◌∷◌, ◌++◌, Option, None, IsSome, find, map, reverse}
 use Rattle.std.specs.List.{fold}
 use Rattle.stamp_values.specs.declared.key.Key.{Key}
+use Rattle.stamp_values.specs.declared.op.Op.{Op}
+use Rattle.stamp_values.specs.declared.op.Op.TheVariants as op
 use Rattle.stamp_types.specs.declared.past.Past.{Past}
 use Rattle.stamp_types.specs.World.{Part, no_part}
 use Rattle.access_rules.specs.declared.keys.Keys.{Keys}
@@ -50,3 +52,17 @@ pub record IsLegalFrom (pairs : List Keys) (key : Key) (start : Part (List ℕ))
 -- the history is legal from a container that never was
 abbrev pub IsLegal : List Keys → Key → List Past → Type 0
 IsLegal pairs key history = IsLegalFrom pairs key no_part history
+
+-- the operation makes a container or deletes it
+abbrev pub makes_or_deletes : Op → Bool
+makes_or_deletes op.CreateContainer = true
+makes_or_deletes op.DeleteContainer = true
+makes_or_deletes _ = false
+
+-- the operations of the entries, in their order
+abbrev pub operations : List Past → List Op
+operations history = map (λ e. e.request.ask.op) history
+
+-- the last operation of a history that makes the container or deletes it
+abbrev pub last_making_or_deletion : List Past → Option Op
+last_making_or_deletion history = find makes_or_deletes (reverse (operations history))

@@ -5,8 +5,10 @@ use Rattle.stamp_values.specs.declared.key.Key.{Key}
 use Rattle.stamp_values.specs.declared.op.Op.{Op}
 use Rattle.stamp_types.specs.declared.reply.Reply.{Reply}
 use Rattle.stamp_types.specs.Requests.{Asked}
-use Rattle.stamp_types.specs.World.{World}
+use Rattle.stamp_types.specs.World.{World, part_at}
 use Rattle.access_rules.specs.declared.keys.Keys.{Keys}
+use Rattle.access_rules.specs.Routes.{Admits}
+use Rattle.range_rows.specs.Access.{acl_of}
 use Rattle.stamp_model.specs.Effects.{effect}
 use Rattle.stamp_model.specs.Responses.{reply}
 
@@ -37,6 +39,15 @@ replies_to keys w (r ∷ rs) = reply_to_one keys w r ∷ replies_to keys (world_
 pub record AreAnswered (keys : Option Keys) (w : World (List ℕ)) (front : List Timed) (r : Timed) (rest : List Timed) (before : List Reply) (answer : Reply) (after : List Reply) : Type 0 where
   pub replies : replies_to keys w (front ++ r ∷ rest) ≡ before ++ answer ∷ after
   pub position : length before ≡ length front
+
+-- permission admits the request, as the containers are then: by the account's keys, or by what its container gives to all callers
+abbrev pub IsAdmitted : Option Keys → World (List ℕ) → Timed → Type 0
+IsAdmitted keys w r = Admits keys (acl_of (part_at w r.request.ask.key)) r.request.ask.credential r.request.ask r.moment
+
+-- the request is of this operation, in this container
+pub record IsIn (o : Op) (key : Key) (q : Asked) : Type 0 where
+  pub op : q.ask.op ≡ o
+  pub container : q.ask.key ≡ key
 
 -- the request is of this operation, on the blob of this name in this container
 pub record IsOn (o : Op) (key : Key) (name : List ℕ) (q : Asked) : Type 0 where

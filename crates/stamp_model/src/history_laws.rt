@@ -1,12 +1,13 @@
 //! Laws of the accepted changes of a container. Each law is the contract of a function that does
 //! nothing.
-ghost use Rattle.std.specs.Prelude.{◌≡◌, ℕ, ◌+◌, List, [], ◌∷◌, ◌++◌, Some, length};
+ghost use Rattle.std.specs.Prelude.{◌≡◌, ◌↔◌, ℕ, ◌+◌, List, [], ◌∷◌, ◌++◌, Some, IsSome, length};
 ghost use Rattle.stamp_values.specs.declared.key.Key.{Key};
+ghost use Rattle.stamp_values.specs.declared.op.Op.TheVariants.{CreateContainer};
 ghost use Rattle.stamp_types.specs.declared.past.Past.{Past};
 ghost use Rattle.stamp_types.specs.World.{Part, World, part_at};
 ghost use Rattle.access_rules.specs.declared.keys.Keys.{Keys};
 ghost use Rattle.stamp_model.specs.Effects.{effect};
-ghost use Rattle.stamp_model.specs.Histories.{IsLegal, IsLegalFrom, IsAccepted, NoneIsLater, after_entry, pair_of, replay, replay_from};
+ghost use Rattle.stamp_model.specs.Histories.{IsLegal, IsLegalFrom, IsAccepted, NoneIsLater, after_entry, last_making_or_deletion, pair_of, replay, replay_from};
 
 /// If a request is accepted after a legal history, and no entry of the history is of a later epoch
 /// than the request, the history with the request at its end is legal. If the request's container
@@ -34,8 +35,9 @@ pub fn an_accepted_request_continues_a_legal_history()
 
 /// An accepted request is one change of its container. So a legal history has as many entries as
 /// the container has seen changes since the start of the history. If the history begins with a
-/// container that never was, the number of entries is the container's count. The key pair of an
-/// epoch has that epoch.
+/// container that never was, the number of entries is the container's count. Then its first entry
+/// makes the container, and the container exists if and only if the last entry that makes it or
+/// deletes it makes it. The key pair of an epoch has that epoch.
 pub fn each_entry_is_one_change()
     ensures one { (pairs : List Keys) (key : Key) (p : Part (List ℕ)) (e : Past)
         → IsAccepted pairs key p e → (after_entry pairs p e).count ≡ p.count + 1 }
@@ -44,6 +46,12 @@ pub fn each_entry_is_one_change()
         → (replay_from pairs start history).count ≡ start.count + length history }
     ensures all { (pairs : List Keys) (key : Key) (history : List Past) → IsLegal pairs key history
         → (replay pairs history).count ≡ length history }
+    ensures first { (pairs : List Keys) (key : Key) (e : Past) (rest : List Past)
+        → IsLegal pairs key (e ∷ rest) → e.request.ask.op ≡ CreateContainer }
+    ensures exists { (pairs : List Keys) (key : Key) (history : List Past)
+        → IsLegal pairs key history
+        → IsSome (replay pairs history).standing
+        ↔ (last_making_or_deletion history ≡ Some CreateContainer) }
     ensures epoch { (pairs : List Keys) (epoch : ℕ) (pair : Keys) → pair_of pairs epoch ≡ Some pair
         → pair.epoch ≡ epoch }
 {}

@@ -1,5 +1,5 @@
 //! Laws of effects and replies. Each law is the contract of a function that does nothing.
-ghost use Rattle.std.specs.Prelude.{◌≡◌, ◌≢◌, ◌≤◌, ℕ, List, Option, Some, None, IsSome, IsTrue, find};
+ghost use Rattle.std.specs.Prelude.{◌≡◌, ◌≢◌, ◌≤◌, ◌⊎◌, ℕ, ◌+◌, List, Option, Some, None, IsSome, IsTrue, false, find};
 ghost use Rattle.stamp_values.specs.Operations.{names_container};
 ghost use Rattle.stamp_values.specs.declared.key.Key.{Key};
 ghost use Rattle.stamp_values.specs.declared.level.Level.{Level};
@@ -11,6 +11,7 @@ ghost use Rattle.stamp_types.specs.declared.rule.Rule.{Rule};
 ghost use Rattle.stamp_types.specs.declared.standing.Standing.{Standing};
 ghost use Rattle.stamp_types.specs.declared.status.Status.TheVariants.{NotFound};
 ghost use Rattle.stamp_types.specs.Contents.{EachContent};
+ghost use Rattle.stamp_types.specs.EffectKinds.{EtagsAtMost};
 ghost use Rattle.stamp_types.specs.Requests.{Asked, IsAsk};
 ghost use Rattle.stamp_types.specs.World.{Part, World, part_at, world_value};
 ghost use Rattle.access_rules.specs.declared.keys.Keys.{Keys};
@@ -20,8 +21,8 @@ ghost use Rattle.range_rows.specs.ObjectRules.{named_blob, object_refusal};
 ghost use Rattle.range_rows.specs.ObjectReplies.{is_served, reply_of, sizes};
 ghost use Rattle.range_rows.specs.Access.{acl_of};
 ghost use Rattle.stamp_model.specs.Refusals.{refusing_rule, refuses, rules_in_order};
-ghost use Rattle.stamp_model.specs.Effects.{change, effect, effect_as};
-ghost use Rattle.stamp_model.specs.Responses.{reply};
+ghost use Rattle.stamp_model.specs.Effects.{alters_access, alters_container, change, effect, effect_as};
+ghost use Rattle.stamp_model.specs.Responses.{reply, tells_blob, tells_container};
 
 /// The container of a request's key decides what that container is after the request. If the
 /// operation names a container, the container also decides the reply to the request.
@@ -114,12 +115,21 @@ pub fn public_access_is_what_the_container_gives()
         → s.acl.level ≡ level.Closed → IsSome (reply keys w q t bound).rule }
 {}
 
-/// If a request fits its operation and nothing refuses it, its reply is about a blob that readers
-/// see after the request.
-pub fn an_answer_is_of_a_blob_that_exists()
-    ensures { (keys : Option Keys) (w : World (List ℕ)) (q : Asked) (t : ℕ) (bound : Option Key)
-        → IsAsk q.ask → (reply keys w q t bound).rule ≡ None
+/// If nothing refuses a request, what its answer tells of exists after the request. An answer that
+/// tells of a container is of a container that exists. An answer that tells of a blob is of a blob
+/// that readers see, if the request fits its operation. Any other answer is the same whatever the
+/// container is.
+pub fn an_answer_is_of_what_exists()
+    ensures container { (keys : Option Keys) (w : World (List ℕ)) (q : Asked) (t : ℕ)
+        (bound : Option Key)
+        → (reply keys w q t bound).rule ≡ None → IsTrue (tells_container q.ask.op)
+        → IsSome (part_at (effect keys w q t) q.ask.key).standing }
+    ensures blob { (keys : Option Keys) (w : World (List ℕ)) (q : Asked) (t : ℕ)
+        (bound : Option Key)
+        → IsAsk q.ask → (reply keys w q t bound).rule ≡ None → IsTrue (tells_blob q.ask.op)
         → IsSome (named_blob (part_at (effect keys w q t) q.ask.key) q.ask) }
+    ensures neither { (p r : Part (List ℕ)) (q : Asked) → tells_container q.ask.op ≡ false
+        → tells_blob q.ask.op ≡ false → reply_of p q ≡ reply_of r q }
 {}
 
 /// Content may be read before a request or after it, by any function that keeps the size of each
@@ -133,9 +143,32 @@ pub fn content_is_read_before_or_after_a_request<C, D>()
         ≡ effect_as other (λ ps. read (f ps)) keys (world_value read w) q t }
 {}
 
-/// So far, no request makes, alters or deletes a container: public access and policies stay as they
-/// are.
-pub fn containers_stay_as_they_are()
-    ensures { (keys : Option Keys) (w : World (List ℕ)) (q : Asked) (t : ℕ) (k : Key)
+/// A container is changed by its own operations: a request of any other operation leaves what a
+/// container has beside its blobs as it was. The level and the policies of a container are altered
+/// by Create Container, Set Container ACL and Delete Container alone.
+pub fn a_container_is_changed_by_its_own_operations()
+    ensures standing { (keys : Option Keys) (w : World (List ℕ)) (q : Asked) (t : ℕ) (k : Key)
+        → alters_container q.ask.op ≡ false
         → (part_at (effect keys w q t) k).standing ≡ (part_at w k).standing }
+    ensures access { (keys : Option Keys) (w : World (List ℕ)) (q : Asked) (t : ℕ) (k : Key)
+        → alters_access q.ask.op ≡ false
+        → acl_of (part_at (effect keys w q t) k) ≡ acl_of (part_at w k) }
+{}
+
+/// Counts only rise: after a request the count of a container is the count before it, or one more.
+/// If no ETag of the container or of its blobs was over the count before the request, no ETag is
+/// over the count after it.
+pub fn counts_only_rise()
+    ensures count { (keys : Option Keys) (w : World (List ℕ)) (q : Asked) (t : ℕ) (k : Key)
+        → ((part_at (effect keys w q t) k).count ≡ (part_at w k).count)
+        ⊎ ((part_at (effect keys w q t) k).count ≡ (part_at w k).count + 1) }
+    ensures etags { (keys : Option Keys) (w : World (List ℕ)) (q : Asked) (t : ℕ) (k : Key)
+        → EtagsAtMost (part_at w k).count (part_at w k)
+        → EtagsAtMost (part_at (effect keys w q t) k).count (part_at (effect keys w q t) k) }
+{}
+
+/// A request without a credential changes nothing, whatever the level of its container is.
+pub fn nobody_writes_without_a_credential()
+    ensures { (keys : Option Keys) (w : World (List ℕ)) (q : Asked) (t : ℕ)
+        → q.ask.credential ≡ Anonymous → effect keys w q t ≡ w }
 {}

@@ -11,13 +11,14 @@ pub use history_laws::{
     each_entry_is_one_change,
 };
 pub use laws::{
-    a_refused_request_changes_nothing, an_answer_is_of_a_blob_that_exists,
-    an_effect_reaches_its_own_container_alone, an_own_container_decides_effect_and_reply,
-    containers_stay_as_they_are, content_is_read_before_or_after_a_request,
+    a_container_is_changed_by_its_own_operations, a_refused_request_changes_nothing,
+    an_answer_is_of_what_exists, an_effect_reaches_its_own_container_alone,
+    an_own_container_decides_effect_and_reply, content_is_read_before_or_after_a_request,
+    counts_only_rise, nobody_writes_without_a_credential,
     public_access_is_what_the_container_gives, success_is_what_the_own_route_admits,
     the_refusal_is_the_first_rule_of_all,
 };
 pub use run_laws::{
-    a_blob_is_read_as_it_was_put, a_refused_request_changes_no_other_reply,
-    each_request_has_the_reply_of_its_position, only_what_the_own_route_admits_is_answered,
+    a_refused_request_changes_no_other_reply, each_request_has_the_reply_of_its_position,
+    only_what_the_own_route_admits_is_answered, what_is_written_is_read,
 };

@@ -1,16 +1,25 @@
 //! Laws of requests that are answered in turn. Each law is the contract of a function that does
 //! nothing.
-ghost use Rattle.std.specs.Prelude.{◌≡◌, ℕ, List, [], ◌∷◌, ◌++◌, Option, Some, None, length};
+ghost use Rattle.std.specs.Prelude.{◌≡◌, ℕ, ◌+◌, IsTrue, List, [], ◌∷◌, ◌++◌, Option, Some, None, length, map};
+ghost use Rattle.md5.specs.Md5.{md5};
 ghost use Rattle.stamp_values.specs.declared.key.Key.{Key};
-ghost use Rattle.stamp_values.specs.declared.op.Op.TheVariants.{GetBlob, PutBlob};
+ghost use Rattle.stamp_values.specs.declared.op.Op.TheVariants.{BlobProperties, ContainerProperties, CreateContainer, DeleteBlob, DeleteContainer, GetBlob, GetMetadata, PutBlob, SetContainerMetadata, SetMetadata};
+ghost use Rattle.stamp_types.specs.declared.args.Kept.{Kept};
+ghost use Rattle.stamp_types.specs.declared.code.Code.TheVariants.{BlobNotFound, ContainerNotFound};
+ghost use Rattle.stamp_types.specs.declared.header.Header.TheVariants as header;
 ghost use Rattle.stamp_types.specs.declared.reply.Reply.{Reply};
 ghost use Rattle.stamp_types.specs.declared.rule.Rule.{Rule};
+ghost use Rattle.stamp_types.specs.declared.rule.Rule.TheVariants.{O1, O3};
+ghost use Rattle.stamp_types.specs.Replies.{denied};
 ghost use Rattle.stamp_types.specs.Requests.{IsAsk};
 ghost use Rattle.stamp_types.specs.World.{World, part_at};
 ghost use Rattle.access_rules.specs.declared.keys.Keys.{Keys};
 ghost use Rattle.access_rules.specs.Routes.{Admits};
 ghost use Rattle.range_rows.specs.Access.{acl_of};
-ghost use Rattle.stamp_model.specs.Runs.{Timed, AreAnswered, IsOn, world_after_one, world_after_all, reply_to_one, replies_to};
+ghost use Rattle.range_rows.specs.ObjectReplies.{date_headers, kept_lines};
+ghost use Rattle.range_rows.specs.ObjectRules.{needs_blob, needs_container};
+ghost use Rattle.range_rows.specs.RequestChanges.{put_props};
+ghost use Rattle.stamp_model.specs.Runs.{Timed, AreAnswered, IsAdmitted, IsIn, IsOn, world_after_one, world_after_all, reply_to_one, replies_to};
 
 /// Each request has one reply, which follows from what the requests before it left. So the replies
 /// to the first requests do not depend on what comes after these requests.
@@ -56,14 +65,90 @@ pub fn a_refused_request_changes_no_other_reply()
         → world_after_all keys w (front ++ rest) ≡ world_after_all keys w (front ++ r ∷ rest) }
 {}
 
-/// A blob is read as it was put: if the reply to a Put Blob names no rule, and the reply to the Get
-/// Blob of the same blob that comes next names no rule either, the body of the second reply is the
-/// body that was put.
-pub fn a_blob_is_read_as_it_was_put()
-    ensures { (keys : Option Keys) (w : World (List ℕ)) (key : Key) (name : List ℕ)
+/// What is written is read by the request that comes next. Each clause begins with a request that is
+/// accepted: its reply names no rule. After a Put Blob, the reply to a Get Blob has the body that was
+/// put, and the ETag and the moment of the reply to the Put Blob; the reply to a Get Blob Properties
+/// has the length of that body. After Set Blob Metadata or Set Container Metadata, the metadata that
+/// were set are read, with the ETag and the moment of the reply to that request. After a Delete
+/// Blob, each request for the blob that permission admits is refused by O3. After a Delete
+/// Container, each request that needs the container and that permission admits is refused by O1. If
+/// the container is then made again, each request for a blob in it that permission admits is refused
+/// by O3.
+pub fn what_is_written_is_read()
+    ensures body { (keys : Option Keys) (w : World (List ℕ)) (key : Key) (name : List ℕ)
         (put get : Timed)
         → IsAsk put.request.ask → IsOn PutBlob key name put.request
         → IsOn GetBlob key name get.request → (reply_to_one keys w put).rule ≡ None
         → (reply_to_one keys (world_after_one keys w put) get).rule ≡ None
         → (reply_to_one keys (world_after_one keys w put) get).body ≡ put.request.body }
+    ensures put { (keys : Option Keys) (w : World (List ℕ)) (key : Key) (name : List ℕ)
+        (kept : Kept) (put : Timed)
+        → IsOn PutBlob key name put.request → put.request.ask.args.kept ≡ Some kept
+        → (reply_to_one keys w put).rule ≡ None
+        → (reply_to_one keys w put).headers
+        ≡ header.ContentMd5 (md5 put.request.body)
+        ∷ date_headers ((part_at w key).count + 1) put.moment }
+    ensures get { (keys : Option Keys) (w : World (List ℕ)) (key : Key) (name : List ℕ)
+        (kept : Kept) (put get : Timed)
+        → IsOn PutBlob key name put.request → put.request.ask.args.kept ≡ Some kept
+        → IsOn GetBlob key name get.request → (reply_to_one keys w put).rule ≡ None
+        → (reply_to_one keys (world_after_one keys w put) get).rule ≡ None
+        → (reply_to_one keys (world_after_one keys w put) get).headers
+        ≡ kept_lines (put_props put.request kept)
+        ++ map header.Meta put.request.ask.args.metadata
+        ++ header.BlobType ∷ header.AcceptRanges
+        ∷ date_headers ((part_at w key).count + 1) put.moment }
+    ensures length { (keys : Option Keys) (w : World (List ℕ)) (key : Key) (name : List ℕ)
+        (put get : Timed)
+        → IsAsk put.request.ask → IsOn PutBlob key name put.request
+        → IsOn BlobProperties key name get.request → (reply_to_one keys w put).rule ≡ None
+        → (reply_to_one keys (world_after_one keys w put) get).rule ≡ None
+        → (reply_to_one keys (world_after_one keys w put) get).length
+        ≡ length put.request.body }
+    ensures set { (keys : Option Keys) (w : World (List ℕ)) (key : Key) (name : List ℕ)
+        (set : Timed)
+        → IsOn SetMetadata key name set.request → (reply_to_one keys w set).rule ≡ None
+        → (reply_to_one keys w set).headers
+        ≡ date_headers ((part_at w key).count + 1) set.moment }
+    ensures metadata { (keys : Option Keys) (w : World (List ℕ)) (key : Key) (name : List ℕ)
+        (set get : Timed)
+        → IsOn SetMetadata key name set.request → IsOn GetMetadata key name get.request
+        → (reply_to_one keys w set).rule ≡ None
+        → (reply_to_one keys (world_after_one keys w set) get).rule ≡ None
+        → (reply_to_one keys (world_after_one keys w set) get).headers
+        ≡ map header.Meta set.request.ask.args.metadata ++ (reply_to_one keys w set).headers }
+    ensures set_container { (keys : Option Keys) (w : World (List ℕ)) (key : Key) (set : Timed)
+        → IsIn SetContainerMetadata key set.request → (reply_to_one keys w set).rule ≡ None
+        → (reply_to_one keys w set).headers
+        ≡ date_headers ((part_at w key).count + 1) set.moment }
+    ensures properties { (keys : Option Keys) (w : World (List ℕ)) (key : Key) (set get : Timed)
+        → IsIn SetContainerMetadata key set.request
+        → IsIn ContainerProperties key get.request → (reply_to_one keys w set).rule ≡ None
+        → (reply_to_one keys (world_after_one keys w set) get).rule ≡ None
+        → (reply_to_one keys (world_after_one keys w set) get).headers
+        ≡ map header.Meta set.request.ask.args.metadata ++ (reply_to_one keys w set).headers }
+    ensures deleted_blob { (keys : Option Keys) (w : World (List ℕ)) (key : Key) (name : List ℕ)
+        (delete read : Timed)
+        → IsOn DeleteBlob key name delete.request → (reply_to_one keys w delete).rule ≡ None
+        → read.request.ask.key ≡ key → read.request.ask.blob ≡ Some name
+        → IsTrue (needs_blob read.request.ask.op)
+        → IsAdmitted keys (world_after_one keys w delete) read
+        → reply_to_one keys (world_after_one keys w delete) read
+        ≡ denied (record { rule = O3; code = BlobNotFound }) }
+    ensures deleted_container { (keys : Option Keys) (w : World (List ℕ)) (key : Key)
+        (delete ask : Timed)
+        → IsIn DeleteContainer key delete.request → (reply_to_one keys w delete).rule ≡ None
+        → ask.request.ask.key ≡ key → IsTrue (needs_container ask.request.ask.op)
+        → IsAdmitted keys (world_after_one keys w delete) ask
+        → reply_to_one keys (world_after_one keys w delete) ask
+        ≡ denied (record { rule = O1; code = ContainerNotFound }) }
+    ensures made_again { (keys : Option Keys) (w : World (List ℕ)) (key : Key)
+        (delete create read : Timed)
+        → IsIn DeleteContainer key delete.request → IsIn CreateContainer key create.request
+        → (reply_to_one keys w delete).rule ≡ None
+        → (reply_to_one keys (world_after_one keys w delete) create).rule ≡ None
+        → read.request.ask.key ≡ key → IsTrue (needs_blob read.request.ask.op)
+        → IsAdmitted keys (world_after_all keys w (delete ∷ create ∷ [])) read
+        → reply_to_one keys (world_after_all keys w (delete ∷ create ∷ [])) read
+        ≡ denied (record { rule = O3; code = BlobNotFound }) }
 {}

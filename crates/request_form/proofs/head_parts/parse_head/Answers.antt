@@ -1,4 +1,4 @@
-use Rattle.request_form.proofs.HeadLemmas.{parts_are, values_fit, target_fits}
+use Rattle.request_form.proofs.HeadLemmas.{parts_are, fields_fit, target_fits}
 use Rattle.request_form.proofs.head_parts.parse_head.Goals as goal
 
 pub returns-clause-head : goal.returns-clause-head
@@ -9,7 +9,7 @@ returns-clause-head c =
 pub returns-clause-short : goal.returns-clause-short
 returns-clause-short c =
     let found = c.in-Some.ensures.head in
-    values_fit found.1 (parts_are found.2 c.in_ok-read_parts.ensures)
+    fields_fit found.1 (parts_are found.2 c.in_ok-read_parts.ensures)
 
 pub returns-clause-target : goal.returns-clause-target
 returns-clause-target c =

@@ -1,15 +1,15 @@
 use Rattle.std.proofs.Common.{List, None, Option, ap, cond, sym, ◌∙◌, ℕ}
 use Rattle.stamp_values.specs.Operations.{checks_md5}
-use Rattle.request_form.specs.HeadForms.{args_of}
+use Rattle.request_form.specs.HeadForms.{line_args_of}
 use Rattle.request_form.proofs.ValueLemmas.{no_bad_line}
 use Rattle.request_form.proofs.values.good_args.Goals as goal
 
 pub returns : goal.returns
-unfolding args_of
+unfolding line_args_of
 returns c = (
   no_bad_line c.args.op c.args.fields.now (sym c.has_bad_twice.ensures ∙ c.if-has_bad_twice.false)
       (sym c.has_bad_condition.ensures ∙ c.if-has_bad_condition.false)
-      c.in_ok-md5_under.ensures.0 c.in_ok-blob_md5.ensures.0 c.in_ok-kept.ensures.0,
+      c.in_ok-md5_under.ensures.0 c.in_ok-blob_md5.ensures.0 c.in_ok-kept.ensures.0 c.in_ok-level.ensures.0,
   λ i. record {
     if_match = None;
     if_none_match = None;
@@ -17,7 +17,7 @@ returns c = (
     range = None;
     kept = c.in_ok-kept.ensures.1 i;
     metadata = c.empty.ensures i;
-    level = None;
+    level = c.in_ok-level.ensures.1 i;
     page = None;
     block = None;
     kinds = None;

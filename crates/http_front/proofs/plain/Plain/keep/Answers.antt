@@ -1,7 +1,11 @@
 use Rattle.stamp_types.specs.Pieces.{pieces_len}
 use Rattle.stamp_types.specs.World.{part_at, part_value}
-use Rattle.http_front.proofs.PlainLemmas.{unopposed, held_kept}
+use Rattle.http_front.proofs.PlainLemmas.{unopposed, served, held_kept}
 use Rattle.http_front.proofs.plain.Plain.keep.Goals as goal
+
+pub change-requires-clause-served : goal.change-requires-clause-served
+change-requires-clause-served c =
+    served c.self.inside.keys c.self.inside.rows c.args.self.now c.self.view_is c.args.request.now c.args.moment c.requires.allowed
 
 pub change-requires-clause-allowed : goal.change-requires-clause-allowed
 change-requires-clause-allowed c =

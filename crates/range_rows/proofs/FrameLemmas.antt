@@ -1,0 +1,170 @@
+-- Frames and spans of the answers to allowed requests, by their operations.
+use Rattle.std.proofs.Common.{◌≡◌, ◌+◌, ℕ, true, false, List, [], Option, Some, None, refl, ap, ◌∙◌, unwrap_or, map}
+use Rattle.std.specs.Prelude.{IsSome}
+use Rattle.std.specs.Option.{option_map, option_and_then}
+use Rattle.std.specs.List.{flat_map}
+use Rattle.std.specs.FinMap as finite
+use Rattle.md5.specs.Md5.{md5}
+use Rattle.stamp_values.specs.Operations.{writes, names_blob, keeps_headers}
+use Rattle.stamp_values.specs.declared.op.Op.{Op}
+use Rattle.stamp_values.specs.declared.op.Op.TheVariants as op
+use Rattle.stamp_types.specs.declared.act.Act.{Act}
+use Rattle.stamp_types.specs.declared.act.Act.TheVariants as act
+use Rattle.stamp_types.specs.declared.args.Kept.{Kept}
+use Rattle.stamp_types.specs.declared.committed.Committed.{Committed}
+use Rattle.stamp_types.specs.declared.piece.Piece.{Piece}
+use Rattle.stamp_types.specs.declared.reply.Reply.{Reply}
+use Rattle.stamp_types.specs.declared.standing.Standing.{Standing}
+use Rattle.stamp_types.specs.declared.status.Status.TheVariants as status
+use Rattle.stamp_types.specs.Pieces.{pieces_len}
+use Rattle.stamp_types.specs.Requests.{Asked, IsRequest}
+use Rattle.stamp_types.specs.World.{Blob, Part, World, no_part, part_at, blob_in, committed_value, committed_with_metadata, part_value, same_pieces, standing_with_metadata}
+use Rattle.stamp_types.proofs.EffectLemmas.{blob_in-set_metadata}
+use Rattle.range_rows.specs.ObjectReplies.{blob_read, content_by, date_headers, empty_blob, empty_standing, frame, frame_by, get_frame, is_served, metadata_headers, put_reply, spans, standing_read, success_reply, whole_span, write_frame}
+use Rattle.range_rows.specs.ObjectRules.{named_blob, needs_blob, needs_container, object_refusal, sizes_named}
+use Rattle.range_rows.specs.RequestChanges.{act_by, change_of, part_after, pieces_after, put_blob, set_container_metadata, set_metadata, sizes_after}
+use Rattle.range_rows.proofs.Allowed.{needed_blob, needed_container}
+use Rattle.range_rows.proofs.AnswerLemmas.{blob_in-put, named_blob-part_value}
+
+-- ---- requests that write
+
+module _ (p : Part ℕ) (q : Asked) (t : ℕ) where
+  abbrev after : Option Act → Part ℕ
+  after o = part_after pieces_len (option_map (λ a. record { key = q.ask.key; act = a }) o) p
+
+  -- the frame of the operation, from the container after the operation's change
+  abbrev frame_after : Op → Reply
+  frame_after o = frame_by o q (standing_read (after (act_by o p q t))) (blob_read (after (act_by o p q t)) q.ask)
+
+  -- the frame of the operation, from the number and the moment of its change
+  abbrev dated_frame : Op → Reply
+  dated_frame o = frame_by o q (record empty_standing { etag = p.count + 1; made = t }) (record empty_blob { etag = p.count + 1; made = t })
+
+  standing_with_metadata-frame : (o : Option Standing) → IsSome o
+      → success_reply status.Success (date_headers (unwrap_or (option_map (standing_with_metadata (p.count + 1) (set_container_metadata q t)) o) empty_standing).etag (unwrap_or (option_map (standing_with_metadata (p.count + 1) (set_container_metadata q t)) o) empty_standing).made) 0
+      ≡ dated_frame op.SetContainerMetadata
+  standing_with_metadata-frame None exists = cc
+  standing_with_metadata-frame (Some s) exists = refl
+
+  abbrev put_act : Option (List ℕ) → Option Kept → Option Act
+  put_act blob kept = option_and_then (λ name. option_map (λ kept. act.PutBlob (put_blob q t name kept)) kept) blob
+
+  abbrev seen_in : Part ℕ → Option (List ℕ) → Committed ℕ
+  seen_in r blob = unwrap_or (option_and_then (λ name. (blob_in r name).committed) blob) empty_blob
+
+  put_blob-frame : (blob : Option (List ℕ)) (kept : Option Kept) → IsSome blob → IsSome kept
+      → put_reply (md5 q.body) (seen_in (after (put_act blob kept)) blob).etag (seen_in (after (put_act blob kept)) blob).made ≡ dated_frame op.PutBlob
+  put_blob-frame None kept named given = cc
+  put_blob-frame (Some name) None named given = cc
+  put_blob-frame (Some name) (Some kept) named given =
+      ap (λ (o : Option (Committed ℕ)). put_reply (md5 q.body) (unwrap_or o empty_blob).etag (unwrap_or o empty_blob).made) (blob_in-put pieces_len (put_blob q t name kept) p)
+
+  abbrev dates_reply : Committed ℕ → Reply
+  dates_reply c = success_reply status.Success (date_headers c.etag c.made) 0
+
+  abbrev set_act : Option (List ℕ) → Option Act
+  set_act blob = option_map (λ name. act.SetMetadata (set_metadata q t name)) blob
+
+  committed_with_metadata-frame : (name : List ℕ) (o : Option (Committed ℕ)) → IsSome o
+      → dates_reply (unwrap_or (option_map (committed_with_metadata (p.count + 1) (set_metadata q t name)) o) empty_blob) ≡ dated_frame op.SetMetadata
+  committed_with_metadata-frame name None exists = cc
+  committed_with_metadata-frame name (Some c) exists = refl
+
+  set_metadata-frame : (blob : Option (List ℕ)) → IsSome (option_and_then (λ name. (blob_in p name).committed) blob)
+      → dates_reply (seen_in (after (set_act blob)) blob) ≡ dated_frame op.SetMetadata
+  set_metadata-frame None exists = cc
+  set_metadata-frame (Some name) exists =
+      ap (λ (b : Blob ℕ). dates_reply (unwrap_or b.committed empty_blob)) (blob_in-set_metadata pieces_len p (set_metadata q t name))
+      ∙ committed_with_metadata-frame name (blob_in p name).committed exists
+
+  module _ (valid : IsRequest q) (free : object_refusal p q ≡ None) where
+    write_frame_by : (o : Op) → q.ask.op ≡ o → is_served o ≡ true → writes o ≡ true → frame_after o ≡ dated_frame o
+    write_frame_by op.CreateContainer is served writing = refl
+    write_frame_by op.SetContainerMetadata is served writing = standing_with_metadata-frame p.standing (needed_container p q free (ap needs_container is))
+    write_frame_by op.DeleteContainer is served writing = refl
+    write_frame_by op.PutBlob is served writing =
+        put_blob-frame q.ask.blob q.ask.args.kept (valid.ask.names.blob ∙ ap names_blob is) (valid.ask.own.kept ∙ ap keeps_headers is)
+    write_frame_by op.SetMetadata is served writing = set_metadata-frame q.ask.blob (needed_blob p q free (ap needs_blob is))
+    write_frame_by op.DeleteBlob is served writing = refl
+    write_frame_by other is served writing = cc
+
+    -- the frame of a request that writes is the frame of the number and the moment of its change
+    pub frame_of_write : is_served q.ask.op ≡ true → writes q.ask.op ≡ true → frame (part_after pieces_len (change_of p q t) p) q ≡ write_frame q (p.count + 1) t
+    frame_of_write served writing = write_frame_by q.ask.op refl served writing
+
+content_by-others : {C : Type 0} (o : Op) (c : Committed (List C)) → (o ≡ op.GetBlob → ⊥) → content_by o c ≡ []
+content_by-others op.GetBlob c other = absurd (other refl)
+content_by-others other c apart = refl
+
+-- no content goes out with the reply to an operation other than Get Blob
+pub spans_of_others : (p : Part (List Piece)) (q : Asked) → (q.ask.op ≡ op.GetBlob → ⊥) → spans p q ≡ []
+spans_of_others p q other = ap (λ (ps : List Piece). map whole_span ps) (content_by-others q.ask.op (blob_read p q.ask) other)
+
+-- no content goes out with the reply to a request that writes
+pub spans_of_write : (p : Part (List Piece)) (q : Asked) → writes q.ask.op ≡ true → spans p q ≡ []
+spans_of_write p q writing = spans_of_others p q (λ get. cc)
+
+-- ---- requests that read
+
+module _ (z : Part ℕ) (q : Asked) (t : ℕ) where
+  act_by_read : (o : Op) → writes o ≡ false → act_by o z q t ≡ None
+  act_by_read op.CreateContainer reads = cc
+  act_by_read op.SetContainerMetadata reads = cc
+  act_by_read op.DeleteContainer reads = cc
+  act_by_read op.PutBlob reads = cc
+  act_by_read op.SetMetadata reads = cc
+  act_by_read op.DeleteBlob reads = cc
+  act_by_read other reads = refl
+
+  -- a request that reads leaves its container as it is
+  pub part_after_read : {C : Type 0} (f : List Piece → C) (r : Part C) → writes q.ask.op ≡ false → part_after f (change_of z q t) r ≡ r
+  part_after_read f r reads = ap (λ (o : Option Act). part_after f (option_map (λ a. record { key = q.ask.key; act = a }) o) r) (act_by_read q.ask.op reads)
+
+module _ (p : Part (List Piece)) (q : Asked) where
+  abbrev sized : Part ℕ
+  sized = part_value pieces_len p
+
+  -- the frame of a request that reads a blob is the frame of the blob that it names
+  frame_of_read : (o : Op) (c : Committed (List Piece)) → q.ask.op ≡ o → named_blob p q.ask ≡ Some c → frame sized q ≡ frame_by o q (standing_read sized) (committed_value pieces_len c)
+  frame_of_read o c is there =
+      ap (λ (o : Op). frame_by o q (standing_read sized) (blob_read sized q.ask)) is
+      ∙ ap (λ (b : Option (Committed ℕ)). frame_by o q (standing_read sized) (unwrap_or b empty_blob)) (named_blob-part_value pieces_len p q.ask ∙ ap (option_map (committed_value pieces_len)) there)
+
+  pub frame_of_get_blob : (c : Committed (List Piece)) → q.ask.op ≡ op.GetBlob → named_blob p q.ask ≡ Some c → frame sized q ≡ get_frame (committed_value pieces_len c)
+  frame_of_get_blob c = frame_of_read op.GetBlob c
+
+  pub frame_of_blob_properties : (c : Committed (List Piece)) → q.ask.op ≡ op.BlobProperties → named_blob p q.ask ≡ Some c → frame sized q ≡ get_frame (committed_value pieces_len c)
+  frame_of_blob_properties c = frame_of_read op.BlobProperties c
+
+  pub frame_of_get_metadata : (c : Committed (List Piece)) → q.ask.op ≡ op.GetMetadata → named_blob p q.ask ≡ Some c
+      → frame sized q ≡ success_reply status.Success (metadata_headers c.metadata c.etag c.made) 0
+  frame_of_get_metadata c = frame_of_read op.GetMetadata c
+
+  -- the frame of Get Container Properties is the frame of what the container has beside its blobs
+  pub frame_of_container_properties : (s : Standing) → q.ask.op ≡ op.ContainerProperties → p.standing ≡ Some s
+      → frame sized q ≡ success_reply status.Success (metadata_headers s.metadata s.etag s.made) 0
+  frame_of_container_properties s is there =
+      ap (λ (o : Op). frame_by o q (standing_read sized) (blob_read sized q.ask)) is
+      ∙ ap (λ (o : Option Standing). frame_by op.ContainerProperties q (unwrap_or o empty_standing) (blob_read sized q.ask)) there
+
+-- on a Get Blob all pieces of the blob go out
+pub spans_of_get : (p : Part (List Piece)) (q : Asked) (c : Committed (List Piece)) → q.ask.op ≡ op.GetBlob → named_blob p q.ask ≡ Some c
+    → spans p q ≡ map whole_span (flat_map (λ b. b.content) c.blocks)
+spans_of_get p q c is there =
+    ap (λ (o : Op). map whole_span (content_by o (blob_read p q.ask))) is
+    ∙ ap (λ (o : Option (Committed (List Piece))). map whole_span (content_by op.GetBlob (unwrap_or o empty_blob))) there
+
+-- ---- a container that was found, on a request that reads
+
+module _ (w : World (List Piece)) (q : Asked) (t : ℕ) (p : Part (List Piece)) (found : finite.get w q.ask.key ≡ Some p) (reads : writes q.ask.op ≡ false) where
+  -- its sizes are as before
+  pub sizes_after_read : sizes_after w q t ≡ part_value pieces_len p
+  sizes_after_read =
+      part_after_read (sizes_named w q) q t pieces_len (sizes_named w q) reads
+      ∙ ap (λ (o : Option (Part (List Piece))). part_value pieces_len (unwrap_or o no_part)) found
+
+  -- its pieces are as before
+  pub pieces_after_read : pieces_after w q t ≡ p
+  pieces_after_read =
+      part_after_read (sizes_named w q) q t same_pieces (part_at w q.ask.key) reads
+      ∙ ap (λ (o : Option (Part (List Piece))). unwrap_or o no_part) found

@@ -1,0 +1,23 @@
+//! Why the values of the header lines are not read.
+ghost use Rattle.std.specs.Prelude.{◌≡◌};
+ghost use Rattle.request_form.specs.declared.value_fault.ValueFault.TheVariants as fault;
+
+use stamp_types::Code;
+use std::alloc::AllocError;
+
+/// Why the values of the header lines are not read.
+#[derive(Clone, Copy, Debug, PartialEq, Eq)]
+pub enum ValueFault {
+    /// Rule F7 refuses them, with this code.
+    Refused(Code),
+    /// Memory ran out.
+    NoMemory,
+}
+
+impl From<AllocError> for ValueFault {
+    ghost from_gives = { λ _ e. e ≡ fault.NoMemory };
+
+    fn from(_error: AllocError) -> Self {
+        Self::NoMemory
+    }
+}

@@ -1,0 +1,116 @@
+-- What a request answers from the container and the blob that it names, and what it leaves of them.
+use Rattle.std.proofs.Common.{◌≡◌, ℕ, false, List, Option, Some, None, refl, sym, ap, ◌∙◌, unwrap_or}
+use Rattle.std.specs.Option.{option_map, option_and_then, option_or}
+use Rattle.stamp_values.specs.Operations.{writes}
+use Rattle.stamp_values.specs.declared.key.Key.{Key}
+use Rattle.stamp_values.specs.declared.op.Op.{Op}
+use Rattle.stamp_values.specs.declared.op.Op.TheVariants as op
+use Rattle.stamp_types.specs.declared.act.Act.{Act}
+use Rattle.stamp_types.specs.declared.committed.Committed.{Committed}
+use Rattle.stamp_types.specs.declared.refusal.Refusal.{Refusal}
+use Rattle.stamp_types.specs.declared.reply.Reply.{Reply}
+use Rattle.stamp_types.specs.Pieces.{held}
+use Rattle.stamp_types.specs.Replies.{denied}
+use Rattle.stamp_types.specs.Requests.{Asked}
+use Rattle.stamp_types.specs.World.{Part, World, blob_in, committed_value, part_at, changed}
+use Rattle.access_rules.specs.declared.keys.Keys.{Keys}
+use Rattle.access_rules.specs.Routes.{Admits}
+use Rattle.access_rules.proofs.RouteLaw.{by_route}
+use Rattle.range_rows.specs.Access.{acl_of}
+use Rattle.range_rows.specs.ObjectReplies.{byte_count, sizes, standing_read, empty_blob, frame_by, content_by, content_sent, with_content, reply_of}
+use Rattle.range_rows.specs.ObjectRules.{object_refusal}
+use Rattle.range_rows.specs.RequestChanges.{act_by, change_of, part_after}
+use Rattle.range_rows.proofs.AnswerLemmas.{named_blob-part_value}
+use Rattle.stamp_model.specs.Refusals.{access_refusal, unserved_refusal, refusal}
+use Rattle.stamp_model.specs.Effects.{unless_refused, world_after, change, effect}
+use Rattle.stamp_model.specs.Responses.{response, reply}
+use Rattle.stamp_model.specs.Runs.{IsIn, IsOn}
+use Rattle.stamp_model.proofs.EffectLemmas.{on_key, part_at-effect}
+use Rattle.stamp_model.proofs.ReplyLemmas.{reply-unrefused, reply-admitted}
+
+-- ---- what a request leaves
+
+act_by-read : (o : Op) (z : Part ℕ) (q : Asked) (t : ℕ) → writes o ≡ false → act_by o z q t ≡ None
+act_by-read op.CreateContainer z q t reads = cc
+act_by-read op.SetContainerMetadata z q t reads = cc
+act_by-read op.DeleteContainer z q t reads = cc
+act_by-read op.PutBlob z q t reads = cc
+act_by-read op.SetMetadata z q t reads = cc
+act_by-read op.DeleteBlob z q t reads = cc
+act_by-read other z q t reads = refl
+
+without_change : (r : Option Refusal) (w : World (List ℕ)) → world_after held (unless_refused r None) w ≡ w
+without_change None w = refl
+without_change (Some r) w = refl
+
+module _ (keys : Option Keys) (w : World (List ℕ)) (q : Asked) (t : ℕ) where
+  -- a request that reads leaves all containers as they are
+  pub effect-read : writes q.ask.op ≡ false → effect keys w q t ≡ w
+  effect-read reads =
+      ap (λ (a : Option Act). world_after held (unless_refused (refusal keys (sizes (part_at w q.ask.key)) q t) (option_map (on_key q.ask.key) a)) w)
+      (act_by-read q.ask.op (sizes (part_at w q.ask.key)) q t reads)
+      ∙ without_change (refusal keys (sizes (part_at w q.ask.key)) q t) w
+
+  -- the container after a request that nothing refuses is what its act makes of the container
+  pub part_at-act : (key : Key) (a : Act) → q.ask.key ≡ key → (reply keys w q t None).rule ≡ None → ((z : Part ℕ) → act_by q.ask.op z q t ≡ Some a)
+      → part_at (effect keys w q t) key ≡ changed held a (part_at w key)
+  part_at-act key a same none acts =
+      ap (λ (k : Key). part_at (effect keys w q t) k) (sym same)
+      ∙ part_at-effect byte_count held keys w q t
+      ∙ ap (λ (o : Option Refusal). part_after held (unless_refused o (change_of (sizes (part_at w q.ask.key)) q t)) (part_at w q.ask.key)) (reply-unrefused keys w q t None none)
+      ∙ ap (λ (o : Option Act). part_after held (option_map (on_key q.ask.key) o) (part_at w q.ask.key)) (acts (sizes (part_at w q.ask.key)))
+      ∙ ap (λ (k : Key). changed held a (part_at w k)) same
+
+-- ---- what a request answers
+
+module _ (v : World (List ℕ)) (q : Asked) where
+  -- the answer to the operation in this container, if this is what readers see of the blob
+  abbrev pub answer : Op → Key → Option (Committed (List ℕ)) → Reply
+  answer o k c =
+      with_content (frame_by o q (standing_read (part_at v k)) (unwrap_or (option_map (committed_value byte_count) c) empty_blob)) (content_by o (unwrap_or c empty_blob))
+
+  abbrev seen : Key → Option (List ℕ) → Option (Committed (List ℕ))
+  seen k blob = option_and_then (λ name. (blob_in (part_at v k) name).committed) blob
+
+  reply_of-seen : reply_of (part_at v q.ask.key) q ≡ answer q.ask.op q.ask.key (seen q.ask.key q.ask.blob)
+  reply_of-seen =
+      ap (λ (c : Option (Committed ℕ)). with_content (frame_by q.ask.op q (standing_read (part_at v q.ask.key)) (unwrap_or c empty_blob)) (content_sent (part_at v q.ask.key) q))
+      (named_blob-part_value byte_count (part_at v q.ask.key) q.ask)
+
+  reply_of-on : (o : Op) (key : Key) (name : List ℕ) → IsOn o key name q → reply_of (part_at v q.ask.key) q ≡ answer o key (blob_in (part_at v key) name).committed
+  reply_of-on o key name on = reply_of-seen ∙ (λ i. answer (on.op i) (on.container i) (seen (on.container i) (on.blob i)))
+
+  reply_of-in : (o : Op) (key : Key) → IsIn o key q → reply_of (part_at v q.ask.key) q ≡ answer o key (seen key q.ask.blob)
+  reply_of-in o key is_in = reply_of-seen ∙ (λ i. answer (is_in.op i) (is_in.container i) (seen (is_in.container i) q.ask.blob))
+
+module _ (keys : Option Keys) (w : World (List ℕ)) (q : Asked) (t : ℕ) (none : (reply keys w q t None).rule ≡ None) where
+  answered : reply keys w q t None ≡ reply_of (part_at (effect keys w q t) q.ask.key) q
+  answered = reply-admitted keys w q t None (reply-unrefused keys w q t None none)
+
+  read_before : (o : Op) → q.ask.op ≡ o → writes o ≡ false → reply keys w q t None ≡ reply_of (part_at w q.ask.key) q
+  read_before o is reads = answered ∙ ap (λ (v : World (List ℕ)). reply_of (part_at v q.ask.key) q) (effect-read keys w q t (ap writes is ∙ reads))
+
+  -- the reply to a request that writes is about the blob as it is after the request
+  pub reply-write : (o : Op) (key : Key) (name : List ℕ) (c : Committed (List ℕ)) → IsOn o key name q → (blob_in (part_at (effect keys w q t) key) name).committed ≡ Some c
+      → reply keys w q t None ≡ answer (effect keys w q t) q o key (Some c)
+  reply-write o key name c on there = answered ∙ reply_of-on (effect keys w q t) q o key name on ∙ ap (λ (c : Option (Committed (List ℕ))). answer (effect keys w q t) q o key c) there
+
+  -- the reply to a request that reads is about the blob as it is
+  pub reply-read : (o : Op) (key : Key) (name : List ℕ) (c : Committed (List ℕ)) → writes o ≡ false → IsOn o key name q → (blob_in (part_at w key) name).committed ≡ Some c
+      → reply keys w q t None ≡ answer w q o key (Some c)
+  reply-read o key name c reads on there = read_before o on.op reads ∙ reply_of-on w q o key name on ∙ ap (λ (c : Option (Committed (List ℕ))). answer w q o key c) there
+
+  -- the reply to a request that writes is about the container as it is after the request
+  pub reply-write_in : (o : Op) (key : Key) → IsIn o key q → reply keys w q t None ≡ answer (effect keys w q t) q o key (seen (effect keys w q t) q key q.ask.blob)
+  reply-write_in o key is_in = answered ∙ reply_of-in (effect keys w q t) q o key is_in
+
+  -- the reply to a request that reads is about the container as it is
+  pub reply-read_in : (o : Op) (key : Key) → writes o ≡ false → IsIn o key q → reply keys w q t None ≡ answer w q o key (seen w q key q.ask.blob)
+  reply-read_in o key reads is_in = read_before o is_in.op reads ∙ reply_of-in w q o key is_in
+
+-- a request that permission admits, and that the object refuses, is answered with the refusal by the object
+pub reply-refused : (keys : Option Keys) (w : World (List ℕ)) (q : Asked) (t : ℕ) (r : Refusal) → Admits keys (acl_of (part_at w q.ask.key)) q.ask.credential q.ask t
+    → object_refusal (sizes (part_at w q.ask.key)) q ≡ Some r → reply keys w q t None ≡ denied r
+reply-refused keys w q t r admits refused =
+    λ i. response (option_or (option_map access_refusal ((by_route keys (acl_of (part_at w q.ask.key)) q.ask t q.ask.credential).1 admits i))
+    (option_or (refused i) (unserved_refusal q.ask.op))) (change keys (part_at w q.ask.key) q t) q
