@@ -37,31 +37,37 @@ module _ (z : Part ℕ) (q : Asked) (t : ℕ) (said : Act → Type 0) (each : (a
 
 -- ---- counts and ETags after a request
 
-module _ (keys : Option Keys) (w : World (List ℕ)) (q : Asked) (t : ℕ) where
-  abbrev Rises : Part (List ℕ) → Part (List ℕ) → Type 0
-  Rises p r = (r.count ≡ p.count) ⊎ (r.count ≡ p.count + 1)
+-- one container after another: its count is the same, or one more
+abbrev Rises : Part (List ℕ) → Part (List ℕ) → Type 0
+Rises p r = (r.count ≡ p.count) ⊎ (r.count ≡ p.count + 1)
 
+-- one container after another: no ETag is over its count, if no ETag was over the count of the other
+abbrev pub KeepsBound : Part (List ℕ) → Part (List ℕ) → Type 0
+KeepsBound p r = EtagsAtMost p.count p → EtagsAtMost r.count r
+
+pub KeepsBound-same : (p : Part (List ℕ)) → KeepsBound p p
+KeepsBound-same p within = within
+
+module _ (q : Asked) (t : ℕ) where
   rises : (z : Part ℕ) (p : Part (List ℕ)) → Rises p (part_after held (change_of z q t) p)
   rises z p =
       related-after_act held Rises (λ p. inl refl) q.ask.key p (act_by q.ask.op z q t)
       (said_of_act_by z q t (λ a. Rises p (changed held a p)) (λ a kind. inr (count-changed held p a kind)) q.ask.op)
 
-  -- the count of a container after a request is the count before it, or one more
-  pub count-effect : (k : Key) → Rises (part_at w k) (part_at (effect keys w q t) k)
-  count-effect = related-effect held Rises (λ p. inl refl) byte_count keys w q t rises
-
-  abbrev KeepsBound : Part (List ℕ) → Part (List ℕ) → Type 0
-  KeepsBound p r = EtagsAtMost p.count p → EtagsAtMost r.count r
-
-  keeps_bound : (z : Part ℕ) (p : Part (List ℕ)) → KeepsBound p (part_after held (change_of z q t) p)
-  keeps_bound z p =
-      related-after_act held KeepsBound (λ p within. within) q.ask.key p (act_by q.ask.op z q t)
+  pub KeepsBound-after : (z : Part ℕ) (p : Part (List ℕ)) → KeepsBound p (part_after held (change_of z q t) p)
+  KeepsBound-after z p =
+      related-after_act held KeepsBound KeepsBound-same q.ask.key p (act_by q.ask.op z q t)
       (said_of_act_by z q t (λ a. KeepsBound p (changed held a p))
       (λ a kind within. subst (λ n. EtagsAtMost n (changed held a p)) (sym (count-changed held p a kind)) (etags_bounded held p within a kind)) q.ask.op)
 
+module _ (keys : Option Keys) (w : World (List ℕ)) (q : Asked) (t : ℕ) where
+  -- the count of a container after a request is the count before it, or one more
+  pub count-effect : (k : Key) → Rises (part_at w k) (part_at (effect keys w q t) k)
+  count-effect = related-effect held Rises (λ p. inl refl) byte_count keys w q t (rises q t)
+
   -- no ETag is over the count after a request, if no ETag was over the count before it
   pub etags-effect : (k : Key) → KeepsBound (part_at w k) (part_at (effect keys w q t) k)
-  etags-effect = related-effect held KeepsBound (λ p within. within) byte_count keys w q t keeps_bound
+  etags-effect = related-effect held KeepsBound KeepsBound-same byte_count keys w q t (KeepsBound-after q t)
 
 -- ---- entries of a history
 

@@ -78,16 +78,17 @@ module _ {C : Type 0} (f : List Piece → C) (related : Part C → Part C → Ty
   related-after_act k p None said = stays p
   related-after_act k p (Some a) said = said
 
-  by_refusal : (p : Part C) (r : Option Refusal) (c : Option KeyedAct) → related p (part_after f c p) → related p (part_after f (unless_refused r c) p)
-  by_refusal p None c own = own
-  by_refusal p (Some r) c own = stays p
+  -- whether a change is refused or not, a container is related to what it is after it, if it is so related to what the change makes of it
+  pub related-unless_refused : (p : Part C) (r : Option Refusal) (c : Option KeyedAct) → related p (part_after f c p) → related p (part_after f (unless_refused r c) p)
+  related-unless_refused p None c own = own
+  related-unless_refused p (Some r) c own = stays p
 
   module _ (size : C → ℕ) (keys : Option Keys) (w : World C) (q : Asked) (t : ℕ) (own : (z : Part ℕ) (p : Part C) → related p (part_after f (change_of z q t) p)) where
     by_key : (k : Key) (b : Bool) → eq_by_cmp key_cmp k q.ask.key ≡ b → related (part_at w k) (part_at (effect_as size f keys w q t) k)
     by_key k true e =
         subst (λ (x : Key). related (part_at w x) (part_at (effect_as size f keys w q t) x)) (sym (keys_exact k q.ask.key (equal_if_is_eq (key_cmp k q.ask.key) e)))
         (subst (λ (p : Part C). related (part_at w q.ask.key) p) (sym (part_at-effect size f keys w q t))
-        (by_refusal (part_at w q.ask.key) (refusal keys (own_sizes size f keys w q t) q t) (change_of (own_sizes size f keys w q t) q t) (own (own_sizes size f keys w q t) (part_at w q.ask.key))))
+        (related-unless_refused (part_at w q.ask.key) (refusal keys (own_sizes size f keys w q t) q t) (change_of (own_sizes size f keys w q t) q t) (own (own_sizes size f keys w q t) (part_at w q.ask.key))))
     by_key k false e = subst (λ (p : Part C). related (part_at w k) p) (sym (part_at-effect_others size f keys w q t k (λ same. apart same e))) (stays (part_at w k))
       where
         apart : k ≡ q.ask.key → eq_by_cmp key_cmp k q.ask.key ≡ false → ⊥

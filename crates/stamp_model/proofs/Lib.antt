@@ -3,6 +3,7 @@ pub mod AnswerLemmas
 pub mod ContentLemmas
 pub mod CountLemmas
 pub mod EffectLemmas
+pub mod EtagLemmas
 pub mod HistoryLemmas
 pub mod MakingLemmas
 pub mod ObjectLemmas

@@ -1,4 +1,5 @@
 pub mod Effects
+pub mod Etags
 pub mod Histories
 pub mod Refusals
 pub mod Responses

@@ -2,10 +2,12 @@
 //! code that runs.
 #![tactic(auto)]
 
+mod etag_laws;
 mod history_laws;
 mod laws;
 mod run_laws;
 
+pub use etag_laws::an_etag_names_one_state;
 pub use history_laws::{
     a_front_part_of_a_legal_history_is_legal, an_accepted_request_continues_a_legal_history,
     each_entry_is_one_change,
