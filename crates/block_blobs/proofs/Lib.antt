@@ -2,5 +2,6 @@ pub mod BlobsAfter
 pub mod Blocks
 pub mod EntryLemmas
 pub mod FirstContents
+pub mod IdTreeLemmas
 pub mod ListLemmas
 pub mod StoredBlocks

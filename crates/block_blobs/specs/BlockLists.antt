@@ -1,5 +1,5 @@
 -- Block lists: where their blocks are found, and what is wrong with a list ("Put Block List" of the Blob service REST reference, 2012-02-12).
-use Rattle.std.specs.Prelude.{ℕ, IsTrue, IfSome, if◌then◌else◌, nat_lt, is_some, is_none, List, [], ◌∷◌, length, Option, Some, None, find, position, flat_map, unwrap_or}
+use Rattle.std.specs.Prelude.{◌≡◌, ◌+◌, ◌<◌, ℕ, IsTrue, IfSome, if◌then◌else◌, nat_lt, is_some, is_none, List, [], ◌∷◌, length, Option, Some, None, find, position, flat_map, unwrap_or}
 use Rattle.std.specs.Option.{option_map, option_and_then, option_to_list}
 use Rattle.stamp_values.specs.Limits.{entries_limit, blob_limit}
 use Rattle.stamp_values.specs.declared.block.Lookup.{Lookup}
@@ -48,6 +48,11 @@ listed_len b ts = blocks_len (taken_blocks b ts)
 -- how many bytes the wanted block has; 0 if it is not found
 abbrev pub wanted_len : Blob (List Piece) → Wanted → ℕ
 wanted_len b w = unwrap_or (option_map pieces_len (option_and_then (λ s. content_from s w.id b) (source_of b w))) 0
+
+-- blocks of so many bytes leave this room of the bytes that a blob may have; `None` says that they have more bytes than that
+abbrev pub Leaves : Option ℕ → ℕ → Type 0
+Leaves (Some room) len = room + len ≡ blob_limit
+Leaves None len = blob_limit < len
 
 -- the fault of a list from its first block that is not found, the number of its entries, and the bytes of its blocks: the first of the
 -- three faults whose cause exists

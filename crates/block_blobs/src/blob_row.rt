@@ -3,7 +3,6 @@ ghost use Rattle.std.specs.Prelude.{ℕ, List, IsSome, false, ◌≡◌, ◌≢�
 ghost use Rattle.std.specs.Option.{option_copied};
 ghost use Rattle.std.specs.FinMap as finite;
 ghost use Rattle.stamp_values.specs.Limits.{uncommitted_limit};
-ghost use Rattle.stamp_values.specs.Trees.{entry_key, name_of};
 ghost use Rattle.stamp_types.specs.Changes.{is_in_one_piece, is_committed, are_blocks, are_uncommitted, blocks_len};
 ghost use Rattle.stamp_types.specs.World.{no_blob, whole_block, uncommitted_entry, same_pieces};
 ghost use Rattle.block_blobs.specs.BlobChanges as blobs;
@@ -88,10 +87,9 @@ impl BlobRow {
         }
     }
 
-    /// A blob as the row of a checkpoint says it. The committed part and the content of each block move.
-    /// The ids of uncommitted blocks are copied: an id has at most 64 bytes.
+    /// A blob as the row of a checkpoint says it. The committed part and the uncommitted blocks move.
     ///
-    /// `AllocError` if memory runs out for these ids or for the tree of uncommitted blocks.
+    /// `AllocError` if memory runs out for the tree of uncommitted blocks.
     pub fn stored(
         alloc: Global,
         committed: Option<Committed<Pieces>>,
@@ -129,8 +127,8 @@ impl BlobRow {
     }
 
     /// The uncommitted blocks, each with its id and its content, in the order of the ids.
-    pub fn uncommitted(&self) -> Iter<'_, Vec<u8>, Pieces>
-        ensures entries { map (entry_key name_of) result ≡ finite.entries self.now.uncommitted }
+    pub fn uncommitted(&self) -> Iter<'_, BlockId, Pieces>
+        ensures entries { result ≡ finite.entries self.now.uncommitted }
         ensures pieces { IsTrue (are_in_one_piece self.now.uncommitted) }
         ensures lengths { (id : List ℕ) → IsSome (finite.get self.now.uncommitted id)
             → blocks.has_other_length id self.now.uncommitted ≡ false }
@@ -153,12 +151,7 @@ impl BlobRow {
     /// `Length` if the uncommitted blocks have ids of another length, or else `TooMany` if the id is
     /// new and there are 50,000 uncommitted blocks. `NoMemory` if memory runs out. After a fault
     /// the blob is as it was.
-    pub fn put_block(
-        &mut self,
-        alloc: Global,
-        id: &BlockId,
-        content: Pieces,
-    ) -> Result<(), BlockFault>
+    pub fn put_block(&mut self, id: &BlockId, content: Pieces) -> Result<(), BlockFault>
         requires { IsTrue (is_in_one_piece content) }
         ensures put { OnOk result (self.new ≡ blob_with_block id.now content self.old) }
         ensures refused { OnErr result (self.new ≡ self.old) }
@@ -171,7 +164,7 @@ impl BlobRow {
         ensures too_large { result ≢ Err BlockFault.TooLarge }
         ensures not_found { (i : ℕ) → result ≢ Err (BlockFault.NotFound i) }
     {
-        self.uncommitted.put(alloc, id, content)?;
+        self.uncommitted.put(id, content)?;
         Ok(())
     }
 

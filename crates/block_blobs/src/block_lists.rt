@@ -1,13 +1,14 @@
 //! Block lists: where their blocks are found, and what a commit makes of them.
-ghost use Rattle.std.specs.Prelude.{◌≡◌, ◌≢◌, ◌↔◌, ◌<◌, ◌≤◌, ℕ, IsTrue, IfOk, IfErr, OnOk, OnErr, MatchOption, Some, None, map, sum_by};
+ghost use Rattle.std.specs.Prelude.{◌≡◌, ◌≢◌, ◌↔◌, ◌<◌, ◌≤◌, ◌+◌, ℕ, IsTrue, IfOk, IfErr, OnOk, OnErr, MatchOption, Some, None, map, sum_by};
 ghost use Rattle.std.specs.Option.{option_copied, option_map};
 ghost use Rattle.std.specs.Map.Iter.{deref_pair};
 ghost use Rattle.stamp_values.specs.Limits.{blob_limit};
 ghost use Rattle.stamp_types.specs.Changes.{are_blocks, blocks_len};
+ghost use Rattle.stamp_types.specs.Pieces.{pieces_len};
 ghost use Rattle.stamp_types.specs.World.{content_from, taken_blocks};
 ghost use Rattle.block_blobs.specs.BlobChanges.{blob_of_list};
 ghost use Rattle.block_blobs.specs.BlockLists as lists;
-ghost use Rattle.block_blobs.specs.BlockLists.{EachInOnePiece};
+ghost use Rattle.block_blobs.specs.BlockLists.{EachInOnePiece, Leaves};
 ghost use Rattle.block_blobs.specs.Faults.{IsFault};
 ghost use Rattle.block_blobs.specs.FirstBlocks.{IsIndex, blocks_of};
 
@@ -34,6 +35,13 @@ pub(crate) fn total_len(blocks: &[Block<Pieces>]) -> Option<u64>
         left -= len;
     }
     Some(BLOB_LIMIT - left)
+}
+
+// The room that is left after one more block of so many bytes, or `None` if the room is too small for it.
+fn room_after(room: Option<u64>, len: u64) -> Option<u64>
+    ensures { (sum : ℕ) → Leaves room sum → Leaves result (sum + len) }
+{
+    room?.checked_sub(len)
 }
 
 // Where a block list looks for a block, in this order.
@@ -88,80 +96,58 @@ impl BlobRow {
         ensures { option_copied result ≡ content_from from id.now self.now }
     {
         match from {
-            Source::Uncommitted => self.uncommitted_blocks().get(id.as_slice()),
-            Source::Committed => first_content(first, id.as_slice()),
+            Source::Uncommitted => self.uncommitted_blocks().get(id),
+            Source::Committed => first_content(first, id),
         }
     }
 
-    // Where a wanted block is found.
-    fn source_of<'a>(&'a self, first: &FirstBlocks<'a>, wanted: &'a Wanted) -> Option<Source>
+    // Where a wanted block is found, and its content.
+    fn find<'a>(
+        &'a self,
+        first: &FirstBlocks<'a>,
+        wanted: &'a Wanted,
+    ) -> Option<(Source, &'a Pieces)>
         requires { IsIndex self.now.committed (map deref_pair first.now.entries) }
-        ensures { result ≡ lists.source_of self.now wanted.now }
+        ensures { MatchOption result (lists.source_of self.now wanted.now ≡ None)
+            (λ found. (lists.source_of self.now wanted.now ≡ Some found.0)
+            × (pieces_len found.1.now ≡ lists.wanted_len self.now wanted.now)) }
     {
         let sources = sources_of(wanted.lookup);
         for source in sources {
-            if self.content(first, *source, &wanted.id).is_some() {
-                return Some(*source);
+            if let Some(content) = self.content(first, *source, &wanted.id) {
+                return Some((*source, content));
             }
         }
         None
     }
 
-    // How many bytes a wanted block has. 0 if it is not found.
-    fn wanted_len<'a>(&'a self, first: &FirstBlocks<'a>, wanted: &'a Wanted) -> u64
-        requires { IsIndex self.now.committed (map deref_pair first.now.entries) }
-        ensures { result ≡ lists.wanted_len self.now wanted.now }
-    {
-        let Some(from) = self.source_of(first, wanted) else {
-            return 0;
-        };
-        match self.content(first, from, &wanted.id) {
-            Some(content) => content.len(),
-            None => 0,
-        }
-    }
-
-    // Whether the wanted blocks that are found have at most 268,435,456 bytes together.
-    fn are_small<'a>(&'a self, first: &FirstBlocks<'a>, wanted: &'a [Wanted]) -> bool
-        requires { IsIndex self.now.committed (map deref_pair first.now.entries) }
-        ensures { IsTrue result ↔ (sum_by (lists.wanted_len self.now) wanted.now ≤ blob_limit) }
-    {
-        let mut left = BLOB_LIMIT;
-        for entry in wanted {
-            let len = self.wanted_len(first, entry);
-            if len > left {
-                return false;
-            }
-            left -= len;
-        }
-        true
-    }
-
-    // Where each wanted block is found, in their order. `NotFound` with the first that is not found.
+    // Where each wanted block is found, in their order, and how much room the blocks leave of 268,435,456
+    // bytes, or `None` if they have more. `NotFound` with the first that is not found.
     fn found_entries<'a>(
         &'a self,
         alloc: Global,
         first: &FirstBlocks<'a>,
         wanted: &'a [Wanted],
-    ) -> Result<Vec<Taken>, BlockFault>
+    ) -> Result<(Vec<Taken>, Option<u64>), BlockFault>
         requires { IsIndex self.now.committed (map deref_pair first.now.entries) }
-        ensures value { IfOk result (λ found.
-            found.items ≡ lists.found_entries self.now wanted.now) }
+        ensures value { IfOk result (λ p. p.0.items ≡ lists.found_entries self.now wanted.now) }
+        ensures room { IfOk result (λ p.
+            Leaves p.1 (sum_by (lists.wanted_len self.now) wanted.now)) }
         ensures all { OnOk result (lists.first_missing self.now wanted.now ≡ None) }
         ensures missing { IfErr result
             (IsFault (option_map BlockFault.NotFound (lists.first_missing self.now wanted.now))) }
     {
         let mut found = Vec::with_capacity(alloc, wanted.len())?;
+        let mut room = Some(BLOB_LIMIT);
         for (position, entry) in wanted.iter().enumerate() {
-            let Some(from) = self.source_of(first, entry) else {
+            let Some((from, content)) = self.find(first, entry) else {
                 return Err(BlockFault::NotFound(position));
             };
-            found.push(Taken {
-                id: entry.id.clone()?,
-                from,
-            })?;
+            room = room_after(room, content.len());
+            let id = entry.id.clone()?;
+            found.push(Taken { id, from })?;
         }
-        Ok(found)
+        Ok((found, room))
     }
 
     /// Where the block of each entry of a Put Block List is found, in their order ("Put Block List").
@@ -189,11 +175,11 @@ impl BlobRow {
             → lists.wanted_fault self.now wanted.now ≡ Some BlockFault.TooLarge }
     {
         let first = first_blocks(alloc, self.committed_blocks())?;
-        let found = self.found_entries(alloc, &first, wanted)?;
+        let (found, room) = self.found_entries(alloc, &first, wanted)?;
         if wanted.len() > ENTRIES_LIMIT {
             return Err(BlockFault::TooMany);
         }
-        if !self.are_small(&first, wanted) {
+        if room.is_none() {
             return Err(BlockFault::TooLarge);
         }
         Ok(Items::new(found))

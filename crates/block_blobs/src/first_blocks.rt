@@ -6,15 +6,19 @@ ghost use Rattle.std.specs.FinMap as finite;
 ghost use Rattle.stamp_values.specs.Order.{name_cmp};
 ghost use Rattle.block_blobs.specs.FirstBlocks.{entries_with, first_contents};
 
-use stamp_types::{Block, Pieces};
+use stamp_types::{Block, BlockId, Pieces};
 use std::alloc::{AllocError, Global};
 use std::collections::BTreeMap;
 
 /// The content of the first of the blocks of each id.
-pub(crate) type FirstBlocks<'a> = BTreeMap<&'a [u8], &'a Pieces>;
+pub(crate) type FirstBlocks<'a> = BTreeMap<&'a BlockId, &'a Pieces>;
 
 // Puts content under an id, in the place of what the id had.
-fn put<'a>(first: &mut FirstBlocks<'a>, id: &'a [u8], content: &'a Pieces) -> Result<(), AllocError>
+fn put<'a>(
+    first: &mut FirstBlocks<'a>,
+    id: &'a BlockId,
+    content: &'a Pieces,
+) -> Result<(), AllocError>
     ensures { OnOk result (map deref_pair first.new.entries
         ≡ finite.put name_cmp id.now content.now (map deref_pair first.old.entries)) }
 {
@@ -28,7 +32,7 @@ fn put_block<'a>(first: &mut FirstBlocks<'a>, block: &'a Block<Pieces>) -> Resul
         ≡ entries_with block.now.id block.now.content (map deref_pair first.old.entries)) }
 {
     if let Some(id) = &block.id {
-        put(first, id.as_slice(), &block.content)?;
+        put(first, id, &block.content)?;
     }
     Ok(())
 }
@@ -52,7 +56,7 @@ pub(crate) fn first_blocks<'a>(
 }
 
 /// The content of the first block of an id.
-pub(crate) fn first_content<'a>(first: &FirstBlocks<'a>, id: &'a [u8]) -> Option<&'a Pieces>
+pub(crate) fn first_content<'a>(first: &FirstBlocks<'a>, id: &'a BlockId) -> Option<&'a Pieces>
     ensures { option_copied result
         ≡ finite.find name_cmp id.now (map deref_pair first.now.entries) }
 {

@@ -21,7 +21,7 @@ fn put(
     bytes: &[u8],
     text: &str,
 ) -> Result<(), BlockFault> {
-    row.put_block(alloc, &id(rt, alloc, bytes), content(rt, alloc, text))
+    row.put_block(&id(rt, alloc, bytes), content(rt, alloc, text))
 }
 
 fn entry(rt: &impl Abort, alloc: Global, entry: Entry) -> Wanted {
@@ -255,7 +255,7 @@ fn many(rt: &impl Abort, alloc: Global, count: usize) -> Vec<Wanted> {
 
 fn put_long(rt: &impl Abort, alloc: Global, row: &mut BlobRow, bytes: &[u8], count: usize) {
     let content = long_content(rt, alloc, count);
-    assert!(rt; row.put_block(alloc, &id(rt, alloc, bytes), content).is_ok());
+    assert!(rt; row.put_block(&id(rt, alloc, bytes), content).is_ok());
 }
 
 // A list of so many entries of a block `AAAA` of so many bytes, and one entry of a block `BBBB`, which

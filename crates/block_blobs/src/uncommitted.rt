@@ -4,7 +4,6 @@ ghost use Rattle.std.specs.List.{list_all};
 ghost use Rattle.std.specs.Option.{option_copied};
 ghost use Rattle.std.specs.FinMap as finite;
 ghost use Rattle.stamp_values.specs.Limits.{uncommitted_limit};
-ghost use Rattle.stamp_values.specs.Trees.{entry_key, name_of};
 ghost use Rattle.stamp_types.specs.Changes.{is_in_one_piece, are_uncommitted, has_ids_of_one_length};
 ghost use Rattle.stamp_types.specs.World.{uncommitted_entry, same_pieces};
 ghost use Rattle.block_blobs.specs.Faults.{IsFault};
@@ -12,8 +11,8 @@ ghost use Rattle.block_blobs.specs.UncommittedBlocks as blocks;
 ghost use Rattle.block_blobs.specs.UncommittedBlocks.{block_count, are_in_one_piece};
 
 use crate::block_fault::BlockFault;
-use stamp_types::{BlockId, Bytes, Items, Pieces, UNCOMMITTED_LIMIT, UncommittedBlock};
-use stamp_values::Named;
+use crate::content_by_id::ContentById;
+use stamp_types::{BlockId, Items, Pieces, UNCOMMITTED_LIMIT, UncommittedBlock};
 use std::alloc::{AllocError, Global};
 use std::collections::btree_map::Iter;
 use std::marker::Model;
@@ -22,7 +21,7 @@ use std::marker::Model;
 /// the ids to the content.
 #[derive(Debug, Drop)]
 pub(crate) struct Uncommitted {
-    blocks: Named<Pieces>,
+    blocks: ContentById,
     // how many bytes each id has, if there is a block
     id_len: usize,
 }
@@ -46,13 +45,6 @@ impl Model for Uncommitted {
         × IsTrue (are_in_one_piece u.blocks) × IsTrue (have_ids_of_length u.id_len u.blocks) };
 }
 
-// The bytes of an id in memory of their own.
-fn id_bytes(alloc: Global, id: &BlockId) -> Result<Bytes, AllocError>
-    ensures { IfOk result (λ bytes. bytes ≡ id.now) }
-{
-    Ok(Bytes::new(Vec::from_slice(alloc, id.as_slice())?))
-}
-
 // How many bytes each id has, if the ids have one length. 0 if there is no block.
 #[tactic(auto, using(crate::proofs::StoredBlocks::each_as_long_as_first))]
 fn id_len_of(blocks: &[UncommittedBlock]) -> usize
@@ -65,34 +57,17 @@ fn id_len_of(blocks: &[UncommittedBlock]) -> usize
     }
 }
 
-// The blocks by their ids, from the last block to the first. The content moves, and the bytes of the
-// ids are copied.
-fn tree_of(alloc: Global, blocks: Vec<UncommittedBlock>) -> Result<Named<Pieces>, AllocError>
+// The blocks by their ids, from the last block to the first. The ids and the content move.
+fn tree_of(alloc: Global, blocks: Vec<UncommittedBlock>) -> Result<ContentById, AllocError>
     ensures { IfOk result (λ tree. tree
         ≡ finite.from_entries (map (uncommitted_entry same_pieces) blocks.items)) }
 {
     let mut left = blocks;
-    let mut tree = Named::new(alloc);
+    let mut tree = ContentById::new(alloc);
     while let Some(block) = left.pop() {
-        tree.insert(id_bytes(alloc, &block.id)?, block.content)?;
+        tree.insert(block.id, block.content)?;
     }
     Ok(tree)
-}
-
-// Replaces the content of an id. If the id has no content, the new content is given back.
-fn replace(blocks: &mut Named<Pieces>, id: &[u8], content: Pieces) -> Option<Pieces>
-    ensures { MatchOption result
-        ((blocks.new ≡ finite.insert blocks.old id.now content)
-        × IsSome (finite.get blocks.old id.now))
-        (λ back. (back ≡ content) × (blocks.new ≡ blocks.old)) }
-{
-    match blocks.get_mut(id) {
-        Some(block) => {
-            *block = content;
-            None
-        }
-        None => Some(content),
-    }
 }
 
 impl Uncommitted {
@@ -101,14 +76,14 @@ impl Uncommitted {
         ensures { result ≡ finite.empty }
     {
         Self {
-            blocks: Named::new(alloc),
+            blocks: ContentById::new(alloc),
             id_len: 0,
         }
     }
 
-    /// The blocks of the row of a checkpoint. The content moves, and the bytes of the ids are copied.
+    /// The blocks of the row of a checkpoint. The ids and the content move.
     ///
-    /// `AllocError` if memory runs out for the ids or for the tree.
+    /// `AllocError` if memory runs out for the tree.
     pub(crate) fn stored(alloc: Global, blocks: Items<UncommittedBlock>) -> Result<Self, AllocError>
         requires { IsTrue (are_uncommitted blocks) }
         ensures { IfOk result (λ stored. stored
@@ -130,7 +105,7 @@ impl Uncommitted {
     }
 
     /// The content of the block of an id.
-    pub(crate) fn get(&self, id: &[u8]) -> Option<&Pieces>
+    pub(crate) fn get(&self, id: &BlockId) -> Option<&Pieces>
         ensures { option_copied result ≡ finite.get self.now id.now }
     {
         self.blocks.get(id)
@@ -146,28 +121,28 @@ impl Uncommitted {
     }
 
     /// The ids with their content, in the order of the ids.
-    pub(crate) fn iter(&self) -> Iter<'_, Vec<u8>, Pieces>
-        ensures { map (entry_key name_of) result ≡ finite.entries self.now }
+    pub(crate) fn iter(&self) -> Iter<'_, BlockId, Pieces>
+        ensures { result ≡ finite.entries self.now }
     {
         self.blocks.iter()
     }
 
     // Whether the blocks have ids of another length than this id.
-    fn has_other_length(&self, id: &[u8]) -> bool
+    fn has_other_length(&self, id: &BlockId) -> bool
         ensures { result ≡ blocks.has_other_length id.now self.now }
     {
-        self.blocks.len() > 0 && id.len() != self.id_len
+        self.blocks.len() > 0 && id.as_slice().len() != self.id_len
     }
 
     // Whether the id is new, and there is no room for one more block.
-    fn is_one_too_many(&self, id: &[u8]) -> bool
+    fn is_one_too_many(&self, id: &BlockId) -> bool
         ensures { result ≡ blocks.is_one_too_many id.now self.now }
     {
-        self.blocks.get(id).is_none() && self.blocks.len() >= UNCOMMITTED_LIMIT
+        self.blocks.len() >= UNCOMMITTED_LIMIT && self.blocks.get(id).is_none()
     }
 
     // Why no block can be put under this id, if no block can be put under it.
-    fn fault(&self, id: &[u8]) -> Option<BlockFault>
+    fn fault(&self, id: &BlockId) -> Option<BlockFault>
         ensures { result ≡ blocks.block_fault id.now self.now }
     {
         if self.has_other_length(id) {
@@ -181,17 +156,17 @@ impl Uncommitted {
 
     // Replaces the content of the block of an id. If the id has no block, the new content is given
     // back.
-    fn replace(&mut self, id: &[u8], content: Pieces) -> Option<Pieces>
+    fn replace(&mut self, id: &BlockId, content: Pieces) -> Option<Pieces>
         requires fits { blocks.block_fault id.now self.old ≡ None }
         requires piece { IsTrue (is_in_one_piece content) }
         ensures { MatchOption result (self.new ≡ finite.insert self.old id.now content)
             (λ back. (back ≡ content) × (self.new ≡ self.old)) }
     {
-        replace(&mut self.blocks, id, content)
+        self.blocks.replace(id, content)
     }
 
     // Puts a block for which there is room, and whose id has the length of the other ids.
-    fn insert(&mut self, id: Bytes, content: Pieces) -> Result<(), AllocError>
+    fn insert(&mut self, id: BlockId, content: Pieces) -> Result<(), AllocError>
         requires fits { blocks.block_fault id self.old ≡ None }
         requires piece { IsTrue (is_in_one_piece content) }
         ensures put { OnOk result (self.new ≡ finite.insert self.old id content) }
@@ -203,24 +178,20 @@ impl Uncommitted {
         Ok(())
     }
 
-    /// Puts a block under an id. If the id has a block, the new content replaces the old content.
-    pub(crate) fn put(
-        &mut self,
-        alloc: Global,
-        id: &BlockId,
-        content: Pieces,
-    ) -> Result<(), BlockFault>
+    /// Puts a block under an id. If the id has a block, the new content replaces the old content, and
+    /// the id is not copied.
+    pub(crate) fn put(&mut self, id: &BlockId, content: Pieces) -> Result<(), BlockFault>
         requires { IsTrue (is_in_one_piece content) }
         ensures put { OnOk result (self.new ≡ finite.insert self.old id.now content) }
         ensures refused { OnErr result (self.new ≡ self.old) }
         ensures fits { OnOk result (blocks.block_fault id.now self.old ≡ None) }
         ensures fault { IfErr result (IsFault (blocks.block_fault id.now self.old)) }
     {
-        if let Some(fault) = self.fault(id.as_slice()) {
+        if let Some(fault) = self.fault(id) {
             return Err(fault);
         }
-        if let Some(content) = self.replace(id.as_slice(), content) {
-            self.insert(id_bytes(alloc, id)?, content)?;
+        if let Some(content) = self.replace(id, content) {
+            self.insert(id.clone()?, content)?;
         }
         Ok(())
     }

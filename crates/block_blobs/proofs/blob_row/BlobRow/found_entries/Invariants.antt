@@ -1,12 +1,13 @@
-use Rattle.std.proofs.Common.{◌≡◌, ◌+◌, ◌++◌, drop}
-use Rattle.std.specs.Prelude.{is_none}
+use Rattle.std.proofs.Common.{◌≡◌, ◌+◌, ◌++◌, drop, take}
+use Rattle.std.specs.Prelude.{is_none, sum_by}
 use Rattle.std.specs.List.{position_or_len}
-use Rattle.block_blobs.specs.BlockLists.{found_entries, source_of}
+use Rattle.block_blobs.specs.BlockLists.{Leaves, found_entries, source_of, wanted_len}
 use Rattle.block_blobs.proofs.blob_row.BlobRow.found_entries.Given as goal
 
--- the entries that are left give the rest of the answer
+-- the entries that are left give the rest of the answer, and the first entries leave the room
 abbrev pub invariant-loop-position : goal.invariant-loop-position
 invariant-loop-position l = record {
   so_far : l.found.items ++ found_entries l.self (drop l.position l.wanted) ≡ found_entries l.self l.wanted;
+  left : Leaves l.room (sum_by (wanted_len l.self) (take l.position l.wanted));
   none_missing : position_or_len (λ w. is_none (source_of l.self w)) l.wanted ≡ l.position + position_or_len (λ w. is_none (source_of l.self w)) (drop l.position l.wanted);
 }

@@ -4,5 +4,5 @@ use Rattle.block_blobs.proofs.uncommitted.Uncommitted.replace.Goals as goal
 
 pub invariant_of-self : goal.invariant_of-self
 invariant_of-self c =
-    keeps_replaced c.self.inside.blocks c.replace.new.blocks c.self.inside.id_len c.args.id.now c.args.content c.replace.result c.replace.ensures
+    keeps_replaced c.self.inside.blocks c.replace.new.self c.self.inside.id_len c.args.id.now c.args.content c.replace.result c.replace.ensures
     (search rules) c.requires.piece c.self.invariant

@@ -2,7 +2,7 @@ use Rattle.std.proofs.Common.{◌≡◌, drop}
 use Rattle.std.specs.Prelude.{find, is_some}
 use Rattle.stamp_types.specs.World.{content_from}
 use Rattle.block_blobs.specs.BlockLists.{source_of}
-use Rattle.block_blobs.proofs.blob_row.BlobRow.source_of.Given as goal
+use Rattle.block_blobs.proofs.blob_row.BlobRow.find.Given as goal
 
 -- the sources that are left give the answer
 abbrev pub invariant-loop-source : goal.invariant-loop-source
