@@ -1,17 +1,13 @@
 -- What a service holds whose content is in memory, and what it answers.
-use Rattle.std.proofs.Common.{◌≡◌, ◌≤◌, ◌<◌, ℕ, ◌-◌, arith, Bool, true, false, cond, List, [], ◌∷◌, ◌++◌, length, length-append, take, drop, zero, suc, get_or, Option, Some, None, Result, Ok, Err, IfOk, OnOk, OnErr, refl, sym, ap, ◌∙◌, subst, unwrap_or}
+use Rattle.std.proofs.Common.{◌≡◌, ◌≤◌, ◌<◌, ℕ, ◌-◌, arith, true, false, List, [], ◌∷◌, ◌++◌, length, length-append, take, drop, zero, suc, get_or, Option, Some, None, Result, Ok, Err, IfOk, OnOk, OnErr, refl, sym, ap, ◌∙◌, subst}
 use Rattle.std.proofs.lemmas.List.{length-take}
 use Rattle.std.proofs.lemmas.List.Sums.{sum_by-cons, AllPass-from_list_all}
 use Rattle.std.specs.Prelude.{⊤}
 use Rattle.std.specs.declared.alloc.AllocError.{AllocError}
-use Rattle.std.specs.FinMap as finite
 use Rattle.std.specs.Option.{option_map, option_and_then, option_or}
-use Rattle.std.specs.Ordering.{eq_by_cmp}
-use Rattle.stamp_values.specs.Order.{key_cmp, keys_total, keys_exact, names_total, names_exact}
-use Rattle.stamp_values.proofs.MapsLemmas.{map_values-empty, map_values-insert}
+use Rattle.stamp_values.specs.Order.{keys_total, keys_exact}
+use Rattle.stamp_values.proofs.MapsLemmas.{map_values-empty}
 use Rattle.stamp_values.specs.declared.acl.Acl.{Acl}
-use Rattle.stamp_values.specs.declared.key.Key.{Key}
-use Rattle.stamp_values.specs.declared.level.Level.TheVariants as level
 use Rattle.stamp_values.specs.Operations.{writes}
 use Rattle.stamp_values.specs.declared.op.Op.{Op}
 use Rattle.stamp_values.specs.declared.op.Op.TheVariants as op
@@ -30,10 +26,10 @@ use Rattle.stamp_types.specs.Contents.{EachActContent, EachContent}
 use Rattle.stamp_types.specs.Pieces.{cut_at_most, held, is_held, is_held_piece, piece_bytes, piece_len, pieces_len}
 use Rattle.stamp_types.specs.Replies.{denied}
 use Rattle.stamp_types.specs.Requests.{Asked}
-use Rattle.stamp_types.specs.World.{Part, World, blob_value, no_part, part_at, part_value, world_value, changed_in, same_pieces}
+use Rattle.stamp_types.specs.World.{Part, World, part_at, part_value, world_value, changed_in, same_pieces}
 use Rattle.stamp_types.proofs.WorldLemmas.{part_at-world_value}
 use Rattle.stamp_types.proofs.ContentReadings.{part_value-changed}
-use Rattle.stamp_types.proofs.EachContents.{EachContent-changed, EachContent-empty, EachContent-no_part, EachContent-then, EachWorldContent-changed_in}
+use Rattle.stamp_types.proofs.EachContents.{EachContent-changed, EachContent-then, EachWorldContent-changed_in}
 use Rattle.access_rules.specs.declared.judgement.Verdict.TheVariants.{Allow, Deny}
 use Rattle.access_rules.specs.declared.judgement.Way.{Way}
 use Rattle.access_rules.specs.declared.keys.Keys.{Keys}
@@ -41,10 +37,8 @@ use Rattle.access_rules.specs.Rules.{first_rule, verdict_by, verdict_of, way_of}
 use Rattle.range_rows.specs.declared.answer.Span.{Span}
 use Rattle.range_rows.specs.ObjectReplies.{ReadsWhole, byte_count, frame, frame_by, blob_read, standing_read, is_served, reply_of, sizes, span_bytes, spans, spans_len, with_content}
 use Rattle.range_rows.specs.ObjectRules.{object_refusal}
-use Rattle.range_rows.specs.Opening.{one_part, container_just_made}
 use Rattle.range_rows.specs.RequestChanges.{delete_blob, put_blob, set_metadata, act_by, change_of, part_after}
 use Rattle.range_rows.specs.Fits.{fits}
-use Rattle.range_rows.proofs.ChangeLemmas.{changed_in-create, fits-create}
 use Rattle.range_rows.proofs.SpanLemmas.{length-read, reply_of-read}
 use Rattle.stamp_model.specs.Effects.{unless_refused, world_after, effect_as}
 use Rattle.range_rows.specs.Access.{acl_of}
@@ -53,54 +47,13 @@ use Rattle.stamp_model.specs.Responses.{response, reply}
 use Rattle.stamp_model.proofs.ContentLemmas.{sizes-read, world_value-effect}
 use Rattle.stamp_model.proofs.EffectLemmas.{on_key, effect-refused}
 use Rattle.stamp_model.proofs.ReplyLemmas.{unrefused}
-use Rattle.http_front.specs.PlainAnswers.{HeldRows, change_first, key_first, held_first, rows_first, AreHeld, AnswersAsModel, bytes_held, held_of, held_reply, held_after, object_or_unserved, row_refusal, row_verdict, rows_after}
+use Rattle.http_front.specs.PlainAnswers.{HeldRows, empty_held, empty_rows, AreHeld, AnswersAsModel, bytes_held, held_of, held_reply, held_after, object_or_unserved, row_refusal, row_verdict, rows_after}
 
--- ---- the rows at first
+-- ---- the rows of a new stamp
 
-abbrev IsHeldPart : Part (List Piece) → Type 0
-IsHeldPart p = EachContent (λ ps. is_held ps ≡ true) p
-
--- the change that makes the first container fits rows without containers
-pub first_fits : (w : World (List Piece)) (c : KeyedAct) (account : List ℕ) (t : ℕ) → w ≡ finite.empty → c ≡ change_first account t
-    → fits (part_value pieces_len (part_at w c.key)) c.act ≡ true
-first_fits w c account t none is =
-    (λ i. fits (part_value pieces_len (part_at (none i) (is i).key)) (is i).act)
-    ∙ fits-create (key_first account) (record { moment = t; level = level.Closed; metadata = [] })
-
--- rows that made this change hold one container, which was just made
-pub first_made : (w v : World (List Piece)) (c : KeyedAct) (account : List ℕ) (t : ℕ) → w ≡ finite.empty → c ≡ change_first account t
-    → v ≡ changed_in same_pieces w c → v ≡ one_part (key_first account) (container_just_made t)
-first_made w v c account t none is made = made ∙ (λ i. changed_in same_pieces (none i) (is i)) ∙ changed_in-create same_pieces (key_first account) t
-
-module _ (P : Part (List Piece) → Type 0) (t : ℕ) (none : P no_part) (first : P (container_just_made t)) where
-  looked_up : (b : Bool) (o : Option (Part (List Piece))) → o ≡ None → P (unwrap_or (cond b (Some (container_just_made t)) o) no_part)
-  looked_up true o e = first
-  looked_up false o e = subst (λ (x : Option (Part (List Piece))). P (unwrap_or x no_part)) (sym e) none
-
-  each_first : (key k : Key) → P (part_at (one_part key (container_just_made t)) k)
-  each_first key k =
-      subst (λ (x : Option (Part (List Piece))). P (unwrap_or x no_part)) (sym (finite.get-insert keys_total finite.empty key (container_just_made t) k))
-      (looked_up (eq_by_cmp key_cmp k key) (finite.get finite.empty k) (finite.get-empty key_cmp k))
-
--- the container that was just made has no content
-pub first_held : (key : Key) (t : ℕ) → AreHeld (one_part key (container_just_made t))
-first_held key t k =
-    each_first IsHeldPart t (EachContent-no_part (λ ps. is_held ps ≡ true)) (EachContent-empty (λ ps. is_held ps ≡ true) (container_just_made t) refl) key k
-
-part_value-container_just_made : (t : ℕ) → part_value held (container_just_made t) ≡ container_just_made t
-part_value-container_just_made t = λ i. record {
-  count = 1;
-  standing = (container_just_made {C = List ℕ} t).standing;
-  blobs = map_values-empty names_total names_exact (blob_value held) i;
-}
-
--- in bytes, what the rows hold at first is also one container that was just made
-pub held_of-rows_first : (keys : Keys) (t : ℕ) → held_of (rows_first keys t) ≡ held_first keys t
-held_of-rows_first keys t =
-    let key : Key = key_first keys.account in
-    ap (λ (w : World (List ℕ)). record { keys = keys; world = w })
-    (map_values-insert keys_total keys_exact (part_value held) finite.empty key (container_just_made t)
-    ∙ (λ i. finite.insert (map_values-empty keys_total keys_exact (part_value held) i) key (part_value-container_just_made t i)))
+-- rows without containers hold nothing, in bytes too
+pub held_of-empty_rows : (keys : Keys) → held_of (empty_rows keys) ≡ empty_held keys
+held_of-empty_rows keys = ap (λ (w : World (List ℕ)). record { keys = keys; world = w }) (map_values-empty keys_total keys_exact (part_value held))
 
 -- ---- the verdict
 

@@ -1,16 +1,13 @@
 -- What a service over one account's rows holds, and what it answers (Calder et al., SOSP 2011, section 5; Blob service REST reference,
 -- 2012-02-12, the page of each operation).
-use Rattle.std.specs.Prelude.{◌≡◌, ℕ, List, [], true, Option, Some, None, codes, refl}
+use Rattle.std.specs.Prelude.{◌≡◌, ℕ, List, true, Option, Some, None, refl}
+use Rattle.std.specs.FinMap as finite
 use Rattle.std.specs.Coded.{Coded, code_by, coded_ℕ, coded×}
 use Rattle.std.specs.List.{flat_map}
 use Rattle.std.specs.Option.{option_or}
-use Rattle.stamp_values.specs.declared.key.Key.{Key}
-use Rattle.stamp_values.specs.declared.level.Level.TheVariants as level
-use Rattle.stamp_types.specs.declared.act.Act.TheVariants as act
 use Rattle.stamp_types.specs.declared.piece.Piece.{Piece}
 use Rattle.stamp_types.specs.declared.refusal.Refusal.{Refusal}
 use Rattle.stamp_types.specs.declared.reply.Reply.{Reply}
-use Rattle.stamp_types.specs.Changes.{KeyedAct}
 use Rattle.stamp_types.specs.Contents.{EachWorldContent}
 use Rattle.stamp_types.specs.Pieces.{held, is_held, piece_bytes, pieces_len}
 use Rattle.stamp_types.specs.Requests.{Asked}
@@ -23,7 +20,6 @@ use Rattle.range_rows.specs.declared.answer.Span.{Span}
 use Rattle.range_rows.specs.BlobRows.{rows_code}
 use Rattle.range_rows.specs.ObjectReplies.{span_bytes}
 use Rattle.range_rows.specs.ObjectRules.{object_refusal}
-use Rattle.range_rows.specs.Opening.{one_part, container_just_made}
 use Rattle.stamp_model.specs.Effects.{effect, effect_as}
 use Rattle.range_rows.specs.Access.{acl_of}
 use Rattle.stamp_model.specs.Refusals.{refusal, unserved_refusal}
@@ -53,21 +49,13 @@ rows_held_code = code_by (Keys × World (List Piece)) (coded× keys_code rows_co
 abbrev pub AreHeld : World (List Piece) → Type 0
 AreHeld w = EachWorldContent (λ ps. is_held ps ≡ true) w
 
--- the key of an account's first container
-abbrev pub key_first : List ℕ → Key
-key_first account = record { account = account; container = codes "pics" }
+-- what the rows of a new stamp hold: the account's keys, and no containers
+abbrev pub empty_rows : Keys → HeldRows
+empty_rows keys = record { keys = keys; rows = finite.empty }
 
--- the change that makes an account's first container
-abbrev pub change_first : List ℕ → ℕ → KeyedAct
-change_first account t = record { key = key_first account; act = act.CreateContainer (record { moment = t; level = level.Closed; metadata = [] }) }
-
--- what rows hold at first: the container `pics` of the keys' account, made at the moment
-abbrev pub rows_first : Keys → ℕ → HeldRows
-rows_first keys t = record { keys = keys; rows = one_part (key_first keys.account) (container_just_made t) }
-
--- what is held at first, in bytes
-abbrev pub held_first : Keys → ℕ → Held
-held_first keys t = record { keys = keys; world = one_part (key_first keys.account) (container_just_made t) }
+-- what a new stamp holds, in bytes
+abbrev pub empty_held : Keys → Held
+empty_held keys = record { keys = keys; world = finite.empty }
 
 -- what rows hold, in bytes
 abbrev pub held_of : HeldRows → Held

@@ -14,10 +14,7 @@ mod stream_laws;
 
 pub use connection::run;
 pub use end::{End, FrontFault};
-pub use plain::{Plain, PlainFault};
-pub use request_form::{
-    Denial, Head, HeadFault, a_head_is_read_in_one_way, each_head_is_accepted_or_refused, read_head,
-};
+pub use plain::Plain;
 pub use service::{Clock, Service};
 pub use stream_laws::{
     a_head_ends_with_its_first_empty_line, a_stream_is_read_in_one_way, each_stream_is_read,

@@ -1,33 +1,22 @@
 //! The service over the rows of one account.
-ghost use Rattle.std.specs.Prelude.{◌≡◌, false, None, Some, Err, IfOk, IsTrue, OnErr, OnOk};
+ghost use Rattle.std.specs.Prelude.{◌≡◌, ◌↔◌, None, Some, IfOk, IfSome, IsSome, IsTrue, OnErr, OnOk};
 ghost use Rattle.stamp_values.specs.Operations.{writes};
 ghost use Rattle.stamp_values.specs.Names.{is_account};
 ghost use Rattle.stamp_types.specs.Replies.{denied};
 ghost use Rattle.range_rows.specs.RequestChanges.{reading_of};
 ghost use Rattle.stamp_model.specs.Refusals as refusals;
-ghost use Rattle.range_rows.specs.Opening.{container_just_made, one_part};
-ghost use Rattle.http_front.specs.PlainAnswers.{change_first, key_first};
-ghost use Rattle.http_front.specs.PlainAnswers.{AnswersAsModel, AreHeld, Held, held_first, held_of, held_reply};
-ghost use Rattle.http_front.specs.PlainAnswers.{object_or_unserved, row_refusal, row_verdict, rows_after, rows_first};
+ghost use Rattle.http_front.specs.PlainAnswers.{AnswersAsModel, AreHeld, Held, empty_held, empty_rows, held_of, held_reply};
+ghost use Rattle.http_front.specs.PlainAnswers.{object_or_unserved, row_refusal, row_verdict, rows_after};
 ghost use Rattle.stamp_types.specs.World.{part_at};
-ghost use Rattle.http_front.specs.declared.plain.PlainFault.{PlainFault};
-ghost use Rattle.http_front.specs.declared.plain.PlainFault.TheVariants.{NoMemory};
 
 use crate::content::reply_with_content;
 use crate::service::Service;
 use access_rules::{Keys, Verdict, verdict};
 use name_rules::account_ok;
 use range_rows::{Reading, Rows, read_request};
-use stamp_types::{
-    Act, Change, Code, CreateContainer, Key, Level, Metadata, Moment, Op, Refusal, Reply, Request,
-    Rule, Text,
-};
+use stamp_types::{Code, Moment, Op, Refusal, Reply, Request, Rule};
 use std::alloc::{AllocError, Global};
 use std::marker::Model;
-use thiserror::Error;
-
-/// The container that exists at first.
-const FIRST_CONTAINER: &str = "pics";
 
 /// The service over the rows of one account, judged by its pair of keys.
 ///
@@ -36,25 +25,6 @@ const FIRST_CONTAINER: &str = "pics";
 pub struct Plain {
     keys: Keys,
     rows: Rows,
-}
-
-/// Why the service could not be made.
-#[derive(Clone, Copy, Debug, PartialEq, Eq, Error)]
-pub enum PlainFault {
-    /// The name in the keys is not the name of an account.
-    #[error("the account has no good name")]
-    Account,
-    /// Memory ran out.
-    #[error("out of memory")]
-    NoMemory,
-}
-
-impl From<AllocError> for PlainFault {
-    ghost from_gives = { λ _ fault. fault ≡ NoMemory };
-
-    fn from(_error: AllocError) -> Self {
-        PlainFault::NoMemory
-    }
 }
 
 impl Model for Plain {
@@ -101,64 +71,20 @@ fn unserved_refusal(op: Op) -> Option<Refusal>
     }
 }
 
-// The key of the account's first container.
-fn first_key(alloc: Global, account: &Text) -> Result<Key, AllocError>
-    ensures { IfOk result (λ key. key ≡ key_first account.now) }
-{
-    let account = account.clone()?;
-    let name = String::from_str(alloc, FIRST_CONTAINER)?;
-    match Text::new(name) {
-        Some(container) => Ok(Key { account, container }),
-        None => unreachable!(),
-    }
-}
-
-// The change that makes the account's first container.
-fn first_change(alloc: Global, account: &Text, moment: Moment) -> Result<Change, AllocError>
-    requires { IsTrue (is_account account.now) }
-    ensures { IfOk result (λ change. change ≡ change_first account.now moment) }
-{
-    let key = first_key(alloc, account)?;
-    let create = CreateContainer {
-        moment,
-        level: Level::Closed,
-        metadata: Metadata::empty(alloc),
-    };
-    match Change::new(key, Act::CreateContainer(create)) {
-        Some(change) => Ok(change),
-        None => unreachable!(),
-    }
-}
-
-// Rows that hold the account's first container alone.
-#[tactic(auto, using(crate::proofs::PlainLemmas::first_made))]
-fn first_rows(alloc: Global, account: &Text, moment: Moment) -> Result<Rows, AllocError>
-    requires { IsTrue (is_account account.now) }
-    ensures { IfOk result (λ rows. rows
-        ≡ one_part (key_first account.now) (container_just_made moment)) }
-{
-    let change = first_change(alloc, account, moment)?;
-    let mut rows = Rows::new(alloc);
-    rows.take(alloc, change)?;
-    Ok(rows)
-}
-
 impl Plain {
-    /// The service of the keys' account, which holds one closed container, `pics`, made at the moment by its first change.
+    /// The service of the keys' account, which has no containers. Takes no memory.
     ///
-    /// `Account` if the name in the keys is not the name of an account, `NoMemory` if memory runs out.
-    #[tactic(auto, using(crate::proofs::PlainLemmas::first_held))]
-    pub fn new(alloc: Global, keys: Keys, moment: Moment) -> Result<Self, PlainFault>
-        ensures value { IfOk result (λ plain. plain ≡ rows_first keys moment) }
-        ensures held { IfOk result (λ plain. held_of plain ≡ held_first keys moment) }
-        ensures named { IfOk result (λ _. IsTrue (is_account keys.account)) }
-        ensures account { result ≡ Err PlainFault.Account → is_account keys.account ≡ false }
+    /// `None` if the name in the keys is not the name of an account.
+    pub fn new(alloc: Global, keys: Keys) -> Option<Self>
+        ensures value { IfSome result (λ plain. plain ≡ empty_rows keys) }
+        ensures held { IfSome result (λ plain. held_of plain ≡ empty_held keys) }
+        ensures named { IsSome result ↔ IsTrue (is_account keys.account) }
     {
         if !account_ok(keys.account.as_str().as_bytes()) {
-            return Err(PlainFault::Account);
+            return None;
         }
-        let rows = first_rows(alloc, &keys.account, moment)?;
-        Ok(Self { keys, rows })
+        let rows = Rows::new(alloc);
+        Some(Self { keys, rows })
     }
 
     // The refusal of a request that is permitted.

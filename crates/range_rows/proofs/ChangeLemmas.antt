@@ -1,28 +1,23 @@
--- The change that an allowed request makes fits, and the first change of a world.
-use Rattle.std.proofs.Common.{◌≡◌, ℕ, Bool, true, false, ◌||◌, ◌&&◌, List, [], Option, Some, None, nat_lt, unwrap_or, refl, sym, ap, ◌∙◌, subst}
+-- The change that an allowed request makes fits.
+use Rattle.std.proofs.Common.{◌≡◌, ℕ, Bool, true, false, ◌||◌, ◌&&◌, List, Option, Some, None, nat_lt, unwrap_or, refl, sym, ap, ◌∙◌, subst}
 use Rattle.std.proofs.lemmas.Bool.{and_from, lt-ltb}
 use Rattle.std.specs.Prelude.{IfSome, IfOk, IsTrue, Result, Ok, Err, is_some}
 use Rattle.std.specs.Option.{option_map, option_and_then}
-use Rattle.std.specs.FinMap as finite
 use Rattle.std.specs.declared.alloc.AllocError.{AllocError}
 use Rattle.stamp_values.specs.Operations.{writes}
-use Rattle.stamp_values.specs.Order.{key_cmp}
 use Rattle.stamp_values.specs.declared.key.Key.{Key}
-use Rattle.stamp_values.specs.declared.level.Level.TheVariants as level
 use Rattle.stamp_values.specs.declared.op.Op.{Op}
 use Rattle.stamp_values.specs.declared.op.Op.TheVariants as op
 use Rattle.stamp_types.specs.declared.act.Act.{Act}
 use Rattle.stamp_types.specs.declared.act.Act.TheVariants as act
-use Rattle.stamp_types.specs.declared.act.CreateContainer.{CreateContainer}
 use Rattle.stamp_types.specs.declared.args.Kept.{Kept}
 use Rattle.stamp_types.specs.declared.piece.Piece.{Piece}
 use Rattle.stamp_types.specs.Changes.{KeyedAct}
 use Rattle.stamp_types.specs.Pieces.{pieces_len}
 use Rattle.stamp_types.specs.Requests.{Asked}
-use Rattle.stamp_types.specs.World.{Part, World, no_part, part_at, part_value, changed, changed_in}
+use Rattle.stamp_types.specs.World.{Part, World, part_at, part_value}
 use Rattle.range_rows.specs.Fits.{fits}
 use Rattle.range_rows.specs.ObjectRules.{count_limit, needs_container, object_refusal, sizes_named}
-use Rattle.range_rows.specs.Opening.{one_part, container_just_made}
 use Rattle.range_rows.specs.RequestChanges.{put_blob, set_metadata, delete_blob, act_by, change_of}
 use Rattle.range_rows.proofs.Allowed.{needed_container, room_for_write}
 
@@ -87,16 +82,3 @@ pub made_change_fits : (w : World (List Piece)) (q : Asked) (t : ℕ) (made : Re
     → IfOk made (λ c. IsTrue (fits (part_value pieces_len (part_at w c.key)) c.act))
 made_change_fits w q t (Ok c) free change = change_fits_world w q t c free (change (sizes_named w q))
 made_change_fits w q t (Err e) free change = tt
-
--- ---- the first change of a world
-
-module _ {C : Type 0} (f : List Piece → C) (key : Key) where
-  -- a closed container is created in a world without containers
-  pub changed_in-create : (t : ℕ) → changed_in f finite.empty (record { key = key; act = act.CreateContainer (record { moment = t; level = level.Closed; metadata = [] }) }) ≡ one_part key (container_just_made t)
-  changed_in-create t =
-      ap (λ (o : Option (Part C)). finite.insert finite.empty key (changed f (act.CreateContainer (record { moment = t; level = level.Closed; metadata = [] })) (unwrap_or o no_part))) (finite.get-empty key_cmp key)
-
--- each creation fits a world without containers
-pub fits-create : (key : Key) (a : CreateContainer) → fits (part_value pieces_len (part_at (finite.empty {X = Part (List Piece)} {R = key_cmp}) key)) (act.CreateContainer a) ≡ true
-fits-create key a =
-    ap (λ (o : Option (Part (List Piece))). fits (part_value pieces_len (unwrap_or o no_part)) (act.CreateContainer a)) (finite.get-empty key_cmp key)

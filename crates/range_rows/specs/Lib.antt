@@ -4,5 +4,4 @@ pub mod Fits
 pub mod Lending
 pub mod ObjectReplies
 pub mod ObjectRules
-pub mod Opening
 pub mod RequestChanges

@@ -1,5 +1,6 @@
 -- What a replay writes, and the account's name among its words.
 use Rattle.std.proofs.Common.{◌≡◌, ℕ, List, [], ◌∷◌, ◌++◌, true, map, flat_map, Option, Some, None, IfSome, OnOk, Result, Ok, Err, refl, sym, ap, ◌∙◌, subst}
+use Rattle.std.specs.FinMap as finite
 use Rattle.std.specs.Io.KnownBytes.{Appends}
 use Rattle.stamp_values.specs.Names.{is_account}
 use Rattle.stamp_values.specs.Texts.{is_clean}
@@ -13,7 +14,7 @@ use Rattle.http_front.specs.Conversations.Exchange.{Answered, RefusedAt}
 use Rattle.reply_form.specs.FixedReplies.{out_of_memory_bytes}
 use Rattle.request_form.specs.HeadForms.{with_body}
 use Rattle.http_front.specs.Outcomes.{UnlessWriteOrMemoryFailed}
-use Rattle.http_front.specs.PlainAnswers.{Held, AnswersAsModel, held_first, held_reply}
+use Rattle.http_front.specs.PlainAnswers.{Held, AnswersAsModel, empty_held, held_reply}
 use Rattle.reply_form.specs.ReplyBytes.{reply_bytes}
 use Rattle.http_front.specs.Streams.{Item, Tail, Reads, interim, tail_bytes}
 use Rattle.http_front.specs.Streams.Item.{Requested, Refused}
@@ -58,19 +59,19 @@ output_is h h' c c' (e ∷ es) told replies =
 module _ (keys : Keys) (t : ℕ) (c' : Still) (h' : Held) where
   -- the output of a connection is the output of the replay
   replays_of : (held held' : Option (List ℕ)) (result : Result End FrontFault) (turns : ℕ) (input : List ℕ)
-      → AnswersInput GivesSameMoment AnswersAsModel (record { moment = t }) c' (held_first keys t) h' held held' result turns input
+      → AnswersInput GivesSameMoment AnswersAsModel (record { moment = t }) c' (empty_held keys) h' held held' result turns input
       → ReplaysInput keys t held held' result turns input
   unfolding replay_output
   replays_of held held' result turns input c = record {
     items = map item_of c.exchanges;
     tail = c.tail;
     reads = c.items;
-    output = subst (λ l. Appends held held' (l ++ tail_bytes c.tail)) (output_is (held_first keys t) h' (record { moment = t }) c' c.exchanges c.moments c.replies) c.output;
+    output = subst (λ l. Appends held held' (l ++ tail_bytes c.tail)) (output_is (empty_held keys) h' (record { moment = t }) c' c.exchanges c.moments c.replies) c.output;
     ends = c.ends;
   }
 
   replayed_of : (left left' held held' : Option (List ℕ)) (result : Result End FrontFault) (turns : ℕ)
-      → AnswersReceived GivesSameMoment AnswersAsModel (record { moment = t }) c' (held_first keys t) h' left left' held held' result turns
+      → AnswersReceived GivesSameMoment AnswersAsModel (record { moment = t }) c' (empty_held keys) h' left left' held held' result turns
       → ReplaysReceived keys t left left' held held' result turns
   replayed_of left left' held held' result turns c = record {
     received = c.received;
@@ -87,7 +88,7 @@ module _ (keys : Keys) (t : ℕ) (c' : Still) (h' : Held) where
   served_map (Err NoMemory) P Q f p = p
 
   replayed_served : (left left' held held' : Option (List ℕ)) (result : Result End FrontFault) (turns : ℕ)
-      → UnlessWriteOrMemoryFailed result (AnswersReceived GivesSameMoment AnswersAsModel (record { moment = t }) c' (held_first keys t) h' left left' held held' result turns)
+      → UnlessWriteOrMemoryFailed result (AnswersReceived GivesSameMoment AnswersAsModel (record { moment = t }) c' (empty_held keys) h' left left' held held' result turns)
       → UnlessWriteOrMemoryFailed result (ReplaysReceived keys t left left' held held' result turns)
   replayed_served left left' held held' result turns =
       served_map result _ _ (replayed_of left left' held held' result turns)
@@ -101,14 +102,14 @@ module _ (keys : Keys) (t : ℕ) (c' : Still) (h' : Held) where
   on_ok (Err e) P Q f p = p
 
   replays_whole : (left held held' : Option (List ℕ)) (result : Result End FrontFault) (turns : ℕ)
-      → OnOk result (IfSome left (AnswersInput GivesSameMoment AnswersAsModel (record { moment = t }) c' (held_first keys t) h' held held' result turns))
+      → OnOk result (IfSome left (AnswersInput GivesSameMoment AnswersAsModel (record { moment = t }) c' (empty_held keys) h' held held' result turns))
       → OnOk result (IfSome left (ReplaysInput keys t held held' result turns))
   replays_whole left held held' result turns =
       on_ok result _ _ (if_some left _ _ (replays_of held held' result turns))
 
 -- the output of a run for which memory ran out
 starves_of : (starves : Held → Held → Type 0) (keys : Keys) (t : ℕ) (c' : Still) (h' : Held) (left left' held held' : Option (List ℕ))
-    → EndsOutOfMemory GivesSameMoment AnswersAsModel starves (record { moment = t }) c' (held_first keys t) h' left left' held held' out_of_memory_bytes
+    → EndsOutOfMemory GivesSameMoment AnswersAsModel starves (record { moment = t }) c' (empty_held keys) h' left left' held held' out_of_memory_bytes
     → ReplayEndsOutOfMemory keys t left left' held held'
 starves_of starves keys t c' h' left left' held held' s = record {
   received = s.received;
@@ -119,27 +120,27 @@ starves_of starves keys t c' h' left left' held held' s = record {
   begun = s.begun;
   begun_is = s.begun_is;
   output = subst (λ l. Appends held held' ((l ++ s.begun) ++ out_of_memory_bytes))
-      (output_is (held_first keys t) s.world_then (record { moment = t }) s.clock_then s.exchanges s.moments s.replies) s.output;
+      (output_is (empty_held keys) s.world_then (record { moment = t }) s.clock_then s.exchanges s.moments s.replies) s.output;
 }
 
 -- ---- the three clauses of a run that begins with the service and the clock of the replay
 
 pub replayed_by : (keys : Keys) (t : ℕ) (c c' : Still) (h h' : Held) (left left' held held' : Option (List ℕ)) (result : Result End FrontFault) (turns : ℕ)
-    → h ≡ held_first keys t → c ≡ record { moment = t }
+    → h ≡ empty_held keys → c ≡ record { moment = t }
     → UnlessWriteOrMemoryFailed result (AnswersReceived GivesSameMoment AnswersAsModel c c' h h' left left' held held' result turns)
     → UnlessWriteOrMemoryFailed result (ReplaysReceived keys t left left' held held' result turns)
 replayed_by keys t c c' h h' left left' held held' result turns first is conversed =
     replayed_served keys t c' h' left left' held held' result turns (rw (first, is) at conversed)
 
 pub whole_by : (keys : Keys) (t : ℕ) (c c' : Still) (h h' : Held) (left held held' : Option (List ℕ)) (result : Result End FrontFault) (turns : ℕ)
-    → h ≡ held_first keys t → c ≡ record { moment = t }
+    → h ≡ empty_held keys → c ≡ record { moment = t }
     → OnOk result (IfSome left (AnswersInput GivesSameMoment AnswersAsModel c c' h h' held held' result turns))
     → OnOk result (IfSome left (ReplaysInput keys t held held' result turns))
 whole_by keys t c c' h h' left held held' result turns first is whole =
     replays_whole keys t c' h' left held held' result turns (rw (first, is) at whole)
 
 pub starved_by : (starves : Held → Held → Type 0) (keys : Keys) (t : ℕ) (c c' : Still) (h h' : Held) (left left' held held' : Option (List ℕ))
-    → h ≡ held_first keys t → c ≡ record { moment = t }
+    → h ≡ empty_held keys → c ≡ record { moment = t }
     → EndsOutOfMemory GivesSameMoment AnswersAsModel starves c c' h h' left left' held held' out_of_memory_bytes
     → ReplayEndsOutOfMemory keys t left left' held held'
 starved_by starves keys t c c' h h' left left' held held' first is starved =
@@ -167,6 +168,6 @@ written h t [] = refl
 written h t (Requested form body ∷ items) = ap (λ l. answer_of h t (Requested form body) ++ l) (written (held_after_item h t (Requested form body)) t items)
 written h t (Refused denial ∷ items) = ap (λ l. answer_of h t (Refused denial) ++ l) (written h t items)
 
-pub replay_output-written : (keys : Keys) (t : ℕ) (items : List Item) (tail : Tail) → replay_output keys t items tail ≡ written_for t items (replies_to (Some keys) (held_first keys t).world (requests_of t items)) ++ tail_bytes tail
+pub replay_output-written : (keys : Keys) (t : ℕ) (items : List Item) (tail : Tail) → replay_output keys t items tail ≡ written_for t items (replies_to (Some keys) finite.empty (requests_of t items)) ++ tail_bytes tail
 unfolding replay_output
-replay_output-written keys t items tail = ap (λ l. l ++ tail_bytes tail) (written (held_first keys t) t items)
+replay_output-written keys t items tail = ap (λ l. l ++ tail_bytes tail) (written (empty_held keys) t items)

@@ -15,7 +15,7 @@ use Rattle.http_front.specs.Conversations.{IsInterimOrNothing, EndsAs}
 use Rattle.http_front.specs.Inputs.{read_size}
 use Rattle.reply_form.specs.FixedReplies.{out_of_memory_bytes}
 use Rattle.request_form.specs.HeadForms.{with_body}
-use Rattle.http_front.specs.PlainAnswers.{Held, held_first, held_reply, held_after}
+use Rattle.http_front.specs.PlainAnswers.{Held, empty_held, held_reply, held_after}
 use Rattle.reply_form.specs.ReplyBytes.{reply_bytes}
 use Rattle.http_front.specs.Streams.{Item, Tail, Reads, ReadsFront, interim, tail_bytes, refusal_of}
 use Rattle.http_front.specs.Streams.Item.{Requested, Refused}
@@ -44,7 +44,7 @@ output_of h t (item ∷ items) = answer_of h t item ++ output_of (held_after_ite
 
 -- what a replay writes for a stream that has these items and stops in this way
 unfoldable pub replay_output : Keys → ℕ → List Item → Tail → List ℕ
-replay_output keys t items tail = output_of (held_first keys t) t items ++ tail_bytes tail
+replay_output keys t items tail = output_of (empty_held keys) t items ++ tail_bytes tail
 
 -- the requests among items in this order, each request at the moment
 abbrev pub requests_of : ℕ → List Item → List Timed
@@ -89,7 +89,7 @@ pub record ReplayEndsOutOfMemory (keys : Keys) (moment : ℕ) (left left' held h
   pub reads : ReadsFront received items rest
   pub begun : List ℕ
   pub begun_is : IsInterimOrNothing rest begun
-  pub output : Appends held held' ((output_of (held_first keys moment) moment items ++ begun) ++ out_of_memory_bytes)
+  pub output : Appends held held' ((output_of (empty_held keys) moment items ++ begun) ++ out_of_memory_bytes)
 
 -- the words of a replay
 abbrev pub replay_line : List ℕ → List ℕ → List ℕ → List ℕ → List (List ℕ)

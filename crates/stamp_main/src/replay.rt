@@ -13,7 +13,7 @@ use crate::ending::{Ending, status_of};
 use crate::words::{Asked, read_asked};
 use access_rules::Keys;
 use hmac_sign::SigningKey;
-use http_front::{Clock, End, FrontFault, Plain, PlainFault, run};
+use http_front::{Clock, End, FrontFault, Plain, run};
 use stamp_types::{Moment, Text};
 use std::alloc::Global;
 use std::io::{Read, Write};
@@ -32,10 +32,8 @@ impl Clock for Still {
     }
 }
 
-/// Serves one connection by an account's keys, as if all of it came at the moment. The account's container `pics` is made first.
+/// Serves one connection by an account's keys, as if all of it came at the moment. The account has no containers before it.
 /// One read asks for at most 8,192 bytes, and at most `turns` reads are made.
-///
-/// If memory runs out for that container, nothing is read or written.
 #[tactic(auto, using(crate::proofs::ReplayLemmas::replayed_by, crate::proofs::ReplayLemmas::whole_by, crate::proofs::ReplayLemmas::starved_by))]
 pub(crate) fn replay_on<R: Read, W: Write>(
     alloc: Global,
@@ -57,11 +55,9 @@ pub(crate) fn replay_on<R: Read, W: Write>(
     ensures whole { OnOk result (IfSome (R.remaining reader.old) (ReplaysInput
         (keys_of account first second) moment
         (W.contents writer.old) (W.contents writer.new) result turns)) }
-    // If memory ran out, nothing was read or written, or the items before are answered in full and the last bytes say only that
-    // memory ran out.
+    // If memory ran out, the items before are answered in full and the last bytes say only that memory ran out.
     ensures starved { result ≡ Err faults.NoMemory →
-        ((reader.new ≡ reader.old) × (writer.new ≡ writer.old))
-        ⊎ ReplayEndsOutOfMemory (keys_of account first second) moment
+        ReplayEndsOutOfMemory (keys_of account first second) moment
         (R.remaining reader.old) (R.remaining reader.new)
         (W.contents writer.old) (W.contents writer.new) }
 {
@@ -71,20 +67,17 @@ pub(crate) fn replay_on<R: Read, W: Write>(
         second,
         epoch: 0,
     };
-    match Plain::new(alloc, keys, moment) {
-        Ok(mut service) => {
-            run(
-                alloc,
-                reader,
-                writer,
-                &mut Still { moment },
-                &mut service,
-                turns,
-            )
-        }
-        Err(PlainFault::NoMemory) => Err(FrontFault::NoMemory),
-        Err(PlainFault::Account) => unreachable!(),
-    }
+    let Some(mut service) = Plain::new(alloc, keys) else {
+        unreachable!()
+    };
+    run(
+        alloc,
+        reader,
+        writer,
+        &mut Still { moment },
+        &mut service,
+        turns,
+    )
 }
 
 /// Carries out `stamp replay MOMENT ACCOUNT KEY1 KEY2`: answers the whole input as one connection, at the moment and by the keys
