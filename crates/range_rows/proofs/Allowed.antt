@@ -5,14 +5,11 @@ use Rattle.std.specs.Prelude.{IsSome, is_none, find}
 use Rattle.std.specs.List.{list_all}
 use Rattle.std.specs.Option.{option_map}
 use Rattle.stamp_values.specs.Operations.{writes}
-use Rattle.stamp_values.specs.declared.op.Op.{Op}
 use Rattle.stamp_values.specs.declared.op.Op.TheVariants as op
 use Rattle.stamp_types.specs.declared.piece.Piece.{Piece}
 use Rattle.stamp_types.specs.Pieces.{pieces_len}
 use Rattle.stamp_types.specs.Requests.{Asked}
 use Rattle.stamp_types.specs.World.{Part, committed_value, part_value}
-use Rattle.range_rows.specs.BlobRows.{sizes_held}
-use Rattle.range_rows.specs.ObjectReplies.{is_served}
 use Rattle.range_rows.specs.ObjectRules.{needs_container, needs_blob, named_blob, cause_holds, causes, object_refusal, count_limit}
 use Rattle.range_rows.specs.ObjectRules.Cause.{ContainerIsAbsent, BlobIsAbsent, BodyIsDamaged, CountIsFull}
 use Rattle.range_rows.proofs.AnswerLemmas.{named_blob-part_value}
@@ -77,16 +74,4 @@ pub allowed_blob : (p : Part (List Piece)) (q : Asked) → needs_blob q.ask.op �
 allowed_blob p q needs free none =
     let read : IsSome (named_blob (part_value pieces_len p) q.ask) = needed_blob (part_value pieces_len p) q free needs in
     let is_none_there : named_blob (part_value pieces_len p) q.ask ≡ None = named_blob-part_value pieces_len p q.ask ∙ ap (option_map (committed_value pieces_len)) none in
-    cc
-
-needs_container_by : (o : Op) → is_served o ≡ true → writes o ≡ false → needs_container o ≡ true
-needs_container_by op.ListContainers served reads = cc
-needs_container_by op.CreateContainer served reads = cc
-needs_container_by other served reads = refl
-
--- the container of an allowed request that reads is found
-pub found_for_read : (o : Option (Part (List Piece))) (q : Asked) → object_refusal (sizes_held o) q ≡ None → is_served q.ask.op ≡ true → writes q.ask.op ≡ false → o ≡ None → ⊥
-found_for_read o q free served reads none =
-    let exists : IsSome (sizes_held o).standing = needed_container (sizes_held o) q free (needs_container_by q.ask.op served reads) in
-    let absent : (sizes_held o).standing ≡ None = ap (λ (o : Option (Part (List Piece))). (sizes_held o).standing) none in
     cc

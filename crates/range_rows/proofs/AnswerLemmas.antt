@@ -16,12 +16,10 @@ use Rattle.stamp_types.specs.declared.committed.Committed.{Committed}
 use Rattle.stamp_types.specs.declared.piece.Piece.{Piece}
 use Rattle.stamp_types.specs.Changes.{blocks_len}
 use Rattle.stamp_types.specs.Pieces.{pieces_len}
-use Rattle.stamp_types.specs.Requests.{Asked}
-use Rattle.stamp_types.specs.World.{Part, World, Blob, no_blob, no_part, blob_in, block_value, committed_value, part_value, changed, whole_block}
+use Rattle.stamp_types.specs.World.{Part, Blob, no_blob, blob_in, block_value, committed_value, part_value, changed, whole_block}
 use Rattle.stamp_types.proofs.WorldLemmas.{blob_in-part_value}
-use Rattle.range_rows.specs.BlobRows.{sizes_held}
 use Rattle.range_rows.specs.ObjectReplies.{whole_span}
-use Rattle.range_rows.specs.ObjectRules.{named_blob, object_refusal, sizes_named}
+use Rattle.range_rows.specs.ObjectRules.{named_blob}
 
 -- ---- sizes and spans of blocks
 
@@ -56,25 +54,6 @@ none_stays f (Some c) = refl
 -- the blob is absent by one reading if and only if it is absent by the other reading
 pub absent_by_either_reading : {C D : Type 0} (f : C → D) (p : Part C) (a : Ask) → is_none (named_blob (part_value f p) a) ≡ is_none (named_blob p a)
 absent_by_either_reading f p a = ap (λ (c : Option (Committed _)). is_none c) (named_blob-part_value f p a) ∙ none_stays f (named_blob p a)
-
--- a blob is absent from a container that was found, if and only if it is absent from the sizes of that container
-pub absent_by_sizes : (o : Option (Part (List Piece))) (p : Part (List Piece)) (a : Ask) → o ≡ Some p → is_none (named_blob (sizes_held o) a) ≡ is_none (named_blob p a)
-absent_by_sizes o p a is = ap (λ (o : Option (Part (List Piece))). is_none (named_blob (sizes_held o) a)) is ∙ absent_by_either_reading pieces_len p a
-
-absent_by_name : (blob : Option (List ℕ)) → is_none (option_and_then (λ name. (blob_in (no_part {C = List Piece}) name).committed) blob) ≡ true
-absent_by_name None = refl
-absent_by_name (Some name) = ap (λ (o : Option (Blob (List Piece))). is_none (unwrap_or o no_blob).committed) (finite.get-empty name_cmp name)
-
--- no blob is in a container that was not found
-pub absent_without_part : (o : Option (Part (List Piece))) (a : Ask) → o ≡ None → is_none (named_blob (sizes_held o) a) ≡ true
-absent_without_part o a is =
-    ap (λ (o : Option (Part (List Piece))). is_none (named_blob (sizes_held o) a)) is
-    ∙ absent_by_either_reading pieces_len no_part a
-    ∙ absent_by_name a.blob
-
--- the refusal by a container that was found is the refusal by the container that the request names
-pub refusal_of_held : (w : World (List Piece)) (q : Asked) (o : Option (Part (List Piece))) → o ≡ finite.get w q.ask.key → object_refusal (sizes_held o) q ≡ object_refusal (sizes_named w q) q
-refusal_of_held w q o is = ap (λ (o : Option (Part (List Piece))). object_refusal (sizes_held o) q) is
 
 -- ---- Put Blob
 

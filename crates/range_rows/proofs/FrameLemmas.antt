@@ -3,7 +3,6 @@ use Rattle.std.proofs.Common.{◌≡◌, ◌+◌, ℕ, true, false, List, [], Op
 use Rattle.std.specs.Prelude.{IsSome}
 use Rattle.std.specs.Option.{option_map, option_and_then}
 use Rattle.std.specs.List.{flat_map}
-use Rattle.std.specs.FinMap as finite
 use Rattle.md5.specs.Md5.{md5}
 use Rattle.stamp_values.specs.Operations.{writes, names_blob, keeps_headers}
 use Rattle.stamp_values.specs.declared.op.Op.{Op}
@@ -18,11 +17,12 @@ use Rattle.stamp_types.specs.declared.standing.Standing.{Standing}
 use Rattle.stamp_types.specs.declared.status.Status.TheVariants as status
 use Rattle.stamp_types.specs.Pieces.{pieces_len}
 use Rattle.stamp_types.specs.Requests.{Asked, IsRequest}
-use Rattle.stamp_types.specs.World.{Blob, Part, World, no_part, part_at, blob_in, committed_value, committed_with_metadata, part_value, same_pieces, standing_with_metadata}
+use Rattle.stamp_types.specs.World.{Blob, Part, blob_in, committed_value, committed_with_metadata, part_value, same_pieces, standing_with_metadata}
 use Rattle.stamp_types.proofs.EffectLemmas.{blob_in-set_metadata}
+use Rattle.range_rows.specs.FoundParts.{pieces_found_after, sizes_found, sizes_found_after}
 use Rattle.range_rows.specs.ObjectReplies.{blob_read, content_by, date_headers, empty_blob, empty_standing, frame, frame_by, get_frame, is_served, metadata_headers, put_reply, spans, standing_read, success_reply, whole_span, write_frame}
-use Rattle.range_rows.specs.ObjectRules.{named_blob, needs_blob, needs_container, object_refusal, sizes_named}
-use Rattle.range_rows.specs.RequestChanges.{act_by, change_of, part_after, pieces_after, put_blob, set_container_metadata, set_metadata, sizes_after}
+use Rattle.range_rows.specs.ObjectRules.{named_blob, needs_blob, needs_container, object_refusal}
+use Rattle.range_rows.specs.RequestChanges.{act_by, change_of, part_after, put_blob, set_container_metadata, set_metadata}
 use Rattle.range_rows.proofs.Allowed.{needed_blob, needed_container}
 use Rattle.range_rows.proofs.AnswerLemmas.{blob_in-put, named_blob-part_value}
 
@@ -154,17 +154,13 @@ spans_of_get p q c is there =
     ap (λ (o : Op). map whole_span (content_by o (blob_read p q.ask))) is
     ∙ ap (λ (o : Option (Committed (List Piece))). map whole_span (content_by op.GetBlob (unwrap_or o empty_blob))) there
 
--- ---- a container that was found, on a request that reads
+-- ---- what was found of a container, on a request that reads
 
-module _ (w : World (List Piece)) (q : Asked) (t : ℕ) (p : Part (List Piece)) (found : finite.get w q.ask.key ≡ Some p) (reads : writes q.ask.op ≡ false) where
+module _ (p : Part (List Piece)) (q : Asked) (t : ℕ) (reads : writes q.ask.op ≡ false) where
   -- its sizes are as before
-  pub sizes_after_read : sizes_after w q t ≡ part_value pieces_len p
-  sizes_after_read =
-      part_after_read (sizes_named w q) q t pieces_len (sizes_named w q) reads
-      ∙ ap (λ (o : Option (Part (List Piece))). part_value pieces_len (unwrap_or o no_part)) found
+  pub sizes_after_read : sizes_found_after p q t ≡ sizes_found p
+  sizes_after_read = part_after_read (sizes_found p) q t pieces_len (sizes_found p) reads
 
   -- its pieces are as before
-  pub pieces_after_read : pieces_after w q t ≡ p
-  pieces_after_read =
-      part_after_read (sizes_named w q) q t same_pieces (part_at w q.ask.key) reads
-      ∙ ap (λ (o : Option (Part (List Piece))). unwrap_or o no_part) found
+  pub pieces_after_read : pieces_found_after p q t ≡ p
+  pieces_after_read = part_after_read (sizes_found p) q t same_pieces p reads

@@ -1,13 +1,11 @@
--- The codes of a container and of a world, the world that a tree of containers holds, and a container that was looked up (SOSP 2011,
--- section 5, object table).
-use Rattle.std.specs.Prelude.{ℕ, List, Option, unwrap_or}
+-- The codes of a container and of a world, and the world that a tree of containers holds (SOSP 2011, section 5, object table).
+use Rattle.std.specs.Prelude.{List}
 use Rattle.std.specs.BTreeMap.{BTreeMap}
 use Rattle.std.specs.Coded.{Coded}
 use Rattle.stamp_values.specs.Trees.{tree_map}
 use Rattle.stamp_values.specs.declared.key.Key.{Key}
-use Rattle.stamp_types.specs.World.{Part, World, no_part, part_value}
+use Rattle.stamp_types.specs.World.{Part, World}
 use Rattle.stamp_types.specs.ContentCodes.{content_code}
-use Rattle.stamp_types.specs.Pieces.{pieces_len}
 use Rattle.stamp_types.specs.WorldCodes.{part_code, world_code}
 use Rattle.stamp_types.specs.declared.piece.Piece.{Piece}
 
@@ -22,7 +20,3 @@ rows_code = world_code content_code
 -- the world that a tree of containers by their keys holds
 abbrev pub world_of : BTreeMap Key (Part (List Piece)) → World (List Piece)
 world_of t = tree_map (λ key. key) t
-
--- what was found of a container with the sizes of its content, or else a container that never was
-abbrev pub sizes_held : Option (Part (List Piece)) → Part ℕ
-sizes_held o = part_value pieces_len (unwrap_or o no_part)

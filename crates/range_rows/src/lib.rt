@@ -10,6 +10,7 @@ mod change_laws;
 #[cfg(test)]
 mod change_tests;
 mod container;
+mod found;
 mod object_rules;
 #[cfg(test)]
 mod operation_tests;
@@ -21,9 +22,12 @@ mod rows;
 mod rows_tests;
 #[cfg(test)]
 mod sample_requests;
+mod served;
 
 pub use answer::{Answer, Span};
 pub use answer_laws::spans_say_what_content_goes_out;
 pub use change_laws::a_change_that_no_rule_refuses_fits;
+pub use found::Found;
 pub use reading::{Reading, read_request};
 pub use rows::Rows;
+pub use served::is_served;

@@ -3,10 +3,10 @@ ghost use Rattle.std.specs.Prelude.{◌≡◌, IfOk, IsErr, IsTrue, is_none, is_
 ghost use Rattle.std.specs.Option.{option_copied};
 ghost use Rattle.stamp_values.specs.declared.op.Op.TheVariants as op;
 ghost use Rattle.stamp_types.specs.Changes.{is_committed};
-ghost use Rattle.range_rows.specs.BlobRows.{sizes_held};
+ghost use Rattle.range_rows.specs.FoundParts.{sizes_found};
 ghost use Rattle.range_rows.specs.ObjectRules as rules;
 
-use crate::container::Container;
+use crate::found::Found;
 use crate::reading::Reading;
 use crate::rows::Rows;
 use stamp_types::{Ask, Body, Code, Committed, Op, Pieces, Refusal, Request, Rule};
@@ -66,105 +66,76 @@ fn refused(rule: Rule, code: Code) -> Refusal
     Refusal { rule, code }
 }
 
-// Whether the container exists.
-fn exists(held: Option<&Container>) -> bool
-    ensures { result ≡ is_some (sizes_held (option_copied held.entry)).standing }
-{
-    match held {
-        Some(container) => container.standing().is_some(),
-        None => false,
-    }
-}
-
-/// What readers see of the blob that the request names, if it names one.
-pub(crate) fn named_blob<'a>(container: &'a Container, ask: &Ask) -> Option<&'a Committed<Pieces>>
-    ensures value { option_copied result ≡ rules.named_blob container.now ask.now }
-    ensures blocks { IsTrue (is_committed (option_copied result)) }
-{
-    match &ask.blob {
-        Some(name) => container.committed(name),
-        None => None,
-    }
-}
-
-// Whether the blob that the request names has no committed part in the container, or the request
-// names no blob.
-fn lacks_named(container: &Container, ask: &Ask) -> bool
-    ensures { result ≡ is_none (rules.named_blob container.now ask.now) }
-{
-    named_blob(container, ask).is_none()
-}
-
-// The same for a container that may never have been.
-#[tactic(auto, using(crate::proofs::AnswerLemmas::absent_by_sizes))]
-fn lacks_blob(held: Option<&Container>, ask: &Ask) -> bool
-    ensures { result
-        ≡ is_none (rules.named_blob (sizes_held (option_copied held.entry)) ask.now) }
-{
-    match held {
-        Some(container) => lacks_named(container, ask),
-        None => true,
-    }
-}
-
-/// How many changes the container has seen: 0 if the container never was.
-pub(crate) fn count(held: Option<&Container>) -> u64
-    ensures { result ≡ (sizes_held (option_copied held.entry)).count }
-{
-    match held {
-        Some(container) => container.count(),
-        None => 0,
-    }
-}
-
-// Whether the container takes no further change.
-fn is_full(held: Option<&Container>) -> bool
-    ensures { result
-        ≡ nat_le rules.count_limit (sizes_held (option_copied held.entry)).count }
-{
-    u64::MAX <= count(held)
-}
-
-// The refusal by the first cause for which the object refuses the request, with the cause's rule
-// and code.
-fn refusal(held: Option<&Container>, request: &Request) -> Option<Refusal>
-    ensures { result
-        ≡ rules.object_refusal (sizes_held (option_copied held.entry)) request.now }
-{
-    let ask = request.ask();
-    let exists = exists(held);
-    if needs_container(ask.op) && !exists {
-        return Some(refused(Rule::O1, Code::ContainerNotFound));
-    }
-    if ask.op == Op::CreateContainer && exists {
-        return Some(refused(Rule::O2, Code::ContainerAlreadyExists));
-    }
-    if needs_blob(ask.op) && lacks_blob(held, ask) {
-        return Some(refused(Rule::O3, Code::BlobNotFound));
-    }
-    if is_damaged(request) {
-        return Some(refused(Rule::O5, Code::Md5Mismatch));
-    }
-    if ask.op.writes() && is_full(held) {
-        return Some(refused(Rule::O6, Code::InternalError));
-    }
-    None
-}
-
-impl Rows {
+impl<'a> Found<'a> {
     ghost use Rattle.range_rows.specs.RequestChanges.{reading_of};
 
-    // The same for the container that the request names. The request walks to it once.
-    fn refusal(&self, request: &Request) -> Option<Refusal>
-        ensures { result
-            ≡ rules.object_refusal (rules.sizes_named self.now request.now) request.now }
+    // Whether the container exists.
+    fn exists(&self) -> bool
+        ensures { result ≡ is_some self.now.standing }
     {
-        refusal(self.held(&request.ask().key), request)
+        self.standing().is_some()
+    }
+
+    /// What readers see of the blob that the request names, if the request names a blob.
+    pub(crate) fn named_blob(&self, ask: &Ask) -> Option<&'a Committed<Pieces>>
+        ensures value { option_copied result ≡ rules.named_blob self.now ask.now }
+        ensures blocks { IsTrue (is_committed (option_copied result)) }
+    {
+        match &ask.blob {
+            Some(name) => self.committed(name),
+            None => None,
+        }
+    }
+
+    // Whether the blob that the request names has no committed part, or the request names no blob.
+    fn lacks_named(&self, ask: &Ask) -> bool
+        ensures { result ≡ is_none (rules.named_blob self.now ask.now) }
+    {
+        self.named_blob(ask).is_none()
+    }
+
+    // The same by the sizes of the content alone.
+    fn lacks_blob(&self, ask: &Ask) -> bool
+        ensures { result ≡ is_none (rules.named_blob (sizes_found self.now) ask.now) }
+    {
+        self.lacks_named(ask)
+    }
+
+    // Whether the container takes no further change.
+    fn is_full(&self) -> bool
+        ensures { result ≡ nat_le rules.count_limit self.now.count }
+    {
+        u64::MAX <= self.count()
+    }
+
+    // The refusal by the first cause for which the object refuses the request, with the cause's
+    // rule and code.
+    fn refusal(&self, request: &Request) -> Option<Refusal>
+        ensures { result ≡ rules.object_refusal (sizes_found self.now) request.now }
+    {
+        let ask = request.ask();
+        let exists = self.exists();
+        if needs_container(ask.op) && !exists {
+            return Some(refused(Rule::O1, Code::ContainerNotFound));
+        }
+        if ask.op == Op::CreateContainer && exists {
+            return Some(refused(Rule::O2, Code::ContainerAlreadyExists));
+        }
+        if needs_blob(ask.op) && self.lacks_blob(ask) {
+            return Some(refused(Rule::O3, Code::BlobNotFound));
+        }
+        if is_damaged(request) {
+            return Some(refused(Rule::O5, Code::Md5Mismatch));
+        }
+        if ask.op.writes() && self.is_full() {
+            return Some(refused(Rule::O6, Code::InternalError));
+        }
+        None
     }
 
     /// The refusal of a request by the object, if the object refuses it: the rule and the code of
-    /// the first cause, in the order of the rules. `reading` is what the request's body says. Reads
-    /// no byte of that body.
+    /// the first cause, in the order of the rules. The request names the container that was found.
+    /// `reading` is what the request's body says. Reads no byte of that body.
     ///
     /// Today this takes no memory, and never answers `AllocError`. Only Put Block List may answer
     /// it, as soon as its blocks are looked up.
@@ -176,9 +147,35 @@ impl Rows {
     ) -> Result<Option<Refusal>, AllocError>
         requires { _reading.now ≡ reading_of request.now }
         ensures rule { IfOk result (λ refusal.
-            refusal ≡ rules.object_refusal (rules.sizes_named self.now request.now) request.now) }
+            refusal ≡ rules.object_refusal (sizes_found self.now) request.now) }
         ensures memory { IsErr result → request.now.ask.op ≡ op.PutBlockList }
     {
         Ok(self.refusal(request))
+    }
+}
+
+impl Rows {
+    ghost use Rattle.range_rows.specs.RequestChanges.{reading_of};
+
+    /// The refusal of a request by the object, if the object refuses it: the rule and the code of
+    /// the first cause, in the order of the rules. `reading` is what the request's body says. Reads
+    /// no byte of that body.
+    ///
+    /// Today this takes no memory, and never answers `AllocError`. Only Put Block List may answer
+    /// it, as soon as its blocks are looked up.
+    pub fn object_rule(
+        &self,
+        alloc: Global,
+        request: &Request,
+        reading: &Reading,
+    ) -> Result<Option<Refusal>, AllocError>
+        requires { reading.now ≡ reading_of request.now }
+        ensures rule { IfOk result (λ refusal.
+            refusal ≡ rules.object_refusal (rules.sizes_named self.now request.now) request.now) }
+        ensures memory { IsErr result → request.now.ask.op ≡ op.PutBlockList }
+    {
+        let found = self.find(&request.ask().key);
+        let refusal = found.object_rule(alloc, request, reading)?;
+        Ok(refusal)
     }
 }

@@ -1,109 +1,126 @@
 //! Each operation once, in turn on one container: the status, the headers in their order, the
 //! length and the content of each reply, against values that were written by hand.
-ghost use Rattle.std.specs.Prelude.{◌≡◌};
-ghost use Rattle.range_rows.specs.ObjectReplies as replies;
 
 use crate::answer::Answer;
 use crate::reading::read_request;
 use crate::rows::Rows;
 use crate::sample_requests::{body, four_names, make, moment_after, request_with};
+use crate::served::is_served;
 use stamp_types::{Header, Moment, Op, Piece, Request, Status};
 use std::alloc::Global;
 use std::process::Abort;
 
-/// A request on the container `pics`, or on its blob `a.txt`, and its reply. The tick is the moment
-/// after noon. The word is the value of the metadata, and the body of the request.
-#[derive(Clone, Copy)]
-struct Step {
-    tick: u8,
-    op: Op,
-    word: &'static str,
-    status: Status,
-    headers: &'static str,
-    length: u64,
-    content: &'static str,
+/// What a header is to say.
+#[derive(Clone, Copy, Debug)]
+enum Line {
+    // application/octet-stream
+    OctetStream,
+    // the MD5 of `hello`
+    SumOfHello,
+    // a name of the metadata, and its value
+    Named(&'static str, &'static str),
+    BlockBlob,
+    Ranges,
+    Etag(u64),
+    // how many steps of 100 ns after noon the moment is
+    Made(u8),
 }
 
-fn planned(
-    tick: u8,
-    op: Op,
-    word: &'static str,
-    status: Status,
-    headers: &'static str,
-    length: u64,
-    content: &'static str,
-) -> Step {
-    Step {
-        tick,
-        op,
-        word,
-        status,
-        headers,
-        length,
-        content,
+// The operations on the container `pics`, or on its blob `a.txt`, in turn, and for each of them how
+// many steps of 100 ns after noon its moment is.
+fn turns() -> [(u8, Op); 10] {
+    [
+        (1, Op::CreateContainer),
+        (2, Op::SetContainerMetadata),
+        (3, Op::PutBlob),
+        (4, Op::GetBlob),
+        (5, Op::SetMetadata),
+        (6, Op::BlobProperties),
+        (7, Op::GetMetadata),
+        (8, Op::ContainerProperties),
+        (9, Op::DeleteBlob),
+        (10, Op::DeleteContainer),
+    ]
+}
+
+// The value of the metadata, and the body of the request.
+fn word(op: Op) -> &'static str {
+    match op {
+        Op::CreateContainer => "one",
+        Op::SetContainerMetadata => "two",
+        Op::PutBlob => "hello",
+        Op::SetMetadata => "new",
+        _ => "",
     }
 }
 
-const READ: &str = "type application/octet-stream; sum of hello; _a hello; a1 hello; a_ ; \
-    ab hello; BlockBlob; ranges; etag 3; made 3; ";
+fn status(op: Op) -> Status {
+    match op {
+        Op::CreateContainer | Op::PutBlob => Status::Created,
+        Op::DeleteContainer | Op::DeleteBlob => Status::Accepted,
+        _ => Status::Success,
+    }
+}
 
-const SET: &str = "type application/octet-stream; sum of hello; _a new; a1 new; a_ ; ab new; \
-    BlockBlob; ranges; etag 4; made 5; ";
+fn length(op: Op) -> u64 {
+    match op {
+        Op::GetBlob | Op::BlobProperties => 5,
+        _ => 0,
+    }
+}
 
-fn steps() -> [Step; 10] {
-    let (ok, created, accepted) = (Status::Success, Status::Created, Status::Accepted);
-    [
-        planned(
-            1,
-            Op::CreateContainer,
-            "one",
-            created,
-            "etag 1; made 1; ",
-            0,
-            "",
-        ),
-        planned(
-            2,
-            Op::SetContainerMetadata,
-            "two",
-            ok,
-            "etag 2; made 2; ",
-            0,
-            "",
-        ),
-        planned(
-            3,
-            Op::PutBlob,
-            "hello",
-            created,
-            "sum of hello; etag 3; made 3; ",
-            0,
-            "",
-        ),
-        planned(4, Op::GetBlob, "", ok, READ, 5, "hello"),
-        planned(5, Op::SetMetadata, "new", ok, "etag 4; made 5; ", 0, ""),
-        planned(6, Op::BlobProperties, "", ok, SET, 5, ""),
-        planned(
-            7,
-            Op::GetMetadata,
-            "",
-            ok,
-            "_a new; a1 new; a_ ; ab new; etag 4; made 5; ",
-            0,
-            "",
-        ),
-        planned(
-            8,
-            Op::ContainerProperties,
-            "",
-            ok,
-            "_a two; a1 two; a_ ; ab two; etag 2; made 2; ",
-            0,
-            "",
-        ),
-        planned(9, Op::DeleteBlob, "", accepted, "", 0, ""),
-        planned(10, Op::DeleteContainer, "", accepted, "", 0, ""),
-    ]
+fn content(op: Op) -> &'static str {
+    if op == Op::GetBlob { "hello" } else { "" }
+}
+
+fn lines(op: Op) -> &'static [Line] {
+    match op {
+        Op::CreateContainer => &[Line::Etag(1), Line::Made(1)],
+        Op::SetContainerMetadata => &[Line::Etag(2), Line::Made(2)],
+        Op::PutBlob => &[Line::SumOfHello, Line::Etag(3), Line::Made(3)],
+        Op::GetBlob => &[
+            Line::OctetStream,
+            Line::SumOfHello,
+            Line::Named("_a", "hello"),
+            Line::Named("a1", "hello"),
+            Line::Named("a_", ""),
+            Line::Named("ab", "hello"),
+            Line::BlockBlob,
+            Line::Ranges,
+            Line::Etag(3),
+            Line::Made(3),
+        ],
+        Op::SetMetadata => &[Line::Etag(4), Line::Made(5)],
+        Op::BlobProperties => &[
+            Line::OctetStream,
+            Line::SumOfHello,
+            Line::Named("_a", "new"),
+            Line::Named("a1", "new"),
+            Line::Named("a_", ""),
+            Line::Named("ab", "new"),
+            Line::BlockBlob,
+            Line::Ranges,
+            Line::Etag(4),
+            Line::Made(5),
+        ],
+        Op::GetMetadata => &[
+            Line::Named("_a", "new"),
+            Line::Named("a1", "new"),
+            Line::Named("a_", ""),
+            Line::Named("ab", "new"),
+            Line::Etag(4),
+            Line::Made(5),
+        ],
+        Op::ContainerProperties => &[
+            Line::Named("_a", "two"),
+            Line::Named("a1", "two"),
+            Line::Named("a_", ""),
+            Line::Named("ab", "two"),
+            Line::Etag(2),
+            Line::Made(2),
+        ],
+        _ => &[],
+    }
 }
 
 // The MD5 of `hello`.
@@ -111,37 +128,27 @@ const HELLO: [u8; 16] = [
     0x5d, 0x41, 0x40, 0x2a, 0xbc, 0x4b, 0x2a, 0x76, 0xb9, 0x71, 0x9d, 0x91, 0x10, 0x17, 0xc5, 0x92,
 ];
 
-// How many steps of 100 ns after noon the moment is.
-fn tick(rt: &impl Abort, moment: Moment) -> u64 {
-    moment.ticks().saturating_sub(moment_after(rt, 0).ticks())
-}
-
-fn line(rt: &impl Abort, alloc: Global, header: &Header) -> String {
-    let line = match header {
-        Header::ContentType(text) => format!(in alloc; "type {}; ", text.as_str()),
-        Header::ContentMd5(sum) if *sum == HELLO => String::from_str(alloc, "sum of hello; "),
-        Header::Meta(meta) => {
-            format!(in alloc; "{} {}; ", meta.name.as_str(), meta.value.as_str())
+fn says(rt: &impl Abort, header: &Header, line: Line) -> bool {
+    match (header, line) {
+        (Header::ContentType(text), Line::OctetStream) => {
+            text.as_str() == "application/octet-stream"
         }
-        Header::BlobType => String::from_str(alloc, "BlockBlob; "),
-        Header::AcceptRanges => String::from_str(alloc, "ranges; "),
-        Header::Etag(count) => format!(in alloc; "etag {count}; "),
-        Header::LastModified(moment) => {
-            let tick = tick(rt, *moment);
-            format!(in alloc; "made {tick}; ")
+        (Header::ContentMd5(sum), Line::SumOfHello) => *sum == HELLO,
+        (Header::Meta(meta), Line::Named(name, value)) => {
+            meta.name.as_str() == name && meta.value.as_str() == value
         }
-        _ => String::from_str(alloc, "another header; "),
-    };
-    line.expect(rt, "memory")
-}
-
-fn headers(rt: &impl Abort, alloc: Global, answer: &Answer) -> String {
-    let mut text = String::new(alloc);
-    for header in answer.frame.headers.as_slice() {
-        let line = line(rt, alloc, header);
-        text.push_str(line.as_str()).expect(rt, "memory");
+        (Header::BlobType, Line::BlockBlob) | (Header::AcceptRanges, Line::Ranges) => true,
+        (Header::Etag(given), Line::Etag(count)) => *given == count,
+        (Header::LastModified(made), Line::Made(tick)) => *made == moment_after(rt, tick),
+        _ => false,
     }
-    text
+}
+
+fn compare(rt: &impl Abort, headers: &[Header], lines: &[Line]) {
+    assert!(rt; headers.len() == lines.len());
+    for (header, line) in headers.iter().zip(lines) {
+        assert!(rt; says(rt, header, *line), "{line:?}");
+    }
 }
 
 // Whether the spans are one whole piece of these bytes, or no span if there are no bytes.
@@ -155,24 +162,6 @@ fn sends(answer: &Answer, content: &str) -> bool {
         }
         _ => false,
     }
-}
-
-fn is_served(op: Op) -> bool
-    ensures { result ≡ replies.is_served op }
-{
-    matches!(
-        op,
-        Op::CreateContainer
-            | Op::ContainerProperties
-            | Op::SetContainerMetadata
-            | Op::DeleteContainer
-            | Op::PutBlob
-            | Op::GetBlob
-            | Op::BlobProperties
-            | Op::GetMetadata
-            | Op::SetMetadata
-            | Op::DeleteBlob
-    )
 }
 
 fn answer(
@@ -203,27 +192,31 @@ fn change(rt: &impl Abort, alloc: Global, rows: &mut Rows, request: &Request, mo
     make(rt, alloc, rows, change.expect(rt, "memory"));
 }
 
-fn asked(rt: &impl Abort, alloc: Global, step: &Step) -> Request {
-    let bytes = step.word.as_bytes().to_vec(alloc).expect(rt, "memory");
-    let metadata = four_names(rt, alloc, step.op, step.word);
-    request_with(rt, alloc, step.op, metadata, body(rt, alloc, bytes))
+fn asked(rt: &impl Abort, alloc: Global, op: Op) -> Request {
+    let word = word(op);
+    let bytes = word.as_bytes().to_vec(alloc).expect(rt, "memory");
+    let metadata = four_names(rt, alloc, op, word);
+    request_with(rt, alloc, op, metadata, body(rt, alloc, bytes))
+}
+
+fn judge(rt: &impl Abort, op: Op, answer: &Answer) {
+    let frame = &answer.frame;
+    compare(rt, frame.headers.as_slice(), lines(op));
+    assert!(rt; frame.status == status(op), "{op:?}");
+    assert!(rt; frame.length == length(op), "{op:?}");
+    assert!(rt; frame.body.is_empty(), "{op:?}");
+    assert!(rt; sends(answer, content(op)), "{op:?}");
 }
 
 #[test]
 fn each_operation_is_answered_and_done(rt: HostRuntime) {
     let alloc = rt.alloc();
     let mut rows = Rows::new(alloc);
-    for step in steps() {
-        let tick = step.tick;
+    for (tick, op) in turns() {
         let moment = moment_after(&rt, tick);
-        let request = asked(&rt, alloc, &step);
+        let request = asked(&rt, alloc, op);
         let answer = answer(&rt, alloc, &rows, &request, moment);
-        let lines = headers(&rt, alloc, &answer);
-        assert!(rt; lines.as_str() == step.headers, "{tick} {lines}");
-        assert!(rt; answer.frame.status == step.status, "{tick}");
-        assert!(rt; answer.frame.length == step.length, "{tick}");
-        assert!(rt; answer.frame.body.is_empty(), "{tick}");
-        assert!(rt; sends(&answer, step.content), "{tick}");
+        judge(&rt, op, &answer);
         drop(answer);
         change(&rt, alloc, &mut rows, &request, moment);
     }

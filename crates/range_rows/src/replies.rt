@@ -2,22 +2,20 @@
 ghost use Rattle.std.specs.Prelude.{◌≡◌, ◌+◌, ◌^◌, ◌<◌, ◌≤◌, [], ◌++◌, IfOk, IsTrue, None, OnOk, Some, false, length, map};
 ghost use Rattle.std.specs.List.{flat_map, list_all};
 ghost use Rattle.stamp_values.specs.Limits.{blob_limit};
-ghost use Rattle.std.specs.Option.{option_copied, option_to_list};
+ghost use Rattle.std.specs.Option.{option_to_list};
 ghost use Rattle.stamp_values.specs.Operations.{writes};
 ghost use Rattle.stamp_types.specs.declared.header.Header.TheVariants as header;
 ghost use Rattle.stamp_types.specs.Changes.{are_blocks, blocks_len};
 ghost use Rattle.stamp_types.specs.Pieces.{pieces_len};
 ghost use Rattle.stamp_types.specs.Requests.{IsRequest};
-ghost use Rattle.stamp_types.specs.World.{committed_value, part_value};
+ghost use Rattle.stamp_types.specs.World.{committed_value};
 ghost use Rattle.stamp_types.specs.declared.status.Status.TheVariants as status;
-ghost use Rattle.range_rows.specs.BlobRows.{sizes_held};
+ghost use Rattle.range_rows.specs.FoundParts.{pieces_found_after, sizes_found, sizes_found_after};
 ghost use Rattle.range_rows.specs.ObjectReplies as replies;
 ghost use Rattle.range_rows.specs.ObjectRules.{object_refusal};
-ghost use Rattle.range_rows.specs.RequestChanges.{change_of, part_after};
 
 use crate::answer::{Answer, Span};
-use crate::container::Container;
-use crate::object_rules::{count, named_blob};
+use crate::found::Found;
 use crate::reading::Reading;
 use crate::rows::Rows;
 use stamp_types::{
@@ -278,43 +276,36 @@ fn get_answer(alloc: Global, blob: &Committed<Pieces>) -> Result<Answer, AllocEr
 #[tactic(auto, using(crate::proofs::Allowed::room_for_write, crate::proofs::FrameLemmas::frame_of_write))]
 fn write_answer(
     alloc: Global,
-    held: Option<&Container>,
+    found: &Found<'_>,
     request: &Request,
     moment: Moment,
 ) -> Result<Answer, AllocError>
     requires served { IsTrue (replies.is_served request.now.ask.op) }
     requires writes { IsTrue (writes request.now.ask.op) }
-    requires allowed { object_refusal (sizes_held (option_copied held)) request.now ≡ None }
+    requires allowed { object_refusal (sizes_found found.now) request.now ≡ None }
     ensures frame { IfOk result (λ answer. answer.frame
-        ≡ replies.frame
-        (part_after pieces_len
-        (change_of (sizes_held (option_copied held.entry)) request.now moment)
-        (sizes_held (option_copied held.entry))) request.now) }
+        ≡ replies.frame (sizes_found_after found.now request.now moment) request.now) }
     ensures spans { IfOk result (λ answer. answer.spans ≡ []) }
 {
-    let frame = write_frame(alloc, request, count(held) + 1, moment)?;
+    let frame = write_frame(alloc, request, found.count() + 1, moment)?;
     Ok(without_content(alloc, frame))
 }
 
 // The answer to an allowed request that reads. The request walks to its blob once.
 #[tactic(auto, using(crate::proofs::Allowed::allowed_blob, crate::proofs::Allowed::allowed_container, crate::proofs::FrameLemmas::frame_of_container_properties, crate::proofs::FrameLemmas::frame_of_get_blob, crate::proofs::FrameLemmas::frame_of_blob_properties, crate::proofs::FrameLemmas::frame_of_get_metadata, crate::proofs::FrameLemmas::spans_of_get, crate::proofs::FrameLemmas::spans_of_others))]
-fn read_answer(
-    alloc: Global,
-    container: &Container,
-    request: &Request,
-) -> Result<Answer, AllocError>
+fn read_answer(alloc: Global, found: &Found<'_>, request: &Request) -> Result<Answer, AllocError>
     requires served { IsTrue (replies.is_served request.now.ask.op) }
     requires reads { writes request.now.ask.op ≡ false }
-    requires allowed { object_refusal (part_value pieces_len container.now) request.now ≡ None }
+    requires allowed { object_refusal (sizes_found found.now) request.now ≡ None }
     ensures frame { IfOk result (λ answer.
-        answer.frame ≡ replies.frame (part_value pieces_len container.now) request.now) }
+        answer.frame ≡ replies.frame (sizes_found found.now) request.now) }
     ensures within { IfOk result (λ answer. IsTrue (list_all replies.is_within answer.spans)) }
     ensures short { IfOk result (λ answer. replies.spans_len answer.spans ≤ blob_limit) }
     ensures spans { IfOk result (λ answer.
-        answer.spans ≡ replies.spans container.now request.now) }
+        answer.spans ≡ replies.spans found.now request.now) }
 {
     let ask = request.ask();
-    match (ask.op, container.standing(), named_blob(container, ask)) {
+    match (ask.op, found.standing(), found.named_blob(ask)) {
         (Op::ContainerProperties, Some(standing), _) => {
             let frame = metadata_reply(alloc, &standing.metadata, standing.etag, standing.made)?;
             Ok(without_content(alloc, frame))
@@ -335,6 +326,42 @@ fn read_answer(
     }
 }
 
+impl<'a> Found<'a> {
+    ghost use Rattle.range_rows.specs.ObjectReplies.{is_served};
+    ghost use Rattle.range_rows.specs.RequestChanges.{reading_of};
+
+    /// The answer to a request that was allowed at the moment, from the container that it names,
+    /// which was found. `Rows::reply` says what the answer has.
+    ///
+    /// `AllocError` if memory runs out for the headers or the list of spans, or if the content can
+    /// have no further owner.
+    #[tactic(auto, using(crate::proofs::FrameLemmas::spans_of_write, crate::proofs::FrameLemmas::sizes_after_read, crate::proofs::FrameLemmas::pieces_after_read))]
+    pub fn reply(
+        &self,
+        alloc: Global,
+        request: &Request,
+        _reading: &Reading,
+        moment: Moment,
+    ) -> Result<Answer, AllocError>
+        requires served { IsTrue (is_served request.now.ask.op) }
+        requires allowed { object_refusal (sizes_found self.now) request.now ≡ None }
+        requires read { _reading.now ≡ reading_of request.now }
+        ensures frame { IfOk result (λ answer.
+            answer.frame ≡ replies.frame (sizes_found_after self.now request.now moment) request.now) }
+        ensures within { IfOk result (λ answer. IsTrue (list_all replies.is_within answer.spans)) }
+        ensures short { IfOk result (λ answer. replies.spans_len answer.spans ≤ blob_limit) }
+        ensures spans { IfOk result (λ answer.
+            answer.spans ≡ replies.spans (pieces_found_after self.now request.now moment) request.now) }
+    {
+        if request.ask().op.writes() {
+            let answer = write_answer(alloc, self, request, moment)?;
+            return Ok(answer);
+        }
+        let answer = read_answer(alloc, self, request)?;
+        Ok(answer)
+    }
+}
+
 impl Rows {
     ghost use Rattle.range_rows.specs.ObjectReplies.{is_served};
     ghost use Rattle.range_rows.specs.ObjectRules.{sizes_named};
@@ -350,17 +377,16 @@ impl Rows {
     ///
     /// `AllocError` if memory runs out for the headers or the list of spans, or if the content can
     /// have no further owner.
-    #[tactic(auto, using(crate::proofs::Allowed::found_for_read, crate::proofs::FrameLemmas::spans_of_write, crate::proofs::FrameLemmas::sizes_after_read, crate::proofs::FrameLemmas::pieces_after_read))]
     pub fn reply(
         &self,
         alloc: Global,
         request: &Request,
-        _reading: &Reading,
+        reading: &Reading,
         moment: Moment,
     ) -> Result<Answer, AllocError>
         requires served { IsTrue (is_served request.now.ask.op) }
         requires allowed { object_refusal (sizes_named self.now request.now) request.now ≡ None }
-        requires read { _reading.now ≡ reading_of request.now }
+        requires read { reading.now ≡ reading_of request.now }
         ensures frame { IfOk result (λ answer.
             answer.frame ≡ replies.frame (sizes_after self.now request.now moment) request.now) }
         ensures within { IfOk result (λ answer. IsTrue (list_all replies.is_within answer.spans)) }
@@ -368,18 +394,7 @@ impl Rows {
         ensures spans { IfOk result (λ answer.
             answer.spans ≡ replies.spans (pieces_after self.now request.now moment) request.now) }
     {
-        let ask = request.ask();
-        let held = self.held(&ask.key);
-        if ask.op.writes() {
-            let answer = write_answer(alloc, held, request, moment)?;
-            return Ok(answer);
-        }
-        match held {
-            Some(container) => {
-                let answer = read_answer(alloc, container, request)?;
-                Ok(answer)
-            }
-            None => unreachable!(),
-        }
+        let found = self.find(&request.ask().key);
+        found.reply(alloc, request, reading, moment)
     }
 }

@@ -3,6 +3,7 @@ ghost use Rattle.std.specs.Prelude.{◌≡◌, IsOk, IsTrue, IfOk, None, OnOk, O
 ghost use Rattle.std.specs.Option.{option_copied};
 
 use crate::container::Container;
+use crate::found::Found;
 use stamp_types::{Acl, Act, Change, Committed, Key, Pieces, Standing, Text};
 use std::alloc::{AllocError, Global};
 use std::collections::BTreeMap;
@@ -57,9 +58,9 @@ impl Rows {
         }
     }
 
-    /// The container of the key, if it exists or was deleted.
+    // The container of the key, if it exists or was deleted.
     #[tactic(auto, using(crate::proofs::Parts::found_part))]
-    pub(crate) fn held(&self, key: &Key) -> Option<&Container>
+    fn held(&self, key: &Key) -> Option<&Container>
         ensures { option_copied result ≡ finite.get self.now key.now }
     {
         self.containers.get(key)
@@ -83,41 +84,44 @@ impl Rows {
         Ok(())
     }
 
+    /// What the rows have of the container of the key: its count, what it has beside its blobs, and
+    /// its blobs. Whoever asks more than one thing about a container finds it once.
+    pub fn find(&self, key: &Key) -> Found<'_>
+        ensures { result ≡ part_at self.now key.now }
+    {
+        Found {
+            container: self.held(key),
+        }
+    }
+
     /// How many changes the container of the key has seen: 0 if the container never was.
     pub fn count(&self, key: &Key) -> u64
         ensures { result ≡ (part_at self.now key.now).count }
     {
-        match self.held(key) {
-            Some(container) => container.count(),
-            None => 0,
-        }
+        self.find(key).count()
     }
 
     /// What the container of the key has beside its blobs, if the container exists.
     pub fn container(&self, key: &Key) -> Option<&Standing>
         ensures { option_copied result ≡ (part_at self.now key.now).standing }
     {
-        let container = self.held(key)?;
-        container.standing()
+        self.find(key).standing()
     }
 
     /// The level and the policies of the container of the key, if the container exists.
     pub fn acl(&self, key: &Key) -> Option<&Acl>
         ensures { option_copied result ≡ acl_of (part_at self.now key.now) }
     {
-        let standing = self.container(key)?;
-        Some(&standing.acl)
+        self.find(key).acl()
     }
 
     /// What readers of a blob see, if the blob has a committed part.
-    #[tactic(auto, using(crate::proofs::Parts::blob_of_no_part))]
     pub fn blob(&self, key: &Key, name: &Text) -> Option<&Committed<Pieces>>
         ensures value { option_copied result
             ≡ (blob_in (part_at self.now key.now) name.now).committed }
         ensures blocks { IsTrue (is_committed (option_copied result)) }
     {
-        let container = self.held(key)?;
-        container.committed(name)
+        self.find(key).committed(name)
     }
 
     // The first change of a container that never was.
