@@ -8,6 +8,15 @@ use std::alloc::Global;
 /// How many reads are allowed if the case does not say it.
 const READS: u64 = 4_294_967_296;
 
+/// When the container of a case is made.
+#[derive(Clone, Copy, Debug, PartialEq, Eq)]
+pub(crate) enum Made {
+    /// At the first moment of the case.
+    First,
+    /// At this moment.
+    At(Moment),
+}
+
 /// One case of a file.
 #[derive(Drop)]
 pub(crate) struct Case {
@@ -16,8 +25,8 @@ pub(crate) struct Case {
     pub(crate) line: usize,
     /// The account and its keys.
     pub(crate) keys: Keys,
-    /// The moment at which the service is made, if it is not the first of the moments.
-    pub(crate) made: Option<Moment>,
+    /// When the container `pics` is made, if it is made before the case begins.
+    pub(crate) made: Option<Made>,
     /// The moments of the clock, in order.
     pub(crate) moments: Vec<Moment>,
     pub(crate) sent: Vec<u8>,
@@ -36,7 +45,7 @@ impl Case {
         name: String,
         line: usize,
         keys: Keys,
-        made: Option<Moment>,
+        made: Option<Made>,
     ) -> Self {
         Self {
             name,
@@ -52,8 +61,11 @@ impl Case {
         }
     }
 
-    /// The moment at which the service is made.
-    pub(crate) fn made_at(&self) -> Option<Moment> {
-        self.made.or(self.moments.first().copied())
+    /// The moment at which the container is made, if it is made. `first` is the first moment of the case.
+    pub(crate) fn made_at(&self, first: Moment) -> Option<Moment> {
+        match self.made? {
+            Made::First => Some(first),
+            Made::At(moment) => Some(moment),
+        }
     }
 }

@@ -1,15 +1,15 @@
 //! Reads a file of cases line by line.
 
-use crate::case::Case;
+use crate::case::{Case, Made};
 use crate::line_fault::LineFault;
 use crate::lines::{
-    Form, Word, read_account, read_count, read_end, read_keys, read_moment, read_name, read_number,
-    read_word,
+    Form, Word, read_account, read_count, read_end, read_keys, read_made, read_moment, read_name,
+    read_number, read_word,
 };
 use crate::texts::{add_text, add_times};
 use access_rules::Keys;
 use hmac_sign::SigningKey;
-use stamp_types::{Moment, Text};
+use stamp_types::Text;
 use std::alloc::Global;
 
 /// A text that lines add by the name of the text.
@@ -24,7 +24,7 @@ struct NamedText {
 struct Setting {
     account: Option<Text>,
     keys: Option<(SigningKey, SigningKey)>,
-    made: Option<Moment>,
+    made: Option<Made>,
 }
 
 impl Setting {
@@ -107,7 +107,7 @@ impl CasesFile {
         match word {
             Word::Account => self.setting.account = Some(read_account(self.alloc, text)?),
             Word::Keys => self.setting.keys = Some(read_keys(self.alloc, text)?),
-            Word::Made => self.setting.made = Some(read_moment(text)?),
+            Word::Made => self.setting.made = Some(read_made(text)?),
             Word::Text => self.begin_text(text)?,
             Word::Is => {
                 let begun = self.texts.last_mut().ok_or(LineFault::NoText)?;

@@ -2,11 +2,11 @@
 
 use crate::case::Case;
 use crate::cases_file::CasesFile;
+use crate::creation::ServiceFault;
 use crate::line_fault::LineFault;
 use crate::report::write_difference;
 use crate::running::find_difference;
 use crate::tally::Tally;
-use http_front::PlainFault;
 use std::alloc::Global;
 use std::io::Write;
 use thiserror::Error;
@@ -17,9 +17,9 @@ pub(crate) enum Why {
     /// The line is refused.
     #[error("{0}")]
     Line(LineFault),
-    /// The service could not be made.
+    /// The service, or the container of the case, could not be made.
     #[error("{0}")]
-    Service(PlainFault),
+    Service(ServiceFault),
     /// The line for a case that differs could not be written.
     #[error("a write failed")]
     Write,
@@ -38,8 +38,9 @@ pub(crate) struct Fault {
 
 // Runs a case, writes a line if it differs, and says whether it holds.
 fn run_case<W: Write>(alloc: Global, writer: &mut W, file: &str, case: &Case) -> Result<bool, Why> {
-    let moment = case.made_at().ok_or(Why::Line(LineFault::NoMoment))?;
-    match find_difference(alloc, case, moment).map_err(Why::Service)? {
+    let first = case.moments.first();
+    let first = *first.ok_or(Why::Line(LineFault::NoMoment))?;
+    match find_difference(alloc, case, first).map_err(Why::Service)? {
         Some(difference) => {
             write_difference(writer, file, case, &difference).map_err(|_| Why::Write)?;
             Ok(false)

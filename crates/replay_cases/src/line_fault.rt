@@ -50,7 +50,7 @@ pub(crate) enum LineFault {
     /// The lines before the case did not give both an account and keys.
     #[error("no account or no keys were said")]
     NoKeys,
-    /// No line gave a moment for the case, neither `moment` nor `made`.
+    /// No line of the case gave a moment.
     #[error("the case has no moment")]
     NoMoment,
     /// Out of memory.

@@ -1,5 +1,6 @@
 //! The words of lines, and the values that their texts give.
 
+use crate::case::Made;
 use crate::line_fault::LineFault;
 use hmac_sign::{SecretFault, SigningKey, read_key};
 use http_front::{End, FrontFault};
@@ -68,6 +69,14 @@ pub(crate) fn read_count(text: &str) -> Result<usize, LineFault> {
 /// The moment that the text writes in one of the accepted shapes.
 pub(crate) fn read_moment(text: &str) -> Result<Moment, LineFault> {
     read_iso(text.as_bytes()).map_err(|_| LineFault::Moment)
+}
+
+/// When the container is made: at the first moment of each case, or at the moment that the text writes.
+pub(crate) fn read_made(text: &str) -> Result<Made, LineFault> {
+    if text == "first" {
+        return Ok(Made::First);
+    }
+    Ok(Made::At(read_moment(text)?))
 }
 
 /// The account that has this name.

@@ -10,6 +10,8 @@ use tally::Tally;
 
 mod case;
 mod cases_file;
+mod clock;
+mod creation;
 mod file_run;
 mod line_fault;
 mod lines;

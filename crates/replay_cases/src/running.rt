@@ -2,7 +2,9 @@
 ghost use Rattle.std.specs.Prelude.{◌≡◌, ◌↔◌, IsTrue};
 
 use crate::case::Case;
-use http_front::{Clock, End, FrontFault, Plain, PlainFault, run};
+use crate::clock::Moments;
+use crate::creation::{ServiceFault, make_service};
+use http_front::{End, FrontFault, run};
 use stamp_types::Moment;
 use std::alloc::Global;
 use std::io;
@@ -30,25 +32,6 @@ impl Read for Pieces<'_> {
     }
 }
 
-/// Gives its moments in order, and the last moment from then on.
-#[derive(Drop)]
-struct Moments<'a> {
-    left: &'a [Moment],
-    last: Moment,
-}
-
-impl Clock for Moments<'_> {
-    ghost gives = { λ _ moment new. moment ≡ new.last };
-
-    fn now(&mut self) -> Moment {
-        if let Some((first, left)) = self.left.split_first() {
-            self.last = *first;
-            self.left = left;
-        }
-        self.last
-    }
-}
-
 /// What a run wrote, and how it ended.
 #[derive(Drop)]
 pub(crate) struct Outcome {
@@ -63,19 +46,14 @@ pub(crate) struct Difference {
     pub(crate) outcome: Outcome,
 }
 
-// The service that a case runs against.
-fn make_service(alloc: Global, case: &Case, moment: Moment) -> Result<Plain, PlainFault> {
-    Plain::new(alloc, case.keys.clone()?, moment)
-}
-
 // Runs the case with reads of at most this many bytes.
 fn run_once(
     alloc: Global,
     case: &Case,
-    moment: Moment,
+    first: Moment,
     piece: usize,
-) -> Result<Outcome, PlainFault> {
-    let mut service = make_service(alloc, case, moment)?;
+) -> Result<Outcome, ServiceFault> {
+    let mut service = make_service(alloc, case, first)?;
     let mut written = Vec::with_capacity(alloc, case.wanted.len())?;
     let mut reader = Pieces {
         rest: &case.sent,
@@ -83,7 +61,7 @@ fn run_once(
     };
     let mut clock = Moments {
         left: &case.moments,
-        last: moment,
+        last: first,
     };
     let ended = run(
         alloc,
@@ -108,10 +86,10 @@ pub(crate) fn holds(case: &Case, outcome: &Outcome) -> bool
 fn difference_in(
     alloc: Global,
     case: &Case,
-    moment: Moment,
+    first: Moment,
     piece: usize,
-) -> Result<Option<Difference>, PlainFault> {
-    let outcome = run_once(alloc, case, moment, piece)?;
+) -> Result<Option<Difference>, ServiceFault> {
+    let outcome = run_once(alloc, case, first, piece)?;
     if holds(case, &outcome) {
         return Ok(None);
     }
@@ -122,15 +100,15 @@ fn difference_in(
 pub(crate) fn find_difference(
     alloc: Global,
     case: &Case,
-    moment: Moment,
-) -> Result<Option<Difference>, PlainFault> {
+    first: Moment,
+) -> Result<Option<Difference>, ServiceFault> {
     let large = case.piece.unwrap_or(LARGE_PIECE);
-    let difference = difference_in(alloc, case, moment, large)?;
+    let difference = difference_in(alloc, case, first, large)?;
     if difference.is_some() || case.piece.is_some() || case.sent.len() > SMALL_INPUT {
         return Ok(difference);
     }
     for piece in SMALL_PIECES {
-        let difference = difference_in(alloc, case, moment, piece)?;
+        let difference = difference_in(alloc, case, first, piece)?;
         if difference.is_some() {
             return Ok(difference);
         }
