@@ -4,6 +4,7 @@ pub mod HeadLaws
 pub mod HeadLemmas
 pub mod MetadataLemmas
 pub mod NumberLemmas
+pub mod OrderLemmas
 pub mod TargetLemmas
 pub mod TextLemmas
 pub mod TwiceLemmas

@@ -123,6 +123,11 @@ pub blob_named : (op : Op) (path blob : List ℕ) → names_blob op ≡ true →
 unfolding blob_name_of
 blob_named op path blob names named = rw (names, named) (refl, ap (λ (t : List ℕ). Some t) (name_is (percent_decode (blob_of path)) blob named))
 
+-- a path has no bad name of a blob if the operation does not name a blob
+pub blob_not_asked : (op : Op) (path : List ℕ) → names_blob op ≡ false
+    → ((names_blob op && not (is_ok (name_of (blob_of path)))) ≡ false) × (None ≡ blob_by op path)
+blob_not_asked op path none = rw none (refl, refl)
+
 -- two good names are visible
 pub key_visible : (account container : List ℕ) → is_account account ≡ true → is_container container ≡ true → (is_visible account && is_visible container) ≡ true
 key_visible account container a c = and_from _ _ (account_visible account a) (container_visible container c)

@@ -2,6 +2,7 @@
 -- Blob Resources).
 use Rattle.std.specs.Prelude.{ℕ, Bool, not, ◌||◌, if◌then◌else◌, List, [], drop, filter, fold, insert, map}
 use Rattle.std.specs.List.{list_all, position_or_len}
+use Rattle.std.specs.List.Sorted.{IsPermutation, IsSortedBy, IsStableBy}
 use Rattle.std.specs.Ordering.{nat_cmp, is_lt}
 use Rattle.std.specs.Cmp.Lexicographic.{slice_cmp}
 use Rattle.stamp_values.specs.MetadataLists.{is_metadata}
@@ -31,6 +32,16 @@ placed fields f = insert fields (position_or_len (is_before f.name) fields) f
 -- the fields by the bytes of their names
 abbrev pub by_name : List Field → List Field
 by_name fields = fold placed [] fields
+
+-- the name of the first field comes before the name of the second, by their bytes
+abbrev pub has_lesser_name : Field → Field → Bool
+has_lesser_name f g = is_before f.name g
+
+-- all fields that were sent, each once, in rising order of their names; fields of one name are in the order sent
+pub record AreByName (sent fields : List Field) : Type 0 where
+  pub all_kept : IsPermutation sent fields
+  pub rising : IsSortedBy has_lesser_name fields
+  pub as_sent : IsStableBy has_lesser_name sent fields
 
 -- the field as a name of metadata and its value
 abbrev pub meta_of : Field → Meta

@@ -1,16 +1,19 @@
 -- What the readers of a head answer: each reads what its rules guard.
-use Rattle.std.specs.Prelude.{◌≡◌, ℕ, ◌≤◌, Bool, true, false, List, [], ◌∷◌, Some, None}
-use Rattle.stamp_values.specs.Operations.{body_limit}
+use Rattle.std.specs.Prelude.{◌≡◌, ℕ, ◌≤◌, Bool, true, false, List, [], ◌∷◌, Some, None, Ok, is_ok}
+use Rattle.name_rules.specs.BlobNames.{name_of}
+use Rattle.stamp_values.specs.Operations.{body_limit, names_blob}
 use Rattle.stamp_values.specs.declared.op.Op.{Op}
 use Rattle.stamp_types.specs.declared.code.Code.{Code}
 use Rattle.stamp_types.specs.declared.rule.Rule.{Rule}
 use Rattle.stamp_types.specs.declared.rule.Rule.TheVariants.{F1, F2, F3, F4, F5, F6, F7, F8}
-use Rattle.request_form.specs.Targets.{target_of}
+use Rattle.request_form.specs.Targets.{blob_of, target_of}
 use Rattle.request_form.specs.HeadRules.{verb_of, op_of, has_bad_name, body_len_of, denial_among}
 use Rattle.request_form.specs.HeadForms.{args_of, key_of, blob_by}
 use Rattle.request_form.specs.declared.denial.HeadFault.{HeadFault}
 use Rattle.request_form.specs.declared.denial.HeadFault.TheVariants as fault
 use Rattle.request_form.specs.declared.header_lines.Fields.{Fields}
+use Rattle.request_form.specs.declared.names.BlobName.{BlobName}
+use Rattle.request_form.specs.declared.names.BlobName.TheVariants as blob_name
 use Rattle.request_form.specs.declared.names.Names.{Names}
 use Rattle.request_form.specs.HeadParts.{HeadParts}
 use Rattle.request_form.specs.declared.request_line.Line.{Line}
@@ -38,6 +41,12 @@ Denies p rules fault.NoMemory = Unit {0}
 abbrev pub RefusesValue : Bool → Code → ValueFault → Type 0
 RefusesValue holds code (value_fault.Refused c) = (holds ≡ true) × (c ≡ code)
 RefusesValue holds code value_fault.NoMemory = Unit {0}
+
+-- what a path has of the name of a blob, by whether the operation names a blob
+abbrev pub IsBlobName : Op → List ℕ → BlobName → Type 0
+IsBlobName op path blob_name.NotAsked = names_blob op ≡ false
+IsBlobName op path (blob_name.Good name) = (names_blob op ≡ true) × (name_of (blob_of path) ≡ Ok name)
+IsBlobName op path blob_name.Bad = (names_blob op ≡ true) × (is_ok (name_of (blob_of path)) ≡ false)
 
 -- the names of a path that the operation needs, which are good
 pub record AreNames (op : Op) (path : List ℕ) (n : Names) : Type 0 where

@@ -26,5 +26,8 @@ mod verb;
 
 pub use denial::{Denial, HeadFault, no_head};
 pub use head::{Head, read_head};
-pub use head_laws::{a_head_is_read_in_one_way, each_head_is_accepted_or_refused};
+pub use head_laws::{
+    a_head_is_read_in_one_way, each_head_is_accepted_or_refused,
+    metadata_are_in_the_order_of_their_names,
+};
 pub use head_parts::HEAD_LIMIT;

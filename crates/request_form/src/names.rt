@@ -1,13 +1,11 @@
 //! Rule F5: the good names of a path.
-ghost use Rattle.std.specs.Prelude.{◌≡◌, ◌&&◌, IfOk, MatchOption, false, is_ok, not, true};
+ghost use Rattle.std.specs.Prelude.{◌≡◌, ◌&&◌, IfOk, MatchOption, false, true};
 ghost use Rattle.stamp_values.specs.Names.{is_account, is_container};
 ghost use Rattle.stamp_values.specs.Texts.{is_visible};
-ghost use Rattle.stamp_values.specs.Operations.{names_blob};
-ghost use Rattle.name_rules.specs.BlobNames.{name_of};
-ghost use Rattle.request_form.specs.HeadForms.{blob_by, key_of};
-ghost use Rattle.request_form.specs.HeadReads.{AreNames};
+ghost use Rattle.request_form.specs.HeadForms.{key_of};
+ghost use Rattle.request_form.specs.HeadReads.{AreNames, IsBlobName};
 ghost use Rattle.request_form.specs.HeadRules.{has_bad_name};
-ghost use Rattle.request_form.specs.Targets.{account_of, blob_of, container_of};
+ghost use Rattle.request_form.specs.Targets.{account_of, container_of};
 
 use crate::target;
 use crate::texts::visible;
@@ -20,6 +18,17 @@ use std::alloc::{AllocError, Global};
 pub struct Names {
     pub key: Key,
     pub blob: Option<Text>,
+}
+
+/// What a path has of the name of a blob.
+#[derive(Debug, Drop)]
+pub enum BlobName {
+    /// The operation does not name a blob.
+    NotAsked,
+    /// The name, decoded.
+    Good(Text),
+    /// The name is not good.
+    Bad,
 }
 
 // The key of two names, if both are visible.
@@ -58,20 +67,17 @@ fn good_key(alloc: Global, path: &[u8]) -> Result<Option<Key>, AllocError>
     }
 }
 
-// The name of the blob, decoded, if the operation names a blob. The outer `None` says that the name is not good.
-fn good_blob(alloc: Global, op: Op, path: &[u8]) -> Result<Option<Option<Text>>, AllocError>
-    ensures { IfOk result (λ o. MatchOption o
-        ((names_blob op && not (is_ok (name_of (blob_of path.now)))) ≡ true)
-        (λ blob. ((names_blob op && not (is_ok (name_of (blob_of path.now)))) ≡ false)
-        × (blob ≡ blob_by op path.now))) }
+// The name of the blob, if the operation names a blob.
+fn blob_name(alloc: Global, op: Op, path: &[u8]) -> Result<BlobName, AllocError>
+    ensures { IfOk result (IsBlobName op path.now) }
 {
     if !op.names_blob() {
-        return Ok(Some(None));
+        return Ok(BlobName::NotAsked);
     }
     match blob_text(alloc, target::blob(path)) {
-        Ok(blob) => Ok(Some(Some(blob))),
+        Ok(name) => Ok(BlobName::Good(name)),
         Err(NameFault::NoMemory) => Err(AllocError),
-        Err(_) => Ok(None),
+        Err(_) => Ok(BlobName::Bad),
     }
 }
 
@@ -87,8 +93,10 @@ pub(crate) fn read_names(alloc: Global, op: Op, path: &[u8]) -> Result<Option<Na
     let Some(key) = good_key(alloc, path)? else {
         return Ok(None);
     };
-    let Some(blob) = good_blob(alloc, op, path)? else {
-        return Ok(None);
+    let blob = match blob_name(alloc, op, path)? {
+        BlobName::NotAsked => None,
+        BlobName::Good(name) => Some(name),
+        BlobName::Bad => return Ok(None),
     };
     Ok(Some(Names { key, blob }))
 }
