@@ -38,7 +38,6 @@ use Rattle.range_rows.specs.declared.answer.Span.{Span}
 use Rattle.range_rows.specs.ObjectReplies.{ReadsWhole, byte_count, frame, frame_by, blob_read, standing_read, is_served, reply_of, sizes, span_bytes, spans, spans_len, with_content}
 use Rattle.range_rows.specs.ObjectRules.{object_refusal}
 use Rattle.range_rows.specs.RequestChanges.{delete_blob, put_blob, set_metadata, act_by, change_of, part_after}
-use Rattle.range_rows.specs.Fits.{fits}
 use Rattle.range_rows.proofs.SpanLemmas.{length-read, reply_of-read}
 use Rattle.stamp_model.specs.Effects.{unless_refused, world_after, effect_as}
 use Rattle.range_rows.specs.Access.{acl_of}
