@@ -1,15 +1,13 @@
 -- What a service holds whose content is in memory, and what it answers.
-use Rattle.std.proofs.Common.{◌≡◌, ◌≤◌, ◌<◌, ℕ, ◌-◌, arith, Bool, true, false, cond, List, [], ◌∷◌, ◌++◌, length, length-append, take, drop, zero, suc, get_or, Option, Some, None, Result, Ok, Err, IfOk, OnOk, OnErr, refl, sym, ap, ◌∙◌, subst, unwrap_or}
-use Rattle.std.proofs.lemmas.List.{length-take}
-use Rattle.std.proofs.lemmas.List.Sums.{sum_by-cons, AllPass-from_list_all}
+use Rattle.std.proofs.Common.{◌≡◌, ℕ, ◌-◌, Bool, true, false, cond, List, [], ◌∷◌, length, drop, zero, suc, get_or, Option, Some, None, Result, Ok, Err, IfOk, OnOk, OnErr, refl, sym, ap, ◌∙◌, subst, unwrap_or}
+use Rattle.std.proofs.lemmas.List.Sums.{AllPass-from_list_all}
 use Rattle.std.specs.Prelude.{⊤}
 use Rattle.std.specs.declared.alloc.AllocError.{AllocError}
 use Rattle.std.specs.FinMap as finite
-use Rattle.std.specs.Option.{option_map, option_and_then, option_or}
+use Rattle.std.specs.Option.{option_map, option_and_then}
 use Rattle.std.specs.Ordering.{eq_by_cmp}
 use Rattle.stamp_values.specs.Order.{key_cmp, keys_total, keys_exact, names_total, names_exact}
 use Rattle.stamp_values.proofs.MapsLemmas.{map_values-empty, map_values-insert}
-use Rattle.stamp_values.specs.declared.acl.Acl.{Acl}
 use Rattle.stamp_values.specs.declared.key.Key.{Key}
 use Rattle.stamp_values.specs.declared.level.Level.TheVariants as level
 use Rattle.stamp_values.specs.Operations.{writes}
@@ -18,13 +16,10 @@ use Rattle.stamp_values.specs.declared.op.Op.TheVariants as op
 use Rattle.stamp_types.specs.declared.act.Act.{Act}
 use Rattle.stamp_types.specs.declared.act.Act.TheVariants as act
 use Rattle.stamp_types.specs.declared.args.Kept.{Kept}
-use Rattle.stamp_types.specs.declared.committed.Committed.{Committed}
 use Rattle.stamp_types.specs.declared.piece.Piece.{Piece}
 use Rattle.stamp_types.specs.declared.piece.Piece.TheVariants as piece
 use Rattle.stamp_types.specs.declared.refusal.Refusal.{Refusal}
 use Rattle.stamp_types.specs.declared.reply.Reply.{Reply}
-use Rattle.stamp_types.specs.declared.rule.Rule.{Rule}
-use Rattle.stamp_types.specs.declared.standing.Standing.{Standing}
 use Rattle.stamp_types.specs.Changes.{KeyedAct}
 use Rattle.stamp_types.specs.Contents.{EachActContent, EachContent}
 use Rattle.stamp_types.specs.Pieces.{cut_at_most, held, is_held, is_held_piece, piece_bytes, piece_len, pieces_len}
@@ -34,12 +29,8 @@ use Rattle.stamp_types.specs.World.{Part, World, blob_value, no_part, part_at, p
 use Rattle.stamp_types.proofs.WorldLemmas.{part_at-world_value}
 use Rattle.stamp_types.proofs.ContentReadings.{part_value-changed}
 use Rattle.stamp_types.proofs.EachContents.{EachContent-changed, EachContent-empty, EachContent-no_part, EachContent-then, EachWorldContent-changed_in}
-use Rattle.access_rules.specs.declared.judgement.Verdict.TheVariants.{Allow, Deny}
-use Rattle.access_rules.specs.declared.judgement.Way.{Way}
 use Rattle.access_rules.specs.declared.keys.Keys.{Keys}
-use Rattle.access_rules.specs.Rules.{first_rule, verdict_by, verdict_of, way_of}
-use Rattle.range_rows.specs.declared.answer.Span.{Span}
-use Rattle.range_rows.specs.ObjectReplies.{ReadsWhole, byte_count, frame, frame_by, blob_read, standing_read, is_served, reply_of, sizes, span_bytes, spans, spans_len, with_content}
+use Rattle.range_rows.specs.ObjectReplies.{ReadsWhole, byte_count, frame, is_served, reply_of, sizes, spans, with_content}
 use Rattle.range_rows.specs.ObjectRules.{object_refusal}
 use Rattle.range_rows.specs.Opening.{one_part, container_just_made}
 use Rattle.range_rows.specs.RequestChanges.{delete_blob, put_blob, set_metadata, act_by, change_of, part_after}
@@ -47,13 +38,13 @@ use Rattle.range_rows.specs.Fits.{fits}
 use Rattle.range_rows.proofs.ChangeLemmas.{changed_in-create, fits-create}
 use Rattle.range_rows.proofs.SpanLemmas.{length-read, reply_of-read}
 use Rattle.stamp_model.specs.Effects.{unless_refused, world_after, effect_as}
-use Rattle.range_rows.specs.Access.{acl_of}
-use Rattle.stamp_model.specs.Refusals.{access_refusal, refusal}
+use Rattle.stamp_model.specs.Refusals.{refusal}
 use Rattle.stamp_model.specs.Responses.{response, reply}
 use Rattle.stamp_model.proofs.ContentLemmas.{sizes-read, world_value-effect}
 use Rattle.stamp_model.proofs.EffectLemmas.{on_key, effect-refused}
 use Rattle.stamp_model.proofs.ReplyLemmas.{unrefused}
-use Rattle.http_front.specs.PlainAnswers.{HeldRows, change_first, key_first, held_first, rows_first, AreHeld, AnswersAsModel, bytes_held, held_of, held_reply, held_after, object_or_unserved, row_refusal, row_verdict, rows_after}
+use Rattle.http_front.specs.Decisions.{found_reply}
+use Rattle.http_front.specs.PlainAnswers.{HeldRows, change_first, key_first, held_first, rows_first, AreHeld, AnswersAsModel, bytes_held, held_of, held_reply, held_after, row_refusal, rows_after}
 
 -- ---- the rows at first
 
@@ -102,36 +93,11 @@ held_of-rows_first keys t =
     (map_values-insert keys_total keys_exact (part_value held) finite.empty key (container_just_made t)
     ∙ (λ i. finite.insert (map_values-empty keys_total keys_exact (part_value held) i) key (part_value-container_just_made t i)))
 
--- ---- the verdict
-
-denied_by : (rule : Option Rule) (way : Way) (r : Rule) → verdict_by rule way ≡ Deny r → rule ≡ Some r
-denied_by None way r e = cc
-denied_by (Some x) way r e = let same : x ≡ r = cc in ap Some same
-
-allowed_by : (rule : Option Rule) (way w : Way) → verdict_by rule way ≡ Allow w → rule ≡ None
-allowed_by None way w e = refl
-allowed_by (Some x) way w e = cc
-
-module _ (h : HeldRows) (q : Asked) (t : ℕ) where
-  by_first : (o : Option Rule) → first_rule (Some h.keys) (acl_of (part_at h.rows q.ask.key)) q.ask t ≡ o
-      → option_or (option_map access_refusal o) (object_or_unserved (part_at h.rows q.ask.key) q) ≡ row_refusal h q t
-  by_first o e = sym (ap (λ (o : Option Rule). option_or (option_map access_refusal o) (object_or_unserved (part_at h.rows q.ask.key) q)) e)
-
-  -- a verdict that denies gives the refusal
-  pub refusal_denied : (r : Rule) → Deny r ≡ row_verdict h q t → Some (access_refusal r) ≡ row_refusal h q t
-  refusal_denied r e = by_first (Some r) (denied_by _ (way_of q.ask.credential) r (sym e))
-
-  -- a verdict that allows leaves the refusal to the object and to whether the operation is served
-  pub refusal_allowed : (way : Way) → Allow way ≡ row_verdict h q t → object_or_unserved (part_at h.rows q.ask.key) q ≡ row_refusal h q t
-  refusal_allowed way e = by_first None (allowed_by _ (way_of q.ask.credential) way (sym e))
+-- ---- requests that nothing refuses
 
 module _ (keys : Keys) (w : World (List Piece)) (h : HeldRows) (is : record { keys = keys; rows = w } ≡ h) (q : Asked) (t : ℕ) where
   abbrev own : Part (List Piece)
   own = part_at w q.ask.key
-
-  -- the verdict by what the rows say of the container is the verdict on the request
-  pub verdict_by_rows : (a : Option Acl) → a ≡ acl_of own → verdict_of (Some keys) a q.ask t ≡ row_verdict h q t
-  verdict_by_rows a e = ap (λ (a : Option Acl). verdict_of (Some keys) a q.ask t) e ∙ ap (λ (x : HeldRows). row_verdict x q t) is
 
   own_free : row_refusal h q t ≡ None → refusal (Some keys) (part_value pieces_len own) q t ≡ None
   own_free free = ap (λ (x : HeldRows). row_refusal x q t) is ∙ free
@@ -255,7 +221,7 @@ module _ (h : HeldRows) (q : Asked) (t : ℕ) (all : AreHeld h.rows) where
 
   -- the frame with the bytes of its spans is the reply
   pub reply_with_spans : row_refusal h q t ≡ None
-      → with_content (frame (part_after pieces_len change row_sizes) q) (bytes_held (spans (part_after same_pieces change part) q)) ≡ held_reply (held_of h) q t
+      → found_reply part q t ≡ held_reply (held_of h) q t
   reply_with_spans free =
       let after = part_after same_pieces change part in
       let whole = EachContent-then (λ ps. is_held ps ≡ true) (ReadsWhole piece_bytes) held_whole after (after_whole change refl) in
@@ -294,10 +260,10 @@ module _ (h : HeldRows) (q : Asked) (t : ℕ) (all : AreHeld h.rows) where
   answered_refused r (Ok reply) e is = answers_refused h q t all r reply e is
   answered_refused r (Err x) e is = is
 
-  pub answered_allowed : (result : Result Reply AllocError) (h' : HeldRows) → IfOk result (λ reply. reply ≡ held_reply (held_of h) q t) → OnOk result (h' ≡ rows_after h q t)
-      → IfOk result (λ reply. AnswersAsModel (held_of h) q t reply (held_of h'))
-  answered_allowed (Ok reply) h' is new = answers_allowed h q t all reply h' is new
-  answered_allowed (Err x) h' is new = is
+  pub answered_allowed : (reply : Reply) (result : Result Reply AllocError) (h' : HeldRows) → row_refusal h q t ≡ None → reply ≡ found_reply (part_at h.rows q.ask.key) q t
+      → IfOk result (λ given. given ≡ reply) → OnOk result (h' ≡ rows_after h q t) → IfOk result (λ reply. AnswersAsModel (held_of h) q t reply (held_of h'))
+  answered_allowed reply (Ok given) h' free made is new = answers_allowed h q t all given h' (is ∙ made ∙ reply_with_spans h q t all free) new
+  answered_allowed reply (Err x) h' free made is new = is
 
 -- an operation that reads changes nothing
 unchanging : (z : Part ℕ) (q : Asked) (t : ℕ) (o : Op) → writes o ≡ false → act_by o z q t ≡ None
@@ -312,32 +278,3 @@ unchanging z q t other reads = refl
 pub rows_after_read : (h : HeldRows) (q : Asked) (t : ℕ) → row_refusal h q t ≡ None → writes q.ask.op ≡ false → h ≡ rows_after h q t
 rows_after_read h q t free reads =
     rows_by h.keys h.rows h refl q t None free (ap (option_map (on_key q.ask.key)) (unchanging (part_value pieces_len (part_at h.rows q.ask.key)) q t q.ask.op reads))
-
--- ---- memory
-
-shortened : (n : ℕ) (bs : List ℕ) (from : ℕ) → length (take n (drop from bs)) ≤ n
-shortened n bs from = omega (arith, length-take n (drop from bs))
-
-length-bytes_held : (ss : List Span) → length (bytes_held ss) ≤ spans_len ss
-length-bytes_held [] = omega arith
-length-bytes_held (s ∷ ss) =
-    omega (arith, length-append (span_bytes piece_bytes s) (bytes_held ss), shortened (s.to - s.from) (piece_bytes s.piece) s.from, length-bytes_held ss, sum_by-cons (λ (s : Span). s.to - s.from) s ss)
-
-frame_body : (o : Op) (q : Asked) (s : Standing) (c : Committed ℕ) → (frame_by o q s c).body ≡ []
-frame_body op.CreateContainer q s c = refl
-frame_body op.ContainerProperties q s c = refl
-frame_body op.SetContainerMetadata q s c = refl
-frame_body op.DeleteContainer q s c = refl
-frame_body op.PutBlob q s c = refl
-frame_body op.GetBlob q s c = refl
-frame_body op.BlobProperties q s c = refl
-frame_body op.GetMetadata q s c = refl
-frame_body op.SetMetadata q s c = refl
-frame_body op.DeleteBlob q s c = refl
-frame_body other q s c = refl
-
--- a reply with its content fits in memory
-pub fits_memory : (r : Reply) (p : Part ℕ) (q : Asked) (ss : List Span) → r ≡ frame p q → spans_len ss ≤ 268435456 → length (r.body ++ bytes_held ss) < 18446744073709551616
-fits_memory r p q ss is short =
-    let none : r.body ≡ [] = ap (λ (r : Reply). r.body) is ∙ frame_body q.ask.op q (standing_read p) (blob_read p q.ask) in
-    subst (λ (bs : List ℕ). length (bs ++ bytes_held ss) < 18446744073709551616) (sym none) (omega (arith, length-bytes_held ss, short))
