@@ -1,4 +1,5 @@
 pub mod BufferLemmas
+pub mod DecisionLemmas
 pub mod PlainLemmas
 pub mod Ends
 pub mod Fronts

@@ -1,26 +1,21 @@
 -- What a service holds whose content is in memory, and what it answers.
-use Rattle.std.proofs.Common.{◌≡◌, ◌≤◌, ◌<◌, ℕ, ◌-◌, arith, true, false, List, [], ◌∷◌, ◌++◌, length, length-append, take, drop, zero, suc, get_or, Option, Some, None, Result, Ok, Err, IfOk, OnOk, OnErr, refl, sym, ap, ◌∙◌, subst}
-use Rattle.std.proofs.lemmas.List.{length-take}
-use Rattle.std.proofs.lemmas.List.Sums.{sum_by-cons, AllPass-from_list_all}
+use Rattle.std.proofs.Common.{◌≡◌, ℕ, ◌-◌, true, false, List, [], ◌∷◌, length, drop, zero, suc, get_or, Option, Some, None, Result, Ok, Err, IfOk, OnOk, OnErr, refl, sym, ap, ◌∙◌, subst}
+use Rattle.std.proofs.lemmas.List.Sums.{AllPass-from_list_all}
 use Rattle.std.specs.Prelude.{⊤}
 use Rattle.std.specs.declared.alloc.AllocError.{AllocError}
-use Rattle.std.specs.Option.{option_map, option_and_then, option_or}
+use Rattle.std.specs.Option.{option_map, option_and_then}
 use Rattle.stamp_values.specs.Order.{keys_total, keys_exact}
 use Rattle.stamp_values.proofs.MapsLemmas.{map_values-empty}
-use Rattle.stamp_values.specs.declared.acl.Acl.{Acl}
 use Rattle.stamp_values.specs.Operations.{writes}
 use Rattle.stamp_values.specs.declared.op.Op.{Op}
 use Rattle.stamp_values.specs.declared.op.Op.TheVariants as op
 use Rattle.stamp_types.specs.declared.act.Act.{Act}
 use Rattle.stamp_types.specs.declared.act.Act.TheVariants as act
 use Rattle.stamp_types.specs.declared.args.Kept.{Kept}
-use Rattle.stamp_types.specs.declared.committed.Committed.{Committed}
 use Rattle.stamp_types.specs.declared.piece.Piece.{Piece}
 use Rattle.stamp_types.specs.declared.piece.Piece.TheVariants as piece
 use Rattle.stamp_types.specs.declared.refusal.Refusal.{Refusal}
 use Rattle.stamp_types.specs.declared.reply.Reply.{Reply}
-use Rattle.stamp_types.specs.declared.rule.Rule.{Rule}
-use Rattle.stamp_types.specs.declared.standing.Standing.{Standing}
 use Rattle.stamp_types.specs.Changes.{KeyedAct}
 use Rattle.stamp_types.specs.Contents.{EachActContent, EachContent}
 use Rattle.stamp_types.specs.Pieces.{cut_at_most, held, is_held, is_held_piece, piece_bytes, piece_len, pieces_len}
@@ -30,23 +25,20 @@ use Rattle.stamp_types.specs.World.{Part, World, part_at, part_value, world_valu
 use Rattle.stamp_types.proofs.WorldLemmas.{part_at-world_value}
 use Rattle.stamp_types.proofs.ContentReadings.{part_value-changed}
 use Rattle.stamp_types.proofs.EachContents.{EachContent-changed, EachContent-then, EachWorldContent-changed_in}
-use Rattle.access_rules.specs.declared.judgement.Verdict.TheVariants.{Allow, Deny}
-use Rattle.access_rules.specs.declared.judgement.Way.{Way}
 use Rattle.access_rules.specs.declared.keys.Keys.{Keys}
-use Rattle.access_rules.specs.Rules.{first_rule, verdict_by, verdict_of, way_of}
-use Rattle.range_rows.specs.declared.answer.Span.{Span}
-use Rattle.range_rows.specs.ObjectReplies.{ReadsWhole, byte_count, frame, frame_by, blob_read, standing_read, is_served, reply_of, sizes, span_bytes, spans, spans_len, with_content}
+use Rattle.range_rows.specs.ObjectReplies.{ReadsWhole, byte_count, frame, is_served, reply_of, sizes, spans, with_content}
 use Rattle.range_rows.specs.ObjectRules.{object_refusal}
 use Rattle.range_rows.specs.RequestChanges.{delete_blob, put_blob, set_metadata, act_by, change_of, part_after}
+use Rattle.range_rows.specs.Fits.{fits}
 use Rattle.range_rows.proofs.SpanLemmas.{length-read, reply_of-read}
 use Rattle.stamp_model.specs.Effects.{unless_refused, world_after, effect_as}
-use Rattle.range_rows.specs.Access.{acl_of}
-use Rattle.stamp_model.specs.Refusals.{access_refusal, refusal}
+use Rattle.stamp_model.specs.Refusals.{refusal}
 use Rattle.stamp_model.specs.Responses.{response, reply}
 use Rattle.stamp_model.proofs.ContentLemmas.{sizes-read, world_value-effect}
 use Rattle.stamp_model.proofs.EffectLemmas.{on_key, effect-refused}
 use Rattle.stamp_model.proofs.ReplyLemmas.{unrefused}
-use Rattle.http_front.specs.PlainAnswers.{HeldRows, empty_held, empty_rows, AreHeld, AnswersAsModel, bytes_held, held_of, held_reply, held_after, object_or_unserved, row_refusal, row_verdict, rows_after}
+use Rattle.http_front.specs.Decisions.{found_reply}
+use Rattle.http_front.specs.PlainAnswers.{HeldRows, empty_held, empty_rows, AreHeld, AnswersAsModel, bytes_held, held_of, held_reply, held_after, row_refusal, rows_after}
 
 -- ---- the rows of a new stamp
 
@@ -54,36 +46,11 @@ use Rattle.http_front.specs.PlainAnswers.{HeldRows, empty_held, empty_rows, AreH
 pub held_of-empty_rows : (keys : Keys) → held_of (empty_rows keys) ≡ empty_held keys
 held_of-empty_rows keys = ap (λ (w : World (List ℕ)). record { keys = keys; world = w }) (map_values-empty keys_total keys_exact (part_value held))
 
--- ---- the verdict
-
-denied_by : (rule : Option Rule) (way : Way) (r : Rule) → verdict_by rule way ≡ Deny r → rule ≡ Some r
-denied_by None way r e = cc
-denied_by (Some x) way r e = let same : x ≡ r = cc in ap Some same
-
-allowed_by : (rule : Option Rule) (way w : Way) → verdict_by rule way ≡ Allow w → rule ≡ None
-allowed_by None way w e = refl
-allowed_by (Some x) way w e = cc
-
-module _ (h : HeldRows) (q : Asked) (t : ℕ) where
-  by_first : (o : Option Rule) → first_rule (Some h.keys) (acl_of (part_at h.rows q.ask.key)) q.ask t ≡ o
-      → option_or (option_map access_refusal o) (object_or_unserved (part_at h.rows q.ask.key) q) ≡ row_refusal h q t
-  by_first o e = sym (ap (λ (o : Option Rule). option_or (option_map access_refusal o) (object_or_unserved (part_at h.rows q.ask.key) q)) e)
-
-  -- a verdict that denies gives the refusal
-  pub refusal_denied : (r : Rule) → Deny r ≡ row_verdict h q t → Some (access_refusal r) ≡ row_refusal h q t
-  refusal_denied r e = by_first (Some r) (denied_by _ (way_of q.ask.credential) r (sym e))
-
-  -- a verdict that allows leaves the refusal to the object and to whether the operation is served
-  pub refusal_allowed : (way : Way) → Allow way ≡ row_verdict h q t → object_or_unserved (part_at h.rows q.ask.key) q ≡ row_refusal h q t
-  refusal_allowed way e = by_first None (allowed_by _ (way_of q.ask.credential) way (sym e))
+-- ---- requests that nothing refuses
 
 module _ (keys : Keys) (w : World (List Piece)) (h : HeldRows) (is : record { keys = keys; rows = w } ≡ h) (q : Asked) (t : ℕ) where
   abbrev own : Part (List Piece)
   own = part_at w q.ask.key
-
-  -- the verdict by what the rows say of the container is the verdict on the request
-  pub verdict_by_rows : (a : Option Acl) → a ≡ acl_of own → verdict_of (Some keys) a q.ask t ≡ row_verdict h q t
-  verdict_by_rows a e = ap (λ (a : Option Acl). verdict_of (Some keys) a q.ask t) e ∙ ap (λ (x : HeldRows). row_verdict x q t) is
 
   own_free : row_refusal h q t ≡ None → refusal (Some keys) (part_value pieces_len own) q t ≡ None
   own_free free = ap (λ (x : HeldRows). row_refusal x q t) is ∙ free
@@ -207,7 +174,7 @@ module _ (h : HeldRows) (q : Asked) (t : ℕ) (all : AreHeld h.rows) where
 
   -- the frame with the bytes of its spans is the reply
   pub reply_with_spans : row_refusal h q t ≡ None
-      → with_content (frame (part_after pieces_len change row_sizes) q) (bytes_held (spans (part_after same_pieces change part) q)) ≡ held_reply (held_of h) q t
+      → found_reply part q t ≡ held_reply (held_of h) q t
   reply_with_spans free =
       let after = part_after same_pieces change part in
       let whole = EachContent-then (λ ps. is_held ps ≡ true) (ReadsWhole piece_bytes) held_whole after (after_whole change refl) in
@@ -246,10 +213,10 @@ module _ (h : HeldRows) (q : Asked) (t : ℕ) (all : AreHeld h.rows) where
   answered_refused r (Ok reply) e is = answers_refused h q t all r reply e is
   answered_refused r (Err x) e is = is
 
-  pub answered_allowed : (result : Result Reply AllocError) (h' : HeldRows) → IfOk result (λ reply. reply ≡ held_reply (held_of h) q t) → OnOk result (h' ≡ rows_after h q t)
-      → IfOk result (λ reply. AnswersAsModel (held_of h) q t reply (held_of h'))
-  answered_allowed (Ok reply) h' is new = answers_allowed h q t all reply h' is new
-  answered_allowed (Err x) h' is new = is
+  pub answered_allowed : (reply : Reply) (result : Result Reply AllocError) (h' : HeldRows) → row_refusal h q t ≡ None → reply ≡ found_reply (part_at h.rows q.ask.key) q t
+      → IfOk result (λ given. given ≡ reply) → OnOk result (h' ≡ rows_after h q t) → IfOk result (λ reply. AnswersAsModel (held_of h) q t reply (held_of h'))
+  answered_allowed reply (Ok given) h' free made is new = answers_allowed h q t all given h' (is ∙ made ∙ reply_with_spans h q t all free) new
+  answered_allowed reply (Err x) h' free made is new = is
 
 -- an operation that reads changes nothing
 unchanging : (z : Part ℕ) (q : Asked) (t : ℕ) (o : Op) → writes o ≡ false → act_by o z q t ≡ None
@@ -264,32 +231,3 @@ unchanging z q t other reads = refl
 pub rows_after_read : (h : HeldRows) (q : Asked) (t : ℕ) → row_refusal h q t ≡ None → writes q.ask.op ≡ false → h ≡ rows_after h q t
 rows_after_read h q t free reads =
     rows_by h.keys h.rows h refl q t None free (ap (option_map (on_key q.ask.key)) (unchanging (part_value pieces_len (part_at h.rows q.ask.key)) q t q.ask.op reads))
-
--- ---- memory
-
-shortened : (n : ℕ) (bs : List ℕ) (from : ℕ) → length (take n (drop from bs)) ≤ n
-shortened n bs from = omega (arith, length-take n (drop from bs))
-
-length-bytes_held : (ss : List Span) → length (bytes_held ss) ≤ spans_len ss
-length-bytes_held [] = omega arith
-length-bytes_held (s ∷ ss) =
-    omega (arith, length-append (span_bytes piece_bytes s) (bytes_held ss), shortened (s.to - s.from) (piece_bytes s.piece) s.from, length-bytes_held ss, sum_by-cons (λ (s : Span). s.to - s.from) s ss)
-
-frame_body : (o : Op) (q : Asked) (s : Standing) (c : Committed ℕ) → (frame_by o q s c).body ≡ []
-frame_body op.CreateContainer q s c = refl
-frame_body op.ContainerProperties q s c = refl
-frame_body op.SetContainerMetadata q s c = refl
-frame_body op.DeleteContainer q s c = refl
-frame_body op.PutBlob q s c = refl
-frame_body op.GetBlob q s c = refl
-frame_body op.BlobProperties q s c = refl
-frame_body op.GetMetadata q s c = refl
-frame_body op.SetMetadata q s c = refl
-frame_body op.DeleteBlob q s c = refl
-frame_body other q s c = refl
-
--- a reply with its content fits in memory
-pub fits_memory : (r : Reply) (p : Part ℕ) (q : Asked) (ss : List Span) → r ≡ frame p q → spans_len ss ≤ 268435456 → length (r.body ++ bytes_held ss) < 18446744073709551616
-fits_memory r p q ss is short =
-    let none : r.body ≡ [] = ap (λ (r : Reply). r.body) is ∙ frame_body q.ask.op q (standing_read p) (blob_read p q.ask) in
-    subst (λ (bs : List ℕ). length (bs ++ bytes_held ss) < 18446744073709551616) (sym none) (omega (arith, length-bytes_held ss, short))

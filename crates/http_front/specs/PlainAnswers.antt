@@ -4,25 +4,20 @@ use Rattle.std.specs.Prelude.{◌≡◌, ℕ, List, true, Option, Some, None, re
 use Rattle.std.specs.FinMap as finite
 use Rattle.std.specs.Coded.{Coded, code_by, coded_ℕ, coded×}
 use Rattle.std.specs.List.{flat_map}
-use Rattle.std.specs.Option.{option_or}
 use Rattle.stamp_types.specs.declared.piece.Piece.{Piece}
 use Rattle.stamp_types.specs.declared.refusal.Refusal.{Refusal}
 use Rattle.stamp_types.specs.declared.reply.Reply.{Reply}
 use Rattle.stamp_types.specs.Contents.{EachWorldContent}
 use Rattle.stamp_types.specs.Pieces.{held, is_held, piece_bytes, pieces_len}
 use Rattle.stamp_types.specs.Requests.{Asked}
-use Rattle.stamp_types.specs.World.{Part, World, part_at, part_value, world_value, same_pieces}
+use Rattle.stamp_types.specs.World.{World, part_at, part_value, world_value, same_pieces}
 use Rattle.stamp_types.specs.WorldCodes.{text_code}
-use Rattle.access_rules.specs.declared.judgement.Verdict.{Verdict}
 use Rattle.access_rules.specs.declared.keys.Keys.{Keys}
-use Rattle.access_rules.specs.Rules.{verdict_of}
 use Rattle.range_rows.specs.declared.answer.Span.{Span}
 use Rattle.range_rows.specs.BlobRows.{rows_code}
 use Rattle.range_rows.specs.ObjectReplies.{span_bytes}
-use Rattle.range_rows.specs.ObjectRules.{object_refusal}
 use Rattle.stamp_model.specs.Effects.{effect, effect_as}
-use Rattle.range_rows.specs.Access.{acl_of}
-use Rattle.stamp_model.specs.Refusals.{refusal, unserved_refusal}
+use Rattle.stamp_model.specs.Refusals.{refusal}
 use Rattle.stamp_model.specs.Responses.{reply}
 
 -- an account's keys, and the containers that the stamp holds
@@ -60,14 +55,6 @@ empty_held keys = record { keys = keys; world = finite.empty }
 -- what rows hold, in bytes
 abbrev pub held_of : HeldRows → Held
 held_of h = record { keys = h.keys; world = world_value held h.rows }
-
--- the verdict on a request, by the keys and by what its container says about who may read it
-abbrev pub row_verdict : HeldRows → Asked → ℕ → Verdict
-row_verdict h q t = verdict_of (Some h.keys) (acl_of (part_at h.rows q.ask.key)) q.ask t
-
--- the refusal of a request that is permitted, from the sizes of what the rows hold
-abbrev pub object_or_unserved : Part (List Piece) → Asked → Option Refusal
-object_or_unserved p q = option_or (object_refusal (part_value pieces_len p) q) (unserved_refusal q.ask.op)
 
 -- the refusal of a request, from the sizes of what the rows hold
 abbrev pub row_refusal : HeldRows → Asked → ℕ → Option Refusal

@@ -4,6 +4,7 @@
 mod buffer;
 mod connection;
 mod content;
+mod decision;
 mod end;
 mod head_end;
 mod input;

@@ -4,17 +4,16 @@ ghost use Rattle.stamp_values.specs.Operations.{writes};
 ghost use Rattle.stamp_values.specs.Names.{is_account};
 ghost use Rattle.stamp_types.specs.Replies.{denied};
 ghost use Rattle.range_rows.specs.RequestChanges.{reading_of};
-ghost use Rattle.stamp_model.specs.Refusals as refusals;
-ghost use Rattle.http_front.specs.PlainAnswers.{AnswersAsModel, AreHeld, Held, empty_held, empty_rows, held_of, held_reply};
-ghost use Rattle.http_front.specs.PlainAnswers.{object_or_unserved, row_refusal, row_verdict, rows_after};
-ghost use Rattle.stamp_types.specs.World.{part_at};
+ghost use Rattle.http_front.specs.Decisions.{row_decision};
+ghost use Rattle.http_front.specs.PlainAnswers.{AnswersAsModel, AreHeld, Held, empty_held, empty_rows, held_of};
+ghost use Rattle.http_front.specs.PlainAnswers.{row_refusal, rows_after};
 
-use crate::content::reply_with_content;
+use crate::decision::{Decision, decide};
 use crate::service::Service;
-use access_rules::{Keys, Verdict, verdict};
+use access_rules::Keys;
 use name_rules::account_ok;
 use range_rows::{Reading, Rows, read_request};
-use stamp_types::{Code, Moment, Op, Refusal, Reply, Request, Rule};
+use stamp_types::{Moment, Reply, Request};
 use std::alloc::{AllocError, Global};
 use std::marker::Model;
 
@@ -40,37 +39,6 @@ impl Model for Plain {
     ghost invariant = { λ p. AreHeld p.rows };
 }
 
-// The refusal by a rule of permission.
-fn access_refusal(rule: Rule) -> Refusal
-    ensures { result ≡ refusals.access_refusal rule }
-{
-    let code = match rule {
-        Rule::K1 => Code::InvalidAuthenticationInfo,
-        Rule::P1 | Rule::P2 => Code::ResourceNotFound,
-        _ => Code::AuthenticationFailed,
-    };
-    Refusal { rule, code }
-}
-
-// The refusal of an operation that is not served yet.
-fn unserved_refusal(op: Op) -> Option<Refusal>
-    ensures { result ≡ refusals.unserved_refusal op }
-{
-    match op {
-        Op::ListContainers
-        | Op::GetAcl
-        | Op::SetAcl
-        | Op::ListBlobs
-        | Op::PutBlock
-        | Op::PutBlockList
-        | Op::GetBlockList => Some(Refusal {
-            rule: Rule::F3,
-            code: Code::InvalidQueryParameterValue,
-        }),
-        _ => None,
-    }
-}
-
 impl Plain {
     /// The service of the keys' account, which has no containers. Takes no memory.
     ///
@@ -87,56 +55,21 @@ impl Plain {
         Some(Self { keys, rows })
     }
 
-    // The refusal of a request that is permitted.
-    fn object_refusal(
-        &self,
-        alloc: Global,
-        request: &Request,
-        reading: &Reading,
-    ) -> Result<Option<Refusal>, AllocError>
-        requires { reading.now ≡ reading_of request.now }
-        ensures { IfOk result (λ refusal. refusal
-            ≡ object_or_unserved (part_at self.now.rows request.now.ask.key) request.now) }
-    {
-        match self.rows.object_rule(alloc, request, reading)? {
-            Some(refusal) => Ok(Some(refusal)),
-            None => Ok(unserved_refusal(request.ask().op)),
-        }
-    }
-
-    // Whether the request may be served, by the keys and by what its container says about who may
-    // read it.
-    fn permission(
-        &self,
-        alloc: Global,
-        request: &Request,
-        moment: Moment,
-    ) -> Result<Verdict, AllocError>
-        ensures { IfOk result (λ verdict. verdict
-            ≡ row_verdict self.now request.now moment) }
-    {
-        let access = self.rows.acl(&request.ask().key);
-        verdict(alloc, Some(&self.keys), access, request, moment)
-    }
-
-    // The refusal of a request: by permission, or else by the object, or else since the operation is not served yet.
-    fn refusal(
+    // What is decided on a request. The request walks to its container once.
+    fn decision(
         &self,
         alloc: Global,
         request: &Request,
         reading: &Reading,
         moment: Moment,
-    ) -> Result<Option<Refusal>, AllocError>
+    ) -> Result<Decision, AllocError>
         requires { reading.now ≡ reading_of request.now }
-        ensures refusal { IfOk result (λ refusal.
-            refusal ≡ row_refusal self.now request.now moment) }
+        ensures decided { IfOk result (λ decision.
+            decision ≡ row_decision self.now request.now moment) }
         ensures held { AreHeld self.now.rows }
     {
-        let _rows = &self.rows;
-        match self.permission(alloc, request, moment)? {
-            Verdict::Deny(rule) => Ok(Some(access_refusal(rule))),
-            Verdict::Allow(_way) => self.object_refusal(alloc, request, reading),
-        }
+        let found = self.rows.find(&request.ask().key);
+        decide(alloc, &self.keys, &found, request, reading, moment)
     }
 
     // Makes the change of a request that nothing refuses.
@@ -158,41 +91,22 @@ impl Plain {
         self.rows.take(alloc, change)
     }
 
-    // The reply to a request that nothing refuses.
-    #[tactic(auto, using(crate::proofs::PlainLemmas::unopposed, crate::proofs::PlainLemmas::served))]
-    fn reply(
-        &self,
-        alloc: Global,
-        request: &Request,
-        reading: &Reading,
-        moment: Moment,
-    ) -> Result<Reply, AllocError>
-        requires allowed { row_refusal self.now request.now moment ≡ None }
-        requires read { reading.now ≡ reading_of request.now }
-        ensures { IfOk result (λ reply.
-            reply ≡ held_reply (held_of self.now) request.now moment) }
-    {
-        let answer = self.rows.reply(alloc, request, reading, moment)?;
-        reply_with_content(answer)
-    }
-
-    // The reply to a request that nothing refuses, and the change of the request. The reply is made first, so that nothing is
-    // changed if memory runs out for the reply.
+    // Makes the change of a request that nothing refuses, if the request makes a change, and gives
+    // the reply, which was made before. So nothing is changed if memory runs out for the reply.
     fn allowed(
         &mut self,
         alloc: Global,
         request: &Request,
         reading: &Reading,
         moment: Moment,
+        reply: Reply,
     ) -> Result<Reply, AllocError>
         requires allowed { row_refusal self.old request.now moment ≡ None }
         requires read { reading.now ≡ reading_of request.now }
-        ensures replied { IfOk result (λ reply.
-            reply ≡ held_reply (held_of self.old) request.now moment) }
+        ensures replied { IfOk result (λ given. given ≡ reply) }
         ensures changed { OnOk result (self.new ≡ rows_after self.old request.now moment) }
         ensures unchanged { OnErr result (self.new ≡ self.old) }
     {
-        let reply = self.reply(alloc, request, reading, moment)?;
         if request.ask().op.writes() {
             self.keep(alloc, request, reading, moment)?;
         }
@@ -211,9 +125,9 @@ impl Plain {
         ensures unchanged { OnErr result (self.new ≡ self.old) }
     {
         let reading = read_request(request);
-        match self.refusal(alloc, request, &reading, moment)? {
-            Some(refusal) => Reply::denied(alloc, refusal),
-            None => self.allowed(alloc, request, &reading, moment),
+        match self.decision(alloc, request, &reading, moment)? {
+            Decision::Refused(refusal) => Reply::denied(alloc, refusal),
+            Decision::Allowed(reply) => self.allowed(alloc, request, &reading, moment, reply),
         }
     }
 }

@@ -1,11 +1,33 @@
 use Rattle.std.proofs.Common.{rules}
+use Rattle.stamp_types.specs.World.{part_at}
+use Rattle.http_front.specs.Decisions.{found_reply}
+use Rattle.http_front.specs.PlainAnswers.{row_refusal}
+use Rattle.http_front.proofs.DecisionLemmas.{none_refuses, refused_by, reply_decided}
 use Rattle.http_front.proofs.PlainLemmas.{answered_refused, answered_allowed}
 use Rattle.http_front.proofs.plain.Plain.judged.Goals as goal
 
-pub returns-in-Some-clause-answered : goal.returns-in-Some-clause-answered
-returns-in-Some-clause-answered c =
-    answered_refused c.args.self.now c.args.request.now c.args.moment c.refusal.ensures.held c.in-Some.refusal c.denied.result (search rules) c.denied.ensures
+pub returns-in-Refused-clause-answered : goal.returns-in-Refused-clause-answered
+returns-in-Refused-clause-answered c =
+    let h = c.args.self.now in
+    let q = c.args.request.now in
+    let t = c.args.moment in
+    let refused = refused_by (row_refusal h q t) (found_reply (part_at h.rows q.ask.key) q t) c.in-Refused.refusal (search rules) in
+    answered_refused h q t c.decision.ensures.held c.in-Refused.refusal c.denied.result refused c.denied.ensures
 
-pub returns-in-None-clause-answered : goal.returns-in-None-clause-answered
-returns-in-None-clause-answered c =
-    answered_allowed c.args.self.now c.args.request.now c.args.moment c.refusal.ensures.held c.allowed.result c.allowed.new.self c.allowed.ensures.replied c.allowed.ensures.changed
+pub allowed-requires-clause-allowed : goal.allowed-requires-clause-allowed
+allowed-requires-clause-allowed c =
+    let h = c.args.self.now in
+    let q = c.args.request.now in
+    let t = c.args.moment in
+    none_refuses (row_refusal h q t) (found_reply (part_at h.rows q.ask.key) q t) c.in-Allowed.reply (search rules)
+
+pub returns-in-Allowed-clause-answered : goal.returns-in-Allowed-clause-answered
+returns-in-Allowed-clause-answered c =
+    let h = c.args.self.now in
+    let q = c.args.request.now in
+    let t = c.args.moment in
+    let reply = c.in-Allowed.reply in
+    let made = found_reply (part_at h.rows q.ask.key) q t in
+    let free = none_refuses (row_refusal h q t) made reply (search rules) in
+    let is = reply_decided (row_refusal h q t) made reply (search rules) in
+    answered_allowed h q t c.decision.ensures.held reply c.allowed.result c.allowed.new.self free is c.allowed.ensures.replied c.allowed.ensures.changed
