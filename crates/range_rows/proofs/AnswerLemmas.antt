@@ -1,7 +1,7 @@
 -- Sizes and spans of blocks, and the blobs that requests name.
-use Rattle.std.proofs.Common.{◌≡◌, ℕ, ◌+◌, Bool, true, false, cond, List, [], ◌∷◌, ◌++◌, Option, Some, None, refl, ap, ◌∙◌, unwrap_or, map}
+use Rattle.std.proofs.Common.{◌≡◌, ℕ, ◌+◌, Bool, true, false, cond, List, [], ◌∷◌, ◌++◌, Option, Some, None, refl, sym, ap, ◌∙◌, unwrap_or, map}
 use Rattle.std.proofs.lemmas.List.{map-append}
-use Rattle.std.specs.Prelude.{is_none, sum_by}
+use Rattle.std.specs.Prelude.{sum_by}
 use Rattle.std.specs.List.{flat_map, fold}
 use Rattle.std.specs.Option.{option_map, option_and_then}
 use Rattle.std.specs.Ordering.{eq_by_cmp}
@@ -18,6 +18,7 @@ use Rattle.stamp_types.specs.Changes.{blocks_len}
 use Rattle.stamp_types.specs.Pieces.{pieces_len}
 use Rattle.stamp_types.specs.World.{Part, Blob, no_blob, blob_in, block_value, committed_value, part_value, changed, whole_block}
 use Rattle.stamp_types.proofs.WorldLemmas.{blob_in-part_value}
+use Rattle.range_rows.specs.FoundParts.{sized, sizes_found}
 use Rattle.range_rows.specs.ObjectReplies.{whole_span}
 use Rattle.range_rows.specs.ObjectRules.{named_blob}
 
@@ -47,13 +48,9 @@ module _ {C D : Type 0} (f : C → D) (p : Part C) where
   pub named_blob-part_value : (a : Ask) → named_blob (part_value f p) a ≡ option_map (committed_value f) (named_blob p a)
   named_blob-part_value a = named a.blob
 
-none_stays : {C D : Type 0} (f : C → D) (c : Option (Committed C)) → is_none (option_map (committed_value f) c) ≡ is_none c
-none_stays f None = refl
-none_stays f (Some c) = refl
-
--- the blob is absent by one reading if and only if it is absent by the other reading
-pub absent_by_either_reading : {C D : Type 0} (f : C → D) (p : Part C) (a : Ask) → is_none (named_blob (part_value f p) a) ≡ is_none (named_blob p a)
-absent_by_either_reading f p a = ap (λ (c : Option (Committed _)). is_none c) (named_blob-part_value f p a) ∙ none_stays f (named_blob p a)
+-- what readers see of the named blob, by the sizes of its content
+pub named_by_sizes : (p : Part (List Piece)) (a : Ask) (c : Option (Committed (List Piece))) → c ≡ named_blob p a → sized c ≡ named_blob (sizes_found p) a
+named_by_sizes p a c is = ap sized is ∙ sym (named_blob-part_value pieces_len p a)
 
 -- ---- Put Blob
 

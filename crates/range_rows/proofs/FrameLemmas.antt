@@ -1,10 +1,10 @@
 -- Frames and spans of the answers to allowed requests, by their operations.
-use Rattle.std.proofs.Common.{◌≡◌, ◌+◌, ℕ, true, false, List, [], Option, Some, None, refl, ap, ◌∙◌, unwrap_or, map}
+use Rattle.std.proofs.Common.{◌≡◌, ◌+◌, ℕ, true, false, List, [], Option, Some, None, refl, ap, ◌∙◌, unwrap_or}
 use Rattle.std.specs.Prelude.{IsSome}
 use Rattle.std.specs.Option.{option_map, option_and_then}
-use Rattle.std.specs.List.{flat_map}
 use Rattle.md5.specs.Md5.{md5}
 use Rattle.stamp_values.specs.Operations.{writes, names_blob, keeps_headers}
+use Rattle.stamp_values.specs.declared.condition.ByteRange.{ByteRange}
 use Rattle.stamp_values.specs.declared.op.Op.{Op}
 use Rattle.stamp_values.specs.declared.op.Op.TheVariants as op
 use Rattle.stamp_types.specs.declared.act.Act.{Act}
@@ -20,7 +20,7 @@ use Rattle.stamp_types.specs.Requests.{Asked, IsRequest}
 use Rattle.stamp_types.specs.World.{Blob, Part, blob_in, committed_value, committed_with_metadata, part_value, same_pieces, standing_with_metadata}
 use Rattle.stamp_types.proofs.EffectLemmas.{blob_in-set_metadata}
 use Rattle.range_rows.specs.FoundParts.{pieces_found_after, sizes_found, sizes_found_after}
-use Rattle.range_rows.specs.ObjectReplies.{blob_read, content_by, date_headers, empty_blob, empty_standing, frame, frame_by, get_frame, is_served, metadata_headers, put_reply, spans, standing_read, success_reply, whole_span, write_frame}
+use Rattle.range_rows.specs.ObjectReplies.{blob_content, blob_read, date_headers, empty_blob, empty_standing, frame, frame_by, get_frame, is_served, metadata_headers, put_reply, ranged_frame, ranged_spans, spans, spans_by, standing_read, success_reply, write_frame}
 use Rattle.range_rows.specs.ObjectRules.{named_blob, needs_blob, needs_container, object_refusal}
 use Rattle.range_rows.specs.RequestChanges.{act_by, change_of, part_after, put_blob, set_container_metadata, set_metadata}
 use Rattle.range_rows.proofs.Allowed.{needed_blob, needed_container}
@@ -92,13 +92,13 @@ module _ (p : Part ℕ) (q : Asked) (t : ℕ) where
     pub frame_of_write : is_served q.ask.op ≡ true → writes q.ask.op ≡ true → frame (part_after pieces_len (change_of p q t) p) q ≡ write_frame q (p.count + 1) t
     frame_of_write served writing = write_frame_by q.ask.op refl served writing
 
-content_by-others : {C : Type 0} (o : Op) (c : Committed (List C)) → (o ≡ op.GetBlob → ⊥) → content_by o c ≡ []
-content_by-others op.GetBlob c other = absurd (other refl)
-content_by-others other c apart = refl
+spans_by-others : (o : Op) (range : Option ByteRange) (c : Committed (List Piece)) → (o ≡ op.GetBlob → ⊥) → spans_by o range c ≡ []
+spans_by-others op.GetBlob range c other = absurd (other refl)
+spans_by-others other range c apart = refl
 
 -- no content goes out with the reply to an operation other than Get Blob
 pub spans_of_others : (p : Part (List Piece)) (q : Asked) → (q.ask.op ≡ op.GetBlob → ⊥) → spans p q ≡ []
-spans_of_others p q other = ap (λ (ps : List Piece). map whole_span ps) (content_by-others q.ask.op (blob_read p q.ask) other)
+spans_of_others p q other = spans_by-others q.ask.op q.ask.args.range (blob_read p q.ask) other
 
 -- no content goes out with the reply to a request that writes
 pub spans_of_write : (p : Part (List Piece)) (q : Asked) → writes q.ask.op ≡ true → spans p q ≡ []
@@ -130,7 +130,7 @@ module _ (p : Part (List Piece)) (q : Asked) where
       ap (λ (o : Op). frame_by o q (standing_read sized) (blob_read sized q.ask)) is
       ∙ ap (λ (b : Option (Committed ℕ)). frame_by o q (standing_read sized) (unwrap_or b empty_blob)) (named_blob-part_value pieces_len p q.ask ∙ ap (option_map (committed_value pieces_len)) there)
 
-  pub frame_of_get_blob : (c : Committed (List Piece)) → q.ask.op ≡ op.GetBlob → named_blob p q.ask ≡ Some c → frame sized q ≡ get_frame (committed_value pieces_len c)
+  pub frame_of_get_blob : (c : Committed (List Piece)) → q.ask.op ≡ op.GetBlob → named_blob p q.ask ≡ Some c → frame sized q ≡ ranged_frame q.ask.args.range (committed_value pieces_len c)
   frame_of_get_blob c = frame_of_read op.GetBlob c
 
   pub frame_of_blob_properties : (c : Committed (List Piece)) → q.ask.op ≡ op.BlobProperties → named_blob p q.ask ≡ Some c → frame sized q ≡ get_frame (committed_value pieces_len c)
@@ -147,12 +147,12 @@ module _ (p : Part (List Piece)) (q : Asked) where
       ap (λ (o : Op). frame_by o q (standing_read sized) (blob_read sized q.ask)) is
       ∙ ap (λ (o : Option Standing). frame_by op.ContainerProperties q (unwrap_or o empty_standing) (blob_read sized q.ask)) there
 
--- on a Get Blob all pieces of the blob go out
+-- on a Get Blob the pieces of the blob go out, or what the range asks for
 pub spans_of_get : (p : Part (List Piece)) (q : Asked) (c : Committed (List Piece)) → q.ask.op ≡ op.GetBlob → named_blob p q.ask ≡ Some c
-    → spans p q ≡ map whole_span (flat_map (λ b. b.content) c.blocks)
+    → spans p q ≡ ranged_spans q.ask.args.range (blob_content c)
 spans_of_get p q c is there =
-    ap (λ (o : Op). map whole_span (content_by o (blob_read p q.ask))) is
-    ∙ ap (λ (o : Option (Committed (List Piece))). map whole_span (content_by op.GetBlob (unwrap_or o empty_blob))) there
+    ap (λ (o : Op). spans_by o q.ask.args.range (blob_read p q.ask)) is
+    ∙ ap (λ (o : Option (Committed (List Piece))). spans_by op.GetBlob q.ask.args.range (unwrap_or o empty_blob)) there
 
 -- ---- what was found of a container, on a request that reads
 

@@ -5,4 +5,5 @@ pub mod FitLemmas
 pub mod FrameLemmas
 pub mod Parts
 pub mod PutParts
+pub mod RangeLemmas
 pub mod SpanLemmas

@@ -1,20 +1,21 @@
 -- Spans of content, and their bytes.
-use Rattle.std.proofs.Common.{◌≡◌, ℕ, ◌+◌, ◌-◌, true, nat_le, arith, le-leb, List, [], ◌∷◌, ◌++◌, length, length-append, take, Option, Some, None, refl, sym, ap, ◌∙◌, unwrap_or, map}
+use Rattle.std.proofs.Common.{◌≡◌, ℕ, ◌+◌, ◌-◌, ◌≤◌, true, nat_le, arith, le-leb, List, [], ◌∷◌, ◌++◌, length, length-append, take, slice_range, Option, Some, None, refl, sym, ap, ◌∙◌, unwrap_or, map}
 use Rattle.std.proofs.lemmas.Bool.{and_from}
 use Rattle.std.proofs.lemmas.List.{map-append}
-use Rattle.std.proofs.lemmas.List.Elements.{All-head, All-tail}
+use Rattle.std.proofs.lemmas.List.Elements.{All-append, All-head, All-nil, All-tail}
 use Rattle.std.proofs.lemmas.List.Sums.{sum_by-cons, sum_by-append}
 use Rattle.std.proofs.lemmas.Grind.{flat_map-append}
 use Rattle.std.proofs.Math.Seq.{take-length}
 use Rattle.std.specs.Prelude.{All, IfSome}
 use Rattle.std.specs.List.{flat_map, list_all}
 use Rattle.std.specs.Option.{option_map, option_and_then}
+use Rattle.stamp_values.specs.declared.condition.ByteRange.{ByteRange}
 use Rattle.stamp_values.specs.declared.op.Op.{Op}
 use Rattle.stamp_values.specs.declared.op.Op.TheVariants as op
 use Rattle.stamp_types.specs.declared.committed.Block.{Block}
 use Rattle.stamp_types.specs.declared.committed.Committed.{Committed}
 use Rattle.stamp_types.specs.declared.piece.Piece.{Piece}
-use Rattle.stamp_types.specs.Changes.{blocks_len}
+use Rattle.stamp_types.specs.Changes.{are_blocks, blocks_len}
 use Rattle.stamp_types.specs.Contents.{EachCommittedContent, EachContent}
 use Rattle.stamp_types.specs.Pieces.{piece_len, pieces_len}
 use Rattle.stamp_types.specs.Requests.{Asked}
@@ -22,9 +23,11 @@ use Rattle.stamp_types.specs.World.{Part, blob_in, block_value, committed_value,
 use Rattle.stamp_types.proofs.ContentReadings.{part_value-sizes}
 use Rattle.stamp_types.proofs.EachContents.{EachContent-then}
 use Rattle.range_rows.specs.declared.answer.Span.{Span}
-use Rattle.range_rows.specs.ObjectReplies.{ReadsWhole, content_by, content_sent, empty_blob, frame, is_within, reply_of, span_bytes, spans, spans_len, whole_span, with_content}
+use Rattle.range_rows.specs.ObjectReplies.{ReadsWhole, blob_content, bytes_by, bytes_sent, empty_blob, frame, is_within, part_spans, range_end, ranged_bytes, ranged_spans, reply_of, span_bytes, spans, spans_by, spans_len, whole_span, with_content}
 use Rattle.range_rows.specs.ObjectRules.{named_blob}
 use Rattle.range_rows.proofs.AnswerLemmas.{named_blob-part_value}
+use Rattle.range_rows.proofs.RangeLemmas.{bytes_of_part, part_short}
+use Rattle.range_rows.proofs.PutParts.{within_blob}
 
 -- ---- whole spans
 
@@ -46,16 +49,21 @@ spans_len-whole (p ∷ ps) =
     ∙ (λ i. from_start (piece_len p) i + spans_len-whole ps i)
     ∙ sym (sum_by-cons piece_len p ps)
 
-pieces_len-flat : (bs : List (Block (List Piece))) → pieces_len (flat_map (λ b. b.content) bs) ≡ blocks_len bs
-pieces_len-flat [] = refl
-pieces_len-flat (b ∷ bs) =
+-- pieces of all blocks have as many bytes as the blocks
+pub len_of_content : (bs : List (Block (List Piece))) → pieces_len (flat_map (λ b. b.content) bs) ≡ blocks_len bs
+len_of_content [] = refl
+len_of_content (b ∷ bs) =
     sum_by-append piece_len b.content (flat_map (λ b. b.content) bs)
-    ∙ ap (λ n. pieces_len b.content + n) (pieces_len-flat bs)
+    ∙ ap (λ n. pieces_len b.content + n) (len_of_content bs)
     ∙ sym (sum_by-cons (λ (b : Block (List Piece)). pieces_len b.content) b bs)
 
 -- the spans of blocks have as many bytes as the blocks
 pub spans_len_of_blocks : (bs : List (Block (List Piece))) → spans_len (map whole_span (flat_map (λ b. b.content) bs)) ≡ blocks_len bs
-spans_len_of_blocks bs = spans_len-whole (flat_map (λ b. b.content) bs) ∙ pieces_len-flat bs
+spans_len_of_blocks bs = spans_len-whole (flat_map (λ b. b.content) bs) ∙ len_of_content bs
+
+-- the spans of a part of a blob have no more bytes than a blob may have
+pub short_part : (from end : ℕ) (bs : List (Block (List Piece))) → are_blocks bs ≡ true → spans_len (part_spans from end (flat_map (λ b. b.content) bs)) ≤ 268435456
+short_part from end bs are = omega (arith, part_short from end (flat_map (λ b. b.content) bs), len_of_content bs, within_blob bs are)
 
 -- ---- spans that are read
 
@@ -78,28 +86,38 @@ module _ (read : Piece → List ℕ) where
       + length-read ps (All-tail (λ (piece : Piece). length (read piece) ≡ piece_len piece) p ps whole) i)
       ∙ sym (sum_by-cons piece_len p ps)
 
-  blocks_read : (bs : List (Block (List Piece))) → All (λ b. ReadsWhole read b.content) bs
-      → flat_map (span_bytes read) (map whole_span (flat_map (λ b. b.content) bs)) ≡ flat_map (λ b. b.content) (map (block_value (flat_map read)) bs)
-  blocks_read [] whole = refl
-  blocks_read (b ∷ bs) whole =
-      ap (flat_map (span_bytes read)) (map-append whole_span b.content (flat_map (λ b. b.content) bs))
-      ∙ flat_map-append (span_bytes read) (map whole_span b.content) (map whole_span (flat_map (λ b. b.content) bs))
-      ∙ (λ i. spans_bytes b.content (All-head (λ (b : Block (List Piece)). ReadsWhole read b.content) b bs whole) i
-      ++ blocks_read bs (All-tail (λ (b : Block (List Piece)). ReadsWhole read b.content) b bs whole) i)
+  -- the bytes of a blob are the bytes of its pieces, joined
+  blocks_read : (bs : List (Block (List Piece))) → flat_map read (flat_map (λ b. b.content) bs) ≡ flat_map (λ b. b.content) (map (block_value (flat_map read)) bs)
+  blocks_read [] = refl
+  blocks_read (b ∷ bs) =
+      flat_map-append read b.content (flat_map (λ b. b.content) bs)
+      ∙ ap (λ bytes. flat_map read b.content ++ bytes) (blocks_read bs)
 
-  by_op : (o : Op) (c : Committed (List Piece)) → EachCommittedContent (ReadsWhole read) c
-      → flat_map (span_bytes read) (map whole_span (content_by o c)) ≡ content_by o (committed_value (flat_map read) c)
-  by_op op.GetBlob c whole = blocks_read c.blocks whole
-  by_op other c whole = refl
+  joined_whole : (bs : List (Block (List Piece))) → All (λ b. ReadsWhole read b.content) bs → ReadsWhole read (flat_map (λ b. b.content) bs)
+  joined_whole [] whole = All-nil (λ (piece : Piece). length (read piece) ≡ piece_len piece)
+  joined_whole (b ∷ bs) whole =
+      All-append (λ (piece : Piece). length (read piece) ≡ piece_len piece) b.content (flat_map (λ b. b.content) bs)
+      (All-head (λ (b : Block (List Piece)). ReadsWhole read b.content) b bs whole)
+      (joined_whole bs (All-tail (λ (b : Block (List Piece)). ReadsWhole read b.content) b bs whole))
 
-  by_blob : (o : Op) (c : Option (Committed (List Piece))) → IfSome c (EachCommittedContent (ReadsWhole read))
-      → flat_map (span_bytes read) (map whole_span (content_by o (unwrap_or c empty_blob))) ≡ content_by o (unwrap_or (option_map (committed_value (flat_map read)) c) empty_blob)
-  by_blob o None whole = of_none o
-    where
-      of_none : (o : Op) → flat_map (span_bytes read) (map whole_span (content_by o empty_blob)) ≡ content_by o empty_blob
-      of_none op.GetBlob = refl
-      of_none other = refl
-  by_blob o (Some c) whole = by_op o c whole
+  -- the spans of the range have the bytes of the range
+  ranged_read : (range : Option ByteRange) (ps : List Piece) → ReadsWhole read ps
+      → flat_map (span_bytes read) (ranged_spans range ps) ≡ ranged_bytes range (flat_map read ps)
+  ranged_read None ps whole = spans_bytes ps whole
+  ranged_read (Some r) ps whole =
+      bytes_of_part read r.first (range_end r (pieces_len ps)) ps whole
+      ∙ ap (λ n. slice_range (flat_map read ps) r.first (range_end r n)) (sym (length-read ps whole))
+
+  by_op : (o : Op) (range : Option ByteRange) (c : Committed (List Piece)) → EachCommittedContent (ReadsWhole read) c
+      → flat_map (span_bytes read) (spans_by o range c) ≡ bytes_by o range (committed_value (flat_map read) c)
+  by_op op.GetBlob range c whole =
+      ranged_read range (blob_content c) (joined_whole c.blocks whole) ∙ ap (ranged_bytes range) (blocks_read c.blocks)
+  by_op other range c whole = refl
+
+  by_blob : (o : Op) (range : Option ByteRange) (c : Option (Committed (List Piece))) → IfSome c (EachCommittedContent (ReadsWhole read))
+      → flat_map (span_bytes read) (spans_by o range (unwrap_or c empty_blob)) ≡ bytes_by o range (unwrap_or (option_map (committed_value (flat_map read)) c) empty_blob)
+  by_blob o range None whole = by_op o range empty_blob (All-nil (λ (b : Block (List Piece)). ReadsWhole read b.content))
+  by_blob o range (Some c) whole = by_op o range c whole
 
   named_whole : (p : Part (List Piece)) (blob : Option (List ℕ)) → EachContent (ReadsWhole read) p
       → IfSome (option_and_then (λ name. (blob_in p name).committed) blob) (EachCommittedContent (ReadsWhole read))
@@ -107,14 +125,14 @@ module _ (read : Piece → List ℕ) where
   named_whole p (Some name) whole = (whole name).committed
 
   module _ (p : Part (List Piece)) (q : Asked) (whole : EachContent (ReadsWhole read) p) where
-    -- the bytes of the spans are the content that goes out
-    pub content_sent-read : flat_map (span_bytes read) (spans p q) ≡ content_sent (part_value (flat_map read) p) q
-    content_sent-read =
-        by_blob q.ask.op (named_blob p q.ask) (named_whole p q.ask.blob whole)
-        ∙ ap (λ (o : Option (Committed (List ℕ))). content_by q.ask.op (unwrap_or o empty_blob)) (sym (named_blob-part_value (flat_map read) p q.ask))
+    -- the bytes of the spans are the bytes that go out
+    pub bytes_sent-read : flat_map (span_bytes read) (spans p q) ≡ bytes_sent (part_value (flat_map read) p) q
+    bytes_sent-read =
+        by_blob q.ask.op q.ask.args.range (named_blob p q.ask) (named_whole p q.ask.blob whole)
+        ∙ ap (λ (o : Option (Committed (List ℕ))). bytes_by q.ask.op q.ask.args.range (unwrap_or o empty_blob)) (sym (named_blob-part_value (flat_map read) p q.ask))
 
     -- with them the frame is the reply
     pub reply_of-read : with_content (frame (part_value pieces_len p) q) (flat_map (span_bytes read) (spans p q)) ≡ reply_of (part_value (flat_map read) p) q
     reply_of-read =
         let sized = part_value-sizes (flat_map read) p (EachContent-then (ReadsWhole read) (λ ps. length (flat_map read ps) ≡ pieces_len ps) length-read p whole) in
-        λ i. with_content (frame (sym sized i) q) (content_sent-read i)
+        λ i. with_content (frame (sym sized i) q) (bytes_sent-read i)

@@ -1,10 +1,11 @@
--- Replies to allowed requests (Blob service REST reference, 2012-02-12, the page of each operation; RFC 9110, sections 8.8 and 15.3).
+-- Replies to allowed requests (Blob service REST reference, 2012-02-12, the page of each operation; RFC 9110, sections 8.8, 14.4 and 15.3).
 -- A reply is a frame, which follows from the sizes of content, and the content that goes out with it.
-use Rattle.std.specs.Prelude.{◌≡◌, ℕ, ◌-◌, Bool, true, false, ◌&&◌, nat_le, All, List, [], ◌∷◌, ◌++◌, length, None, map, sum_by, slice_range, unwrap_or}
+use Rattle.std.specs.Prelude.{◌≡◌, ℕ, ◌+◌, ◌-◌, min, Bool, true, false, ◌&&◌, nat_le, nat_lt, if◌then◌else◌, All, List, [], ◌∷◌, ◌++◌, length, Option, Some, None, map, sum_by, slice_range, unwrap_or}
 use Rattle.std.specs.List.{flat_map}
-use Rattle.std.specs.Option.{option_to_list}
+use Rattle.std.specs.Option.{option_map_or, option_to_list}
 use Rattle.md5.specs.Md5.{md5}
 use Rattle.stamp_values.specs.Acls.{closed_acl}
+use Rattle.stamp_values.specs.declared.condition.ByteRange.{ByteRange}
 use Rattle.stamp_values.specs.declared.meta.Meta.{Meta}
 use Rattle.stamp_values.specs.declared.op.Op.{Op}
 use Rattle.stamp_values.specs.declared.op.Op.TheVariants as op
@@ -14,15 +15,16 @@ use Rattle.stamp_types.specs.declared.header.Header.{Header}
 use Rattle.stamp_types.specs.declared.header.Header.TheVariants as header
 use Rattle.stamp_types.specs.declared.piece.Piece.{Piece}
 use Rattle.stamp_types.specs.declared.reply.Reply.{Reply}
+use Rattle.stamp_types.specs.declared.sent_range.SentRange.{SentRange}
 use Rattle.stamp_types.specs.declared.standing.Standing.{Standing}
 use Rattle.stamp_types.specs.declared.status.Status.{Status}
 use Rattle.stamp_types.specs.declared.status.Status.TheVariants as status
-use Rattle.stamp_types.specs.Pieces.{piece_len}
+use Rattle.stamp_types.specs.Pieces.{piece_len, pieces_len}
 use Rattle.stamp_types.specs.PropsFields.{PropsFields}
 use Rattle.stamp_types.specs.Requests.{Asked}
 use Rattle.stamp_types.specs.World.{Part, part_value}
 use Rattle.range_rows.specs.declared.answer.Span.{Span}
-use Rattle.range_rows.specs.ObjectRules.{named_blob}
+use Rattle.range_rows.specs.ObjectRules.{blob_size, named_blob}
 
 -- the operations that are answered so far; any other is refused
 abbrev pub is_served : Op → Bool
@@ -53,6 +55,10 @@ kept_lines k =
     header.ContentType k.content_type ∷ line_of header.ContentEncoding k.encoding ++ line_of header.ContentLanguage k.language
     ++ map header.ContentMd5 (option_to_list k.md5) ++ line_of header.CacheControl k.cache_control
 
+-- the same kept headers, and no MD5
+abbrev pub without_md5 : PropsFields → PropsFields
+without_md5 k = record k { md5 = None }
+
 -- metadata by name, which change wrote last, and when
 abbrev pub metadata_headers : List Meta → ℕ → ℕ → List Header
 metadata_headers metas etag made = map header.Meta metas ++ date_headers etag made
@@ -60,6 +66,21 @@ metadata_headers metas etag made = map header.Meta metas ++ date_headers etag ma
 -- the headers of a blob that is read, or whose properties are read
 abbrev pub read_headers : {C : Type 0} → Committed C → List Header
 read_headers c = kept_lines c.props ++ map header.Meta c.metadata ++ header.BlobType ∷ header.AcceptRanges ∷ date_headers c.etag c.made
+
+-- the bytes of a blob of this size that a range asks for end before this byte: a last byte that the blob does not have is cut
+-- to the blob's last byte
+abbrev pub range_end : ByteRange → ℕ → ℕ
+range_end r size = option_map_or (λ last. if nat_lt last size then last + 1 else size) r.last size
+
+-- the first and the last byte of a range of a blob, and the size of the blob
+abbrev pub sent_range : ByteRange → ℕ → SentRange
+sent_range r size = record { first = r.first; last = range_end r size - 1; total = size }
+
+-- the headers of a part of a blob: no MD5, since the MD5 is that of all bytes, and which part it is
+abbrev pub part_headers : {C : Type 0} → SentRange → Committed C → List Header
+part_headers sent c =
+    kept_lines (without_md5 c.props) ++ header.ContentRange sent ∷ map header.Meta c.metadata
+    ++ header.BlobType ∷ header.AcceptRanges ∷ date_headers c.etag c.made
 
 -- a reply that refuses nothing, with an empty body
 abbrev pub success_reply : Status → List Header → ℕ → Reply
@@ -69,9 +90,18 @@ success_reply s headers length = record { status = s; code = None; rule = None; 
 abbrev pub put_reply : List ℕ → ℕ → ℕ → Reply
 put_reply sum etag made = success_reply status.Created (header.ContentMd5 sum ∷ date_headers etag made) 0
 
--- the frame of the reply to Get Blob and to Get Blob Properties: its length is the length of all blocks together
+-- the frame of the reply to Get Blob without a range, and to Get Blob Properties: its length is the length of all blocks together
 abbrev pub get_frame : Committed ℕ → Reply
-get_frame c = success_reply status.Success (read_headers c) (sum_by (λ b. b.content) c.blocks)
+get_frame c = success_reply status.Success (read_headers c) (blob_size c)
+
+-- the frame of the reply to Get Blob with a range: its length is the length of the part
+abbrev pub part_frame : ByteRange → Committed ℕ → Reply
+part_frame r c = success_reply status.Partial (part_headers (sent_range r (blob_size c)) c) (range_end r (blob_size c) - r.first)
+
+-- the frame of the reply to Get Blob, with the range or without one
+abbrev pub ranged_frame : Option ByteRange → Committed ℕ → Reply
+ranged_frame None c = get_frame c
+ranged_frame (Some r) c = part_frame r c
 
 -- A container and a blob without anything. They take the part of what does not exist in the reply to a request that no rule
 -- refuses. For the operations that are served, no request is answered in this way: what a request answers from is made by its
@@ -103,7 +133,7 @@ frame_by op.ContainerProperties q s c = success_reply status.Success (metadata_h
 frame_by op.SetContainerMetadata q s c = success_reply status.Success (date_headers s.etag s.made) 0
 frame_by op.DeleteContainer q s c = success_reply status.Accepted [] 0
 frame_by op.PutBlob q s c = put_reply (md5 q.body) c.etag c.made
-frame_by op.GetBlob q s c = get_frame c
+frame_by op.GetBlob q s c = ranged_frame q.ask.args.range c
 frame_by op.BlobProperties q s c = get_frame c
 frame_by op.GetMetadata q s c = success_reply status.Success (metadata_headers c.metadata c.etag c.made) 0
 frame_by op.SetMetadata q s c = success_reply status.Success (date_headers c.etag c.made) 0
@@ -118,14 +148,23 @@ frame p q = frame_by q.ask.op q (standing_read p) (blob_read p q.ask)
 abbrev pub write_frame : Asked → ℕ → ℕ → Reply
 write_frame q n t = frame_by q.ask.op q (record empty_standing { etag = n; made = t }) (record empty_blob { etag = n; made = t })
 
--- the content that goes out: on Get Blob all content of the blob, on other operations no content
-abbrev pub content_by : {C : Type 0} → Op → Committed (List C) → List C
-content_by op.GetBlob c = flat_map (λ b. b.content) c.blocks
-content_by _ c = []
+-- all content of a blob
+abbrev pub blob_content : {C : Type 0} → Committed (List C) → List C
+blob_content c = flat_map (λ b. b.content) c.blocks
 
--- the content that goes out with the reply to a request
-abbrev pub content_sent : {C : Type 0} → Part (List C) → Asked → List C
-content_sent p q = content_by q.ask.op (blob_read p q.ask)
+-- the bytes that a range asks for, or all bytes if there is no range
+abbrev pub ranged_bytes : Option ByteRange → List ℕ → List ℕ
+ranged_bytes None bytes = bytes
+ranged_bytes (Some r) bytes = slice_range bytes r.first (range_end r (length bytes))
+
+-- the bytes that go out: on Get Blob the bytes of the blob, or of the range, on other operations none
+abbrev pub bytes_by : Op → Option ByteRange → Committed (List ℕ) → List ℕ
+bytes_by op.GetBlob range c = ranged_bytes range (blob_content c)
+bytes_by _ range c = []
+
+-- the bytes that go out with the reply to a request
+abbrev pub bytes_sent : Part (List ℕ) → Asked → List ℕ
+bytes_sent p q = bytes_by q.ask.op q.ask.args.range (blob_read p q.ask)
 
 -- how many bytes content has
 abbrev pub byte_count : List ℕ → ℕ
@@ -141,15 +180,35 @@ with_content r bytes = record r { body = r.body ++ bytes }
 
 -- the reply to an allowed request, from the container after the request's change
 abbrev pub reply_of : Part (List ℕ) → Asked → Reply
-reply_of p q = with_content (frame (sizes p) q) (content_sent p q)
+reply_of p q = with_content (frame (sizes p) q) (bytes_sent p q)
 
 -- a piece from its first byte to its last
 abbrev pub whole_span : Piece → Span
 whole_span piece = record { piece = piece; from = 0; to = piece_len piece }
 
+-- the bytes of a piece from a first byte up to but not including an end, if the piece has one of them
+abbrev pub piece_spans : ℕ → ℕ → Piece → List Span
+piece_spans from end piece =
+    if nat_lt from (min end (piece_len piece)) then record { piece = piece; from = from; to = min end (piece_len piece) } ∷ [] else []
+
+-- the bytes of joined pieces from a first byte up to but not including an end: each piece counts on from the pieces before it
+abbrev pub part_spans : ℕ → ℕ → List Piece → List Span
+part_spans from end [] = []
+part_spans from end (p ∷ ps) = piece_spans from end p ++ part_spans (from - piece_len p) (end - piece_len p) ps
+
+-- which bytes of which pieces go out, if the range asks for them, or all pieces if there is no range
+abbrev pub ranged_spans : Option ByteRange → List Piece → List Span
+ranged_spans None ps = map whole_span ps
+ranged_spans (Some r) ps = part_spans r.first (range_end r (pieces_len ps)) ps
+
+-- which bytes of which pieces go out by the operation
+abbrev pub spans_by : Op → Option ByteRange → Committed (List Piece) → List Span
+spans_by op.GetBlob range c = ranged_spans range (blob_content c)
+spans_by _ range c = []
+
 -- which bytes of which pieces go out with the reply to a request, in this order
 abbrev pub spans : Part (List Piece) → Asked → List Span
-spans p q = map whole_span (content_sent p q)
+spans p q = spans_by q.ask.op q.ask.args.range (blob_read p q.ask)
 
 -- the bytes of a span, if pieces are read in this way
 abbrev pub span_bytes : (Piece → List ℕ) → Span → List ℕ

@@ -2,9 +2,11 @@
 ghost use Rattle.std.specs.Prelude.{◌≡◌, IsTrue};
 ghost use Rattle.std.specs.Option.{option_copied};
 ghost use Rattle.stamp_types.specs.Changes.{is_committed};
+ghost use Rattle.block_blobs.specs.BlobChanges.{content_len};
 
+use crate::seen::Seen;
 use block_blobs::BlobRow;
-use stamp_types::{Committed, Pieces, Standing, Text};
+use stamp_types::{Pieces, Standing, Text};
 use stamp_values::Named;
 use std::alloc::Global;
 use std::marker::Model;
@@ -60,12 +62,18 @@ impl Container {
         self.standing.as_ref()
     }
 
-    /// What readers of a blob see, if the blob has a committed part.
-    pub(crate) fn committed(&self, name: &Text) -> Option<&Committed<Pieces>>
-        ensures value { option_copied result ≡ (blob_in self.now name.now).committed }
-        ensures blocks { IsTrue (is_committed (option_copied result)) }
+    /// What readers of a blob see, and its size.
+    pub(crate) fn seen(&self, name: &Text) -> Seen<'_>
+        ensures value { option_copied result.committed ≡ (blob_in self.now name.now).committed }
+        ensures len { result.len ≡ content_len (option_copied result.committed) }
+        ensures blocks { IsTrue (is_committed (option_copied result.committed)) }
     {
-        let row = self.blobs.get(name.as_str().as_bytes())?;
-        row.committed()
+        match self.blobs.get(name.as_str().as_bytes()) {
+            Some(row) => Seen {
+                committed: row.committed(),
+                len: row.len(),
+            },
+            None => Seen::nothing(),
+        }
     }
 }

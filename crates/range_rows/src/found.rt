@@ -3,10 +3,14 @@ ghost use Rattle.std.specs.Prelude.{◌≡◌, IsTrue};
 ghost use Rattle.std.specs.Option.{option_copied};
 ghost use Rattle.stamp_types.specs.Changes.{is_committed};
 ghost use Rattle.stamp_types.specs.World.{blob_in};
+ghost use Rattle.block_blobs.specs.BlobChanges.{content_len};
 ghost use Rattle.range_rows.specs.Access.{acl_of};
+ghost use Rattle.range_rows.specs.FoundParts.{sized, sizes_found};
+ghost use Rattle.range_rows.specs.ObjectRules.{named_blob};
 
 use crate::container::Container;
-use stamp_types::{Acl, Committed, Pieces, Standing, Text};
+use crate::seen::Seen;
+use stamp_types::{Acl, Ask, Committed, Pieces, Standing, Text};
 use std::marker::Model;
 
 /// What rows find of one container, seen as the container's part of the world. A container that
@@ -61,13 +65,40 @@ impl<'a> Found<'a> {
         Some(&standing.acl)
     }
 
-    /// What readers of a blob see, if the blob has a committed part.
+    /// What readers of a blob see, and its size.
     #[tactic(auto, using(crate::proofs::Parts::blob_of_no_part))]
+    pub(crate) fn seen(&self, name: &Text) -> Seen<'a>
+        ensures value { option_copied result.committed ≡ (blob_in self.now name.now).committed }
+        ensures len { result.len ≡ content_len (option_copied result.committed) }
+        ensures blocks { IsTrue (is_committed (option_copied result.committed)) }
+    {
+        match self.container {
+            Some(container) => container.seen(name),
+            None => Seen::nothing(),
+        }
+    }
+
+    /// What readers of a blob see, if the blob has a committed part.
     pub(crate) fn committed(&self, name: &Text) -> Option<&'a Committed<Pieces>>
         ensures value { option_copied result ≡ (blob_in self.now name.now).committed }
         ensures blocks { IsTrue (is_committed (option_copied result)) }
     {
-        let container = self.container?;
-        container.committed(name)
+        self.seen(name).committed
+    }
+
+    /// What readers see of the blob that the request names, and its size. Nothing is seen if the
+    /// request names no blob.
+    #[tactic(auto, using(crate::proofs::AnswerLemmas::named_by_sizes))]
+    pub(crate) fn named(&self, ask: &Ask) -> Seen<'a>
+        ensures value { option_copied result.committed ≡ named_blob self.now ask.now }
+        ensures sizes { sized (option_copied result.committed)
+            ≡ named_blob (sizes_found self.now) ask.now }
+        ensures len { result.len ≡ content_len (option_copied result.committed) }
+        ensures blocks { IsTrue (is_committed (option_copied result.committed)) }
+    {
+        match &ask.blob {
+            Some(name) => self.seen(name),
+            None => Seen::nothing(),
+        }
     }
 }

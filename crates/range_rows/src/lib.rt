@@ -9,11 +9,13 @@ mod change_fits;
 mod change_laws;
 #[cfg(test)]
 mod change_tests;
+mod conditions;
 mod container;
 mod found;
 mod object_rules;
 #[cfg(test)]
 mod operation_tests;
+mod ranges;
 mod reading;
 mod replies;
 mod request_changes;
@@ -22,6 +24,7 @@ mod rows;
 mod rows_tests;
 #[cfg(test)]
 mod sample_requests;
+mod seen;
 mod served;
 
 pub use answer::{Answer, Span};

@@ -1,15 +1,17 @@
 //! The rules of the object.
-ghost use Rattle.std.specs.Prelude.{◌≡◌, IfOk, IsErr, IsTrue, is_none, is_some, nat_le};
+ghost use Rattle.std.specs.Prelude.{◌≡◌, IfOk, IsErr, is_some, nat_le};
 ghost use Rattle.std.specs.Option.{option_copied};
 ghost use Rattle.stamp_values.specs.declared.op.Op.TheVariants as op;
-ghost use Rattle.stamp_types.specs.Changes.{is_committed};
-ghost use Rattle.range_rows.specs.FoundParts.{sizes_found};
+ghost use Rattle.block_blobs.specs.BlobChanges.{content_len};
+ghost use Rattle.range_rows.specs.FoundParts.{sized, sizes_found};
 ghost use Rattle.range_rows.specs.ObjectRules as rules;
 
+use crate::conditions::{fails_if_match, has_unwanted_etag, is_not_modified, must_be_new};
 use crate::found::Found;
 use crate::reading::Reading;
 use crate::rows::Rows;
-use stamp_types::{Ask, Body, Code, Committed, Op, Pieces, Refusal, Request, Rule};
+use crate::seen::Seen;
+use stamp_types::{Ask, Body, ByteRange, Code, Op, Refusal, Request, Rule};
 use std::alloc::{AllocError, Global};
 
 // Whether the container has to exist.
@@ -60,6 +62,18 @@ fn is_damaged(request: &Request) -> bool
         || (ask.op == Op::PutBlob && has_other_md5(body, kept_md5(ask)))
 }
 
+// Whether a range is sent, and its first byte comes after the last byte of the blob.
+#[tactic(auto, using(crate::proofs::AnswerLemmas::sizes_of_blocks))]
+fn starts_past(seen: Seen<'_>, range: Option<ByteRange>) -> bool
+    requires { seen.len ≡ content_len (option_copied seen.committed) }
+    ensures { result ≡ rules.starts_past (sized (option_copied seen.entry.committed)) range }
+{
+    match (range, seen.committed) {
+        (Some(range), Some(_)) => seen.len <= range.first,
+        _ => false,
+    }
+}
+
 fn refused(rule: Rule, code: Code) -> Refusal
     ensures { result ≡ record { rule = rule; code = code } }
 {
@@ -76,31 +90,6 @@ impl<'a> Found<'a> {
         self.standing().is_some()
     }
 
-    /// What readers see of the blob that the request names, if the request names a blob.
-    pub(crate) fn named_blob(&self, ask: &Ask) -> Option<&'a Committed<Pieces>>
-        ensures value { option_copied result ≡ rules.named_blob self.now ask.now }
-        ensures blocks { IsTrue (is_committed (option_copied result)) }
-    {
-        match &ask.blob {
-            Some(name) => self.committed(name),
-            None => None,
-        }
-    }
-
-    // Whether the blob that the request names has no committed part, or the request names no blob.
-    fn lacks_named(&self, ask: &Ask) -> bool
-        ensures { result ≡ is_none (rules.named_blob self.now ask.now) }
-    {
-        self.named_blob(ask).is_none()
-    }
-
-    // The same by the sizes of the content alone.
-    fn lacks_blob(&self, ask: &Ask) -> bool
-        ensures { result ≡ is_none (rules.named_blob (sizes_found self.now) ask.now) }
-    {
-        self.lacks_named(ask)
-    }
-
     // Whether the container takes no further change.
     fn is_full(&self) -> bool
         ensures { result ≡ nat_le rules.count_limit self.now.count }
@@ -115,17 +104,33 @@ impl<'a> Found<'a> {
     {
         let ask = request.ask();
         let exists = self.exists();
+        let seen = self.named(ask);
         if needs_container(ask.op) && !exists {
             return Some(refused(Rule::O1, Code::ContainerNotFound));
         }
         if ask.op == Op::CreateContainer && exists {
             return Some(refused(Rule::O2, Code::ContainerAlreadyExists));
         }
-        if needs_blob(ask.op) && self.lacks_blob(ask) {
+        if needs_blob(ask.op) && seen.committed.is_none() {
             return Some(refused(Rule::O3, Code::BlobNotFound));
+        }
+        if fails_if_match(seen.committed, ask) {
+            return Some(refused(Rule::O4, Code::ConditionNotMet));
+        }
+        if is_not_modified(seen.committed, ask) {
+            return Some(refused(Rule::O4, Code::NotModified));
+        }
+        if must_be_new(seen.committed, ask) {
+            return Some(refused(Rule::O4, Code::BlobAlreadyExists));
+        }
+        if has_unwanted_etag(seen.committed, ask) {
+            return Some(refused(Rule::O4, Code::ConditionNotMet));
         }
         if is_damaged(request) {
             return Some(refused(Rule::O5, Code::Md5Mismatch));
+        }
+        if ask.op == Op::GetBlob && starts_past(seen, ask.args.range) {
+            return Some(refused(Rule::O6, Code::InvalidRange));
         }
         if ask.op.writes() && self.is_full() {
             return Some(refused(Rule::O6, Code::InternalError));

@@ -1,5 +1,5 @@
 //! Replies to requests that were allowed.
-ghost use Rattle.std.specs.Prelude.{◌≡◌, ◌+◌, ◌^◌, ◌<◌, ◌≤◌, [], ◌++◌, IfOk, IsTrue, None, OnOk, Some, false, length, map};
+ghost use Rattle.std.specs.Prelude.{◌≡◌, ◌≤◌, [], ◌∷◌, ◌++◌, IfOk, IsTrue, None, OnOk, Some, false, length, map};
 ghost use Rattle.std.specs.List.{flat_map, list_all};
 ghost use Rattle.stamp_values.specs.Limits.{blob_limit};
 ghost use Rattle.std.specs.Option.{option_to_list};
@@ -16,11 +16,12 @@ ghost use Rattle.range_rows.specs.ObjectRules.{object_refusal};
 
 use crate::answer::{Answer, Span};
 use crate::found::Found;
+use crate::ranges::{part_of, range_end, sent_range};
 use crate::reading::Reading;
 use crate::rows::Rows;
 use stamp_types::{
-    Block, Committed, Header, Items, Meta, Metadata, Moment, Op, Piece, Pieces, Props, Reply,
-    Request, Shares, Status, Visible,
+    Block, ByteRange, Committed, Header, Items, Meta, Metadata, Moment, Op, Piece, Pieces, Props,
+    Reply, Request, SentRange, Shares, Status, Visible,
 };
 use std::alloc::{AllocError, Global};
 
@@ -66,14 +67,20 @@ fn push_md5(headers: &mut Vec<Header>, sum: Option<[u8; 16]>) -> Result<(), Allo
     Ok(())
 }
 
-// Puts the lines of the kept headers after the headers. A kept header that is empty has no line.
-fn push_kept(headers: &mut Vec<Header>, props: &Props) -> Result<(), AllocError>
-    ensures { OnOk result (headers.new.items ≡ headers.old.items ++ replies.kept_lines props.now) }
+// Puts the lines of the kept headers after the headers, with this MD5. A kept header that is empty
+// has no line.
+fn push_kept(
+    headers: &mut Vec<Header>,
+    props: &Props,
+    md5: Option<[u8; 16]>,
+) -> Result<(), AllocError>
+    ensures { OnOk result (headers.new.items
+        ≡ headers.old.items ++ replies.kept_lines (record props.now { md5 = md5 })) }
 {
     headers.push(Header::ContentType(props.content_type().clone()?))?;
     push_encoding(headers, props.encoding())?;
     push_language(headers, props.language())?;
-    push_md5(headers, props.md5())?;
+    push_md5(headers, md5)?;
     push_cache_control(headers, props.cache_control())?;
     Ok(())
 }
@@ -98,17 +105,45 @@ fn push_dates(headers: &mut Vec<Header>, etag: u64, made: Moment) -> Result<(), 
     Ok(())
 }
 
+// Puts the last four lines of a blob after the headers: its type, that ranges of it may be asked
+// for, which change wrote it last, and when.
+fn push_blob(headers: &mut Vec<Header>, blob: &Committed<Pieces>) -> Result<(), AllocError>
+    ensures { OnOk result (headers.new.items ≡ headers.old.items ++ header.BlobType
+        ∷ header.AcceptRanges ∷ replies.date_headers blob.now.etag blob.now.made) }
+{
+    headers.push(Header::BlobType)?;
+    headers.push(Header::AcceptRanges)?;
+    push_dates(headers, blob.etag, blob.made)?;
+    Ok(())
+}
+
 fn read_headers(alloc: Global, blob: &Committed<Pieces>) -> Result<Vec<Header>, AllocError>
     ensures { IfOk result (λ headers. headers.items ≡ replies.read_headers blob.now) }
 {
     let metas = blob.metadata.as_slice();
     // Room for the five kept headers, the metadata, and the last four lines.
     let mut headers = Vec::with_capacity(alloc, metas.len() + 9)?;
-    push_kept(&mut headers, &blob.props)?;
+    push_kept(&mut headers, &blob.props, blob.props.md5())?;
     push_metadata(&mut headers, metas)?;
-    headers.push(Header::BlobType)?;
-    headers.push(Header::AcceptRanges)?;
-    push_dates(&mut headers, blob.etag, blob.made)?;
+    push_blob(&mut headers, blob)?;
+    Ok(headers)
+}
+
+// The headers of a part of a blob: which part it is, and no MD5, since that is the MD5 of all bytes.
+fn part_headers(
+    alloc: Global,
+    sent: SentRange,
+    blob: &Committed<Pieces>,
+) -> Result<Vec<Header>, AllocError>
+    ensures { IfOk result (λ headers. headers.items ≡ replies.part_headers sent blob.now) }
+{
+    let metas = blob.metadata.as_slice();
+    // Room for four kept headers, the range, the metadata, and the last four lines.
+    let mut headers = Vec::with_capacity(alloc, metas.len() + 9)?;
+    push_kept(&mut headers, &blob.props, None)?;
+    headers.push(Header::ContentRange(sent))?;
+    push_metadata(&mut headers, metas)?;
+    push_blob(&mut headers, blob)?;
     Ok(headers)
 }
 
@@ -216,29 +251,32 @@ fn spans_of(alloc: Global, blocks: &[Block<Pieces>]) -> Result<Vec<Span>, AllocE
     Ok(spans)
 }
 
-// How many bytes the blocks have together.
-fn total_len(blocks: &[Block<Pieces>]) -> u64
-    requires { blocks_len blocks.now < 2 ^ 64 }
-    ensures { result ≡ blocks_len blocks.now }
-{
-    let mut total = 0;
-    let mut left = blocks;
-    while let [first, rest @ ..] = left {
-        total += first.content.len();
-        left = rest;
-    }
-    total
-}
-
-#[tactic(auto, using(crate::proofs::PutParts::within_blob, crate::proofs::AnswerLemmas::sizes_of_blocks))]
-fn get_frame(alloc: Global, blob: &Committed<Pieces>) -> Result<Reply, AllocError>
-    requires { IsTrue (are_blocks blob.now.blocks) }
+// The frame of the whole blob, whose length was found with it.
+#[tactic(auto, using(crate::proofs::AnswerLemmas::sizes_of_blocks))]
+fn get_frame(alloc: Global, blob: &Committed<Pieces>, len: u64) -> Result<Reply, AllocError>
+    requires { len ≡ blocks_len blob.now.blocks }
     ensures { IfOk result (λ reply.
         reply ≡ replies.get_frame (committed_value pieces_len blob.now)) }
 {
     let headers = read_headers(alloc, blob)?;
-    let length = total_len(blob.blocks.as_slice());
-    Ok(success_reply(alloc, Status::Success, headers, length))
+    Ok(success_reply(alloc, Status::Success, headers, len))
+}
+
+// The frame of the part of the blob that the range asks for.
+#[tactic(auto, using(crate::proofs::AnswerLemmas::sizes_of_blocks))]
+fn part_frame(
+    alloc: Global,
+    range: ByteRange,
+    blob: &Committed<Pieces>,
+    len: u64,
+) -> Result<Reply, AllocError>
+    requires { len ≡ blocks_len blob.now.blocks }
+    ensures { IfOk result (λ reply.
+        reply ≡ replies.part_frame range (committed_value pieces_len blob.now)) }
+{
+    let headers = part_headers(alloc, sent_range(range, len), blob)?;
+    let part = range_end(range, len).saturating_sub(range.first);
+    Ok(success_reply(alloc, Status::Partial, headers, part))
 }
 
 // The answer without content.
@@ -252,18 +290,19 @@ fn without_content(alloc: Global, frame: Reply) -> Answer
     }
 }
 
-// The answer to a Get Blob: all of the blob.
+// The answer to a Get Blob without a range: all of the blob.
 #[tactic(auto, using(crate::proofs::AnswerLemmas::spans_of_blocks, crate::proofs::SpanLemmas::whole_within, crate::proofs::SpanLemmas::spans_len_of_blocks, crate::proofs::PutParts::within_blob))]
-fn get_answer(alloc: Global, blob: &Committed<Pieces>) -> Result<Answer, AllocError>
-    requires { IsTrue (are_blocks blob.now.blocks) }
+fn get_answer(alloc: Global, blob: &Committed<Pieces>, len: u64) -> Result<Answer, AllocError>
+    requires blocks { IsTrue (are_blocks blob.now.blocks) }
+    requires len { len ≡ blocks_len blob.now.blocks }
     ensures frame { IfOk result (λ answer.
         answer.frame ≡ replies.get_frame (committed_value pieces_len blob.now)) }
     ensures spans { IfOk result (λ answer.
-        answer.spans ≡ map replies.whole_span (flat_map (λ b. b.content) blob.now.blocks)) }
+        answer.spans ≡ map replies.whole_span (replies.blob_content blob.now)) }
     ensures within { IfOk result (λ answer. IsTrue (list_all replies.is_within answer.spans)) }
     ensures short { IfOk result (λ answer. replies.spans_len answer.spans ≤ blob_limit) }
 {
-    let frame = get_frame(alloc, blob)?;
+    let frame = get_frame(alloc, blob, len)?;
     let spans = spans_of(alloc, blob.blocks.as_slice())?;
     Ok(Answer {
         frame,
@@ -271,9 +310,57 @@ fn get_answer(alloc: Global, blob: &Committed<Pieces>) -> Result<Answer, AllocEr
     })
 }
 
+// The answer to a Get Blob with a range: the part of the blob that the range asks for.
+#[tactic(auto, using(crate::proofs::RangeLemmas::part_within, crate::proofs::SpanLemmas::short_part, crate::proofs::SpanLemmas::len_of_content))]
+fn part_answer(
+    alloc: Global,
+    range: ByteRange,
+    blob: &Committed<Pieces>,
+    len: u64,
+) -> Result<Answer, AllocError>
+    requires blocks { IsTrue (are_blocks blob.now.blocks) }
+    requires len { len ≡ blocks_len blob.now.blocks }
+    ensures frame { IfOk result (λ answer.
+        answer.frame ≡ replies.part_frame range (committed_value pieces_len blob.now)) }
+    ensures spans { IfOk result (λ answer.
+        answer.spans ≡ replies.ranged_spans (Some range) (replies.blob_content blob.now)) }
+    ensures within { IfOk result (λ answer. IsTrue (list_all replies.is_within answer.spans)) }
+    ensures short { IfOk result (λ answer. replies.spans_len answer.spans ≤ blob_limit) }
+{
+    let frame = part_frame(alloc, range, blob, len)?;
+    let end = range_end(range, len);
+    let spans = part_of(alloc, range.first, end, blob.blocks.as_slice())?;
+    Ok(Answer {
+        frame,
+        spans: Items::new(spans),
+    })
+}
+
+// The answer to a Get Blob, with the range or without one.
+fn ranged_answer(
+    alloc: Global,
+    range: Option<ByteRange>,
+    blob: &Committed<Pieces>,
+    len: u64,
+) -> Result<Answer, AllocError>
+    requires blocks { IsTrue (are_blocks blob.now.blocks) }
+    requires len { len ≡ blocks_len blob.now.blocks }
+    ensures frame { IfOk result (λ answer.
+        answer.frame ≡ replies.ranged_frame range (committed_value pieces_len blob.now)) }
+    ensures spans { IfOk result (λ answer.
+        answer.spans ≡ replies.ranged_spans range (replies.blob_content blob.now)) }
+    ensures within { IfOk result (λ answer. IsTrue (list_all replies.is_within answer.spans)) }
+    ensures short { IfOk result (λ answer. replies.spans_len answer.spans ≤ blob_limit) }
+{
+    match range {
+        Some(range) => part_answer(alloc, range, blob, len),
+        None => get_answer(alloc, blob, len),
+    }
+}
+
 // The answer to an allowed request that writes: its ETag is the number of the change that the
 // request makes.
-#[tactic(auto, using(crate::proofs::Allowed::room_for_write, crate::proofs::FrameLemmas::frame_of_write))]
+#[tactic(auto, using(crate::proofs::FrameLemmas::frame_of_write))]
 fn write_answer(
     alloc: Global,
     found: &Found<'_>,
@@ -305,13 +392,14 @@ fn read_answer(alloc: Global, found: &Found<'_>, request: &Request) -> Result<An
         answer.spans ≡ replies.spans found.now request.now) }
 {
     let ask = request.ask();
-    match (ask.op, found.standing(), found.named_blob(ask)) {
+    let seen = found.named(ask);
+    match (ask.op, found.standing(), seen.committed) {
         (Op::ContainerProperties, Some(standing), _) => {
             let frame = metadata_reply(alloc, &standing.metadata, standing.etag, standing.made)?;
             Ok(without_content(alloc, frame))
         }
         (Op::BlobProperties, _, Some(blob)) => {
-            let frame = get_frame(alloc, blob)?;
+            let frame = get_frame(alloc, blob, seen.len)?;
             Ok(without_content(alloc, frame))
         }
         (Op::GetMetadata, _, Some(blob)) => {
@@ -319,7 +407,7 @@ fn read_answer(alloc: Global, found: &Found<'_>, request: &Request) -> Result<An
             Ok(without_content(alloc, frame))
         }
         (Op::GetBlob, _, Some(blob)) => {
-            let answer = get_answer(alloc, blob)?;
+            let answer = ranged_answer(alloc, ask.args.range, blob, seen.len)?;
             Ok(answer)
         }
         _ => unreachable!(),
@@ -372,8 +460,7 @@ impl Rows {
     /// `reading` is what the request's body says.
     ///
     /// The answer has shares of the content, of which no byte is copied, or the content's places in
-    /// streams: whoever sends the answer reads the content there. A range is not looked at: the
-    /// answer is the whole blob (RFC 9110, section 14.2).
+    /// streams: whoever sends the answer reads the content there.
     ///
     /// `AllocError` if memory runs out for the headers or the list of spans, or if the content can
     /// have no further owner.

@@ -23,4 +23,4 @@ pub returns-clause-short : goal.returns-clause-short
 returns-clause-short c =
     let blocks = c.args.blob.now.blocks in
     let made : c.new.result ≡ flat_map (λ b. map whole_span b.content) blocks = search rules in
-    subst (λ n. n ≤ 268435456) (sym (ap spans_len (made ∙ sym (spans_of_blocks blocks)) ∙ spans_len_of_blocks blocks)) (within_blob blocks c.requires)
+    subst (λ n. n ≤ 268435456) (sym (ap spans_len (made ∙ sym (spans_of_blocks blocks)) ∙ spans_len_of_blocks blocks)) (within_blob blocks c.requires.blocks)
