@@ -1,5 +1,7 @@
 pub mod AccessLemmas
 pub mod AnswerLemmas
+pub mod ArgumentLemmas
+pub mod ConditionLemmas
 pub mod ContentLemmas
 pub mod CountLemmas
 pub mod EffectLemmas
@@ -7,6 +9,7 @@ pub mod EtagLemmas
 pub mod HistoryLemmas
 pub mod MakingLemmas
 pub mod ObjectLemmas
+pub mod PartLemmas
 pub mod PublicLemmas
 pub mod ReadLemmas
 pub mod ReplyLemmas

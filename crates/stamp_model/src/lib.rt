@@ -2,11 +2,16 @@
 //! code that runs.
 #![tactic(auto)]
 
+mod condition_laws;
 mod etag_laws;
 mod history_laws;
 mod laws;
 mod run_laws;
 
+pub use condition_laws::{
+    a_condition_never_lets_more_by, a_conditional_write_changes_what_its_caller_saw,
+    a_part_is_a_part_of_the_whole,
+};
 pub use etag_laws::an_etag_names_one_state;
 pub use history_laws::{
     a_front_part_of_a_legal_history_is_legal, an_accepted_request_continues_a_legal_history,

@@ -1,0 +1,25 @@
+-- Conditions of a request on the blob that it names (Blob service REST reference, 2012-02-12, "Specifying Conditional Headers for
+-- Blob Service Operations"; RFC 9110, sections 13.1.1 and 13.1.2).
+use Rattle.std.specs.Prelude.{◌≡◌, ◌≢◌, ℕ, Some, None, IfSome, IsSome, IsSomeAnd}
+use Rattle.stamp_values.specs.declared.condition.Condition.TheVariants as condition
+use Rattle.stamp_types.specs.declared.ask.Ask.{Ask}
+use Rattle.stamp_types.specs.Requests.{Asked}
+use Rattle.stamp_types.specs.World.{Part}
+use Rattle.range_rows.specs.ObjectRules.{named_blob}
+
+-- the same request without If-Match and If-None-Match; what was signed stays as it was
+abbrev pub without_conditions : Asked → Asked
+without_conditions q = record q { ask = record q.ask { args = record q.ask.args { if_match = None; if_none_match = None } } }
+
+-- the conditions of the request are true of the blob that it names, as the container has it
+pub record MeetsConditions {C : Type 0} (p : Part C) (a : Ask) : Type 0 where
+  -- If-Match has an ETag: readers see the blob, and it has this ETag
+  pub has_etag : (etag : ℕ) → a.args.if_match ≡ Some (condition.Count etag) → IsSomeAnd (named_blob p a) (λ c. c.etag ≡ etag)
+  -- If-Match is `*`: readers see the blob
+  pub is_seen : a.args.if_match ≡ Some condition.Any → IsSome (named_blob p a)
+  -- If-Match is not a text that no blob has as its ETag
+  pub may_match : a.args.if_match ≢ Some condition.Never
+  -- If-None-Match is `*`: readers see no blob of this name
+  pub is_unseen : a.args.if_none_match ≡ Some condition.Any → named_blob p a ≡ None
+  -- If-None-Match has an ETag: readers see no blob of this name that has this ETag
+  pub has_another_etag : (etag : ℕ) → a.args.if_none_match ≡ Some (condition.Count etag) → IfSome (named_blob p a) (λ c. c.etag ≢ etag)
