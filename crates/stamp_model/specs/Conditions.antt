@@ -17,7 +17,7 @@ pub record MeetsConditions {C : Type 0} (p : Part C) (a : Ask) : Type 0 where
   pub has_etag : (etag : ℕ) → a.args.if_match ≡ Some (condition.Count etag) → IsSomeAnd (named_blob p a) (λ c. c.etag ≡ etag)
   -- If-Match is `*`: readers see the blob
   pub is_seen : a.args.if_match ≡ Some condition.Any → IsSome (named_blob p a)
-  -- If-Match is not a text that no blob has as its ETag
+  -- the text of If-Match can be an ETag of this stamp
   pub may_match : a.args.if_match ≢ Some condition.Never
   -- If-None-Match is `*`: readers see no blob of this name
   pub is_unseen : a.args.if_none_match ≡ Some condition.Any → named_blob p a ≡ None

@@ -28,10 +28,11 @@ pub record IsPartOf (range : ByteRange) (part whole : Reply) : Type 0 where
   pub last : IfSome range.last (λ asked. sent.last ≡ min asked (length whole.body - 1))
   -- if the range names no last byte, the last byte is the last byte of all
   pub last_of_all : range.last ≡ None → sent.last + 1 ≡ length whole.body
-  -- all bytes are the bytes of the other reply
+  -- the number of all bytes is the number of bytes of the other reply
   pub total : sent.total ≡ length whole.body
-  -- the reply has one byte at least, and no byte that the other reply does not have
+  -- the reply has one byte at least
   pub order : sent.first ≤ sent.last
+  -- the other reply has the last byte
   pub within : sent.last + 1 ≤ length whole.body
   -- the bytes are the bytes of the other reply from the first byte to the last byte
   pub body : part.body ≡ slice_range whole.body sent.first (sent.last + 1)
