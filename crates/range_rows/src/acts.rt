@@ -8,6 +8,7 @@ ghost use Rattle.range_rows.specs.Fits.{deletes, fits};
 ghost use Rattle.range_rows.specs.ObjectRules.{count_limit};
 
 use crate::container::Container;
+use crate::row::Row;
 use block_blobs::BlobRow;
 use stamp_types::{
     Acl, Act, Bytes, ContainerRow, CreateContainer, DeleteBlob, Policies, PutBlob,
@@ -75,7 +76,7 @@ impl Container {
             ..put
         };
         row.replace(alloc, unnamed, count)?;
-        self.blobs.insert(name, row)?;
+        self.blobs.insert(name, Row::new(alloc, row)?)?;
         self.count = count;
         Ok(())
     }
@@ -119,7 +120,7 @@ impl Container {
             uncommitted,
         } = row;
         let row = BlobRow::stored(alloc, committed, uncommitted)?;
-        self.blobs.insert(bytes_of(blob), row)?;
+        self.blobs.insert(bytes_of(blob), Row::new(alloc, row)?)?;
         Ok(())
     }
 

@@ -4,8 +4,8 @@ ghost use Rattle.std.specs.Option.{option_copied};
 ghost use Rattle.stamp_types.specs.Changes.{is_committed};
 ghost use Rattle.block_blobs.specs.BlobChanges.{content_len};
 
+use crate::row::Row;
 use crate::seen::Seen;
-use block_blobs::BlobRow;
 use stamp_types::{Pieces, Standing, Text};
 use stamp_values::Named;
 use std::alloc::Global;
@@ -19,7 +19,7 @@ pub(crate) struct Container {
     pub(crate) count: u64,
     // what the container has beside its blobs, if it exists
     pub(crate) standing: Option<Standing>,
-    pub(crate) blobs: Named<BlobRow>,
+    pub(crate) blobs: Named<Row>,
 }
 
 impl Model for Container {
@@ -70,8 +70,8 @@ impl Container {
     {
         match self.blobs.get(name.as_str().as_bytes()) {
             Some(row) => Seen {
-                committed: row.committed(),
-                len: row.len(),
+                committed: row.blob().committed(),
+                len: row.blob().len(),
             },
             None => Seen::nothing(),
         }

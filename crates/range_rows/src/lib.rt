@@ -19,6 +19,7 @@ mod ranges;
 mod reading;
 mod replies;
 mod request_changes;
+mod row;
 mod rows;
 #[cfg(test)]
 mod rows_tests;
