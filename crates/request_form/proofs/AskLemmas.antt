@@ -8,13 +8,15 @@ use Rattle.std.specs.Option.{option_map_or}
 use Rattle.stamp_types.specs.Requests.{HasItsOwn, HasItsPage, HasNoMore, IsAsk, IsNamed}
 use Rattle.stamp_types.specs.declared.ask.Ask.{Ask}
 use Rattle.stamp_values.specs.Fields.{fields_len, first_value}
-use Rattle.stamp_values.specs.Operations.{body_limit, checks_md5, keeps_headers, lists_names, names_blob, names_container, sets_level}
+use Rattle.stamp_values.specs.Operations.{body_limit, checks_md5, has_conditions, keeps_headers, lists_names, names_blob, names_container, sets_level}
 use Rattle.stamp_values.specs.declared.level.Level.TheVariants.{Closed}
 use Rattle.stamp_values.specs.declared.op.Op.{Op}
-use Rattle.stamp_values.specs.declared.op.Op.TheVariants.{PutBlock, GetBlockList}
+use Rattle.stamp_values.specs.declared.op.Op.TheVariants.{GetBlob, PutBlock, GetBlockList}
 use Rattle.stamp_values.specs.declared.verb.Verb.{Verb}
+use Rattle.request_form.specs.HeadConditions.{condition_named}
 use Rattle.request_form.specs.HeadForms.{args_of, ask_of, blob_name_of, closes_of, expects_of, form_of, kept_of, level_named, line_args_of, md5_under}
 use Rattle.request_form.specs.HeadMetadata.{metadata_by}
+use Rattle.request_form.specs.HeadRanges.{is_get_blob, range_of, range_sent}
 use Rattle.request_form.specs.HeadReads.{AreFields, IsLine}
 use Rattle.request_form.specs.HeadRules.{OperationRow, body_len_of, is_put_blob, is_row, op_at, op_of, operations, verb_of}
 use Rattle.request_form.specs.Targets.{container_of, kind_of, target_of}
@@ -22,6 +24,7 @@ use Rattle.request_form.specs.declared.header_lines.Fields.{Fields}
 use Rattle.request_form.specs.HeadParts.{HeadParts}
 use Rattle.request_form.specs.declared.request_line.Line.{Line}
 use Rattle.request_form.specs.declared.target.Target.{Target}
+use Rattle.request_form.proofs.RangeLemmas.{range_rising}
 use Rattle.request_form.proofs.TextLemmas.{HasGoodNames, good_names, container_some}
 use Rattle.request_form.proofs.ValueLemmas.{args_short}
 
@@ -96,6 +99,11 @@ there_only : {X : Type 0} (b : Bool) (o : Option X) → IsSome (cond b o None) �
 there_only true o some = refl
 there_only false o some = absurd (cc)
 
+-- only one operation takes a range
+get_blob_is : (op : Op) → is_get_blob op ≡ true → op ≡ GetBlob
+get_blob_is GetBlob is = refl
+get_blob_is other is = absurd (cc)
+
 named : (op : Op) (verb : Verb) (p : HeadParts) → IsPlain op → HasGoodNames op (target_of p.target).path → IsNamed (ask_of op verb p)
 unfolding ask_of
 named op verb p plain good = record {
@@ -109,11 +117,11 @@ named op verb p plain good = record {
 no_more : (op : Op) (verb : Verb) (p : HeadParts) → HasNoMore (ask_of op verb p)
 unfolding ask_of args_of line_args_of metadata_by
 no_more op verb p = record {
-  if_match = λ s. absurd (cc);
-  if_none_match = λ s. absurd (cc);
+  if_match = there_only (has_conditions op) (option_map condition_named (first_value p.fields (codes "if-match")));
+  if_none_match = there_only (has_conditions op) (option_map condition_named (first_value p.fields (codes "if-none-match")));
   content_md5 = there_only (checks_md5 op) (md5_under p.fields (codes "content-md5"));
-  range = λ s. absurd (cc);
-  range_order = tt;
+  range = λ s. get_blob_is op (there_only (is_get_blob op) (option_and_then range_of (range_sent p.fields)) s);
+  range_order = range_rising op p.fields;
   metadata = λ none. rw none refl;
 }
 

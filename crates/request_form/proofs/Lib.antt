@@ -1,10 +1,13 @@
 pub mod AskLemmas
+pub mod ConditionLemmas
+pub mod DigitLemmas
 pub mod HeadDecisions
 pub mod HeadLaws
 pub mod HeadLemmas
 pub mod MetadataLemmas
 pub mod NumberLemmas
 pub mod OrderLemmas
+pub mod RangeLemmas
 pub mod TargetLemmas
 pub mod TextLemmas
 pub mod TwiceLemmas

@@ -15,7 +15,7 @@ use Rattle.request_form.specs.HeadFields.{is_bad, is_md5, is_meta}
 use Rattle.request_form.specs.HeadForms.{md5_under, kept_by, kept_of}
 use Rattle.request_form.specs.HeadMetadata.{metadata_by, metas_of}
 use Rattle.request_form.proofs.MetadataLemmas.{meta_counted, metas_count}
-use Rattle.request_form.specs.HeadRules.{has_bad_condition, has_bad_kept_by, has_bad_level_by, has_bad_line, has_bad_md5, has_own_twice, has_standard_twice, is_put_blob, kept_value}
+use Rattle.request_form.specs.HeadRules.{has_bad_condition, has_bad_kept_by, has_bad_level_by, has_bad_line, has_bad_md5, has_own_twice, has_standard_twice, is_condition, is_put_blob, kept_value}
 
 -- the value that was sent under a name is counted if the test passes its name
 under_short : (test : List ℕ → Bool) (name : List ℕ) → test name ≡ true → (fields : List Field) → given_len (first_value fields name) ≤ sum_by (λ f. cond (test f.name) (length f.value) 0) fields
@@ -143,11 +143,12 @@ args_short op fields =
     by_short (keeps_headers op) (keeps_metadata op) (kept_of (is_put_blob (Some op)) fields) (metas_of fields) (fields_len fields) (kept_short (is_put_blob (Some op)) fields)
 
 -- the lines are not bad if no test of them holds
-pub no_bad_line : (op : Op) (fields : List Field) → (has_standard_twice fields || has_own_twice fields) ≡ false → has_bad_condition fields ≡ false
+pub no_bad_line : (op : Op) (fields : List Field) → (has_standard_twice fields || has_own_twice fields) ≡ false
+    → is_bad fields (codes "if-match") is_condition ≡ false → is_bad fields (codes "if-none-match") is_condition ≡ false
     → is_bad fields (codes "content-md5") is_md5 ≡ false → is_bad fields (codes "x-ms-blob-content-md5") is_md5 ≡ false → has_bad_kept_by op fields ≡ false → has_bad_level_by op fields ≡ false
     → has_bad_line (Some op) fields ≡ false
-unfolding has_bad_line has_bad_md5
-no_bad_line op fields twice condition md5 own_md5 kept level = rw (condition, md5, own_md5, kept, level) (two (has_standard_twice fields) (has_own_twice fields) twice)
+unfolding has_bad_line has_bad_condition has_bad_md5
+no_bad_line op fields twice match none_match md5 own_md5 kept level = rw (match, none_match, md5, own_md5, kept, level) (two (has_standard_twice fields) (has_own_twice fields) twice)
   where
     two : (a b : Bool) → (a || b) ≡ false → (a || b || false || false || false) ≡ false
     two true b e = e

@@ -27,9 +27,13 @@ is_bad fields name test = option_map_or (λ v. not (test v)) (first_value fields
 unfoldable pub has_bad : List Field → List ℕ → (List ℕ → Bool) → Bool
 has_bad fields name test = list_any (λ f. has_name name f && not (test f.value)) fields
 
+-- the bytes are digits
+abbrev pub are_digits : List ℕ → Bool
+are_digits text = list_all is_digit text
+
 -- 1 to 19 digits
 unfoldable pub is_number : List ℕ → Bool
-is_number text = is_within 1 19 (length text) && list_all is_digit text
+is_number text = is_within 1 19 (length text) && are_digits text
 
 -- strict Base64 of 16 bytes
 abbrev pub is_md5 : List ℕ → Bool

@@ -23,7 +23,9 @@ use Rattle.stamp_types.specs.declared.ask.Ask.{Ask}
 use Rattle.stamp_types.specs.Requests.{Asked, asked}
 use Rattle.request_form.specs.Targets.{lowered, target_of, account_of, container_of, blob_of}
 use Rattle.stamp_values.specs.Ascii.{comma}
+use Rattle.request_form.specs.HeadConditions.{condition_by}
 use Rattle.request_form.specs.HeadMetadata.{metadata_by}
+use Rattle.request_form.specs.HeadRanges.{range_by}
 use Rattle.request_form.specs.HeadRules.{verb_of, op_of, is_put_blob, kept_value, body_len_of}
 use Rattle.request_form.specs.HeadParts.{HeadParts}
 use Rattle.request_form.specs.declared.parsed_head.Version.{Version}
@@ -67,13 +69,13 @@ level_named v = if bytes_eq v (codes "container") then Container else (if bytes_
 abbrev pub level_by : Op → List Field → Option Level
 level_by op fields = if sets_level op then Some (option_map_or level_named (first_value fields (codes "x-ms-blob-public-access")) Closed) else None
 
--- what comes with a request beside its metadata; conditions and ranges are not taken yet
+-- what comes with a request beside its metadata
 unfoldable pub line_args_of : Op → List Field → Args
 line_args_of op fields = record {
-  if_match = None;
-  if_none_match = None;
+  if_match = condition_by op fields (codes "if-match");
+  if_none_match = condition_by op fields (codes "if-none-match");
   content_md5 = if checks_md5 op then md5_under fields (codes "content-md5") else None;
-  range = None;
+  range = range_by op fields;
   kept = kept_by op fields;
   metadata = [];
   level = level_by op fields;

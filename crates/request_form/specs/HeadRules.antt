@@ -11,7 +11,7 @@ use Rattle.stamp_values.specs.declared.verb.Verb.{Verb}
 use Rattle.stamp_values.specs.declared.verb.Verb.TheVariants.{Get, Head, Put, Delete}
 use Rattle.stamp_values.specs.declared.signing.Field.{Field}
 use Rattle.stamp_values.specs.Names.{is_account, is_container}
-use Rattle.stamp_values.specs.Operations.{body_limit, keeps_headers, names_blob, sets_level}
+use Rattle.stamp_values.specs.Operations.{body_limit, has_conditions, keeps_headers, names_blob, sets_level}
 use Rattle.stamp_values.specs.Texts.{is_clean, is_utf8, is_visible}
 use Rattle.stamp_types.specs.Codes.{code_status}
 use Rattle.stamp_types.specs.declared.code.Code.{Code}
@@ -156,7 +156,7 @@ has_bad_name op path =
 
 -- headers that ask for what the stamp does not serve
 abbrev pub unserved_names : List (List ℕ)
-unserved_names = codes "if-unmodified-since" ∷ codes "x-ms-lease-id" ∷ codes "x-ms-copy-source" ∷ codes "if-match" ∷ codes "if-none-match" ∷ []
+unserved_names = codes "if-unmodified-since" ∷ codes "x-ms-lease-id" ∷ codes "x-ms-copy-source" ∷ []
 
 -- one of them was sent
 unfoldable pub has_unserved : List Field → Bool
@@ -248,11 +248,20 @@ has_bad_length p = is_sent_twice p.fields (codes "content-length") || is_bad p.f
 unfoldable pub has_date_of_a_write : HeadParts → Bool
 has_date_of_a_write p = is_write (verb_of p.method) && is_sent p.fields (codes "if-modified-since")
 
+-- If-Match or If-None-Match was sent
+unfoldable pub has_condition : List Field → Bool
+has_condition fields = is_sent fields (codes "if-match") || is_sent fields (codes "if-none-match")
+
+-- a condition was sent, but the operation does not have conditions or is not built
+unfoldable pub has_unserved_condition : HeadParts → Bool
+has_unserved_condition p = not (option_map_or has_conditions (op_of p) false) && has_condition p.fields
+
 -- F6: a header asks for what the stamp does not serve
 unfoldable pub asks_the_unserved : HeadParts → Bool
 asks_the_unserved p =
     has_bad p.fields (codes "x-ms-version") (λ v. bytes_eq v (codes "2012-02-12"))
     || has_unserved p.fields
+    || has_unserved_condition p
     || has_date_of_a_write p
     || is_put_blob (op_of p) && has_bad p.fields (codes "x-ms-blob-type") (λ v. bytes_eq v (codes "BlockBlob"))
 

@@ -1,7 +1,9 @@
+pub mod HeadConditions
 pub mod HeadFields
 pub mod HeadForms
 pub mod HeadMetadata
 pub mod HeadParts
+pub mod HeadRanges
 pub mod HeadReads
 pub mod HeadRules
 pub mod HeadSpans

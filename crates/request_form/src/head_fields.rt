@@ -1,8 +1,6 @@
 //! What the header lines of a head say.
 ghost use Rattle.std.specs.Prelude.{◌≡◌, IfOk, MatchOption, Some, bytes_eq, false, option_map, true};
 ghost use Rattle.std.specs.Str.Parse.{digits_value};
-ghost use Rattle.std.specs.List.{list_all};
-ghost use Rattle.stamp_values.specs.Names.{is_digit};
 ghost use Rattle.base64_text.specs.Base64.{standard, decoded_of};
 ghost use Rattle.request_form.specs.HeadFields as heads;
 
@@ -23,8 +21,9 @@ pub(crate) fn has_other(fields: &FieldList, name: &str, value: &str) -> bool
     false
 }
 
-fn are_digits(text: &[u8]) -> bool
-    ensures { result ≡ list_all is_digit text.now }
+/// Whether all bytes are digits. A text without bytes passes.
+pub(crate) fn are_digits(text: &[u8]) -> bool
+    ensures { result ≡ heads.are_digits text.now }
 {
     text.iter().all(|byte| byte.is_ascii_digit())
 }

@@ -1,6 +1,8 @@
 //! Heads of requests: what each head asks for, or the first rule that refuses it.
 #![tactic(auto)]
 
+mod condition_field;
+mod condition_laws;
 mod connection_fields;
 mod credential;
 mod denial;
@@ -16,6 +18,8 @@ mod names;
 mod operation;
 mod parsed_head;
 mod path_kind;
+mod range_field;
+mod range_laws;
 mod request_line;
 mod target;
 mod texts;
@@ -24,6 +28,7 @@ mod value_fault;
 mod values;
 mod verb;
 
+pub use condition_laws::a_condition_names_one_etag;
 pub use denial::{Denial, HeadFault, no_head};
 pub use head::{Head, read_head};
 pub use head_laws::{
@@ -31,3 +36,4 @@ pub use head_laws::{
     metadata_are_in_the_order_of_their_names,
 };
 pub use head_parts::HEAD_LIMIT;
+pub use range_laws::a_range_is_what_its_text_prints;

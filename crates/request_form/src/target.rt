@@ -19,8 +19,8 @@ pub struct Target {
     pub query: FieldList,
 }
 
-// The index of the first such byte, or the length.
-fn position(bytes: &[u8], wanted: u8) -> usize
+/// The index of the first such byte, or the length.
+pub(crate) fn position(bytes: &[u8], wanted: u8) -> usize
     ensures value { result ≡ position_or_len (λ b. b == wanted) bytes.now }
     ensures bound { result ≤ length bytes.now }
 {

@@ -10,13 +10,7 @@ use crate::parsed_head::ParsedHead;
 use stamp_types::{FieldList, Op, Verb};
 
 // Headers that ask for what the stamp does not serve.
-const UNSERVED: [&str; 5] = [
-    "if-unmodified-since",
-    "x-ms-lease-id",
-    "x-ms-copy-source",
-    "if-match",
-    "if-none-match",
-];
+const UNSERVED: [&str; 3] = ["if-unmodified-since", "x-ms-lease-id", "x-ms-copy-source"];
 
 fn is_any_sent(fields: &FieldList, names: &[&str]) -> bool
     ensures { result ≡ list_any (is_sent fields.now) (map (λ name. name.now) names.now) }
@@ -34,6 +28,23 @@ fn has_unserved(fields: &FieldList) -> bool
     ensures { result ≡ heads.has_unserved fields.now }
 {
     is_any_sent(fields, &UNSERVED)
+}
+
+// Whether If-Match or If-None-Match was sent.
+#[tactic(auto, unfolding(crate::specs::HeadRules::has_condition))]
+fn has_condition(fields: &FieldList) -> bool
+    ensures { result ≡ heads.has_condition fields.now }
+{
+    fields.is_sent(b"if-match") || fields.is_sent(b"if-none-match")
+}
+
+// Whether a condition was sent that the operation does not have.
+#[tactic(auto, unfolding(crate::specs::HeadRules::has_unserved_condition))]
+fn has_unserved_condition(head: &ParsedHead<'_>, op: Op) -> bool
+    requires op { heads.op_of head.now ≡ Some op }
+    ensures { result ≡ heads.has_unserved_condition head.now }
+{
+    !op.has_conditions() && has_condition(&head.fields)
 }
 
 // Whether a method that writes asks if something was modified since a date.
@@ -56,7 +67,7 @@ pub(crate) fn asks_the_unserved(head: &ParsedHead<'_>, verb: Verb, op: Op) -> bo
     if has_other(fields, "x-ms-version", "2012-02-12") || has_unserved(fields) {
         return true;
     }
-    if has_date_of_a_write(head, verb) {
+    if has_unserved_condition(head, op) || has_date_of_a_write(head, verb) {
         return true;
     }
     is_put_blob(op) && has_other(fields, "x-ms-blob-type", "BlockBlob")

@@ -12,11 +12,13 @@ ghost use Rattle.request_form.specs.HeadForms as head_forms;
 ghost use Rattle.request_form.specs.HeadReads.{RefusesValue};
 ghost use Rattle.request_form.specs.HeadRules as heads;
 
+use crate::condition_field::condition_by;
 use crate::head_fields::{is_meta, is_ms, md5_of};
 use crate::level_field::level_by;
 use crate::metadata_fields::read_metadata;
 use crate::operation::is_put_blob;
 use crate::parsed_head::ParsedHead;
+use crate::range_field::range_by;
 use crate::texts::visible;
 use crate::value_fault::ValueFault;
 use stamp_types::{Args, Code, FieldList, Kept, Metadata, Op, STANDARD_NAMES, Visible};
@@ -77,45 +79,6 @@ fn has_bad_twice(fields: &FieldList) -> bool
     ensures { result ≡ (heads.has_standard_twice fields.now || heads.has_own_twice fields.now) }
 {
     some_name_is_twice(fields) && (has_standard_twice(fields) || has_own_twice(fields))
-}
-
-fn is_unquoted(text: &[u8]) -> bool
-    ensures { result ≡ heads.is_unquoted text.now }
-{
-    text.iter().all(|byte| *byte != b'"')
-}
-
-// Whether the value is a quotation mark, one or more other bytes, and a quotation mark (RFC 9110, section 8.8.3).
-#[tactic(auto, unfolding(crate::specs::HeadRules::is_quoted))]
-fn is_quoted(value: &[u8]) -> bool
-    ensures { result ≡ heads.is_quoted value.now }
-{
-    let len = value.len();
-    2 < len && value[0] == b'"' && value[len - 1] == b'"' && is_unquoted(&value[1..len - 1])
-}
-
-#[tactic(auto, unfolding(crate::specs::HeadRules::is_condition))]
-fn is_condition(value: &[u8]) -> bool
-    ensures { result ≡ heads.is_condition value.now }
-{
-    value == b"*".as_slice() || is_quoted(value)
-}
-
-#[tactic(auto, unfolding(crate::specs::HeadFields::is_bad))]
-fn is_bad_condition(fields: &FieldList, name: &str) -> bool
-    ensures { result ≡ is_bad fields.now name.now heads.is_condition }
-{
-    match fields.first(name.as_bytes()) {
-        Some(value) => !is_condition(value),
-        None => false,
-    }
-}
-
-#[tactic(auto, unfolding(crate::specs::HeadRules::has_bad_condition))]
-fn has_bad_condition(fields: &FieldList) -> bool
-    ensures { result ≡ heads.has_bad_condition fields.now }
-{
-    is_bad_condition(fields, "if-match") || is_bad_condition(fields, "if-none-match")
 }
 
 // The MD5 that was sent under the name, if an MD5 was sent.
@@ -250,24 +213,26 @@ fn md5_by(op: Op, md5: Option<[u8; 16]>) -> Option<[u8; 16]>
 }
 
 // What comes with a request beside its metadata, if no line is bad.
-#[tactic(auto, unfolding(crate::specs::HeadRules::has_bad_line, crate::specs::HeadRules::has_bad_md5, crate::specs::HeadForms::line_args_of))]
+#[tactic(auto, unfolding(crate::specs::HeadRules::has_bad_line, crate::specs::HeadRules::has_bad_condition, crate::specs::HeadRules::has_bad_md5, crate::specs::HeadForms::line_args_of))]
 fn good_args(alloc: Global, op: Op, fields: &FieldList) -> Result<Args, ValueFault>
     ensures { MatchResult result
         (λ v. (heads.has_bad_line (Some op) fields.now ≡ false) × (v ≡ line_args_of op fields.now))
         (RefusesValue (heads.has_bad_line (Some op) fields.now) InvalidHeaderValue) }
 {
-    if has_bad_twice(fields) || has_bad_condition(fields) {
+    if has_bad_twice(fields) {
         return Err(ValueFault::Refused(Code::InvalidHeaderValue));
     }
+    let if_match = condition_by(op, fields, "if-match")?;
+    let if_none_match = condition_by(op, fields, "if-none-match")?;
     let content_md5 = md5_by(op, md5_under(alloc, fields, "content-md5")?);
     let blob_md5 = md5_under(alloc, fields, "x-ms-blob-content-md5")?;
     let kept = kept_by(alloc, op, fields, blob_md5)?;
     let level = level_by(op, fields)?;
     Ok(Args {
-        if_match: None,
-        if_none_match: None,
+        if_match,
+        if_none_match,
         content_md5,
-        range: None,
+        range: range_by(op, fields),
         kept,
         metadata: Metadata::empty(alloc),
         level,
