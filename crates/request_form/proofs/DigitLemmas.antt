@@ -1,13 +1,11 @@
 -- Digits of any number: their comparison, and their number cut to 64 bits.
-use Rattle.std.proofs.Common.{◌≡◌, ◌≤◌, ◌<◌, ◌+◌, ◌*◌, ◌-◌, ℕ, List, length, take, get_or, true, refl, arith, rules, min}
+use Rattle.std.proofs.Common.{◌≡◌, ◌≤◌, ◌<◌, ◌+◌, ◌*◌, ◌-◌, ℕ, List, length, take, get_or, true, arith, rules, min}
 use Rattle.std.specs.List.{list_all}
 use Rattle.std.specs.Char.{digit_value}
 use Rattle.std.specs.Int.{IsInRange}
-use Rattle.std.specs.Ordering.{nat_cmp, ordering_then}
 use Rattle.std.specs.Str.Parse.{digits_value}
 use Rattle.std.proofs.lemmas.Bool.Decides.{nat_tests}
 use Rattle.std.proofs.lemmas.Int.Digits.{digits_value_more}
-use Rattle.std.proofs.lemmas.List.{take_all}
 use Rattle.std.proofs.lemmas.Str.Parse.{IsDigitsTest, IsNumeralModel, numerals_by_value, digit_at}
 use Rattle.stamp_values.specs.Names.{is_digit}
 use Rattle.request_form.specs.HeadRanges.{number_within}
@@ -39,20 +37,6 @@ more_from_right ds place digits inside =
     let next : length ds - place ≡ length ds - 1 - place + 1 = omega arith in
     let this : length ds - (place + 1) ≡ length ds - 1 - place = omega arith in
     rw (next, this) (more ds (length ds - 1 - place) digits (omega arith))
-
--- no digits are left of a place that is too far to the left
-pub none_left : (ds : List ℕ) (place : ℕ) → length ds ≤ place → digits_value 10 (take (length ds - place) ds) ≡ 0
-none_left ds place far =
-    let none : length ds - place ≡ 0 = omega arith in
-    rw none refl
-
--- all digits are left of the end
-pub all_left : (ds : List ℕ) → digits_value 10 (take (length ds - 0) ds) ≡ digits_value 10 ds
-all_left ds = rw (take_all (length ds - 0) ds (omega arith)) refl
-
--- with one digit more, the digits that were there decide, and after them the new digits
-pub order_more : (a b d e : ℕ) → d ≤ 9 → e ≤ 9 → ordering_then (nat_cmp a b) (nat_cmp d e) ≡ nat_cmp (a * 10 + d) (b * 10 + e)
-order_more a b d e x y = grind (arith, nat_tests)
 
 -- cutting at each step is cutting at the end
 cut_more : (m v d : ℕ) → d ≤ m → min (min (min v m * 10) m + d) m ≡ min (v * 10 + d) m

@@ -12,6 +12,7 @@ use stamp_types::{ByteRange, FieldList, Op};
 use std::cmp::Ordering;
 
 // The digit at a place from the right; 0 at a place before the first digit.
+#[tactic(auto, using(crate::proofs::DigitLemmas::more_from_right))]
 fn digit(digits: &[u8], place: usize) -> u8
     requires { are_digits digits.now ≡ true }
     ensures value { digits_value 10 (take (length digits.now - place) digits.now)
@@ -39,6 +40,7 @@ fn compare(first: &[u8], last: &[u8]) -> Ordering
 }
 
 // The number that the digits write, or 2^64 - 1 if the number is greater.
+#[tactic(auto, using(crate::proofs::DigitLemmas::within_more))]
 fn number_within(digits: &[u8]) -> u64
     requires { are_digits digits.now ≡ true }
     ensures { result ≡ ranges.number_within digits.now }
