@@ -16,7 +16,7 @@ use Rattle.stamp_types.specs.Requests.{Asked, IsAsk}
 use Rattle.stamp_types.specs.World.{Blob, Part, blob_in, committed_with_metadata, standing_with_metadata}
 use Rattle.stamp_types.proofs.EffectLemmas.{blob_in-set_metadata}
 use Rattle.access_rules.specs.declared.keys.Keys.{Keys}
-use Rattle.range_rows.specs.ObjectReplies.{sizes, standing_read, blob_read, frame_by, content_by, with_content, reply_of}
+use Rattle.range_rows.specs.ObjectReplies.{sizes, standing_read, blob_read, frame_by, bytes_by, with_content, reply_of}
 use Rattle.range_rows.specs.ObjectRules.{needs_container, needs_blob, named_blob, object_refusal}
 use Rattle.range_rows.specs.RequestChanges.{put_blob, set_container_metadata, set_metadata, act_by, change_of, part_after}
 use Rattle.range_rows.proofs.AnswerLemmas.{blob_in-put}
@@ -79,7 +79,7 @@ module _ (keys : Option Keys) (p : Part (List ℕ)) (q : Asked) (t : ℕ) (free 
       ∙ blob_told p q t (unrefused keys (sizes p) q t free).unopposed q.ask.op refl fits tells
 
 module _ (q : Asked) (s r : Standing) (c d : Committed ℕ) (e h : Committed (List ℕ)) where
-  neither_told : (o : Op) → tells_container o ≡ false → tells_blob o ≡ false → with_content (frame_by o q s c) (content_by o e) ≡ with_content (frame_by o q r d) (content_by o h)
+  neither_told : (o : Op) → tells_container o ≡ false → tells_blob o ≡ false → with_content (frame_by o q s c) (bytes_by o q.ask.args.range e) ≡ with_content (frame_by o q r d) (bytes_by o q.ask.args.range h)
   neither_told op.CreateContainer container blob = cc
   neither_told op.ContainerProperties container blob = cc
   neither_told op.SetContainerMetadata container blob = cc

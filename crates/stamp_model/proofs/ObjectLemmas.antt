@@ -1,5 +1,5 @@
 -- What follows if the object does not refuse a request, and when the object refuses a request for what does not exist.
-use Rattle.std.proofs.Common.{◌≡◌, ℕ, Bool, true, false, cond, ◌&&◌, List, [], ◌∷◌, Option, Some, None, refl, sym, ap, ◌∙◌, unwrap_or}
+use Rattle.std.proofs.Common.{◌≡◌, ℕ, Bool, true, false, cond, ◌&&◌, drop, List, Option, Some, None, refl, sym, ap, ◌∙◌, unwrap_or}
 use Rattle.std.specs.Prelude.{find, is_none, is_some}
 use Rattle.std.specs.Option.{option_map, option_and_then}
 use Rattle.std.specs.FinMap as finite
@@ -10,17 +10,16 @@ use Rattle.stamp_types.specs.declared.committed.Committed.{Committed}
 use Rattle.stamp_types.specs.Requests.{Asked}
 use Rattle.stamp_types.specs.World.{Blob, Part, no_blob, blob_in, committed_value}
 use Rattle.range_rows.specs.ObjectReplies.{byte_count, sizes}
-use Rattle.range_rows.specs.ObjectRules.{needs_container, needs_blob, is_create, named_blob, cause_holds, cause_refusal, object_refusal}
-use Rattle.range_rows.specs.ObjectRules.Cause.{ContainerIsAbsent, ContainerExists, BlobIsAbsent, BodyIsDamaged, CountIsFull}
+use Rattle.range_rows.specs.ObjectRules.{needs_container, needs_blob, is_create, named_blob, Cause, cause_holds, cause_refusal, causes, object_refusal}
+use Rattle.range_rows.specs.ObjectRules.Cause.{ContainerIsAbsent, ContainerExists, BlobIsAbsent}
 use Rattle.range_rows.proofs.AnswerLemmas.{named_blob-part_value}
 
-none_of_five : (a b c d e : Bool) → option_map cause_refusal
-    (cond a (Some ContainerIsAbsent) (cond b (Some ContainerExists) (cond c (Some BlobIsAbsent) (cond d (Some BodyIsDamaged) (cond e (Some CountIsFull) None))))) ≡ None
+none_of_three : (a b c : Bool) (rest : Option Cause) → option_map cause_refusal (cond a (Some ContainerIsAbsent) (cond b (Some ContainerExists) (cond c (Some BlobIsAbsent) rest))) ≡ None
     → (a ≡ false) × (b ≡ false) × (c ≡ false)
-none_of_five true b c d e h = cc
-none_of_five false true c d e h = cc
-none_of_five false false true d e h = cc
-none_of_five false false false d e h = (refl, refl, refl)
+none_of_three true b c rest h = cc
+none_of_three false true c rest h = cc
+none_of_three false false true rest h = cc
+none_of_three false false false rest h = (refl, refl, refl)
 
 exists_if : {X : Type 0} (needs : Bool) (o : Option X) → (needs && is_none o) ≡ false → needs ≡ true → is_some o ≡ true
 exists_if true None h n = cc
@@ -44,7 +43,7 @@ is_some-mapped f (Some x) = refl
 module _ (p : Part (List ℕ)) (q : Asked) where
   module _ (free : object_refusal (sizes p) q ≡ None) where
     absent : (cause_holds (sizes p) q ContainerIsAbsent ≡ false) × (cause_holds (sizes p) q ContainerExists ≡ false) × (cause_holds (sizes p) q BlobIsAbsent ≡ false)
-    absent = none_of_five (cause_holds (sizes p) q ContainerIsAbsent) (cause_holds (sizes p) q ContainerExists) (cause_holds (sizes p) q BlobIsAbsent) (cause_holds (sizes p) q BodyIsDamaged) (cause_holds (sizes p) q CountIsFull) free
+    absent = none_of_three (cause_holds (sizes p) q ContainerIsAbsent) (cause_holds (sizes p) q ContainerExists) (cause_holds (sizes p) q BlobIsAbsent) (find (cause_holds (sizes p) q) (drop 3 causes)) free
 
     -- the container exists, if the operation needs it and the object does not refuse the request
     pub container_needed : needs_container q.ask.op ≡ true → is_some p.standing ≡ true
@@ -59,7 +58,7 @@ module _ (p : Part (List ℕ)) (q : Asked) where
   -- the refusal of a request that needs its container, if the container does not exist
   pub object_refusal-container : needs_container q.ask.op ≡ true → p.standing ≡ None → object_refusal (sizes p) q ≡ Some (cause_refusal ContainerIsAbsent)
   object_refusal-container needs none =
-      λ i. option_map cause_refusal (cond (needs i && is_none (none i)) (Some ContainerIsAbsent) (find (cause_holds (sizes p) q) (ContainerExists ∷ BlobIsAbsent ∷ BodyIsDamaged ∷ CountIsFull ∷ [])))
+      λ i. option_map cause_refusal (cond (needs i && is_none (none i)) (Some ContainerIsAbsent) (find (cause_holds (sizes p) q) (drop 1 causes)))
 
   -- the refusal of a request that needs its blob, if the container exists and readers see no blob of that name
   pub object_refusal-blob : needs_blob q.ask.op ≡ true → is_some p.standing ≡ true → named_blob p q.ask ≡ None → object_refusal (sizes p) q ≡ Some (cause_refusal BlobIsAbsent)
@@ -67,7 +66,7 @@ module _ (p : Part (List ℕ)) (q : Asked) where
       let unseen : named_blob (sizes p) q.ask ≡ None = named_blob-part_value byte_count p q.ask ∙ ap (option_map (committed_value byte_count)) none in
       λ i. option_map cause_refusal (cond (there_is (needs_container q.ask.op) p.standing exists i) (Some ContainerIsAbsent)
       (cond (no_creation q.ask.op (is_some p.standing) needs i) (Some ContainerExists)
-      (cond (needs i && is_none (unseen i)) (Some BlobIsAbsent) (find (cause_holds (sizes p) q) (BodyIsDamaged ∷ CountIsFull ∷ [])))))
+      (cond (needs i && is_none (unseen i)) (Some BlobIsAbsent) (find (cause_holds (sizes p) q) (drop 3 causes)))))
 
   -- readers see no blob in a container without blobs
   pub named_blob-empty : p.blobs ≡ finite.empty → named_blob p q.ask ≡ None

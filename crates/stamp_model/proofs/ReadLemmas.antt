@@ -17,7 +17,7 @@ use Rattle.access_rules.specs.declared.keys.Keys.{Keys}
 use Rattle.access_rules.specs.Routes.{Admits}
 use Rattle.access_rules.proofs.RouteLaw.{by_route}
 use Rattle.range_rows.specs.Access.{acl_of}
-use Rattle.range_rows.specs.ObjectReplies.{byte_count, sizes, standing_read, empty_blob, frame_by, content_by, content_sent, with_content, reply_of}
+use Rattle.range_rows.specs.ObjectReplies.{byte_count, sizes, standing_read, empty_blob, frame_by, bytes_by, bytes_sent, with_content, reply_of}
 use Rattle.range_rows.specs.ObjectRules.{object_refusal}
 use Rattle.range_rows.specs.RequestChanges.{act_by, change_of, part_after}
 use Rattle.range_rows.proofs.AnswerLemmas.{named_blob-part_value}
@@ -67,14 +67,14 @@ module _ (v : World (List ℕ)) (q : Asked) where
   -- the answer to the operation in this container, if this is what readers see of the blob
   abbrev pub answer : Op → Key → Option (Committed (List ℕ)) → Reply
   answer o k c =
-      with_content (frame_by o q (standing_read (part_at v k)) (unwrap_or (option_map (committed_value byte_count) c) empty_blob)) (content_by o (unwrap_or c empty_blob))
+      with_content (frame_by o q (standing_read (part_at v k)) (unwrap_or (option_map (committed_value byte_count) c) empty_blob)) (bytes_by o q.ask.args.range (unwrap_or c empty_blob))
 
   abbrev seen : Key → Option (List ℕ) → Option (Committed (List ℕ))
   seen k blob = option_and_then (λ name. (blob_in (part_at v k) name).committed) blob
 
   reply_of-seen : reply_of (part_at v q.ask.key) q ≡ answer q.ask.op q.ask.key (seen q.ask.key q.ask.blob)
   reply_of-seen =
-      ap (λ (c : Option (Committed ℕ)). with_content (frame_by q.ask.op q (standing_read (part_at v q.ask.key)) (unwrap_or c empty_blob)) (content_sent (part_at v q.ask.key) q))
+      ap (λ (c : Option (Committed ℕ)). with_content (frame_by q.ask.op q (standing_read (part_at v q.ask.key)) (unwrap_or c empty_blob)) (bytes_sent (part_at v q.ask.key) q))
       (named_blob-part_value byte_count (part_at v q.ask.key) q.ask)
 
   reply_of-on : (o : Op) (key : Key) (name : List ℕ) → IsOn o key name q → reply_of (part_at v q.ask.key) q ≡ answer o key (blob_in (part_at v key) name).committed

@@ -1,6 +1,7 @@
 -- A reply names the rule that refuses its request. If no rule refuses the request, the reply names no rule.
 use Rattle.std.proofs.Common.{◌≡◌, ℕ, Bool, true, false, List, Option, Some, None, refl, sym, ap, ◌∙◌, if◌then◌else◌}
 use Rattle.std.specs.Option.{option_map, option_or}
+use Rattle.stamp_values.specs.declared.condition.ByteRange.{ByteRange}
 use Rattle.stamp_values.specs.declared.key.Key.{Key}
 use Rattle.stamp_values.specs.declared.op.Op.{Op}
 use Rattle.stamp_values.specs.declared.op.Op.TheVariants as op
@@ -20,7 +21,7 @@ use Rattle.access_rules.specs.declared.keys.Keys.{Keys}
 use Rattle.access_rules.specs.Routes.{Admits}
 use Rattle.access_rules.specs.Rules.{first_rule}
 use Rattle.access_rules.proofs.RouteLaw.{by_route}
-use Rattle.range_rows.specs.ObjectReplies.{is_served, byte_count, sizes, standing_read, blob_read, frame_by, reply_of}
+use Rattle.range_rows.specs.ObjectReplies.{is_served, byte_count, sizes, standing_read, blob_read, frame_by, ranged_frame, reply_of}
 use Rattle.range_rows.specs.ObjectRules.{object_refusal}
 use Rattle.range_rows.specs.Access.{acl_of}
 use Rattle.stamp_model.specs.Refusals.{access_refusal, unserved_refusal, refusal, refusing_rule}
@@ -36,8 +37,13 @@ either_names false x y rule first second = second
 pub denied-names : (r : Refusal) → (denied r).rule ≡ Some r.rule
 denied-names r = either_names (has_error_body r.code) _ _ (Some r.rule) refl refl
 
+ranged_names_none : (range : Option ByteRange) (c : Committed ℕ) → (ranged_frame range c).rule ≡ None
+ranged_names_none None c = refl
+ranged_names_none (Some r) c = refl
+
 frame_names_none : (o : Op) (q : Asked) (s : Standing) (c : Committed ℕ) → (frame_by o q s c).rule ≡ None
 frame_names_none op.CreateContainer q s c = refl
+frame_names_none op.GetBlob q s c = ranged_names_none q.ask.args.range c
 frame_names_none other q s c = refl
 
 names : (r : Option Refusal) (p : Part (List ℕ)) (q : Asked) → (response r p q).rule ≡ option_map (λ r. r.rule) r

@@ -5,6 +5,7 @@ use Rattle.std.specs.Prelude.{is_some}
 use Rattle.std.specs.Option.{option_map, option_and_then}
 use Rattle.md5.specs.Md5.{md5}
 use Rattle.stamp_values.specs.Operations.{keeps_headers}
+use Rattle.stamp_values.specs.declared.condition.ByteRange.{ByteRange}
 use Rattle.stamp_values.specs.declared.key.Key.{Key}
 use Rattle.stamp_values.specs.declared.op.Op.{Op}
 use Rattle.stamp_values.specs.declared.op.Op.TheVariants as op
@@ -18,18 +19,18 @@ use Rattle.stamp_types.specs.declared.standing.Standing.{Standing}
 use Rattle.stamp_types.specs.Pieces.{held, cut}
 use Rattle.stamp_types.specs.Replies.{denied}
 use Rattle.stamp_types.specs.Requests.{Asked, IsAsk}
-use Rattle.stamp_types.specs.World.{Blob, Part, World, no_blob, blob_in, part_at, committed_with_metadata, standing_with_metadata, changed}
+use Rattle.stamp_types.specs.World.{Blob, Part, World, no_blob, blob_in, part_at, committed_value, committed_with_metadata, standing_with_metadata, changed}
 use Rattle.stamp_types.proofs.Cuts.{held-cut}
 use Rattle.stamp_types.proofs.EffectLemmas.{blob_in-set_metadata, get-remove_same}
 use Rattle.access_rules.specs.declared.keys.Keys.{Keys}
-use Rattle.range_rows.specs.ObjectReplies.{date_headers, metadata_headers, kept_lines, sizes, empty_standing}
+use Rattle.range_rows.specs.ObjectReplies.{blob_content, byte_count, date_headers, metadata_headers, get_frame, kept_lines, ranged_bytes, ranged_frame, sizes, empty_standing, with_content}
 use Rattle.range_rows.specs.ObjectRules.{needs_blob, needs_container, named_blob, cause_refusal}
 use Rattle.range_rows.specs.ObjectRules.Cause.{ContainerIsAbsent, BlobIsAbsent}
 use Rattle.range_rows.specs.RequestChanges.{create_container, delete_blob, put_blob, put_props, set_container_metadata, set_metadata, act_by}
 use Rattle.range_rows.proofs.AnswerLemmas.{put_committed, blob_in-put}
 use Rattle.stamp_model.specs.Runs.{Timed, IsAdmitted, IsIn, IsOn, world_after_one, reply_to_one}
 use Rattle.stamp_model.proofs.ObjectLemmas.{container_needed, blob_needed, object_refusal-container, object_refusal-blob, named_blob-empty}
-use Rattle.stamp_model.proofs.ReadLemmas.{answer, part_at-act, reply-write, reply-read, reply-write_in, reply-read_in, reply-refused}
+use Rattle.stamp_model.proofs.ReadLemmas.{part_at-act, reply-write, reply-read, reply-write_in, reply-read_in, reply-refused}
 use Rattle.stamp_model.proofs.ReplyLemmas.{reply-unrefused, unrefused}
 
 none_before : (bytes : List ℕ) → 0 + length bytes ≡ length bytes
@@ -61,9 +62,12 @@ module _ (keys : Option Keys) (w : World (List ℕ)) (key : Key) (name : List �
   pub headers-put : (reply_to_one keys w put).headers ≡ header.ContentMd5 (md5 put.request.body) ∷ date_headers ((part_at w key).count + 1) put.moment
   headers-put = ap (λ (r : Reply). r.headers) (reply-write keys w put.request put.moment none op.PutBlob key name put_there puts committed-put)
 
-  module _ (get : Timed) (gets : IsOn op.GetBlob key name get.request) (free : (reply_to_one keys (world_after_one keys w put) get).rule ≡ None) where
-    read : reply_to_one keys (world_after_one keys w put) get ≡ answer (world_after_one keys w put) get.request op.GetBlob key (Some put_there)
-    read = reply-read keys (world_after_one keys w put) get.request get.moment free op.GetBlob key name put_there refl gets committed-put
+  module _ (get : Timed) (gets : IsOn op.GetBlob key name get.request) (whole : get.request.ask.args.range ≡ None)
+      (free : (reply_to_one keys (world_after_one keys w put) get).rule ≡ None) where
+    read : reply_to_one keys (world_after_one keys w put) get ≡ with_content (get_frame (committed_value byte_count put_there)) (blob_content put_there)
+    read =
+        reply-read keys (world_after_one keys w put) get.request get.moment free op.GetBlob key name put_there refl gets committed-put
+        ∙ ap (λ (r : Option ByteRange). with_content (ranged_frame r (committed_value byte_count put_there)) (ranged_bytes r (blob_content put_there))) whole
 
     -- the reply to a Get Blob after the Put Blob has the same ETag and the same moment
     pub headers-get : (reply_to_one keys (world_after_one keys w put) get).headers

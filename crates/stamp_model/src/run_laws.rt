@@ -66,8 +66,8 @@ pub fn a_refused_request_changes_no_other_reply()
 {}
 
 /// What is written is read by the request that comes next. Each clause begins with a request that is
-/// accepted: its reply names no rule. After a Put Blob, the reply to a Get Blob has the body that was
-/// put, and the ETag and the moment of the reply to the Put Blob; the reply to a Get Blob Properties
+/// accepted: its reply names no rule. After a Put Blob, the reply to a Get Blob without a range has
+/// the body that was put, and the ETag and the moment of the reply to the Put Blob; the reply to a Get Blob Properties
 /// has the length of that body. After Set Blob Metadata or Set Container Metadata, the metadata that
 /// were set are read, with the ETag and the moment of the reply to that request. After a Delete
 /// Blob, each request for the blob that permission admits is refused by O3. After a Delete
@@ -78,7 +78,8 @@ pub fn what_is_written_is_read()
     ensures body { (keys : Option Keys) (w : World (List ℕ)) (key : Key) (name : List ℕ)
         (put get : Timed)
         → IsAsk put.request.ask → IsOn PutBlob key name put.request
-        → IsOn GetBlob key name get.request → (reply_to_one keys w put).rule ≡ None
+        → IsOn GetBlob key name get.request → get.request.ask.args.range ≡ None
+        → (reply_to_one keys w put).rule ≡ None
         → (reply_to_one keys (world_after_one keys w put) get).rule ≡ None
         → (reply_to_one keys (world_after_one keys w put) get).body ≡ put.request.body }
     ensures put { (keys : Option Keys) (w : World (List ℕ)) (key : Key) (name : List ℕ)
@@ -91,7 +92,8 @@ pub fn what_is_written_is_read()
     ensures get { (keys : Option Keys) (w : World (List ℕ)) (key : Key) (name : List ℕ)
         (kept : Kept) (put get : Timed)
         → IsOn PutBlob key name put.request → put.request.ask.args.kept ≡ Some kept
-        → IsOn GetBlob key name get.request → (reply_to_one keys w put).rule ≡ None
+        → IsOn GetBlob key name get.request → get.request.ask.args.range ≡ None
+        → (reply_to_one keys w put).rule ≡ None
         → (reply_to_one keys (world_after_one keys w put) get).rule ≡ None
         → (reply_to_one keys (world_after_one keys w put) get).headers
         ≡ kept_lines (put_props put.request kept)

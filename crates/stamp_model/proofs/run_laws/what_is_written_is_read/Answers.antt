@@ -2,15 +2,15 @@ use Rattle.stamp_model.proofs.WrittenLemmas.{headers-put, headers-get, body-get,
 use Rattle.stamp_model.proofs.run_laws.what_is_written_is_read.Goals as goal
 
 pub returns-clause-body : goal.returns-clause-body
-returns-clause-body c = λ keys w key name put get fits puts gets none free.
+returns-clause-body c = λ keys w key name put get fits puts gets whole none free.
     let keeps = kept-put put.request key name fits puts in
-    body-get keys w key name keeps.0 put puts keeps.1 none get gets free
+    body-get keys w key name keeps.0 put puts keeps.1 none get gets whole free
 
 pub returns-clause-put : goal.returns-clause-put
 returns-clause-put c = λ keys w key name kept put puts keeps none. headers-put keys w key name kept put puts keeps none
 
 pub returns-clause-get : goal.returns-clause-get
-returns-clause-get c = λ keys w key name kept put get puts keeps gets none free. headers-get keys w key name kept put puts keeps none get gets free
+returns-clause-get c = λ keys w key name kept put get puts keeps gets whole none free. headers-get keys w key name kept put puts keeps none get gets whole free
 
 pub returns-clause-length : goal.returns-clause-length
 returns-clause-length c = λ keys w key name put get fits puts gets none free.
