@@ -3,6 +3,7 @@ use Rattle.std.proofs.Common.{◌≡◌, ◌≤◌, ◌<◌, ℕ, ◌-◌, arith
 use Rattle.std.proofs.lemmas.List.{length-take}
 use Rattle.std.proofs.lemmas.List.Sums.{sum_by-cons}
 use Rattle.std.specs.Option.{option_map, option_or}
+use Rattle.stamp_values.specs.declared.condition.ByteRange.{ByteRange}
 use Rattle.stamp_values.specs.declared.op.Op.{Op}
 use Rattle.stamp_values.specs.declared.op.Op.TheVariants as op
 use Rattle.stamp_types.specs.declared.committed.Committed.{Committed}
@@ -21,7 +22,7 @@ use Rattle.access_rules.specs.Rules.{first_rule, verdict_by, verdict_of, way_of}
 use Rattle.range_rows.specs.Access.{acl_of}
 use Rattle.range_rows.specs.declared.answer.Span.{Span}
 use Rattle.range_rows.specs.FoundParts.{sizes_found}
-use Rattle.range_rows.specs.ObjectReplies.{blob_read, frame, frame_by, is_served, span_bytes, spans_len, standing_read}
+use Rattle.range_rows.specs.ObjectReplies.{blob_read, frame, frame_by, is_served, ranged_frame, span_bytes, spans_len, standing_read}
 use Rattle.range_rows.specs.ObjectRules.{object_refusal}
 use Rattle.stamp_model.specs.Refusals.{access_refusal}
 use Rattle.stamp_model.proofs.ReplyLemmas.{unrefused}
@@ -86,13 +87,17 @@ length-bytes_held [] = omega arith
 length-bytes_held (s ∷ ss) =
     omega (arith, length-append (span_bytes piece_bytes s) (bytes_held ss), shortened (s.to - s.from) (piece_bytes s.piece) s.from, length-bytes_held ss, sum_by-cons (λ (s : Span). s.to - s.from) s ss)
 
+ranged_body : (range : Option ByteRange) (c : Committed ℕ) → (ranged_frame range c).body ≡ []
+ranged_body None c = refl
+ranged_body (Some r) c = refl
+
 frame_body : (o : Op) (q : Asked) (s : Standing) (c : Committed ℕ) → (frame_by o q s c).body ≡ []
 frame_body op.CreateContainer q s c = refl
 frame_body op.ContainerProperties q s c = refl
 frame_body op.SetContainerMetadata q s c = refl
 frame_body op.DeleteContainer q s c = refl
 frame_body op.PutBlob q s c = refl
-frame_body op.GetBlob q s c = refl
+frame_body op.GetBlob q s c = ranged_body q.ask.args.range c
 frame_body op.BlobProperties q s c = refl
 frame_body op.GetMetadata q s c = refl
 frame_body op.SetMetadata q s c = refl
