@@ -7,24 +7,16 @@ mod answer;
 mod answer_laws;
 mod change_fits;
 mod change_laws;
-#[cfg(test)]
-mod change_tests;
 mod conditions;
 mod container;
 mod found;
 mod object_rules;
-#[cfg(test)]
-mod operation_tests;
 mod ranges;
 mod reading;
 mod replies;
 mod request_changes;
 mod row;
 mod rows;
-#[cfg(test)]
-mod rows_tests;
-#[cfg(test)]
-mod sample_requests;
 mod seen;
 mod served;
 

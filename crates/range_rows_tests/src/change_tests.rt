@@ -1,8 +1,8 @@
 //! What changes leave in containers of two accounts: counts, ETags, moments, levels, metadata and
 //! content, against values that were written by hand.
 
-use crate::rows::Rows;
 use crate::sample_requests::{author, key, make, moment_after, text, visible};
+use range_rows::Rows;
 use stamp_types::{
     Act, Block, BlockId, Bytes, Change, Committed, CreateContainer, DeleteBlob, Items, Level,
     Metadata, Moment, Piece, Pieces, Props, PutBlob, SetContainerMetadata, SetMetadata, Share,

@@ -1,10 +1,8 @@
 //! What no clause says of rows: that the rules mean the reference's, that each call can succeed,
 //! and that no body is copied. Printed replies, with their lines, are cases of `replay_cases`.
 
-use crate::answer::{Answer, Span};
-use crate::reading::read_request;
-use crate::rows::Rows;
 use crate::sample_requests::{Sum, body, make, moment, pics, pics_and_gone, request};
+use range_rows::{Answer, Rows, Span, read_request};
 use stamp_types::{Body, Change, Header, Items, Op, Piece, Request, Rule, Status};
 use std::alloc::{AllocError, Global};
 use std::fs;

@@ -1,6 +1,7 @@
 //! Requests and rows for tests.
 
-use crate::rows::Rows;
+use crate::sample_parts::deleted_row;
+use range_rows::Rows;
 use stamp_types::{
     Acl, Act, Args, Ask, Body, Bytes, Change, ContainerRow, Credential, FieldList, Items, Kept,
     Key, Level, Meta, Metadata, Moment, Op, Policies, Request, Share, Signing, Standing, Text,
@@ -192,16 +193,9 @@ fn closed(rt: &impl Abort, alloc: Global) -> Standing {
 }
 
 // The row of a container of the account `pantry`.
-fn set_row(
-    rt: &impl Abort,
-    alloc: Global,
-    rows: &mut Rows,
-    container: &str,
-    count: u64,
-    standing: Option<Standing>,
-) {
-    let row = Act::ContainerRow(ContainerRow { count, standing });
-    let change = Change::new(key(rt, alloc, "pantry", container), row).expect(rt, "a good row");
+fn set_row(rt: &impl Abort, alloc: Global, rows: &mut Rows, container: &str, row: ContainerRow) {
+    let key = key(rt, alloc, "pantry", container);
+    let change = Change::new(key, Act::ContainerRow(row)).expect(rt, "a good row");
     make(rt, alloc, rows, change);
 }
 
@@ -209,14 +203,20 @@ fn set_row(
 pub(crate) fn pics(rt: &impl Abort, alloc: Global, count: u64) -> Rows {
     let mut rows = Rows::new(alloc);
     let standing = Some(closed(rt, alloc));
-    set_row(rt, alloc, &mut rows, "pics", count, standing);
+    set_row(
+        rt,
+        alloc,
+        &mut rows,
+        "pics",
+        ContainerRow { count, standing },
+    );
     rows
 }
 
 /// The same rows with a container `gone`, which was deleted by as many changes.
 pub(crate) fn pics_and_gone(rt: &impl Abort, alloc: Global, count: u64) -> Rows {
     let mut rows = pics(rt, alloc, count);
-    set_row(rt, alloc, &mut rows, "gone", count, None);
+    set_row(rt, alloc, &mut rows, "gone", deleted_row(count));
     rows
 }
 

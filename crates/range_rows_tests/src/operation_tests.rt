@@ -1,11 +1,8 @@
 //! Each operation once, in turn on one container: the status, the headers in their order, the
 //! length and the content of each reply, against values that were written by hand.
 
-use crate::answer::Answer;
-use crate::reading::read_request;
-use crate::rows::Rows;
 use crate::sample_requests::{body, four_names, make, moment_after, request_with};
-use crate::served::is_served;
+use range_rows::{Answer, Rows, is_served, read_request};
 use stamp_types::{Header, Moment, Op, Piece, Request, Status};
 use std::alloc::Global;
 use std::process::Abort;

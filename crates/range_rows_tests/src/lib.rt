@@ -1,0 +1,12 @@
+//! Tests of rows by their public calls.
+#![tactic(auto)]
+
+#[cfg(test)]
+mod change_tests;
+#[cfg(test)]
+mod operation_tests;
+#[cfg(test)]
+mod rows_tests;
+mod sample_parts;
+#[cfg(test)]
+mod sample_requests;
