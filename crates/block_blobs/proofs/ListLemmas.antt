@@ -1,6 +1,6 @@
 -- Block lists: the blocks that they take, and lists whose blocks are all found.
-use Rattle.std.proofs.Common.{◌≡◌, ℕ, suc, ◌+◌, ◌≤◌, Bool, true, false, cond, ◌&&◌, ◌||◌, List, [], ◌∷◌, ◌++◌, length, Option, Some, None, IfSome, All, refl, sym, ap, subst, ◌∙◌, arith, le-leb, zero-add}
-use Rattle.std.specs.Prelude.{find, flat_map, ◌==◌, is_none, is_some, nat_le, nat_eq, sum_by, unwrap_or}
+use Rattle.std.proofs.Common.{◌≡◌, ℕ, zero, suc, ◌+◌, ◌≤◌, Bool, true, false, cond, ◌&&◌, ◌||◌, List, [], ◌∷◌, ◌++◌, length, Option, Some, None, IfSome, All, refl, sym, ap, subst, ◌∙◌, arith, le-leb, zero-add}
+use Rattle.std.specs.Prelude.{find, flat_map, ◌==◌, is_none, is_some, nat_le, nat_eq, slice_index_or, slice_set, sum_by, unwrap_or}
 use Rattle.std.specs.Option.{option_map, option_and_then, option_to_list}
 use Rattle.std.specs.List.{list_all, position_from, AllByRecursion}
 use Rattle.std.specs.Cmp.Lexicographic.{pointwise}
@@ -23,8 +23,8 @@ use Rattle.stamp_types.specs.declared.committed.Committed.{Committed}
 use Rattle.stamp_types.specs.declared.piece.Piece.{Piece}
 use Rattle.stamp_types.specs.Pieces.{pieces_len}
 use Rattle.stamp_types.specs.Changes.{are_blocks, blocks_len, has_ids_or_one, is_block, is_committed, is_in_one_piece}
-use Rattle.stamp_types.specs.World.{Blob, block_of, committed_content, content_from, has_block_id, taken_blocks}
-use Rattle.block_blobs.specs.BlockLists.{EachInOnePiece, wanted_len, first_absent, first_missing, found_entries, list_fault, source_of, sources_of, taken_fault, taken_from, wanted_fault}
+use Rattle.stamp_types.specs.World.{Blob, block_of, committed_content, content_from, has_block_id, taken_blocks, whole_block}
+use Rattle.block_blobs.specs.BlockLists.{EachInOnePiece, wanted_len, first_absent, first_missing, found_entries, list_fault, named_at, named_blocks, source_of, sources_of, taken_fault, taken_from, unnamed_blocks, wanted_fault}
 use Rattle.block_blobs.specs.UncommittedBlocks.{are_in_one_piece}
 
 both : (a b : Bool) → a ≡ true → b ≡ true → (a && b) ≡ true
@@ -259,3 +259,55 @@ module _ (b : Blob (List Piece)) where
       let same : list_fault (first_absent b (found_entries b ws)) (length (found_entries b ws)) len ≡ list_fault (first_missing b ws) (length ws) len =
       (λ i. list_fault ((there ∙ sym all) i) (length-found_entries b ws all i) len) in
       same ∙ fits
+
+-- ---- ids that move into blocks
+
+module _ {C : Type 0} where
+  -- a block that is written at a place, with an id and the content that it had
+  pub set_named : (bs : List (Block C)) (i : ℕ) (id : List ℕ) (block : Block C) → block ≡ slice_index_or bs i block → slice_set bs i (block_of id block.content) ≡ named_at i id bs
+  unfolding named_at
+  set_named [] i id block is = refl
+  set_named (b ∷ bs) zero id block is = ap (λ (b : Block C). block_of id b.content ∷ bs) is
+  set_named (b ∷ bs) (suc i) id block is = ap (λ bs. b ∷ bs) (set_named bs i id block is)
+
+  -- if there is no block at a place, nothing gets an id
+  pub named_at_none : (bs : List (Block C)) (i : ℕ) (id : List ℕ) → length bs ≤ i → named_at i id bs ≡ bs
+  unfolding named_at
+  named_at_none [] i id out = refl
+  named_at_none (b ∷ bs) zero id out = absurd (omega arith)
+  named_at_none (b ∷ bs) (suc i) id out = ap (λ bs. b ∷ bs) (named_at_none bs i id (omega arith))
+
+  -- the last entry gives its id to the block at its place, and the other entries are left
+  pub named_last : (us : List Taken) (u : Taken) (bs : List (Block C)) → named_blocks (us ++ u ∷ []) bs ≡ named_blocks us (named_at (length us) u.id bs)
+  unfolding named_at named_blocks
+  named_last [] u [] = refl
+  named_last [] u (b ∷ bs) = refl
+  named_last (v ∷ us) u [] = refl
+  named_last (v ∷ us) u (b ∷ bs) = ap (λ bs. block_of v.id b.content ∷ bs) (named_last us u bs)
+
+  -- the last entry has given its id, and the other entries are left
+  pub named_more : (all bs cs : List (Block C)) (left us : List Taken) (u : Taken) (i : ℕ) (id : List ℕ)
+      → left ≡ us ++ u ∷ [] → id ≡ u.id → i ≡ length us → cs ≡ named_at i id bs → named_blocks left bs ≡ all → named_blocks us cs ≡ all
+  named_more all bs cs left us u i id last own place put held =
+      ap (named_blocks us) (put ∙ (λ j. named_at (place j) (own j) bs)) ∙ sym (named_last us u bs) ∙ ap (λ us. named_blocks us bs) (sym last) ∙ held
+
+  -- no entry is left
+  pub named_done : (all bs : List (Block C)) (left : List Taken) → length left ≡ 0 → named_blocks left bs ≡ all → bs ≡ all
+  unfolding named_blocks
+  named_done all bs [] none held = held
+  named_done all bs (u ∷ us) none held = absurd (omega arith)
+
+  named_found : (b : Blob C) (t : Taken) (ts : List Taken) (o : Option C) → is_none o ≡ false → named_blocks ts (unnamed_blocks b ts) ≡ taken_blocks b ts
+      → named_blocks (t ∷ ts) (option_to_list (option_map whole_block o) ++ unnamed_blocks b ts) ≡ option_to_list (option_map (block_of t.id) o) ++ taken_blocks b ts
+  unfolding named_blocks
+  named_found b t ts None some rest = cc
+  named_found b t ts (Some content) some rest = ap (λ bs. block_of t.id content ∷ bs) rest
+
+  named_each : (b : Blob C) (ts : List Taken) → AllByRecursion (λ t. is_none (content_from t.from t.id b) ≡ false) ts → named_blocks ts (unnamed_blocks b ts) ≡ taken_blocks b ts
+  unfolding named_blocks
+  named_each b [] all = refl
+  named_each b (t ∷ ts) all = named_found b t ts (content_from t.from t.id b) all.0 (named_each b ts all.1)
+
+  -- if no block of a list is absent, its blocks with its ids are the blocks that it takes
+  pub named_unnamed : (b : Blob C) (ts : List Taken) → first_absent b ts ≡ None → named_blocks ts (unnamed_blocks b ts) ≡ taken_blocks b ts
+  named_unnamed b ts none = named_each b ts (each_there b ts none)

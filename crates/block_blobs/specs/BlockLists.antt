@@ -1,5 +1,5 @@
 -- Block lists: where their blocks are found, and what is wrong with a list ("Put Block List" of the Blob service REST reference, 2012-02-12).
-use Rattle.std.specs.Prelude.{◌≡◌, ◌+◌, ◌<◌, ℕ, IsTrue, IfSome, if◌then◌else◌, nat_lt, is_some, is_none, List, [], ◌∷◌, length, Option, Some, None, find, position, flat_map, unwrap_or}
+use Rattle.std.specs.Prelude.{◌≡◌, ◌+◌, ◌<◌, ℕ, zero, suc, IsTrue, IfSome, if◌then◌else◌, nat_lt, is_some, is_none, List, [], ◌∷◌, length, Option, Some, None, find, position, flat_map, unwrap_or}
 use Rattle.std.specs.Option.{option_map, option_and_then, option_to_list}
 use Rattle.stamp_values.specs.Limits.{entries_limit, blob_limit}
 use Rattle.stamp_values.specs.declared.block.Lookup.{Lookup}
@@ -11,7 +11,8 @@ use Rattle.stamp_values.specs.declared.block.Wanted.{Wanted}
 use Rattle.stamp_types.specs.declared.piece.Piece.{Piece}
 use Rattle.stamp_types.specs.Pieces.{pieces_len}
 use Rattle.stamp_types.specs.Changes.{blocks_len, is_in_one_piece}
-use Rattle.stamp_types.specs.World.{Blob, content_from, taken_blocks}
+use Rattle.stamp_types.specs.declared.committed.Block.{Block}
+use Rattle.stamp_types.specs.World.{Blob, block_of, content_from, taken_blocks, whole_block}
 use Rattle.block_blobs.specs.declared.block_fault.BlockFault.{BlockFault}
 use Rattle.block_blobs.specs.declared.block_fault.BlockFault.TheVariants as fault
 
@@ -40,6 +41,22 @@ first_missing b ws = position (λ w. is_none (source_of b w)) ws
 -- the position of the first entry whose block is not where the entry says
 abbrev pub first_absent : {C : Type 0} → Blob C → List Taken → Option ℕ
 first_absent b ts = position (λ t. is_none (content_from t.from t.id b)) ts
+
+-- the blocks of the entries that are found, in their order, without their ids
+abbrev pub unnamed_blocks : {C : Type 0} → Blob C → List Taken → List (Block C)
+unnamed_blocks b ts = flat_map (λ t. option_to_list (option_map whole_block (content_from t.from t.id b))) ts
+
+-- the blocks with this id at this place, if there is a block at this place
+unfoldable pub named_at : {C : Type 0} → ℕ → List ℕ → List (Block C) → List (Block C)
+named_at i id [] = []
+named_at zero id (block ∷ blocks) = block_of id block.content ∷ blocks
+named_at (suc i) id (block ∷ blocks) = block ∷ named_at i id blocks
+
+-- the blocks with the ids of the entries, the first block with the first id
+unfoldable pub named_blocks : {C : Type 0} → List Taken → List (Block C) → List (Block C)
+named_blocks [] blocks = blocks
+named_blocks (t ∷ ts) [] = []
+named_blocks (t ∷ ts) (block ∷ blocks) = block_of t.id block.content ∷ named_blocks ts blocks
 
 -- how many bytes the blocks of the entries have together, each block as often as it is listed
 abbrev pub listed_len : Blob (List Piece) → List Taken → ℕ

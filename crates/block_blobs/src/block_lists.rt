@@ -19,7 +19,7 @@ use stamp_types::{
     BLOB_LIMIT, Block, BlockId, Committed, ENTRIES_LIMIT, Items, Lookup, Pieces, PutBlockList,
     Source, Taken, Wanted,
 };
-use std::alloc::{AllocError, Global};
+use std::alloc::Global;
 
 /// How many bytes the blocks have together, or `None` if they have more than 268,435,456 bytes.
 pub(crate) fn total_len(blocks: &[Block<Pieces>]) -> Option<u64>
@@ -55,14 +55,25 @@ fn sources_of(lookup: Lookup) -> &'static [Source]
     }
 }
 
-// The block of an id, whose content has one more owner.
-fn block_of(id: &BlockId, content: &Pieces) -> Result<Block<Pieces>, AllocError>
-    ensures { IfOk result (λ block. block ≡ record { id = Some id.now; content = content.now }) }
+// Gives the block at this place the id, if there is a block.
+fn name(blocks: &mut Vec<Block<Pieces>>, place: usize, id: BlockId)
+    ensures { blocks.new.items ≡ lists.named_at place id blocks.old.items }
 {
-    Ok(Block {
-        id: Some(id.clone()?),
-        content: content.clone()?,
-    })
+    if let Some(block) = blocks.get_mut(place) {
+        block.id = Some(id);
+    }
+}
+
+// The blocks with the ids of the entries, the first block with the first id. The ids move.
+fn named(entries: Vec<Taken>, blocks: Vec<Block<Pieces>>) -> Vec<Block<Pieces>>
+    ensures { result.items ≡ lists.named_blocks entries.items blocks.items }
+{
+    let mut left = entries;
+    let mut blocks = blocks;
+    while let Some(entry) = left.pop() {
+        name(&mut blocks, left.len(), entry.id);
+    }
+    blocks
 }
 
 impl BlobRow {
@@ -185,13 +196,15 @@ impl BlobRow {
         Ok(Items::new(found))
     }
 
-    // The blocks of the entries, in their order. `NotFound` with the first that is not there.
-    fn taken_blocks<'a>(
+    // The blocks of the entries, in their order, without their ids. `NotFound` with the first that is
+    // not there. The content of each block has one more owner.
+    fn unnamed_blocks<'a>(
         &'a self,
         alloc: Global,
         entries: &'a [Taken],
     ) -> Result<Vec<Block<Pieces>>, BlockFault>
-        ensures value { IfOk result (λ blocks. blocks.items ≡ taken_blocks self.now entries.now) }
+        ensures value { IfOk result (λ blocks.
+            blocks.items ≡ lists.unnamed_blocks self.now entries.now) }
         ensures all { OnOk result (lists.first_absent self.now entries.now ≡ None) }
         ensures missing { IfErr result
             (IsFault (option_map BlockFault.NotFound (lists.first_absent self.now entries.now))) }
@@ -202,27 +215,47 @@ impl BlobRow {
             let Some(content) = self.content(&first, entry.from, &entry.id) else {
                 return Err(BlockFault::NotFound(i));
             };
-            blocks.push(block_of(&entry.id, content)?)?;
+            let content = content.clone()?;
+            blocks.push(Block { id: None, content })?;
         }
         Ok(blocks)
     }
 
+    // The blocks of the entries, in their order. `NotFound` with the first that is not there. The ids
+    // move into the blocks once all blocks are found: a look-up among the committed blocks borrows
+    // them.
+    #[tactic(auto, using(crate::proofs::ListLemmas::named_unnamed))]
+    fn taken_blocks(
+        &self,
+        alloc: Global,
+        entries: Vec<Taken>,
+    ) -> Result<Vec<Block<Pieces>>, BlockFault>
+        ensures value { IfOk result (λ blocks. blocks.items ≡ taken_blocks self.now entries.items) }
+        ensures all { OnOk result (lists.first_absent self.now entries.items ≡ None) }
+        ensures missing { IfErr result
+            (IsFault (option_map BlockFault.NotFound (lists.first_absent self.now entries.items))) }
+    {
+        let blocks = self.unnamed_blocks(alloc, entries.as_slice())?;
+        Ok(named(entries, blocks))
+    }
+
     // The blocks of the entries with how many bytes they have, or the fault of the list.
     #[tactic(auto, using(crate::proofs::ListLemmas::are_blocks_taken))]
-    fn listed<'a>(
-        &'a self,
+    fn listed(
+        &self,
         alloc: Global,
-        entries: &'a [Taken],
+        entries: Vec<Taken>,
     ) -> Result<(Vec<Block<Pieces>>, u64), BlockFault>
-        ensures value { IfOk result (λ p. p.0.items ≡ taken_blocks self.now entries.now) }
-        ensures len { IfOk result (λ p. p.1 ≡ lists.listed_len self.now entries.now) }
+        ensures value { IfOk result (λ p. p.0.items ≡ taken_blocks self.now entries.items) }
+        ensures len { IfOk result (λ p. p.1 ≡ lists.listed_len self.now entries.items) }
         ensures valid { IfOk result (λ p. IsTrue (are_blocks p.0.items)) }
-        ensures fits { OnOk result (lists.taken_fault self.now entries.now ≡ None) }
-        ensures fault { IfErr result (IsFault (lists.taken_fault self.now entries.now)) }
+        ensures fits { OnOk result (lists.taken_fault self.now entries.items ≡ None) }
+        ensures fault { IfErr result (IsFault (lists.taken_fault self.now entries.items)) }
     {
         self.keeps_pieces();
+        let count = entries.len();
         let blocks = self.taken_blocks(alloc, entries)?;
-        if entries.len() > ENTRIES_LIMIT {
+        if count > ENTRIES_LIMIT {
             return Err(BlockFault::TooMany);
         }
         match total_len(&blocks) {
@@ -233,7 +266,7 @@ impl BlobRow {
 
     /// Makes the blocks of the entries the content, in their order, with kept headers and metadata of
     /// the Put Block List and `count` as the ETag. Nothing of the old committed part stays, and no
-    /// uncommitted block. No byte of content is copied.
+    /// uncommitted block. No byte of content is copied, and the ids of the list move.
     ///
     /// The faults are those of `resolve`, over entries that say where their blocks are. After a
     /// fault the blob is as it was.
@@ -255,14 +288,14 @@ impl BlobRow {
         ensures too_large { result ≡ Err BlockFault.TooLarge
             → lists.taken_fault self.old list.entries ≡ Some BlockFault.TooLarge }
     {
-        let (blocks, len) = self.listed(alloc, list.entries.as_slice())?;
         let PutBlockList {
             blob: _,
             moment,
             props,
             metadata,
-            entries: _,
+            entries,
         } = list;
+        let (blocks, len) = self.listed(alloc, entries.into_vec())?;
         let committed = Committed {
             etag: count,
             made: moment,

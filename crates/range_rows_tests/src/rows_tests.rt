@@ -4,7 +4,7 @@
 use crate::sample_requests::{Sum, body, make, moment, pics, pics_and_gone, request};
 use range_rows::{Answer, Rows, Span, read_request};
 use stamp_types::{Body, Change, Header, Items, Op, Piece, Request, Rule, Status};
-use std::alloc::{AllocError, Global};
+use std::alloc::Global;
 use std::fs;
 use std::process::Abort;
 
