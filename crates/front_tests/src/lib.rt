@@ -2,13 +2,19 @@
 #![tactic(auto)]
 
 #[cfg(test)]
+mod condition_tests;
+#[cfg(test)]
 mod connection_tests;
 #[cfg(test)]
 mod head_tests;
+#[cfg(test)]
+mod range_tests;
 #[cfg(test)]
 mod reply_tests;
 #[cfg(test)]
 mod row_tests;
 mod sample_parts;
+#[cfg(test)]
+mod test_heads;
 #[cfg(test)]
 mod value_tests;

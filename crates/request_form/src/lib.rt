@@ -3,8 +3,6 @@
 
 mod condition_field;
 mod condition_laws;
-#[cfg(test)]
-mod condition_tests;
 mod connection_fields;
 mod credential;
 mod denial;
@@ -22,12 +20,8 @@ mod parsed_head;
 mod path_kind;
 mod range_field;
 mod range_laws;
-#[cfg(test)]
-mod range_tests;
 mod request_line;
 mod target;
-#[cfg(test)]
-mod test_heads;
 mod texts;
 mod unserved;
 mod value_fault;

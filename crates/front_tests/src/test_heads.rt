@@ -1,6 +1,6 @@
 //! Heads for tests, and what the requests that they ask for have.
 
-use crate::{HeadFault, read_head};
+use request_form::{HeadFault, read_head};
 use stamp_types::{Args, Body, Code, Rule};
 use std::alloc::Global;
 use std::process::Abort;
