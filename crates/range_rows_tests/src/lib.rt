@@ -4,7 +4,11 @@
 #[cfg(test)]
 mod change_tests;
 #[cfg(test)]
+mod condition_tests;
+#[cfg(test)]
 mod operation_tests;
+#[cfg(test)]
+mod part_tests;
 #[cfg(test)]
 mod rows_tests;
 mod sample_parts;
