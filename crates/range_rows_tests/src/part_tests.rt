@@ -171,47 +171,35 @@ fn met(first: u64, end: u64) -> usize {
         .count()
 }
 
+// Gets the part of the five blocks from `first` up to but not including `end`.
+fn hold_part(rt: &impl Abort, alloc: Global, rows: &Rows, first: u64, end: u64) {
+    let answer = part(
+        rt,
+        alloc,
+        rows,
+        "blocks",
+        ranged(first, Some(end.saturating_sub(1))),
+    );
+    let good = is_part(rt, alloc, &answer, b"abcdefghi", first, end);
+    let count = answer.spans.as_slice().len();
+    assert!(rt; good && count == met(first, end), "{first} {end}");
+}
+
+// Gets each part of the five blocks that begins with this byte.
+fn hold_parts_from(rt: &impl Abort, alloc: Global, rows: &Rows, first: u64) {
+    for end in 1..10 {
+        if first < end {
+            hold_part(rt, alloc, rows, first, end);
+        }
+    }
+}
+
 #[test]
 fn parts_of_five_blocks(rt: HostRuntime) {
     let alloc = rt.alloc();
     let mut rows = pics(&rt, alloc, 1);
     store(&rt, alloc, &mut rows, stored(&rt, alloc));
     for first in 0..9 {
-        for end in first + 1..10 {
-            let answer = part(&rt, alloc, &rows, "blocks", ranged(first, Some(end - 1)));
-            let good = is_part(&rt, alloc, &answer, b"abcdefghi", first, end);
-            let count = answer.spans.as_slice().len();
-            assert!(rt; good && count == met(first, end), "{first} {end}");
-        }
-    }
-}
-
-const PIECE: u64 = 4_194_304;
-
-// A blob of one block in two pieces. The second piece begins at byte 4,194,304.
-#[test]
-fn parts_of_two_pieces(rt: HostRuntime) {
-    let alloc = rt.alloc();
-    let mut rows = pics(&rt, alloc, 1);
-    let bytes = vec![in alloc; 7; PIECE as usize + 2].expect(&rt, "memory");
-    put(
-        &rt,
-        alloc,
-        &mut rows,
-        "large",
-        bytes.clone().expect(&rt, "memory"),
-    );
-    for (first, end, count) in [
-        (PIECE - 1, PIECE, 1),
-        (PIECE - 1, PIECE + 1, 2),
-        (PIECE, PIECE + 1, 1),
-        (0, PIECE + 2, 2),
-    ] {
-        let answer = part(&rt, alloc, &rows, "large", ranged(first, Some(end - 1)));
-        let good = is_part(&rt, alloc, &answer, bytes.as_slice(), first, end);
-        assert!(rt;
-            good && answer.spans.as_slice().len() == count,
-            "{first} {end}"
-        );
+        hold_parts_from(&rt, alloc, &rows, first);
     }
 }
