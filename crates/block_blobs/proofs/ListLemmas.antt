@@ -270,7 +270,7 @@ module _ {C : Type 0} where
   set_named (b ∷ bs) zero id block is = ap (λ (b : Block C). block_of id b.content ∷ bs) is
   set_named (b ∷ bs) (suc i) id block is = ap (λ bs. b ∷ bs) (set_named bs i id block is)
 
-  -- if there is no block at a place, nothing gets an id
+  -- if a list has no block at a place, nothing gets an id
   pub named_at_none : (bs : List (Block C)) (i : ℕ) (id : List ℕ) → length bs ≤ i → named_at i id bs ≡ bs
   unfolding named_at
   named_at_none [] i id out = refl

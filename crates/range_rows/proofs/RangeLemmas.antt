@@ -25,7 +25,7 @@ span_of from to p = record { piece = p; from = from; to = to } ∷ []
 no_span : (from end : ℕ) (p : Piece) → min end (piece_len p) ≤ from → piece_spans from end p ≡ []
 no_span from end p before = ap (λ b. if b then span_of from (min end (piece_len p)) p else []) (le-ltb from (min end (piece_len p)) before)
 
--- if the end is at the first byte or before it, there are no spans
+-- an end at the first byte or before it gives an empty list of spans
 pub no_part : (from end : ℕ) (ps : List Piece) → end ≤ from → part_spans from end ps ≡ []
 no_part from end [] none = refl
 no_part from end (p ∷ ps) none =

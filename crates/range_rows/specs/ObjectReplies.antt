@@ -152,7 +152,7 @@ write_frame q n t = frame_by q.ask.op q (record empty_standing { etag = n; made 
 abbrev pub blob_content : {C : Type 0} → Committed (List C) → List C
 blob_content c = flat_map (λ b. b.content) c.blocks
 
--- the bytes that a range asks for, or all bytes if there is no range
+-- the bytes that a range asks for, or all bytes if a request has no range
 abbrev pub ranged_bytes : Option ByteRange → List ℕ → List ℕ
 ranged_bytes None bytes = bytes
 ranged_bytes (Some r) bytes = slice_range bytes r.first (range_end r (length bytes))
@@ -196,7 +196,7 @@ abbrev pub part_spans : ℕ → ℕ → List Piece → List Span
 part_spans from end [] = []
 part_spans from end (p ∷ ps) = piece_spans from end p ++ part_spans (from - piece_len p) (end - piece_len p) ps
 
--- which bytes of which pieces go out, if the range asks for them, or all pieces if there is no range
+-- which bytes of which pieces go out, if the range asks for them, or all pieces if a request has no range
 abbrev pub ranged_spans : Option ByteRange → List Piece → List Span
 ranged_spans None ps = map whole_span ps
 ranged_spans (Some r) ps = part_spans r.first (range_end r (pieces_len ps)) ps

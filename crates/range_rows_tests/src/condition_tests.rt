@@ -147,7 +147,7 @@ fn if_none_match(condition: Condition) -> Sent {
     }
 }
 
-// `*`, the ETag of the blob that exists, another ETag, and a text that is no ETag of this stamp.
+// `*`, the ETag of the blob that exists, another ETag, and a text that is not an ETag of this stamp.
 const CONDITIONS: [Condition; 4] = [
     Condition::Any,
     Condition::Count(2),

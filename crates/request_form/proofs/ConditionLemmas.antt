@@ -61,7 +61,7 @@ named_count v count named = by_star (bytes_eq v (codes "*")) named
     by_star true named = absurd (cc)
     by_star false named = by_text (bytes_eq v (etag_text (etag_number v))) refl named
 
--- a value that is no ETag and no star asks for no blob
+-- a value that is neither an ETag nor a star asks for no blob
 pub never_named : (v : List ℕ) → bytes_eq v (codes "*") ≡ false → ((count : ℕ) → count < 2 ^ 64 → v ≡ etag_text count → ⊥) → condition_named v ≡ Never
 unfolding condition_named
 never_named v other none = rw other (by_text (bytes_eq v (etag_text (etag_number v))) refl)

@@ -25,8 +25,8 @@ number_within digits = min (digits_value 10 digits) 18_446_744_073_709_551_615
 abbrev pub is_falling : List ℕ → List ℕ → Bool
 is_falling first last = nat_lt (digits_value 10 last) (digits_value 10 first)
 
--- the range from the byte that the first digits write to the byte that the last digits write, or up to the end if there are no
--- last digits; no range if its first byte comes after its last byte
+-- the range from the byte that the first digits write to the byte that the last digits write, or up to the end if the last
+-- digits are missing; no range if its first byte comes after its last byte
 unfoldable pub range_between : List ℕ → List ℕ → Option ByteRange
 range_between first last =
     if is_nothing last then Some (record { first = number_within first; last = None })

@@ -194,7 +194,7 @@ module _ (q : Asked) where
   abbrev bare : Asked
   bare = without_conditions q
 
-  -- without conditions there is no other cause to refuse a request
+  -- to take the conditions away adds no cause to refuse a request
   fewer_causes : (p : Part ℕ) (c : Cause) → cause_holds p q c ≡ false → cause_holds p bare c ≡ false
   fewer_causes p MatchFails h = and_false (has_conditions q.ask.op)
   fewer_causes p IsNotModified h = ap (λ (b : Bool). not (writes q.ask.op) && b) (and_false (has_conditions q.ask.op)) ∙ and_false (not (writes q.ask.op))

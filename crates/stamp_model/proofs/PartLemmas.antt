@@ -139,7 +139,7 @@ seen : {C D : Type 0} (f : C → D) (o : Option (Committed C)) → is_none (opti
 seen f None h = cc
 seen f (Some c) h = (c, refl)
 
--- without the range there is no other cause to refuse a request
+-- to take the range away adds no cause to refuse a request
 fewer_causes : (q : Asked) (p : Part ℕ) (c : Cause) → cause_holds p q c ≡ false → cause_holds p (without_range q) c ≡ false
 fewer_causes q p RangeIsPastTheEnd h = and_false (is_get q.ask.op)
 fewer_causes q p other h = h
