@@ -5,3 +5,4 @@ pub mod FirstContents
 pub mod IdTreeLemmas
 pub mod ListLemmas
 pub mod StoredBlocks
+pub mod ListFaults

@@ -145,6 +145,15 @@ impl BlobRow {
         self.uncommitted.len()
     }
 
+    /// Why no block can be put under this id, if no block can be put under it: `Length` if the
+    /// uncommitted blocks have ids of another length, or else `TooMany` if the id is new and there are
+    /// 50,000 uncommitted blocks. Takes no memory.
+    pub fn block_fault(&self, id: &BlockId) -> Option<BlockFault>
+        ensures { result ≡ blocks.block_fault id.now self.now.uncommitted }
+    {
+        self.uncommitted.fault(id)
+    }
+
     /// Puts an uncommitted block under an id, which replaces the uncommitted block of that id
     /// ("Put Block"). No byte of content is copied, and the id is copied only if it is new.
     ///

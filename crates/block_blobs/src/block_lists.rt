@@ -196,9 +196,9 @@ impl BlobRow {
         Ok(Items::new(found))
     }
 
-    // The blocks of the entries, in their order, without their ids. `NotFound` with the first that is
-    // not there. The content of each block has one more owner.
-    fn unnamed_blocks<'a>(
+    /// The blocks of the entries, in their order, without their ids. `NotFound` with the first that is
+    /// not there. The content of each block has one more owner.
+    pub(crate) fn unnamed_blocks<'a>(
         &'a self,
         alloc: Global,
         entries: &'a [Taken],

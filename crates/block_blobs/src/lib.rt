@@ -7,6 +7,7 @@ mod block_lists;
 mod content_by_id;
 mod first_blocks;
 mod laws;
+mod list_faults;
 mod uncommitted;
 
 pub use blob_row::BlobRow;

@@ -185,6 +185,29 @@ fn uncommitted_ids_have_one_length(rt: HostRuntime) {
     meets(&rt, alloc, &[2; 64], &[3; 64], true);
 }
 
+fn has_fault(
+    rt: &impl Abort,
+    alloc: Global,
+    row: &BlobRow,
+    bytes: &[u8],
+    fault: Option<BlockFault>,
+) {
+    assert!(rt; row.block_fault(&id(rt, alloc, bytes)) == fault);
+}
+
+#[test]
+fn a_fault_is_known_before_a_block_is_put(rt: HostRuntime) {
+    let alloc = rt.alloc();
+    let mut row = BlobRow::new(alloc);
+    has_fault(&rt, alloc, &row, &[2; 64], None);
+    puts(&rt, alloc, &mut row, &[1], "one");
+    has_fault(&rt, alloc, &row, &[2; 64], Some(BlockFault::Length));
+    has_fault(&rt, alloc, &row, &[2], None);
+    // Committed ids do not count.
+    commits(&rt, alloc, &mut row, &[(Lookup::Latest, &[1])], &["one"]);
+    has_fault(&rt, alloc, &row, &[2; 64], None);
+}
+
 fn replace(rt: &impl Abort, alloc: Global, row: &mut BlobRow) {
     assert!(rt; row.replace(alloc, put_blob(rt, alloc, "hello"), 8).is_ok());
     assert!(rt; has_content(row, &["hello"]));
@@ -232,6 +255,16 @@ fn a_blob_has_at_most_50_000_uncommitted_blocks(rt: HostRuntime) {
     for number in 0..50_000 {
         put_number(&rt, alloc, &mut row, number).expect(&rt, "a block");
     }
+    // The ids are the numbers from 0 to 49,999: 49,999 is [0, 0, 195, 79].
+    has_fault(
+        &rt,
+        alloc,
+        &row,
+        &[0, 0, 195, 80],
+        Some(BlockFault::TooMany),
+    );
+    has_fault(&rt, alloc, &row, &[0, 0, 195, 79], None);
+    has_fault(&rt, alloc, &row, &[0], Some(BlockFault::Length));
     assert!(rt; put_number(&rt, alloc, &mut row, 50_000) == Err(BlockFault::TooMany));
     assert!(rt; put_number(&rt, alloc, &mut row, 49_999).is_ok());
     assert_eq!(rt; row.uncommitted_len(), 50_000);

@@ -141,8 +141,8 @@ impl Uncommitted {
         self.blocks.len() >= UNCOMMITTED_LIMIT && self.blocks.get(id).is_none()
     }
 
-    // Why no block can be put under this id, if no block can be put under it.
-    fn fault(&self, id: &BlockId) -> Option<BlockFault>
+    /// Why no block can be put under this id, if no block can be put under it.
+    pub(crate) fn fault(&self, id: &BlockId) -> Option<BlockFault>
         ensures { result ≡ blocks.block_fault id.now self.now }
     {
         if self.has_other_length(id) {

@@ -2,6 +2,8 @@
 #![tactic(auto)]
 
 #[cfg(test)]
+mod block_tests;
+#[cfg(test)]
 mod condition_tests;
 #[cfg(test)]
 mod connection_tests;

@@ -143,18 +143,47 @@ fn heads_of_operations_that_are_not_built(rt: HostRuntime) {
             "GET /acct/box?restype=container&comp=list HTTP/1.1\r\n\r\n",
             None,
         ),
+    ];
+    assert_ops(&rt, rt.alloc(), &rows);
+}
+
+#[test]
+fn heads_about_blocks(rt: HostRuntime) {
+    let rows = [
         (
             "PUT /acct/box/b?comp=block&blockid=YQ== HTTP/1.1\r\nContent-Length: 0\r\n\r\n",
+            Some(Op::PutBlock),
+        ),
+        (
+            "PUT /acct/box/b?comp=block HTTP/1.1\r\nContent-Length: 0\r\n\r\n",
+            None,
+        ),
+        (
+            "PUT /acct/box/b?comp=Block&blockid=YQ== HTTP/1.1\r\nContent-Length: 0\r\n\r\n",
+            None,
+        ),
+        (
+            "PUT /acct/box?comp=block&blockid=YQ== HTTP/1.1\r\nContent-Length: 0\r\n\r\n",
+            None,
+        ),
+        (
+            "GET /acct/box/b?comp=block&blockid=YQ== HTTP/1.1\r\n\r\n",
             None,
         ),
         (
             "PUT /acct/box/b?comp=blocklist HTTP/1.1\r\nContent-Length: 0\r\n\r\n",
+            Some(Op::PutBlockList),
+        ),
+        (
+            "PUT /acct/box/b?restype=container&comp=blocklist HTTP/1.1\r\nContent-Length: 0\r\n\r\n",
             None,
         ),
         (
-            "GET /acct/box/b?comp=blocklist&blocklisttype=all HTTP/1.1\r\n\r\n",
-            None,
+            "GET /acct/box/b?comp=blocklist HTTP/1.1\r\n\r\n",
+            Some(Op::GetBlockList),
         ),
+        ("HEAD /acct/box/b?comp=blocklist HTTP/1.1\r\n\r\n", None),
+        ("DELETE /acct/box/b?comp=blocklist HTTP/1.1\r\n\r\n", None),
     ];
     assert_ops(&rt, rt.alloc(), &rows);
 }

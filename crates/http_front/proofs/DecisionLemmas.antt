@@ -1,6 +1,6 @@
 -- What is decided on a request.
-use Rattle.std.proofs.Common.{◌≡◌, ◌≤◌, ◌<◌, ℕ, ◌-◌, arith, true, List, [], ◌∷◌, ◌++◌, length, length-append, take, drop, Option, Some, None, refl, sym, ap, ◌∙◌, subst}
-use Rattle.std.proofs.lemmas.List.{length-take}
+use Rattle.std.proofs.Common.{◌≡◌, ◌≤◌, ◌<◌, ◌⊎◌, inl, inr, ℕ, ◌-◌, arith, true, List, [], ◌∷◌, ◌++◌, length, length-append, take, drop, Option, Some, None, refl, sym, ap, subst}
+use Rattle.std.proofs.lemmas.List.{append-nil, length-take}
 use Rattle.std.proofs.lemmas.List.Sums.{sum_by-cons}
 use Rattle.std.specs.Option.{option_map, option_or}
 use Rattle.stamp_values.specs.declared.condition.ByteRange.{ByteRange}
@@ -14,7 +14,7 @@ use Rattle.stamp_types.specs.declared.rule.Rule.{Rule}
 use Rattle.stamp_types.specs.declared.standing.Standing.{Standing}
 use Rattle.stamp_types.specs.Pieces.{piece_bytes}
 use Rattle.stamp_types.specs.Requests.{Asked}
-use Rattle.stamp_types.specs.World.{Part}
+use Rattle.stamp_types.specs.World.{Blob, Part}
 use Rattle.access_rules.specs.declared.judgement.Verdict.TheVariants.{Allow, Deny}
 use Rattle.access_rules.specs.declared.judgement.Way.{Way}
 use Rattle.access_rules.specs.declared.keys.Keys.{Keys}
@@ -22,7 +22,8 @@ use Rattle.access_rules.specs.Rules.{first_rule, verdict_by, verdict_of, way_of}
 use Rattle.range_rows.specs.Access.{acl_of}
 use Rattle.range_rows.specs.declared.answer.Span.{Span}
 use Rattle.range_rows.specs.FoundParts.{sizes_found}
-use Rattle.range_rows.specs.ObjectReplies.{blob_read, frame, frame_by, is_served, ranged_frame, span_bytes, spans_len, standing_read}
+use Rattle.range_rows.specs.NamedBlobs.{target_blob}
+use Rattle.range_rows.specs.ObjectReplies.{blob_read, frame, frame_by, is_served, ranged_frame, span_bytes, spans, spans_by, spans_len, standing_read}
 use Rattle.range_rows.specs.ObjectRules.{object_refusal}
 use Rattle.stamp_model.specs.Refusals.{access_refusal}
 use Rattle.stamp_model.proofs.ReplyLemmas.{unrefused}
@@ -91,21 +92,38 @@ ranged_body : (range : Option ByteRange) (c : Committed ℕ) → (ranged_frame r
 ranged_body None c = refl
 ranged_body (Some r) c = refl
 
-frame_body : (o : Op) (q : Asked) (s : Standing) (c : Committed ℕ) → (frame_by o q s c).body ≡ []
-frame_body op.CreateContainer q s c = refl
-frame_body op.ContainerProperties q s c = refl
-frame_body op.SetContainerMetadata q s c = refl
-frame_body op.DeleteContainer q s c = refl
-frame_body op.PutBlob q s c = refl
-frame_body op.GetBlob q s c = ranged_body q.ask.args.range c
-frame_body op.BlobProperties q s c = refl
-frame_body op.GetMetadata q s c = refl
-frame_body op.SetMetadata q s c = refl
-frame_body op.DeleteBlob q s c = refl
-frame_body other q s c = refl
+-- a frame has no body of its own, or nothing goes out after it
+one_body : (o : Op) (q : Asked) (s : Standing) (c : Committed ℕ) (b : Blob ℕ) (range : Option ByteRange) (d : Committed (List Piece))
+    → ((frame_by o q s c b).body ≡ []) ⊎ (spans_by o range d ≡ [])
+one_body op.CreateContainer q s c b range d = inl refl
+one_body op.ContainerProperties q s c b range d = inl refl
+one_body op.SetContainerMetadata q s c b range d = inl refl
+one_body op.DeleteContainer q s c b range d = inl refl
+one_body op.PutBlob q s c b range d = inl refl
+one_body op.GetBlob q s c b range d = inl (ranged_body q.ask.args.range c)
+one_body op.BlobProperties q s c b range d = inl refl
+one_body op.GetMetadata q s c b range d = inl refl
+one_body op.SetMetadata q s c b range d = inl refl
+one_body op.DeleteBlob q s c b range d = inl refl
+one_body op.PutBlock q s c b range d = inl refl
+one_body op.PutBlockList q s c b range d = inl refl
+one_body op.GetBlockList q s c b range d = inr refl
+one_body other q s c b range d = inl refl
+
+fits_by : (body : List ℕ) (ss : List Span) → (body ≡ []) ⊎ (ss ≡ []) → length body < 18446744073709551616 → spans_len ss ≤ 268435456
+    → length (body ++ bytes_held ss) < 18446744073709551616
+fits_by body ss (inl none) held short =
+    subst (λ (bs : List ℕ). length (bs ++ bytes_held ss) < 18446744073709551616) (sym none) (omega (arith, length-bytes_held ss, short))
+fits_by body ss (inr none) held short =
+    subst (λ (ss : List Span). length (body ++ bytes_held ss) < 18446744073709551616) (sym none) (subst (λ (bs : List ℕ). length bs < 18446744073709551616) (sym (append-nil body)) held)
 
 -- a reply with its content fits in memory
-pub fits_memory : (r : Reply) (p : Part ℕ) (q : Asked) (ss : List Span) → r ≡ frame p q → spans_len ss ≤ 268435456 → length (r.body ++ bytes_held ss) < 18446744073709551616
-fits_memory r p q ss is short =
-    let none : r.body ≡ [] = ap (λ (r : Reply). r.body) is ∙ frame_body q.ask.op q (standing_read p) (blob_read p q.ask) in
-    subst (λ (bs : List ℕ). length (bs ++ bytes_held ss) < 18446744073709551616) (sym none) (omega (arith, length-bytes_held ss, short))
+pub fits_memory : (r : Reply) (p : Part ℕ) (d : Part (List Piece)) (q : Asked) (ss : List Span) (n : ℕ) → r ≡ frame p q → ss ≡ spans d q
+    → n ≡ length r.body → n < 18446744073709551616 → spans_len ss ≤ 268435456 → length (r.body ++ bytes_held ss) < 18446744073709551616
+fits_memory r p d q ss n is out counted held short =
+    fits_by r.body ss
+    (subst (λ (r : Reply). (r.body ≡ []) ⊎ (ss ≡ [])) (sym is)
+    (subst (λ (ss : List Span). ((frame p q).body ≡ []) ⊎ (ss ≡ [])) (sym out)
+    (one_body q.ask.op q (standing_read p) (blob_read p q.ask) (target_blob p q.ask) q.ask.args.range (blob_read d q.ask))))
+    (subst (λ n. n < 18446744073709551616) counted held)
+    short

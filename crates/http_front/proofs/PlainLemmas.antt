@@ -1,5 +1,5 @@
 -- What a service holds whose content is in memory, and what it answers.
-use Rattle.std.proofs.Common.{◌≡◌, ℕ, ◌-◌, true, false, List, [], ◌∷◌, length, drop, zero, suc, get_or, Option, Some, None, Result, Ok, Err, IfOk, OnOk, OnErr, refl, sym, ap, ◌∙◌, subst}
+use Rattle.std.proofs.Common.{◌≡◌, ℕ, true, false, List, [], ◌∷◌, length, drop, zero, suc, get_or, Option, Some, None, Result, Ok, Err, IfOk, OnOk, OnErr, refl, sym, ap, ◌∙◌, subst}
 use Rattle.std.proofs.lemmas.List.Sums.{AllPass-from_list_all}
 use Rattle.std.specs.Prelude.{⊤}
 use Rattle.std.specs.declared.alloc.AllocError.{AllocError}
@@ -21,15 +21,14 @@ use Rattle.stamp_types.specs.Contents.{EachActContent, EachContent}
 use Rattle.stamp_types.specs.Pieces.{cut_at_most, held, is_held, is_held_piece, piece_bytes, piece_len, pieces_len}
 use Rattle.stamp_types.specs.Replies.{denied}
 use Rattle.stamp_types.specs.Requests.{Asked}
-use Rattle.stamp_types.specs.World.{Part, World, part_at, part_value, world_value, changed_in, same_pieces}
+use Rattle.stamp_types.specs.World.{Part, World, blob_in, part_at, part_value, world_value, changed_in, same_pieces}
 use Rattle.stamp_types.proofs.WorldLemmas.{part_at-world_value}
 use Rattle.stamp_types.proofs.ContentReadings.{part_value-changed}
 use Rattle.stamp_types.proofs.EachContents.{EachContent-changed, EachContent-then, EachWorldContent-changed_in}
 use Rattle.access_rules.specs.declared.keys.Keys.{Keys}
 use Rattle.range_rows.specs.ObjectReplies.{ReadsWhole, byte_count, frame, is_served, reply_of, sizes, spans, with_content}
 use Rattle.range_rows.specs.ObjectRules.{object_refusal}
-use Rattle.range_rows.specs.RequestChanges.{delete_blob, put_blob, set_metadata, act_by, change_of, part_after}
-use Rattle.range_rows.specs.Fits.{fits}
+use Rattle.range_rows.specs.RequestChanges.{delete_blob, put_blob, put_block, put_block_list, set_metadata, act_by, change_of, part_after}
 use Rattle.range_rows.proofs.SpanLemmas.{length-read, reply_of-read}
 use Rattle.stamp_model.specs.Effects.{unless_refused, world_after, effect_as}
 use Rattle.stamp_model.specs.Refusals.{refusal}
@@ -112,6 +111,19 @@ module _ (z : Part ℕ) (q : Asked) (t : ℕ) where
       by_parts None kept = tt
       by_parts (Some name) None = tt
       by_parts (Some name) (Some kept) = is_held-cut_at_most (length q.body) q.body
+  brought_by op.PutBlock = by_parts q.ask.blob q.ask.args.block
+    where
+      by_parts : (blob : Option (List ℕ)) (id : Option (List ℕ)) → BringsHeld (option_and_then (λ name. option_map (λ id. act.PutBlock (put_block q name id)) id) blob)
+      by_parts None id = tt
+      by_parts (Some name) None = tt
+      by_parts (Some name) (Some id) = is_held-cut_at_most (length q.body) q.body
+  brought_by op.PutBlockList = by_parts q.ask.blob q.ask.args.kept
+    where
+      by_parts : (blob : Option (List ℕ)) (kept : Option Kept)
+          → BringsHeld (option_and_then (λ name. option_map (λ kept. act.PutBlockList (put_block_list (blob_in z name) q t name kept)) kept) blob)
+      by_parts None kept = tt
+      by_parts (Some name) None = tt
+      by_parts (Some name) (Some kept) = tt
   brought_by other = tt
 
   keyed : (a : Option Act) (c : KeyedAct) → BringsHeld a → option_map (on_key q.ask.key) a ≡ Some c → EachActContent (λ ps. is_held ps ≡ true) c.act
@@ -226,6 +238,8 @@ unchanging z q t op.DeleteContainer reads = cc
 unchanging z q t op.PutBlob reads = cc
 unchanging z q t op.SetMetadata reads = cc
 unchanging z q t op.DeleteBlob reads = cc
+unchanging z q t op.PutBlock reads = cc
+unchanging z q t op.PutBlockList reads = cc
 unchanging z q t other reads = refl
 
 pub rows_after_read : (h : HeldRows) (q : Asked) (t : ℕ) → row_refusal h q t ≡ None → writes q.ask.op ≡ false → h ≡ rows_after h q t

@@ -5,7 +5,7 @@ ghost use Rattle.range_rows.specs.Access.{acl_of};
 ghost use Rattle.range_rows.specs.FoundParts.{sizes_found};
 ghost use Rattle.range_rows.specs.ObjectReplies as replies;
 ghost use Rattle.range_rows.specs.ObjectRules as rules;
-ghost use Rattle.range_rows.specs.RequestChanges.{reading_of};
+ghost use Rattle.range_rows.specs.Readings.{reading_of};
 ghost use Rattle.stamp_model.specs.Refusals as refusals;
 ghost use Rattle.http_front.specs.Decisions.{decision_of, found_refusal, found_reply, object_or_unserved};
 
@@ -120,6 +120,8 @@ fn reply(
     ensures { IfOk result (λ reply. reply ≡ found_reply found.now request.now moment) }
 {
     let answer = found.reply(alloc, request, reading, moment)?;
+    // What the body of the frame has fits in memory.
+    let _held = answer.frame.body.len();
     reply_with_content(answer)
 }
 

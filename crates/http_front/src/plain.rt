@@ -3,7 +3,7 @@ ghost use Rattle.std.specs.Prelude.{◌≡◌, ◌↔◌, None, Some, IfOk, IfSo
 ghost use Rattle.stamp_values.specs.Operations.{writes};
 ghost use Rattle.stamp_values.specs.Names.{is_account};
 ghost use Rattle.stamp_types.specs.Replies.{denied};
-ghost use Rattle.range_rows.specs.RequestChanges.{reading_of};
+ghost use Rattle.range_rows.specs.Readings.{reading_of};
 ghost use Rattle.http_front.specs.Decisions.{row_decision};
 ghost use Rattle.http_front.specs.PlainAnswers.{AnswersAsModel, AreHeld, Held, empty_held, empty_rows, held_of};
 ghost use Rattle.http_front.specs.PlainAnswers.{row_refusal, rows_after};
@@ -12,7 +12,7 @@ use crate::decision::{Decision, decide};
 use crate::service::Service;
 use access_rules::Keys;
 use name_rules::account_ok;
-use range_rows::{Reading, Rows, read_request};
+use range_rows::{Reading, Rows};
 use stamp_types::{Moment, Reply, Request};
 use std::alloc::{AllocError, Global};
 use std::marker::Model;
@@ -118,16 +118,17 @@ impl Plain {
         &mut self,
         alloc: Global,
         request: &Request,
+        reading: &Reading,
         moment: Moment,
     ) -> Result<Reply, AllocError>
+        requires { reading.now ≡ reading_of request.now }
         ensures answered { IfOk result (λ reply.
             AnswersAsModel (held_of self.old) request.now moment reply (held_of self.new)) }
         ensures unchanged { OnErr result (self.new ≡ self.old) }
     {
-        let reading = read_request(request);
-        match self.decision(alloc, request, &reading, moment)? {
+        match self.decision(alloc, request, reading, moment)? {
             Decision::Refused(refusal) => Reply::denied(alloc, refusal),
-            Decision::Allowed(reply) => self.allowed(alloc, request, &reading, moment, reply),
+            Decision::Allowed(reply) => self.allowed(alloc, request, reading, moment, reply),
         }
     }
 }
@@ -143,7 +144,8 @@ impl Service for Plain {
 
     /// The reply of the model, and the change of the model.
     ///
-    /// `AllocError` if memory runs out for the change or the reply. Then nothing is changed.
+    /// `AllocError` if memory runs out for the reading of the body, the change or the reply. Then
+    /// nothing is changed.
     fn answer(
         &mut self,
         alloc: Global,
@@ -154,6 +156,7 @@ impl Service for Plain {
             AnswersAsModel (held_of self.old) request moment reply (held_of self.new)) }
         ensures unchanged { OnErr result (self.new ≡ self.old) }
     {
-        self.judged(alloc, &request, moment)
+        let reading = Reading::of(alloc, &request)?;
+        self.judged(alloc, &request, &reading, moment)
     }
 }

@@ -1,5 +1,5 @@
 -- Sizes and spans of blocks, and the blobs that requests name.
-use Rattle.std.proofs.Common.{◌≡◌, ℕ, ◌+◌, Bool, true, false, cond, List, [], ◌∷◌, ◌++◌, Option, Some, None, refl, sym, ap, ◌∙◌, unwrap_or, map}
+use Rattle.std.proofs.Common.{◌≡◌, ℕ, ◌+◌, Bool, true, false, cond, List, [], ◌∷◌, ◌++◌, Option, Some, None, refl, ap, ◌∙◌, unwrap_or, map}
 use Rattle.std.proofs.lemmas.List.{map-append}
 use Rattle.std.specs.Prelude.{sum_by}
 use Rattle.std.specs.List.{flat_map, fold}
@@ -10,15 +10,15 @@ use Rattle.std.specs.FinMap as finite
 use Rattle.stamp_values.specs.Order.{name_cmp, names_total}
 use Rattle.stamp_types.specs.declared.act.Act.TheVariants as act
 use Rattle.stamp_types.specs.declared.act.PutBlob.{PutBlob}
+use Rattle.stamp_types.specs.declared.act.PutBlockList.{PutBlockList}
 use Rattle.stamp_types.specs.declared.ask.Ask.{Ask}
 use Rattle.stamp_types.specs.declared.committed.Block.{Block}
 use Rattle.stamp_types.specs.declared.committed.Committed.{Committed}
 use Rattle.stamp_types.specs.declared.piece.Piece.{Piece}
 use Rattle.stamp_types.specs.Changes.{blocks_len}
 use Rattle.stamp_types.specs.Pieces.{pieces_len}
-use Rattle.stamp_types.specs.World.{Part, Blob, no_blob, blob_in, block_value, committed_value, part_value, changed, whole_block}
+use Rattle.stamp_types.specs.World.{Part, Blob, no_blob, blob_in, block_value, committed_value, part_value, changed, taken_blocks, whole_block}
 use Rattle.stamp_types.proofs.WorldLemmas.{blob_in-part_value}
-use Rattle.range_rows.specs.FoundParts.{sized, sizes_found}
 use Rattle.range_rows.specs.ObjectReplies.{whole_span}
 use Rattle.range_rows.specs.ObjectRules.{named_blob}
 
@@ -48,11 +48,7 @@ module _ {C D : Type 0} (f : C → D) (p : Part C) where
   pub named_blob-part_value : (a : Ask) → named_blob (part_value f p) a ≡ option_map (committed_value f) (named_blob p a)
   named_blob-part_value a = named a.blob
 
--- what readers see of the named blob, by the sizes of its content
-pub named_by_sizes : (p : Part (List Piece)) (a : Ask) (c : Option (Committed (List Piece))) → c ≡ named_blob p a → sized c ≡ named_blob (sizes_found p) a
-named_by_sizes p a c is = ap sized is ∙ sym (named_blob-part_value pieces_len p a)
-
--- ---- Put Blob
+-- ---- Put Blob and Put Block List
 
 chosen : {X : Type 0} (b : Bool) (x : X) (o : Option X) (d : X) → b ≡ true → unwrap_or (cond b (Some x) o) d ≡ x
 chosen true x o d h = refl
@@ -66,5 +62,15 @@ module _ {C : Type 0} (f : List Piece → C) where
   -- a blob that was put is what `put_committed` says
   pub blob_in-put : (a : PutBlob) (p : Part C) → (blob_in (changed f (act.PutBlob a) p) a.blob).committed ≡ Some (put_committed (p.count + 1) a)
   blob_in-put a p =
+      ap (λ (o : Option (Blob C)). (unwrap_or o no_blob).committed) (finite.get-insert names_total p.blobs a.blob _ a.blob)
+      ∙ ap (λ (b : Blob C). b.committed) (chosen (eq_by_cmp name_cmp a.blob a.blob) _ (finite.get p.blobs a.blob) no_blob ((eq_by_cmp_equiv names_total).refl a.blob))
+
+  -- what readers see of a blob that the change of this number committed
+  abbrev pub listed_committed_part : ℕ → PutBlockList → Part C → Committed C
+  listed_committed_part n a p = record { etag = n; made = a.moment; props = a.props; metadata = a.metadata; blocks = taken_blocks (blob_in p a.blob) a.entries }
+
+  -- a blob whose blocks were committed is what `listed_committed_part` says
+  pub blob_in-put_list : (a : PutBlockList) (p : Part C) → (blob_in (changed f (act.PutBlockList a) p) a.blob).committed ≡ Some (listed_committed_part (p.count + 1) a p)
+  blob_in-put_list a p =
       ap (λ (o : Option (Blob C)). (unwrap_or o no_blob).committed) (finite.get-insert names_total p.blobs a.blob _ a.blob)
       ∙ ap (λ (b : Blob C). b.committed) (chosen (eq_by_cmp name_cmp a.blob a.blob) _ (finite.get p.blobs a.blob) no_blob ((eq_by_cmp_equiv names_total).refl a.blob))

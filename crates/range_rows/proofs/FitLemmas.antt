@@ -1,5 +1,5 @@
 -- What holds of a container if a change fits.
-use Rattle.std.proofs.Common.{◌≡◌, ◌<◌, true, false, ◌&&◌, ◌||◌, List, length, nat_lt, refl, ap, ◌∙◌, subst}
+use Rattle.std.proofs.Common.{◌≡◌, ◌<◌, Bool, true, false, ◌&&◌, ◌||◌, List, length, nat_lt, refl, ap, ◌∙◌, subst}
 use Rattle.std.proofs.lemmas.Bool.{and_parts, ltb-true}
 use Rattle.std.specs.Prelude.{is_some}
 use Rattle.stamp_values.specs.Names.{is_account, is_container, is_blob}
@@ -11,15 +11,16 @@ use Rattle.stamp_types.specs.ActKinds.{is_row}
 use Rattle.stamp_types.specs.Changes.{KeyedAct, is_act, is_change, is_committed, is_stored_blob, are_uncommitted}
 use Rattle.stamp_types.specs.Pieces.{pieces_len}
 use Rattle.stamp_types.specs.World.{Part, no_part, part_value}
-use Rattle.range_rows.specs.Fits.{fits, is_made, creates, deletes}
+use Rattle.range_rows.specs.Fits.{fits, fits_blob, is_made, creates, deletes}
 use Rattle.range_rows.specs.ObjectRules.{count_limit}
 
 -- a container takes one more change, if the change fits and is not a row of a checkpoint
 pub room_for_change : (p : Part (List Piece)) (a : Act) → fits (part_value pieces_len p) a ≡ true → is_row a ≡ false → p.count < count_limit
 room_for_change p a h row =
-    let made : (is_made a && (is_some p.standing || creates a) && nat_lt p.count count_limit) ≡ true =
-    subst (λ b. (b || (is_made a && (is_some p.standing || creates a) && nat_lt p.count count_limit)) ≡ true) row h in
-    ltb-true p.count count_limit (and_parts (is_made a && (is_some p.standing || creates a)) (nat_lt p.count count_limit) made).1
+    let z = part_value pieces_len p in
+    let room : Bool = is_made a && (is_some p.standing || creates a) && nat_lt p.count count_limit in
+    let made : (room && fits_blob z a) ≡ true = subst (λ b. (b || (room && fits_blob z a)) ≡ true) row h in
+    ltb-true p.count count_limit (and_parts (is_made a && (is_some p.standing || creates a)) (nat_lt p.count count_limit) (and_parts room (fits_blob z a) made).0).1
 
 -- a deletion does not fit a container that never was
 pub no_deletion : (a : Act) → fits (part_value pieces_len (no_part {C = List Piece})) a ≡ true → deletes a ≡ false

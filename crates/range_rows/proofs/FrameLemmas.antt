@@ -1,5 +1,5 @@
 -- Frames and spans of the answers to allowed requests, by their operations.
-use Rattle.std.proofs.Common.{◌≡◌, ◌+◌, ℕ, true, false, List, [], Option, Some, None, refl, ap, ◌∙◌, unwrap_or}
+use Rattle.std.proofs.Common.{◌≡◌, ◌+◌, ℕ, true, false, List, [], Option, Some, None, refl, sym, ap, ◌∙◌, unwrap_or}
 use Rattle.std.specs.Prelude.{IsSome}
 use Rattle.std.specs.Option.{option_map, option_and_then}
 use Rattle.md5.specs.Md5.{md5}
@@ -17,14 +17,16 @@ use Rattle.stamp_types.specs.declared.standing.Standing.{Standing}
 use Rattle.stamp_types.specs.declared.status.Status.TheVariants as status
 use Rattle.stamp_types.specs.Pieces.{pieces_len}
 use Rattle.stamp_types.specs.Requests.{Asked, IsRequest}
-use Rattle.stamp_types.specs.World.{Blob, Part, blob_in, committed_value, committed_with_metadata, part_value, same_pieces, standing_with_metadata}
+use Rattle.stamp_types.specs.World.{Blob, Part, blob_in, blob_value, committed_value, committed_with_metadata, no_blob, part_value, same_pieces, standing_with_metadata}
 use Rattle.stamp_types.proofs.EffectLemmas.{blob_in-set_metadata}
+use Rattle.range_rows.specs.NamedBlobs.{target_blob}
 use Rattle.range_rows.specs.FoundParts.{pieces_found_after, sizes_found, sizes_found_after}
-use Rattle.range_rows.specs.ObjectReplies.{blob_content, blob_read, date_headers, empty_blob, empty_standing, frame, frame_by, get_frame, is_served, metadata_headers, put_reply, ranged_frame, ranged_spans, spans, spans_by, standing_read, success_reply, write_frame}
-use Rattle.range_rows.specs.ObjectRules.{named_blob, needs_blob, needs_container, object_refusal}
-use Rattle.range_rows.specs.RequestChanges.{act_by, change_of, part_after, put_blob, set_container_metadata, set_metadata}
+use Rattle.range_rows.specs.ObjectReplies.{blob_content, blob_read, date_headers, empty_blob, empty_standing, frame, frame_by, get_frame, is_served, list_frame, metadata_headers, put_reply, ranged_frame, ranged_spans, spans, spans_by, standing_read, success_reply, write_frame}
+use Rattle.range_rows.specs.ObjectRules.{needs_blob, needs_container, object_refusal}
+use Rattle.range_rows.specs.RequestChanges.{act_by, change_of, part_after, put_blob, put_block_list, set_container_metadata, set_metadata}
 use Rattle.range_rows.proofs.Allowed.{needed_blob, needed_container}
-use Rattle.range_rows.proofs.AnswerLemmas.{blob_in-put, named_blob-part_value}
+use Rattle.range_rows.proofs.AnswerLemmas.{blob_in-put, blob_in-put_list, named_blob-part_value}
+use Rattle.range_rows.proofs.BlockLemmas.{committed-target_blob, target_blob-part_value}
 
 -- ---- requests that write
 
@@ -34,11 +36,11 @@ module _ (p : Part ℕ) (q : Asked) (t : ℕ) where
 
   -- the frame of the operation, from the container after the operation's change
   abbrev frame_after : Op → Reply
-  frame_after o = frame_by o q (standing_read (after (act_by o p q t))) (blob_read (after (act_by o p q t)) q.ask)
+  frame_after o = frame_by o q (standing_read (after (act_by o p q t))) (blob_read (after (act_by o p q t)) q.ask) (target_blob (after (act_by o p q t)) q.ask)
 
   -- the frame of the operation, from the number and the moment of its change
   abbrev dated_frame : Op → Reply
-  dated_frame o = frame_by o q (record empty_standing { etag = p.count + 1; made = t }) (record empty_blob { etag = p.count + 1; made = t })
+  dated_frame o = frame_by o q (record empty_standing { etag = p.count + 1; made = t }) (record empty_blob { etag = p.count + 1; made = t }) no_blob
 
   standing_with_metadata-frame : (o : Option Standing) → IsSome o
       → success_reply status.Success (date_headers (unwrap_or (option_map (standing_with_metadata (p.count + 1) (set_container_metadata q t)) o) empty_standing).etag (unwrap_or (option_map (standing_with_metadata (p.count + 1) (set_container_metadata q t)) o) empty_standing).made) 0
@@ -58,6 +60,17 @@ module _ (p : Part ℕ) (q : Asked) (t : ℕ) where
   put_blob-frame (Some name) None named given = cc
   put_blob-frame (Some name) (Some kept) named given =
       ap (λ (o : Option (Committed ℕ)). put_reply (md5 q.body) (unwrap_or o empty_blob).etag (unwrap_or o empty_blob).made) (blob_in-put pieces_len (put_blob q t name kept) p)
+
+  abbrev list_act : Option (List ℕ) → Option Kept → Option Act
+  list_act blob kept = option_and_then (λ name. option_map (λ kept. act.PutBlockList (put_block_list (blob_in p name) q t name kept)) kept) blob
+
+  put_block_list-frame : (blob : Option (List ℕ)) (kept : Option Kept) → IsSome blob → IsSome kept
+      → put_reply (md5 q.body) (seen_in (after (list_act blob kept)) blob).etag (seen_in (after (list_act blob kept)) blob).made ≡ dated_frame op.PutBlockList
+  put_block_list-frame None kept named given = cc
+  put_block_list-frame (Some name) None named given = cc
+  put_block_list-frame (Some name) (Some kept) named given =
+      ap (λ (o : Option (Committed ℕ)). put_reply (md5 q.body) (unwrap_or o empty_blob).etag (unwrap_or o empty_blob).made)
+      (blob_in-put_list pieces_len (put_block_list (blob_in p name) q t name kept) p)
 
   abbrev dates_reply : Committed ℕ → Reply
   dates_reply c = success_reply status.Success (date_headers c.etag c.made) 0
@@ -86,6 +99,9 @@ module _ (p : Part ℕ) (q : Asked) (t : ℕ) where
         put_blob-frame q.ask.blob q.ask.args.kept (valid.ask.names.blob ∙ ap names_blob is) (valid.ask.own.kept ∙ ap keeps_headers is)
     write_frame_by op.SetMetadata is served writing = set_metadata-frame q.ask.blob (needed_blob p q free (ap needs_blob is))
     write_frame_by op.DeleteBlob is served writing = refl
+    write_frame_by op.PutBlock is served writing = refl
+    write_frame_by op.PutBlockList is served writing =
+        put_block_list-frame q.ask.blob q.ask.args.kept (valid.ask.names.blob ∙ ap names_blob is) (valid.ask.own.kept ∙ ap keeps_headers is)
     write_frame_by other is served writing = cc
 
     -- the frame of a request that writes is the frame of the number and the moment of its change
@@ -114,6 +130,8 @@ module _ (z : Part ℕ) (q : Asked) (t : ℕ) where
   act_by_read op.PutBlob reads = cc
   act_by_read op.SetMetadata reads = cc
   act_by_read op.DeleteBlob reads = cc
+  act_by_read op.PutBlock reads = cc
+  act_by_read op.PutBlockList reads = cc
   act_by_read other reads = refl
 
   -- a request that reads leaves its container as it is
@@ -125,18 +143,20 @@ module _ (p : Part (List Piece)) (q : Asked) where
   sized = part_value pieces_len p
 
   -- the frame of a request that reads a blob is the frame of the blob that it names
-  frame_of_read : (o : Op) (c : Committed (List Piece)) → q.ask.op ≡ o → named_blob p q.ask ≡ Some c → frame sized q ≡ frame_by o q (standing_read sized) (committed_value pieces_len c)
+  frame_of_read : (o : Op) (c : Committed (List Piece)) → q.ask.op ≡ o → (target_blob p q.ask).committed ≡ Some c
+      → frame sized q ≡ frame_by o q (standing_read sized) (committed_value pieces_len c) (target_blob sized q.ask)
   frame_of_read o c is there =
-      ap (λ (o : Op). frame_by o q (standing_read sized) (blob_read sized q.ask)) is
-      ∙ ap (λ (b : Option (Committed ℕ)). frame_by o q (standing_read sized) (unwrap_or b empty_blob)) (named_blob-part_value pieces_len p q.ask ∙ ap (option_map (committed_value pieces_len)) there)
+      ap (λ (o : Op). frame_by o q (standing_read sized) (blob_read sized q.ask) (target_blob sized q.ask)) is
+      ∙ ap (λ (b : Option (Committed ℕ)). frame_by o q (standing_read sized) (unwrap_or b empty_blob) (target_blob sized q.ask))
+      (named_blob-part_value pieces_len p q.ask ∙ ap (option_map (committed_value pieces_len)) (sym (committed-target_blob p q.ask) ∙ there))
 
-  pub frame_of_get_blob : (c : Committed (List Piece)) → q.ask.op ≡ op.GetBlob → named_blob p q.ask ≡ Some c → frame sized q ≡ ranged_frame q.ask.args.range (committed_value pieces_len c)
+  pub frame_of_get_blob : (c : Committed (List Piece)) → q.ask.op ≡ op.GetBlob → (target_blob p q.ask).committed ≡ Some c → frame sized q ≡ ranged_frame q.ask.args.range (committed_value pieces_len c)
   frame_of_get_blob c = frame_of_read op.GetBlob c
 
-  pub frame_of_blob_properties : (c : Committed (List Piece)) → q.ask.op ≡ op.BlobProperties → named_blob p q.ask ≡ Some c → frame sized q ≡ get_frame (committed_value pieces_len c)
+  pub frame_of_blob_properties : (c : Committed (List Piece)) → q.ask.op ≡ op.BlobProperties → (target_blob p q.ask).committed ≡ Some c → frame sized q ≡ get_frame (committed_value pieces_len c)
   frame_of_blob_properties c = frame_of_read op.BlobProperties c
 
-  pub frame_of_get_metadata : (c : Committed (List Piece)) → q.ask.op ≡ op.GetMetadata → named_blob p q.ask ≡ Some c
+  pub frame_of_get_metadata : (c : Committed (List Piece)) → q.ask.op ≡ op.GetMetadata → (target_blob p q.ask).committed ≡ Some c
       → frame sized q ≡ success_reply status.Success (metadata_headers c.metadata c.etag c.made) 0
   frame_of_get_metadata c = frame_of_read op.GetMetadata c
 
@@ -144,15 +164,21 @@ module _ (p : Part (List Piece)) (q : Asked) where
   pub frame_of_container_properties : (s : Standing) → q.ask.op ≡ op.ContainerProperties → p.standing ≡ Some s
       → frame sized q ≡ success_reply status.Success (metadata_headers s.metadata s.etag s.made) 0
   frame_of_container_properties s is there =
-      ap (λ (o : Op). frame_by o q (standing_read sized) (blob_read sized q.ask)) is
-      ∙ ap (λ (o : Option Standing). frame_by op.ContainerProperties q (unwrap_or o empty_standing) (blob_read sized q.ask)) there
+      ap (λ (o : Op). frame_by o q (standing_read sized) (blob_read sized q.ask) (target_blob sized q.ask)) is
+      ∙ ap (λ (o : Option Standing). frame_by op.ContainerProperties q (unwrap_or o empty_standing) (blob_read sized q.ask) (target_blob sized q.ask)) there
+
+  -- the frame of Get Block List is the frame of the whole blob that it names
+  pub frame_of_block_list : (b : Blob (List Piece)) → q.ask.op ≡ op.GetBlockList → b ≡ target_blob p q.ask → frame sized q ≡ list_frame q.ask.args.kinds (blob_value pieces_len b)
+  frame_of_block_list b is found =
+      ap (λ (o : Op). frame_by o q (standing_read sized) (blob_read sized q.ask) (target_blob sized q.ask)) is
+      ∙ ap (list_frame q.ask.args.kinds) (target_blob-part_value pieces_len p q.ask ∙ ap (blob_value pieces_len) (sym found))
 
 -- on a Get Blob the pieces of the blob go out, or what the range asks for
-pub spans_of_get : (p : Part (List Piece)) (q : Asked) (c : Committed (List Piece)) → q.ask.op ≡ op.GetBlob → named_blob p q.ask ≡ Some c
+pub spans_of_get : (p : Part (List Piece)) (q : Asked) (c : Committed (List Piece)) → q.ask.op ≡ op.GetBlob → (target_blob p q.ask).committed ≡ Some c
     → spans p q ≡ ranged_spans q.ask.args.range (blob_content c)
 spans_of_get p q c is there =
     ap (λ (o : Op). spans_by o q.ask.args.range (blob_read p q.ask)) is
-    ∙ ap (λ (o : Option (Committed (List Piece))). spans_by op.GetBlob q.ask.args.range (unwrap_or o empty_blob)) there
+    ∙ ap (λ (o : Option (Committed (List Piece))). spans_by op.GetBlob q.ask.args.range (unwrap_or o empty_blob)) (sym (committed-target_blob p q.ask) ∙ there)
 
 -- ---- what was found of a container, on a request that reads
 

@@ -1,8 +1,14 @@
 pub mod Allowed
 pub mod AnswerLemmas
+pub mod BlockActs
+pub mod BlockFits
+pub mod BlockLemmas
 pub mod ChangeLemmas
 pub mod FitLemmas
 pub mod FrameLemmas
+pub mod GroupLemmas
+pub mod LengthLemmas
+pub mod ListLemmas
 pub mod Parts
 pub mod PutParts
 pub mod RangeLemmas

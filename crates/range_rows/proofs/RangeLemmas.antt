@@ -1,5 +1,5 @@
 -- The spans of a part of joined pieces, and their bytes.
-use Rattle.std.proofs.Common.{◌≡◌, ℕ, ◌+◌, ◌-◌, ◌≤◌, ◌<◌, min, Bool, true, false, cond, ◌&&◌, nat_le, nat_lt, arith, le-leb, List, [], ◌∷◌, ◌++◌, ◌⊎◌, inl, inr, length, take, drop, append_assoc, append-nil, slice_range, refl, sym, ap, ◌∙◌, subst}
+use Rattle.std.proofs.Common.{◌≡◌, ℕ, ◌+◌, ◌-◌, ◌≤◌, ◌<◌, min, Bool, true, false, ◌&&◌, nat_le, nat_lt, arith, le-leb, List, [], ◌∷◌, ◌++◌, ◌⊎◌, inl, inr, length, take, drop, append_assoc, append-nil, slice_range, refl, sym, ap, ◌∙◌, subst}
 use Rattle.std.proofs.lemmas.Bool.{and_from, ltb-true, ltb-false, le-ltb, cases_order}
 use Rattle.std.proofs.lemmas.List.{take_all, drop_all, length-drop}
 use Rattle.std.proofs.lemmas.List.Elements.{All-head, All-tail}
@@ -11,7 +11,6 @@ use Rattle.std.specs.List.{flat_map, list_all}
 use Rattle.stamp_values.proofs.Ranges.{range-append, range-capped}
 use Rattle.stamp_types.specs.declared.committed.Block.{Block}
 use Rattle.stamp_types.specs.declared.piece.Piece.{Piece}
-use Rattle.stamp_types.specs.Changes.{blocks_len}
 use Rattle.stamp_types.specs.Pieces.{piece_len, pieces_len}
 use Rattle.range_rows.specs.declared.answer.Span.{Span}
 use Rattle.range_rows.specs.ObjectReplies.{ReadsWhole, is_within, part_spans, piece_spans, span_bytes, spans_len}

@@ -1,7 +1,6 @@
 -- Spans of content, and their bytes.
 use Rattle.std.proofs.Common.{◌≡◌, ℕ, ◌+◌, ◌-◌, ◌≤◌, true, nat_le, arith, le-leb, List, [], ◌∷◌, ◌++◌, length, length-append, take, slice_range, Option, Some, None, refl, sym, ap, ◌∙◌, unwrap_or, map}
 use Rattle.std.proofs.lemmas.Bool.{and_from}
-use Rattle.std.proofs.lemmas.List.{map-append}
 use Rattle.std.proofs.lemmas.List.Elements.{All-append, All-head, All-nil, All-tail}
 use Rattle.std.proofs.lemmas.List.Sums.{sum_by-cons, sum_by-append}
 use Rattle.std.proofs.lemmas.Grind.{flat_map-append}

@@ -4,13 +4,17 @@ use Rattle.std.specs.Option.{option_map}
 use Rattle.stamp_types.specs.declared.committed.Committed.{Committed}
 use Rattle.stamp_types.specs.Pieces.{pieces_len}
 use Rattle.stamp_types.specs.Requests.{Asked}
-use Rattle.stamp_types.specs.World.{Part, committed_value, no_part, part_value, same_pieces}
+use Rattle.stamp_types.specs.World.{Blob, Part, committed_value, no_blob, no_part, part_value, same_pieces}
 use Rattle.stamp_types.specs.declared.piece.Piece.{Piece}
 use Rattle.range_rows.specs.RequestChanges.{change_of, part_after}
 
 -- what was found of a container, or else a container that never was
 abbrev pub part_found : Option (Part (List Piece)) → Part (List Piece)
 part_found o = unwrap_or o no_part
+
+-- what was found of a blob, or else a blob of a name that was never used
+abbrev pub blob_found : Option (Blob (List Piece)) → Blob (List Piece)
+blob_found o = unwrap_or o no_blob
 
 -- what was found, with the sizes of its content
 abbrev pub sizes_found : Part (List Piece) → Part ℕ

@@ -1,8 +1,12 @@
 pub mod Access
 pub mod BlobRows
+pub mod CauseGroups
 pub mod Fits
 pub mod FoundParts
 pub mod Lending
+pub mod ListedBlocks
+pub mod NamedBlobs
 pub mod ObjectReplies
 pub mod ObjectRules
+pub mod Readings
 pub mod RequestChanges

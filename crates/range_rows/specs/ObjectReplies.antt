@@ -1,15 +1,20 @@
 -- Replies to allowed requests (Blob service REST reference, 2012-02-12, the page of each operation; RFC 9110, sections 8.8, 14.4 and 15.3).
 -- A reply is a frame, which follows from the sizes of content, and the content that goes out with it.
-use Rattle.std.specs.Prelude.{◌≡◌, ℕ, ◌+◌, ◌-◌, min, Bool, true, false, ◌&&◌, nat_le, nat_lt, if◌then◌else◌, All, List, [], ◌∷◌, ◌++◌, length, Option, Some, None, map, sum_by, slice_range, unwrap_or}
+use Rattle.std.specs.Prelude.{◌≡◌, ℕ, ◌+◌, ◌-◌, min, Bool, true, false, ◌&&◌, nat_le, nat_lt, if◌then◌else◌, All, List, [], ◌∷◌, ◌++◌, length, codes, Option, Some, None, map, sum_by, slice_range, unwrap_or}
+use Rattle.std.specs.FinMap.{FinMap, entries}
 use Rattle.std.specs.List.{flat_map}
-use Rattle.std.specs.Option.{option_map_or, option_to_list}
+use Rattle.std.specs.Option.{option_map, option_map_or, option_to_list}
 use Rattle.md5.specs.Md5.{md5}
 use Rattle.stamp_values.specs.Acls.{closed_acl}
+use Rattle.stamp_values.specs.Order.{name_cmp}
+use Rattle.stamp_values.specs.declared.block.BlockKinds.{BlockKinds}
+use Rattle.stamp_values.specs.declared.block.BlockKinds.TheVariants as kinds
 use Rattle.stamp_values.specs.declared.condition.ByteRange.{ByteRange}
 use Rattle.stamp_values.specs.declared.meta.Meta.{Meta}
 use Rattle.stamp_values.specs.declared.op.Op.{Op}
 use Rattle.stamp_values.specs.declared.op.Op.TheVariants as op
 use Rattle.stamp_types.specs.declared.ask.Ask.{Ask}
+use Rattle.stamp_types.specs.declared.committed.Block.{Block}
 use Rattle.stamp_types.specs.declared.committed.Committed.{Committed}
 use Rattle.stamp_types.specs.declared.header.Header.{Header}
 use Rattle.stamp_types.specs.declared.header.Header.TheVariants as header
@@ -22,8 +27,10 @@ use Rattle.stamp_types.specs.declared.status.Status.TheVariants as status
 use Rattle.stamp_types.specs.Pieces.{piece_len, pieces_len}
 use Rattle.stamp_types.specs.PropsFields.{PropsFields}
 use Rattle.stamp_types.specs.Requests.{Asked}
-use Rattle.stamp_types.specs.World.{Part, part_value}
+use Rattle.stamp_types.specs.World.{Blob, Part, no_blob, part_value}
+use Rattle.body_forms.specs.WrittenLists.{ListedBlock, block_list_text}
 use Rattle.range_rows.specs.declared.answer.Span.{Span}
+use Rattle.range_rows.specs.NamedBlobs.{target_blob}
 use Rattle.range_rows.specs.ObjectRules.{blob_size, named_blob}
 
 -- the operations that are answered so far; any other is refused
@@ -38,6 +45,9 @@ is_served op.BlobProperties = true
 is_served op.GetMetadata = true
 is_served op.SetMetadata = true
 is_served op.DeleteBlob = true
+is_served op.PutBlock = true
+is_served op.PutBlockList = true
+is_served op.GetBlockList = true
 is_served _ = false
 
 -- a header of a text, which has no line if the text is empty
@@ -86,9 +96,70 @@ part_headers sent c =
 abbrev pub success_reply : Status → List Header → ℕ → Reply
 success_reply s headers length = record { status = s; code = None; rule = None; headers = headers; length = length; body = [] }
 
--- the reply to Put Blob, from the MD5 of what came, and from the ETag and the moment that the blob has then
+-- the reply to Put Blob and to Put Block List, from the MD5 of what came, and from the ETag and the moment that the blob has then
 abbrev pub put_reply : List ℕ → ℕ → ℕ → Reply
 put_reply sum etag made = success_reply status.Created (header.ContentMd5 sum ∷ date_headers etag made) 0
+
+-- the reply to Put Block, from the MD5 of what came: readers see no change, so it says no ETag and no moment
+abbrev pub block_reply : List ℕ → Reply
+block_reply sum = success_reply status.Created (header.ContentMd5 sum ∷ []) 0
+
+-- the block as it is listed, if it has an id
+abbrev pub listed_block : Block ℕ → List ListedBlock
+listed_block b = option_to_list (option_map (λ id. record { id = id; len = b.content }) b.id)
+
+-- the blocks that have an id, in their order
+abbrev pub listed_blocks : List (Block ℕ) → List ListedBlock
+listed_blocks bs = flat_map listed_block bs
+
+-- the committed blocks that have an id, in their order
+abbrev pub listed_committed : Option (Committed ℕ) → List ListedBlock
+listed_committed None = []
+listed_committed (Some c) = listed_blocks c.blocks
+
+-- the block of an id and a size, as it is listed
+abbrev pub listed_entry : List ℕ × ℕ → ListedBlock
+listed_entry e = record { id = e.0; len = e.1 }
+
+-- the uncommitted blocks, in the order of their ids
+abbrev pub listed_uncommitted : FinMap name_cmp ℕ → List ListedBlock
+listed_uncommitted m = map listed_entry (entries m)
+
+-- the kinds have the committed blocks; these are the kinds of a request that asks for no kinds
+abbrev pub shows_committed : Option BlockKinds → Bool
+shows_committed (Some kinds.Uncommitted) = false
+shows_committed other = true
+
+-- the kinds have the uncommitted blocks
+abbrev pub shows_uncommitted : Option BlockKinds → Bool
+shows_uncommitted (Some kinds.Uncommitted) = true
+shows_uncommitted (Some kinds.All) = true
+shows_uncommitted other = false
+
+-- the blocks, if they are shown
+abbrev pub if_shown : Bool → List ListedBlock → Option (List ListedBlock)
+if_shown shown blocks = if shown then Some blocks else None
+
+-- the block lists of these kinds, as they are written
+abbrev pub list_text : Option BlockKinds → Blob ℕ → List ℕ
+list_text k b =
+    block_list_text (if_shown (shows_committed k) (listed_committed b.committed)) (if_shown (shows_uncommitted k) (listed_uncommitted b.uncommitted))
+
+-- the size of a committed part, which change wrote it, and when, if the blob has one
+abbrev pub committed_headers : Option (Committed ℕ) → List Header
+committed_headers None = []
+committed_headers (Some c) = header.BlobLength (blob_size c) ∷ date_headers c.etag c.made
+
+-- the reply to Get Block List
+abbrev pub list_frame : Option BlockKinds → Blob ℕ → Reply
+list_frame k b = record {
+  status = status.Success;
+  code = None;
+  rule = None;
+  headers = header.ContentType (codes "application/xml") ∷ committed_headers b.committed;
+  length = length (list_text k b);
+  body = list_text k b;
+}
 
 -- the frame of the reply to Get Blob without a range, and to Get Blob Properties: its length is the length of all blocks together
 abbrev pub get_frame : Committed ℕ → Reply
@@ -126,27 +197,31 @@ standing_read p = unwrap_or p.standing empty_standing
 abbrev pub blob_read : {C : Type 0} → Part C → Ask → Committed C
 blob_read p a = unwrap_or (named_blob p a) empty_blob
 
--- the frame of the reply to an operation, if this is what the container has beside its blobs, and this is the blob, after the operation
-abbrev pub frame_by : Op → Asked → Standing → Committed ℕ → Reply
-frame_by op.CreateContainer q s c = success_reply status.Created (date_headers s.etag s.made) 0
-frame_by op.ContainerProperties q s c = success_reply status.Success (metadata_headers s.metadata s.etag s.made) 0
-frame_by op.SetContainerMetadata q s c = success_reply status.Success (date_headers s.etag s.made) 0
-frame_by op.DeleteContainer q s c = success_reply status.Accepted [] 0
-frame_by op.PutBlob q s c = put_reply (md5 q.body) c.etag c.made
-frame_by op.GetBlob q s c = ranged_frame q.ask.args.range c
-frame_by op.BlobProperties q s c = get_frame c
-frame_by op.GetMetadata q s c = success_reply status.Success (metadata_headers c.metadata c.etag c.made) 0
-frame_by op.SetMetadata q s c = success_reply status.Success (date_headers c.etag c.made) 0
-frame_by op.DeleteBlob q s c = success_reply status.Accepted [] 0
-frame_by _ q s c = success_reply status.Success [] 0
+-- the frame of the reply to an operation, if this is what the container has beside its blobs, this is what readers see of the blob, and
+-- this is the whole blob, after the operation
+abbrev pub frame_by : Op → Asked → Standing → Committed ℕ → Blob ℕ → Reply
+frame_by op.CreateContainer q s c b = success_reply status.Created (date_headers s.etag s.made) 0
+frame_by op.ContainerProperties q s c b = success_reply status.Success (metadata_headers s.metadata s.etag s.made) 0
+frame_by op.SetContainerMetadata q s c b = success_reply status.Success (date_headers s.etag s.made) 0
+frame_by op.DeleteContainer q s c b = success_reply status.Accepted [] 0
+frame_by op.PutBlob q s c b = put_reply (md5 q.body) c.etag c.made
+frame_by op.GetBlob q s c b = ranged_frame q.ask.args.range c
+frame_by op.BlobProperties q s c b = get_frame c
+frame_by op.GetMetadata q s c b = success_reply status.Success (metadata_headers c.metadata c.etag c.made) 0
+frame_by op.SetMetadata q s c b = success_reply status.Success (date_headers c.etag c.made) 0
+frame_by op.DeleteBlob q s c b = success_reply status.Accepted [] 0
+frame_by op.PutBlock q s c b = block_reply (md5 q.body)
+frame_by op.PutBlockList q s c b = put_reply (md5 q.body) c.etag c.made
+frame_by op.GetBlockList q s c b = list_frame q.ask.args.kinds b
+frame_by _ q s c b = success_reply status.Success [] 0
 
 -- the frame of the reply to an allowed request, from the container after the request's change
 abbrev pub frame : Part ℕ → Asked → Reply
-frame p q = frame_by q.ask.op q (standing_read p) (blob_read p q.ask)
+frame p q = frame_by q.ask.op q (standing_read p) (blob_read p q.ask) (target_blob p q.ask)
 
 -- the frame of the reply to an allowed request that writes, from the number and the moment of its change
 abbrev pub write_frame : Asked → ℕ → ℕ → Reply
-write_frame q n t = frame_by q.ask.op q (record empty_standing { etag = n; made = t }) (record empty_blob { etag = n; made = t })
+write_frame q n t = frame_by q.ask.op q (record empty_standing { etag = n; made = t }) (record empty_blob { etag = n; made = t }) no_blob
 
 -- all content of a blob
 abbrev pub blob_content : {C : Type 0} → Committed (List C) → List C

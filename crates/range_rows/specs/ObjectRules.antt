@@ -1,10 +1,14 @@
 -- Rules of the object (Blob service REST reference, 2012-02-12, the pages of the operations, "Specifying Conditional Headers for Blob Service Operations",
 -- "Specifying the Range Header for Blob Service Operations", "Status and Error Codes", "Blob Service Error Codes"; RFC 1321).
 -- They are stated over a container whose content is its size: no rule depends on a byte of the content.
-use Rattle.std.specs.Prelude.{ℕ, Bool, true, false, ◌&&◌, ◌||◌, not, nat_eq, nat_le, is_some, is_none, List, [], ◌∷◌, Option, Some, None, find, sum_by}
-use Rattle.std.specs.Option.{option_map, option_and_then}
+use Rattle.std.specs.Prelude.{ℕ, Bool, true, false, ◌&&◌, ◌||◌, not, nat_eq, nat_le, nat_lt, is_some, is_none, List, [], ◌∷◌, length, Option, Some, None, find, sum_by}
+use Rattle.std.specs.FinMap.{FinMap}
+use Rattle.std.specs.List.{list_any}
+use Rattle.std.specs.Option.{option_map, option_map_or, option_and_then}
 use Rattle.std.specs.Cmp.Lexicographic.{pointwise}
 use Rattle.md5.specs.Md5.{md5}
+use Rattle.stamp_values.specs.Limits.{blob_limit, entries_limit}
+use Rattle.stamp_values.specs.Order.{name_cmp}
 use Rattle.stamp_values.specs.Operations.{has_conditions, writes}
 use Rattle.stamp_values.specs.declared.condition.ByteRange.{ByteRange}
 use Rattle.stamp_values.specs.declared.condition.Condition.{Condition}
@@ -21,6 +25,11 @@ use Rattle.stamp_types.specs.Requests.{Asked}
 use Rattle.stamp_types.specs.declared.piece.Piece.{Piece}
 use Rattle.stamp_types.specs.Pieces.{pieces_len}
 use Rattle.stamp_types.specs.World.{Part, World, blob_in, part_at, part_value}
+use Rattle.block_blobs.specs.BlockLists.{first_missing, found_entries}
+use Rattle.block_blobs.specs.UncommittedBlocks.{has_other_length, is_one_too_many}
+use Rattle.range_rows.specs.ListedBlocks.{listed_size}
+use Rattle.range_rows.specs.NamedBlobs.{has_listed, target_blob}
+use Rattle.range_rows.specs.Readings.{has_bad_id, is_malformed, reading_of, wanted_blocks}
 
 -- the container that a request names, with the sizes of its content
 abbrev pub sizes_named : World (List Piece) → Asked → Part ℕ
@@ -36,7 +45,7 @@ needs_container op.ListContainers = false
 needs_container op.CreateContainer = false
 needs_container _ = true
 
--- the operation is on a blob that has to exist; Get Block List has a case of its own
+-- the operation is on a blob that readers have to see; Get Block List has a case of its own
 abbrev pub needs_blob : Op → Bool
 needs_blob op.GetBlob = true
 needs_blob op.BlobProperties = true
@@ -60,9 +69,18 @@ abbrev pub is_get : Op → Bool
 is_get op.GetBlob = true
 is_get _ = false
 
+-- the operation is Get Block List
+abbrev pub is_list : Op → Bool
+is_list op.GetBlockList = true
+is_list _ = false
+
 -- what readers see of the blob that the request names, if it names one
 abbrev pub named_blob : {C : Type 0} → Part C → Ask → Option (Committed C)
 named_blob p a = option_and_then (λ name. (blob_in p name).committed) a.blob
+
+-- the request needs something of a blob that the blob does not have
+abbrev pub lacks_blob : Part ℕ → Ask → Bool
+lacks_blob p a = (needs_blob a.op && is_none (named_blob p a)) || (is_list a.op && not (has_listed a.args.kinds (target_blob p a)))
 
 -- the value of x-ms-blob-content-md5
 abbrev pub kept_md5 : Ask → Option (List ℕ)
@@ -121,6 +139,14 @@ starts_past (Some c) (Some r) = nat_le (blob_size c) r.first
 abbrev pub is_past_the_end : Part ℕ → Ask → Bool
 is_past_the_end p a = is_get a.op && starts_past (named_blob p a) a.args.range
 
+-- the request puts a block, and this is true of the block's id and the uncommitted blocks of its blob
+abbrev pub of_its_block : (List ℕ → FinMap name_cmp ℕ → Bool) → Part ℕ → Ask → Bool
+of_its_block test p a = option_map_or (λ id. test id (target_blob p a).uncommitted) a.args.block false
+
+-- how many bytes the blocks have together that the request wants and its blob has
+abbrev pub wanted_size : Part ℕ → Asked → ℕ
+wanted_size p q = listed_size (target_blob p q.ask) (found_entries (target_blob p q.ask) (wanted_blocks q))
+
 -- why the object refuses a request
 pub data Cause : Type 0 where
   ContainerIsAbsent : Cause
@@ -131,6 +157,13 @@ pub data Cause : Type 0 where
   BlobExists : Cause
   NoneMatchFails : Cause
   BodyIsDamaged : Cause
+  BodyIsMalformed : Cause
+  IdIsBad : Cause
+  BlockIsMissing : Cause
+  ListIsTooLong : Cause
+  IdHasOtherLength : Cause
+  BlocksAreFull : Cause
+  ListIsTooLarge : Cause
   RangeIsPastTheEnd : Cause
   CountIsFull : Cause
 
@@ -138,20 +171,28 @@ pub data Cause : Type 0 where
 abbrev pub cause_holds : Part ℕ → Asked → Cause → Bool
 cause_holds p q ContainerIsAbsent = needs_container q.ask.op && is_none p.standing
 cause_holds p q ContainerExists = is_create q.ask.op && is_some p.standing
-cause_holds p q BlobIsAbsent = needs_blob q.ask.op && is_none (named_blob p q.ask)
+cause_holds p q BlobIsAbsent = lacks_blob p q.ask
 cause_holds p q MatchFails = fails_if_match p q.ask
 cause_holds p q IsNotModified = not (writes q.ask.op) && fails_if_none_match p q.ask
 cause_holds p q BlobExists = writes q.ask.op && (is_any q.ask.args.if_none_match && fails_if_none_match p q.ask)
 cause_holds p q NoneMatchFails = writes q.ask.op && (not (is_any q.ask.args.if_none_match) && fails_if_none_match p q.ask)
 cause_holds p q BodyIsDamaged = is_damaged q
+cause_holds p q BodyIsMalformed = is_malformed (reading_of q)
+cause_holds p q IdIsBad = has_bad_id (reading_of q)
+cause_holds p q BlockIsMissing = is_some (first_missing (target_blob p q.ask) (wanted_blocks q))
+cause_holds p q ListIsTooLong = nat_lt entries_limit (length (wanted_blocks q))
+cause_holds p q IdHasOtherLength = of_its_block has_other_length p q.ask
+cause_holds p q BlocksAreFull = of_its_block is_one_too_many p q.ask
+cause_holds p q ListIsTooLarge = nat_lt blob_limit (wanted_size p q)
 cause_holds p q RangeIsPastTheEnd = is_past_the_end p q.ask
 cause_holds p q CountIsFull = writes q.ask.op && nat_le count_limit p.count
 
 -- the causes in the order in which the first cause that exists is looked for
 abbrev pub causes : List Cause
 causes =
-    ContainerIsAbsent ∷ ContainerExists ∷ BlobIsAbsent ∷ MatchFails ∷ IsNotModified ∷ BlobExists ∷ NoneMatchFails ∷ BodyIsDamaged
-    ∷ RangeIsPastTheEnd ∷ CountIsFull ∷ []
+    ContainerIsAbsent ∷ ContainerExists ∷ BlobIsAbsent ∷ MatchFails ∷ IsNotModified ∷ BlobExists ∷ NoneMatchFails
+    ∷ BodyIsDamaged ∷ BodyIsMalformed ∷ IdIsBad ∷ BlockIsMissing
+    ∷ ListIsTooLong ∷ IdHasOtherLength ∷ BlocksAreFull ∷ ListIsTooLarge ∷ RangeIsPastTheEnd ∷ CountIsFull ∷ []
 
 -- the refusal by a cause: its rule and its error code
 abbrev pub cause_refusal : Cause → Refusal
@@ -163,6 +204,13 @@ cause_refusal IsNotModified = record { rule = rule.O4; code = code.NotModified }
 cause_refusal BlobExists = record { rule = rule.O4; code = code.BlobAlreadyExists }
 cause_refusal NoneMatchFails = record { rule = rule.O4; code = code.ConditionNotMet }
 cause_refusal BodyIsDamaged = record { rule = rule.O5; code = code.Md5Mismatch }
+cause_refusal BodyIsMalformed = record { rule = rule.O5; code = code.InvalidXmlDocument }
+cause_refusal IdIsBad = record { rule = rule.O5; code = code.InvalidBlockList }
+cause_refusal BlockIsMissing = record { rule = rule.O5; code = code.InvalidBlockList }
+cause_refusal ListIsTooLong = record { rule = rule.O6; code = code.BlockListTooLong }
+cause_refusal IdHasOtherLength = record { rule = rule.O6; code = code.InvalidBlobOrBlock }
+cause_refusal BlocksAreFull = record { rule = rule.O6; code = code.BlockCountExceedsLimit }
+cause_refusal ListIsTooLarge = record { rule = rule.O6; code = code.RequestBodyTooLarge }
 cause_refusal RangeIsPastTheEnd = record { rule = rule.O6; code = code.InvalidRange }
 cause_refusal CountIsFull = record { rule = rule.O6; code = code.InternalError }
 
@@ -176,8 +224,9 @@ object_holds p q rule.O1 = cause_holds p q ContainerIsAbsent
 object_holds p q rule.O2 = cause_holds p q ContainerExists
 object_holds p q rule.O3 = cause_holds p q BlobIsAbsent
 object_holds p q rule.O4 = fails_if_match p q.ask || fails_if_none_match p q.ask
-object_holds p q rule.O5 = cause_holds p q BodyIsDamaged
-object_holds p q rule.O6 = cause_holds p q RangeIsPastTheEnd || cause_holds p q CountIsFull
+object_holds p q rule.O5 = list_any (cause_holds p q) (BodyIsDamaged ∷ BodyIsMalformed ∷ IdIsBad ∷ BlockIsMissing ∷ [])
+object_holds p q rule.O6 =
+    list_any (cause_holds p q) (ListIsTooLong ∷ IdHasOtherLength ∷ BlocksAreFull ∷ ListIsTooLarge ∷ RangeIsPastTheEnd ∷ CountIsFull ∷ [])
 object_holds p q _ = false
 
 -- the rules of the object in their order

@@ -1,5 +1,5 @@
 -- What writing requests do (Blob service REST reference, 2012-02-12, "Create Container", "Set Container Metadata", "Delete Container",
--- "Put Blob", "Set Blob Metadata", "Delete Blob"; RFC 1321).
+-- "Put Blob", "Set Blob Metadata", "Delete Blob", "Put Block", "Put Block List"; RFC 1321).
 use Rattle.std.specs.Prelude.{ℕ, List, Option, Some, None, unwrap_or}
 use Rattle.std.specs.Option.{option_map, option_and_then}
 use Rattle.md5.specs.Md5.{md5}
@@ -11,6 +11,8 @@ use Rattle.stamp_types.specs.declared.act.Act.TheVariants as act
 use Rattle.stamp_types.specs.declared.act.CreateContainer.{CreateContainer}
 use Rattle.stamp_types.specs.declared.act.DeleteBlob.{DeleteBlob}
 use Rattle.stamp_types.specs.declared.act.PutBlob.{PutBlob}
+use Rattle.stamp_types.specs.declared.act.PutBlock.{PutBlock}
+use Rattle.stamp_types.specs.declared.act.PutBlockList.{PutBlockList}
 use Rattle.stamp_types.specs.declared.act.SetContainerMetadata.{SetContainerMetadata}
 use Rattle.stamp_types.specs.declared.act.SetMetadata.{SetMetadata}
 use Rattle.stamp_types.specs.declared.args.Kept.{Kept}
@@ -18,15 +20,11 @@ use Rattle.stamp_types.specs.Changes.{KeyedAct}
 use Rattle.stamp_types.specs.Pieces.{cut, pieces_len}
 use Rattle.stamp_types.specs.PropsFields.{PropsFields, kept_fields}
 use Rattle.stamp_types.specs.Requests.{Asked}
-use Rattle.stamp_types.specs.World.{Part, World, changed, part_at, same_pieces}
+use Rattle.stamp_types.specs.World.{Blob, Part, World, blob_in, changed, part_at, same_pieces}
 use Rattle.stamp_types.specs.declared.piece.Piece.{Piece}
+use Rattle.block_blobs.specs.BlockLists.{found_entries}
 use Rattle.range_rows.specs.ObjectRules.{sizes_named}
-use Rattle.range_rows.specs.declared.reading.Reading.{Reading}
-use Rattle.range_rows.specs.declared.reading.Reading.TheVariants as reading
-
--- what the body of a request says besides its bytes: nothing, for the operations that are served so far
-abbrev pub reading_of : Asked → Reading
-reading_of q = reading.Nothing
+use Rattle.range_rows.specs.Readings.{wanted_blocks}
 
 -- what is kept of the headers that a request asks to be kept, with the body's MD5 if the request gives no MD5
 abbrev pub put_props : Asked → Kept → PropsFields
@@ -52,6 +50,21 @@ set_metadata q t name = record { blob = name; moment = t; metadata = q.ask.args.
 abbrev pub delete_blob : List ℕ → DeleteBlob
 delete_blob name = record { blob = name }
 
+-- what a Put Block does: the body is the content of the uncommitted block of the id
+abbrev pub put_block : Asked → List ℕ → List ℕ → PutBlock
+put_block q name id = record { blob = name; id = id; content = cut q.body }
+
+-- what a Put Block List does: the blob gets the blocks that are found, the kept headers with the MD5 that they give, if they give one,
+-- and the metadata
+abbrev pub put_block_list : Blob ℕ → Asked → ℕ → List ℕ → Kept → PutBlockList
+put_block_list b q t name kept = record {
+  blob = name;
+  moment = t;
+  props = kept_fields kept None;
+  metadata = q.ask.args.metadata;
+  entries = found_entries b (wanted_blocks q);
+}
+
 -- what a request of the operation does to a container at a moment; the other operations change nothing so far
 abbrev pub act_by : Op → Part ℕ → Asked → ℕ → Option Act
 act_by op.CreateContainer p q t = Some (act.CreateContainer (create_container q t))
@@ -60,6 +73,9 @@ act_by op.DeleteContainer p q t = Some act.DeleteContainer
 act_by op.PutBlob p q t = option_and_then (λ name. option_map (λ kept. act.PutBlob (put_blob q t name kept)) q.ask.args.kept) q.ask.blob
 act_by op.SetMetadata p q t = option_map (λ name. act.SetMetadata (set_metadata q t name)) q.ask.blob
 act_by op.DeleteBlob p q t = option_map (λ name. act.DeleteBlob (delete_blob name)) q.ask.blob
+act_by op.PutBlock p q t = option_and_then (λ name. option_map (λ id. act.PutBlock (put_block q name id)) q.ask.args.block) q.ask.blob
+act_by op.PutBlockList p q t =
+    option_and_then (λ name. option_map (λ kept. act.PutBlockList (put_block_list (blob_in p name) q t name kept)) q.ask.args.kept) q.ask.blob
 act_by _ p q t = None
 
 -- the change that an allowed request makes at a moment, in the container that it names; the sizes of content decide the change

@@ -17,8 +17,8 @@ use stamp_types::{
 use stamp_values::Named;
 use std::alloc::{AllocError, Global};
 
-// The bytes of a name, which are not copied.
-fn bytes_of(name: Text) -> Bytes
+/// The bytes of a name, which are not copied.
+pub(crate) fn bytes_of(name: Text) -> Bytes
     ensures { result ≡ name }
 {
     Bytes::new(name.into_string().into_bytes())
@@ -127,8 +127,9 @@ impl Container {
     /// Makes a change that fits. What the change holds moves into the container.
     ///
     /// `AllocError` if memory runs out for a new row, its list of blocks or the tree of its
-    /// uncommitted blocks. The container is then as it was.
-    #[tactic(auto, using(crate::proofs::FitLemmas::room_for_change))]
+    /// uncommitted blocks, or if the content of a listed block can have no further owner. The
+    /// container is then as it was.
+    #[tactic(auto, using(crate::proofs::FitLemmas::room_for_change, crate::proofs::BlockFits::fits_block, crate::proofs::BlockFits::fits_list, crate::proofs::BlockFits::block_piece))]
     pub(crate) fn take(&mut self, alloc: Global, act: Act) -> Result<(), AllocError>
         requires fits { IsTrue (fits (part_value pieces_len self.old) act) }
         requires valid { IsTrue (is_act act) }
@@ -143,9 +144,11 @@ impl Container {
             Act::PutBlob(put) => self.put_blob(alloc, put)?,
             Act::SetMetadata(set) => self.set_metadata(set),
             Act::DeleteBlob(delete) => self.delete_blob(delete),
+            Act::PutBlock(put) => self.put_block(alloc, put)?,
+            Act::PutBlockList(list) => self.put_block_list(alloc, list)?,
             Act::ContainerRow(row) => self.take_row(row),
             Act::StoredBlob(row) => self.store_blob(alloc, row)?,
-            Act::SetAcl(_) | Act::PutBlock(_) | Act::PutBlockList(_) => unreachable!(),
+            Act::SetAcl(_) => unreachable!(),
         }
         Ok(())
     }

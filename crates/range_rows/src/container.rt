@@ -1,12 +1,10 @@
 //! A container with its blobs.
-ghost use Rattle.std.specs.Prelude.{◌≡◌, IsTrue};
+ghost use Rattle.std.specs.Prelude.{◌≡◌};
 ghost use Rattle.std.specs.Option.{option_copied};
-ghost use Rattle.stamp_types.specs.Changes.{is_committed};
-ghost use Rattle.block_blobs.specs.BlobChanges.{content_len};
 
+use crate::found_blob::FoundBlob;
 use crate::row::Row;
-use crate::seen::Seen;
-use stamp_types::{Pieces, Standing, Text};
+use stamp_types::{Standing, Text};
 use stamp_values::Named;
 use std::alloc::Global;
 use std::marker::Model;
@@ -62,18 +60,13 @@ impl Container {
         self.standing.as_ref()
     }
 
-    /// What readers of a blob see, and its size.
-    pub(crate) fn seen(&self, name: &Text) -> Seen<'_>
-        ensures value { option_copied result.committed ≡ (blob_in self.now name.now).committed }
-        ensures len { result.len ≡ content_len (option_copied result.committed) }
-        ensures blocks { IsTrue (is_committed (option_copied result.committed)) }
+    /// What the container has of a blob.
+    pub(crate) fn seen(&self, name: &Text) -> FoundBlob<'_>
+        ensures { result ≡ blob_in self.now name.now }
     {
         match self.blobs.get(name.as_str().as_bytes()) {
-            Some(row) => Seen {
-                committed: row.blob().committed(),
-                len: row.blob().len(),
-            },
-            None => Seen::nothing(),
+            Some(row) => FoundBlob::of(row.blob()),
+            None => FoundBlob::nothing(),
         }
     }
 }

@@ -2,14 +2,15 @@
 ghost use Rattle.std.specs.Prelude.{◌≡◌, IsTrue};
 ghost use Rattle.std.specs.Option.{option_copied};
 ghost use Rattle.stamp_types.specs.Changes.{is_committed};
-ghost use Rattle.stamp_types.specs.World.{blob_in};
-ghost use Rattle.block_blobs.specs.BlobChanges.{content_len};
+ghost use Rattle.stamp_types.specs.Pieces.{pieces_len};
+ghost use Rattle.stamp_types.specs.World.{blob_in, blob_value};
 ghost use Rattle.range_rows.specs.Access.{acl_of};
 ghost use Rattle.range_rows.specs.FoundParts.{sized, sizes_found};
+ghost use Rattle.range_rows.specs.NamedBlobs.{target_blob};
 ghost use Rattle.range_rows.specs.ObjectRules.{named_blob};
 
 use crate::container::Container;
-use crate::seen::Seen;
+use crate::found_blob::FoundBlob;
 use stamp_types::{Acl, Ask, Committed, Pieces, Standing, Text};
 use std::marker::Model;
 
@@ -65,16 +66,14 @@ impl<'a> Found<'a> {
         Some(&standing.acl)
     }
 
-    /// What readers of a blob see, and its size.
+    /// What was found of a blob.
     #[tactic(auto, using(crate::proofs::Parts::blob_of_no_part))]
-    pub(crate) fn seen(&self, name: &Text) -> Seen<'a>
-        ensures value { option_copied result.committed ≡ (blob_in self.now name.now).committed }
-        ensures len { result.len ≡ content_len (option_copied result.committed) }
-        ensures blocks { IsTrue (is_committed (option_copied result.committed)) }
+    pub(crate) fn seen(&self, name: &Text) -> FoundBlob<'a>
+        ensures { result ≡ blob_in self.now name.now }
     {
         match self.container {
             Some(container) => container.seen(name),
-            None => Seen::nothing(),
+            None => FoundBlob::nothing(),
         }
     }
 
@@ -83,22 +82,28 @@ impl<'a> Found<'a> {
         ensures value { option_copied result ≡ (blob_in self.now name.now).committed }
         ensures blocks { IsTrue (is_committed (option_copied result)) }
     {
-        self.seen(name).committed
+        self.seen(name).committed()
     }
 
-    /// What readers see of the blob that the request names, and its size. Nothing is seen if the
-    /// request names no blob.
-    #[tactic(auto, using(crate::proofs::AnswerLemmas::named_by_sizes))]
-    pub(crate) fn named(&self, ask: &Ask) -> Seen<'a>
-        ensures value { option_copied result.committed ≡ named_blob self.now ask.now }
-        ensures sizes { sized (option_copied result.committed)
-            ≡ named_blob (sizes_found self.now) ask.now }
-        ensures len { result.len ≡ content_len (option_copied result.committed) }
-        ensures blocks { IsTrue (is_committed (option_copied result.committed)) }
+    // What was found of the blob that the request names.
+    fn target(&self, ask: &Ask) -> FoundBlob<'a>
+        ensures { result ≡ target_blob self.now ask.now }
     {
         match &ask.blob {
             Some(name) => self.seen(name),
-            None => Seen::nothing(),
+            None => FoundBlob::nothing(),
         }
+    }
+
+    /// What was found of the blob that the request names. If the request names no blob, this is a
+    /// blob of a name that was never used.
+    #[tactic(auto, using(crate::proofs::BlockLemmas::named_part, crate::proofs::BlockLemmas::named_sizes, crate::proofs::BlockLemmas::named_part_sizes))]
+    pub(crate) fn named(&self, ask: &Ask) -> FoundBlob<'a>
+        ensures value { result ≡ target_blob self.now ask.now }
+        ensures sizes { blob_value pieces_len result ≡ target_blob (sizes_found self.now) ask.now }
+        ensures part { result.committed ≡ named_blob self.now ask.now }
+        ensures part_sizes { sized result.committed ≡ named_blob (sizes_found self.now) ask.now }
+    {
+        self.target(ask)
     }
 }

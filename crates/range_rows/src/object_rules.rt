@@ -1,17 +1,22 @@
 //! The rules of the object.
-ghost use Rattle.std.specs.Prelude.{◌≡◌, IfOk, IsErr, is_some, nat_le};
+ghost use Rattle.std.specs.Prelude.{◌≡◌, ◌&&◌, ◌||◌, ℕ, IfOk, IsErr, is_none, is_some, nat_le, not};
 ghost use Rattle.std.specs.Option.{option_copied};
 ghost use Rattle.stamp_values.specs.declared.op.Op.TheVariants as op;
-ghost use Rattle.block_blobs.specs.BlobChanges.{content_len};
+ghost use Rattle.stamp_types.specs.Pieces.{pieces_len};
+ghost use Rattle.stamp_types.specs.World.{Part, blob_value};
+ghost use Rattle.range_rows.specs.CauseGroups as groups;
 ghost use Rattle.range_rows.specs.FoundParts.{sized, sizes_found};
+ghost use Rattle.range_rows.specs.NamedBlobs as blobs;
 ghost use Rattle.range_rows.specs.ObjectRules as rules;
 
+use crate::block_rules::block_refusal;
+use crate::body_rules::body_refusal;
 use crate::conditions::{fails_if_match, has_unwanted_etag, is_not_modified, must_be_new};
 use crate::found::Found;
+use crate::found_blob::FoundBlob;
 use crate::reading::Reading;
 use crate::rows::Rows;
-use crate::seen::Seen;
-use stamp_types::{Ask, Body, ByteRange, Code, Op, Refusal, Request, Rule};
+use stamp_types::{Ask, BlockKinds, ByteRange, Code, Op, Refusal, Request, Rule};
 use std::alloc::{AllocError, Global};
 
 // Whether the container has to exist.
@@ -21,7 +26,7 @@ fn needs_container(op: Op) -> bool
     !matches!(op, Op::ListContainers | Op::CreateContainer)
 }
 
-// Whether the blob has to exist.
+// Whether readers have to see the blob.
 fn needs_blob(op: Op) -> bool
     ensures { result ≡ rules.needs_blob op }
 {
@@ -31,57 +36,70 @@ fn needs_blob(op: Op) -> bool
     )
 }
 
-// Whether an MD5 is given that isn't the MD5 of the body. Reads no byte of the body.
-fn has_other_md5(body: &Body, given: Option<[u8; 16]>) -> bool
-    ensures { result ≡ rules.has_other_md5 body.now given }
+// Whether the blob has what Get Block List shows.
+#[tactic(auto, using(crate::proofs::BlockLemmas::has_uncommitted_read))]
+fn has_listed(kinds: Option<BlockKinds>, seen: &FoundBlob<'_>) -> bool
+    ensures { result ≡ blobs.has_listed kinds (blob_value pieces_len seen.now) }
 {
-    match given {
-        Some(sum) => sum != body.sum(),
-        None => false,
+    match kinds {
+        None | Some(BlockKinds::Committed) => seen.committed().is_some(),
+        _ => seen.committed().is_some() || seen.has_uncommitted(),
     }
 }
 
-// The value of x-ms-blob-content-md5.
-fn kept_md5(ask: &Ask) -> Option<[u8; 16]>
-    ensures { result ≡ rules.kept_md5 ask.now }
+// Whether the request needs something of the blob that the blob does not have.
+fn lacks_blob(ask: &Ask, seen: &FoundBlob<'_>) -> bool
+    ensures { result ≡ ((rules.needs_blob ask.now.op && is_none (sized seen.now.committed))
+        || (rules.is_list ask.now.op
+        && not (blobs.has_listed ask.now.args.kinds (blob_value pieces_len seen.now)))) }
 {
-    match &ask.args.kept {
-        Some(kept) => kept.md5,
-        None => None,
-    }
-}
-
-// Whether the body has another MD5 than the headers say. Put Block List keeps x-ms-blob-content-md5
-// as it is.
-fn is_damaged(request: &Request) -> bool
-    ensures { result ≡ rules.is_damaged request.now }
-{
-    let ask = request.ask();
-    let body = request.body();
-    has_other_md5(body, ask.args.content_md5)
-        || (ask.op == Op::PutBlob && has_other_md5(body, kept_md5(ask)))
+    (needs_blob(ask.op) && seen.committed().is_none())
+        || (ask.op == Op::GetBlockList && !has_listed(ask.args.kinds, seen))
 }
 
 // Whether a range is sent, and its first byte comes after the last byte of the blob.
 #[tactic(auto, using(crate::proofs::AnswerLemmas::sizes_of_blocks))]
-fn starts_past(seen: Seen<'_>, range: Option<ByteRange>) -> bool
-    requires { seen.len ≡ content_len (option_copied seen.committed) }
-    ensures { result ≡ rules.starts_past (sized (option_copied seen.entry.committed)) range }
+fn starts_past(seen: &FoundBlob<'_>, range: Option<ByteRange>) -> bool
+    ensures { result ≡ rules.starts_past (sized seen.now.committed) range }
 {
-    match (range, seen.committed) {
-        (Some(range), Some(_)) => seen.len <= range.first,
+    match (range, seen.committed()) {
+        (Some(range), Some(_)) => seen.len() <= range.first,
         _ => false,
     }
 }
 
-fn refused(rule: Rule, code: Code) -> Refusal
+/// A refusal by this rule with this code.
+pub(crate) fn refused(rule: Rule, code: Code) -> Refusal
     ensures { result ≡ record { rule = rule; code = code } }
 {
     Refusal { rule, code }
 }
 
+// The refusal because of the conditions.
+#[tactic(auto, unfolding(crate::specs::CauseGroups::group_refusal))]
+fn condition_refusal(request: &Request, seen: &FoundBlob<'_>) -> Option<Refusal>
+    ensures { (p : Part ℕ) → sized seen.now.committed ≡ rules.named_blob p request.now.ask
+        → result ≡ groups.group_refusal groups.condition_causes p request.now }
+{
+    let ask = request.ask();
+    let blob = seen.committed();
+    if fails_if_match(blob, ask) {
+        return Some(refused(Rule::O4, Code::ConditionNotMet));
+    }
+    if is_not_modified(blob, ask) {
+        return Some(refused(Rule::O4, Code::NotModified));
+    }
+    if must_be_new(blob, ask) {
+        return Some(refused(Rule::O4, Code::BlobAlreadyExists));
+    }
+    if has_unwanted_etag(blob, ask) {
+        return Some(refused(Rule::O4, Code::ConditionNotMet));
+    }
+    None
+}
+
 impl<'a> Found<'a> {
-    ghost use Rattle.range_rows.specs.RequestChanges.{reading_of};
+    ghost use Rattle.range_rows.specs.Readings.{reading_of};
 
     // Whether the container exists.
     fn exists(&self) -> bool
@@ -97,38 +115,39 @@ impl<'a> Found<'a> {
         u64::MAX <= self.count()
     }
 
-    // The refusal by the first cause for which the object refuses the request, with the cause's
-    // rule and code.
-    fn refusal(&self, request: &Request) -> Option<Refusal>
-        ensures { result ≡ rules.object_refusal (sizes_found self.now) request.now }
+    // The refusal because of what the request names.
+    #[tactic(auto, unfolding(crate::specs::CauseGroups::group_refusal))]
+    fn name_refusal(&self, request: &Request, seen: &FoundBlob<'_>) -> Option<Refusal>
+        requires part { sized seen.now.committed
+            ≡ rules.named_blob (sizes_found self.now) request.now.ask }
+        requires blob { blob_value pieces_len seen.now
+            ≡ blobs.target_blob (sizes_found self.now) request.now.ask }
+        ensures { result
+            ≡ groups.group_refusal groups.name_causes (sizes_found self.now) request.now }
     {
         let ask = request.ask();
         let exists = self.exists();
-        let seen = self.named(ask);
         if needs_container(ask.op) && !exists {
             return Some(refused(Rule::O1, Code::ContainerNotFound));
         }
         if ask.op == Op::CreateContainer && exists {
             return Some(refused(Rule::O2, Code::ContainerAlreadyExists));
         }
-        if needs_blob(ask.op) && seen.committed.is_none() {
+        if lacks_blob(ask, seen) {
             return Some(refused(Rule::O3, Code::BlobNotFound));
         }
-        if fails_if_match(seen.committed, ask) {
-            return Some(refused(Rule::O4, Code::ConditionNotMet));
-        }
-        if is_not_modified(seen.committed, ask) {
-            return Some(refused(Rule::O4, Code::NotModified));
-        }
-        if must_be_new(seen.committed, ask) {
-            return Some(refused(Rule::O4, Code::BlobAlreadyExists));
-        }
-        if has_unwanted_etag(seen.committed, ask) {
-            return Some(refused(Rule::O4, Code::ConditionNotMet));
-        }
-        if is_damaged(request) {
-            return Some(refused(Rule::O5, Code::Md5Mismatch));
-        }
+        None
+    }
+
+    // The refusal because of the range, or because the container takes no further change.
+    #[tactic(auto, unfolding(crate::specs::CauseGroups::group_refusal))]
+    fn last_refusal(&self, request: &Request, seen: &FoundBlob<'_>) -> Option<Refusal>
+        requires part { sized seen.now.committed
+            ≡ rules.named_blob (sizes_found self.now) request.now.ask }
+        ensures { result
+            ≡ groups.group_refusal groups.last_causes (sizes_found self.now) request.now }
+    {
+        let ask = request.ask();
         if ask.op == Op::GetBlob && starts_past(seen, ask.args.range) {
             return Some(refused(Rule::O6, Code::InvalidRange));
         }
@@ -142,32 +161,45 @@ impl<'a> Found<'a> {
     /// the first cause, in the order of the rules. The request names the container that was found.
     /// `reading` is what the request's body says. Reads no byte of that body.
     ///
-    /// Today this takes no memory, and never answers `AllocError`. Only Put Block List may answer
-    /// it, as soon as its blocks are looked up.
+    /// `AllocError` if memory runs out for the look-ups of a Put Block List. No other operation
+    /// takes memory.
     pub fn object_rule(
         &self,
-        _alloc: Global,
+        alloc: Global,
         request: &Request,
-        _reading: &Reading,
+        reading: &Reading,
     ) -> Result<Option<Refusal>, AllocError>
-        requires { _reading.now ≡ reading_of request.now }
+        requires { reading.now ≡ reading_of request.now }
         ensures rule { IfOk result (λ refusal.
             refusal ≡ rules.object_refusal (sizes_found self.now) request.now) }
         ensures memory { IsErr result → request.now.ask.op ≡ op.PutBlockList }
     {
-        Ok(self.refusal(request))
+        let seen = self.named(request.ask());
+        if let Some(refusal) = self.name_refusal(request, &seen) {
+            return Ok(Some(refusal));
+        }
+        if let Some(refusal) = condition_refusal(request, &seen) {
+            return Ok(Some(refusal));
+        }
+        if let Some(refusal) = body_refusal(request, reading) {
+            return Ok(Some(refusal));
+        }
+        if let Some(refusal) = block_refusal(alloc, request, reading, &seen)? {
+            return Ok(Some(refusal));
+        }
+        Ok(self.last_refusal(request, &seen))
     }
 }
 
 impl Rows {
-    ghost use Rattle.range_rows.specs.RequestChanges.{reading_of};
+    ghost use Rattle.range_rows.specs.Readings.{reading_of};
 
     /// The refusal of a request by the object, if the object refuses it: the rule and the code of
     /// the first cause, in the order of the rules. `reading` is what the request's body says. Reads
     /// no byte of that body.
     ///
-    /// Today this takes no memory, and never answers `AllocError`. Only Put Block List may answer
-    /// it, as soon as its blocks are looked up.
+    /// `AllocError` if memory runs out for the look-ups of a Put Block List. No other operation
+    /// takes memory.
     pub fn object_rule(
         &self,
         alloc: Global,

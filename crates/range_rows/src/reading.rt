@@ -1,21 +1,55 @@
 //! What the body of a request says besides its bytes.
-ghost use Rattle.std.specs.Prelude.{◌≡◌};
-ghost use Rattle.range_rows.specs.RequestChanges.{reading_of};
+ghost use Rattle.std.specs.Prelude.{◌≡◌, ◌≢◌, IfOk, IsErr, Ok};
+ghost use Rattle.body_forms.specs.Ids.{block_list_reading};
+ghost use Rattle.body_forms.specs.declared.body_fault.BodyFault.TheVariants.{NoMemory};
+ghost use Rattle.stamp_values.specs.declared.op.Op.TheVariants as op;
+ghost use Rattle.range_rows.specs.Readings as readings;
+ghost use Rattle.range_rows.specs.declared.reading.Reading.TheVariants as reading;
 
-use stamp_types::Request;
+use body_forms::{BodyFault, read_block_list};
+use stamp_types::{Items, Op, Request, Wanted};
+use std::alloc::{AllocError, Global};
 
 /// What the body of a request says besides its bytes. It is read once, from the request alone,
 /// before rows are touched.
-#[derive(Clone, Copy, Debug, PartialEq, Eq)]
+#[derive(Debug, Drop)]
 pub enum Reading {
-    /// The body says nothing besides its bytes. This is so for all operations that are served so
-    /// far.
+    /// The body says nothing besides its bytes.
     Nothing,
+    /// The body is a block list, which wants these blocks in this order ("Put Block List").
+    BlockList(Items<Wanted>),
+    /// The body is not what its operation wants.
+    Fault(BodyFault),
 }
 
-/// Reads what the body of a request says.
-pub fn read_request(_request: &Request) -> Reading
-    ensures { result ≡ reading_of _request.now }
+// What a body says that is read as a block list.
+fn read_list(alloc: Global, body: &[u8]) -> Result<Reading, AllocError>
+    ensures value { IfOk result (λ reading.
+        reading ≡ readings.list_reading (block_list_reading body.now)) }
+    ensures no_memory { result ≢ Ok (reading.Fault NoMemory) }
 {
-    Reading::Nothing
+    match read_block_list(alloc, body) {
+        Ok(wanted) => Ok(Reading::BlockList(wanted)),
+        Err(BodyFault::NoMemory) => Err(AllocError),
+        Err(fault) => Ok(Reading::Fault(fault)),
+    }
+}
+
+impl Reading {
+    /// Reads what the body of a request says. Only the body of a Put Block List is read: any number of
+    /// entries is read, and no block is looked up.
+    ///
+    /// `AllocError` if memory runs out for the list. The reading is never the fault that memory ran
+    /// out.
+    #[tactic(auto, unfolding(crate::specs::Readings::reading_by))]
+    pub fn of(alloc: Global, request: &Request) -> Result<Reading, AllocError>
+        ensures read { IfOk result (λ reading. reading ≡ readings.reading_of request.now) }
+        ensures memory { IsErr result → request.now.ask.op ≡ op.PutBlockList }
+        ensures no_memory { result ≢ Ok (reading.Fault NoMemory) }
+    {
+        match request.ask().op {
+            Op::PutBlockList => read_list(alloc, request.body().as_slice()),
+            _ => Ok(Reading::Nothing),
+        }
+    }
 }

@@ -95,8 +95,12 @@ fn push_metadata(headers: &mut Vec<Header>, metas: &[Meta]) -> Result<(), AllocE
     Ok(())
 }
 
-// Puts two lines after the headers: which change wrote last, and when.
-fn push_dates(headers: &mut Vec<Header>, etag: u64, made: Moment) -> Result<(), AllocError>
+/// Puts two lines after the headers: which change wrote last, and when.
+pub(crate) fn push_dates(
+    headers: &mut Vec<Header>,
+    etag: u64,
+    made: Moment,
+) -> Result<(), AllocError>
     ensures { OnOk result
         (headers.new.items ≡ headers.old.items ++ replies.date_headers etag made) }
 {
@@ -180,6 +184,14 @@ fn put_reply(alloc: Global, sum: [u8; 16], etag: u64, made: Moment) -> Result<Re
     Ok(success_reply(alloc, Status::Created, headers, 0))
 }
 
+fn block_reply(alloc: Global, sum: [u8; 16]) -> Result<Reply, AllocError>
+    ensures { IfOk result (λ reply. reply ≡ replies.block_reply sum) }
+{
+    let mut headers = Vec::with_capacity(alloc, 1)?;
+    headers.push(Header::ContentMd5(sum))?;
+    Ok(success_reply(alloc, Status::Created, headers, 0))
+}
+
 // The reply with the metadata by name, which change wrote last, and when.
 fn metadata_reply(
     alloc: Global,
@@ -215,7 +227,8 @@ fn write_frame(
         Op::SetContainerMetadata | Op::SetMetadata => {
             dates_reply(alloc, Status::Success, etag, moment)
         }
-        Op::PutBlob => put_reply(alloc, request.body().sum(), etag, moment),
+        Op::PutBlob | Op::PutBlockList => { put_reply(alloc, request.body().sum(), etag, moment) }
+        Op::PutBlock => block_reply(alloc, request.body().sum()),
         Op::DeleteContainer | Op::DeleteBlob => {
             Ok(success_reply(alloc, Status::Accepted, Vec::new(alloc), 0))
         }
@@ -379,7 +392,7 @@ fn write_answer(
 }
 
 // The answer to an allowed request that reads. The request walks to its blob once.
-#[tactic(auto, using(crate::proofs::Allowed::allowed_blob, crate::proofs::Allowed::allowed_container, crate::proofs::FrameLemmas::frame_of_container_properties, crate::proofs::FrameLemmas::frame_of_get_blob, crate::proofs::FrameLemmas::frame_of_blob_properties, crate::proofs::FrameLemmas::frame_of_get_metadata, crate::proofs::FrameLemmas::spans_of_get, crate::proofs::FrameLemmas::spans_of_others))]
+#[tactic(auto, using(crate::proofs::Allowed::allowed_blob, crate::proofs::Allowed::allowed_container, crate::proofs::FrameLemmas::frame_of_container_properties, crate::proofs::FrameLemmas::frame_of_get_blob, crate::proofs::FrameLemmas::frame_of_blob_properties, crate::proofs::FrameLemmas::frame_of_get_metadata, crate::proofs::FrameLemmas::frame_of_block_list, crate::proofs::FrameLemmas::spans_of_get, crate::proofs::FrameLemmas::spans_of_others))]
 fn read_answer(alloc: Global, found: &Found<'_>, request: &Request) -> Result<Answer, AllocError>
     requires served { IsTrue (replies.is_served request.now.ask.op) }
     requires reads { writes request.now.ask.op ≡ false }
@@ -393,13 +406,13 @@ fn read_answer(alloc: Global, found: &Found<'_>, request: &Request) -> Result<An
 {
     let ask = request.ask();
     let seen = found.named(ask);
-    match (ask.op, found.standing(), seen.committed) {
+    match (ask.op, found.standing(), seen.committed()) {
         (Op::ContainerProperties, Some(standing), _) => {
             let frame = metadata_reply(alloc, &standing.metadata, standing.etag, standing.made)?;
             Ok(without_content(alloc, frame))
         }
         (Op::BlobProperties, _, Some(blob)) => {
-            let frame = get_frame(alloc, blob, seen.len)?;
+            let frame = get_frame(alloc, blob, seen.len())?;
             Ok(without_content(alloc, frame))
         }
         (Op::GetMetadata, _, Some(blob)) => {
@@ -407,8 +420,12 @@ fn read_answer(alloc: Global, found: &Found<'_>, request: &Request) -> Result<An
             Ok(without_content(alloc, frame))
         }
         (Op::GetBlob, _, Some(blob)) => {
-            let answer = ranged_answer(alloc, ask.args.range, blob, seen.len)?;
+            let answer = ranged_answer(alloc, ask.args.range, blob, seen.len())?;
             Ok(answer)
+        }
+        (Op::GetBlockList, _, _) => {
+            let frame = seen.list_reply(alloc, ask.args.kinds)?;
+            Ok(without_content(alloc, frame))
         }
         _ => unreachable!(),
     }
@@ -416,7 +433,7 @@ fn read_answer(alloc: Global, found: &Found<'_>, request: &Request) -> Result<An
 
 impl<'a> Found<'a> {
     ghost use Rattle.range_rows.specs.ObjectReplies.{is_served};
-    ghost use Rattle.range_rows.specs.RequestChanges.{reading_of};
+    ghost use Rattle.range_rows.specs.Readings.{reading_of};
 
     /// The answer to a request that was allowed at the moment, from the container that it names,
     /// which was found. `Rows::reply` says what the answer has.
@@ -453,7 +470,8 @@ impl<'a> Found<'a> {
 impl Rows {
     ghost use Rattle.range_rows.specs.ObjectReplies.{is_served};
     ghost use Rattle.range_rows.specs.ObjectRules.{sizes_named};
-    ghost use Rattle.range_rows.specs.RequestChanges.{pieces_after, reading_of, sizes_after};
+    ghost use Rattle.range_rows.specs.Readings.{reading_of};
+    ghost use Rattle.range_rows.specs.RequestChanges.{pieces_after, sizes_after};
 
     /// The answer to a request that was allowed at the moment. If the request makes a change, the
     /// answer is made from the container as it is after that change, which is not applied yet.

@@ -1,9 +1,13 @@
 //! The row of a blob in a box.
-ghost use Rattle.std.specs.Prelude.{◌≡◌, IfOk};
-ghost use Rattle.block_blobs.specs.BlobChanges.{blob_with_metadata};
+ghost use Rattle.std.specs.Prelude.{◌≡◌, IfOk, IsTrue, OnOk, OnErr, None};
+ghost use Rattle.stamp_types.specs.Changes.{is_in_one_piece};
+ghost use Rattle.stamp_types.specs.World.{no_blob};
+ghost use Rattle.block_blobs.specs.BlobChanges.{blob_of_list, blob_with_block, blob_with_metadata};
+ghost use Rattle.block_blobs.specs.BlockLists.{taken_fault};
+ghost use Rattle.block_blobs.specs.UncommittedBlocks.{block_fault};
 
-use block_blobs::BlobRow;
-use stamp_types::SetMetadata;
+use block_blobs::{BlobRow, BlockFault};
+use stamp_types::{BlockId, Pieces, PutBlockList, SetMetadata};
 use std::alloc::{AllocError, Global};
 use std::marker::Model;
 
@@ -41,6 +45,13 @@ impl Row {
         })
     }
 
+    /// A blob that never was, in a box.
+    pub(crate) fn empty(alloc: Global) -> Result<Self, AllocError>
+        ensures { IfOk result (λ row. row ≡ no_blob) }
+    {
+        Self::new(alloc, BlobRow::new(alloc))
+    }
+
     pub(crate) fn blob(&self) -> &BlobRow
         ensures { result.now ≡ self.now }
     {
@@ -52,5 +63,39 @@ impl Row {
         ensures { self.new ≡ blob_with_metadata count set self.old }
     {
         self.blob.set_metadata(set, count);
+    }
+
+    /// Puts a block that the blob takes, as `BlobRow::put_block` does. If memory runs out, the blob is
+    /// as it was.
+    pub(crate) fn put_block(&mut self, id: &BlockId, content: Pieces) -> Result<(), AllocError>
+        requires fits { block_fault id.now self.old.uncommitted ≡ None }
+        requires piece { IsTrue (is_in_one_piece content) }
+        ensures put { OnOk result (self.new ≡ blob_with_block id.now content self.old) }
+        ensures refused { OnErr result (self.new ≡ self.old) }
+    {
+        match self.blob.put_block(id, content) {
+            Ok(()) => Ok(()),
+            Err(BlockFault::NoMemory) => Err(AllocError),
+            Err(_) => unreachable!(),
+        }
+    }
+
+    /// Makes the blocks of a list that fits the content, as `BlobRow::commit` does. If memory runs out,
+    /// the blob is as it was.
+    pub(crate) fn commit(
+        &mut self,
+        alloc: Global,
+        list: PutBlockList,
+        count: u64,
+    ) -> Result<(), AllocError>
+        requires { taken_fault self.old list.entries ≡ None }
+        ensures committed { OnOk result (self.new ≡ blob_of_list count list self.old) }
+        ensures refused { OnErr result (self.new ≡ self.old) }
+    {
+        match self.blob.commit(alloc, list, count) {
+            Ok(()) => Ok(()),
+            Err(BlockFault::NoMemory) => Err(AllocError),
+            Err(_) => unreachable!(),
+        }
     }
 }

@@ -58,9 +58,9 @@ impl Rows {
         }
     }
 
-    // The container of the key, if it exists or was deleted.
+    /// The container of the key, if it exists or was deleted.
     #[tactic(auto, using(crate::proofs::Parts::found_part))]
-    fn held(&self, key: &Key) -> Option<&Container>
+    pub(crate) fn held(&self, key: &Key) -> Option<&Container>
         ensures { option_copied result ≡ finite.get self.now key.now }
     {
         self.containers.get(key)
@@ -138,10 +138,11 @@ impl Rows {
     }
 
     /// Makes a change that fits. The texts and the content of the change move into the rows, and
-    /// nothing is copied. A deletion takes no memory.
+    /// no byte of content is copied. A deletion takes no memory.
     ///
     /// `AllocError` if memory runs out for a new row, its list of blocks or the tree of its
-    /// uncommitted blocks. The rows are then as they were.
+    /// uncommitted blocks, or if the content of a listed block can have no further owner. The rows
+    /// are then as they were.
     #[tactic(auto, using(crate::proofs::Parts::same_world, crate::proofs::FitLemmas::no_deletion, crate::proofs::FitLemmas::act_of_change))]
     pub fn take(&mut self, alloc: Global, change: Change) -> Result<(), AllocError>
         requires { IsTrue (fits (part_value pieces_len (part_at self.old change.key)) change.act) }

@@ -20,5 +20,8 @@ pub fn is_served(op: Op) -> bool
             | Op::GetMetadata
             | Op::SetMetadata
             | Op::DeleteBlob
+            | Op::PutBlock
+            | Op::PutBlockList
+            | Op::GetBlockList
     )
 }

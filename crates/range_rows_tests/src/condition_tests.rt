@@ -1,12 +1,11 @@
 //! What If-Match and If-None-Match do: each operation that takes them, against values that were
 //! written by hand.
 
-use crate::sample_requests::{body, key, make, moment, pics, request, text, visible};
-use range_rows::{Rows, read_request};
+use crate::sample_requests::{asked, body, kept, key, make, moment, pics, request, text};
+use range_rows::{Reading, Rows};
 use stamp_types::{
-    Act, Args, Ask, BlockId, Body, ByteRange, Bytes, Change, Code, Condition, Credential,
-    FieldList, Items, Kept, Op, Piece, Pieces, Refusal, Request, Rule, Share, Signing, StoredBlob,
-    UncommittedBlock, Verb,
+    Act, Args, BlockId, Body, ByteRange, Bytes, Change, Code, Condition, Items, Op, Piece, Pieces,
+    Refusal, Request, Rule, Share, StoredBlob, UncommittedBlock,
 };
 use std::alloc::Global;
 use std::process::Abort;
@@ -27,45 +26,29 @@ pub(crate) const NOTHING: Sent = Sent {
     range: None,
 };
 
-fn kept(rt: &impl Abort, alloc: Global, op: Op) -> Option<Kept> {
-    if !op.keeps_headers() {
-        return None;
-    }
-    Some(Kept {
-        content_type: visible(rt, alloc, ""),
-        encoding: visible(rt, alloc, ""),
-        language: visible(rt, alloc, ""),
-        cache_control: visible(rt, alloc, ""),
-        md5: None,
-    })
-}
-
-fn args(rt: &impl Abort, alloc: Global, op: Op, sent: Sent) -> Args {
+fn args(alloc: Global, op: Op, sent: Sent) -> Args {
     let mut args = Args::none(alloc);
     args.if_match = sent.if_match;
     args.if_none_match = sent.if_none_match;
     args.content_md5 = sent.content_md5;
     args.range = sent.range;
-    args.kept = kept(rt, alloc, op);
+    args.kept = kept(alloc, op);
     args
 }
 
-/// A request on a blob of the container `pics`, without a body.
+// The shortest body that the operation takes: a block list without entries, or nothing.
+fn shortest_body(rt: &impl Abort, alloc: Global, op: Op) -> Body {
+    if op != Op::PutBlockList {
+        return Body::empty();
+    }
+    let list = b"<BlockList/>".to_vec(alloc).expect(rt, "memory");
+    body(rt, alloc, list)
+}
+
+/// A request on a blob of the container `pics`, with the shortest body that its operation takes.
 pub(crate) fn sending(rt: &impl Abort, alloc: Global, op: Op, blob: &str, sent: Sent) -> Request {
-    let ask = Ask {
-        op,
-        key: key(rt, alloc, "pantry", "pics"),
-        blob: Some(text(rt, alloc, blob)),
-        args: args(rt, alloc, op, sent),
-        signing: Signing {
-            verb: Verb::Put,
-            headers: FieldList::new(alloc),
-            path: Bytes::new(Vec::new(alloc)),
-            query: FieldList::new(alloc),
-        },
-        credential: Credential::Anonymous,
-    };
-    let request = Request::new(alloc, ask, Body::empty()).expect(rt, "memory");
+    let ask = asked(rt, alloc, op, "pics", blob, args(alloc, op, sent));
+    let request = Request::new(alloc, ask, shortest_body(rt, alloc, op)).expect(rt, "memory");
     request.expect(rt, "parts that fit")
 }
 
@@ -74,7 +57,7 @@ pub(crate) fn put(rt: &impl Abort, alloc: Global, rows: &mut Rows, blob: &str, b
     let body = body(rt, alloc, bytes);
     let request = request(rt, alloc, Op::PutBlob, "pics", blob, None, body);
     assert!(rt; request.ask().op == Op::PutBlob);
-    let reading = read_request(&request);
+    let reading = Reading::of(alloc, &request).expect(rt, "memory");
     let refusal = rows.object_rule(alloc, &request, &reading);
     assert!(rt; refusal.expect(rt, "memory").is_none());
     let change = rows.change(alloc, &request, &reading, moment(rt));
@@ -129,7 +112,8 @@ pub(crate) fn refusal(
     sent: Sent,
 ) -> Option<Refusal> {
     let request = sending(rt, alloc, op, blob, sent);
-    let refusal = rows.object_rule(alloc, &request, &read_request(&request));
+    let reading = Reading::of(alloc, &request).expect(rt, "memory");
+    let refusal = rows.object_rule(alloc, &request, &reading);
     refusal.expect(rt, "memory")
 }
 
@@ -200,28 +184,23 @@ fn on_no_blob() -> [Row; 9] {
     ]
 }
 
-// The code of the refusal, whose rule is O3 if the blob is absent, and otherwise O4.
-fn code(refusal: Option<Refusal>) -> Option<Code> {
-    let refusal = refusal?;
-    let rule = if refusal.code == Code::BlobNotFound {
+// The refusal with this code: by O3 if the blob is absent, and otherwise by O4.
+fn refused(code: Code) -> Refusal {
+    let rule = if code == Code::BlobNotFound {
         Rule::O3
     } else {
         Rule::O4
     };
-    if refusal.rule == rule {
-        Some(refusal.code)
-    } else {
-        None
-    }
+    Refusal { rule, code }
 }
 
 fn judge(rt: &impl Abort, alloc: Global, rows: &Rows, row: Row) {
     let (op, blob, matched, unmatched) = row;
     for at in 0..4 {
         let with = refusal(rt, alloc, rows, op, blob, if_match(CONDITIONS[at]));
-        assert!(rt; code(with) == matched[at], "{op:?} {blob} {at}");
+        assert!(rt; with == matched[at].map(refused), "{op:?} {blob} {at}");
         let without = refusal(rt, alloc, rows, op, blob, if_none_match(CONDITIONS[at]));
-        assert!(rt; code(without) == unmatched[at], "{op:?} {blob} {at}");
+        assert!(rt; without == unmatched[at].map(refused), "{op:?} {blob} {at}");
     }
 }
 
@@ -270,6 +249,6 @@ fn the_first_condition_that_fails_is_named(rt: HostRuntime) {
     let rows = rows(&rt, alloc);
     for (op, sent, wanted) in order() {
         let refusal = refusal(&rt, alloc, &rows, op, "a.txt", sent);
-        assert!(rt; code(refusal) == Some(wanted), "{op:?} {wanted:?}");
+        assert!(rt; refusal == Some(refused(wanted)), "{op:?} {wanted:?}");
     }
 }

@@ -2,7 +2,7 @@
 //! length and the content of each reply, against values that were written by hand.
 
 use crate::sample_requests::{body, four_names, make, moment_after, request_with};
-use range_rows::{Answer, Rows, is_served, read_request};
+use range_rows::{Answer, Reading, Rows, is_served};
 use stamp_types::{Header, Moment, Op, Piece, Request, Status};
 use std::alloc::Global;
 use std::process::Abort;
@@ -169,7 +169,7 @@ fn answer(
     moment: Moment,
 ) -> Answer {
     assert!(rt; is_served(request.ask().op));
-    let reading = read_request(request);
+    let reading = Reading::of(alloc, request).expect(rt, "memory");
     let refusal = rows.object_rule(alloc, request, &reading);
     assert!(rt; refusal.expect(rt, "memory").is_none());
     let answer = rows.reply(alloc, request, &reading, moment);
@@ -182,7 +182,7 @@ fn change(rt: &impl Abort, alloc: Global, rows: &mut Rows, request: &Request, mo
         return;
     }
     assert!(rt; is_served(request.ask().op));
-    let reading = read_request(request);
+    let reading = Reading::of(alloc, request).expect(rt, "memory");
     let refusal = rows.object_rule(alloc, request, &reading);
     assert!(rt; refusal.expect(rt, "memory").is_none());
     let change = rows.change(alloc, request, &reading, moment);

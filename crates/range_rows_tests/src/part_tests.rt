@@ -3,7 +3,7 @@
 
 use crate::condition_tests::{NOTHING, Sent, content, id, put, refusal, sending, store};
 use crate::sample_requests::{author, moment, pics, text, visible};
-use range_rows::{Answer, Rows, Span, read_request};
+use range_rows::{Answer, Reading, Rows, Span};
 use stamp_types::{
     Block, ByteRange, Code, Committed, Header, Items, Op, Piece, Pieces, Props, Refusal, Rule,
     SentRange, Status, StoredBlob,
@@ -22,7 +22,7 @@ fn ranged(first: u64, last: Option<u64>) -> Sent {
 fn part(rt: &impl Abort, alloc: Global, rows: &Rows, blob: &str, sent: Sent) -> Answer {
     let request = sending(rt, alloc, Op::GetBlob, blob, sent);
     assert!(rt; request.ask().op == Op::GetBlob);
-    let reading = read_request(&request);
+    let reading = Reading::of(alloc, &request).expect(rt, "memory");
     let refusal = rows.object_rule(alloc, &request, &reading);
     assert!(rt; refusal.expect(rt, "memory").is_none());
     let answer = rows.reply(alloc, &request, &reading, moment(rt));

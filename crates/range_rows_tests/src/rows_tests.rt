@@ -2,7 +2,7 @@
 //! and that no body is copied. Printed replies, with their lines, are cases of `replay_cases`.
 
 use crate::sample_requests::{Sum, body, make, moment, pics, pics_and_gone, request};
-use range_rows::{Answer, Rows, Span, read_request};
+use range_rows::{Answer, Reading, Rows, Span};
 use stamp_types::{Body, Change, Header, Items, Op, Piece, Request, Rule, Status};
 use std::alloc::Global;
 use std::fs;
@@ -65,7 +65,8 @@ fn judge(rt: &impl Abort, alloc: Global, case: Case) {
     let (op, container, sum, count, rule) = case;
     let rows = pics_and_gone(rt, alloc, count);
     let request = request(rt, alloc, op, container, "a.txt", sum, Body::empty());
-    let refusal = rows.object_rule(alloc, &request, &read_request(&request));
+    let reading = Reading::of(alloc, &request).expect(rt, "memory");
+    let refusal = rows.object_rule(alloc, &request, &reading);
     let named = refusal.expect(rt, "memory").map(|refusal| refusal.rule);
     assert!(rt; named == rule, "{op:?} {container} {count}");
 }
@@ -93,7 +94,8 @@ fn make_as(rt: &impl Abort, alloc: Global, rows: &mut Rows, change: Change, way:
     match way {
         Way::Moved => make(rt, alloc, rows, change),
         Way::Copied => {
-            assert!(rt; rows.fits(&change), "a change that does not fit");
+            let fits = rows.fits(alloc, &change).expect(rt, "memory");
+            assert!(rt; fits, "a change that does not fit");
             rows.apply(alloc, &change).expect(rt, "memory");
             drop(change);
         }
@@ -103,7 +105,7 @@ fn make_as(rt: &impl Abort, alloc: Global, rows: &mut Rows, change: Change, way:
 // Makes the change of a Put Blob.
 fn change(rt: &impl Abort, alloc: Global, rows: &mut Rows, request: &Request, way: Way) {
     assert!(rt; request.ask().op == Op::PutBlob);
-    let reading = read_request(request);
+    let reading = Reading::of(alloc, request).expect(rt, "memory");
     let refusal = rows.object_rule(alloc, request, &reading);
     assert!(rt; refusal.expect(rt, "memory").is_none());
     let change = rows.change(alloc, request, &reading, moment(rt));
@@ -121,7 +123,7 @@ fn answer(
     length: u64,
 ) -> Answer {
     assert!(rt; matches!(request.ask().op, Op::PutBlob | Op::GetBlob));
-    let reading = read_request(request);
+    let reading = Reading::of(alloc, request).expect(rt, "memory");
     let refusal = rows.object_rule(alloc, request, &reading);
     assert!(rt; refusal.expect(rt, "memory").is_none());
     let answer = rows.reply(alloc, request, &reading, moment(rt));

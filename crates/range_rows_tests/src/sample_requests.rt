@@ -40,9 +40,9 @@ pub(crate) fn body(rt: &impl Abort, alloc: Global, bytes: Vec<u8>) -> Body {
     Body::of(Share::new(alloc, bytes).expect(rt, "memory"))
 }
 
-// The headers that a Put Blob asks to be kept. Other operations ask for no headers.
-fn kept(alloc: Global, op: Op) -> Option<Kept> {
-    if op != Op::PutBlob {
+/// The headers that a request asks to be kept: empty headers, if the operation keeps headers.
+pub(crate) fn kept(alloc: Global, op: Op) -> Option<Kept> {
+    if !op.keeps_headers() {
         return None;
     }
     Some(Kept {
@@ -131,8 +131,15 @@ fn named(rt: &impl Abort, alloc: Global, op: Op, blob: &str) -> Option<Text> {
     }
 }
 
-// The parts of a request in the account `pantry`.
-fn asked(rt: &impl Abort, alloc: Global, op: Op, container: &str, blob: &str, args: Args) -> Ask {
+/// The parts of a request in the account `pantry`.
+pub(crate) fn asked(
+    rt: &impl Abort,
+    alloc: Global,
+    op: Op,
+    container: &str,
+    blob: &str,
+    args: Args,
+) -> Ask {
     Ask {
         op,
         key: key(rt, alloc, "pantry", container),
@@ -222,6 +229,7 @@ pub(crate) fn pics_and_gone(rt: &impl Abort, alloc: Global, count: u64) -> Rows 
 
 /// Makes a change, which has to fit.
 pub(crate) fn make(rt: &impl Abort, alloc: Global, rows: &mut Rows, change: Change) {
-    assert!(rt; rows.fits(&change), "a change that does not fit");
+    let fits = rows.fits(alloc, &change).expect(rt, "memory");
+    assert!(rt; fits, "a change that does not fit");
     rows.take(alloc, change).expect(rt, "memory");
 }

@@ -1,4 +1,5 @@
 pub mod AskLemmas
+pub mod BlockLemmas
 pub mod ConditionLemmas
 pub mod DigitLemmas
 pub mod HeadDecisions

@@ -23,6 +23,7 @@ use Rattle.stamp_types.specs.declared.ask.Ask.{Ask}
 use Rattle.stamp_types.specs.Requests.{Asked, asked}
 use Rattle.request_form.specs.Targets.{lowered, target_of, account_of, container_of, blob_of}
 use Rattle.stamp_values.specs.Ascii.{comma}
+use Rattle.request_form.specs.HeadBlocks.{block_by, kinds_by}
 use Rattle.request_form.specs.HeadConditions.{condition_by}
 use Rattle.request_form.specs.HeadMetadata.{metadata_by}
 use Rattle.request_form.specs.HeadRanges.{range_by}
@@ -69,7 +70,7 @@ level_named v = if bytes_eq v (codes "container") then Container else (if bytes_
 abbrev pub level_by : Op → List Field → Option Level
 level_by op fields = if sets_level op then Some (option_map_or level_named (first_value fields (codes "x-ms-blob-public-access")) Closed) else None
 
--- what comes with a request beside its metadata
+-- what the header lines say of a request beside its metadata
 unfoldable pub line_args_of : Op → List Field → Args
 line_args_of op fields = record {
   if_match = condition_by op fields (codes "if-match");
@@ -84,9 +85,13 @@ line_args_of op fields = record {
   kinds = None;
 }
 
+-- what the header lines say of a request
+unfoldable pub header_args_of : Op → List Field → Args
+header_args_of op fields = record (line_args_of op fields) { metadata = metadata_by op fields }
+
 -- what comes with a request
-unfoldable pub args_of : Op → List Field → Args
-args_of op fields = record (line_args_of op fields) { metadata = metadata_by op fields }
+unfoldable pub args_of : Op → List Field → List Field → Args
+args_of op fields query = record (header_args_of op fields) { block = block_by op query; kinds = kinds_by op query }
 
 -- what the string to sign is made of
 unfoldable pub signing_of : Verb → HeadParts → Signing
@@ -121,7 +126,7 @@ ask_of op verb p = record {
   op = op;
   key = key_of (target_of p.target).path;
   blob = blob_by op (target_of p.target).path;
-  args = args_of op p.fields;
+  args = args_of op p.fields (target_of p.target).query;
   signing = signing_of verb p;
   credential = credential_of p;
 }

@@ -3,12 +3,14 @@ use Rattle.std.specs.Prelude.{◌≡◌, ℕ, ◌≤◌, Bool, true, false, List
 use Rattle.name_rules.specs.BlobNames.{name_of}
 use Rattle.stamp_values.specs.Operations.{body_limit, names_blob}
 use Rattle.stamp_values.specs.declared.op.Op.{Op}
+use Rattle.stamp_values.specs.declared.verb.Verb.{Verb}
 use Rattle.stamp_types.specs.declared.code.Code.{Code}
 use Rattle.stamp_types.specs.declared.rule.Rule.{Rule}
 use Rattle.stamp_types.specs.declared.rule.Rule.TheVariants.{F1, F2, F3, F4, F5, F6, F7, F8}
 use Rattle.request_form.specs.Targets.{blob_of, target_of}
-use Rattle.request_form.specs.HeadRules.{verb_of, op_of, has_bad_name, body_len_of, denial_among}
-use Rattle.request_form.specs.HeadForms.{args_of, key_of, blob_by}
+use Rattle.request_form.specs.HeadBlocks.{block_by, kinds_by}
+use Rattle.request_form.specs.HeadRules.{verb_of, op_at, op_of, has_bad_name, has_bad_parameter, body_len_of, denial_among}
+use Rattle.request_form.specs.HeadForms.{header_args_of, key_of, blob_by}
 use Rattle.request_form.specs.declared.denial.HeadFault.{HeadFault}
 use Rattle.request_form.specs.declared.denial.HeadFault.TheVariants as fault
 use Rattle.request_form.specs.declared.header_lines.Fields.{Fields}
@@ -16,7 +18,9 @@ use Rattle.request_form.specs.declared.names.BlobName.{BlobName}
 use Rattle.request_form.specs.declared.names.BlobName.TheVariants as blob_name
 use Rattle.request_form.specs.declared.names.Names.{Names}
 use Rattle.request_form.specs.HeadParts.{HeadParts}
+use Rattle.request_form.specs.declared.operation.Operation.{Operation}
 use Rattle.request_form.specs.declared.request_line.Line.{Line}
+use Rattle.request_form.specs.declared.target.Target.{Target}
 use Rattle.request_form.specs.declared.value_fault.ValueFault.{ValueFault}
 use Rattle.request_form.specs.declared.value_fault.ValueFault.TheVariants as value_fault
 
@@ -54,15 +58,25 @@ pub record AreNames (op : Op) (path : List ℕ) (n : Names) : Type 0 where
   pub key : n.key ≡ key_of path
   pub blob : n.blob ≡ blob_by op path
 
+-- what a method and a target ask for
+pub record IsOperation (verb : Verb) (target : Target) (o : Operation) : Type 0 where
+  pub op : op_at verb target ≡ Some o.op
+  pub parameters : has_bad_parameter target.query ≡ false
+  pub block : o.block ≡ block_by o.op target.query
+  pub kinds : o.kinds ≡ kinds_by o.op target.query
+
 -- what a request line says
 pub record IsLine (p : HeadParts) (l : Line) : Type 0 where
   pub verb : verb_of p.method ≡ Some l.verb
   pub op : op_of p ≡ Some l.op
+  pub parameters : has_bad_parameter (target_of p.target).query ≡ false
+  pub block : l.block ≡ block_by l.op (target_of p.target).query
+  pub kinds : l.kinds ≡ kinds_by l.op (target_of p.target).query
   pub target : l.target ≡ target_of p.target
 
 -- what the names and the header lines say
 pub record AreFields (p : HeadParts) (op : Op) (f : Fields) : Type 0 where
   pub names : AreNames op (target_of p.target).path f.names
   pub body_len : f.body_len ≡ body_len_of p.fields
-  pub args : f.args ≡ args_of op p.fields
+  pub args : f.args ≡ header_args_of op p.fields
   pub limit : f.body_len ≤ body_limit op

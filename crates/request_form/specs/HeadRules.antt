@@ -6,7 +6,7 @@ use Rattle.std.specs.List.{list_all, list_any}
 use Rattle.std.specs.Option.{option_map_or, option_or}
 use Rattle.std.specs.Str.Parse.{digits_value}
 use Rattle.stamp_values.specs.declared.op.Op.{Op}
-use Rattle.stamp_values.specs.declared.op.Op.TheVariants.{CreateContainer, ContainerProperties, SetContainerMetadata, DeleteContainer, PutBlob, GetBlob, BlobProperties, GetMetadata, SetMetadata, DeleteBlob}
+use Rattle.stamp_values.specs.declared.op.Op.TheVariants.{CreateContainer, ContainerProperties, SetContainerMetadata, DeleteContainer, PutBlob, GetBlob, BlobProperties, GetMetadata, SetMetadata, DeleteBlob, PutBlock, PutBlockList, GetBlockList}
 use Rattle.stamp_values.specs.declared.verb.Verb.{Verb}
 use Rattle.stamp_values.specs.declared.verb.Verb.TheVariants.{Get, Head, Put, Delete}
 use Rattle.stamp_values.specs.declared.signing.Field.{Field}
@@ -61,6 +61,9 @@ operations =
     ∷ record { verb = Head; kind = path.Blob; restype = None; comp = Some (codes "metadata"); op = GetMetadata }
     ∷ record { verb = Put; kind = path.Blob; restype = None; comp = Some (codes "metadata"); op = SetMetadata }
     ∷ record { verb = Delete; kind = path.Blob; restype = None; comp = None; op = DeleteBlob }
+    ∷ record { verb = Put; kind = path.Blob; restype = None; comp = Some (codes "block"); op = PutBlock }
+    ∷ record { verb = Put; kind = path.Blob; restype = None; comp = Some (codes "blocklist"); op = PutBlockList }
+    ∷ record { verb = Get; kind = path.Blob; restype = None; comp = Some (codes "blocklist"); op = GetBlockList }
     ∷ []
 
 -- the methods are the same
@@ -93,17 +96,30 @@ is_row verb kind restype comp row = is_verb verb row.verb && is_kind kind row.ki
 abbrev pub op_by : Verb → PathKind → Option (List ℕ) → Option (List ℕ) → Option Op
 op_by verb kind restype comp = option_map (λ row. row.op) (find (is_row verb kind restype comp) operations)
 
+-- the operation of the row that a method and a target fit
+unfoldable pub row_at : Verb → Target → Option Op
+row_at verb target = op_by verb (kind_of target.path) (first_value target.query (codes "restype")) (first_value target.query (codes "comp"))
+
+-- the operation, but not Put Block if the id of its block is not given
+abbrev pub if_identified : Bool → Op → Option Op
+if_identified given PutBlock = if given then Some PutBlock else None
+if_identified given other = Some other
+
 -- the operation of a method on a target
 unfoldable pub op_at : Verb → Target → Option Op
-op_at verb target = op_by verb (kind_of target.path) (first_value target.query (codes "restype")) (first_value target.query (codes "comp"))
+op_at verb target = option_and_then (if_identified (is_sent target.query (codes "blockid"))) (row_at verb target)
 
 -- the operation, if it is built
 unfoldable pub op_of : HeadParts → Option Op
 op_of p = option_and_then (λ verb. op_at verb (target_of p.target)) (verb_of p.method)
 
--- the parameters that operations have, which are given at most once
+-- the parameters that operations have, beside the two parameters of blocks; they are given at most once
 abbrev pub parameter_names : List (List ℕ)
-parameter_names = codes "restype" ∷ codes "comp" ∷ codes "prefix" ∷ codes "delimiter" ∷ codes "marker" ∷ codes "maxresults" ∷ codes "include" ∷ codes "blockid" ∷ codes "blocklisttype" ∷ []
+parameter_names = codes "restype" ∷ codes "comp" ∷ codes "prefix" ∷ codes "delimiter" ∷ codes "marker" ∷ codes "maxresults" ∷ codes "include" ∷ []
+
+-- the value is the strict Base64 of the id of a block
+abbrev pub is_id : List ℕ → Bool
+is_id v = is_base64_within 1 64 v
 
 -- the value names a kind of blocks
 abbrev pub is_kinds : List ℕ → Bool
@@ -117,21 +133,28 @@ is_count v = is_number v && not (digits_value 10 v == 0)
 unfoldable pub is_value_of : List ℕ → List ℕ → Bool
 is_value_of name v =
     if bytes_eq name (codes "maxresults") then is_count v
-    else (if bytes_eq name (codes "include") then is_nothing v || bytes_eq v (codes "metadata")
-    else (if bytes_eq name (codes "blockid") then is_base64_within 1 64 v
-    else (if bytes_eq name (codes "blocklisttype") then is_kinds v else true)))
+    else (if bytes_eq name (codes "include") then is_nothing v || bytes_eq v (codes "metadata") else true)
 
--- the value is a text without control characters, and has the form of the parameter
-abbrev pub is_good_value : List ℕ → List ℕ → Bool
-is_good_value name v = is_utf8 v && is_clean v && is_value_of name v
+-- the value is a text without control characters that passes the test
+abbrev pub is_good_value : (List ℕ → Bool) → List ℕ → Bool
+is_good_value test v = is_utf8 v && is_clean v && test v
 
--- the parameter is given twice, or its value is bad
-unfoldable pub is_bad_parameter : List Field → List ℕ → Bool
-is_bad_parameter query name = is_sent_twice query name || is_bad query name (is_good_value name)
+-- the parameter is given twice, or its value is bad by the test
+unfoldable pub is_bad_parameter : List Field → List ℕ → (List ℕ → Bool) → Bool
+is_bad_parameter query name test = is_sent_twice query name || is_bad query name (is_good_value test)
+
+-- the id of a block is bad
+unfoldable pub has_bad_id : List Field → Bool
+has_bad_id query = is_bad_parameter query (codes "blockid") is_id
+
+-- the kinds of blocks are bad
+unfoldable pub has_bad_kinds : List Field → Bool
+has_bad_kinds query = is_bad_parameter query (codes "blocklisttype") is_kinds
 
 -- a parameter that operations have is bad
 unfoldable pub has_bad_parameter : List Field → Bool
-has_bad_parameter query = list_any (is_bad_parameter query) parameter_names
+has_bad_parameter query =
+    list_any (λ name. is_bad_parameter query name (is_value_of name)) parameter_names || has_bad_id query || has_bad_kinds query
 
 -- the method is PUT
 abbrev pub is_put : Option Verb → Bool

@@ -1,3 +1,4 @@
+pub mod HeadBlocks
 pub mod HeadConditions
 pub mod HeadFields
 pub mod HeadForms

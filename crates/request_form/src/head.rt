@@ -2,7 +2,7 @@
 ghost use Rattle.std.specs.Prelude.{◌≡◌, ◌≤◌, Err, IfOk, MatchResult, None, Some, length};
 ghost use Rattle.std.specs.Str.{IsUtf8};
 ghost use Rattle.stamp_values.specs.Fields.{fields_len};
-ghost use Rattle.request_form.specs.HeadForms.{args_of, ask_of, form_of};
+ghost use Rattle.request_form.specs.HeadForms.{ask_of, form_of, header_args_of};
 ghost use Rattle.request_form.specs.HeadForms as head_forms;
 ghost use Rattle.request_form.specs.HeadReads.{AreNames, Denies, IsLine};
 ghost use Rattle.request_form.specs.HeadRules.{denial_of, head_rules};
@@ -101,15 +101,17 @@ fn body_by(verb: Verb, body: Body) -> Body
 }
 
 // What a head asks for that no rule refuses. Its fields and its query move into the answer.
-#[tactic(auto, unfolding(crate::specs::HeadForms::ask_of, crate::specs::HeadForms::signing_of, crate::specs::HeadForms::credential_of))]
-fn ask(head: ParsedHead<'_>, line: Line, names: Names, args: Args) -> Ask
+#[tactic(auto, unfolding(crate::specs::HeadForms::ask_of, crate::specs::HeadForms::args_of, crate::specs::HeadForms::signing_of, crate::specs::HeadForms::credential_of))]
+fn ask(head: ParsedHead<'_>, line: Line, names: Names, mut args: Args) -> Ask
     requires line { IsLine head line }
     requires names { AreNames line.op line.target.path names }
-    requires args { args ≡ args_of line.op head.fields }
+    requires args { args ≡ header_args_of line.op head.fields }
     ensures { result ≡ ask_of line.op line.verb head.entry }
 {
     let Target { path, query } = line.target;
     let credential = credential(head.authorization, &query);
+    args.block = line.block;
+    args.kinds = line.kinds;
     Ask {
         op: line.op,
         key: names.key,

@@ -1,6 +1,7 @@
 //! Heads of requests: what each head asks for, or the first rule that refuses it.
 #![tactic(auto)]
 
+mod block_parameters;
 mod condition_field;
 mod condition_laws;
 mod connection_fields;
@@ -16,6 +17,7 @@ mod level_field;
 mod metadata_fields;
 mod names;
 mod operation;
+mod parameters;
 mod parsed_head;
 mod path_kind;
 mod range_field;

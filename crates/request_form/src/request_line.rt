@@ -4,11 +4,12 @@ ghost use Rattle.request_form.specs.Heads.{head_limit};
 ghost use Rattle.request_form.specs.HeadReads.{Denies, IsLine, Passes, line_rules};
 
 use crate::denial::{HeadFault, denied, no_head};
-use crate::operation::operation;
+use crate::operation::{Operation, read_operation};
 use crate::parsed_head::ParsedHead;
 use crate::target::{Target, read_target};
+use crate::value_fault::ValueFault;
 use crate::verb::verb;
-use stamp_types::{Code, Op, Rule, Verb};
+use stamp_types::{BlockId, BlockKinds, Code, Op, Rule, Verb};
 use std::alloc::Global;
 
 /// What a request line says that no rule refuses.
@@ -16,6 +17,10 @@ use std::alloc::Global;
 pub struct Line {
     pub verb: Verb,
     pub op: Op,
+    /// The id of the block, if the operation is Put Block.
+    pub block: Option<BlockId>,
+    /// The kinds of blocks, if the operation is Get Block List.
+    pub kinds: Option<BlockKinds>,
     pub target: Target,
 }
 
@@ -35,12 +40,18 @@ pub(crate) fn read_line(alloc: Global, head: &ParsedHead<'_>) -> Result<Line, He
     let Some(verb) = verb(head.method) else {
         return Err(HeadFault::Denied(denied(Rule::F2, Code::UnsupportedHttpVerb, None)));
     };
-    let Some(op) = operation(alloc, verb, &target)? else {
-        return Err(HeadFault::Denied(denied(
-            Rule::F3,
-            Code::InvalidQueryParameterValue,
-            Some(verb),
-        )));
+    let Operation { op, block, kinds } = match read_operation(alloc, verb, &target) {
+        Ok(operation) => operation,
+        Err(ValueFault::Refused(code)) => {
+            return Err(HeadFault::Denied(denied(Rule::F3, code, Some(verb))));
+        }
+        Err(ValueFault::NoMemory) => return Err(HeadFault::NoMemory),
     };
-    Ok(Line { verb, op, target })
+    Ok(Line {
+        verb,
+        op,
+        block,
+        kinds,
+        target,
+    })
 }

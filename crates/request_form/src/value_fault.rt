@@ -1,14 +1,14 @@
-//! Why the values of the header lines are not read.
+//! Why values of a head are not read.
 ghost use Rattle.std.specs.Prelude.{◌≡◌};
 ghost use Rattle.request_form.specs.declared.value_fault.ValueFault.TheVariants as fault;
 
 use stamp_types::Code;
 use std::alloc::AllocError;
 
-/// Why the values of the header lines are not read.
+/// Why values of a head are not read.
 #[derive(Clone, Copy, Debug, PartialEq, Eq)]
 pub enum ValueFault {
-    /// Rule F7 refuses them, with this code.
+    /// The rule of these values refuses them, with this code.
     Refused(Code),
     /// Memory ran out.
     NoMemory,

@@ -7,7 +7,7 @@ ghost use Rattle.stamp_values.specs.Texts.{is_visible};
 ghost use Rattle.stamp_types.specs.declared.code.Code.TheVariants.{InvalidHeaderValue};
 ghost use Rattle.stamp_types.specs.declared.rule.Rule.TheVariants.{F7};
 ghost use Rattle.request_form.specs.HeadFields.{is_bad, is_md5};
-ghost use Rattle.request_form.specs.HeadForms.{args_of, kept_by, kept_of, line_args_of};
+ghost use Rattle.request_form.specs.HeadForms.{header_args_of, kept_by, kept_of, line_args_of};
 ghost use Rattle.request_form.specs.HeadForms as head_forms;
 ghost use Rattle.request_form.specs.HeadReads.{RefusesValue};
 ghost use Rattle.request_form.specs.HeadRules as heads;
@@ -212,7 +212,7 @@ fn md5_by(op: Op, md5: Option<[u8; 16]>) -> Option<[u8; 16]>
     if op.checks_md5() { md5 } else { None }
 }
 
-// What comes with a request beside its metadata, if no line is bad.
+// What the header lines say of a request beside its metadata, if no line is bad.
 #[tactic(auto, unfolding(crate::specs::HeadRules::has_bad_line, crate::specs::HeadRules::has_bad_condition, crate::specs::HeadRules::has_bad_md5, crate::specs::HeadForms::line_args_of))]
 fn good_args(alloc: Global, op: Op, fields: &FieldList) -> Result<Args, ValueFault>
     ensures { MatchResult result
@@ -251,15 +251,15 @@ fn has_no_blob_type(head: &ParsedHead<'_>, op: Op) -> bool
     is_put_blob(op) && !head.fields.is_sent(b"x-ms-blob-type")
 }
 
-/// What comes with a request, by rule F7.
+/// What the header lines say of a request, by rule F7.
 ///
 /// `Refused` with the code of rule F7 if a header was sent twice that may not be, a value is bad, the metadata are bad, or Put Blob
 /// comes without the type of blob.
-#[tactic(auto, unfolding(crate::specs::HeadRules::has_bad_value, crate::specs::HeadRules::has_bad_metadata, crate::specs::HeadForms::args_of))]
+#[tactic(auto, unfolding(crate::specs::HeadRules::has_bad_value, crate::specs::HeadRules::has_bad_metadata, crate::specs::HeadForms::header_args_of))]
 pub(crate) fn read_args(alloc: Global, head: &ParsedHead<'_>, op: Op) -> Result<Args, ValueFault>
     requires op { heads.op_of head.now ≡ Some op }
     ensures { MatchResult result
-        (λ v. (heads.head_holds head.now F7 ≡ false) × (v ≡ args_of op head.now.fields))
+        (λ v. (heads.head_holds head.now F7 ≡ false) × (v ≡ header_args_of op head.now.fields))
         (RefusesValue (heads.head_holds head.now F7) (heads.head_code head.now F7)) }
 {
     let mut args = good_args(alloc, op, &head.fields)?;

@@ -14,7 +14,7 @@ use Rattle.access_rules.specs.declared.keys.Keys.{Keys}
 use Rattle.range_rows.specs.Access.{acl_of}
 use Rattle.range_rows.specs.RequestChanges.{delete_blob, set_container_metadata, set_metadata, act_by, part_after}
 use Rattle.stamp_model.specs.Effects.{alters_container, alters_access, effect_as}
-use Rattle.stamp_model.proofs.EffectLemmas.{on_key, said_of_put, said_of_named, related-after_act, related-effect}
+use Rattle.stamp_model.proofs.EffectLemmas.{on_key, said_of_block, said_of_list, said_of_put, said_of_named, related-after_act, related-effect}
 
 module _ {C : Type 0} (f : List Piece → C) where
   abbrev KeepsStanding : Part C → Part C → Type 0
@@ -34,6 +34,8 @@ module _ {C : Type 0} (f : List Piece → C) where
     keeps op.PutBlob unaltered = said_of_put Keeps (λ a. refl) q t q.ask.blob q.ask.args.kept
     keeps op.SetMetadata unaltered = said_of_named Keeps (λ name. act.SetMetadata (set_metadata q t name)) (λ name. refl) q.ask.blob
     keeps op.DeleteBlob unaltered = said_of_named Keeps (λ name. act.DeleteBlob (delete_blob name)) (λ name. refl) q.ask.blob
+    keeps op.PutBlock unaltered = said_of_block Keeps (λ a. refl) q q.ask.blob q.ask.args.block
+    keeps op.PutBlockList unaltered = said_of_list Keeps (λ a. refl) z q t q.ask.blob q.ask.args.kept
     keeps _ unaltered = tt
 
     -- what the container has beside its blobs stays as it is, if the operation does not alter it
@@ -50,6 +52,8 @@ module _ {C : Type 0} (f : List Piece → C) where
     keeps_access op.PutBlob unaltered = said_of_put KeepsAcl (λ a. refl) q t q.ask.blob q.ask.args.kept
     keeps_access op.SetMetadata unaltered = said_of_named KeepsAcl (λ name. act.SetMetadata (set_metadata q t name)) (λ name. refl) q.ask.blob
     keeps_access op.DeleteBlob unaltered = said_of_named KeepsAcl (λ name. act.DeleteBlob (delete_blob name)) (λ name. refl) q.ask.blob
+    keeps_access op.PutBlock unaltered = said_of_block KeepsAcl (λ a. refl) q q.ask.blob q.ask.args.block
+    keeps_access op.PutBlockList unaltered = said_of_list KeepsAcl (λ a. refl) z q t q.ask.blob q.ask.args.kept
     keeps_access _ unaltered = tt
 
   module _ (size : C → ℕ) (keys : Option Keys) (w : World C) (q : Asked) (t : ℕ) where

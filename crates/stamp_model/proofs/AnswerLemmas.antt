@@ -1,8 +1,14 @@
 -- If a request is answered, what the answer tells of exists.
-use Rattle.std.proofs.Common.{◌≡◌, ℕ, ◌+◌, true, false, List, Option, Some, None, refl, ap, ◌∙◌}
-use Rattle.std.specs.Prelude.{is_some}
+use Rattle.std.proofs.Common.{◌≡◌, ℕ, ◌+◌, Bool, true, false, not, ◌&&◌, ◌||◌, List, length, Option, Some, None, nat_lt, refl, sym, ap, ◌∙◌}
+use Rattle.std.proofs.lemmas.List.{length-map}
+use Rattle.std.specs.Prelude.{is_none, is_some}
+use Rattle.std.specs.FinMap.{entries}
 use Rattle.std.specs.Option.{option_map, option_and_then}
-use Rattle.stamp_values.specs.Operations.{names_blob, keeps_headers}
+use Rattle.stamp_values.specs.Maps.{entry_value}
+use Rattle.stamp_values.specs.Operations.{names_blob, keeps_headers, writes}
+use Rattle.stamp_values.specs.Order.{names_exact, names_total}
+use Rattle.stamp_values.specs.declared.block.BlockKinds.{BlockKinds}
+use Rattle.stamp_values.specs.declared.block.BlockKinds.TheVariants as kinds
 use Rattle.stamp_values.specs.declared.op.Op.{Op}
 use Rattle.stamp_values.specs.declared.op.Op.TheVariants as op
 use Rattle.stamp_types.specs.declared.act.Act.{Act}
@@ -13,18 +19,24 @@ use Rattle.stamp_types.specs.declared.refusal.Refusal.{Refusal}
 use Rattle.stamp_types.specs.declared.standing.Standing.{Standing}
 use Rattle.stamp_types.specs.Pieces.{held}
 use Rattle.stamp_types.specs.Requests.{Asked, IsAsk}
-use Rattle.stamp_types.specs.World.{Blob, Part, blob_in, committed_with_metadata, standing_with_metadata}
+use Rattle.stamp_types.specs.World.{Blob, Part, World, blob_in, blob_value, committed_value, committed_with_metadata, part_at, standing_with_metadata}
 use Rattle.stamp_types.proofs.EffectLemmas.{blob_in-set_metadata}
 use Rattle.access_rules.specs.declared.keys.Keys.{Keys}
-use Rattle.range_rows.specs.ObjectReplies.{sizes, standing_read, blob_read, frame_by, bytes_by, with_content, reply_of}
-use Rattle.range_rows.specs.ObjectRules.{needs_container, needs_blob, named_blob, object_refusal}
-use Rattle.range_rows.specs.RequestChanges.{put_blob, set_container_metadata, set_metadata, act_by, change_of, part_after}
-use Rattle.range_rows.proofs.AnswerLemmas.{blob_in-put}
+use Rattle.range_rows.specs.ObjectReplies.{byte_count, sizes, standing_read, blob_read, frame_by, bytes_by, with_content, reply_of}
+use Rattle.range_rows.specs.NamedBlobs.{has_listed, has_uncommitted, target_blob}
+use Rattle.range_rows.specs.ObjectRules.{needs_container, needs_blob, is_list, named_blob, object_refusal}
+use Rattle.range_rows.specs.ObjectRules.Cause.{BlobIsAbsent}
+use Rattle.range_rows.specs.RequestChanges.{put_blob, put_block_list, set_container_metadata, set_metadata, act_by, change_of, part_after}
+use Rattle.range_rows.proofs.AnswerLemmas.{blob_in-put_list, blob_in-put}
+use Rattle.range_rows.proofs.BlockLemmas.{target_blob-part_value}
+use Rattle.range_rows.proofs.ListLemmas.{entries-map_values}
 use Rattle.stamp_model.specs.Refusals.{refusal}
-use Rattle.stamp_model.specs.Effects.{unless_refused, change}
-use Rattle.stamp_model.specs.Responses.{tells_container, tells_blob}
+use Rattle.stamp_model.specs.Effects.{unless_refused, change, effect}
+use Rattle.stamp_model.specs.Responses.{tells_container, tells_blob, tells_blocks}
+use Rattle.stamp_model.proofs.ArgumentLemmas.{no_cause}
 use Rattle.stamp_model.proofs.EffectLemmas.{on_key}
 use Rattle.stamp_model.proofs.ObjectLemmas.{is_some-mapped, container_needed, blob_needed}
+use Rattle.stamp_model.proofs.ReadLemmas.{effect-read}
 use Rattle.stamp_model.proofs.ReplyLemmas.{unrefused}
 
 module _ (p : Part (List ℕ)) (q : Asked) (t : ℕ) where
@@ -39,6 +51,12 @@ module _ (p : Part (List ℕ)) (q : Asked) (t : ℕ) where
   put None kept b k = cc
   put (Some name) None b k = cc
   put (Some name) (Some kept) b k = ap (λ (o : Option (Committed (List ℕ))). is_some o) (blob_in-put held (put_blob q t name kept) p)
+
+  list : (blob : Option (List ℕ)) (kept : Option Kept) → is_some blob ≡ true → is_some kept ≡ true
+      → is_some (named blob (after_act (option_and_then (λ name. option_map (λ kept. act.PutBlockList (put_block_list (blob_in (sizes p) name) q t name kept)) kept) blob))) ≡ true
+  list None kept b k = cc
+  list (Some name) None b k = cc
+  list (Some name) (Some kept) b k = ap (λ (o : Option (Committed (List ℕ))). is_some o) (blob_in-put_list held (put_block_list (blob_in (sizes p) name) q t name kept) p)
 
   set : (blob : Option (List ℕ)) → is_some (named blob p) ≡ true → is_some (named blob (after_act (option_map (λ name. act.SetMetadata (set_metadata q t name)) blob))) ≡ true
   set None there = cc
@@ -63,6 +81,7 @@ module _ (p : Part (List ℕ)) (q : Asked) (t : ℕ) where
     blob_told op.BlobProperties is fits tells = blob_needed p q free (ap needs_blob is)
     blob_told op.GetMetadata is fits tells = blob_needed p q free (ap needs_blob is)
     blob_told op.SetMetadata is fits tells = set q.ask.blob (blob_needed p q free (ap needs_blob is))
+    blob_told op.PutBlockList is fits tells = list q.ask.blob q.ask.args.kept (fits.names.blob ∙ ap names_blob is) (fits.own.kept ∙ ap keeps_headers is)
     blob_told other is fits tells = cc
 
 module _ (keys : Option Keys) (p : Part (List ℕ)) (q : Asked) (t : ℕ) (free : refusal keys (sizes p) q t ≡ None) where
@@ -78,19 +97,67 @@ module _ (keys : Option Keys) (p : Part (List ℕ)) (q : Asked) (t : ℕ) (free 
       ap (λ (o : Option Refusal). is_some (named_blob (part_after held (unless_refused o (change_of (sizes p) q t)) p) q.ask)) free
       ∙ blob_told p q t (unrefused keys (sizes p) q t free).unopposed q.ask.op refl fits tells
 
-module _ (q : Asked) (s r : Standing) (c d : Committed ℕ) (e h : Committed (List ℕ)) where
-  neither_told : (o : Op) → tells_container o ≡ false → tells_blob o ≡ false → with_content (frame_by o q s c) (bytes_by o q.ask.args.range e) ≡ with_content (frame_by o q r d) (bytes_by o q.ask.args.range h)
-  neither_told op.CreateContainer container blob = cc
-  neither_told op.ContainerProperties container blob = cc
-  neither_told op.SetContainerMetadata container blob = cc
-  neither_told op.PutBlob container blob = cc
-  neither_told op.GetBlob container blob = cc
-  neither_told op.BlobProperties container blob = cc
-  neither_told op.GetMetadata container blob = cc
-  neither_told op.SetMetadata container blob = cc
-  neither_told other container blob = refl
+-- ---- what is listed of a blob
+
+module _ {C D : Type 0} (f : C → D) (b : Blob C) where
+  has_uncommitted-read : has_uncommitted (blob_value f b) ≡ has_uncommitted b
+  has_uncommitted-read =
+      ap (λ (es : List (List ℕ × D)). nat_lt 0 (length es)) (entries-map_values names_total names_exact f b.uncommitted)
+      ∙ ap (λ n. nat_lt 0 n) (length-map (entries b.uncommitted) (entry_value f))
+
+  some_listed : (is_some (option_map (committed_value f) b.committed) || has_uncommitted (blob_value f b)) ≡ (is_some b.committed || has_uncommitted b)
+  some_listed = λ i. is_some-mapped (committed_value f) b.committed i || has_uncommitted-read i
+
+  -- a blob has what is listed, whether its content is read before or after
+  has_listed-read : (k : Option BlockKinds) → has_listed k (blob_value f b) ≡ has_listed k b
+  has_listed-read None = is_some-mapped (committed_value f) b.committed
+  has_listed-read (Some kinds.Committed) = is_some-mapped (committed_value f) b.committed
+  has_listed-read (Some kinds.Uncommitted) = some_listed
+  has_listed-read (Some kinds.All) = some_listed
+
+not_missing : (b : Bool) → (false || (true && not b)) ≡ false → b ≡ true
+not_missing true h = refl
+not_missing false h = cc
+
+module _ (keys : Option Keys) (w : World (List ℕ)) (q : Asked) (t : ℕ) (free : refusal keys (sizes (part_at w q.ask.key)) q t ≡ None) where
+  abbrev listed_in : Part (List ℕ) → Bool
+  listed_in p = has_listed q.ask.args.kinds (target_blob p q.ask)
+
+  listed_by : (o : Op) → q.ask.op ≡ o → tells_blocks o ≡ true → listed_in (part_at w q.ask.key) ≡ true
+  listed_by op.GetBlockList is tells =
+      sym (has_listed-read byte_count (target_blob (part_at w q.ask.key) q.ask) q.ask.args.kinds)
+      ∙ ap (λ (b : Blob ℕ). has_listed q.ask.args.kinds b) (sym (target_blob-part_value byte_count (part_at w q.ask.key) q.ask))
+      ∙ not_missing (has_listed q.ask.args.kinds (target_blob (sizes (part_at w q.ask.key)) q.ask))
+      (sym (ap (λ (o : Op). (needs_blob o && is_none (named_blob (sizes (part_at w q.ask.key)) q.ask)) || (is_list o && not (has_listed q.ask.args.kinds (target_blob (sizes (part_at w q.ask.key)) q.ask)))) is)
+      ∙ no_cause keys (sizes (part_at w q.ask.key)) q t free BlobIsAbsent)
+  listed_by other is tells = cc
+
+  reads_by : (o : Op) → tells_blocks o ≡ true → writes o ≡ false
+  reads_by op.GetBlockList tells = refl
+  reads_by other tells = cc
+
+  -- if nothing refuses a request whose answer tells of blocks, the blob has what is listed
+  pub blocks-unrefused : tells_blocks q.ask.op ≡ true → listed_in (part_at (effect keys w q t) q.ask.key) ≡ true
+  blocks-unrefused tells =
+      ap (λ (v : World (List ℕ)). listed_in (part_at v q.ask.key)) (effect-read keys w q t (reads_by q.ask.op tells)) ∙ listed_by q.ask.op refl tells
+
+module _ (q : Asked) (s r : Standing) (c d : Committed ℕ) (b g : Blob ℕ) (e h : Committed (List ℕ)) where
+  neither_told : (o : Op) → tells_container o ≡ false → tells_blob o ≡ false → tells_blocks o ≡ false
+      → with_content (frame_by o q s c b) (bytes_by o q.ask.args.range e) ≡ with_content (frame_by o q r d g) (bytes_by o q.ask.args.range h)
+  neither_told op.CreateContainer container blob blocks = cc
+  neither_told op.ContainerProperties container blob blocks = cc
+  neither_told op.SetContainerMetadata container blob blocks = cc
+  neither_told op.PutBlob container blob blocks = cc
+  neither_told op.GetBlob container blob blocks = cc
+  neither_told op.BlobProperties container blob blocks = cc
+  neither_told op.GetMetadata container blob blocks = cc
+  neither_told op.SetMetadata container blob blocks = cc
+  neither_told op.PutBlockList container blob blocks = cc
+  neither_told op.GetBlockList container blob blocks = cc
+  neither_told other container blob blocks = refl
 
 -- an answer that tells neither of the container nor of the blob is the same whatever the container is
-pub reply_of-neither : (p r : Part (List ℕ)) (q : Asked) → tells_container q.ask.op ≡ false → tells_blob q.ask.op ≡ false → reply_of p q ≡ reply_of r q
-reply_of-neither p r q container blob =
-    neither_told q (standing_read (sizes p)) (standing_read (sizes r)) (blob_read (sizes p) q.ask) (blob_read (sizes r) q.ask) (blob_read p q.ask) (blob_read r q.ask) q.ask.op container blob
+pub reply_of-neither : (p r : Part (List ℕ)) (q : Asked) → tells_container q.ask.op ≡ false → tells_blob q.ask.op ≡ false → tells_blocks q.ask.op ≡ false → reply_of p q ≡ reply_of r q
+reply_of-neither p r q container blob blocks =
+    neither_told q (standing_read (sizes p)) (standing_read (sizes r)) (blob_read (sizes p) q.ask) (blob_read (sizes r) q.ask)
+    (target_blob (sizes p) q.ask) (target_blob (sizes r) q.ask) (blob_read p q.ask) (blob_read r q.ask) q.ask.op container blob blocks

@@ -15,7 +15,7 @@ use Rattle.access_rules.specs.Needs.{need_of}
 use Rattle.access_rules.specs.Rules.{access_rules, allows_less, first_rule, holds, on_public, some_passes}
 use Rattle.range_rows.specs.Access.{acl_of}
 use Rattle.range_rows.specs.ObjectRules.{Cause, cause_holds, cause_refusal, causes}
-use Rattle.range_rows.specs.ObjectRules.Cause.{ContainerIsAbsent, ContainerExists, BlobIsAbsent, MatchFails, IsNotModified, BlobExists, NoneMatchFails, BodyIsDamaged, RangeIsPastTheEnd, CountIsFull}
+use Rattle.range_rows.specs.ObjectRules.Cause.{ContainerIsAbsent, ContainerExists, BlobIsAbsent, MatchFails, IsNotModified, BlobExists, NoneMatchFails, BodyIsDamaged, BodyIsMalformed, IdIsBad, BlockIsMissing, ListIsTooLong, IdHasOtherLength, BlocksAreFull, ListIsTooLarge, RangeIsPastTheEnd, CountIsFull}
 use Rattle.stamp_model.specs.Refusals.{access_refusal, refusal, unserved_refusal}
 use Rattle.stamp_model.proofs.ReplyLemmas.{unrefused}
 
@@ -45,8 +45,15 @@ each_fails test all IsNotModified = all.1.1.1.1.0
 each_fails test all BlobExists = all.1.1.1.1.1.0
 each_fails test all NoneMatchFails = all.1.1.1.1.1.1.0
 each_fails test all BodyIsDamaged = all.1.1.1.1.1.1.1.0
-each_fails test all RangeIsPastTheEnd = all.1.1.1.1.1.1.1.1.0
-each_fails test all CountIsFull = all.1.1.1.1.1.1.1.1.1.0
+each_fails test all BodyIsMalformed = all.1.1.1.1.1.1.1.1.0
+each_fails test all IdIsBad = all.1.1.1.1.1.1.1.1.1.0
+each_fails test all BlockIsMissing = all.1.1.1.1.1.1.1.1.1.1.0
+each_fails test all ListIsTooLong = all.1.1.1.1.1.1.1.1.1.1.1.0
+each_fails test all IdHasOtherLength = all.1.1.1.1.1.1.1.1.1.1.1.1.0
+each_fails test all BlocksAreFull = all.1.1.1.1.1.1.1.1.1.1.1.1.1.0
+each_fails test all ListIsTooLarge = all.1.1.1.1.1.1.1.1.1.1.1.1.1.1.0
+each_fails test all RangeIsPastTheEnd = all.1.1.1.1.1.1.1.1.1.1.1.1.1.1.1.0
+each_fails test all CountIsFull = all.1.1.1.1.1.1.1.1.1.1.1.1.1.1.1.1.0
 
 unmapped : (o : Option Cause) → option_map cause_refusal o ≡ None → o ≡ None
 unmapped None h = refl

@@ -19,9 +19,10 @@ use Rattle.stamp_types.specs.declared.reply.Reply.{Reply}
 use Rattle.stamp_types.specs.declared.standing.Standing.{Standing}
 use Rattle.stamp_types.specs.Pieces.{held}
 use Rattle.stamp_types.specs.Requests.{Asked, IsAsk}
-use Rattle.stamp_types.specs.World.{Part, World, blob_in, committed_value, part_at}
+use Rattle.stamp_types.specs.World.{Blob, Part, World, blob_in, committed_value, part_at}
 use Rattle.access_rules.specs.declared.keys.Keys.{Keys}
 use Rattle.range_rows.specs.ObjectReplies.{byte_count, sizes, standing_read, blob_read, bytes_by, frame_by, with_content}
+use Rattle.range_rows.specs.NamedBlobs.{target_blob}
 use Rattle.range_rows.specs.ObjectRules.{Cause, cause_holds, fails_if_none_match, is_any, matches, meets, misses, named_blob}
 use Rattle.range_rows.specs.ObjectRules.Cause.{BlobExists, IsNotModified, MatchFails, NoneMatchFails}
 use Rattle.range_rows.specs.RequestChanges.{act_by, change_of, part_after}
@@ -237,14 +238,14 @@ module _ (q : Asked) where
   change_of-bare : (z : Part ℕ) (t : ℕ) → change_of z bare t ≡ change_of z q t
   change_of-bare z t = ap (λ (a : Option Act). option_map (on_key q.ask.key) a) (act_by-bare q.ask.op z t)
 
-  frame_by-bare : (o : Op) (s : Standing) (c : Committed ℕ) → frame_by o bare s c ≡ frame_by o q s c
-  frame_by-bare op.CreateContainer s c = refl
-  frame_by-bare other s c = refl
+  frame_by-bare : (o : Op) (s : Standing) (c : Committed ℕ) (b : Blob ℕ) → frame_by o bare s c b ≡ frame_by o q s c b
+  frame_by-bare op.CreateContainer s c b = refl
+  frame_by-bare other s c b = refl
 
   response-bare : (r : Option Refusal) (p : Part (List ℕ)) → response r p bare ≡ response r p q
   response-bare None p =
       ap (λ (r : Reply). with_content r (bytes_by q.ask.op q.ask.args.range (blob_read p q.ask)))
-      (frame_by-bare q.ask.op (standing_read (sizes p)) (blob_read (sizes p) q.ask))
+      (frame_by-bare q.ask.op (standing_read (sizes p)) (blob_read (sizes p) q.ask) (target_blob (sizes p) q.ask))
   response-bare (Some r) p = refl
 
   module _ (keys : Option Keys) (w : World (List ℕ)) (t : ℕ) (bound : Option Key) where

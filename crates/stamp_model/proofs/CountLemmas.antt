@@ -22,7 +22,7 @@ use Rattle.range_rows.specs.ObjectReplies.{byte_count, sizes}
 use Rattle.range_rows.specs.RequestChanges.{create_container, delete_blob, set_container_metadata, set_metadata, act_by, change_of, part_after}
 use Rattle.stamp_model.specs.Effects.{unless_refused, effect}
 use Rattle.stamp_model.specs.Histories.{pair_of, after_entry, replay_from, IsAccepted, IsLegalFrom}
-use Rattle.stamp_model.proofs.EffectLemmas.{on_key, said_of_put, said_of_named, related-after_act, related-effect}
+use Rattle.stamp_model.proofs.EffectLemmas.{on_key, said_of_block, said_of_list, said_of_put, said_of_named, related-after_act, related-effect}
 
 module _ (z : Part ℕ) (q : Asked) (t : ℕ) (said : Act → Type 0) (each : (a : Act) → is_row a ≡ false → said a) where
   -- what is said of each act, except of rows of a checkpoint, is said of the act of a request
@@ -33,6 +33,8 @@ module _ (z : Part ℕ) (q : Asked) (t : ℕ) (said : Act → Type 0) (each : (a
   said_of_act_by op.PutBlob = said_of_put said (λ a. each (act.PutBlob a) refl) q t q.ask.blob q.ask.args.kept
   said_of_act_by op.SetMetadata = said_of_named said (λ name. act.SetMetadata (set_metadata q t name)) (λ name. each (act.SetMetadata (set_metadata q t name)) refl) q.ask.blob
   said_of_act_by op.DeleteBlob = said_of_named said (λ name. act.DeleteBlob (delete_blob name)) (λ name. each (act.DeleteBlob (delete_blob name)) refl) q.ask.blob
+  said_of_act_by op.PutBlock = said_of_block said (λ a. each (act.PutBlock a) refl) q q.ask.blob q.ask.args.block
+  said_of_act_by op.PutBlockList = said_of_list said (λ a. each (act.PutBlockList a) refl) z q t q.ask.blob q.ask.args.kept
   said_of_act_by other = tt
 
 -- ---- counts and ETags after a request

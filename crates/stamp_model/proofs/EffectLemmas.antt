@@ -8,15 +8,17 @@ use Rattle.stamp_values.specs.declared.key.Key.{Key}
 use Rattle.stamp_types.specs.declared.act.Act.{Act}
 use Rattle.stamp_types.specs.declared.act.Act.TheVariants as act
 use Rattle.stamp_types.specs.declared.act.PutBlob.{PutBlob}
+use Rattle.stamp_types.specs.declared.act.PutBlock.{PutBlock}
+use Rattle.stamp_types.specs.declared.act.PutBlockList.{PutBlockList}
 use Rattle.stamp_types.specs.declared.args.Kept.{Kept}
 use Rattle.stamp_types.specs.declared.piece.Piece.{Piece}
 use Rattle.stamp_types.specs.declared.refusal.Refusal.{Refusal}
 use Rattle.stamp_types.specs.Changes.{KeyedAct}
 use Rattle.stamp_types.specs.Requests.{Asked}
-use Rattle.stamp_types.specs.World.{Part, World, part_at, part_value, changed}
+use Rattle.stamp_types.specs.World.{Part, World, blob_in, part_at, part_value, changed}
 use Rattle.stamp_types.proofs.WorldLemmas.{equal_if_is_eq, part_at-changed_in, part_at-changed_in_others}
 use Rattle.access_rules.specs.declared.keys.Keys.{Keys}
-use Rattle.range_rows.specs.RequestChanges.{put_blob, act_by, change_of, part_after}
+use Rattle.range_rows.specs.RequestChanges.{put_blob, put_block, put_block_list, act_by, change_of, part_after}
 use Rattle.stamp_model.specs.Refusals.{refusal}
 use Rattle.stamp_model.specs.Effects.{unless_refused, world_after, change_as, effect_as}
 
@@ -58,12 +60,28 @@ module _ {C : Type 0} (size : C → ℕ) (f : List Piece → C) where
 
 -- ---- what is said of each act
 
+-- what is said of the act of each name and of each value is said of the act of the name and the value that are given, if both are given
+pub said_of_both : {X : Type 0} (said : Act → Type 0) (make : List ℕ → X → Act) → ((name : List ℕ) (x : X) → said (make name x)) → (blob : Option (List ℕ)) (given : Option X)
+    → IfSome (option_and_then (λ name. option_map (λ x. make name x) given) blob) said
+said_of_both said make each None given = tt
+said_of_both said make each (Some name) None = tt
+said_of_both said make each (Some name) (Some x) = each name x
+
 -- what is said of each Put Blob is said of the act of a request, if the request has an act
 pub said_of_put : (said : Act → Type 0) → ((a : PutBlob) → said (act.PutBlob a)) → (q : Asked) (t : ℕ) (blob : Option (List ℕ)) (kept : Option Kept)
     → IfSome (option_and_then (λ name. option_map (λ kept. act.PutBlob (put_blob q t name kept)) kept) blob) said
-said_of_put said each q t None kept = tt
-said_of_put said each q t (Some name) None = tt
-said_of_put said each q t (Some name) (Some kept) = each (put_blob q t name kept)
+said_of_put said each q t blob kept = said_of_both said (λ name kept. act.PutBlob (put_blob q t name kept)) (λ name kept. each (put_blob q t name kept)) blob kept
+
+-- the same of each Put Block
+pub said_of_block : (said : Act → Type 0) → ((a : PutBlock) → said (act.PutBlock a)) → (q : Asked) (blob : Option (List ℕ)) (id : Option (List ℕ))
+    → IfSome (option_and_then (λ name. option_map (λ id. act.PutBlock (put_block q name id)) id) blob) said
+said_of_block said each q blob id = said_of_both said (λ name id. act.PutBlock (put_block q name id)) (λ name id. each (put_block q name id)) blob id
+
+-- the same of each Put Block List
+pub said_of_list : (said : Act → Type 0) → ((a : PutBlockList) → said (act.PutBlockList a)) → (z : Part ℕ) (q : Asked) (t : ℕ) (blob : Option (List ℕ)) (kept : Option Kept)
+    → IfSome (option_and_then (λ name. option_map (λ kept. act.PutBlockList (put_block_list (blob_in z name) q t name kept)) kept) blob) said
+said_of_list said each z q t blob kept =
+    said_of_both said (λ name kept. act.PutBlockList (put_block_list (blob_in z name) q t name kept)) (λ name kept. each (put_block_list (blob_in z name) q t name kept)) blob kept
 
 -- what is said of the act of each name is said of the act of the name that is given, if a name is given
 pub said_of_named : (said : Act → Type 0) (make : List ℕ → Act) → ((name : List ℕ) → said (make name)) → (blob : Option (List ℕ)) → IfSome (option_map make blob) said

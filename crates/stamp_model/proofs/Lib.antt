@@ -1,6 +1,7 @@
 pub mod AccessLemmas
 pub mod AnswerLemmas
 pub mod ArgumentLemmas
+pub mod BlockLemmas
 pub mod ConditionLemmas
 pub mod ContentLemmas
 pub mod CountLemmas
@@ -15,4 +16,5 @@ pub mod ReadLemmas
 pub mod ReplyLemmas
 pub mod RuleLemmas
 pub mod RunLemmas
+pub mod SeenLemmas
 pub mod WrittenLemmas

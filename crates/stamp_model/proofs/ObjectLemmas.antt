@@ -1,5 +1,5 @@
 -- What follows if the object does not refuse a request, and when the object refuses a request for what does not exist.
-use Rattle.std.proofs.Common.{◌≡◌, ℕ, Bool, true, false, cond, ◌&&◌, drop, List, Option, Some, None, refl, sym, ap, ◌∙◌, unwrap_or}
+use Rattle.std.proofs.Common.{◌≡◌, ℕ, Bool, true, false, cond, not, ◌&&◌, ◌||◌, drop, List, Option, Some, None, refl, sym, ap, ◌∙◌, unwrap_or}
 use Rattle.std.specs.Prelude.{find, is_none, is_some}
 use Rattle.std.specs.Option.{option_map, option_and_then}
 use Rattle.std.specs.FinMap as finite
@@ -10,7 +10,8 @@ use Rattle.stamp_types.specs.declared.committed.Committed.{Committed}
 use Rattle.stamp_types.specs.Requests.{Asked}
 use Rattle.stamp_types.specs.World.{Blob, Part, no_blob, blob_in, committed_value}
 use Rattle.range_rows.specs.ObjectReplies.{byte_count, sizes}
-use Rattle.range_rows.specs.ObjectRules.{needs_container, needs_blob, is_create, named_blob, Cause, cause_holds, cause_refusal, causes, object_refusal}
+use Rattle.range_rows.specs.NamedBlobs.{has_listed, target_blob}
+use Rattle.range_rows.specs.ObjectRules.{needs_container, needs_blob, is_create, is_list, named_blob, Cause, cause_holds, cause_refusal, causes, object_refusal}
 use Rattle.range_rows.specs.ObjectRules.Cause.{ContainerIsAbsent, ContainerExists, BlobIsAbsent}
 use Rattle.range_rows.proofs.AnswerLemmas.{named_blob-part_value}
 
@@ -26,7 +27,13 @@ exists_if true None h n = cc
 exists_if true (Some x) h n = refl
 exists_if false o h n = cc
 
-there_is : {X : Type 0} (needs : Bool) (o : Option X) → is_some o ≡ true → (needs && is_none o) ≡ false
+-- if neither of two is true, the first is false
+pub left_false : (a b : Bool) → (a || b) ≡ false → a ≡ false
+left_false true b h = cc
+left_false false b h = refl
+
+-- a cause of absence does not exist, if the value exists
+pub there_is : {X : Type 0} (needs : Bool) (o : Option X) → is_some o ≡ true → (needs && is_none o) ≡ false
 there_is true None h = cc
 there_is true (Some x) h = refl
 there_is false o h = refl
@@ -53,7 +60,7 @@ module _ (p : Part (List ℕ)) (q : Asked) where
     pub blob_needed : needs_blob q.ask.op ≡ true → is_some (named_blob p q.ask) ≡ true
     blob_needed needs =
         sym (is_some-mapped (committed_value byte_count) (named_blob p q.ask)) ∙ sym (ap (λ (o : Option (Committed ℕ)). is_some o) (named_blob-part_value byte_count p q.ask))
-        ∙ exists_if (needs_blob q.ask.op) (named_blob (sizes p) q.ask) absent.2 needs
+        ∙ exists_if (needs_blob q.ask.op) (named_blob (sizes p) q.ask) (left_false _ _ absent.2) needs
 
   -- the refusal of a request that needs its container, if the container does not exist
   pub object_refusal-container : needs_container q.ask.op ≡ true → p.standing ≡ None → object_refusal (sizes p) q ≡ Some (cause_refusal ContainerIsAbsent)
@@ -66,7 +73,7 @@ module _ (p : Part (List ℕ)) (q : Asked) where
       let unseen : named_blob (sizes p) q.ask ≡ None = named_blob-part_value byte_count p q.ask ∙ ap (option_map (committed_value byte_count)) none in
       λ i. option_map cause_refusal (cond (there_is (needs_container q.ask.op) p.standing exists i) (Some ContainerIsAbsent)
       (cond (no_creation q.ask.op (is_some p.standing) needs i) (Some ContainerExists)
-      (cond (needs i && is_none (unseen i)) (Some BlobIsAbsent) (find (cause_holds (sizes p) q) (drop 3 causes)))))
+      (cond ((needs i && is_none (unseen i)) || (is_list q.ask.op && not (has_listed q.ask.args.kinds (target_blob (sizes p) q.ask)))) (Some BlobIsAbsent) (find (cause_holds (sizes p) q) (drop 3 causes)))))
 
   -- readers see no blob in a container without blobs
   pub named_blob-empty : p.blobs ≡ finite.empty → named_blob p q.ask ≡ None

@@ -20,12 +20,14 @@ use Rattle.stamp_types.specs.Requests.{Asked, IsAsk}
 use Rattle.stamp_types.specs.World.{Part, World, block_value, committed_value, part_at}
 use Rattle.access_rules.specs.declared.keys.Keys.{Keys}
 use Rattle.range_rows.specs.ObjectReplies.{blob_content, byte_count, bytes_by, date_headers, empty_blob, frame_by, get_frame, kept_lines, part_frame, part_headers, range_end, ranged_bytes, ranged_frame, reply_of, sent_range, sizes, standing_read, with_content, without_md5}
+use Rattle.range_rows.specs.NamedBlobs.{target_blob}
 use Rattle.range_rows.specs.ObjectRules.{Cause, blob_size, cause_holds, is_get, named_blob, needs_blob, starts_past}
 use Rattle.range_rows.specs.ObjectRules.Cause.{BlobIsAbsent, RangeIsPastTheEnd}
 use Rattle.range_rows.proofs.AnswerLemmas.{named_blob-part_value}
 use Rattle.stamp_model.specs.Ranges.{IsPartOf, without_range}
 use Rattle.stamp_model.specs.Refusals.{refusal}
 use Rattle.stamp_model.specs.Responses.{reply}
+use Rattle.stamp_model.proofs.ObjectLemmas.{left_false}
 use Rattle.stamp_model.proofs.ArgumentLemmas.{free-with_args, no_cause}
 use Rattle.stamp_model.proofs.ReadLemmas.{effect-read}
 use Rattle.stamp_model.proofs.ReplyLemmas.{reply-admitted, reply-unrefused}
@@ -54,7 +56,7 @@ end_of size first (Some last) start order = end_by size first last (nat_lt last 
 -- ---- the bytes of a part
 
 -- the sizes of blocks make the number of bytes that the blocks have together
-sizes_of_bytes : (bs : List (Block (List ℕ))) → sum_by (λ b. b.content) (map (block_value byte_count) bs) ≡ length (flat_map (λ b. b.content) bs)
+pub sizes_of_bytes : (bs : List (Block (List ℕ))) → sum_by (λ b. b.content) (map (block_value byte_count) bs) ≡ length (flat_map (λ b. b.content) bs)
 sizes_of_bytes [] = refl
 sizes_of_bytes (b ∷ bs) =
     sum_by-cons (λ (b : Block ℕ). b.content) (block_value byte_count b) (map (block_value byte_count) bs)
@@ -119,7 +121,7 @@ module _ (keys : Option Keys) (w : World (List ℕ)) (q : Asked) (t : ℕ) (boun
   reply-get range asks =
       reply-admitted keys w q t bound free
       ∙ ap (λ (v : World (List ℕ)). reply_of (part_at v q.ask.key) q) (effect-read keys w q t (ap writes gets))
-      ∙ (λ i. with_content (frame_by (gets i) q (standing_read (sizes (part_at w q.ask.key))) (unwrap_or (named-sized i) empty_blob)) (bytes_by (gets i) q.ask.args.range (unwrap_or (there i) empty_blob)))
+      ∙ (λ i. with_content (frame_by (gets i) q (standing_read (sizes (part_at w q.ask.key))) (unwrap_or (named-sized i) empty_blob) (target_blob (sizes (part_at w q.ask.key)) q.ask)) (bytes_by (gets i) q.ask.args.range (unwrap_or (there i) empty_blob)))
       ∙ ap (λ (range : Option ByteRange). with_content (ranged_frame range (committed_value byte_count d)) (ranged_bytes range (blob_content d))) asks
 
   -- the first byte of the range is a byte of the blob
@@ -155,7 +157,7 @@ module _ (keys : Option Keys) (w : World (List ℕ)) (q : Asked) (t : ℕ) (boun
   named : (c : Committed (List ℕ)) × (named_blob (part_at w q.ask.key) q.ask ≡ Some c)
   named =
       seen byte_count (named_blob (part_at w q.ask.key) q.ask)
-      (sym (λ i. needs_blob (gets i) && is_none (named_blob-part_value byte_count (part_at w q.ask.key) q.ask i)) ∙ no_cause keys (sizes (part_at w q.ask.key)) q t free BlobIsAbsent)
+      (sym (λ i. needs_blob (gets i) && is_none (named_blob-part_value byte_count (part_at w q.ask.key) q.ask i)) ∙ left_false _ _ (no_cause keys (sizes (part_at w q.ask.key)) q t free BlobIsAbsent))
 
   free-whole : refusal keys (sizes (part_at w q.ask.key)) (without_range q) t ≡ None
   free-whole = free-with_args keys (sizes (part_at w q.ask.key)) q t free (without_range q).ask.args refl (fewer_causes q (sizes (part_at w q.ask.key)))

@@ -135,6 +135,8 @@ act_by-public op.DeleteContainer kinds need z q t h = cc
 act_by-public op.PutBlob kinds need z q t h = cc
 act_by-public op.SetMetadata kinds need z q t h = cc
 act_by-public op.DeleteBlob kinds need z q t h = cc
+act_by-public op.PutBlock kinds need z q t h = cc
+act_by-public op.PutBlockList kinds need z q t h = cc
 act_by-public other kinds need z q t h = refl
 
 module _ (keys : Option Keys) (w : World (List ℕ)) (q : Asked) (t : ℕ) (anonymous : q.ask.credential ≡ Anonymous) where

@@ -18,6 +18,7 @@ use Rattle.access_rules.specs.Routes.{Admits}
 use Rattle.access_rules.proofs.RouteLaw.{by_route}
 use Rattle.range_rows.specs.Access.{acl_of}
 use Rattle.range_rows.specs.ObjectReplies.{byte_count, sizes, standing_read, empty_blob, frame_by, bytes_by, bytes_sent, with_content, reply_of}
+use Rattle.range_rows.specs.NamedBlobs.{target_blob}
 use Rattle.range_rows.specs.ObjectRules.{object_refusal}
 use Rattle.range_rows.specs.RequestChanges.{act_by, change_of, part_after}
 use Rattle.range_rows.proofs.AnswerLemmas.{named_blob-part_value}
@@ -37,6 +38,8 @@ act_by-read op.DeleteContainer z q t reads = cc
 act_by-read op.PutBlob z q t reads = cc
 act_by-read op.SetMetadata z q t reads = cc
 act_by-read op.DeleteBlob z q t reads = cc
+act_by-read op.PutBlock z q t reads = cc
+act_by-read op.PutBlockList z q t reads = cc
 act_by-read other z q t reads = refl
 
 without_change : (r : Option Refusal) (w : World (List ℕ)) → world_after held (unless_refused r None) w ≡ w
@@ -51,15 +54,20 @@ module _ (keys : Option Keys) (w : World (List ℕ)) (q : Asked) (t : ℕ) where
       (act_by-read q.ask.op (sizes (part_at w q.ask.key)) q t reads)
       ∙ without_change (refusal keys (sizes (part_at w q.ask.key)) q t) w
 
-  -- the container after a request that nothing refuses is what its act makes of the container
-  pub part_at-act : (key : Key) (a : Act) → q.ask.key ≡ key → (reply keys w q t None).rule ≡ None → ((z : Part ℕ) → act_by q.ask.op z q t ≡ Some a)
+  -- the container after a request that nothing refuses is what its act makes of the container, if the container's sizes give this act
+  pub part_at-own_act : (key : Key) (a : Act) → q.ask.key ≡ key → (reply keys w q t None).rule ≡ None → act_by q.ask.op (sizes (part_at w key)) q t ≡ Some a
       → part_at (effect keys w q t) key ≡ changed held a (part_at w key)
-  part_at-act key a same none acts =
+  part_at-own_act key a same none acts =
       ap (λ (k : Key). part_at (effect keys w q t) k) (sym same)
       ∙ part_at-effect byte_count held keys w q t
       ∙ ap (λ (o : Option Refusal). part_after held (unless_refused o (change_of (sizes (part_at w q.ask.key)) q t)) (part_at w q.ask.key)) (reply-unrefused keys w q t None none)
-      ∙ ap (λ (o : Option Act). part_after held (option_map (on_key q.ask.key) o) (part_at w q.ask.key)) (acts (sizes (part_at w q.ask.key)))
+      ∙ ap (λ (o : Option Act). part_after held (option_map (on_key q.ask.key) o) (part_at w q.ask.key)) (ap (λ (k : Key). act_by q.ask.op (sizes (part_at w k)) q t) same ∙ acts)
       ∙ ap (λ (k : Key). changed held a (part_at w k)) same
+
+  -- the same, if the sizes of any container give this act
+  pub part_at-act : (key : Key) (a : Act) → q.ask.key ≡ key → (reply keys w q t None).rule ≡ None → ((z : Part ℕ) → act_by q.ask.op z q t ≡ Some a)
+      → part_at (effect keys w q t) key ≡ changed held a (part_at w key)
+  part_at-act key a same none acts = part_at-own_act key a same none (acts (sizes (part_at w key)))
 
 -- ---- what a request answers
 
@@ -67,14 +75,14 @@ module _ (v : World (List ℕ)) (q : Asked) where
   -- the answer to the operation in this container, if this is what readers see of the blob
   abbrev pub answer : Op → Key → Option (Committed (List ℕ)) → Reply
   answer o k c =
-      with_content (frame_by o q (standing_read (part_at v k)) (unwrap_or (option_map (committed_value byte_count) c) empty_blob)) (bytes_by o q.ask.args.range (unwrap_or c empty_blob))
+      with_content (frame_by o q (standing_read (part_at v k)) (unwrap_or (option_map (committed_value byte_count) c) empty_blob) (target_blob (sizes (part_at v k)) q.ask)) (bytes_by o q.ask.args.range (unwrap_or c empty_blob))
 
   abbrev seen : Key → Option (List ℕ) → Option (Committed (List ℕ))
   seen k blob = option_and_then (λ name. (blob_in (part_at v k) name).committed) blob
 
   reply_of-seen : reply_of (part_at v q.ask.key) q ≡ answer q.ask.op q.ask.key (seen q.ask.key q.ask.blob)
   reply_of-seen =
-      ap (λ (c : Option (Committed ℕ)). with_content (frame_by q.ask.op q (standing_read (part_at v q.ask.key)) (unwrap_or c empty_blob)) (bytes_sent (part_at v q.ask.key) q))
+      ap (λ (c : Option (Committed ℕ)). with_content (frame_by q.ask.op q (standing_read (part_at v q.ask.key)) (unwrap_or c empty_blob) (target_blob (sizes (part_at v q.ask.key)) q.ask)) (bytes_sent (part_at v q.ask.key) q))
       (named_blob-part_value byte_count (part_at v q.ask.key) q.ask)
 
   reply_of-on : (o : Op) (key : Key) (name : List ℕ) → IsOn o key name q → reply_of (part_at v q.ask.key) q ≡ answer o key (blob_in (part_at v key) name).committed

@@ -16,12 +16,13 @@ use Rattle.stamp_types.specs.Codes.{has_error_body}
 use Rattle.stamp_types.specs.Pieces.{held}
 use Rattle.stamp_types.specs.Replies.{denied}
 use Rattle.stamp_types.specs.Requests.{Asked}
-use Rattle.stamp_types.specs.World.{Part, World, part_at}
+use Rattle.stamp_types.specs.World.{Blob, Part, World, part_at}
 use Rattle.access_rules.specs.declared.keys.Keys.{Keys}
 use Rattle.access_rules.specs.Routes.{Admits}
 use Rattle.access_rules.specs.Rules.{first_rule}
 use Rattle.access_rules.proofs.RouteLaw.{by_route}
 use Rattle.range_rows.specs.ObjectReplies.{is_served, byte_count, sizes, standing_read, blob_read, frame_by, ranged_frame, reply_of}
+use Rattle.range_rows.specs.NamedBlobs.{target_blob}
 use Rattle.range_rows.specs.ObjectRules.{object_refusal}
 use Rattle.range_rows.specs.Access.{acl_of}
 use Rattle.stamp_model.specs.Refusals.{access_refusal, unserved_refusal, refusal, refusing_rule}
@@ -41,13 +42,13 @@ ranged_names_none : (range : Option ByteRange) (c : Committed ℕ) → (ranged_f
 ranged_names_none None c = refl
 ranged_names_none (Some r) c = refl
 
-frame_names_none : (o : Op) (q : Asked) (s : Standing) (c : Committed ℕ) → (frame_by o q s c).rule ≡ None
-frame_names_none op.CreateContainer q s c = refl
-frame_names_none op.GetBlob q s c = ranged_names_none q.ask.args.range c
-frame_names_none other q s c = refl
+frame_names_none : (o : Op) (q : Asked) (s : Standing) (c : Committed ℕ) (b : Blob ℕ) → (frame_by o q s c b).rule ≡ None
+frame_names_none op.CreateContainer q s c b = refl
+frame_names_none op.GetBlob q s c b = ranged_names_none q.ask.args.range c
+frame_names_none other q s c b = refl
 
 names : (r : Option Refusal) (p : Part (List ℕ)) (q : Asked) → (response r p q).rule ≡ option_map (λ r. r.rule) r
-names None p q = frame_names_none q.ask.op q (standing_read (sizes p)) (blob_read (sizes p) q.ask)
+names None p q = frame_names_none q.ask.op q (standing_read (sizes p)) (blob_read (sizes p) q.ask) (target_blob (sizes p) q.ask)
 names (Some r) p q = denied-names r
 
 -- if three options have no first refusal, each of the three is `None`

@@ -1,9 +1,9 @@
 -- The first rule that holds in all lists of rules.
-use Rattle.std.proofs.Common.{◌≡◌, ℕ, Bool, true, false, cond, not, ◌&&◌, ◌||◌, List, [], ◌∷◌, ◌++◌, Option, Some, None, refl, sym, ap, ◌∙◌}
+use Rattle.std.proofs.Common.{◌≡◌, ℕ, Bool, true, false, cond, not, ◌&&◌, ◌||◌, drop, take, List, [], ◌∷◌, ◌++◌, Option, Some, None, refl, sym, ap, ◌∙◌}
 use Rattle.std.proofs.lemmas.Bool.{and_parts}
 use Rattle.std.proofs.lemmas.List.Folds.{find-append}
-use Rattle.std.specs.Prelude.{find, if◌then◌else◌}
-use Rattle.std.specs.List.{list_all}
+use Rattle.std.specs.Prelude.{find, if◌then◌else◌, ⊤}
+use Rattle.std.specs.List.{list_all, list_any}
 use Rattle.std.specs.Option.{option_map, option_or}
 use Rattle.stamp_values.specs.Operations.{writes}
 use Rattle.stamp_types.specs.declared.code.Code.TheVariants.{InvalidQueryParameterValue}
@@ -15,8 +15,8 @@ use Rattle.stamp_types.specs.World.{Part}
 use Rattle.access_rules.specs.declared.keys.Keys.{Keys}
 use Rattle.access_rules.specs.Rules.{holds, access_rules, first_rule}
 use Rattle.range_rows.specs.ObjectReplies.{is_served}
-use Rattle.range_rows.specs.ObjectRules.{cause_holds, cause_refusal, fails_if_match, fails_if_none_match, is_any, object_holds, object_refusal, object_rules}
-use Rattle.range_rows.specs.ObjectRules.Cause.{ContainerIsAbsent, ContainerExists, BlobIsAbsent, MatchFails, IsNotModified, BlobExists, NoneMatchFails, BodyIsDamaged, RangeIsPastTheEnd, CountIsFull}
+use Rattle.range_rows.specs.ObjectRules.{Cause, cause_holds, cause_refusal, causes, fails_if_match, fails_if_none_match, is_any, object_holds, object_refusal, object_rules}
+use Rattle.range_rows.specs.ObjectRules.Cause.{ContainerIsAbsent, ContainerExists, BlobIsAbsent}
 use Rattle.range_rows.specs.Access.{acl_of}
 use Rattle.stamp_model.specs.Refusals.{access_refusal, unserved_refusal, is_unserved, refusing_rule, refuses, rules_in_order}
 
@@ -54,35 +54,42 @@ of_permission : (o : Option Rule) → option_map (λ r. r.rule) (option_map acce
 of_permission None = refl
 of_permission (Some r) = refl
 
-of_last : (d r f : Bool) → option_map (λ r. r.rule) (option_map cause_refusal (cond d (Some BodyIsDamaged) (cond r (Some RangeIsPastTheEnd) (cond f (Some CountIsFull) None))))
-    ≡ cond d (Some O5) (cond (r || f) (Some O6) None)
-of_last true r f = refl
-of_last false true f = refl
-of_last false false true = refl
-of_last false false false = refl
+-- the rule of the first of some causes that exists
+abbrev rule_of : (Cause → Bool) → List Cause → Option Rule
+rule_of holds cs = option_map (λ r. r.rule) (option_map cause_refusal (find holds cs))
+
+-- each of these causes refuses by this rule
+abbrev AllBy : Rule → List Cause → Type 0
+AllBy r [] = ⊤
+AllBy r (c ∷ cs) = ((cause_refusal c).rule ≡ r) × AllBy r cs
+
+module _ (holds : Cause → Bool) where
+  -- the first cause decides, if it exists
+  by_cause : (c : Cause) (more : List Cause) → rule_of holds (c ∷ more) ≡ cond (holds c) (Some (cause_refusal c).rule) (rule_of holds more)
+  by_cause c more =
+      elim (holds c) as (λ b. option_map (λ r. r.rule) (option_map cause_refusal (cond b (Some c) (find holds more))) ≡ cond b (Some (cause_refusal c).rule) (rule_of holds more)) [
+        | true ↦ refl
+        | false ↦ refl
+      ]
+
+  -- if causes that all refuse by one rule come first, that rule is the first if one of them exists
+  by_one : (r : Rule) (cs more : List Cause) → AllBy r cs → rule_of holds (cs ++ more) ≡ cond (list_any holds cs) (Some r) (rule_of holds more)
+  by_one r [] more all = refl
+  by_one r (c ∷ cs) more all =
+      elim (holds c) as (λ b. option_map (λ r. r.rule) (option_map cause_refusal (cond b (Some c) (find holds (cs ++ more)))) ≡ cond (b || list_any holds cs) (Some r) (rule_of holds more)) [
+        | true ↦ ap (λ r. Some r) all.0
+        | false ↦ by_one r cs more all.1
+      ]
 
 -- n says that If-None-Match fails, w that the request writes, and s that the condition is `*`
-of_conditions : (m n w s d r f : Bool) → option_map (λ r. r.rule) (option_map cause_refusal
-    (cond m (Some MatchFails) (cond (not w && n) (Some IsNotModified) (cond (w && (s && n)) (Some BlobExists) (cond (w && (not s && n)) (Some NoneMatchFails)
-    (cond d (Some BodyIsDamaged) (cond r (Some RangeIsPastTheEnd) (cond f (Some CountIsFull) None))))))))
-    ≡ cond (m || n) (Some O4) (cond d (Some O5) (cond (r || f) (Some O6) None))
-of_conditions true n w s d r f = refl
-of_conditions false true false s d r f = refl
-of_conditions false true true true d r f = refl
-of_conditions false true true false d r f = refl
-of_conditions false false false s d r f = of_last d r f
-of_conditions false false true true d r f = of_last d r f
-of_conditions false false true false d r f = of_last d r f
-
-of_object : (a b c m n w s d r f : Bool) → option_map (λ r. r.rule) (option_map cause_refusal
-    (cond a (Some ContainerIsAbsent) (cond b (Some ContainerExists) (cond c (Some BlobIsAbsent)
-    (cond m (Some MatchFails) (cond (not w && n) (Some IsNotModified) (cond (w && (s && n)) (Some BlobExists) (cond (w && (not s && n)) (Some NoneMatchFails)
-    (cond d (Some BodyIsDamaged) (cond r (Some RangeIsPastTheEnd) (cond f (Some CountIsFull) None)))))))))))
-    ≡ cond a (Some O1) (cond b (Some O2) (cond c (Some O3) (cond (m || n) (Some O4) (cond d (Some O5) (cond (r || f) (Some O6) None)))))
-of_object true b c m n w s d r f = refl
-of_object false true c m n w s d r f = refl
-of_object false false true m n w s d r f = refl
-of_object false false false m n w s d r f = of_conditions m n w s d r f
+of_conditions : (m n w s : Bool) → (m || ((not w && n) || ((w && (s && n)) || ((w && (not s && n)) || false)))) ≡ (m || n)
+of_conditions true n w s = refl
+of_conditions false true false s = refl
+of_conditions false true true true = refl
+of_conditions false true true false = refl
+of_conditions false false false s = refl
+of_conditions false false true true = refl
+of_conditions false false true false = refl
 
 of_unserved : (b : Bool) → option_map (λ (r : Refusal). r.rule) (if b then None else Some (record { rule = F3; code = InvalidQueryParameterValue })) ≡ cond (not b) (Some F3) None
 of_unserved true = refl
@@ -91,9 +98,16 @@ of_unserved false = refl
 -- the rule by which the object refuses is the first of its rules that holds
 pub object_rule-first : (p : Part ℕ) (q : Asked) → option_map (λ r. r.rule) (object_refusal p q) ≡ find (object_holds p q) object_rules
 object_rule-first p q =
-    of_object (cause_holds p q ContainerIsAbsent) (cause_holds p q ContainerExists) (cause_holds p q BlobIsAbsent)
-    (fails_if_match p q.ask) (fails_if_none_match p q.ask) (writes q.ask.op) (is_any q.ask.args.if_none_match)
-    (cause_holds p q BodyIsDamaged) (cause_holds p q RangeIsPastTheEnd) (cause_holds p q CountIsFull)
+    by_cause holds_here ContainerIsAbsent (drop 1 causes)
+    ∙ ap (λ o. cond (holds_here ContainerIsAbsent) (Some O1) o) (by_cause holds_here ContainerExists (drop 2 causes)
+    ∙ ap (λ o. cond (holds_here ContainerExists) (Some O2) o) (by_cause holds_here BlobIsAbsent (drop 3 causes)
+    ∙ ap (λ o. cond (holds_here BlobIsAbsent) (Some O3) o) (by_one holds_here O4 (take 4 (drop 3 causes)) (drop 7 causes) (refl, (refl, (refl, (refl, tt))))
+    ∙ ap (λ b. cond b (Some O4) (rule_of holds_here (drop 7 causes))) (of_conditions (fails_if_match p q.ask) (fails_if_none_match p q.ask) (writes q.ask.op) (is_any q.ask.args.if_none_match))
+    ∙ ap (λ o. cond (fails_if_match p q.ask || fails_if_none_match p q.ask) (Some O4) o) (by_one holds_here O5 (take 4 (drop 7 causes)) (drop 11 causes) (refl, (refl, (refl, (refl, tt))))
+    ∙ ap (λ o. cond (object_holds p q O5) (Some O5) o) (by_one holds_here O6 (drop 11 causes) [] (refl, (refl, (refl, (refl, (refl, (refl, tt)))))))))))
+  where
+    holds_here : Cause → Bool
+    holds_here = cause_holds p q
 
 module _ (keys : Option Keys) (p : Part ℕ) (q : Asked) (t : ℕ) where
   abbrev by_access : Rule → Bool

@@ -36,7 +36,8 @@ use Rattle.stamp_model.proofs.ReplyLemmas.{reply-unrefused, unrefused}
 none_before : (bytes : List ℕ) → 0 + length bytes ≡ length bytes
 none_before bytes = omega arith
 
-some_of : {X : Type 0} (o : Option X) → is_some o ≡ true → (x : X) × (o ≡ Some x)
+-- a value that exists
+pub some_of : {X : Type 0} (o : Option X) → is_some o ≡ true → (x : X) × (o ≡ Some x)
 some_of None there = cc
 some_of (Some x) there = (x, refl)
 
@@ -47,7 +48,8 @@ module _ (keys : Option Keys) (w : World (List ℕ)) (key : Key) (name : List �
   abbrev put_there : Committed (List ℕ)
   put_there = put_committed held ((part_at w key).count + 1) (put_blob put.request put.moment name kept)
 
-  put_act : (z : Part ℕ) → act_by put.request.ask.op z put.request put.moment ≡ Some (act.PutBlob (put_blob put.request put.moment name kept))
+  -- a Put Blob makes this act, whatever the container is
+  pub put_act : (z : Part ℕ) → act_by put.request.ask.op z put.request put.moment ≡ Some (act.PutBlob (put_blob put.request put.moment name kept))
   put_act z =
       ap (λ (o : Op). act_by o z put.request put.moment) puts.op
       ∙ (λ i. option_and_then (λ name. option_map (λ kept. act.PutBlob (put_blob put.request put.moment name kept)) (keeps i)) (puts.blob i))
@@ -146,10 +148,12 @@ module _ (keys : Option Keys) (w : World (List ℕ)) (key : Key) (name : List �
       ap (λ (o : Op). act_by o z delete.request delete.moment) deletes.op
       ∙ ap (λ (blob : Option (List ℕ)). option_map (λ name. act.DeleteBlob (delete_blob name)) blob) deletes.blob
 
-  part-deleted : part_at (world_after_one keys w delete) key ≡ changed held (act.DeleteBlob (delete_blob name)) (part_at w key)
+  -- after a Delete Blob the container is what the act makes of it
+  pub part-deleted : part_at (world_after_one keys w delete) key ≡ changed held (act.DeleteBlob (delete_blob name)) (part_at w key)
   part-deleted = part_at-act keys w delete.request delete.moment key (act.DeleteBlob (delete_blob name)) deletes.container none delete_act
 
-  container_before : is_some (part_at w key).standing ≡ true
+  -- the container of an accepted Delete Blob exists
+  pub container_before : is_some (part_at w key).standing ≡ true
   container_before =
       sym (ap (λ (k : Key). is_some (part_at w k).standing) deletes.container)
       ∙ container_needed (part_at w delete.request.ask.key) delete.request

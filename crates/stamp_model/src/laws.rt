@@ -17,12 +17,13 @@ ghost use Rattle.stamp_types.specs.World.{Part, World, part_at, world_value};
 ghost use Rattle.access_rules.specs.declared.keys.Keys.{Keys};
 ghost use Rattle.access_rules.specs.Needs.{need_of};
 ghost use Rattle.access_rules.specs.Routes.{Admits};
+ghost use Rattle.range_rows.specs.NamedBlobs.{has_listed, target_blob};
 ghost use Rattle.range_rows.specs.ObjectRules.{named_blob, object_refusal};
 ghost use Rattle.range_rows.specs.ObjectReplies.{is_served, reply_of, sizes};
 ghost use Rattle.range_rows.specs.Access.{acl_of};
 ghost use Rattle.stamp_model.specs.Refusals.{refusing_rule, refuses, rules_in_order};
 ghost use Rattle.stamp_model.specs.Effects.{alters_access, alters_container, change, effect, effect_as};
-ghost use Rattle.stamp_model.specs.Responses.{reply, tells_blob, tells_container};
+ghost use Rattle.stamp_model.specs.Responses.{reply, tells_blob, tells_blocks, tells_container};
 
 /// The container of a request's key decides what that container is after the request. If the
 /// operation names a container, the container also decides the reply to the request.
@@ -117,8 +118,8 @@ pub fn public_access_is_what_the_container_gives()
 
 /// If nothing refuses a request, what its answer tells of exists after the request. An answer that
 /// tells of a container is of a container that exists. An answer that tells of a blob is of a blob
-/// that readers see, if the request fits its operation. Any other answer is the same whatever the
-/// container is.
+/// that readers see, if the request fits its operation. An answer that tells of blocks is of a blob
+/// that has what is listed. Any other answer is the same whatever the container is.
 pub fn an_answer_is_of_what_exists()
     ensures container { (keys : Option Keys) (w : World (List ℕ)) (q : Asked) (t : ℕ)
         (bound : Option Key)
@@ -128,8 +129,14 @@ pub fn an_answer_is_of_what_exists()
         (bound : Option Key)
         → IsAsk q.ask → (reply keys w q t bound).rule ≡ None → IsTrue (tells_blob q.ask.op)
         → IsSome (named_blob (part_at (effect keys w q t) q.ask.key) q.ask) }
+    ensures blocks { (keys : Option Keys) (w : World (List ℕ)) (q : Asked) (t : ℕ)
+        (bound : Option Key)
+        → (reply keys w q t bound).rule ≡ None → IsTrue (tells_blocks q.ask.op)
+        → IsTrue (has_listed q.ask.args.kinds
+        (target_blob (part_at (effect keys w q t) q.ask.key) q.ask)) }
     ensures neither { (p r : Part (List ℕ)) (q : Asked) → tells_container q.ask.op ≡ false
-        → tells_blob q.ask.op ≡ false → reply_of p q ≡ reply_of r q }
+        → tells_blob q.ask.op ≡ false → tells_blocks q.ask.op ≡ false
+        → reply_of p q ≡ reply_of r q }
 {}
 
 /// Content may be read before a request or after it, by any function that keeps the size of each

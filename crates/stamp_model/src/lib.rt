@@ -2,12 +2,14 @@
 //! code that runs.
 #![tactic(auto)]
 
+mod block_laws;
 mod condition_laws;
 mod etag_laws;
 mod history_laws;
 mod laws;
 mod run_laws;
 
+pub use block_laws::{a_commit_is_seen_whole_or_not_at_all, no_block_outlives_its_commit};
 pub use condition_laws::{
     a_condition_never_lets_more_by, a_conditional_write_changes_what_its_caller_saw,
     a_part_is_a_part_of_the_whole,

@@ -70,10 +70,11 @@ pub fn a_refused_request_changes_no_other_reply()
 /// the body that was put, and the ETag and the moment of the reply to the Put Blob; the reply to a Get Blob Properties
 /// has the length of that body. After Set Blob Metadata or Set Container Metadata, the metadata that
 /// were set are read, with the ETag and the moment of the reply to that request. After a Delete
-/// Blob, each request for the blob that permission admits is refused by O3. After a Delete
+/// Blob, each request that needs the blob and that permission admits is refused by O3. After a Delete
 /// Container, each request that needs the container and that permission admits is refused by O1. If
-/// the container is then made again, each request for a blob in it that permission admits is refused
-/// by O3.
+/// the container is then made again, each request that needs a blob of it and that permission admits
+/// is refused by O3. What a Put Block and a Put Block List write has a law of its own,
+/// `a_commit_is_seen_whole_or_not_at_all`.
 pub fn what_is_written_is_read()
     ensures body { (keys : Option Keys) (w : World (List ℕ)) (key : Key) (name : List ℕ)
         (put get : Timed)

@@ -1,5 +1,5 @@
 use Rattle.std.proofs.Common.{◌≡◌, subst, IfOk}
-use Rattle.range_rows.specs.FoundParts.{sizes_found_after}
+use Rattle.range_rows.specs.FoundParts.{pieces_found_after, sizes_found_after}
 use Rattle.range_rows.specs.ObjectReplies.{with_content}
 use Rattle.http_front.specs.Decisions.{found_reply}
 use Rattle.http_front.specs.PlainAnswers.{bytes_held}
@@ -10,7 +10,8 @@ pub reply_with_content-requires-clause-short : goal.reply_with_content-requires-
 reply_with_content-requires-clause-short c =
     let answer = c.in_ok-answer.answer in
     let q = c.args.request.now in
-    fits_memory answer.frame (sizes_found_after c.args.found.now q c.args.moment) q answer.spans c.in_ok-answer.ensures.frame c.in_ok-answer.ensures.short
+    fits_memory answer.frame (sizes_found_after c.args.found.now q c.args.moment) (pieces_found_after c.args.found.now q c.args.moment) q answer.spans c.len-held.result
+    c.in_ok-answer.ensures.frame c.in_ok-answer.ensures.spans c.len-held.ensures c.len-held.type_inv c.in_ok-answer.ensures.short
 
 pub returns : goal.returns
 returns c =

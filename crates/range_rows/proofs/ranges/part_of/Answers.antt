@@ -1,4 +1,4 @@
-use Rattle.std.proofs.Common.{◌≡◌, ◌≤◌, ◌++◌, append-nil, rules, List, sym, ap, ◌∙◌}
+use Rattle.std.proofs.Common.{◌≤◌, ◌++◌, append-nil, rules, List, sym, ap, ◌∙◌}
 use Rattle.range_rows.specs.declared.answer.Span.{Span}
 use Rattle.range_rows.proofs.RangeLemmas.{no_block}
 use Rattle.range_rows.proofs.ranges.part_of.Goals as goal

@@ -1,4 +1,4 @@
-use Rattle.std.proofs.Common.{◌≡◌, ◌≤◌, ◌++◌, append-nil, rules, List, sym, ap, ◌∙◌}
+use Rattle.std.proofs.Common.{◌≤◌, ◌++◌, append-nil, rules, List, sym, ap, ◌∙◌}
 use Rattle.stamp_types.specs.Pieces.{pieces_len}
 use Rattle.range_rows.specs.declared.answer.Span.{Span}
 use Rattle.range_rows.proofs.RangeLemmas.{part_past}

@@ -4,7 +4,7 @@ use Rattle.stamp_types.specs.Pieces.{held}
 use Rattle.stamp_types.specs.World.{Part, part_at}
 use Rattle.range_rows.specs.ObjectReplies.{byte_count}
 use Rattle.range_rows.specs.ObjectRules.{named_blob}
-use Rattle.stamp_model.proofs.AnswerLemmas.{standing-unrefused, named_blob-unrefused, reply_of-neither}
+use Rattle.stamp_model.proofs.AnswerLemmas.{standing-unrefused, named_blob-unrefused, blocks-unrefused, reply_of-neither}
 use Rattle.stamp_model.proofs.EffectLemmas.{part_at-effect}
 use Rattle.stamp_model.proofs.ReplyLemmas.{reply-unrefused}
 use Rattle.stamp_model.proofs.laws.an_answer_is_of_what_exists.Goals as goal
@@ -19,5 +19,8 @@ returns-clause-blob c = λ keys w q t bound fits none tells.
     ap (λ (p : Part (List ℕ)). is_some (named_blob p q.ask)) (part_at-effect byte_count held keys w q t)
     ∙ named_blob-unrefused keys (part_at w q.ask.key) q t (reply-unrefused keys w q t bound none) fits tells
 
+pub returns-clause-blocks : goal.returns-clause-blocks
+returns-clause-blocks c = λ keys w q t bound none tells. blocks-unrefused keys w q t (reply-unrefused keys w q t bound none) tells
+
 pub returns-clause-neither : goal.returns-clause-neither
-returns-clause-neither c = λ p r q container blob. reply_of-neither p r q container blob
+returns-clause-neither c = λ p r q container blob blocks. reply_of-neither p r q container blob blocks

@@ -1,0 +1,23 @@
+-- The blob that a request names, and its blocks (Blob service REST reference, 2012-02-12, "Put Block", "Put Block List", "Get Block List").
+use Rattle.std.specs.Prelude.{Bool, ◌||◌, nat_lt, is_some, Option, Some, None, unwrap_or}
+use Rattle.std.specs.Option.{option_map}
+use Rattle.stamp_values.specs.declared.block.BlockKinds.{BlockKinds}
+use Rattle.stamp_values.specs.declared.block.BlockKinds.TheVariants as kinds
+use Rattle.stamp_types.specs.declared.ask.Ask.{Ask}
+use Rattle.stamp_types.specs.World.{Blob, Part, blob_in, no_blob}
+use Rattle.block_blobs.specs.UncommittedBlocks.{block_count}
+
+-- the blob that the request names; if it names no blob, a blob of a name that was never used
+abbrev pub target_blob : {C : Type 0} → Part C → Ask → Blob C
+target_blob p a = unwrap_or (option_map (blob_in p) a.blob) no_blob
+
+-- the blob has an uncommitted block
+abbrev pub has_uncommitted : {C : Type 0} → Blob C → Bool
+has_uncommitted b = nat_lt 0 (block_count b.uncommitted)
+
+-- the blob has what Get Block List shows: for committed blocks alone, which no kinds ask for too, a committed part; otherwise a
+-- committed part or an uncommitted block
+abbrev pub has_listed : {C : Type 0} → Option BlockKinds → Blob C → Bool
+has_listed None b = is_some b.committed
+has_listed (Some kinds.Committed) b = is_some b.committed
+has_listed (Some other) b = is_some b.committed || has_uncommitted b

@@ -1,0 +1,44 @@
+-- What the body of a request says (Blob service REST reference, 2012-02-12, "Put Block List").
+use Rattle.std.specs.Prelude.{ℕ, List, [], Result, Ok, Err, Bool, true, false}
+use Rattle.stamp_values.specs.declared.block.Wanted.{Wanted}
+use Rattle.stamp_values.specs.declared.op.Op.{Op}
+use Rattle.stamp_values.specs.declared.op.Op.TheVariants as op
+use Rattle.stamp_types.specs.Requests.{Asked}
+use Rattle.body_forms.specs.declared.body_fault.BodyFault.{BodyFault}
+use Rattle.body_forms.specs.declared.body_fault.BodyFault.TheVariants as fault
+use Rattle.body_forms.specs.Ids.{block_list_reading}
+use Rattle.range_rows.specs.declared.reading.Reading.{Reading}
+use Rattle.range_rows.specs.declared.reading.Reading.TheVariants as reading
+
+-- the reading of a body that is read as a block list
+abbrev pub list_reading : Result (List Wanted) BodyFault → Reading
+list_reading (Ok wanted) = reading.BlockList wanted
+list_reading (Err fault) = reading.Fault fault
+
+-- what the body of an operation says besides its bytes: the body of Put Block List is a block list, and no other body is read so far
+unfoldable pub reading_by : Op → List ℕ → Reading
+reading_by op.PutBlockList body = list_reading (block_list_reading body)
+reading_by other body = reading.Nothing
+
+-- what the body of a request says besides its bytes
+abbrev pub reading_of : Asked → Reading
+reading_of q = reading_by q.ask.op q.body
+
+-- the blocks that a body wants, if it is a block list
+abbrev pub listed_in : Reading → List Wanted
+listed_in (reading.BlockList wanted) = wanted
+listed_in other = []
+
+-- the blocks that a request wants in its block list
+abbrev pub wanted_blocks : Asked → List Wanted
+wanted_blocks q = listed_in (reading_of q)
+
+-- the body does not have its form
+abbrev pub is_malformed : Reading → Bool
+is_malformed (reading.Fault fault.Form) = true
+is_malformed other = false
+
+-- the body has its form, and an id in it is not an id of a block
+abbrev pub has_bad_id : Reading → Bool
+has_bad_id (reading.Fault fault.Id) = true
+has_bad_id other = false

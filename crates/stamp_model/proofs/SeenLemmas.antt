@@ -1,0 +1,246 @@
+-- Containers in which readers see the same, and what a Put Block leaves unseen.
+use Rattle.std.proofs.Common.{◌≡◌, ℕ, Bool, true, false, cond, not, ◌&&◌, ◌||◌, List, [], ◌∷◌, Option, Some, None, All, IfSome, refl, sym, ap, ◌∙◌, subst, unwrap_or}
+use Rattle.std.proofs.lemmas.List.Elements.{All-head, All-tail}
+use Rattle.std.specs.Prelude.{find, is_none, is_some, nat_le, nat_lt}
+use Rattle.std.specs.FinMap as finite
+use Rattle.std.specs.Option.{option_map, option_map_or, option_and_then, option_or}
+use Rattle.std.specs.Ordering.{eq_by_cmp}
+use Rattle.stamp_values.specs.Limits.{blob_limit}
+use Rattle.stamp_values.specs.Operations.{has_conditions, writes}
+use Rattle.stamp_values.specs.Order.{name_cmp, names_total, names_exact}
+use Rattle.stamp_values.specs.declared.block.BlockKinds.{BlockKinds}
+use Rattle.stamp_values.specs.declared.block.BlockKinds.TheVariants as kinds
+use Rattle.stamp_values.specs.declared.block.Wanted.{Wanted}
+use Rattle.stamp_values.specs.declared.key.Key.{Key}
+use Rattle.stamp_values.specs.declared.op.Op.{Op}
+use Rattle.stamp_values.specs.declared.op.Op.TheVariants as op
+use Rattle.stamp_types.specs.declared.act.Act.{Act}
+use Rattle.stamp_types.specs.declared.act.Act.TheVariants as act
+use Rattle.stamp_types.specs.declared.act.PutBlock.{PutBlock}
+use Rattle.stamp_types.specs.declared.ask.Ask.{Ask}
+use Rattle.stamp_types.specs.declared.committed.Committed.{Committed}
+use Rattle.stamp_types.specs.declared.refusal.Refusal.{Refusal}
+use Rattle.stamp_types.specs.declared.reply.Reply.{Reply}
+use Rattle.stamp_types.specs.declared.standing.Standing.{Standing}
+use Rattle.stamp_types.specs.Pieces.{held}
+use Rattle.stamp_types.specs.Requests.{Asked, IsAsk}
+use Rattle.stamp_types.specs.World.{Blob, Part, World, no_blob, blob_in, part_at, committed_value, part_value, changed}
+use Rattle.stamp_types.proofs.WorldLemmas.{blob_in-part_value, equal_if_is_eq}
+use Rattle.access_rules.specs.declared.keys.Keys.{Keys}
+use Rattle.access_rules.specs.Rules.{first_rule}
+use Rattle.block_blobs.specs.BlockLists.{first_missing, found_entries}
+use Rattle.block_blobs.specs.UncommittedBlocks.{has_other_length, is_one_too_many}
+use Rattle.range_rows.specs.ListedBlocks.{listed_size}
+use Rattle.range_rows.specs.NamedBlobs.{has_listed, target_blob}
+use Rattle.range_rows.specs.ObjectReplies.{blob_content, blob_read, byte_count, bytes_by, empty_blob, frame_by, get_frame, list_frame, ranged_bytes, ranged_frame, reply_of, shows_uncommitted, sizes, standing_read, with_content}
+use Rattle.range_rows.specs.ObjectRules.{Cause, cause_holds, cause_refusal, causes, count_limit, is_any, is_create, is_get, is_list, meets, misses, named_blob, needs_blob, needs_container, starts_past}
+use Rattle.range_rows.specs.ObjectRules.Cause.{ContainerIsAbsent, ContainerExists, BlobIsAbsent, MatchFails, IsNotModified, BlobExists, NoneMatchFails, BodyIsDamaged, BodyIsMalformed, IdIsBad, BlockIsMissing, ListIsTooLong, IdHasOtherLength, BlocksAreFull, ListIsTooLarge, RangeIsPastTheEnd, CountIsFull}
+use Rattle.range_rows.specs.Readings.{listed_in, reading_by, wanted_blocks}
+use Rattle.range_rows.specs.RequestChanges.{act_by, change_of, part_after}
+use Rattle.stamp_model.specs.Blocks.{reads_committed}
+use Rattle.stamp_model.specs.Effects.{effect}
+use Rattle.stamp_model.specs.Refusals.{access_refusal, refusal, unserved_refusal}
+use Rattle.stamp_model.specs.Responses.{response, reply}
+use Rattle.stamp_model.specs.Runs.{Timed, world_after_all, world_after_one, reply_to_one}
+use Rattle.stamp_model.proofs.EffectLemmas.{part_at-effect, related-after_act, related-effect, said_of_block}
+use Rattle.stamp_model.proofs.ReadLemmas.{effect-read}
+
+-- ---- containers in which readers see the same
+
+-- readers see the same in both containers: what they have beside their blobs, and the committed part of each blob
+pub record IsSeenAlike {C : Type 0} (p r : Part C) : Type 0 where
+  pub standing : p.standing ≡ r.standing
+  pub committed : (name : List ℕ) → (blob_in p name).committed ≡ (blob_in r name).committed
+
+module _ (p : Part (List ℕ)) where
+  chosen : (k name : List ℕ) (b : Bool) (x : Blob (List ℕ)) → eq_by_cmp name_cmp name k ≡ b → x.committed ≡ (blob_in p k).committed
+      → (blob_in p name).committed ≡ (unwrap_or (cond b (Some x) (finite.get p.blobs name)) no_blob).committed
+  chosen k name true x e same = ap (λ (n : List ℕ). (blob_in p n).committed) (names_exact name k (equal_if_is_eq (name_cmp name k) e)) ∙ sym same
+  chosen k name false x e same = refl
+
+  -- the blob after a Put Block
+  abbrev pub with_block : PutBlock → Blob (List ℕ)
+  with_block a = record { committed = (blob_in p a.blob).committed; uncommitted = finite.insert (blob_in p a.blob).uncommitted a.id (held a.content) }
+
+  -- after a Put Block readers see what they saw before
+  block_unseen : (a : PutBlock) → IsSeenAlike p (changed held (act.PutBlock a) p)
+  block_unseen a = record {
+    standing = refl;
+    committed = λ name.
+        chosen a.blob name (eq_by_cmp name_cmp name a.blob) (with_block a) refl refl
+        ∙ sym (ap (λ (o : Option (Blob (List ℕ))). (unwrap_or o no_blob).committed) (finite.get-insert names_total p.blobs a.blob (with_block a) name));
+  }
+
+alike_same : (p : Part (List ℕ)) → IsSeenAlike p p
+alike_same p = record { standing = refl; committed = λ name. refl }
+
+alike_own : (q : Asked) (t : ℕ) → q.ask.op ≡ op.PutBlock → (z : Part ℕ) (p : Part (List ℕ)) → IsSeenAlike p (part_after held (change_of z q t) p)
+alike_own q t puts z p =
+    related-after_act held (λ p r. IsSeenAlike p r) alike_same q.ask.key p (act_by q.ask.op z q t)
+    (subst (λ (a : Option Act). IfSome a (λ a. IsSeenAlike p (changed held a p))) (sym (ap (λ (o : Op). act_by o z q t) puts))
+    (said_of_block (λ a. IsSeenAlike p (changed held a p)) (block_unseen p) q q.ask.blob q.ask.args.block))
+
+-- after a request of Put Block readers see in each container what they saw before
+pub alike-put_block : (keys : Option Keys) (w : World (List ℕ)) (q : Asked) (t : ℕ) → q.ask.op ≡ op.PutBlock → (k : Key) → IsSeenAlike (part_at w k) (part_at (effect keys w q t) k)
+alike-put_block keys w q t puts k = related-effect held (λ p r. IsSeenAlike p r) alike_same byte_count keys w q t (alike_own q t puts) k
+
+-- containers in which readers see the same are so, whether their content is read before or after
+alike-read : {C D : Type 0} (f : C → D) (p r : Part C) → IsSeenAlike p r → IsSeenAlike (part_value f p) (part_value f r)
+alike-read {D = D} f p r alike = record {
+  standing = alike.standing;
+  committed = λ name.
+      ap (λ (b : Blob D). b.committed) (blob_in-part_value f p name) ∙ ap (option_map (committed_value f)) (alike.committed name)
+      ∙ sym (ap (λ (b : Blob D). b.committed) (blob_in-part_value f r name));
+}
+
+module _ {C : Type 0} (p r : Part C) (alike : IsSeenAlike p r) where
+  named_alike : (a : Ask) → named_blob p a ≡ named_blob r a
+  named_alike a = λ i. option_and_then (λ name. alike.committed name i) a.blob
+
+  target_by : (blob : Option (List ℕ)) → (unwrap_or (option_map (blob_in p) blob) no_blob).committed ≡ (unwrap_or (option_map (blob_in r) blob) no_blob).committed
+  target_by None = refl
+  target_by (Some name) = alike.committed name
+
+  target_alike : (a : Ask) → (target_blob p a).committed ≡ (target_blob r a).committed
+  target_alike a = target_by a.blob
+
+-- ---- requests that read only what is committed
+
+writes_nothing : (o : Op) (k : Option BlockKinds) → reads_committed o k ≡ true → writes o ≡ false
+writes_nothing op.GetBlob k reads = refl
+writes_nothing op.BlobProperties k reads = refl
+writes_nothing op.GetMetadata k reads = refl
+writes_nothing op.GetBlockList k reads = refl
+writes_nothing other k reads = cc
+
+wants_nothing : (o : Op) (k : Option BlockKinds) (body : List ℕ) → reads_committed o k ≡ true → listed_in (reading_by o body) ≡ []
+unfolding reading_by
+wants_nothing op.PutBlockList k body reads = cc
+wants_nothing other k body reads = refl
+
+is_not_put_block : (o : Op) (k : Option BlockKinds) → reads_committed o k ≡ true → o ≡ op.PutBlock → ⊥
+is_not_put_block o k reads is = let wrong : false ≡ true = sym (ap (λ (o : Op). reads_committed o k) is) ∙ reads in cc
+
+none_unless : {X : Type 0} (o : Option X) → (is_some o ≡ true → ⊥) → o ≡ None
+none_unless None h = refl
+none_unless (Some x) h = absurd (h refl)
+
+lists_alike : (o : Op) (k : Option BlockKinds) (b d : Blob ℕ) → reads_committed o k ≡ true → b.committed ≡ d.committed → (is_list o && not (has_listed k b)) ≡ (is_list o && not (has_listed k d))
+lists_alike op.GetBlockList None b d reads same = ap (λ (c : Option (Committed ℕ)). not (is_some c)) same
+lists_alike op.GetBlockList (Some kinds.Committed) b d reads same = ap (λ (c : Option (Committed ℕ)). not (is_some c)) same
+lists_alike op.GetBlockList (Some kinds.Uncommitted) b d reads same = cc
+lists_alike op.GetBlockList (Some kinds.All) b d reads same = cc
+lists_alike other k b d reads same = refl
+
+-- ---- rules of a request that reads only what is committed
+
+module _ (p r : Part ℕ) (alike : IsSeenAlike p r) (q : Asked) (fits : IsAsk q.ask) (reads : reads_committed q.ask.op q.ask.args.kinds ≡ true) where
+  abbrev named : named_blob p q.ask ≡ named_blob r q.ask
+  named = named_alike p r alike q.ask
+
+  nothing_wanted : wanted_blocks q ≡ []
+  nothing_wanted = wants_nothing q.ask.op q.ask.args.kinds q.body reads
+
+  no_block : q.ask.args.block ≡ None
+  no_block = none_unless q.ask.args.block (λ there. is_not_put_block q.ask.op q.ask.args.kinds reads (fits.own.block.0 there))
+
+  no_write : writes q.ask.op ≡ false
+  no_write = writes_nothing q.ask.op q.ask.args.kinds reads
+
+  alike_cause : (c : Cause) → cause_holds p q c ≡ cause_holds r q c
+  alike_cause ContainerIsAbsent = ap (λ (s : Option Standing). needs_container q.ask.op && is_none s) alike.standing
+  alike_cause ContainerExists = ap (λ (s : Option Standing). is_create q.ask.op && is_some s) alike.standing
+  alike_cause BlobIsAbsent =
+      let listed = lists_alike q.ask.op q.ask.args.kinds (target_blob p q.ask) (target_blob r q.ask) reads (target_alike p r alike q.ask) in
+      λ i. (needs_blob q.ask.op && is_none (named i)) || listed i
+  alike_cause MatchFails = ap (λ (c : Option (Committed ℕ)). has_conditions q.ask.op && misses c q.ask.args.if_match) named
+  alike_cause IsNotModified = ap (λ (c : Option (Committed ℕ)). not (writes q.ask.op) && (has_conditions q.ask.op && meets c q.ask.args.if_none_match)) named
+  alike_cause BlobExists = ap (λ (c : Option (Committed ℕ)). writes q.ask.op && (is_any q.ask.args.if_none_match && (has_conditions q.ask.op && meets c q.ask.args.if_none_match))) named
+  alike_cause NoneMatchFails = ap (λ (c : Option (Committed ℕ)). writes q.ask.op && (not (is_any q.ask.args.if_none_match) && (has_conditions q.ask.op && meets c q.ask.args.if_none_match))) named
+  alike_cause BodyIsDamaged = refl
+  alike_cause BodyIsMalformed = refl
+  alike_cause IdIsBad = refl
+  alike_cause BlockIsMissing =
+      ap (λ (ws : List Wanted). is_some (first_missing (target_blob p q.ask) ws)) nothing_wanted
+      ∙ sym (ap (λ (ws : List Wanted). is_some (first_missing (target_blob r q.ask) ws)) nothing_wanted)
+  alike_cause ListIsTooLong = refl
+  alike_cause IdHasOtherLength =
+      ap (λ (id : Option (List ℕ)). option_map_or (λ id. has_other_length id (target_blob p q.ask).uncommitted) id false) no_block
+      ∙ sym (ap (λ (id : Option (List ℕ)). option_map_or (λ id. has_other_length id (target_blob r q.ask).uncommitted) id false) no_block)
+  alike_cause BlocksAreFull =
+      ap (λ (id : Option (List ℕ)). option_map_or (λ id. is_one_too_many id (target_blob p q.ask).uncommitted) id false) no_block
+      ∙ sym (ap (λ (id : Option (List ℕ)). option_map_or (λ id. is_one_too_many id (target_blob r q.ask).uncommitted) id false) no_block)
+  alike_cause ListIsTooLarge =
+      ap (λ (ws : List Wanted). nat_lt blob_limit (listed_size (target_blob p q.ask) (found_entries (target_blob p q.ask) ws))) nothing_wanted
+      ∙ sym (ap (λ (ws : List Wanted). nat_lt blob_limit (listed_size (target_blob r q.ask) (found_entries (target_blob r q.ask) ws))) nothing_wanted)
+  alike_cause RangeIsPastTheEnd = ap (λ (c : Option (Committed ℕ)). is_get q.ask.op && starts_past c q.ask.args.range) named
+  alike_cause CountIsFull = ap (λ b. b && nat_le count_limit p.count) no_write ∙ sym (ap (λ b. b && nat_le count_limit r.count) no_write)
+
+  refusal_alike : (keys : Option Keys) (t : ℕ) → refusal keys p q t ≡ refusal keys r q t
+  refusal_alike keys t =
+      λ i. option_or (option_map access_refusal (first_rule keys (option_map (λ s. s.acl) (alike.standing i)) q.ask t))
+      (option_or (option_map cause_refusal (find (λ c. alike_cause c i) causes)) (unserved_refusal q.ask.op))
+
+-- ---- the reply to a request that reads only what is committed
+
+lists_frame : (k : Option BlockKinds) (b g : Blob ℕ) → not (shows_uncommitted k) ≡ true → b.committed ≡ g.committed → list_frame k b ≡ list_frame k g
+lists_frame None b g reads same = λ i. list_frame None (record { committed = same i; uncommitted = b.uncommitted })
+lists_frame (Some kinds.Committed) b g reads same = λ i. list_frame (Some kinds.Committed) (record { committed = same i; uncommitted = b.uncommitted })
+lists_frame (Some kinds.Uncommitted) b g reads same = cc
+lists_frame (Some kinds.All) b g reads same = cc
+
+module _ (q : Asked) (s u : Standing) (c d : Committed ℕ) (b g : Blob ℕ) (e h : Committed (List ℕ)) (seen : c ≡ d) (listed : b.committed ≡ g.committed) (sent : e ≡ h) where
+  answers_alike : (o : Op) → reads_committed o q.ask.args.kinds ≡ true → with_content (frame_by o q s c b) (bytes_by o q.ask.args.range e) ≡ with_content (frame_by o q u d g) (bytes_by o q.ask.args.range h)
+  answers_alike op.GetBlob reads = λ i. with_content (ranged_frame q.ask.args.range (seen i)) (ranged_bytes q.ask.args.range (blob_content (sent i)))
+  answers_alike op.BlobProperties reads = λ i. with_content (get_frame (seen i)) []
+  answers_alike op.GetMetadata reads = λ i. with_content (frame_by op.GetMetadata q s (seen i) b) []
+  answers_alike op.GetBlockList reads = ap (λ (f : Reply). with_content f []) (lists_frame q.ask.args.kinds b g reads listed)
+  answers_alike other reads = cc
+
+response_alike : (o : Option Refusal) (p r : Part (List ℕ)) (q : Asked) → reply_of p q ≡ reply_of r q → response o p q ≡ response o r q
+response_alike None p r q same = same
+response_alike (Some refused) p r q same = refl
+
+module _ (p r : Part (List ℕ)) (alike : IsSeenAlike p r) (q : Asked) (reads : reads_committed q.ask.op q.ask.args.kinds ≡ true) where
+  reply_of_alike : reply_of p q ≡ reply_of r q
+  reply_of_alike =
+      let by_size = alike-read byte_count p r alike in
+      answers_alike q (standing_read (sizes p)) (standing_read (sizes r)) (blob_read (sizes p) q.ask) (blob_read (sizes r) q.ask)
+      (target_blob (sizes p) q.ask) (target_blob (sizes r) q.ask) (blob_read p q.ask) (blob_read r q.ask)
+      (ap (λ (c : Option (Committed ℕ)). unwrap_or c empty_blob) (named_alike (sizes p) (sizes r) by_size q.ask))
+      (target_alike (sizes p) (sizes r) by_size q.ask)
+      (ap (λ (c : Option (Committed (List ℕ))). unwrap_or c empty_blob) (named_alike p r alike q.ask))
+      q.ask.op reads
+
+module _ (keys : Option Keys) (q : Asked) (t : ℕ) (fits : IsAsk q.ask) (reads : reads_committed q.ask.op q.ask.args.kinds ≡ true) where
+  -- a request that reads is answered from the container as it is
+  from_unchanged : (w : World (List ℕ)) → reply keys w q t None ≡ response (refusal keys (sizes (part_at w q.ask.key)) q t) (part_at w q.ask.key) q
+  from_unchanged w =
+      ap (λ (p : Part (List ℕ)). response (refusal keys (sizes (part_at w q.ask.key)) q t) p q)
+      (sym (part_at-effect byte_count held keys w q t)
+      ∙ ap (λ (v : World (List ℕ)). part_at v q.ask.key) (effect-read keys w q t (writes_nothing q.ask.op q.ask.args.kinds reads)))
+
+  -- if readers see the same in the containers of two worlds, the reply to a request that reads only what is committed is the same in both
+  reply_alike : (w v : World (List ℕ)) → IsSeenAlike (part_at w q.ask.key) (part_at v q.ask.key) → reply keys w q t None ≡ reply keys v q t None
+  reply_alike w v alike =
+      from_unchanged w
+      ∙ ap (λ (o : Option Refusal). response o (part_at w q.ask.key) q)
+      (refusal_alike (sizes (part_at w q.ask.key)) (sizes (part_at v q.ask.key)) (alike-read byte_count (part_at w q.ask.key) (part_at v q.ask.key) alike) q fits reads keys t)
+      ∙ response_alike (refusal keys (sizes (part_at v q.ask.key)) q t) (part_at w q.ask.key) (part_at v q.ask.key) q (reply_of_alike (part_at w q.ask.key) (part_at v q.ask.key) alike q reads)
+      ∙ sym (from_unchanged v)
+
+-- a request that reads only what is committed has the reply after a Put Block that it would have had before
+pub reply-put_block : (keys : Option Keys) (w : World (List ℕ)) (put read : Timed) → put.request.ask.op ≡ op.PutBlock → IsAsk read.request.ask
+    → reads_committed read.request.ask.op read.request.ask.args.kinds ≡ true → reply_to_one keys (world_after_one keys w put) read ≡ reply_to_one keys w read
+reply-put_block keys w put read puts fits reads =
+    sym (reply_alike keys read.request read.moment fits reads w (world_after_one keys w put)
+    (alike-put_block keys w put.request put.moment puts read.request.ask.key))
+
+-- it has this reply after any number of Put Blocks
+pub reply-put_blocks : (keys : Option Keys) (w : World (List ℕ)) (puts : List Timed) (read : Timed) → All (λ put. put.request.ask.op ≡ op.PutBlock) puts → IsAsk read.request.ask
+    → reads_committed read.request.ask.op read.request.ask.args.kinds ≡ true → reply_to_one keys (world_after_all keys w puts) read ≡ reply_to_one keys w read
+reply-put_blocks keys w [] read all fits reads = refl
+reply-put_blocks keys w (put ∷ puts) read all fits reads =
+    let IsPut : Timed → Type 0 = λ put. put.request.ask.op ≡ op.PutBlock in
+    reply-put_blocks keys (world_after_one keys w put) puts read (All-tail IsPut put puts all) fits reads
+    ∙ reply-put_block keys w put read (All-head IsPut put puts all) fits reads

@@ -1,0 +1,139 @@
+//! Laws of blocks and of block lists. Each law is the contract of a function that does nothing.
+ghost use Rattle.std.specs.Prelude.{◌≡◌, ◌≢◌, ℕ, ◌+◌, IsTrue, All, List, ◌∷◌, ◌++◌, Option, Some, None, length, map};
+ghost use Rattle.std.specs.FinMap as finite;
+ghost use Rattle.md5.specs.Md5.{md5};
+ghost use Rattle.stamp_values.specs.declared.block.Source.TheVariants as source;
+ghost use Rattle.stamp_values.specs.declared.key.Key.{Key};
+ghost use Rattle.stamp_values.specs.declared.op.Op.{Op};
+ghost use Rattle.stamp_values.specs.declared.op.Op.TheVariants.{BlobProperties, DeleteBlob, GetBlob, GetBlockList, PutBlock, PutBlockList};
+ghost use Rattle.stamp_types.specs.declared.args.Kept.{Kept};
+ghost use Rattle.stamp_types.specs.declared.code.Code.TheVariants.{BlobNotFound};
+ghost use Rattle.stamp_types.specs.declared.header.Header.TheVariants as header;
+ghost use Rattle.stamp_types.specs.declared.rule.Rule.{Rule};
+ghost use Rattle.stamp_types.specs.declared.rule.Rule.TheVariants.{O3};
+ghost use Rattle.stamp_types.specs.PropsFields.{kept_fields};
+ghost use Rattle.stamp_types.specs.Replies.{denied};
+ghost use Rattle.stamp_types.specs.Requests.{IsAsk};
+ghost use Rattle.stamp_types.specs.World.{World, blob_in, content_from, part_at};
+ghost use Rattle.access_rules.specs.declared.keys.Keys.{Keys};
+ghost use Rattle.block_blobs.specs.BlockLists.{first_missing};
+ghost use Rattle.range_rows.specs.ObjectReplies.{date_headers, kept_lines, list_text, sizes};
+ghost use Rattle.range_rows.specs.Readings.{wanted_blocks};
+ghost use Rattle.stamp_model.specs.Blocks.{reads_committed, takes_blocks, wanted_bytes, without_uncommitted};
+ghost use Rattle.stamp_model.specs.Runs.{Timed, IsAdmitted, IsOn, reply_to_one, world_after_all, world_after_one};
+
+/// A commit is seen whole or not at all. A Put Block, accepted or refused, changes no reply to a
+/// request that reads only what is committed: such a request has the reply that it would have had
+/// without the Put Block. The same is so of any number of Put Blocks in turn. After a Put Block each
+/// blob has the ETag that it had. An accepted Put Block is one change of its container. It leaves its
+/// body as the uncommitted block of its id, and leaves each uncommitted block of another id as it
+/// was.
+///
+/// If a Put Block List is accepted, each block that it wants is found in the blob as it was before.
+/// The reply to a Get Blob without a range that comes next has the content of these blocks, as the
+/// blob had it before, in the order of the list, and the ETag and the moment of the reply to the Put
+/// Block List; the reply to a Get Blob Properties has the length of that content. If a Put Block List
+/// is refused, all containers stay as they are.
+pub fn a_commit_is_seen_whole_or_not_at_all()
+    ensures unseen { (keys : Option Keys) (w : World (List ℕ)) (put read : Timed)
+        → put.request.ask.op ≡ PutBlock → IsAsk read.request.ask
+        → IsTrue (reads_committed read.request.ask.op read.request.ask.args.kinds)
+        → reply_to_one keys (world_after_one keys w put) read ≡ reply_to_one keys w read }
+    ensures unseen_all { (keys : Option Keys) (w : World (List ℕ)) (puts : List Timed)
+        (read : Timed)
+        → All (λ put. put.request.ask.op ≡ PutBlock) puts → IsAsk read.request.ask
+        → IsTrue (reads_committed read.request.ask.op read.request.ask.args.kinds)
+        → reply_to_one keys (world_after_all keys w puts) read ≡ reply_to_one keys w read }
+    ensures committed { (keys : Option Keys) (w : World (List ℕ)) (put : Timed) (key : Key)
+        (name : List ℕ)
+        → put.request.ask.op ≡ PutBlock
+        → (blob_in (part_at (world_after_one keys w put) key) name).committed
+        ≡ (blob_in (part_at w key) name).committed }
+    ensures counted { (keys : Option Keys) (w : World (List ℕ)) (key : Key) (name id : List ℕ)
+        (put : Timed)
+        → IsOn PutBlock key name put.request → put.request.ask.args.block ≡ Some id
+        → (reply_to_one keys w put).rule ≡ None
+        → (part_at (world_after_one keys w put) key).count ≡ (part_at w key).count + 1 }
+    ensures put { (keys : Option Keys) (w : World (List ℕ)) (key : Key) (name id : List ℕ)
+        (put : Timed)
+        → IsOn PutBlock key name put.request → put.request.ask.args.block ≡ Some id
+        → (reply_to_one keys w put).rule ≡ None
+        → content_from source.Uncommitted id
+        (blob_in (part_at (world_after_one keys w put) key) name) ≡ Some put.request.body }
+    ensures other { (keys : Option Keys) (w : World (List ℕ)) (key : Key) (name id other : List ℕ)
+        (put : Timed)
+        → IsOn PutBlock key name put.request → put.request.ask.args.block ≡ Some id
+        → (reply_to_one keys w put).rule ≡ None → other ≢ id
+        → content_from source.Uncommitted other
+        (blob_in (part_at (world_after_one keys w put) key) name)
+        ≡ content_from source.Uncommitted other (blob_in (part_at w key) name) }
+    ensures found { (keys : Option Keys) (w : World (List ℕ)) (key : Key) (name : List ℕ)
+        (list : Timed)
+        → IsOn PutBlockList key name list.request → (reply_to_one keys w list).rule ≡ None
+        → first_missing (blob_in (part_at w key) name) (wanted_blocks list.request) ≡ None }
+    ensures body { (keys : Option Keys) (w : World (List ℕ)) (key : Key) (name : List ℕ)
+        (list get : Timed)
+        → IsAsk list.request.ask → IsOn PutBlockList key name list.request
+        → IsOn GetBlob key name get.request → get.request.ask.args.range ≡ None
+        → (reply_to_one keys w list).rule ≡ None
+        → (reply_to_one keys (world_after_one keys w list) get).rule ≡ None
+        → (reply_to_one keys (world_after_one keys w list) get).body
+        ≡ wanted_bytes (blob_in (part_at w key) name) (wanted_blocks list.request) }
+    ensures length { (keys : Option Keys) (w : World (List ℕ)) (key : Key) (name : List ℕ)
+        (list get : Timed)
+        → IsAsk list.request.ask → IsOn PutBlockList key name list.request
+        → IsOn BlobProperties key name get.request → (reply_to_one keys w list).rule ≡ None
+        → (reply_to_one keys (world_after_one keys w list) get).rule ≡ None
+        → (reply_to_one keys (world_after_one keys w list) get).length
+        ≡ length (wanted_bytes (blob_in (part_at w key) name) (wanted_blocks list.request)) }
+    ensures list { (keys : Option Keys) (w : World (List ℕ)) (key : Key) (name : List ℕ)
+        (list : Timed)
+        → IsAsk list.request.ask → IsOn PutBlockList key name list.request
+        → (reply_to_one keys w list).rule ≡ None
+        → (reply_to_one keys w list).headers
+        ≡ header.ContentMd5 (md5 list.request.body)
+        ∷ date_headers ((part_at w key).count + 1) list.moment }
+    ensures get { (keys : Option Keys) (w : World (List ℕ)) (key : Key) (name : List ℕ)
+        (kept : Kept) (list get : Timed)
+        → IsOn PutBlockList key name list.request → list.request.ask.args.kept ≡ Some kept
+        → IsOn GetBlob key name get.request → get.request.ask.args.range ≡ None
+        → (reply_to_one keys w list).rule ≡ None
+        → (reply_to_one keys (world_after_one keys w list) get).rule ≡ None
+        → (reply_to_one keys (world_after_one keys w list) get).headers
+        ≡ kept_lines (kept_fields kept None)
+        ++ map header.Meta list.request.ask.args.metadata
+        ++ header.BlobType ∷ header.AcceptRanges
+        ∷ date_headers ((part_at w key).count + 1) list.moment }
+    ensures refused { (keys : Option Keys) (w : World (List ℕ)) (list : Timed) (rule : Rule)
+        → list.request.ask.op ≡ PutBlockList → (reply_to_one keys w list).rule ≡ Some rule
+        → world_after_one keys w list ≡ w }
+{}
+
+/// No uncommitted block outlives a commit. After an accepted Put Blob, Put Block List or Delete Blob,
+/// the blob has no uncommitted block. If the next request is a Get Block List of this blob, and no
+/// rule refuses it, the body of its reply is the block lists of a blob without uncommitted blocks,
+/// whatever kinds of blocks it asks for. After a Delete Blob, O3 refuses each Get Block List of the
+/// blob that permission admits.
+pub fn no_block_outlives_its_commit()
+    ensures gone { (keys : Option Keys) (w : World (List ℕ)) (key : Key) (name : List ℕ) (o : Op)
+        (commit : Timed)
+        → IsAsk commit.request.ask → IsTrue (takes_blocks o) → IsOn o key name commit.request
+        → (reply_to_one keys w commit).rule ≡ None
+        → (blob_in (part_at (world_after_one keys w commit) key) name).uncommitted
+        ≡ finite.empty }
+    ensures listed { (keys : Option Keys) (w : World (List ℕ)) (key : Key) (name : List ℕ)
+        (o : Op) (commit list : Timed)
+        → IsAsk commit.request.ask → IsTrue (takes_blocks o) → IsOn o key name commit.request
+        → IsOn GetBlockList key name list.request → (reply_to_one keys w commit).rule ≡ None
+        → (reply_to_one keys (world_after_one keys w commit) list).rule ≡ None
+        → (reply_to_one keys (world_after_one keys w commit) list).body
+        ≡ list_text list.request.ask.args.kinds
+        (without_uncommitted (blob_in (sizes (part_at (world_after_one keys w commit) key)) name)) }
+    ensures deleted { (keys : Option Keys) (w : World (List ℕ)) (key : Key) (name : List ℕ)
+        (delete list : Timed)
+        → IsOn DeleteBlob key name delete.request → IsOn GetBlockList key name list.request
+        → (reply_to_one keys w delete).rule ≡ None
+        → IsAdmitted keys (world_after_one keys w delete) list
+        → reply_to_one keys (world_after_one keys w delete) list
+        ≡ denied (record { rule = O3; code = BlobNotFound }) }
+{}
