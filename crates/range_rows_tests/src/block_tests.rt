@@ -1,12 +1,13 @@
 //! What Put Block and Put Block List leave in a container as changes, which of these changes fit,
 //! and how bodies are read, against values that were written by hand.
 
-use crate::condition_tests::content;
-use crate::sample_requests::{body, key, moment, pics, request, text, visible};
+use crate::condition_tests::{content, store};
+use crate::sample_requests::{asked, body, key, moment, pics, request, text, visible};
 use range_rows::{BodyFault, Reading, Rows};
 use stamp_types::{
-    Act, Block, BlockId, Bytes, Change, Items, Lookup, Metadata, Op, Piece, Pieces, Props,
-    PutBlock, PutBlockList, Source, Taken, Wanted,
+    Act, Args, Block, BlockId, Body, Bytes, Change, Code, Items, Lookup, Metadata, Op, Piece,
+    Pieces, Props, PutBlock, PutBlockList, Refusal, Request, Rule, Source, StoredBlob, Taken,
+    UncommittedBlock, Wanted,
 };
 use std::alloc::Global;
 use std::process::Abort;
@@ -286,5 +287,59 @@ fn only_the_body_of_a_put_block_list_is_read(rt: HostRuntime) {
     for (op, text, says) in bodies() {
         let reading = reading(&rt, rt.alloc(), op, text);
         assert!(rt; is_said(&reading, says), "{op:?} {text}");
+    }
+}
+
+const FULL: u64 = u64::MAX;
+
+// How many changes the container has seen, the id of a Put Block on a blob that has one uncommitted
+// block, whose id is `A`, and the code of the refusal.
+fn ids_and_counts() -> [(u64, &'static [u8], Option<Code>); 5] {
+    [
+        (FULL - 1, A, None),
+        (FULL - 1, B, None),
+        (FULL - 1, SHORT, Some(Code::InvalidBlobOrBlock)),
+        (FULL, SHORT, Some(Code::InvalidBlobOrBlock)),
+        (FULL, B, Some(Code::InternalError)),
+    ]
+}
+
+// The container `pics` with a blob `a`, which has one uncommitted block.
+fn one_block(rt: &impl Abort, alloc: Global, count: u64) -> Rows {
+    let mut rows = pics(rt, alloc, count);
+    let block = UncommittedBlock {
+        id: id(rt, alloc, A),
+        content: content(rt, alloc, "one"),
+    };
+    let stored = StoredBlob {
+        blob: text(rt, alloc, "a"),
+        committed: None,
+        uncommitted: Items::new(vec![in alloc; block].expect(rt, "memory")),
+    };
+    store(rt, alloc, &mut rows, stored);
+    rows
+}
+
+// The refusal of a Put Block under this id.
+fn refusal(rt: &impl Abort, alloc: Global, rows: &Rows, bytes: &[u8]) -> Option<Refusal> {
+    let mut args = Args::none(alloc);
+    args.block = Some(id(rt, alloc, bytes));
+    let ask = asked(rt, alloc, Op::PutBlock, "pics", "a", args);
+    let request = Request::new(alloc, ask, Body::empty()).expect(rt, "memory");
+    let request = request.expect(rt, "parts that fit");
+    let reading = Reading::of(alloc, &request).expect(rt, "memory");
+    let refusal = rows.object_rule(alloc, &request, &reading);
+    refusal.expect(rt, "memory")
+}
+
+#[test]
+fn the_length_of_an_id_is_judged_before_the_count(rt: HostRuntime) {
+    for (count, bytes, code) in ids_and_counts() {
+        let rows = one_block(&rt, rt.alloc(), count);
+        let wanted = code.map(|code| Refusal {
+            rule: Rule::O6,
+            code,
+        });
+        assert!(rt; refusal(&rt, rt.alloc(), &rows, bytes) == wanted, "{count} {code:?}");
     }
 }
