@@ -340,6 +340,9 @@ fn the_length_of_an_id_is_judged_before_the_count(rt: HostRuntime) {
             rule: Rule::O6,
             code,
         });
-        assert!(rt; refusal(&rt, rt.alloc(), &rows, bytes) == wanted, "{count} {code:?}");
+        assert!(rt;
+            refusal(&rt, rt.alloc(), &rows, bytes) == wanted,
+            "{count} {code:?}"
+        );
     }
 }
