@@ -6,3 +6,4 @@ pub mod IdTreeLemmas
 pub mod ListLemmas
 pub mod StoredBlocks
 pub mod ListFaults
+pub mod NextLemmas

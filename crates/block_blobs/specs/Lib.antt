@@ -1,5 +1,6 @@
 pub mod Faults
 pub mod UncommittedBlocks
+pub mod NextBlocks
 pub mod FirstBlocks
 pub mod IdTrees
 pub mod BlockLists

@@ -15,6 +15,7 @@ ghost use Rattle.block_blobs.specs.FirstBlocks.{IsIndex, blocks_of};
 use crate::blob_row::BlobRow;
 use crate::block_fault::BlockFault;
 use crate::first_blocks::{FirstBlocks, first_blocks, first_content};
+use crate::next_blocks::NextBlocks;
 use stamp_types::{
     BLOB_LIMIT, Block, BlockId, Committed, ENTRIES_LIMIT, Items, Lookup, Pieces, PutBlockList,
     Source, Taken, Wanted,
@@ -100,14 +101,17 @@ impl BlobRow {
     fn content<'a>(
         &'a self,
         first: &FirstBlocks<'a>,
+        next: &mut NextBlocks<'a>,
         from: Source,
         id: &'a BlockId,
     ) -> Option<&'a Pieces>
-        requires { IsIndex self.now.committed (map deref_pair first.now.entries) }
-        ensures { option_copied result ≡ content_from from id.now self.now }
+        requires committed { IsIndex self.now.committed (map deref_pair first.now.entries) }
+        requires uncommitted { next.old ≡ self.now.uncommitted }
+        ensures content { option_copied result ≡ content_from from id.now self.now }
+        ensures same { next.new ≡ next.old }
     {
         match from {
-            Source::Uncommitted => self.uncommitted_blocks().get(id),
+            Source::Uncommitted => next.content(id),
             Source::Committed => first_content(first, id),
         }
     }
@@ -116,16 +120,19 @@ impl BlobRow {
     fn find<'a>(
         &'a self,
         first: &FirstBlocks<'a>,
+        next: &mut NextBlocks<'a>,
         wanted: &'a Wanted,
     ) -> Option<(Source, &'a Pieces)>
-        requires { IsIndex self.now.committed (map deref_pair first.now.entries) }
-        ensures { MatchOption result (lists.source_of self.now wanted.now ≡ None)
+        requires committed { IsIndex self.now.committed (map deref_pair first.now.entries) }
+        requires uncommitted { next.old ≡ self.now.uncommitted }
+        ensures found { MatchOption result (lists.source_of self.now wanted.now ≡ None)
             (λ found. (lists.source_of self.now wanted.now ≡ Some found.0)
             × (pieces_len found.1.now ≡ lists.wanted_len self.now wanted.now)) }
+        ensures same { next.new ≡ next.old }
     {
         let sources = sources_of(wanted.lookup);
         for source in sources {
-            if let Some(content) = self.content(first, *source, &wanted.id) {
+            if let Some(content) = self.content(first, next, *source, &wanted.id) {
                 return Some((*source, content));
             }
         }
@@ -133,7 +140,7 @@ impl BlobRow {
     }
 
     // Where each wanted block is found, in their order, and how much room the blocks leave of 268,435,456
-    // bytes, or `None` if they have more. `NotFound` with the first that is not found.
+    // bytes, or `None` if they have more. `NotFound` with the position of the first that is not found.
     fn found_entries<'a>(
         &'a self,
         alloc: Global,
@@ -149,9 +156,10 @@ impl BlobRow {
             (IsFault (option_map BlockFault.NotFound (lists.first_missing self.now wanted.now))) }
     {
         let mut found = Vec::with_capacity(alloc, wanted.len())?;
+        let mut next = NextBlocks::new(self.uncommitted_blocks());
         let mut room = Some(BLOB_LIMIT);
         for (position, entry) in wanted.iter().enumerate() {
-            let Some((from, content)) = self.find(first, entry) else {
+            let Some((from, content)) = self.find(first, &mut next, entry) else {
                 return Err(BlockFault::NotFound(position));
             };
             room = room_after(room, content.len());
@@ -196,8 +204,8 @@ impl BlobRow {
         Ok(Items::new(found))
     }
 
-    /// The blocks of the entries, in their order, without their ids. `NotFound` with the first that is
-    /// not there. The content of each block has one more owner.
+    /// The blocks of the entries, in their order, without their ids. `NotFound` with the position of
+    /// the first entry whose block is not found. The content of each block has one more owner.
     pub(crate) fn unnamed_blocks<'a>(
         &'a self,
         alloc: Global,
@@ -210,9 +218,10 @@ impl BlobRow {
             (IsFault (option_map BlockFault.NotFound (lists.first_absent self.now entries.now))) }
     {
         let first = first_blocks(alloc, self.committed_blocks())?;
+        let mut next = NextBlocks::new(self.uncommitted_blocks());
         let mut blocks = Vec::with_capacity(alloc, entries.len())?;
         for (i, entry) in entries.iter().enumerate() {
-            let Some(content) = self.content(&first, entry.from, &entry.id) else {
+            let Some(content) = self.content(&first, &mut next, entry.from, &entry.id) else {
                 return Err(BlockFault::NotFound(i));
             };
             let content = content.clone()?;
@@ -221,9 +230,9 @@ impl BlobRow {
         Ok(blocks)
     }
 
-    // The blocks of the entries, in their order. `NotFound` with the first that is not there. The ids
-    // move into the blocks once all blocks are found: a look-up among the committed blocks borrows
-    // them.
+    // The blocks of the entries, in their order. `NotFound` with the position of the first entry whose
+    // block is not found. The ids move into the blocks once all blocks are found: a look-up among the
+    // committed blocks borrows them.
     #[tactic(auto, using(crate::proofs::ListLemmas::named_unnamed))]
     fn taken_blocks(
         &self,

@@ -8,13 +8,9 @@ mod content_by_id;
 mod first_blocks;
 mod laws;
 mod list_faults;
+mod next_blocks;
 mod uncommitted;
 
 pub use blob_row::BlobRow;
 pub use block_fault::BlockFault;
 pub use laws::{a_commit_is_its_list, a_container_changes_by_its_blob};
-
-#[cfg(test)]
-mod row_tests;
-#[cfg(test)]
-mod sample_blobs;

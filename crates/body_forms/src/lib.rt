@@ -2,8 +2,6 @@
 #![tactic(auto)]
 
 mod block_list;
-#[cfg(test)]
-mod block_list_tests;
 mod body_fault;
 mod bytes;
 mod elements;
@@ -12,8 +10,6 @@ mod ids;
 mod laws;
 mod tokens;
 mod written_list;
-#[cfg(test)]
-mod written_list_tests;
 
 pub use block_list::read_block_list;
 pub use body_fault::BodyFault;

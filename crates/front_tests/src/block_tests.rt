@@ -1,6 +1,6 @@
 //! What heads about blocks ask for: ids of blocks, kinds of blocks, kept headers of a block list, and how long a body may be.
 
-use crate::test_heads::args;
+use crate::test_heads::request;
 use request_form::{HeadFault, read_head};
 use stamp_types::{Args, BlockKinds, Code, Condition, Kept, Rule};
 use std::alloc::Global;
@@ -8,7 +8,7 @@ use std::process::Abort;
 
 // The rule and the code that refuse a head, if a rule refuses it.
 fn refusal(rt: &impl Abort, alloc: Global, start: &str, lines: &str) -> Option<(Rule, Code)> {
-    args(rt, alloc, start, lines).err()
+    request(rt, alloc, start, lines).err()
 }
 
 // Whether the id of a block is this text, or no id comes with the request.
@@ -20,10 +20,15 @@ fn is_id(args: &Args, wanted: Option<&[u8]>) -> bool {
     }
 }
 
+// Whether this id comes with a request, and no kinds of blocks.
+fn has_id_alone(args: &Args, wanted: &[u8]) -> bool {
+    is_id(args, Some(wanted)) && args.kinds.is_none()
+}
+
 // Whether a Put Block has this id, and no kinds of blocks.
 fn has_id(rt: &impl Abort, alloc: Global, start: &str, wanted: &[u8]) -> bool {
-    match args(rt, alloc, start, "\r\nContent-Length: 0") {
-        Ok(args) => is_id(&args, Some(wanted)) && args.kinds.is_none(),
+    match request(rt, alloc, start, "\r\nContent-Length: 0") {
+        Ok(request) => has_id_alone(&request.ask().args, wanted),
         Err(_) => false,
     }
 }
@@ -81,8 +86,8 @@ fn ids_that_are_not_the_ids_of_blocks(rt: HostRuntime) {
 
 // The kinds of blocks that come with a request, if no rule refuses its head and no id comes with it.
 fn kinds(rt: &impl Abort, alloc: Global, start: &str) -> Option<BlockKinds> {
-    match args(rt, alloc, start, " HTTP/1.1") {
-        Ok(args) if is_id(&args, None) => args.kinds,
+    match request(rt, alloc, start, " HTTP/1.1") {
+        Ok(request) if is_id(&request.ask().args, None) => request.ask().args.kinds,
         _ => None,
     }
 }
@@ -131,10 +136,15 @@ fn values_that_do_not_name_kinds_of_blocks(rt: HostRuntime) {
     }
 }
 
+// Whether neither an id nor kinds of blocks come with a request.
+fn has_no_id_or_kinds(args: &Args) -> bool {
+    is_id(args, None) && args.kinds.is_none()
+}
+
 // Whether no rule refuses a head, and neither an id nor kinds of blocks come with its request.
 fn has_no_blocks(rt: &impl Abort, alloc: Global, start: &str) -> bool {
-    match args(rt, alloc, start, " HTTP/1.1") {
-        Ok(args) => is_id(&args, None) && args.kinds.is_none(),
+    match request(rt, alloc, start, " HTTP/1.1") {
+        Ok(request) => has_no_id_or_kinds(&request.ask().args),
         Err(_) => false,
     }
 }
@@ -177,8 +187,8 @@ fn keeps(args: &Args, encoding: &str, cache_control: &str) -> bool {
 fn headers_that_a_block_list_keeps(rt: HostRuntime) {
     let lines =
         "Content-Type: a/b\r\nContent-Encoding: gzip\r\nContent-Language: \u{e9}\r\nCache-Control: \u{e9}\r\nx-ms-blob-content-encoding: br\r\nx-ms-blob-cache-control: no\r\nx-ms-blob-content-md5: XUFAKrxLKna5cZ2REBfFkg==\r\nx-ms-meta-Color: red\r\nIf-Match: *";
-    let args = args(&rt, rt.alloc(), LIST, lines).expect(&rt, "a head");
-    assert!(rt; keeps(&args, "br", "no"));
+    let list = request(&rt, rt.alloc(), LIST, lines).expect(&rt, "a head");
+    assert!(rt; keeps(&list.ask().args, "br", "no"));
 }
 
 #[test]
@@ -221,10 +231,10 @@ fn has_no_header(args: &Args) -> bool {
 fn what_has_no_effect_on_a_block(rt: HostRuntime) {
     let lines =
         "x-ms-blob-content-type: \u{e9}\r\nContent-Type: \u{e9}\r\nx-ms-meta-a: \u{e9}\r\nx-ms-blob-type: PageBlob\r\nRange: bytes=0-1";
-    let put = args(&rt, rt.alloc(), BLOCK, lines).expect(&rt, "a head");
-    assert!(rt; has_no_header(&put));
-    let shown = args(&rt, rt.alloc(), SHOWN, lines).expect(&rt, "a head");
-    assert!(rt; has_no_header(&shown));
+    let put = request(&rt, rt.alloc(), BLOCK, lines).expect(&rt, "a head");
+    assert!(rt; has_no_header(&put.ask().args));
+    let shown = request(&rt, rt.alloc(), SHOWN, lines).expect(&rt, "a head");
+    assert!(rt; has_no_header(&shown.ask().args));
 }
 
 #[test]

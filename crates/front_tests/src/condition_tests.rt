@@ -1,6 +1,6 @@
 //! Conditions: which texts are ETags of the stamp, and which operations take a condition.
 
-use crate::test_heads::args;
+use crate::test_heads::request;
 use stamp_types::{Code, Condition, Rule};
 use std::alloc::Global;
 use std::process::Abort;
@@ -11,7 +11,10 @@ const GET: &str = "GET /acct/box/b HTTP/1.1\r\n";
 type Outcome = Result<(Option<Condition>, Option<Condition>), (Rule, Code)>;
 
 fn outcome(rt: &impl Abort, alloc: Global, start: &str, lines: &str) -> Outcome {
-    args(rt, alloc, start, lines).map(|args| (args.if_match, args.if_none_match))
+    request(rt, alloc, start, lines).map(|request| {
+        let args = &request.ask().args;
+        (args.if_match, args.if_none_match)
+    })
 }
 
 fn conditions() -> [(&'static str, Condition); 12] {

@@ -1,6 +1,6 @@
 //! Ranges: which texts are ranges, and which header decides.
 
-use crate::test_heads::args;
+use crate::test_heads::request;
 use stamp_types::{ByteRange, Code, Rule};
 use std::alloc::Global;
 use std::process::Abort;
@@ -10,8 +10,8 @@ const GET: &str = "GET /acct/box/b HTTP/1.1\r\n";
 const MOST: u64 = 18_446_744_073_709_551_615;
 
 fn range(rt: &impl Abort, alloc: Global, start: &str, lines: &str) -> Option<ByteRange> {
-    args(rt, alloc, start, lines)
-        .map(|args| args.range)
+    request(rt, alloc, start, lines)
+        .map(|request| request.ask().args.range)
         .expect(rt, "a head")
 }
 
@@ -129,7 +129,7 @@ fn a_range_is_sent_once(rt: HostRuntime) {
         "x-ms-range: bytes=0-1\r\nx-ms-range: bytes=0-1",
     ];
     for lines in twice {
-        let refusal = args(&rt, rt.alloc(), GET, lines).err();
+        let refusal = request(&rt, rt.alloc(), GET, lines).err();
         assert!(rt;
             refusal == Some((Rule::F7, Code::InvalidHeaderValue)),
             "of {lines}"

@@ -1,7 +1,7 @@
-//! Heads for tests, and what the requests that they ask for have.
+//! Heads for tests, and the requests that they ask for.
 
 use request_form::{HeadFault, read_head};
-use stamp_types::{Args, Body, Code, Rule};
+use stamp_types::{Body, Code, Request, Rule};
 use std::alloc::Global;
 use std::process::Abort;
 
@@ -14,13 +14,13 @@ fn head_text(rt: &impl Abort, alloc: Global, start: &str, lines: &str) -> Vec<u8
     text
 }
 
-/// What comes with the request of a head without a body, or the rule and the code that refuse the head.
-pub(crate) fn args(
+/// The request of a head without a body, or the rule and the code that refuse the head.
+pub(crate) fn request(
     rt: &impl Abort,
     alloc: Global,
     start: &str,
     lines: &str,
-) -> Result<Args, (Rule, Code)> {
+) -> Result<Request, (Rule, Code)> {
     let text = head_text(rt, alloc, start, lines);
     let head = match read_head(alloc, text.as_slice()) {
         Ok(head) => head,
@@ -28,6 +28,5 @@ pub(crate) fn args(
         Err(HeadFault::NoMemory) => panic!(rt; "memory"),
     };
     assert!(rt; head.body_len() == 0);
-    let request = head.with_body(alloc, Body::empty()).expect(rt, "memory");
-    Ok(request.ask().args.clone().expect(rt, "memory"))
+    Ok(head.with_body(alloc, Body::empty()).expect(rt, "memory"))
 }

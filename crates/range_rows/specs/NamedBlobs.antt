@@ -15,8 +15,8 @@ target_blob p a = unwrap_or (option_map (blob_in p) a.blob) no_blob
 abbrev pub has_uncommitted : {C : Type 0} → Blob C → Bool
 has_uncommitted b = nat_lt 0 (block_count b.uncommitted)
 
--- the blob has what Get Block List shows: for committed blocks alone, which no kinds ask for too, a committed part; otherwise a
--- committed part or an uncommitted block
+-- the blob has something that Get Block List shows: a committed part; or, if uncommitted blocks are asked for, an uncommitted block.
+-- A request without kinds asks for committed blocks alone
 abbrev pub has_listed : {C : Type 0} → Option BlockKinds → Blob C → Bool
 has_listed None b = is_some b.committed
 has_listed (Some kinds.Committed) b = is_some b.committed

@@ -57,13 +57,16 @@ fn put_blob(
     requires body { length request.now.body ≤ put_blob_limit }
     ensures { IfOk result (λ put. put ≡ changes.put_blob request.now moment blob.now kept.now) }
 {
-    let body = request.body();
+    let content = Pieces::cut(alloc, request.body().as_share())?;
+    let metadata = request.ask().args.metadata.clone()?;
+    let blob = blob.clone()?;
+    let props = props_of(alloc, request, kept)?;
     Ok(PutBlob {
-        blob: blob.clone()?,
+        blob,
         moment,
-        props: props_of(alloc, request, kept)?,
-        metadata: request.ask().args.metadata.clone()?,
-        content: Pieces::cut(alloc, body.as_share())?,
+        props,
+        metadata,
+        content,
     })
 }
 
@@ -188,12 +191,16 @@ fn put_block_list(
         (blob_in (sizes_found found.now) blob.now) request.now moment blob.now kept.now) }
     ensures few { IfOk result (λ put. IsTrue (nat_le (length put.entries) entries_limit)) }
 {
+    let entries = entries_of(alloc, found, blob, wanted_in(reading))?;
+    let metadata = request.ask().args.metadata.clone()?;
+    let blob = blob.clone()?;
+    let props = list_props(alloc, kept)?;
     Ok(PutBlockList {
-        blob: blob.clone()?,
+        blob,
         moment,
-        props: list_props(alloc, kept)?,
-        metadata: request.ask().args.metadata.clone()?,
-        entries: entries_of(alloc, found, blob, wanted_in(reading))?,
+        props,
+        metadata,
+        entries,
     })
 }
 

@@ -42,6 +42,8 @@ impl Change {
         if is_change(&key, &act) {
             Some(Self { key, act })
         } else {
+            drop(act);
+            drop(key);
             None
         }
     }

@@ -52,6 +52,8 @@ impl Request {
         ensures refused { IsErr result → IsRequest (asked ask body) }
     {
         if !fits(&ask, &body) {
+            drop(body);
+            drop(ask);
             return Ok(None);
         }
         let ask = Arc::new(alloc, ask)?;

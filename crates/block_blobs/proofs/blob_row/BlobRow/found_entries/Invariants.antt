@@ -7,6 +7,7 @@ use Rattle.block_blobs.proofs.blob_row.BlobRow.found_entries.Given as goal
 -- the entries that are left give the rest of the answer, and the first entries leave the room
 abbrev pub invariant-loop-position : goal.invariant-loop-position
 invariant-loop-position l = record {
+  same : l.next ≡ l.self.uncommitted;
   so_far : l.found.items ++ found_entries l.self (drop l.position l.wanted) ≡ found_entries l.self l.wanted;
   left : Leaves l.room (sum_by (wanted_len l.self) (take l.position l.wanted));
   none_missing : position_or_len (λ w. is_none (source_of l.self w)) l.wanted ≡ l.position + position_or_len (λ w. is_none (source_of l.self w)) (drop l.position l.wanted);

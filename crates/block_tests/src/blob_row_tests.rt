@@ -1,8 +1,8 @@
 //! What no clause says of a blob: that its calls succeed if memory is left, and a few rows by hand.
 
-use crate::blob_row::BlobRow;
-use crate::block_fault::BlockFault;
 use crate::sample_blobs::{content, id, long_content, put_blob, put_block_list, set_metadata};
+use crate::sample_entries::entry;
+use block_blobs::{BlobRow, BlockFault};
 use stamp_types::{Block, Items, Lookup, Piece, Pieces, UncommittedBlock, Wanted};
 use std::alloc::Global;
 use std::process::Abort;
@@ -24,17 +24,12 @@ fn put(
     row.put_block(&id(rt, alloc, bytes), content(rt, alloc, text))
 }
 
-fn entry(rt: &impl Abort, alloc: Global, entry: Entry) -> Wanted {
-    Wanted {
-        id: id(rt, alloc, entry.1),
-        lookup: entry.0,
-    }
-}
-
 fn wanted(rt: &impl Abort, alloc: Global, entries: &[Entry]) -> Vec<Wanted> {
     let mut wanted = Vec::new(alloc);
     for wants in entries {
-        wanted.push(entry(rt, alloc, *wants)).expect(rt, "memory");
+        let (lookup, bytes) = *wants;
+        let wants = entry(lookup, id(rt, alloc, bytes));
+        wanted.push(wants).expect(rt, "memory");
     }
     wanted
 }
@@ -272,7 +267,7 @@ fn a_blob_has_at_most_50_000_uncommitted_blocks(rt: HostRuntime) {
 
 fn push(rt: &impl Abort, alloc: Global, wanted: &mut Vec<Wanted>, bytes: &'static [u8]) {
     wanted
-        .push(entry(rt, alloc, (Lookup::Latest, bytes)))
+        .push(entry(Lookup::Latest, id(rt, alloc, bytes)))
         .expect(rt, "memory");
 }
 

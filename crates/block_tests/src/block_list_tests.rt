@@ -1,10 +1,9 @@
 //! What no clause says about reading block lists: that a body can be read, and that the grammar means the reference. Each good
 //! body is beside its nearest neighbour that is refused.
 
-use crate::block_list::read_block_list;
-use crate::body_fault::BodyFault;
-use crate::body_fault::BodyFault::{Form, Id};
-use stamp_values::Lookup;
+use body_forms::BodyFault::{Form, Id};
+use body_forms::{BodyFault, read_block_list};
+use stamp_types::Lookup;
 use std::alloc::Global;
 use std::test::Fail;
 

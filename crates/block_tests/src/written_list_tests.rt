@@ -1,7 +1,7 @@
 //! What no clause says about writing block lists: that a list can be written, and bytes made outside of this repository's code.
 
-use crate::written_list::{ListedBlock, write_block_list};
-use stamp_values::{BlockId, Bytes};
+use body_forms::{ListedBlock, write_block_list};
+use stamp_types::{BlockId, Bytes};
 use std::alloc::Global;
 use std::process::Abort;
 use std::test::Fail;
