@@ -1,12 +1,13 @@
 //! What Put Block and Put Block List leave in a container as changes, which of these changes fit,
 //! and how bodies are read, against values that were written by hand.
 
-use crate::condition_tests::{content, store};
-use crate::sample_requests::{asked, body, key, moment, pics, request, text, visible};
+use crate::sample_requests::{
+    asked, body, content, key, moment, pics, props, request, store, text,
+};
 use range_rows::{BodyFault, Reading, Rows};
 use stamp_types::{
     Act, Args, Block, BlockId, Body, Bytes, Change, Code, Items, Lookup, Metadata, Op, Piece,
-    Pieces, Props, PutBlock, PutBlockList, Refusal, Request, Rule, Source, StoredBlob, Taken,
+    Pieces, PutBlock, PutBlockList, Refusal, Request, Rule, Source, StoredBlob, Taken,
     UncommittedBlock, Wanted,
 };
 use std::alloc::Global;
@@ -126,13 +127,6 @@ fn entries(rt: &impl Abort, alloc: Global, list: &[Entry]) -> Items<Taken> {
         entries.push(taken(rt, alloc, *entry)).expect(rt, "memory");
     }
     Items::new(entries)
-}
-
-fn props(rt: &impl Abort, alloc: Global) -> Props {
-    let kept = visible(rt, alloc, "text/plain");
-    let (encoding, language) = (visible(rt, alloc, ""), visible(rt, alloc, ""));
-    let cache_control = visible(rt, alloc, "");
-    Props::from_parts(kept, encoding, language, cache_control, None).expect(rt, "props")
 }
 
 fn commit(rt: &impl Abort, alloc: Global, blob: &str, list: &[Entry]) -> Act {

@@ -1,12 +1,12 @@
 //! What changes leave in containers of two accounts: counts, ETags, moments, levels, metadata and
 //! content, against values that were written by hand.
 
-use crate::sample_requests::{author, key, make, moment_after, text, visible};
+use crate::sample_requests::{author, content, key, make, moment_after, props, text};
 use range_rows::Rows;
 use stamp_types::{
     Act, Block, BlockId, Bytes, Change, Committed, CreateContainer, DeleteBlob, Items, Level,
-    Metadata, Moment, Piece, Pieces, Props, PutBlob, SetContainerMetadata, SetMetadata, Share,
-    Standing, StoredBlob, Text, UncommittedBlock,
+    Metadata, Moment, Piece, Pieces, PutBlob, SetContainerMetadata, SetMetadata, Standing,
+    StoredBlob, Text, UncommittedBlock,
 };
 use std::alloc::Global;
 use std::process::Abort;
@@ -92,20 +92,6 @@ fn name(rt: &impl Abort, alloc: Global, blob: &str) -> Text {
         long.push('\u{e9}').expect(rt, "memory");
     }
     Text::new(long).expect(rt, "a clean text")
-}
-
-fn props(rt: &impl Abort, alloc: Global) -> Props {
-    let kept = visible(rt, alloc, "text/plain");
-    let (encoding, language) = (visible(rt, alloc, ""), visible(rt, alloc, ""));
-    let cache_control = visible(rt, alloc, "");
-    Props::from_parts(kept, encoding, language, cache_control, None).expect(rt, "props")
-}
-
-fn content(rt: &impl Abort, alloc: Global, word: &str) -> Pieces {
-    let bytes = word.as_bytes().to_vec(alloc).expect(rt, "memory");
-    let share = Share::new(alloc, bytes).expect(rt, "memory");
-    let pieces = vec![in alloc; Piece::Bytes(share)].expect(rt, "memory");
-    Pieces::new(pieces).expect(rt, "a good piece")
 }
 
 fn put(rt: &impl Abort, alloc: Global, step: &Step) -> Act {

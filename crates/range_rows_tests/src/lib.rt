@@ -6,11 +6,7 @@ mod block_tests;
 #[cfg(test)]
 mod change_tests;
 #[cfg(test)]
-mod condition_tests;
-#[cfg(test)]
 mod operation_tests;
-#[cfg(test)]
-mod part_tests;
 #[cfg(test)]
 mod rows_tests;
 mod sample_parts;

@@ -4,8 +4,8 @@ use crate::sample_parts::deleted_row;
 use range_rows::Rows;
 use stamp_types::{
     Acl, Act, Args, Ask, Body, Bytes, Change, ContainerRow, Credential, FieldList, Items, Kept,
-    Key, Level, Meta, Metadata, Moment, Op, Policies, Request, Share, Signing, Standing, Text,
-    Verb, Visible,
+    Key, Level, Meta, Metadata, Moment, Op, Piece, Pieces, Policies, Props, Request, Share,
+    Signing, Standing, StoredBlob, Text, Verb, Visible,
 };
 use std::alloc::Global;
 use std::process::Abort;
@@ -40,8 +40,16 @@ pub(crate) fn body(rt: &impl Abort, alloc: Global, bytes: Vec<u8>) -> Body {
     Body::of(Share::new(alloc, bytes).expect(rt, "memory"))
 }
 
-/// The headers that a request asks to be kept: empty headers, if the operation keeps headers.
-pub(crate) fn kept(alloc: Global, op: Op) -> Option<Kept> {
+/// Content in one piece, which holds these bytes.
+pub(crate) fn content(rt: &impl Abort, alloc: Global, word: &str) -> Pieces {
+    let bytes = word.as_bytes().to_vec(alloc).expect(rt, "memory");
+    let share = Share::new(alloc, bytes).expect(rt, "memory");
+    let pieces = vec![in alloc; Piece::Bytes(share)].expect(rt, "memory");
+    Pieces::new(pieces).expect(rt, "a good piece")
+}
+
+// The headers that a request asks to be kept: empty headers, if the operation keeps headers.
+fn kept(alloc: Global, op: Op) -> Option<Kept> {
     if !op.keeps_headers() {
         return None;
     }
@@ -65,6 +73,14 @@ fn level(op: Op) -> Option<Level> {
 
 pub(crate) fn visible(rt: &impl Abort, alloc: Global, value: &str) -> Visible {
     Visible::new(text(rt, alloc, value)).expect(rt, "a visible text")
+}
+
+/// The kept headers of a blob that has a Content-Type alone.
+pub(crate) fn props(rt: &impl Abort, alloc: Global) -> Props {
+    let kept = visible(rt, alloc, "text/plain");
+    let (encoding, language) = (visible(rt, alloc, ""), visible(rt, alloc, ""));
+    let cache_control = visible(rt, alloc, "");
+    Props::from_parts(kept, encoding, language, cache_control, None).expect(rt, "props")
 }
 
 /// Metadata of one name, which has this value.
@@ -225,6 +241,13 @@ pub(crate) fn pics_and_gone(rt: &impl Abort, alloc: Global, count: u64) -> Rows 
     let mut rows = pics(rt, alloc, count);
     set_row(rt, alloc, &mut rows, "gone", deleted_row(count));
     rows
+}
+
+/// Puts the row of a blob of the container `pics` into the rows.
+pub(crate) fn store(rt: &impl Abort, alloc: Global, rows: &mut Rows, stored: StoredBlob) {
+    let key = key(rt, alloc, "pantry", "pics");
+    let change = Change::new(key, Act::StoredBlob(stored));
+    make(rt, alloc, rows, change.expect(rt, "a good row"));
 }
 
 /// Makes a change, which has to fit.

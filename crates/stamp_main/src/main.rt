@@ -97,8 +97,10 @@ mod tests {
     use crate::ending::Ending;
     use std::alloc::{AllocError, Global};
     use std::cell::Cell;
+    use std::env::FillError;
     use std::fmt::Display;
     use std::io;
+    use std::rt::Env;
     use std::test::Fail;
 
     /// A standard error that counts its lines, and knows the usage line.
@@ -202,8 +204,39 @@ mod tests {
         Ok(())
     }
 
+    /// A program's name and words, without environment variables.
+    #[derive(Drop)]
+    struct Given(&'static [&'static str]);
+
+    impl Env for Given {
+        fn arg(&self, i: usize, buf: &mut [u8]) -> Result<usize, FillError> {
+            let Some(word) = self.0.get(i) else {
+                return Err(FillError::NotPresent);
+            };
+            if word.len() > buf.len() {
+                return Err(FillError::TooLong);
+            }
+            for (to, from) in buf.iter_mut().zip(word.as_bytes()) {
+                *to = *from;
+            }
+            Ok(word.len().min(buf.len()))
+        }
+
+        fn var(&self, _name: &str, _buf: &mut [u8]) -> Result<usize, FillError> {
+            Err(FillError::NotPresent)
+        }
+
+        fn var_at(&self, _i: usize, _buf: &mut [u8]) -> Result<usize, FillError> {
+            Err(FillError::NotPresent)
+        }
+    }
+
     #[test]
-    fn words_are_read(rt: HostRuntime) {
+    fn the_words_come_after_the_name_of_the_program(rt: HostRuntime) {
         assert!(rt; read_words(&rt).is_ok());
+        let given = (Given(&["stamp", "sign", "SmVmZQ=="]), rt.alloc());
+        let words = read_words(&given).expect(&rt, "memory");
+        assert!(rt; words.len() == 2);
+        assert!(rt; words[0].as_str() == "sign" && words[1].as_str() == "SmVmZQ==");
     }
 }
