@@ -7,3 +7,4 @@ pub mod ListLemmas
 pub mod StoredBlocks
 pub mod ListFaults
 pub mod NextLemmas
+pub mod WholeLists

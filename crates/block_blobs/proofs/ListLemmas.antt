@@ -134,7 +134,7 @@ all_fail p i (x ∷ xs) none =
     let parts = none_other (p x) i (position_from p (i + 1) xs) none in
     (parts.0, all_fail p (i + 1) xs parts.1)
 
-no_place : {X : Type 0} (p : X → Bool) (i : ℕ) (xs : List X) → AllByRecursion (λ x. p x ≡ false) xs → position_from p i xs ≡ None
+pub no_place : {X : Type 0} (p : X → Bool) (i : ℕ) (xs : List X) → AllByRecursion (λ x. p x ≡ false) xs → position_from p i xs ≡ None
 no_place p i [] all = refl
 no_place p i (x ∷ xs) all = ap (λ t. cond t (Some i) (position_from p (i + 1) xs)) all.0 ∙ no_place p (i + 1) xs all.1
 

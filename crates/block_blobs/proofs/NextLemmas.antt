@@ -38,7 +38,7 @@ module _ {K X : Type 0} {R : K → K → Ordering} (o : IsTotalOrder R) where
 
 module _ {C : Type 0} (m : FinMap name_cmp C) where
   -- each entry of a map is in it
-  entries_are_blocks : AreBlocks m (entries m)
+  pub entries_are_blocks : AreBlocks m (entries m)
   entries_are_blocks =
       subst (λ (g : List ℕ → Option C). AllByRecursion (λ e. g e.0 ≡ Some e.1) (entries m)) (λ i q. sym (get-entries m q) i)
       (each_found names_total (entries m) (entries_sorted m))

@@ -1,5 +1,6 @@
 -- Block lists: where their blocks are found, and what is wrong with a list ("Put Block List" of the Blob service REST reference, 2012-02-12).
-use Rattle.std.specs.Prelude.{◌≡◌, ◌+◌, ◌<◌, ℕ, zero, suc, IsTrue, IfSome, if◌then◌else◌, nat_lt, is_some, is_none, List, [], ◌∷◌, length, Option, Some, None, find, position, flat_map, unwrap_or}
+use Rattle.std.specs.Prelude.{◌≡◌, ◌+◌, ◌<◌, ℕ, zero, suc, IsTrue, IfSome, if◌then◌else◌, nat_lt, is_some, is_none, List, [], ◌∷◌, length, Option, Some, None, find, map, position, flat_map, unwrap_or}
+use Rattle.std.specs.FinMap as finite
 use Rattle.std.specs.Option.{option_map, option_and_then, option_to_list}
 use Rattle.stamp_values.specs.Limits.{entries_limit, blob_limit}
 use Rattle.stamp_values.specs.declared.block.Lookup.{Lookup}
@@ -57,6 +58,22 @@ unfoldable pub named_blocks : {C : Type 0} → List Taken → List (Block C) →
 named_blocks [] blocks = blocks
 named_blocks (t ∷ ts) [] = []
 named_blocks (t ∷ ts) (block ∷ blocks) = block_of t.id block.content ∷ named_blocks ts blocks
+
+-- the entry that takes an uncommitted block
+abbrev pub uncommitted_taken : {C : Type 0} → List ℕ × C → Taken
+uncommitted_taken e = record { id = e.0; from = source.Uncommitted }
+
+-- the entries that take all uncommitted blocks, in the order of the ids
+abbrev pub all_entries : {C : Type 0} → Blob C → List Taken
+all_entries b = map uncommitted_taken (finite.entries b.uncommitted)
+
+-- an uncommitted block as a block of content
+abbrev pub named_block : {C : Type 0} → List ℕ × C → Block C
+named_block e = block_of e.0 e.1
+
+-- how many bytes all uncommitted blocks have together
+abbrev pub uncommitted_len : Blob (List Piece) → ℕ
+uncommitted_len b = blocks_len (map named_block (finite.entries b.uncommitted))
 
 -- how many bytes the blocks of the entries have together, each block as often as it is listed
 abbrev pub listed_len : Blob (List Piece) → List Taken → ℕ

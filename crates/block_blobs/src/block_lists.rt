@@ -38,8 +38,8 @@ pub(crate) fn total_len(blocks: &[Block<Pieces>]) -> Option<u64>
     Some(BLOB_LIMIT - left)
 }
 
-// The room that is left after one more block of so many bytes, or `None` if the room is too small for it.
-fn room_after(room: Option<u64>, len: u64) -> Option<u64>
+/// The room that is left after one more block of so many bytes, or `None` if the room is too small for it.
+pub(crate) fn room_after(room: Option<u64>, len: u64) -> Option<u64>
     ensures { (sum : ℕ) → Leaves room sum → Leaves result (sum + len) }
 {
     room?.checked_sub(len)
@@ -88,8 +88,8 @@ impl BlobRow {
         }
     }
 
-    // Says that each block that a list may take is in one piece.
-    fn keeps_pieces(&self)
+    /// Says that each block that a list may take is in one piece.
+    pub(crate) fn keeps_pieces(&self)
         ensures { EachInOnePiece self.now }
     {
         self.uncommitted_blocks().keeps_limits();
@@ -248,15 +248,15 @@ impl BlobRow {
         Ok(named(entries, blocks))
     }
 
-    // The blocks of the entries with how many bytes they have, or the fault of the list.
+    /// The blocks of the entries with how many bytes they have, or the fault of the list.
     #[tactic(auto, using(crate::proofs::ListLemmas::are_blocks_taken))]
-    fn listed(
+    pub(crate) fn listed(
         &self,
         alloc: Global,
         entries: Vec<Taken>,
     ) -> Result<(Vec<Block<Pieces>>, u64), BlockFault>
         ensures value { IfOk result (λ p. p.0.items ≡ taken_blocks self.now entries.items) }
-        ensures len { IfOk result (λ p. p.1 ≡ lists.listed_len self.now entries.items) }
+        ensures len { IfOk result (λ p. p.1 ≡ blocks_len p.0.items) }
         ensures valid { IfOk result (λ p. IsTrue (are_blocks p.0.items)) }
         ensures fits { OnOk result (lists.taken_fault self.now entries.items ≡ None) }
         ensures fault { IfErr result (IsFault (lists.taken_fault self.now entries.items)) }
@@ -275,7 +275,7 @@ impl BlobRow {
 
     /// Makes the blocks of the entries the content, in their order, with kept headers and metadata of
     /// the Put Block List and `count` as the ETag. Nothing of the old committed part stays, and no
-    /// uncommitted block. No byte of content is copied, and the ids of the list move.
+    /// uncommitted block. No byte of content is copied, and no id.
     ///
     /// The faults are those of `resolve`, over entries that say where their blocks are. After a
     /// fault the blob is as it was.
@@ -304,7 +304,7 @@ impl BlobRow {
             metadata,
             entries,
         } = list;
-        let (blocks, len) = self.listed(alloc, entries.into_vec())?;
+        let (blocks, len) = self.take_listed(alloc, entries.into_vec())?;
         let committed = Committed {
             etag: count,
             made: moment,

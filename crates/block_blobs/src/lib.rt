@@ -10,6 +10,7 @@ mod laws;
 mod list_faults;
 mod next_blocks;
 mod uncommitted;
+mod whole_lists;
 
 pub use blob_row::BlobRow;
 pub use block_fault::BlockFault;

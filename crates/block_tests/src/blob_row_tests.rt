@@ -117,6 +117,25 @@ fn a_list_is_committed_whole_or_not_at_all(rt: HostRuntime) {
     assert_eq!(rt; row.len(), 0);
 }
 
+// What a list takes of the two blocks `AAAA`, `one`, and `BBBB`, `two`.
+fn takes(rt: &impl Abort, alloc: Global, entries: &[Entry], texts: &[&str]) {
+    let mut row = BlobRow::new(alloc);
+    puts(rt, alloc, &mut row, B, "two");
+    puts(rt, alloc, &mut row, A, "one");
+    commits(rt, alloc, &mut row, entries, texts);
+}
+
+#[test]
+fn a_list_takes_the_blocks_that_it_names_in_its_order(rt: HostRuntime) {
+    let alloc = rt.alloc();
+    let (a, b): (Entry, Entry) = ((Lookup::Latest, A), (Lookup::Uncommitted, B));
+    takes(&rt, alloc, &[a, b], &["one", "two"]);
+    takes(&rt, alloc, &[a], &["one"]);
+    takes(&rt, alloc, &[b], &["two"]);
+    takes(&rt, alloc, &[b, a], &["two", "one"]);
+    takes(&rt, alloc, &[a, b, a], &["one", "two", "one"]);
+}
+
 // A blob whose block `AAAA` is committed as `old`, and uncommitted as `new`.
 fn old_and_new(rt: &impl Abort, alloc: Global) -> BlobRow {
     let mut row = BlobRow::new(alloc);

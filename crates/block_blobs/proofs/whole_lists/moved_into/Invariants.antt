@@ -1,0 +1,13 @@
+use Rattle.std.proofs.Common.{◌≡◌, ◌≤◌, ◌+◌, ◌++◌, length, map, vec_len, vec_capacity}
+use Rattle.block_blobs.specs.BlockLists.{named_block}
+use Rattle.block_blobs.proofs.whole_lists.moved_into.Given as goal
+
+-- the blocks that are left complete the list, and there is room for them
+abbrev pub invariant-loop-id : goal.invariant-loop-id
+invariant-loop-id l = record {
+  so_far : l.list.items ++ map named_block l.later ≡ map named_block l.fn.blocks;
+  room : vec_len l.list + length l.later ≤ vec_capacity l.list;
+}
+
+abbrev pub decreases-loop-id : goal.decreases-loop-id
+decreases-loop-id l = length l.later
