@@ -67,13 +67,9 @@ uncommitted_taken e = record { id = e.0; from = source.Uncommitted }
 abbrev pub all_entries : {C : Type 0} → Blob C → List Taken
 all_entries b = map uncommitted_taken (finite.entries b.uncommitted)
 
--- an uncommitted block as a block of content
-abbrev pub named_block : {C : Type 0} → List ℕ × C → Block C
-named_block e = block_of e.0 e.1
-
--- how many bytes all uncommitted blocks have together
-abbrev pub uncommitted_len : Blob (List Piece) → ℕ
-uncommitted_len b = blocks_len (map named_block (finite.entries b.uncommitted))
+-- the block of content that an uncommitted block becomes, with its id
+abbrev pub block_of_entry : {C : Type 0} → List ℕ × C → Block C
+block_of_entry e = block_of e.0 e.1
 
 -- how many bytes the blocks of the entries have together, each block as often as it is listed
 abbrev pub listed_len : Blob (List Piece) → List Taken → ℕ

@@ -38,8 +38,8 @@ pub(crate) fn total_len(blocks: &[Block<Pieces>]) -> Option<u64>
     Some(BLOB_LIMIT - left)
 }
 
-/// The room that is left after one more block of so many bytes, or `None` if the room is too small for it.
-pub(crate) fn room_after(room: Option<u64>, len: u64) -> Option<u64>
+// The room that is left after one more block of so many bytes, or `None` if the room is too small for it.
+fn room_after(room: Option<u64>, len: u64) -> Option<u64>
     ensures { (sum : ℕ) → Leaves room sum → Leaves result (sum + len) }
 {
     room?.checked_sub(len)

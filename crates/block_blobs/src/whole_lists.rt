@@ -1,24 +1,24 @@
 //! Lists of all uncommitted blocks in the order of their ids. The blocks of such a list move into the
 //! content: no id is looked up, and no content gets one more owner.
-ghost use Rattle.std.specs.Prelude.{◌≡◌, ◌≢◌, ◌≤◌, IsTrue, IfOk, IfErr, OnOk, OnErr, MatchOption, None, [], length, map, vec_capacity};
+ghost use Rattle.std.specs.Prelude.{◌≡◌, ◌<◌, ◌≤◌, IsTrue, IfOk, IfErr, OnOk, OnErr, MatchOption, None, [], length, map, vec_capacity};
+ghost use Rattle.stamp_values.specs.Limits.{blob_limit, entries_limit};
 ghost use Rattle.stamp_types.specs.Changes.{are_blocks, blocks_len};
 ghost use Rattle.stamp_types.specs.World.{taken_blocks};
 ghost use Rattle.block_blobs.specs.BlockLists as lists;
-ghost use Rattle.block_blobs.specs.BlockLists.{Leaves, all_entries, named_block, uncommitted_len};
+ghost use Rattle.block_blobs.specs.BlockLists.{all_entries, listed_len, block_of_entry};
 ghost use Rattle.block_blobs.specs.Faults.{IsFault};
 
 use crate::blob_row::BlobRow;
 use crate::block_fault::BlockFault;
-use crate::block_lists::room_after;
 use stamp_types::{BLOB_LIMIT, Block, BlockId, Pieces, Source, Taken};
-use std::alloc::Global;
+use std::alloc::{AllocError, Global};
 use std::collections::btree_map::IntoIter;
 
-// The list with the blocks in their order, each with its id. The list is empty and has room for them.
+// Moves the blocks, each with its id, into a list that is empty and has room for them.
 fn moved_into(list: Vec<Block<Pieces>>, blocks: IntoIter<BlockId, Pieces>) -> Vec<Block<Pieces>>
     requires empty { list.items ≡ [] }
     requires room { length blocks ≤ vec_capacity list }
-    ensures { result.items ≡ map named_block blocks }
+    ensures { result.items ≡ map block_of_entry blocks }
 {
     let mut later = blocks;
     let mut list = list;
@@ -32,51 +32,40 @@ fn moved_into(list: Vec<Block<Pieces>>, blocks: IntoIter<BlockId, Pieces>) -> Ve
 }
 
 impl BlobRow {
-    // How much room all uncommitted blocks leave of 268,435,456 bytes, if the entries name all of them
-    // in the order of their ids. The room is `None` if the blocks have more bytes.
-    fn room_after_all(&self, entries: &[Taken]) -> Option<Option<u64>>
-        ensures { MatchOption result (entries.now ≢ all_entries self.now) (λ room.
-            (entries.now ≡ all_entries self.now) × Leaves room (uncommitted_len self.now)) }
+    // How many bytes all uncommitted blocks have together, if the entries name all of them in the order
+    // of their ids, and if they have at most 268,435,456 bytes.
+    fn len_of_all(&self, entries: &[Taken]) -> Option<u64>
+        ensures { MatchOption result
+            (entries.now ≡ all_entries self.now → blob_limit < listed_len self.now entries.now)
+            (λ len. (entries.now ≡ all_entries self.now)
+            × (len ≡ listed_len self.now entries.now) × (len ≤ blob_limit)) }
     {
         let mut later = self.uncommitted();
-        let mut room = Some(BLOB_LIMIT);
+        let mut left = BLOB_LIMIT;
         for entry in entries {
-            match later.next() {
-                Some((id, content)) if entry.from == Source::Uncommitted && entry.id == *id => {
-                    room = room_after(room, content.len());
-                }
-                _ => return None,
+            let (id, content) = later.next()?;
+            if entry.from != Source::Uncommitted || entry.id != *id {
+                return None;
             }
+            left = left.checked_sub(content.len())?;
         }
         match later.next() {
             Some(_) => None,
-            None => Some(room),
+            None => Some(BLOB_LIMIT - left),
         }
     }
 
-    // Takes all uncommitted blocks out of the blob, in the order of their ids, with how many bytes they
-    // have. After a fault the blob is as it was.
-    fn take_all(
-        &mut self,
-        alloc: Global,
-        room: Option<u64>,
-    ) -> Result<(Vec<Block<Pieces>>, u64), BlockFault>
-        requires { Leaves room (uncommitted_len self.old) }
-        ensures value { IfOk result (λ p. p.0.items ≡ taken_blocks self.old (all_entries self.old)) }
-        ensures len { IfOk result (λ p. p.1 ≡ blocks_len p.0.items) }
-        ensures valid { IfOk result (λ p. IsTrue (are_blocks p.0.items)) }
-        ensures fits { OnOk result (lists.taken_fault self.old (all_entries self.old) ≡ None) }
-        ensures fault { IfErr result (IsFault (lists.taken_fault self.old (all_entries self.old))) }
+    // Takes all uncommitted blocks out of the blob, in the order of their ids. If memory runs out for the
+    // list, the blob is as it was.
+    fn take_all(&mut self, alloc: Global) -> Result<Vec<Block<Pieces>>, AllocError>
+        ensures value { IfOk result (λ list.
+            list.items ≡ taken_blocks self.old (all_entries self.old)) }
+        ensures count { IfOk result (λ _. length (all_entries self.old) ≤ entries_limit) }
         ensures refused { OnErr result (self.new ≡ self.old) }
     {
-        self.keeps_pieces();
-        let count = self.uncommitted_len();
-        let Some(room) = room else {
-            return Err(BlockFault::TooLarge);
-        };
-        let list = Vec::with_capacity(alloc, count)?;
+        let list = Vec::with_capacity(alloc, self.uncommitted_len())?;
         let blocks = self.take_uncommitted(alloc);
-        Ok((moved_into(list, blocks), BLOB_LIMIT - room))
+        Ok(moved_into(list, blocks))
     }
 
     /// Takes the blocks of the entries for the content, with how many bytes they have. The uncommitted
@@ -95,8 +84,9 @@ impl BlobRow {
         ensures fault { IfErr result (IsFault (lists.taken_fault self.old entries.items)) }
         ensures refused { OnErr result (self.new ≡ self.old) }
     {
-        match self.room_after_all(&entries) {
-            Some(room) => self.take_all(alloc, room),
+        self.keeps_pieces();
+        match self.len_of_all(&entries) {
+            Some(len) => Ok((self.take_all(alloc)?, len)),
             None => self.listed(alloc, entries),
         }
     }

@@ -1,11 +1,11 @@
 use Rattle.std.proofs.Common.{◌≡◌, ◌≤◌, ◌+◌, ◌++◌, length, map, vec_len, vec_capacity}
-use Rattle.block_blobs.specs.BlockLists.{named_block}
+use Rattle.block_blobs.specs.BlockLists.{block_of_entry}
 use Rattle.block_blobs.proofs.whole_lists.moved_into.Given as goal
 
 -- the blocks that are left complete the list, and there is room for them
 abbrev pub invariant-loop-id : goal.invariant-loop-id
 invariant-loop-id l = record {
-  so_far : l.list.items ++ map named_block l.later ≡ map named_block l.fn.blocks;
+  so_far : l.list.items ++ map block_of_entry l.later ≡ map block_of_entry l.fn.blocks;
   room : vec_len l.list + length l.later ≤ vec_capacity l.list;
 }
 
