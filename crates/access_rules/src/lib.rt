@@ -7,12 +7,6 @@ mod keys;
 mod laws;
 mod needs;
 mod parts;
-#[cfg(test)]
-mod rule_tests;
-#[cfg(test)]
-mod slow_rules;
-#[cfg(test)]
-mod test_requests;
 
 pub use judge::verdict;
 pub use judgement::{Verdict, Way};

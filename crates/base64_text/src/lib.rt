@@ -2,7 +2,5 @@
 #![tactic(auto)]
 
 mod reading;
-#[cfg(test)]
-mod reading_tests;
 
 pub use reading::{append_base64, decoded_base64, is_base64_within};

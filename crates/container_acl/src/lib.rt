@@ -1,8 +1,6 @@
 //! What a container says about who may read it without a key.
 #![tactic(auto)]
 
-#[cfg(test)]
-mod level_tests;
 mod public_access;
 
 pub use public_access::permits;

@@ -10,6 +10,8 @@ mod connection_tests;
 #[cfg(test)]
 mod head_tests;
 #[cfg(test)]
+mod name_tests;
+#[cfg(test)]
 mod range_tests;
 #[cfg(test)]
 mod reply_tests;

@@ -6,8 +6,6 @@ mod laws;
 mod secret;
 mod signature;
 mod signing_key;
-#[cfg(test)]
-mod vector_tests;
 
 pub use code::hmac;
 pub use laws::different_bytes_have_different_texts;

@@ -6,8 +6,6 @@ mod digits;
 mod fault;
 mod http_date;
 mod iso;
-#[cfg(test)]
-mod text_tests;
 
 pub use fault::TimeFault;
 pub use http_date::{read_http, write_http};

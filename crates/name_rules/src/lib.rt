@@ -3,8 +3,6 @@
 
 mod blob_names;
 mod escapes;
-#[cfg(test)]
-mod name_tests;
 mod names;
 
 pub use blob_names::{NameFault, blob_name, blob_text};

@@ -199,13 +199,13 @@ fn resident(rt: &HostRuntime) -> Option<u64> {
     count
 }
 
-const MIB: usize = 1024 * 1024;
+const QUARTER_MIB: usize = 256 * 1024;
 
-// One body of 1 MiB under a hundred names, and a hundred answers with it, all owned at once.
+// One body of 256 KiB under a hundred names, and a hundred answers with it, all owned at once.
 #[test]
 fn rows_and_answers_share_a_body(rt: HostRuntime) {
     let alloc = rt.alloc();
-    let body = body(&rt, alloc, vec![in alloc; 7; MIB].expect(&rt, "memory"));
+    let body = body(&rt, alloc, vec![in alloc; 7; QUARTER_MIB].expect(&rt, "memory"));
     let mut rows = pics(&rt, alloc, 1);
     let mut answers = Vec::new(alloc);
     let before = resident(&rt).expect(&rt, "a status");
@@ -213,7 +213,7 @@ fn rows_and_answers_share_a_body(rt: HostRuntime) {
         let name = name(&rt, alloc, number);
         let body = body.share().expect(&rt, "memory");
         put(&rt, alloc, &mut rows, name.as_str(), body, Way::Moved);
-        let spans = read(&rt, alloc, &rows, name.as_str(), MIB as u64);
+        let spans = read(&rt, alloc, &rows, name.as_str(), QUARTER_MIB as u64);
         answers.push(spans).expect(&rt, "memory");
     }
     let more = resident(&rt).expect(&rt, "a status").saturating_sub(before);

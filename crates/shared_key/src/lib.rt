@@ -5,8 +5,6 @@ mod authorization;
 mod headers;
 mod laws;
 mod query;
-#[cfg(test)]
-mod string_tests;
 mod strings;
 
 pub use authorization::{Authorization, HeaderFault, read_authorization};

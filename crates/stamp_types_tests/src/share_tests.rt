@@ -7,7 +7,7 @@ use stamp_types::{Body, Gathering, Share};
 use std::alloc::Global;
 use std::process::Abort;
 
-const HOLDS: usize = 16 * 1024 * 1024;
+const HOLDS: usize = 1024 * 1024;
 
 // RFC 1321, appendix A.5.
 const SUM_OF_NOTHING: [u8; 16] = [
@@ -126,7 +126,7 @@ fn shares_take_no_memory(rt: HostRuntime) {
     let body = Body::of(long_share(&rt, alloc, HOLDS));
     assert!(rt; body.len() == HOLDS);
     let before = resident(&rt).expect(&rt, "a status");
-    assert!(rt; before >= 16 * 1024, "the body isn't counted");
+    assert!(rt; before >= 1024, "the body isn't counted");
     let mut bodies = Vec::new(alloc);
     let mut slices = Vec::new(alloc);
     for i in 0..1000 {

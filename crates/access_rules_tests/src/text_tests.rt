@@ -1,6 +1,6 @@
 //! Texts of times, compared with values from elsewhere.
 
-use crate::{TimeFault, read_http, read_iso, write_http};
+use moment_text::{TimeFault, read_http, read_iso, write_http};
 use stamp_values::Moment;
 
 fn iso(text: &str) -> Option<u64> {

@@ -1,6 +1,6 @@
 //! What no clause says: that each call can succeed. The texts are those of RFC 4648, section 10, and their nearest neighbours.
 
-use crate::reading::{append_base64, decoded_base64, is_base64_within};
+use base64_text::{append_base64, decoded_base64, is_base64_within};
 use std::test::Fail;
 
 #[test]

@@ -1,6 +1,6 @@
 //! Strings to sign, written out by hand from the reference.
 
-use crate::strings::key_string;
+use shared_key::key_string;
 use stamp_values::{Bytes, FieldList, Signing, Verb};
 use std::alloc::Global;
 use std::process::Abort;

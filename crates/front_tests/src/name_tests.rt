@@ -1,8 +1,7 @@
 //! Names at the limits of the reference (Blob service REST reference, 2012-02-12, Naming and Referencing Containers, Blobs, and
 //! Metadata), written out by hand. Which characters are control characters is this product's choice.
 
-use crate::blob_names::{NameFault, blob_name};
-use crate::names::{account_ok, container_ok};
+use name_rules::{NameFault, account_ok, blob_name, container_ok};
 use std::alloc::Global;
 use std::process::Abort;
 

@@ -1,5 +1,5 @@
 //! Published vectors, and texts that are not a key.
-use crate::{SecretFault, SigningKey, hmac, read_key, sign};
+use hmac_sign::{SecretFault, SigningKey, hmac, read_key, sign};
 use sha2::{Digest, Sha256};
 use std::alloc::Global;
 use std::process::Abort;

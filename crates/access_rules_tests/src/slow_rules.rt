@@ -1,7 +1,7 @@
 //! The rules of permission once more, for tests: each rule is judged by itself, from what was sent.
 
 use crate::test_requests::{ACCOUNT, Case, Sent};
-use crate::{Verdict, Way};
+use access_rules::{Verdict, Way};
 use moment_text::read_http;
 use stamp_types::{BlockKinds, Level, Op, Rule};
 

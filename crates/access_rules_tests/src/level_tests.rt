@@ -1,6 +1,6 @@
 //! That the order of the levels is the order of the reference.
 
-use crate::{Acl, permits};
+use container_acl::{Acl, permits};
 use stamp_values::{Level, Policies};
 
 // The container's level, the level needed, and whether the container permits what needs this level.

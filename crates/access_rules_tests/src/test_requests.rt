@@ -1,11 +1,12 @@
 //! Cases for tests: what was sent, what the stamp has, and the verdict.
 
-use crate::{Keys, Verdict, verdict};
+use crate::sample_parts::page;
+use access_rules::{Keys, Verdict, verdict};
 use container_acl::Acl;
 use hmac_sign::SigningKey;
 use stamp_types::{
     Args, Ask, BlockId, BlockKinds, Body, Bytes, Credential, FieldList, Items, Kept, Key, Level,
-    Moment, Op, PAGE_LIMIT, Page, Policies, Request, Signing, Text, Verb, Visible,
+    Moment, Op, Policies, Request, Signing, Text, Verb, Visible,
 };
 use std::alloc::Global;
 use std::process::Abort;
@@ -97,16 +98,6 @@ fn kept(alloc: Global) -> Kept {
         language: Visible::empty(alloc),
         cache_control: Visible::empty(alloc),
         md5: None,
-    }
-}
-
-fn page() -> Page {
-    Page {
-        prefix: None,
-        delimiter: None,
-        marker: None,
-        max: PAGE_LIMIT,
-        metadata: false,
     }
 }
 

@@ -3,7 +3,7 @@
 
 use crate::slow_rules::slow_verdict;
 use crate::test_requests::{ACCOUNT, Case, Dated, Sent, case_verdict};
-use crate::{Letter, Need, Verdict, Way, need_of};
+use access_rules::{Letter, Need, Verdict, Way, need_of};
 use stamp_types::{BlockKinds, Level, Op, Rule};
 use std::alloc::Global;
 use std::process::Abort;
