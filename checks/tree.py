@@ -6,6 +6,7 @@ import shutil
 import signal
 import subprocess
 import tempfile
+import threading
 from contextlib import contextmanager
 from pathlib import Path
 
@@ -48,9 +49,23 @@ def digest_of_program(root=ROOT):
     return digest_of(with_crates_below([PROGRAM]), SOURCES, (root / "HANDLES").read_text(encoding="utf-8"), root)
 
 
-def edits_of(name, root=ROOT):
-    """The must-fail edits of a crate of a tree."""
+def edit_files(name, root=ROOT):
+    """The files of the must-fail edits of a crate of a tree."""
     return sorted((root / "crates" / name / "must-fail").glob("*.edit"))
+
+
+def tests_in(name, root=ROOT):
+    """How many test functions a crate of a tree has."""
+    files = (root / "crates" / name / "src").rglob("*.rt")
+    return sum(len(re.findall(r"^\s*#\[test\]", it.read_text(encoding="utf-8"), re.M)) for it in files)
+
+
+def crates_of_tests(root=ROOT):
+    """The crates that hold only tests: libraries with tests on which no crate depends, in the order of crates.txt."""
+    lines = lines_of_crates(root)
+    below = {it for line in lines.values() for it in line.partition(":")[2].split()}
+    is_library = lambda name: (root / "crates" / name / "src" / "lib.rt").is_file()
+    return [name for name in lines if name not in below and is_library(name) and tests_in(name, root)]
 
 
 def end_on_signal(number, _frame):
@@ -62,8 +77,9 @@ def copy_of_tree(crates, with_edits):
     """A copy of the tree, outside of it, that has these crates alone, and the must-fail edits of some of them alone.
 
     It is removed at the end, whatever ends this run, so that the tree stays as it is."""
-    for number in (signal.SIGTERM, signal.SIGHUP):
-        signal.signal(number, end_on_signal)
+    if threading.current_thread() is threading.main_thread():
+        for number in (signal.SIGTERM, signal.SIGHUP):
+            signal.signal(number, end_on_signal)
 
     def left_out(folder, names):
         at = Path(folder)
@@ -83,12 +99,13 @@ def copy_of_tree(crates, with_edits):
 
 
 def proofs_at_once():
-    """How many proofs may run at a time: one for each processor and each 4 GB of memory that is free."""
+    """How many proofs may run at a time: as many as RT_JOBS says, or one for each processor and each 4 GB of memory that is free."""
     free = int(re.search(r"MemAvailable:\s+(\d+) kB", Path("/proc/meminfo").read_text()).group(1)) * 1024
     limit = Path("/sys/fs/cgroup/memory.max")
     if limit.is_file() and limit.read_text().strip().isdigit():
         free = min(free, int(limit.read_text()))
-    return max(1, min(len(os.sched_getaffinity(0)), free // 4_000_000_000))
+    wanted = os.environ.get("RT_JOBS", "")
+    return int(wanted) if wanted.isdigit() and int(wanted) else max(1, min(len(os.sched_getaffinity(0)), free // 4_000_000_000))
 
 
 def prove(copy, hear):

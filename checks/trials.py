@@ -1,0 +1,203 @@
+"""Tries must-fail edits on a copy of the tree whose crates were proved: edits of code together in one check, all others alone.
+
+The prover judges each function by itself, and the proof of a caller rests on the clauses of what it calls. So edits of different functions
+can be made at once: each has to be refused at a goal or at an answer of a function that it edits itself.
+"""
+import importlib.machinery
+import importlib.util
+import os
+import re
+import resource
+import subprocess
+import tempfile
+import threading
+from concurrent.futures import ThreadPoolExecutor
+from pathlib import Path
+
+import edits
+import tree
+
+FLAGS = ["--jobs", "1"]
+# What an edit is likely to take of the proof of its crate, if another edit of the crate was tried before it.
+LATER = 0.3
+JUDGED = re.compile(r"(fn|impl|struct|enum|trait) \S+: ")
+REFUSED = re.compile(r"fn (\S+): (?:not proved(?!;)|no proof: expected answers in )")
+GOAL = re.compile(r"note: src/\S+?:\d+:\d+: ")
+ANSWER = re.compile(r"(?:\./)?proofs/(\S+)/(?:Answers|Invariants|Proof)\.antt:\d+:\d+: error")
+# What the prover says of a proof file that names what an edit took away, which says nothing of the contract.
+GONE = re.compile(r"has no field|is not in scope|has no `|was not admitted")
+
+
+def toolchain():
+    """The module of the toolchain's command `rt`, whose calls make and check an edited copy of a crate."""
+    guide = subprocess.run(["rt", "doc"], stdout=subprocess.PIPE, text=True, check=True).stdout.strip()
+    file = Path(guide).parent / "bin" / "rt"
+    loader = importlib.machinery.SourceFileLoader("rt", str(file))
+    rt = importlib.util.module_from_spec(importlib.util.spec_from_loader("rt", loader))
+    loader.exec_module(rt)
+    rt.rtlib.Crate = rt.Crate
+    # Its first call sets the handler of a signal, which only the main thread may do.
+    rt.rtlib.guarded()
+    return rt
+
+
+def at_once(found, texts):
+    """The edits of code of a crate in lists that are tried in one check each, with the functions of each edit; and the edits that are tried alone.
+
+    No two edits of a list turn one function, and no edit of a list takes away the text that another one turns."""
+    lists, alone = [], []
+    for edit in found:
+        functions = edit.functions(texts)
+        if functions is None or edit.applied(texts) is None:
+            alone.append(edit)
+            continue
+        for at, (made, taken) in enumerate(lists):
+            new = edit.applied(made)
+            if new is not None and not functions & {it for other in taken.values() for it in other}:
+                lists[at] = new, {**taken, edit: functions}
+                break
+        else:
+            lists.append((edit.applied(texts), {edit: functions}))
+    return lists, alone
+
+
+def refused_in(said, crate):
+    """The functions of a crate, by their paths, that a check refused at a goal or at an answer of their own; None if it cannot be read."""
+    lines = said.rstrip("\n").split("\n")
+    if not lines[-1].startswith("logic=not-proved"):
+        return None
+    found, has_goal, answered = set(), False, set()
+    for line in lines:
+        answer = ANSWER.match(line)
+        if answer and not GONE.search(line):
+            answered.add(answer[1].replace("/", "::"))
+        has_goal = has_goal or bool(GOAL.match(line))
+        if JUDGED.match(line):
+            function = REFUSED.match(line)
+            path = function[1].removeprefix(f"{crate}::") if function else ""
+            if function and (has_goal or path in answered):
+                found.add(path)
+            # The goals of an item come before its own line.
+            has_goal = False
+    return found
+
+
+class Budget:
+    """The processor time that checks of edits may take together, in seconds, or None for as much as they need.
+
+    A check begins only if what the checks before it took, and what those that run and this one are likely to take, fits."""
+
+    def __init__(self, seconds, likely):
+        self.seconds, self.likely = seconds, likely
+        self.lock, self.running, self.started = threading.Lock(), [], self.of_children()
+
+    @staticmethod
+    def of_children():
+        used = resource.getrusage(resource.RUSAGE_CHILDREN)
+        return used.ru_utime + used.ru_stime
+
+    def used(self):
+        return self.of_children() - self.started
+
+    def begin(self, crate, share=1):
+        """Whether a check that takes this share of the proof of a crate may begin; `end` has to follow."""
+        cost = share * self.likely[crate]
+        with self.lock:
+            used = self.used() + sum(self.running)
+            if self.seconds is not None and used and used + cost > self.seconds:
+                return False
+            self.running.append(cost)
+            return True
+
+    def end(self, crate, share=1):
+        with self.lock:
+            self.running.remove(share * self.likely[crate])
+
+
+def digests_of(found, copy):
+    """The digests of edits, of the files of a copy of the tree."""
+    of_crates = {crate: edits.Digests(crate, copy) for crate in {it.crate for it in found}}
+    return {edit: of_crates[edit.crate].of(edit) for edit in found}
+
+
+class Trials:
+    """Trials of edits on a copy of the tree: which edits were tried, and whether each of them was refused."""
+
+    def __init__(self, copy, budget):
+        self.rt, self.copy, self.budget = toolchain(), copy, budget
+        self.crates = {it.name: it for it in self.rt.rtlib.crates_below(str(copy))}
+        self.refused, self.telling = {}, threading.Lock()
+
+    def tell(self, edit, is_refused, how):
+        with self.telling:
+            self.refused[edit] = is_refused
+            print(f"prove: must-fail {edit}: {'refused' if is_refused else 'NOT REFUSED'}, {how}", flush=True)
+
+    def try_together(self, crate, texts, functions):
+        """Tries the edits of a list in one check, and returns those that it does not show to be refused."""
+        if not self.budget.begin(crate):
+            return []
+        try:
+            changed = {path: text for path, text in texts.items() if path.startswith("src/")}
+            ran = self.rt.checked(self.crates[crate], changed, FLAGS, None)
+        finally:
+            self.budget.end(crate)
+        found = refused_in(ran.stdout, crate) if ran.returncode == 1 else None
+        if found is None:
+            print(f"prove: {crate}: {len(functions)} edits were made at once, and the check cannot be read: they are tried alone", flush=True)
+            return [*functions]
+        for edit, of_edit in functions.items():
+            if of_edit & found:
+                self.tell(edit, True, f"at a goal of {min(of_edit & found)}")
+        return [edit for edit, of_edit in functions.items() if not of_edit & found]
+
+    def try_alone(self, crate, found):
+        """Tries edits of a crate one after the other, each over what the checks before it proved.
+
+        If the crate itself is not proved over that, or if an edit was not refused, the edit is tried again from nothing, as `rt must-fail` does."""
+        tried = {}
+        with tempfile.TemporaryDirectory(prefix="stamp-edits-") as room:
+            kept = f"{room}/kept"
+            os.mkdir(kept)
+
+            def try_one(edit, kept=None):
+                file = Path(room) / f"{edit.name}.edit"
+                file.write_text(edit.text(), encoding="utf-8")
+                return self.rt.must_fail(self.crates[crate], str(file), FLAGS, kept)
+
+            for edit in found:
+                share = LATER if tried else 1
+                if not self.budget.begin(crate, share):
+                    break
+                try:
+                    tried[edit] = try_one(edit, kept)
+                finally:
+                    self.budget.end(crate, share)
+            is_sound = len(tried) < 2 or not self.rt.checked(self.crates[crate], {}, FLAGS, kept).returncode
+            for edit, (is_refused, said) in tried.items():
+                if not (is_sound and is_refused) and len(tried) > 1:
+                    is_refused, said = try_one(edit)
+                self.tell(edit, is_refused, f"alone: {said.partition(': ')[2]}")
+
+    def try_all(self, found, are_some_alone=True):
+        """Tries edits, those of a crate that comes first in the list before those of others, as many at a time as there is room for.
+
+        If no edit is to be tried alone, only what is shown together is."""
+        by_crate = {}
+        for edit in found:
+            by_crate.setdefault(edit.crate, []).append(edit)
+        with ThreadPoolExecutor(tree.proofs_at_once()) as pool:
+            together, alone = [], []
+
+            def try_rest(crate, rest):
+                if rest and are_some_alone:
+                    alone.append(pool.submit(self.try_alone, crate, rest))
+
+            for crate, of_crate in by_crate.items():
+                lists, rest = at_once(of_crate, edits.texts_of(crate, self.copy))
+                together += [(crate, pool.submit(self.try_together, crate, *it)) for it in lists]
+                try_rest(crate, rest)
+            for crate, trial in together:
+                try_rest(crate, trial.result())
+            for trial in alone:
+                trial.result()
