@@ -3,7 +3,7 @@
 use stamp_types::Rule;
 
 /// The route by which a request was allowed. It is the route of its credential.
-#[derive(Clone, Copy, Debug, PartialEq, Eq)]
+#[derive(Clone, Copy, PartialEq, Eq)]
 pub enum Way {
     /// By an account's key (Authorization: SharedKey).
     Shared,
@@ -14,7 +14,7 @@ pub enum Way {
 }
 
 /// Whether a request may be served.
-#[derive(Clone, Copy, Debug, PartialEq, Eq)]
+#[derive(Clone, Copy, PartialEq, Eq)]
 pub enum Verdict {
     /// It may be served, by this route.
     Allow(Way),

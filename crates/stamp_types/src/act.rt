@@ -9,26 +9,26 @@ use crate::standing::Standing;
 use stamp_values::{Acl, BlockId, Items, Level, Metadata, Moment, Taken, Text};
 use std::alloc::AllocError;
 
-#[derive(Clone, Debug, PartialEq, Eq, Drop)]
+#[derive(Clone, PartialEq, Eq, Drop)]
 pub struct CreateContainer {
     pub moment: Moment,
     pub level: Level,
     pub metadata: Metadata,
 }
 
-#[derive(Clone, Debug, PartialEq, Eq, Drop)]
+#[derive(Clone, PartialEq, Eq, Drop)]
 pub struct SetContainerMetadata {
     pub moment: Moment,
     pub metadata: Metadata,
 }
 
-#[derive(Clone, Debug, PartialEq, Eq, Drop)]
+#[derive(Clone, PartialEq, Eq, Drop)]
 pub struct SetAcl {
     pub moment: Moment,
     pub acl: Acl,
 }
 
-#[derive(Clone, Debug, PartialEq, Eq, Drop)]
+#[derive(Clone, PartialEq, Eq, Drop)]
 pub struct PutBlob {
     pub blob: Text,
     pub moment: Moment,
@@ -37,19 +37,19 @@ pub struct PutBlob {
     pub content: Pieces,
 }
 
-#[derive(Clone, Debug, PartialEq, Eq, Drop)]
+#[derive(Clone, PartialEq, Eq, Drop)]
 pub struct SetMetadata {
     pub blob: Text,
     pub moment: Moment,
     pub metadata: Metadata,
 }
 
-#[derive(Clone, Debug, PartialEq, Eq, Drop)]
+#[derive(Clone, PartialEq, Eq, Drop)]
 pub struct DeleteBlob {
     pub blob: Text,
 }
 
-#[derive(Clone, Debug, PartialEq, Eq, Drop)]
+#[derive(Clone, PartialEq, Eq, Drop)]
 pub struct PutBlock {
     pub blob: Text,
     pub id: BlockId,
@@ -57,7 +57,7 @@ pub struct PutBlock {
 }
 
 /// The new content is the blocks that `entries` name, in the order of the entries.
-#[derive(Clone, Debug, PartialEq, Eq, Drop)]
+#[derive(Clone, PartialEq, Eq, Drop)]
 pub struct PutBlockList {
     pub blob: Text,
     pub moment: Moment,
@@ -68,7 +68,7 @@ pub struct PutBlockList {
 
 /// The row of a container in a checkpoint: what the container has beside its blobs. `count` is the
 /// number of changes that the container has seen so far, even if the container was deleted.
-#[derive(Clone, Debug, PartialEq, Eq, Drop)]
+#[derive(Clone, PartialEq, Eq, Drop)]
 pub struct ContainerRow {
     pub count: u64,
     pub standing: Option<Standing>,
@@ -76,7 +76,7 @@ pub struct ContainerRow {
 
 /// The row of a stored blob in a checkpoint: its committed part, and its uncommitted blocks by
 /// their ids.
-#[derive(Debug, PartialEq, Eq, Drop)]
+#[derive(PartialEq, Eq, Drop)]
 pub struct StoredBlob {
     pub blob: Text,
     pub committed: Option<Committed<Pieces>>,
@@ -84,7 +84,7 @@ pub struct StoredBlob {
 }
 
 /// What a change of a container does: what a request did, or one row of a checkpoint.
-#[derive(Debug, PartialEq, Eq, Drop)]
+#[derive(PartialEq, Eq, Drop)]
 pub enum Act {
     CreateContainer(CreateContainer),
     SetContainerMetadata(SetContainerMetadata),

@@ -6,7 +6,7 @@ use std::alloc::Global;
 
 /// The headers that a blob is to keep. A header that wasn't sent is empty, and so is the content
 /// type: `Props::new` replaces an empty content type.
-#[derive(Debug, PartialEq, Eq, Drop)]
+#[derive(PartialEq, Eq, Drop)]
 pub struct Kept {
     pub content_type: Visible,
     pub encoding: Visible,
@@ -17,7 +17,7 @@ pub struct Kept {
 }
 
 /// Which names are to be listed ("List Containers", "List Blobs").
-#[derive(Debug, PartialEq, Eq, Drop)]
+#[derive(PartialEq, Eq, Drop)]
 pub struct Page {
     /// What each name begins with.
     pub prefix: Option<Text>,
@@ -34,7 +34,7 @@ pub struct Page {
 
 /// What comes with a request beside its path and its body. In a `Request`, nothing is here that the
 /// operation has no use for.
-#[derive(Debug, PartialEq, Eq, Drop)]
+#[derive(PartialEq, Eq, Drop)]
 pub struct Args {
     pub if_match: Option<Condition>,
     pub if_none_match: Option<Condition>,

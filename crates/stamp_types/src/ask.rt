@@ -5,7 +5,7 @@ use stamp_values::{Credential, Key, Op, Signing, Text};
 
 /// A request without its body. What it signs and the credential need not fit the other parts: that
 /// is judged when the request is authorized.
-#[derive(Debug, PartialEq, Eq, Drop)]
+#[derive(PartialEq, Eq, Drop)]
 pub struct Ask {
     pub op: Op,
     pub key: Key,

@@ -10,7 +10,7 @@ use stamp_values::Key;
 use std::marker::Model;
 
 /// A change of a container, as the container's log keeps it, seen as key and act.
-#[derive(Clone, Debug, PartialEq, Eq, Drop)]
+#[derive(Clone, PartialEq, Eq, Drop)]
 pub struct Change {
     key: Key,
     act: Act,

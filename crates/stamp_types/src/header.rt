@@ -6,7 +6,7 @@ use stamp_values::{Level, Meta, Moment, Visible};
 /// A header line of a reply, by its name, with what its value is made of. Date, x-ms-version,
 /// x-stamp-rule, Connection and Content-Length aren't among these headers: they are written from
 /// the moment, the rule, the connection and the length.
-#[derive(Clone, Debug, PartialEq, Eq, Drop)]
+#[derive(Clone, PartialEq, Eq, Drop)]
 pub enum Header {
     ContentType(Visible),
     ContentEncoding(Visible),

@@ -7,7 +7,7 @@ use stamp_values::Moment;
 
 /// A request that was served, the moment at which it was served, and the epoch of the account's
 /// keys in which it was served.
-#[derive(Clone, Debug, PartialEq, Eq, Drop)]
+#[derive(Clone, PartialEq, Eq, Drop)]
 pub struct Past {
     pub request: Request,
     pub moment: Moment,

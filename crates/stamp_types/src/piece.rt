@@ -5,7 +5,7 @@ use stamp_values::{Place, Share};
 
 /// A piece of content: its bytes, or the place in a stream where the bytes are and how many bytes
 /// there are.
-#[derive(Clone, Debug, PartialEq, Eq, Drop)]
+#[derive(Clone, PartialEq, Eq, Drop)]
 pub enum Piece {
     Bytes(Share),
     At { place: Place, length: u32 },

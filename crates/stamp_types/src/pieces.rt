@@ -13,7 +13,7 @@ use std::marker::Model;
 
 /// Content of at most 67,108,864 bytes, seen as its pieces in their order: at most 16 pieces, each
 /// of 1 to 4,194,304 bytes.
-#[derive(Debug, PartialEq, Eq, Drop)]
+#[derive(PartialEq, Eq, Drop)]
 pub struct Pieces {
     pieces: Items<Piece>,
     // how many bytes the pieces have together

@@ -9,7 +9,7 @@ use std::marker::Model;
 
 /// The headers that are kept with a blob. The content type is never empty, and each text has at
 /// most 16,384 bytes.
-#[derive(Debug, PartialEq, Eq, Drop)]
+#[derive(PartialEq, Eq, Drop)]
 pub struct Props {
     content_type: Visible,
     encoding: Visible,

@@ -11,7 +11,7 @@ use stamp_values::{Items, Share, Shares, Visible};
 use std::alloc::{AllocError, Global};
 
 /// A reply without what the clock and the connection add to it.
-#[derive(Clone, Debug, PartialEq, Eq, Drop)]
+#[derive(Clone, PartialEq, Eq, Drop)]
 pub struct Reply {
     pub status: Status,
     /// The error code, if the request was refused.

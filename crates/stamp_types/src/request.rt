@@ -16,7 +16,7 @@ use std::sync::Arc;
 /// bytes.
 ///
 /// A clone shares both, and copies neither.
-#[derive(Clone, Debug, Drop)]
+#[derive(Clone, Drop)]
 pub struct Request {
     ask: Arc<Ask>,
     body: Body,
