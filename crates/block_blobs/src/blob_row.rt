@@ -19,7 +19,7 @@ use std::marker::Model;
 
 /// A blob: its committed part, if it has a committed part, and its uncommitted blocks. Contracts see
 /// it as the blob of the world, with its content in pieces.
-#[derive(Debug, Drop)]
+#[derive(Drop)]
 pub struct BlobRow {
     committed: Option<Committed<Pieces>>,
     // how many bytes the committed part has
@@ -103,11 +103,17 @@ impl BlobRow {
         }) }
     {
         let content_len = content_len(&committed);
-        Ok(Self {
-            committed,
-            content_len,
-            uncommitted: Uncommitted::stored(alloc, uncommitted)?,
-        })
+        match Uncommitted::stored(alloc, uncommitted) {
+            Ok(uncommitted) => Ok(Self {
+                committed,
+                content_len,
+                uncommitted,
+            }),
+            Err(fault) => {
+                drop(committed);
+                Err(fault)
+            }
+        }
     }
 
     /// What readers of the blob see, if the blob has a committed part.
@@ -228,12 +234,20 @@ impl BlobRow {
             content,
         } = put;
         let len = content.len();
+        let blocks = match whole(alloc, content) {
+            Ok(blocks) => blocks,
+            Err(fault) => {
+                drop(metadata);
+                drop(props);
+                return Err(fault);
+            }
+        };
         let committed = Committed {
             etag: count,
             made: moment,
             props,
             metadata,
-            blocks: whole(alloc, content)?,
+            blocks,
         };
         self.write(committed, len);
         self.drop_uncommitted(alloc);

@@ -1,11 +1,11 @@
 //! Block lists: where their blocks are found, and what a commit makes of them.
-ghost use Rattle.std.specs.Prelude.{◌≡◌, ◌≢◌, ◌↔◌, ◌<◌, ◌≤◌, ◌+◌, ℕ, IsTrue, IfOk, IfErr, OnOk, OnErr, MatchOption, Some, None, map, sum_by};
+ghost use Rattle.std.specs.Prelude.{◌≡◌, ◌≢◌, ◌↔◌, ◌<◌, ◌≤◌, ◌+◌, ◌++◌, ◌∷◌, [], ℕ, IsTrue, IfOk, IfErr, OnOk, OnErr, MatchOption, Some, None, map, sum_by};
 ghost use Rattle.std.specs.Option.{option_copied, option_map};
 ghost use Rattle.std.specs.Map.Iter.{deref_pair};
 ghost use Rattle.stamp_values.specs.Limits.{blob_limit};
 ghost use Rattle.stamp_types.specs.Changes.{are_blocks, blocks_len};
 ghost use Rattle.stamp_types.specs.Pieces.{pieces_len};
-ghost use Rattle.stamp_types.specs.World.{content_from, taken_blocks};
+ghost use Rattle.stamp_types.specs.World.{content_from, taken_blocks, whole_block};
 ghost use Rattle.block_blobs.specs.BlobChanges.{blob_of_list};
 ghost use Rattle.block_blobs.specs.BlockLists as lists;
 ghost use Rattle.block_blobs.specs.BlockLists.{EachInOnePiece, Leaves};
@@ -20,7 +20,7 @@ use stamp_types::{
     BLOB_LIMIT, Block, BlockId, Committed, ENTRIES_LIMIT, Items, Lookup, Pieces, PutBlockList,
     Source, Taken, Wanted,
 };
-use std::alloc::Global;
+use std::alloc::{AllocError, Global};
 
 /// How many bytes the blocks have together, or `None` if they have more than 268,435,456 bytes.
 pub(crate) fn total_len(blocks: &[Block<Pieces>]) -> Option<u64>
@@ -54,6 +54,26 @@ fn sources_of(lookup: Lookup) -> &'static [Source]
         Lookup::Committed => &[Source::Committed],
         Lookup::Uncommitted => &[Source::Uncommitted],
     }
+}
+
+// Puts a block without an id after the blocks. Its content has one more owner.
+fn push_unnamed(blocks: &mut Vec<Block<Pieces>>, content: &Pieces) -> Result<(), AllocError>
+    ensures { OnOk result (blocks.new.items
+        ≡ blocks.old.items ++ whole_block content.now ∷ []) }
+{
+    let content = content.clone()?;
+    blocks.push(Block { id: None, content })?;
+    Ok(())
+}
+
+// Puts an entry of this id, found in this source, after the entries.
+fn push_taken(entries: &mut Vec<Taken>, id: &BlockId, from: Source) -> Result<(), AllocError>
+    ensures { OnOk result (entries.new.items
+        ≡ entries.old.items ++ record { id = id.now; from = from } ∷ []) }
+{
+    let id = id.clone()?;
+    entries.push(Taken { id, from })?;
+    Ok(())
 }
 
 // Gives the block at this place the id, if there is a block.
@@ -160,12 +180,18 @@ impl BlobRow {
         let mut room = Some(BLOB_LIMIT);
         for (position, entry) in wanted.iter().enumerate() {
             let Some((from, content)) = self.find(first, &mut next, entry) else {
+                drop(next);
+                drop(found);
                 return Err(BlockFault::NotFound(position));
             };
             room = room_after(room, content.len());
-            let id = entry.id.clone()?;
-            found.push(Taken { id, from })?;
+            if push_taken(&mut found, &entry.id, from).is_err() {
+                drop(next);
+                drop(found);
+                return Err(BlockFault::NoMemory);
+            }
         }
+        drop(next);
         Ok((found, room))
     }
 
@@ -204,6 +230,38 @@ impl BlobRow {
         Ok(Items::new(found))
     }
 
+    // What `unnamed_blocks` says, with the committed blocks by their ids.
+    fn unnamed_by<'a>(
+        &'a self,
+        alloc: Global,
+        first: &FirstBlocks<'a>,
+        entries: &'a [Taken],
+    ) -> Result<Vec<Block<Pieces>>, BlockFault>
+        requires { IsIndex self.now.committed (map deref_pair first.now.entries) }
+        ensures value { IfOk result (λ blocks.
+            blocks.items ≡ lists.unnamed_blocks self.now entries.now) }
+        ensures all { OnOk result (lists.first_absent self.now entries.now ≡ None) }
+        ensures missing { IfErr result
+            (IsFault (option_map BlockFault.NotFound (lists.first_absent self.now entries.now))) }
+    {
+        let mut blocks = Vec::with_capacity(alloc, entries.len())?;
+        let mut next = NextBlocks::new(self.uncommitted_blocks());
+        for (i, entry) in entries.iter().enumerate() {
+            let Some(content) = self.content(first, &mut next, entry.from, &entry.id) else {
+                drop(next);
+                drop(blocks);
+                return Err(BlockFault::NotFound(i));
+            };
+            if push_unnamed(&mut blocks, content).is_err() {
+                drop(next);
+                drop(blocks);
+                return Err(BlockFault::NoMemory);
+            }
+        }
+        drop(next);
+        Ok(blocks)
+    }
+
     /// The blocks of the entries, in their order, without their ids. `NotFound` with the position of
     /// the first entry whose block is not found. The content of each block has one more owner.
     pub(crate) fn unnamed_blocks<'a>(
@@ -218,16 +276,9 @@ impl BlobRow {
             (IsFault (option_map BlockFault.NotFound (lists.first_absent self.now entries.now))) }
     {
         let first = first_blocks(alloc, self.committed_blocks())?;
-        let mut next = NextBlocks::new(self.uncommitted_blocks());
-        let mut blocks = Vec::with_capacity(alloc, entries.len())?;
-        for (i, entry) in entries.iter().enumerate() {
-            let Some(content) = self.content(&first, &mut next, entry.from, &entry.id) else {
-                return Err(BlockFault::NotFound(i));
-            };
-            let content = content.clone()?;
-            blocks.push(Block { id: None, content })?;
-        }
-        Ok(blocks)
+        let blocks = self.unnamed_by(alloc, &first, entries);
+        drop(first);
+        blocks
     }
 
     // The blocks of the entries, in their order. `NotFound` with the position of the first entry whose
@@ -304,7 +355,14 @@ impl BlobRow {
             metadata,
             entries,
         } = list;
-        let (blocks, len) = self.take_listed(alloc, entries.into_vec())?;
+        let (blocks, len) = match self.take_listed(alloc, entries.into_vec()) {
+            Ok(listed) => listed,
+            Err(fault) => {
+                drop(metadata);
+                drop(props);
+                return Err(fault);
+            }
+        };
         let committed = Committed {
             etag: count,
             made: moment,

@@ -11,7 +11,7 @@ use std::marker::Model;
 
 /// Content by ids in a tree, seen as the map from the ids to the content. A call takes time with the
 /// logarithm of the number of ids.
-#[derive(Debug, Drop)]
+#[derive(Drop)]
 pub(crate) struct ContentById {
     tree: BTreeMap<BlockId, Pieces>,
 }

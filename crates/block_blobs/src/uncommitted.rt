@@ -20,7 +20,7 @@ use std::mem;
 
 /// At most 50,000 blocks, each in one piece, under ids of one length. Contracts see the map from
 /// the ids to the content.
-#[derive(Debug, Drop)]
+#[derive(Drop)]
 pub(crate) struct Uncommitted {
     blocks: ContentById,
     // how many bytes each id has, if there is a block
