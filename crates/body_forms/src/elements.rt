@@ -14,7 +14,7 @@ use std::alloc::Global;
 const LIST_NAME: &[u8] = b"BlockList";
 
 /// An element of a block list, with its text as it is written.
-#[derive(Clone, Copy, Debug, Drop)]
+#[derive(Clone, Copy, Drop)]
 pub(crate) struct Element<'a> {
     pub(crate) lookup: Lookup,
     pub(crate) written: &'a [u8],

@@ -9,7 +9,7 @@ use crate::bytes::{
 };
 
 /// What a tag does.
-#[derive(Clone, Copy, Debug, PartialEq, Eq)]
+#[derive(Clone, Copy, PartialEq, Eq)]
 pub(crate) enum Kind {
     Opening,
     Empty,
@@ -17,7 +17,7 @@ pub(crate) enum Kind {
 }
 
 /// A tag without its attributes.
-#[derive(Clone, Copy, Debug, Drop)]
+#[derive(Clone, Copy, Drop)]
 pub(crate) struct Tag<'a> {
     pub(crate) kind: Kind,
     pub(crate) name: &'a [u8],
@@ -26,7 +26,7 @@ pub(crate) struct Tag<'a> {
 /// What is left of an XML text. A method that answers `None` did not find what it takes, and nothing is read after it.
 ///
 /// Extensible Markup Language 1.0, sections 2.3, 2.4 and 3.1.
-#[derive(Debug, Drop)]
+#[derive(Drop)]
 pub(crate) struct Tokens<'a> {
     pub(crate) left: &'a [u8],
 }

@@ -15,7 +15,7 @@ const LIST_ROOM: usize = 135;
 const BLOCK_ROOM: usize = 41 + 88 + 20;
 
 /// A block that Get Block List shows.
-#[derive(Clone, Copy, Debug, Drop)]
+#[derive(Clone, Copy, Drop)]
 pub struct ListedBlock<'a> {
     pub id: &'a BlockId,
     /// In bytes.
