@@ -180,18 +180,11 @@ impl BlobRow {
         let mut room = Some(BLOB_LIMIT);
         for (position, entry) in wanted.iter().enumerate() {
             let Some((from, content)) = self.find(first, &mut next, entry) else {
-                drop(next);
-                drop(found);
                 return Err(BlockFault::NotFound(position));
             };
             room = room_after(room, content.len());
-            if push_taken(&mut found, &entry.id, from).is_err() {
-                drop(next);
-                drop(found);
-                return Err(BlockFault::NoMemory);
-            }
+            push_taken(&mut found, &entry.id, from)?;
         }
-        drop(next);
         Ok((found, room))
     }
 
@@ -230,38 +223,6 @@ impl BlobRow {
         Ok(Items::new(found))
     }
 
-    // What `unnamed_blocks` says, with the committed blocks by their ids.
-    fn unnamed_by<'a>(
-        &'a self,
-        alloc: Global,
-        first: &FirstBlocks<'a>,
-        entries: &'a [Taken],
-    ) -> Result<Vec<Block<Pieces>>, BlockFault>
-        requires { IsIndex self.now.committed (map deref_pair first.now.entries) }
-        ensures value { IfOk result (λ blocks.
-            blocks.items ≡ lists.unnamed_blocks self.now entries.now) }
-        ensures all { OnOk result (lists.first_absent self.now entries.now ≡ None) }
-        ensures missing { IfErr result
-            (IsFault (option_map BlockFault.NotFound (lists.first_absent self.now entries.now))) }
-    {
-        let mut blocks = Vec::with_capacity(alloc, entries.len())?;
-        let mut next = NextBlocks::new(self.uncommitted_blocks());
-        for (i, entry) in entries.iter().enumerate() {
-            let Some(content) = self.content(first, &mut next, entry.from, &entry.id) else {
-                drop(next);
-                drop(blocks);
-                return Err(BlockFault::NotFound(i));
-            };
-            if push_unnamed(&mut blocks, content).is_err() {
-                drop(next);
-                drop(blocks);
-                return Err(BlockFault::NoMemory);
-            }
-        }
-        drop(next);
-        Ok(blocks)
-    }
-
     /// The blocks of the entries, in their order, without their ids. `NotFound` with the position of
     /// the first entry whose block is not found. The content of each block has one more owner.
     pub(crate) fn unnamed_blocks<'a>(
@@ -276,9 +237,15 @@ impl BlobRow {
             (IsFault (option_map BlockFault.NotFound (lists.first_absent self.now entries.now))) }
     {
         let first = first_blocks(alloc, self.committed_blocks())?;
-        let blocks = self.unnamed_by(alloc, &first, entries);
-        drop(first);
-        blocks
+        let mut next = NextBlocks::new(self.uncommitted_blocks());
+        let mut blocks = Vec::with_capacity(alloc, entries.len())?;
+        for (i, entry) in entries.iter().enumerate() {
+            let Some(content) = self.content(&first, &mut next, entry.from, &entry.id) else {
+                return Err(BlockFault::NotFound(i));
+            };
+            push_unnamed(&mut blocks, content)?;
+        }
+        Ok(blocks)
     }
 
     // The blocks of the entries, in their order. `NotFound` with the position of the first entry whose

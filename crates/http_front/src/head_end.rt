@@ -7,7 +7,7 @@ use memchr::memchr;
 use request_form::HEAD_LIMIT;
 
 /// How the bytes of a head end that were searched so far.
-#[derive(Clone, Copy, Debug, PartialEq, Eq)]
+#[derive(Clone, Copy, PartialEq, Eq)]
 pub(crate) enum LineState {
     /// At the start of a line, and all lines so far are empty.
     Opening,
@@ -22,7 +22,7 @@ pub(crate) enum LineState {
 }
 
 /// What a search of some bytes finds, if it begins in some state.
-#[derive(Clone, Copy, Debug, PartialEq, Eq)]
+#[derive(Clone, Copy, PartialEq, Eq)]
 pub(crate) enum HeadEnd {
     /// The head ends after so many of these bytes.
     Found(usize),
@@ -31,7 +31,7 @@ pub(crate) enum HeadEnd {
 }
 
 /// How far the search for the end of a head has come, so that no byte is looked at twice.
-#[derive(Clone, Copy, Debug, PartialEq, Eq)]
+#[derive(Clone, Copy, PartialEq, Eq)]
 pub(crate) struct Search {
     reached: usize,
     state: LineState,

@@ -378,7 +378,10 @@ fn request_of(alloc: Global, head: Head, body: Gathering) -> Result<Request, Fro
         Ok(body) => head
             .with_body(alloc, body)
             .map_err(|_| FrontFault::NoMemory),
-        Err(_) => Err(FrontFault::NoMemory),
+        Err(_) => {
+            drop(head);
+            Err(FrontFault::NoMemory)
+        }
     }
 }
 
@@ -395,7 +398,10 @@ fn join(
     let closes = head.closes();
     let body = match body {
         Ok(body) => body,
-        Err(fault) => return Err(fault),
+        Err(fault) => {
+            drop(head);
+            return Err(fault);
+        }
     };
     let request = request_of(alloc, head, body)?;
     Ok(Some(Found::Called(Call {

@@ -27,9 +27,9 @@ module _ (p : Part (List Piece)) (name : List ℕ) where
   pub same_row : (b : Blob (List Piece)) → get p.blobs name ≡ Some b → insert p.blobs name b ≡ p.blobs
   same_row b has = insert_same names_total names_exact p.blobs name b has
 
-  -- a list that fits a blob without a row fits a new row
-  pub list_fits_new_row : (row : Blob (List Piece)) (ts : List Taken) → get p.blobs name ≡ None → row ≡ no_blob → taken_fault (blob_in p name) ts ≡ None → taken_fault row ts ≡ None
-  list_fits_new_row row ts none new fits = ap (λ b. taken_fault b ts) (new ∙ sym (blob_without_row none)) ∙ fits
+  -- a list that fits a blob without a row fits a blob that never was
+  pub list_fits_no_blob : (ts : List Taken) → get p.blobs name ≡ None → taken_fault (blob_in p name) ts ≡ None → taken_fault (no_blob {C = List Piece}) ts ≡ None
+  list_fits_no_blob ts none fits = ap (λ b. taken_fault b ts) (sym (blob_without_row none)) ∙ fits
 
   -- whether a list fits a new row is whether it fits the blob without a row
   pub answer_of_new_row : (row : Blob (List Piece)) (us ts : List Taken) (answer : Result Bool AllocError) → us ≡ ts → get p.blobs name ≡ None → row ≡ no_blob

@@ -75,8 +75,19 @@ impl Container {
             blob: Text::empty(alloc),
             ..put
         };
-        row.replace(alloc, unnamed, count)?;
-        self.blobs.insert(name, Row::new(alloc, row)?)?;
+        if let Err(fault) = row.replace(alloc, unnamed, count) {
+            drop(row);
+            drop(name);
+            return Err(fault);
+        }
+        let row = match Row::new(alloc, row) {
+            Ok(row) => row,
+            Err(fault) => {
+                drop(name);
+                return Err(fault);
+            }
+        };
+        self.blobs.insert(name, row)?;
         self.count = count;
         Ok(())
     }

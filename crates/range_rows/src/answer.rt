@@ -3,7 +3,7 @@
 use stamp_types::{Items, Piece, Reply};
 
 /// The bytes of a piece from `from` up to but not including `to`.
-#[derive(Debug, Drop)]
+#[derive(Drop)]
 pub struct Span {
     pub piece: Piece,
     pub from: u64,
@@ -12,7 +12,7 @@ pub struct Span {
 
 /// The reply to a request, without the content that goes out with it. The spans give that content,
 /// in their order. The frame's length counts the content.
-#[derive(Debug, Drop)]
+#[derive(Drop)]
 pub struct Answer {
     pub frame: Reply,
     pub spans: Items<Span>,

@@ -28,11 +28,24 @@ impl Container {
     {
         let PutBlock { blob, id, content } = put;
         match self.blobs.get_mut(blob.as_str().as_bytes()) {
-            Some(row) => row.put_block(&id, content)?,
+            Some(row) => {
+                let done = row.put_block(&id, content);
+                drop(id);
+                drop(blob);
+                done?;
+            }
             None => {
-                let mut row = Row::empty(alloc)?;
-                row.put_block(&id, content)?;
-                self.blobs.insert(bytes_of(blob), row)?;
+                let row = Row::of_block(alloc, &id, content);
+                drop(id);
+                match row {
+                    Ok(row) => {
+                        self.blobs.insert(bytes_of(blob), row)?;
+                    }
+                    Err(fault) => {
+                        drop(blob);
+                        return Err(fault);
+                    }
+                }
             }
         }
         self.count += 1;
@@ -64,12 +77,20 @@ impl Container {
             ..list
         };
         match self.blobs.get_mut(name.as_str().as_bytes()) {
-            Some(row) => row.commit(alloc, unnamed, count)?,
-            None => {
-                let mut row = Row::empty(alloc)?;
-                row.commit(alloc, unnamed, count)?;
-                self.blobs.insert(bytes_of(name), row)?;
+            Some(row) => {
+                let done = row.commit(alloc, unnamed, count);
+                drop(name);
+                done?;
             }
+            None => match Row::of_list(alloc, unnamed, count) {
+                Ok(row) => {
+                    self.blobs.insert(bytes_of(name), row)?;
+                }
+                Err(fault) => {
+                    drop(name);
+                    return Err(fault);
+                }
+            },
         }
         self.count = count;
         Ok(())

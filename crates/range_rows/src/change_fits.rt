@@ -51,7 +51,12 @@ impl Container {
     {
         match self.blobs.get(put.blob.as_str().as_bytes()) {
             Some(row) => row.blob().block_fault(&put.id).is_none(),
-            None => BlobRow::new(alloc).block_fault(&put.id).is_none(),
+            None => {
+                let row = BlobRow::new(alloc);
+                let fault = row.block_fault(&put.id);
+                drop(row);
+                fault.is_none()
+            }
         }
     }
 
@@ -64,7 +69,12 @@ impl Container {
         let entries = list.entries.as_slice();
         match self.blobs.get(list.blob.as_str().as_bytes()) {
             Some(row) => takes(alloc, row.blob(), entries),
-            None => takes(alloc, &BlobRow::new(alloc), entries),
+            None => {
+                let row = BlobRow::new(alloc);
+                let answer = takes(alloc, &row, entries);
+                drop(row);
+                answer
+            }
         }
     }
 

@@ -11,7 +11,7 @@ use std::marker::Model;
 
 /// A container that exists or was deleted, and its blobs, seen as the container's part of the
 /// world. A container that was deleted keeps its count.
-#[derive(Debug, Drop)]
+#[derive(Drop)]
 pub(crate) struct Container {
     // how many changes the container has seen
     pub(crate) count: u64,

@@ -18,7 +18,7 @@ use std::marker::Model;
 /// never was has no changes and no blobs.
 ///
 /// A request is judged and answered by what was found, so that it walks to its container once.
-#[derive(Debug, Drop)]
+#[derive(Drop)]
 pub struct Found<'a> {
     // the container, if it exists or was deleted
     pub(crate) container: Option<&'a Container>,

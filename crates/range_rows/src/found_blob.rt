@@ -18,7 +18,7 @@ use std::marker::Model;
 /// committed part and no uncommitted blocks.
 ///
 /// A request is judged and answered by what was found, so that it walks to its blob once.
-#[derive(Debug, Drop)]
+#[derive(Drop)]
 pub(crate) struct FoundBlob<'a> {
     // the row of the blob, if it has one
     row: Option<&'a BlobRow>,

@@ -12,7 +12,7 @@ use std::alloc::{AllocError, Global};
 
 /// What the body of a request says besides its bytes. It is read once, from the request alone,
 /// before rows are touched.
-#[derive(Debug, Drop)]
+#[derive(Drop)]
 pub enum Reading {
     /// The body says nothing besides its bytes.
     Nothing,

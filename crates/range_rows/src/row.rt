@@ -15,7 +15,7 @@ use std::marker::Model;
 ///
 /// A tree moves half of a leaf's values when it gets one more name. A box is much shorter than a
 /// row, so less memory moves.
-#[derive(Debug, Drop)]
+#[derive(Drop)]
 pub(crate) struct Row {
     blob: Box<BlobRow>,
 }
@@ -50,6 +50,49 @@ impl Row {
         ensures { IfOk result (λ row. row ≡ no_blob) }
     {
         Self::new(alloc, BlobRow::new(alloc))
+    }
+
+    /// A blob of one uncommitted block, in a box.
+    #[tactic(auto, using(crate::proofs::BlockLemmas::block_fits_empty))]
+    pub(crate) fn of_block(alloc: Global, id: &BlockId, content: Pieces) -> Result<Self, AllocError>
+        requires { IsTrue (is_in_one_piece content) }
+        ensures { IfOk result (λ row. row ≡ blob_with_block id.now content no_blob) }
+    {
+        let mut row = match Self::empty(alloc) {
+            Ok(row) => row,
+            Err(fault) => {
+                drop(content);
+                return Err(fault);
+            }
+        };
+        match row.put_block(id, content) {
+            Ok(()) => Ok(row),
+            Err(fault) => {
+                drop(row);
+                Err(fault)
+            }
+        }
+    }
+
+    /// A blob that a list makes of nothing, in a box.
+    pub(crate) fn of_list(alloc: Global, list: PutBlockList, count: u64) -> Result<Self, AllocError>
+        requires { taken_fault no_blob list.entries ≡ None }
+        ensures { IfOk result (λ row. row ≡ blob_of_list count list no_blob) }
+    {
+        let mut row = match Self::empty(alloc) {
+            Ok(row) => row,
+            Err(fault) => {
+                drop(list);
+                return Err(fault);
+            }
+        };
+        match row.commit(alloc, list, count) {
+            Ok(()) => Ok(row),
+            Err(fault) => {
+                drop(row);
+                Err(fault)
+            }
+        }
     }
 
     pub(crate) fn blob(&self) -> &BlobRow

@@ -13,7 +13,7 @@ use std::marker::Model;
 ///
 /// A container that was deleted stays with its count. A container that never was takes no memory.
 /// Content is shared with the requests that brought it, and never copied.
-#[derive(Debug, Drop)]
+#[derive(Drop)]
 pub struct Rows {
     containers: BTreeMap<Key, Container>,
 }

@@ -9,7 +9,7 @@ use std::alloc::Global;
 const READS: u64 = 4_294_967_296;
 
 /// When the container of a case is made.
-#[derive(Clone, Copy, Debug, PartialEq, Eq)]
+#[derive(Clone, Copy, PartialEq, Eq)]
 pub(crate) enum Made {
     /// At the first moment of the case.
     First,

@@ -84,6 +84,7 @@ pub(crate) fn run_text<W: Write>(
         match run_line(alloc, writer, file, &mut cases, line, number, tally) {
             Ok(counted) => tally = counted,
             Err(why) => {
+                drop(cases);
                 return Err(Fault { line: number, why });
             }
         }

@@ -9,7 +9,7 @@ use stamp_types::{Moment, Text, is_account};
 use std::alloc::Global;
 
 /// How a line gives bytes: as a text, by the name of a text, or as a count and the text that is repeated.
-#[derive(Clone, Copy, Debug, PartialEq, Eq)]
+#[derive(Clone, Copy, PartialEq, Eq)]
 pub(crate) enum Form {
     Plain,
     Named,
@@ -17,7 +17,7 @@ pub(crate) enum Form {
 }
 
 /// The word that a line begins with.
-#[derive(Clone, Copy, Debug, PartialEq, Eq)]
+#[derive(Clone, Copy, PartialEq, Eq)]
 pub(crate) enum Word {
     Account,
     Keys,

@@ -21,7 +21,7 @@ mod tally;
 mod texts;
 
 /// How the program ends, with its exit status.
-#[derive(Clone, Copy, Debug, PartialEq, Eq)]
+#[derive(Clone, Copy, PartialEq, Eq)]
 enum Ending {
     /// Each case holds.
     Holds = 0,

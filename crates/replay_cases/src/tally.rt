@@ -5,7 +5,7 @@ ghost use Rattle.replay_cases.specs.Tallies.{tally_line};
 use std::alloc::{AllocError, Global};
 
 /// How many cases were run, and how many of them hold.
-#[derive(Clone, Copy, Debug, PartialEq, Eq)]
+#[derive(Clone, Copy, PartialEq, Eq)]
 pub(crate) struct Tally {
     pub(crate) cases: usize,
     pub(crate) holding: usize,

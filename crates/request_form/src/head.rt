@@ -24,7 +24,7 @@ use std::alloc::{AllocError, Global};
 use std::marker::Model;
 
 /// A head that no rule refuses: a request without its body.
-#[derive(Debug, Drop)]
+#[derive(Drop)]
 pub struct Head {
     ask: Ask,
     body_len: u64,

@@ -20,7 +20,7 @@ pub const HEAD_LIMIT: usize = 16_384;
 const FIELDS_LIMIT: usize = 64;
 
 // The header lines of a head.
-#[derive(Debug, Drop)]
+#[derive(Drop)]
 struct HeaderLines {
     // All headers but Authorization.
     fields: FieldList,

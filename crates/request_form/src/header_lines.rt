@@ -14,7 +14,7 @@ use stamp_types::{Args, Code, Rule};
 use std::alloc::Global;
 
 /// What the names of a path and the header lines say that no rule refuses.
-#[derive(Debug, Drop)]
+#[derive(Drop)]
 pub struct Fields {
     pub body_len: u64,
     pub names: Names,
@@ -46,17 +46,24 @@ pub(crate) fn read_fields(
         return Err(HeadFault::Denied(denied(Rule::F5, code, verb)));
     };
     if asks_the_unserved(head, line.verb, line.op) {
+        drop(names);
         let code = Code::UnsupportedHeader;
         return Err(HeadFault::Denied(denied(Rule::F6, code, verb)));
     }
     let args = match read_args(alloc, head, line.op) {
         Ok(args) => args,
         Err(ValueFault::Refused(code)) => {
+            drop(names);
             return Err(HeadFault::Denied(denied(Rule::F7, code, verb)));
         }
-        Err(ValueFault::NoMemory) => return Err(HeadFault::NoMemory),
+        Err(ValueFault::NoMemory) => {
+            drop(names);
+            return Err(HeadFault::NoMemory);
+        }
     };
     if is_too_long(line.op, body_len) {
+        drop(args);
+        drop(names);
         let code = Code::RequestBodyTooLarge;
         return Err(HeadFault::Denied(denied(Rule::F8, code, verb)));
     }

@@ -14,14 +14,14 @@ use stamp_types::{Key, Op, Text};
 use std::alloc::{AllocError, Global};
 
 /// The names of a path, which are good.
-#[derive(Debug, Drop)]
+#[derive(Drop)]
 pub struct Names {
     pub key: Key,
     pub blob: Option<Text>,
 }
 
 /// What a path has of the name of a blob.
-#[derive(Debug, Drop)]
+#[derive(Drop)]
 pub enum BlobName {
     /// The operation does not name a blob.
     NotAsked,

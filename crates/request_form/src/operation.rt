@@ -14,7 +14,7 @@ use stamp_types::{BlockId, BlockKinds, Code, Op, Verb};
 use std::alloc::Global;
 
 /// What a method and a target ask for.
-#[derive(Debug, Drop)]
+#[derive(Drop)]
 pub struct Operation {
     pub op: Op,
     /// The id of the block, if the operation is Put Block.

@@ -4,7 +4,7 @@ use stamp_types::{Bytes, FieldList, Items};
 use std::marker::Model;
 
 /// The version of HTTP that a request line names (RFC 9112, section 2.3).
-#[derive(Clone, Copy, Debug, PartialEq, Eq)]
+#[derive(Clone, Copy, PartialEq, Eq)]
 pub enum Version {
     /// HTTP/1.0. The connection ends after the reply.
     Http10,
@@ -13,7 +13,7 @@ pub enum Version {
 }
 
 /// A request head, cut into its parts. Its text lends the method and the target.
-#[derive(Debug, Drop)]
+#[derive(Drop)]
 pub struct ParsedHead<'a> {
     /// The method as it was sent.
     pub method: &'a [u8],

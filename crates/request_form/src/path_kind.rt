@@ -1,7 +1,7 @@
 //! What a path names.
 
 /// What a path names, by how many parts it has. Whether the parts are good names is another question.
-#[derive(Clone, Copy, Debug, PartialEq, Eq)]
+#[derive(Clone, Copy, PartialEq, Eq)]
 pub enum PathKind {
     /// Nothing: the path has no account.
     Root,

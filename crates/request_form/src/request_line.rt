@@ -13,7 +13,7 @@ use stamp_types::{BlockId, BlockKinds, Code, Op, Rule, Verb};
 use std::alloc::Global;
 
 /// What a request line says that no rule refuses.
-#[derive(Debug, Drop)]
+#[derive(Drop)]
 pub struct Line {
     pub verb: Verb,
     pub op: Op,

@@ -11,7 +11,7 @@ use stamp_types::{Bytes, FieldList};
 use std::alloc::{AllocError, Global};
 
 /// A request target as it is read.
-#[derive(Debug, Drop)]
+#[derive(Drop)]
 pub struct Target {
     /// The path as it was sent, up to the first `?`.
     pub path: Bytes,

@@ -6,7 +6,7 @@ use stamp_types::Code;
 use std::alloc::AllocError;
 
 /// Why values of a head are not read.
-#[derive(Clone, Copy, Debug, PartialEq, Eq)]
+#[derive(Clone, Copy, PartialEq, Eq)]
 pub enum ValueFault {
     /// The rule of these values refuses them, with this code.
     Refused(Code),

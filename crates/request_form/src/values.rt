@@ -227,7 +227,13 @@ fn good_args(alloc: Global, op: Op, fields: &FieldList) -> Result<Args, ValueFau
     let content_md5 = md5_by(op, md5_under(alloc, fields, "content-md5")?);
     let blob_md5 = md5_under(alloc, fields, "x-ms-blob-content-md5")?;
     let kept = kept_by(alloc, op, fields, blob_md5)?;
-    let level = level_by(op, fields)?;
+    let level = match level_by(op, fields) {
+        Ok(level) => level,
+        Err(fault) => {
+            drop(kept);
+            return Err(fault);
+        }
+    };
     Ok(Args {
         if_match,
         if_none_match,
@@ -263,8 +269,15 @@ pub(crate) fn read_args(alloc: Global, head: &ParsedHead<'_>, op: Op) -> Result<
         (RefusesValue (heads.head_holds head.now F7) (heads.head_code head.now F7)) }
 {
     let mut args = good_args(alloc, op, &head.fields)?;
-    args.metadata = read_metadata(alloc, op, &head.fields)?;
+    match read_metadata(alloc, op, &head.fields) {
+        Ok(metadata) => args.metadata = metadata,
+        Err(fault) => {
+            drop(args);
+            return Err(fault);
+        }
+    }
     if has_no_blob_type(head, op) {
+        drop(args);
         return Err(ValueFault::Refused(Code::MissingRequiredHeader));
     }
     Ok(args)

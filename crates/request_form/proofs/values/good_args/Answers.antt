@@ -9,7 +9,7 @@ unfolding line_args_of
 returns c = (
   no_bad_line c.args.op c.args.fields.now (sym c.has_bad_twice.ensures ∙ c.if-has_bad_twice.false)
       c.in_ok-if_match.ensures.0 c.in_ok-if_none_match.ensures.0
-      c.in_ok-md5_under.ensures.0 c.in_ok-blob_md5.ensures.0 c.in_ok-kept.ensures.0 c.in_ok-level.ensures.0,
+      c.in_ok-md5_under.ensures.0 c.in_ok-blob_md5.ensures.0 c.in_ok-kept.ensures.0 c.in-Ok.ensures.0,
   λ i. record {
     if_match = c.in_ok-if_match.ensures.1 i;
     if_none_match = c.in_ok-if_none_match.ensures.1 i;
@@ -17,7 +17,7 @@ returns c = (
     range = c.range_by.ensures i;
     kept = c.in_ok-kept.ensures.1 i;
     metadata = c.empty.ensures i;
-    level = c.in_ok-level.ensures.1 i;
+    level = c.in-Ok.ensures.1 i;
     page = None;
     block = None;
     kinds = None;

@@ -3,7 +3,7 @@ use Rattle.std.specs.Prelude.{is_none}
 use Rattle.std.specs.List.{position_or_len}
 use Rattle.stamp_types.specs.World.{content_from}
 use Rattle.block_blobs.specs.BlockLists.{unnamed_blocks}
-use Rattle.block_blobs.proofs.blob_row.BlobRow.unnamed_by.Given as goal
+use Rattle.block_blobs.proofs.blob_row.BlobRow.unnamed_blocks.Given as goal
 
 -- the entries that are left give the rest of the blocks
 abbrev pub invariant-loop-i : goal.invariant-loop-i

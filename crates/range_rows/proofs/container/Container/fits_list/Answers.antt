@@ -4,5 +4,5 @@ use Rattle.range_rows.proofs.container.Container.fits_list.Goals as goal
 
 pub returns-in-None : goal.returns-in-None
 returns-in-None c =
-    answer_of_new_row c.args.self.now c.args.list.now.blob c.new.result c.as_slice-entries.result.now c.args.list.now.entries c.takes-in-None-2.result
-    c.as_slice-entries.ensures (search rules) c.new.ensures c.takes-in-None-2.ensures
+    answer_of_new_row c.args.self.now c.args.list.now.blob c.new-row.result c.as_slice-entries.result.now c.args.list.now.entries c.takes-answer.result
+    c.as_slice-entries.ensures (search rules) c.new-row.ensures c.takes-answer.ensures
