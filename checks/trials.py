@@ -64,7 +64,7 @@ def at_once(found, texts):
 def refused_in(said, crate):
     """The functions of a crate, by their paths, that a check refused at a goal or at an answer of their own; None if it cannot be read."""
     lines = said.rstrip("\n").split("\n")
-    if not lines[-1].startswith("logic=not-proved"):
+    if not lines[-1].startswith("only="):
         return None
     found, has_goal, answered = set(), False, set()
     for line in lines:
@@ -134,15 +134,18 @@ class Trials:
             print(f"prove: must-fail {edit}: {'refused' if is_refused else 'NOT REFUSED'}, {how}", flush=True)
 
     def try_together(self, crate, texts, functions):
-        """Tries the edits of a list in one check, and returns those that it does not show to be refused."""
+        """Tries the edits of a list in one check, and returns those that it does not show to be refused.
+
+        The check is of the functions that they turn, and of what these call: the crate itself was proved whole."""
         if not self.budget.begin(crate):
             return []
         try:
             changed = {path: text for path, text in texts.items() if path.startswith("src/")}
-            ran = self.rt.checked(self.crates[crate], changed, FLAGS, None)
+            paths = sorted({path for of_edit in functions.values() for path in of_edit})
+            ran = self.rt.checked(self.crates[crate], changed, [*FLAGS, *(word for path in paths for word in ("--only", path))], None)
         finally:
             self.budget.end(crate)
-        found = refused_in(ran.stdout, crate) if ran.returncode == 1 else None
+        found = refused_in(ran.stdout, crate) if ran.returncode in (0, 1) else None
         if found is None:
             print(f"prove: {crate}: {len(functions)} edits were made at once, and the check cannot be read: they are tried alone", flush=True)
             return [*functions]
