@@ -1,0 +1,5 @@
+pub mod Appends
+pub mod Counting
+pub mod Extents
+pub mod Seals
+pub mod Smallest

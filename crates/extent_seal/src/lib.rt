@@ -1,0 +1,12 @@
+//! Extents of three replicas: how blocks are appended, how an extent is sealed, and how it is read.
+#![tactic(auto)]
+
+mod cutting;
+mod laws;
+mod open_extent;
+mod sealed;
+mod shares;
+
+pub use laws::replicas_hold_prefixes;
+pub use open_extent::{Appended, NoReplica, OpenExtent};
+pub use sealed::{ReadFault, Sealed};
