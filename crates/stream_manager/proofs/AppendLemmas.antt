@@ -1,0 +1,45 @@
+-- An append after a settle.
+use Rattle.std.proofs.Common.{◌≡◌, inl, ℕ, Bool, true, false, Option, Some, None, ◌∷◌, refl, arith, Result, Ok, Err, List, [], append-nil, subst}
+use Rattle.std.specs.Option.{is_some}
+use Rattle.stamp_values.specs.declared.place.Place.{Place}
+use Rattle.extent_node.specs.Copies.{Block}
+use Rattle.extent_node.specs.Faults.{held}
+use Rattle.extent_seal.specs.Extents.{Open}
+use Rattle.stream_manager.specs.Places.{Follows, block_at}
+use Rattle.extent_node.specs.Faults.{Counts}
+use Rattle.stream_manager.specs.Counting.{Grows, FailsAppend}
+use Rattle.stream_manager.specs.Outcomes.{IsPut, IsAppend}
+use Rattle.stream_manager.specs.declared.faults.AppendFault.{AppendFault}
+use Rattle.stream_manager.specs.declared.faults.AppendFault.TheVariants as fault
+use Rattle.stream_manager.proofs.PlaceLemmas.{onward}
+
+-- nothing is added after what was added
+onward_none : (es fs gs : List (List Block)) (xs : List Block) → Follows es xs fs → Follows fs [] gs → Follows es xs gs
+onward_none es fs gs xs a b = subst (λ l. Follows es l gs) (append-nil xs) (onward es fs gs xs [] a b)
+
+-- what a put does after the older doubt is settled
+pub put_after : (r : Result Place AppendFault) (es mid fs : List (List Block)) (old new : Open) (kept : Bool) (block : Block)
+    → Follows es (held kept old.tried) mid → IsPut r mid block fs new → IsAppend r es old block fs new
+put_after (Ok p) es mid fs old new kept block a b = ((kept, onward es mid fs _ _ a b.0), b.1, b.2)
+put_after (Err fault.Doubt) es mid fs old new kept block a b = ((kept, onward_none es mid fs _ a b.0), b.1)
+put_after (Err fault.Busy) es mid fs old new kept block a b = inl ((kept, onward_none es mid fs _ a b.0), b.1)
+put_after (Err fault.NoMemory) es mid fs old new kept block a b = inl ((kept, onward_none es mid fs _ a b.0), b.1)
+put_after (Err fault.TooLarge) es mid fs old new kept block a b = absurd b
+
+-- the block of a doubt that is kept
+pub settle_kept : (es fs : List (List Block)) (tried : Option Block) (p : Place) (n m : ℕ) (kept : Bool) → kept ≡ true → is_some tried ≡ true
+    → Follows es (held kept tried) fs
+    → ((b : Block) (q : Place) → held kept tried ≡ b ∷ [] → q.extent ≡ n → q.index ≡ m → block_at fs q ≡ Some b)
+    → p.extent ≡ n → p.index ≡ m → (b : Block) × (tried ≡ Some b) × Follows es (b ∷ []) fs × (block_at fs p ≡ Some b)
+settle_kept es fs (Some b) p n m true k s f a e i = (b, refl, f, a b p refl e i)
+settle_kept es fs None p n m kept k s f a e i = absurd (grind arith)
+settle_kept es fs tried p n m false k s f a e i = absurd (grind arith)
+
+-- the faults of a put after those of a settle
+pub fails_after : (r : Result Place AppendFault) (mid fs : List (List Block)) (new : Open) (block : Block) (a b c : Counts)
+    → Grows a b → IsPut r mid block fs new → FailsAppend r b c → FailsAppend r a c
+fails_after (Ok p) mid fs new block a b c g i f = (omega (arith, g, f), omega (arith, g, f), omega (arith, g, f))
+fails_after (Err fault.Doubt) mid fs new block a b c g i f = (omega (arith, g, f), (omega (arith, g, f), omega (arith, g, f), omega (arith, g, f)))
+fails_after (Err fault.Busy) mid fs new block a b c g i f = (omega (arith, g, f), (omega (arith, g, f), omega (arith, g, f), omega (arith, g, f)))
+fails_after (Err fault.NoMemory) mid fs new block a b c g i f = (omega (arith, g, f), omega (arith, g, f), omega (arith, g, f))
+fails_after (Err fault.TooLarge) mid fs new block a b c g i f = absurd i

@@ -1,0 +1,7 @@
+pub mod AppendLemmas
+pub mod CountLemmas
+pub mod PlaceLemmas
+pub mod ReadLemmas
+pub mod RunLemmas
+pub mod SizeLemmas
+pub mod WalkLemmas

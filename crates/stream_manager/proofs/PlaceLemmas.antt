@@ -1,0 +1,129 @@
+-- Blocks that are appended, and extents that are sealed, leave each block at its place.
+use Rattle.std.proofs.Common.{◌≡◌, ◌≤◌, ◌<◌, ◌+◌, ◌∙◌, ℕ, zero, suc, Bool, Some, Result, Ok, Err, IfOk, List, [], ◌∷◌, ◌++◌, length, map, sym, ap, refl, arith, append-nil, append_assoc}
+use Rattle.std.specs.List.{slice_get}
+use Rattle.std.specs.Option.{option_and_then}
+use Rattle.std.proofs.lemmas.Grind.{flat_map-append}
+use Rattle.std.proofs.lemmas.List.{length-map}
+use Rattle.stamp_values.specs.declared.place.Place.{Place}
+use Rattle.extent_node.specs.Copies.{Block}
+use Rattle.extent_node.specs.Faults.{held}
+use Rattle.extent_seal.specs.Extents.{Open, Closed}
+use Rattle.stream_manager.specs.Extents.{closed_blocks, extents}
+use Rattle.stream_manager.specs.Places.{block_at, blocks_of, KeepsSealed, Follows}
+
+-- what stands in a list stands there if more comes after it
+get_more : {X : Type 0} (xs ys : List X) (i : ℕ) (x : X) → slice_get xs i ≡ Some x → slice_get (xs ++ ys) i ≡ Some x
+get_more [] ys i x h = absurd (grind arith)
+get_more (y ∷ xs) ys zero x h = h
+get_more (y ∷ xs) ys (suc i) x h = get_more xs ys i x h
+
+-- what comes right after a list
+get_next : {X : Type 0} (xs : List X) (x : X) (ys : List X) → slice_get (xs ++ x ∷ ys) (length xs) ≡ Some x
+get_next [] x ys = refl
+get_next (y ∷ xs) x ys = get_next xs x ys
+
+-- the last extent grows, and more extents come after it
+grown_at : (front : List (List Block)) (last more : List Block) (rest : List (List Block)) (e i : ℕ) (b : Block)
+    → option_and_then (λ blocks. slice_get blocks i) (slice_get (front ++ last ∷ []) e) ≡ Some b
+    → option_and_then (λ blocks. slice_get blocks i) (slice_get (front ++ (last ++ more) ∷ rest) e) ≡ Some b
+grown_at [] last more rest zero i b h = get_more last more i b h
+grown_at [] last more rest (suc e) i b h = absurd (grind arith)
+grown_at (x ∷ front) last more rest zero i b h = h
+grown_at (x ∷ front) last more rest (suc e) i b h = grown_at front last more rest e i b h
+
+-- each extent before the last one is as it was
+front_at : (front : List (List Block)) (last new : List Block) (rest : List (List Block)) (e : ℕ) → e + 1 < length (front ++ last ∷ [])
+    → slice_get (front ++ new ∷ rest) e ≡ slice_get (front ++ last ∷ []) e
+front_at [] last new rest e h = absurd (omega arith)
+front_at (x ∷ front) last new rest zero h = refl
+front_at (x ∷ front) last new rest (suc e) h = front_at front last new rest e (omega arith)
+
+-- there are as many extents at least
+longer_by : (front : List (List Block)) (last new : List Block) (rest : List (List Block)) → length (front ++ last ∷ []) ≤ length (front ++ new ∷ rest)
+longer_by [] last new rest = omega arith
+longer_by (x ∷ front) last new rest = let h = longer_by front last new rest in omega arith
+
+front_kept : (front : List (List Block)) (last new : List Block) (rest : List (List Block)) → KeepsSealed (front ++ last ∷ []) (front ++ new ∷ rest)
+front_kept front last new rest = record { closed = λ e h. front_at front last new rest e h; longer = longer_by front last new rest }
+
+-- the last extent takes blocks
+pub grown : (front : List (List Block)) (last more : List Block) → Follows (front ++ last ∷ []) more (front ++ (last ++ more) ∷ [])
+grown front last more = record {
+  order = grind (arith, flat_map-append, append-nil, append_assoc);
+  kept = λ p b h. grown_at front last more [] p.extent p.index b h;
+  sealed = front_kept front last (last ++ more) [];
+}
+
+-- the last extent is sealed with blocks after those that it had, and an extent without blocks follows
+pub closed : (front : List (List Block)) (last more : List Block) → Follows (front ++ last ∷ []) more ((front ++ (last ++ more) ∷ []) ++ [] ∷ [])
+closed front last more = record {
+  order = grind (arith, flat_map-append, append-nil, append_assoc);
+  kept = λ p b h. rw append_assoc (grown_at front last more ([] ∷ []) p.extent p.index b h);
+  sealed = rw append_assoc (front_kept front last (last ++ more) ([] ∷ []));
+}
+
+-- the place of the next block
+pub next_at : (front : List (List Block)) (last : List Block) (b : Block) (more : List Block) (rest : List (List Block)) (p : Place)
+    → p.extent ≡ length front → p.index ≡ length last → block_at (front ++ (last ++ b ∷ more) ∷ rest) p ≡ Some b
+next_at front last b more rest p e i =
+    rw (e, i) (ap (option_and_then (λ blocks. slice_get blocks (length last))) (get_next front (last ++ b ∷ more) rest) ∙ get_next last b more)
+
+-- nothing is added
+pub same : (es : List (List Block)) → Follows es [] es
+same es = record { order = sym (append-nil (blocks_of es)); kept = λ p b h. h; sealed = record { closed = λ e h. refl; longer = omega arith } }
+
+sealed_onward : (es fs gs : List (List Block)) → KeepsSealed es fs → KeepsSealed fs gs → KeepsSealed es gs
+sealed_onward es fs gs a b = record {
+  closed = λ e h. b.closed e (let l = a.longer in omega arith) ∙ a.closed e h;
+  longer = let l = a.longer in let m = b.longer in omega arith;
+}
+
+-- what is added twice is added together
+pub onward : (es fs gs : List (List Block)) (xs ys : List Block) → Follows es xs fs → Follows fs ys gs → Follows es (xs ++ ys) gs
+onward es fs gs xs ys a b = record {
+  order = b.order ∙ ap (λ l. l ++ ys) a.order ∙ append_assoc (blocks_of es) xs ys;
+  kept = λ p x h. b.kept p x (a.kept p x h);
+  sealed = sealed_onward es fs gs a.sealed b.sealed;
+}
+
+-- the extents after a seal
+pub closed_follows : (front after : List (List Block)) (last new more : List Block) → after ≡ front ++ (last ++ more) ∷ [] → new ≡ []
+    → Follows (front ++ last ∷ []) more (after ++ new ∷ [])
+closed_follows front after last new more a n = rw (a, n) (closed front last more)
+
+-- where the block is that the seal kept
+pub closed_at : (front after : List (List Block)) (last new more : List Block) (b : Block) (p : Place) → after ≡ front ++ (last ++ more) ∷ [] → new ≡ []
+    → more ≡ b ∷ [] → p.extent ≡ length front → p.index ≡ length last → block_at (after ++ new ∷ []) p ≡ Some b
+closed_at front after last new more b p a n m e i =
+    rw (a, n, m, append_assoc) (next_at front last b [] ([] ∷ []) p e i)
+
+-- the extents after an append that all nodes took
+pub grown_follows : (front : List (List Block)) (last new : List Block) (b : Block) → new ≡ last ++ b ∷ []
+    → Follows (front ++ last ∷ []) (b ∷ []) (front ++ new ∷ [])
+grown_follows front last new b n = rw n (grown front last (b ∷ []))
+
+-- where the block is that all nodes took
+pub grown_here : (front : List (List Block)) (last new : List Block) (b : Block) (p : Place) → new ≡ last ++ b ∷ []
+    → p.extent ≡ length front → p.index ≡ length last → block_at (front ++ new ∷ []) p ≡ Some b
+grown_here front last new b p n e i = rw n (next_at front last b [] [] p e i)
+
+-- a seal, or no seal
+pub close_follows : {E : Type 0} (r : Result Bool E) (front after : List (List Block)) (last new : Open)
+    → IfOk r (λ kept. after ≡ front ++ (last.blocks ++ held kept last.tried) ∷ []) → IfOk r (λ kept. new.blocks ≡ [])
+    → IfOk r (λ kept. Follows (front ++ last.blocks ∷ []) (held kept last.tried) (after ++ new.blocks ∷ []))
+close_follows (Ok kept) front after last new a n = closed_follows front after last.blocks new.blocks (held kept last.tried) a n
+close_follows (Err e) front after last new a n = tt
+
+-- where the block that was tried is, if the seal kept it
+pub close_at : {E : Type 0} (r : Result Bool E) (sealed : List Closed) (after : List (List Block)) (last new : Open)
+    → IfOk r (λ kept. after ≡ map closed_blocks sealed ++ (last.blocks ++ held kept last.tried) ∷ []) → IfOk r (λ kept. new.blocks ≡ [])
+    → IfOk r (λ kept. (b : Block) → (p : Place) → held kept last.tried ≡ b ∷ [] → p.extent ≡ length sealed → p.index ≡ length last.blocks
+    → block_at (after ++ new.blocks ∷ []) p ≡ Some b)
+close_at (Ok kept) sealed after last new a n =
+    λ b p m e i. closed_at (map closed_blocks sealed) after last.blocks new.blocks (held kept last.tried) b p a n m (e ∙ sym (length-map sealed closed_blocks)) i
+close_at (Err e) sealed after last new a n = tt
+
+-- where the block of an append is
+pub append_at : (sealed : List Closed) (last new : Open) (b : Block) (p : Place) → new.blocks ≡ last.blocks ++ b ∷ []
+    → p.extent ≡ length sealed → p.index ≡ length last.blocks → block_at (extents sealed new) p ≡ Some b
+append_at sealed last new b p n e i = grown_here (map closed_blocks sealed) last.blocks new.blocks b p n (e ∙ sym (length-map sealed closed_blocks)) i

@@ -1,0 +1,18 @@
+use Rattle.stream_manager.specs.Extents.{extents}
+use Rattle.stream_manager.proofs.AppendLemmas.{put_after, fails_after}
+use Rattle.stream_manager.proofs.parts.Parts.append.Goals as goal
+
+pub returns-clause-appended : goal.returns-clause-appended
+returns-clause-appended g c =
+    put_after c.put.result (extents c.args.self.now.sealed.items c.args.self.now.last)
+    (extents c.make_ready.new.self.sealed.items c.make_ready.new.self.last)
+    (extents c.put.new.self.sealed.items c.put.new.self.last)
+    c.args.self.now.last c.put.new.self.last c.in_ok-make_ready.field-0 c.args.block.now
+    (rw (← c.reserve.ensures.items) c.in_ok-make_ready.ensures.follows) c.put.ensures.put
+
+pub returns-clause-counted : goal.returns-clause-counted
+returns-clause-counted g c =
+    fails_after c.put.result (extents c.make_ready.new.self.sealed.items c.make_ready.new.self.last)
+    (extents c.put.new.self.sealed.items c.put.new.self.last) c.put.new.self.last c.args.block.now
+    (g.W.Wire.faults c.args.wire.now) (g.W.Wire.faults c.make_ready.new.wire) (g.W.Wire.faults c.put.new.wire)
+    c.in_ok-make_ready.ensures.counted c.put.ensures.put c.put.ensures.counted

@@ -1,0 +1,9 @@
+pub mod Counting
+pub mod Extents
+pub mod Handles
+pub mod Outcomes
+pub mod Places
+pub mod Runs
+pub mod Sizes
+pub mod Streams
+pub mod Walks

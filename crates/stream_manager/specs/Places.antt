@@ -1,0 +1,29 @@
+-- Blocks at places (SOSP 2011, section 4.1).
+use Rattle.std.specs.Prelude.{◌≡◌, ◌≤◌, ◌<◌, ◌+◌, ℕ, Option, Some, List, ◌++◌, length}
+use Rattle.std.specs.List.{slice_get, flat_map}
+use Rattle.std.specs.Option.{option_and_then}
+use Rattle.stamp_values.specs.declared.place.Place.{Place}
+use Rattle.extent_node.specs.Copies.{Block}
+
+-- the block at a place in a list of extents, each of them a list of blocks
+abbrev pub block_at : List (List Block) → Place → Option Block
+block_at es p = option_and_then (λ blocks. slice_get blocks p.index) (slice_get es p.extent)
+
+-- the blocks of all extents, in their order
+abbrev pub blocks_of : List (List Block) → List Block
+blocks_of es = flat_map (λ blocks. blocks) es
+
+-- each block stays at its place
+abbrev pub KeepsPlaces : List (List Block) → List (List Block) → Type 0
+KeepsPlaces es fs = (p : Place) (b : Block) → block_at es p ≡ Some b → block_at fs p ≡ Some b
+
+-- each extent but the last one has the blocks that it had, and there are as many extents at least
+pub record KeepsSealed (es fs : List (List Block)) : Type 0 where
+  pub closed : (e : ℕ) → e + 1 < length es → slice_get fs e ≡ slice_get es e
+  pub longer : length es ≤ length fs
+
+-- blocks come after those that were there, each block that was there stays at its place, and each sealed extent is as it was
+pub record Follows (es : List (List Block)) (added : List Block) (fs : List (List Block)) : Type 0 where
+  pub order : blocks_of fs ≡ blocks_of es ++ added
+  pub kept : KeepsPlaces es fs
+  pub sealed : KeepsSealed es fs

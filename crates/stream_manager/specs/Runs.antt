@@ -1,0 +1,35 @@
+-- Runs of a stream: any list of appends, settles, seals and shares, over any wire (SOSP 2011, section 4.3).
+use Rattle.std.specs.Prelude.{◌≡◌, ◌⊎◌, Result, List, [], ◌∷◌}
+use Rattle.stamp_values.specs.declared.place.Place.{Place}
+use Rattle.extent_node.specs.Copies.{Block}
+use Rattle.stream_manager.specs.Outcomes.{IsAppend, IsSettled, IsSealed}
+use Rattle.stream_manager.specs.Streams.{Streamed, laid}
+use Rattle.stream_manager.specs.declared.faults.AppendFault.{AppendFault}
+use Rattle.stream_manager.specs.declared.faults.Settled.{Settled}
+use Rattle.stream_manager.specs.declared.faults.SettleFault.{SettleFault}
+
+-- an append, with any answer
+abbrev pub IsAppendStep : Streamed → Streamed → Type 0
+IsAppendStep s t = (r : Result Place AppendFault) × ((block : Block) × IsAppend r (laid s) s.last block (laid t) t.last)
+
+-- a settle, with any answer
+abbrev pub IsSettleStep : Streamed → Streamed → Type 0
+IsSettleStep s t = (r : Result Settled SettleFault) × IsSettled r (laid s) s.last (laid t) t.last
+
+-- a seal, with any answer
+abbrev pub IsSealStep : Streamed → Streamed → Type 0
+IsSealStep s t = (r : Result (Unit {0}) SettleFault) × IsSealed r (laid s) s.last (laid t) t.last
+
+-- one call; a stream that is shared stays as it is
+abbrev pub IsStep : Streamed → Streamed → Type 0
+IsStep s t = IsAppendStep s t ⊎ (IsSettleStep s t ⊎ (IsSealStep s t ⊎ (t ≡ s)))
+
+-- calls one after the other, with the stream after each of them
+abbrev pub IsRun : Streamed → List Streamed → Type 0
+IsRun s [] = Unit {0}
+IsRun s (t ∷ ts) = IsStep s t × IsRun t ts
+
+-- the stream at the end of a run
+abbrev pub end_of : Streamed → List Streamed → Streamed
+end_of s [] = s
+end_of s (t ∷ ts) = end_of t ts

@@ -1,0 +1,72 @@
+//! What appends and settles of a stream answer.
+ghost use Rattle.std.specs.Prelude.{◌≡◌};
+
+use extent_seal::NoReplica;
+use stamp_values::Place;
+use std::alloc::AllocError;
+
+/// Why a block was not appended.
+#[derive(Clone, Copy)]
+pub enum AppendFault {
+    /// The block has over 16,777,216 bytes. No node was called.
+    TooLarge,
+    /// Memory ran out. The block is in no extent.
+    NoMemory,
+    /// The block was tried twice and is in no extent, or no node answered the seal of a full extent or of an older doubt.
+    Busy,
+    /// Some delivery was not Done, and then no node answered. The block is in doubt until the next settle, append or seal.
+    Doubt,
+}
+
+impl From<AllocError> for AppendFault {
+    ghost use Rattle.std.specs.Prelude.{◌≡◌};
+    ghost use Rattle.stream_manager.specs.declared.faults.AppendFault.TheVariants.{NoMemory};
+
+    ghost from_gives = { λ _ e. e ≡ NoMemory };
+
+    fn from(_error: AllocError) -> Self {
+        Self::NoMemory
+    }
+}
+
+impl From<NoReplica> for AppendFault {
+    ghost use Rattle.std.specs.Prelude.{◌≡◌};
+    ghost use Rattle.stream_manager.specs.declared.faults.AppendFault.TheVariants.{Busy};
+
+    ghost from_gives = { λ _ e. e ≡ Busy };
+
+    fn from(_none: NoReplica) -> Self {
+        Self::Busy
+    }
+}
+
+/// What a settle did.
+#[derive(Clone, Copy)]
+pub enum Settled {
+    /// There was no doubt, and no node was called.
+    Clean,
+    /// The block that was in doubt is at the place.
+    Kept(Place),
+    /// The block that was in doubt is in no extent.
+    Dropped,
+}
+
+/// Why a stream was not settled or sealed.
+#[derive(Clone, Copy)]
+pub enum SettleFault {
+    /// No node answered.
+    Busy,
+    /// Memory ran out before a node was called.
+    NoMemory,
+}
+
+impl From<AllocError> for SettleFault {
+    ghost use Rattle.std.specs.Prelude.{◌≡◌};
+    ghost use Rattle.stream_manager.specs.declared.faults.SettleFault.TheVariants.{NoMemory};
+
+    ghost from_gives = { λ _ e. e ≡ NoMemory };
+
+    fn from(_error: AllocError) -> Self {
+        Self::NoMemory
+    }
+}

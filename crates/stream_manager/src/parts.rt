@@ -1,0 +1,378 @@
+//! The extents of a stream, and how blocks are tried on them.
+ghost use Rattle.std.specs.Prelude.{◌≡◌};
+
+use crate::faults::{AppendFault, SettleFault, Settled};
+use crate::handle::{Handle, share_all};
+use crate::spare::Spare;
+use extent_node::Wire;
+use extent_seal::{Appended, NoReplica, OpenExtent, ReadFault};
+use stamp_values::{Place, Share};
+use std::alloc::{AllocError, Global};
+use std::mem;
+
+/// The most bytes that a block of a stream may have.
+pub const BLOCK_LIMIT: usize = 16_777_216;
+
+/// What became of a block that was tried on the last extent.
+#[derive(Drop)]
+pub(crate) enum Tried {
+    /// The block is at the place.
+    Placed(Place),
+    /// The extent is sealed without the block.
+    Excluded,
+    /// No node answered the seal.
+    Doubt,
+}
+
+/// The sealed extents of a stream, and the last one, which takes blocks.
+#[derive(Drop)]
+pub(crate) struct Parts {
+    pub alloc: Global,
+    // The bytes that an extent of two or more blocks may hold.
+    pub limit: u32,
+    pub sealed: Vec<Handle>,
+    pub last: OpenExtent,
+    // The bytes of the acknowledged blocks of the last extent.
+    pub bytes: u64,
+    pub spare: Spare,
+}
+
+impl Parts {
+    ghost use Rattle.std.specs.Prelude.{◌≡◌, ◌↔◌, ◌⊎◌, Ok, ◌<◌, ◌≤◌, ◌+◌, ◌++◌, ◌∷◌, [], None, Some, Err, map, length, IfOk, IsSome, IsSomeAnd, OnErr};
+    ghost use Rattle.std.specs.List.{slice_get};
+    ghost use Rattle.std.specs.Vec.{vec_len, vec_capacity};
+    ghost use Rattle.extent_node.specs.Faults.{held};
+    ghost use Rattle.extent_node.specs.Copies.{Block};
+    ghost use Rattle.extent_seal.specs.Counting.{CallsEach, CallsCopies, CallsNoOther, FailsCopies, FailsEach, all_faults};
+    ghost use Rattle.extent_seal.specs.declared.sealed.ReadFault.TheVariants.{Unreachable};
+    ghost use Rattle.stamp_values.specs.declared.place.Place.{Place};
+    ghost use Rattle.stream_manager.specs.Counting.{CallsAtMost, Grows, CallsTry, FailsTry, CallsAppend, FailsAppend, CallsSettle, FailsSettle, CountsSeal, kept_in};
+    ghost use Rattle.stream_manager.specs.Extents.{closed_blocks, extents};
+    ghost use Rattle.stream_manager.specs.Outcomes.{IsTried, IsPut, IsAppend, IsSettled, IsSealed};
+    ghost use Rattle.stream_manager.specs.Places.{Follows, block_at};
+    ghost use Rattle.stream_manager.specs.Sizes.{IsWithin, AreSized, AreCounted};
+    ghost use Rattle.stream_manager.specs.declared.faults.AppendFault.TheVariants.{TooLarge, Busy};
+    ghost use Rattle.stream_manager.specs.declared.parts.Tried.TheVariants.{Excluded};
+
+    /// Seals the last extent, and answers whether the block that was tried on it lies in it.
+    pub fn close<W: Wire>(&mut self, wire: &mut W) -> Result<bool, NoReplica>
+        requires room { vec_len self.old.sealed < vec_capacity self.old.sealed }
+        ensures limit { self.new.limit ≡ self.old.limit }
+        ensures moved { IfOk result (λ kept. map closed_blocks self.new.sealed.items
+            ≡ map closed_blocks self.old.sealed.items ++ (self.old.last.blocks ++ held kept self.old.last.tried) ∷ []) }
+        ensures blocks { IfOk result (λ kept. self.new.last.blocks ≡ []) }
+        ensures tried { IfOk result (λ kept. self.new.last.tried ≡ None) }
+        ensures same_sealed { OnErr result (self.new.sealed.items ≡ self.old.sealed.items) }
+        ensures same_last { OnErr result (self.new.last ≡ self.old.last) }
+        ensures called { CallsEach (W.calls wire.old) (W.calls wire.new) }
+        ensures counted { IfOk result (λ kept. Grows (W.faults wire.old) (W.faults wire.new)) }
+        ensures unanswered { OnErr result (FailsEach (W.faults wire.old) (W.faults wire.new)) }
+        ensures one_more { vec_len self.new.sealed ≤ vec_len self.old.sealed + 1 }
+        ensures capacity { vec_capacity self.new.sealed ≡ vec_capacity self.old.sealed }
+        ensures bytes { IfOk result (λ kept. self.new.bytes ≡ 0) }
+        ensures same_bytes { OnErr result (self.new.bytes ≡ self.old.bytes) }
+        ensures longer { IfOk result (λ kept. vec_len self.new.sealed ≡ vec_len self.old.sealed + 1) }
+    {
+        let len = self.last.len();
+        let next = self.spare.take(self.alloc);
+        let last = mem::replace(&mut self.last, next);
+        match last.seal(wire) {
+            Ok(sealed) => {
+                let kept = len < sealed.commit_len();
+                self.sealed.push_reserved(Handle::new(sealed));
+                self.bytes = 0;
+                Ok(kept)
+            }
+            Err((last, none)) => {
+                self.last = last;
+                Err(none)
+            }
+        }
+    }
+
+    // The extents after a seal follow those before it.
+    fn close_last<W: Wire>(&mut self, wire: &mut W) -> Result<bool, NoReplica>
+        requires sized { AreSized self.old.limit self.old.sealed.items self.old.last }
+        requires bytes { AreCounted self.old.bytes self.old.last }
+        requires room { vec_len self.old.sealed < vec_capacity self.old.sealed }
+        ensures follows { IfOk result (λ kept. Follows (extents self.old.sealed.items self.old.last)
+            (held kept self.old.last.tried) (extents self.new.sealed.items self.new.last)) }
+        ensures at { IfOk result (λ kept. (b : Block) → (p : Place) → held kept self.old.last.tried ≡ b ∷ []
+            → p.extent ≡ length self.old.sealed.items → p.index ≡ length self.old.last.blocks
+            → block_at (extents self.new.sealed.items self.new.last) p ≡ Some b) }
+        ensures blocks { IfOk result (λ kept. self.new.last.blocks ≡ []) }
+        ensures tried { IfOk result (λ kept. self.new.last.tried ≡ None) }
+        ensures same { OnErr result (extents self.new.sealed.items self.new.last ≡ extents self.old.sealed.items self.old.last) }
+        ensures same_sealed { OnErr result (self.new.sealed.items ≡ self.old.sealed.items) }
+        ensures same_last { OnErr result (self.new.last ≡ self.old.last) }
+        ensures called { CallsEach (W.calls wire.old) (W.calls wire.new) }
+        ensures counted { IfOk result (λ kept. Grows (W.faults wire.old) (W.faults wire.new)) }
+        ensures unanswered { OnErr result (FailsEach (W.faults wire.old) (W.faults wire.new)) }
+        ensures one_more { vec_len self.new.sealed ≤ vec_len self.old.sealed + 1 }
+        ensures capacity { vec_capacity self.new.sealed ≡ vec_capacity self.old.sealed }
+        ensures sized { AreSized self.new.limit self.new.sealed.items self.new.last }
+        ensures bytes { AreCounted self.new.bytes self.new.last }
+        ensures limit { self.new.limit ≡ self.old.limit }
+        ensures longer { IfOk result (λ kept. vec_len self.new.sealed ≡ vec_len self.old.sealed + 1) }
+    {
+        self.close(wire)
+    }
+
+    // Tries the block on the last extent.
+    #[tactic(auto, using(crate::proofs::SizeLemmas::short_sized, crate::proofs::SizeLemmas::whole_sized, crate::proofs::CountLemmas::one_more_bound))]
+    fn try_once<W: Wire>(&mut self, block: &Share, wire: &mut W) -> Result<Tried, AllocError>
+        requires sized { AreSized self.old.limit self.old.sealed.items self.old.last }
+        requires bytes { AreCounted self.old.bytes self.old.last }
+        requires fits { IsWithin self.old.limit (self.old.last.blocks ++ block.now ∷ []) }
+        requires clear { self.old.last.tried ≡ None }
+        requires room { vec_len self.old.sealed < vec_capacity self.old.sealed }
+        ensures tried { IfOk result (λ t. IsTried t (extents self.old.sealed.items self.old.last) block.now
+            (extents self.new.sealed.items self.new.last) self.new.last) }
+        ensures called { IfOk result (λ t. CallsTry t (vec_len self.old.sealed) (vec_len self.new.sealed) (W.calls wire.old) (W.calls wire.new)) }
+        ensures counted { IfOk result (λ t. FailsTry t (W.faults wire.old) (W.faults wire.new)) }
+        ensures refused { OnErr result (self.new ≡ self.old) }
+        ensures unheard { OnErr result (wire.new ≡ wire.old) }
+        ensures one_more { vec_len self.new.sealed ≤ vec_len self.old.sealed + 1 }
+        ensures capacity { vec_capacity self.new.sealed ≡ vec_capacity self.old.sealed }
+        ensures sized { AreSized self.new.limit self.new.sealed.items self.new.last }
+        ensures bytes { AreCounted self.new.bytes self.new.last }
+        ensures limit { self.new.limit ≡ self.old.limit }
+        ensures once { (result ≡ Ok Excluded) → vec_len self.new.sealed ≡ vec_len self.old.sealed + 1 }
+    {
+        let place = Place {
+            extent: self.sealed.len() as u64,
+            index: self.last.len() as u64,
+        };
+        match self.last.append(block, wire)? {
+            Appended::All => {
+                self.bytes = self.bytes.saturating_add(block.len() as u64);
+                Ok(Tried::Placed(place))
+            }
+            Appended::Short => match self.close_last(wire) {
+                Ok(true) => Ok(Tried::Placed(place)),
+                Ok(false) => Ok(Tried::Excluded),
+                Err(NoReplica) => Ok(Tried::Doubt),
+            },
+        }
+    }
+
+    // Tries the block, and once more on a new extent if it is excluded.
+    #[tactic(auto, using(crate::proofs::SizeLemmas::first_within))]
+    fn put<W: Wire>(&mut self, block: &Share, wire: &mut W) -> Result<Place, AppendFault>
+        requires sized { AreSized self.old.limit self.old.sealed.items self.old.last }
+        requires bytes { AreCounted self.old.bytes self.old.last }
+        requires fits { IsWithin self.old.limit (self.old.last.blocks ++ block.now ∷ []) }
+        requires clear { self.old.last.tried ≡ None }
+        requires room { vec_len self.old.sealed + 1 < vec_capacity self.old.sealed }
+        ensures put { IsPut result (extents self.old.sealed.items self.old.last) block.now
+            (extents self.new.sealed.items self.new.last) self.new.last }
+        ensures called { CallsAppend result (vec_len self.old.sealed) (vec_len self.new.sealed) (W.calls wire.old) (W.calls wire.new) }
+        ensures counted { FailsAppend result (W.faults wire.old) (W.faults wire.new) }
+        ensures sized { AreSized self.new.limit self.new.sealed.items self.new.last }
+        ensures bytes { AreCounted self.new.bytes self.new.last }
+        ensures limit { self.new.limit ≡ self.old.limit }
+        ensures twice { (result ≡ Err Busy) → vec_len self.new.sealed ≡ vec_len self.old.sealed + 2 }
+    {
+        match self.try_once(block, wire)? {
+            Tried::Placed(place) => return Ok(place),
+            Tried::Doubt => return Err(AppendFault::Doubt),
+            Tried::Excluded => {}
+        }
+        match self.try_once(block, wire)? {
+            Tried::Placed(place) => Ok(place),
+            Tried::Doubt => Err(AppendFault::Doubt),
+            Tried::Excluded => Err(AppendFault::Busy),
+        }
+    }
+
+    // Settles a doubt, and seals the last extent if it would hold too many bytes with `len` more.
+    #[tactic(auto, using(crate::proofs::SizeLemmas::first_within, crate::proofs::SizeLemmas::room_within, crate::proofs::CountLemmas::one_more_bound))]
+    fn make_ready<W: Wire>(&mut self, len: usize, wire: &mut W) -> Result<bool, NoReplica>
+        requires sized { AreSized self.old.limit self.old.sealed.items self.old.last }
+        requires bytes { AreCounted self.old.bytes self.old.last }
+        requires room { vec_len self.old.sealed < vec_capacity self.old.sealed }
+        ensures follows { IfOk result (λ kept. Follows (extents self.old.sealed.items self.old.last)
+            (held kept self.old.last.tried) (extents self.new.sealed.items self.new.last)) }
+        ensures tried { IfOk result (λ kept. self.new.last.tried ≡ None) }
+        ensures same { OnErr result (extents self.new.sealed.items self.new.last ≡ extents self.old.sealed.items self.old.last) }
+        ensures same_sealed { OnErr result (self.new.sealed.items ≡ self.old.sealed.items) }
+        ensures same_last { OnErr result (self.new.last ≡ self.old.last) }
+        ensures called { IfOk result (λ kept. CallsAtMost 0 (vec_len self.old.sealed) (vec_len self.new.sealed) (W.calls wire.old) (W.calls wire.new)) }
+        ensures unanswered_calls { OnErr result (CallsEach (W.calls wire.old) (W.calls wire.new)) }
+        ensures counted { IfOk result (λ kept. Grows (W.faults wire.old) (W.faults wire.new)) }
+        ensures unanswered { OnErr result (FailsEach (W.faults wire.old) (W.faults wire.new)) }
+        ensures one_more { vec_len self.new.sealed ≤ vec_len self.old.sealed + 1 }
+        ensures capacity { vec_capacity self.new.sealed ≡ vec_capacity self.old.sealed }
+        ensures sized { AreSized self.new.limit self.new.sealed.items self.new.last }
+        ensures bytes { AreCounted self.new.bytes self.new.last }
+        ensures limit { self.new.limit ≡ self.old.limit }
+        ensures fits { IfOk result (λ kept. (b : Block) → length b ≡ len
+            → IsWithin self.new.limit (self.new.last.blocks ++ b ∷ [])) }
+        ensures longer { IfOk result (λ kept. vec_len self.old.sealed ≤ vec_len self.new.sealed) }
+    {
+        if self.last.is_short() {
+            return self.close_last(wire);
+        }
+        if self.last.len() > 0 && self.bytes.saturating_add(len as u64) > u64::from(self.limit) {
+            return self.close_last(wire);
+        }
+        Ok(false)
+    }
+
+    /// Appends the block, after a doubt is settled.
+    #[tactic(auto, using(crate::proofs::CountLemmas::one_more_bound))]
+    pub fn append<W: Wire>(&mut self, block: &Share, wire: &mut W) -> Result<Place, AppendFault>
+        requires sized { AreSized self.old.limit self.old.sealed.items self.old.last }
+        requires bytes { AreCounted self.old.bytes self.old.last }
+        ensures appended { IsAppend result (extents self.old.sealed.items self.old.last) self.old.last block.now
+            (extents self.new.sealed.items self.new.last) self.new.last }
+        ensures called { CallsAppend result (vec_len self.old.sealed) (vec_len self.new.sealed) (W.calls wire.old) (W.calls wire.new) }
+        ensures counted { FailsAppend result (W.faults wire.old) (W.faults wire.new) }
+        ensures large { (result ≡ Err TooLarge) ↔ (16_777_216 < length block.now) }
+        ensures unheard { (result ≡ Err TooLarge) → wire.new ≡ wire.old }
+        ensures sized { AreSized self.new.limit self.new.sealed.items self.new.last }
+        ensures bytes { AreCounted self.new.bytes self.new.last }
+        ensures limit { self.new.limit ≡ self.old.limit }
+        ensures busy { (result ≡ Err Busy) → ((self.new.sealed.items ≡ self.old.sealed.items) × FailsEach (W.faults wire.old) (W.faults wire.new))
+            ⊎ (length self.old.sealed.items + 2 ≤ length self.new.sealed.items) }
+    {
+        if block.len() > BLOCK_LIMIT {
+            return Err(AppendFault::TooLarge);
+        }
+        self.sealed.reserve(3)?;
+        self.make_ready(block.len(), wire)?;
+        self.spare.reserve()?;
+        self.put(block, wire)
+    }
+
+    /// Settles a doubt, if there is one.
+    pub fn settle<W: Wire>(&mut self, wire: &mut W) -> Result<Settled, SettleFault>
+        requires sized { AreSized self.old.limit self.old.sealed.items self.old.last }
+        requires bytes { AreCounted self.old.bytes self.old.last }
+        ensures settled { IsSettled result (extents self.old.sealed.items self.old.last) self.old.last
+            (extents self.new.sealed.items self.new.last) self.new.last }
+        ensures called { CallsSettle result (W.calls wire.old) (W.calls wire.new) }
+        ensures counted { FailsSettle result (W.faults wire.old) (W.faults wire.new) }
+        ensures sized { AreSized self.new.limit self.new.sealed.items self.new.last }
+        ensures bytes { AreCounted self.new.bytes self.new.last }
+        ensures limit { self.new.limit ≡ self.old.limit }
+    {
+        if !self.last.is_short() {
+            return Ok(Settled::Clean);
+        }
+        self.sealed.reserve(1)?;
+        let place = Place {
+            extent: self.sealed.len() as u64,
+            index: self.last.len() as u64,
+        };
+        match self.close_last(wire) {
+            Ok(true) => Ok(Settled::Kept(place)),
+            Ok(false) => Ok(Settled::Dropped),
+            Err(NoReplica) => Err(SettleFault::Busy),
+        }
+    }
+
+    /// Seals the last extent if it holds a block or a doubt.
+    pub fn seal<W: Wire>(&mut self, wire: &mut W) -> Result<(), SettleFault>
+        requires sized { AreSized self.old.limit self.old.sealed.items self.old.last }
+        requires bytes { AreCounted self.old.bytes self.old.last }
+        ensures sealed { IsSealed result (extents self.old.sealed.items self.old.last) self.old.last
+            (extents self.new.sealed.items self.new.last) self.new.last }
+        ensures counted { CountsSeal result (W.calls wire.old) (W.calls wire.new) (W.faults wire.old) (W.faults wire.new) }
+        ensures sized { AreSized self.new.limit self.new.sealed.items self.new.last }
+        ensures bytes { AreCounted self.new.bytes self.new.last }
+        ensures limit { self.new.limit ≡ self.old.limit }
+    {
+        if !self.last.is_short() && self.last.len() == 0 {
+            return Ok(());
+        }
+        self.sealed.reserve(1)?;
+        match self.close_last(wire) {
+            Ok(_kept) => Ok(()),
+            Err(NoReplica) => Err(SettleFault::Busy),
+        }
+    }
+
+    /// No extents but an empty one. Takes no memory.
+    pub fn new(alloc: Global, limit: u32) -> Self
+        ensures limit { result.limit ≡ limit }
+        ensures sized { AreSized result.limit result.sealed.items result.last }
+        ensures bytes { AreCounted result.bytes result.last }
+        ensures sealed { result.sealed.items ≡ [] }
+        ensures blocks { result.last.blocks ≡ [] }
+        ensures tried { result.last.tried ≡ None }
+    {
+        Self {
+            alloc,
+            limit,
+            sealed: Vec::new(alloc),
+            last: OpenExtent::new(alloc),
+            bytes: 0,
+            spare: Spare::new(alloc),
+        }
+    }
+
+    /// The block at a place.
+    #[tactic(auto, using(crate::proofs::ReadLemmas::in_sealed, crate::proofs::ReadLemmas::in_last))]
+    pub fn read<W: Wire>(&self, place: Place, wire: &mut W) -> Result<Share, ReadFault>
+        requires { IsSome (block_at (extents self.now.sealed.items self.now.last) place) }
+        ensures read { IfOk result (λ b. block_at (extents self.now.sealed.items self.now.last) place ≡ Some b) }
+        ensures called { result ≡ Err Unreachable → CallsCopies (kept_in self.now.sealed.items place.extent) (W.calls wire.old) (W.calls wire.new) }
+        ensures unreachable { result ≡ Err Unreachable → FailsCopies (kept_in self.now.sealed.items place.extent) (W.faults wire.old) (W.faults wire.new) }
+        ensures faulty { result ≡ Err Unreachable → all_faults (W.faults wire.old) < all_faults (W.faults wire.new) }
+        ensures discarded { CallsNoOther (kept_in self.now.sealed.items place.extent) (W.calls wire.old) (W.calls wire.new) }
+    {
+        let index = place.index as usize;
+        match self.sealed.get(place.extent as usize) {
+            Some(handle) => handle.extent().read(index, wire),
+            None => self.last.read(index, wire),
+        }
+    }
+
+    /// How many extents there are, with the last one.
+    #[tactic(auto, using(crate::proofs::ReadLemmas::count_of_extents))]
+    pub fn extent_count(&self) -> usize
+        ensures { result ≡ length (extents self.now.sealed.items self.now.last) }
+    {
+        self.sealed.len() + 1
+    }
+
+    /// How many acknowledged blocks an extent has.
+    #[tactic(auto, using(crate::proofs::ReadLemmas::sealed_extent, crate::proofs::ReadLemmas::last_extent))]
+    pub fn extent_len(&self, extent: usize) -> usize
+        requires { extent < length (extents self.now.sealed.items self.now.last) }
+        ensures { IsSomeAnd (slice_get (extents self.now.sealed.items self.now.last) extent) (λ blocks. result ≡ length blocks) }
+    {
+        match self.sealed.get(extent) {
+            Some(handle) => handle.extent().commit_len(),
+            None => self.last.len(),
+        }
+    }
+
+    /// The same sealed extents, each of them shared, with a last extent of its own.
+    #[tactic(auto, using(crate::proofs::SizeLemmas::none_sized))]
+    pub fn share(&mut self) -> Result<Self, AllocError>
+        requires sized { AreSized self.old.limit self.old.sealed.items self.old.last }
+        ensures same { extents self.new.sealed.items self.new.last ≡ extents self.old.sealed.items self.old.last }
+        ensures same_sealed { self.new.sealed.items ≡ self.old.sealed.items }
+        ensures same_last { self.new.last ≡ self.old.last }
+        ensures same_limit { self.new.limit ≡ self.old.limit }
+        ensures same_bytes { self.new.bytes ≡ self.old.bytes }
+        ensures sealed { IfOk result (λ s. s.sealed.items ≡ self.old.sealed.items) }
+        ensures blocks { IfOk result (λ s. s.last.blocks ≡ []) }
+        ensures tried { IfOk result (λ s. s.last.tried ≡ None) }
+        ensures limit { IfOk result (λ s. s.limit ≡ self.old.limit) }
+        ensures sized { IfOk result (λ s. AreSized s.limit s.sealed.items s.last) }
+        ensures bytes { IfOk result (λ s. AreCounted s.bytes s.last) }
+    {
+        let sealed = share_all(&mut self.sealed, self.alloc)?;
+        Ok(Self {
+            alloc: self.alloc,
+            limit: self.limit,
+            sealed,
+            last: OpenExtent::new(self.alloc),
+            bytes: 0,
+            spare: Spare::new(self.alloc),
+        })
+    }
+}

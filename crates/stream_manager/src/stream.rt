@@ -1,0 +1,139 @@
+//! Streams.
+ghost use Rattle.std.specs.Prelude.{◌≡◌};
+
+use crate::faults::{AppendFault, SettleFault, Settled};
+use crate::parts::Parts;
+use extent_node::Wire;
+use extent_seal::ReadFault;
+use stamp_values::{Place, Share};
+use std::alloc::{AllocError, Global};
+use std::marker::Model;
+
+/// A list of extents of blocks, whose last extent takes blocks (SOSP 2011, section 4.1).
+#[derive(Drop)]
+pub struct Stream {
+    parts: Parts,
+}
+
+impl Model for Stream {
+    ghost use Rattle.stream_manager.specs.Streams.{Streamed};
+    ghost use Rattle.stream_manager.specs.Sizes.{AreSized, AreCounted};
+
+    ghost Value = { Streamed };
+
+    ghost view = { λ s. record { limit = s.parts.limit; sealed = s.parts.sealed.items; last = s.parts.last } };
+
+    ghost invariant = { λ s. AreSized s.parts.limit s.parts.sealed.items s.parts.last × AreCounted s.parts.bytes s.parts.last };
+}
+
+impl Stream {
+    ghost use Rattle.std.specs.Prelude.{◌≡◌, ◌↔◌, ◌⊎◌, ◌≤◌, ◌<◌, ◌+◌, [], None, Some, Ok, Err, length, IfOk, IsSome, IsSomeAnd};
+    ghost use Rattle.std.specs.List.{slice_get};
+    ghost use Rattle.extent_seal.specs.Counting.{CallsCopies, CallsNoOther, FailsCopies, FailsEach, all_faults};
+    ghost use Rattle.extent_seal.specs.declared.sealed.ReadFault.TheVariants.{Unreachable};
+    ghost use Rattle.stream_manager.specs.Counting.{CallsAppend, FailsAppend, CallsSettle, FailsSettle, CountsSeal, kept_in};
+    ghost use Rattle.stream_manager.specs.Outcomes.{IsAppend, IsSettled, IsSealed};
+    ghost use Rattle.stream_manager.specs.Places.{block_at};
+    ghost use Rattle.stream_manager.specs.Sizes.{AreSized};
+    ghost use Rattle.stream_manager.specs.Streams.{laid};
+    ghost use Rattle.stream_manager.specs.declared.faults.AppendFault.TheVariants.{TooLarge, Busy};
+
+    /// A stream without blocks, whose extents of two or more blocks have at most `extent_bytes` bytes. Takes no memory.
+    pub fn new(alloc: Global, extent_bytes: u32) -> Self
+        ensures limit { result.limit ≡ extent_bytes }
+        ensures sealed { result.sealed ≡ [] }
+        ensures blocks { result.last.blocks ≡ [] }
+        ensures tried { result.last.tried ≡ None }
+    {
+        Self {
+            parts: Parts::new(alloc, extent_bytes),
+        }
+    }
+
+    /// Appends a block after all others, and answers its place. No byte is copied.
+    ///
+    /// An older doubt is settled first, and an extent that the block would make too large is sealed first. If some delivery is not
+    /// Done, the extent is sealed; if the block is not within its commit length, the block is tried once more, on a new extent.
+    pub fn append<W: Wire>(&mut self, block: &Share, wire: &mut W) -> Result<Place, AppendFault>
+        ensures appended { IsAppend result (laid self.old) self.old.last block.now (laid self.new) self.new.last }
+        ensures called { CallsAppend result (length self.old.sealed) (length self.new.sealed) (W.calls wire.old) (W.calls wire.new) }
+        ensures counted { FailsAppend result (W.faults wire.old) (W.faults wire.new) }
+        ensures large { (result ≡ Err TooLarge) ↔ (16_777_216 < length block.now) }
+        ensures unheard { (result ≡ Err TooLarge) → wire.new ≡ wire.old }
+        ensures busy { (result ≡ Err Busy) → ((self.new.sealed ≡ self.old.sealed) × FailsEach (W.faults wire.old) (W.faults wire.new)) ⊎ (length self.old.sealed + 2 ≤ length self.new.sealed) }
+        ensures limit { self.new.limit ≡ self.old.limit }
+        ensures sized { AreSized self.new.limit self.new.sealed self.new.last }
+    {
+        self.parts.append(block, wire)
+    }
+
+    /// Settles a doubt, if there is one: the block that is in doubt is kept or dropped.
+    ///
+    /// Busy: no node answered, and the stream is as it was.
+    pub fn settle<W: Wire>(&mut self, wire: &mut W) -> Result<Settled, SettleFault>
+        ensures settled { IsSettled result (laid self.old) self.old.last (laid self.new) self.new.last }
+        ensures called { CallsSettle result (W.calls wire.old) (W.calls wire.new) }
+        ensures counted { FailsSettle result (W.faults wire.old) (W.faults wire.new) }
+        ensures limit { self.new.limit ≡ self.old.limit }
+        ensures sized { AreSized self.new.limit self.new.sealed self.new.last }
+    {
+        self.parts.settle(wire)
+    }
+
+    /// Seals the last extent, if it has a block or a doubt. A doubt is settled by this.
+    ///
+    /// Busy: no node answered, and the stream is as it was.
+    pub fn seal<W: Wire>(&mut self, wire: &mut W) -> Result<(), SettleFault>
+        ensures sealed { IsSealed result (laid self.old) self.old.last (laid self.new) self.new.last }
+        ensures counted { CountsSeal result (W.calls wire.old) (W.calls wire.new) (W.faults wire.old) (W.faults wire.new) }
+        ensures limit { self.new.limit ≡ self.old.limit }
+        ensures sized { AreSized self.new.limit self.new.sealed self.new.last }
+    {
+        self.parts.seal(wire)
+    }
+
+    /// The block at a place. No byte is copied.
+    ///
+    /// The nodes that have a copy of the extent are asked in the order 0, 1, 2 until one of them answers yes. Unreachable: every node
+    /// with a copy was asked once and answered no.
+    pub fn read<W: Wire>(&self, place: Place, wire: &mut W) -> Result<Share, ReadFault>
+        requires { IsSome (block_at (laid self.now) place) }
+        ensures read { IfOk result (λ b. block_at (laid self.now) place ≡ Some b) }
+        ensures called { result ≡ Err Unreachable → CallsCopies (kept_in self.now.sealed place.extent) (W.calls wire.old) (W.calls wire.new) }
+        ensures unreachable { result ≡ Err Unreachable → FailsCopies (kept_in self.now.sealed place.extent) (W.faults wire.old) (W.faults wire.new) }
+        ensures faulty { result ≡ Err Unreachable → all_faults (W.faults wire.old) < all_faults (W.faults wire.new) }
+        ensures discarded { CallsNoOther (kept_in self.now.sealed place.extent) (W.calls wire.old) (W.calls wire.new) }
+    {
+        self.parts.read(place, wire)
+    }
+
+    /// How many extents there are: the sealed ones, and the last one, which takes blocks.
+    pub fn extent_count(&self) -> usize
+        ensures { result ≡ length (laid self.now) }
+    {
+        self.parts.extent_count()
+    }
+
+    /// How many acknowledged blocks an extent has.
+    pub fn extent_len(&self, extent: usize) -> usize
+        requires { extent < length (laid self.now) }
+        ensures { IsSomeAnd (slice_get (laid self.now) extent) (λ blocks. result ≡ length blocks) }
+    {
+        self.parts.extent_len(extent)
+    }
+
+    /// A stream with the same sealed extents under the same numbers, and without a block after them. No block is copied.
+    ///
+    /// Both streams share the sealed extents; an extent gets its count of owners when it is first shared. `AllocError`: the stream
+    /// is as it was.
+    pub fn share(&mut self) -> Result<Self, AllocError>
+        ensures same { self.new ≡ self.old }
+        ensures sealed { IfOk result (λ s. s.sealed ≡ self.old.sealed) }
+        ensures blocks { IfOk result (λ s. s.last.blocks ≡ []) }
+        ensures tried { IfOk result (λ s. s.last.tried ≡ None) }
+        ensures limit { IfOk result (λ s. s.limit ≡ self.old.limit) }
+    {
+        let parts = self.parts.share()?;
+        Ok(Self { parts })
+    }
+}
