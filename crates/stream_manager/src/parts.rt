@@ -40,6 +40,7 @@ pub(crate) struct Parts {
 impl Parts {
     ghost use Rattle.std.specs.Prelude.{◌≡◌, ◌↔◌, ◌⊎◌, Ok, ◌<◌, ◌≤◌, ◌+◌, ◌++◌, ◌∷◌, [], None, Some, Err, map, length, IfOk, IsSome, IsSomeAnd, OnErr};
     ghost use Rattle.std.specs.List.{slice_get};
+    ghost use Rattle.std.specs.Option.{is_some};
     ghost use Rattle.std.specs.Vec.{vec_len, vec_capacity};
     ghost use Rattle.extent_node.specs.Faults.{held};
     ghost use Rattle.extent_node.specs.Copies.{Block};
@@ -326,6 +327,19 @@ impl Parts {
         match self.sealed.get(place.extent as usize) {
             Some(handle) => handle.extent().read(index, wire),
             None => self.last.read(index, wire),
+        }
+    }
+
+    /// Whether there is an acknowledged block at the place.
+    #[tactic(auto, using(crate::proofs::ReadLemmas::has_sealed, crate::proofs::ReadLemmas::has_last))]
+    pub fn has_block(&self, place: Place) -> bool
+        ensures { result ≡ is_some (block_at (extents self.now.sealed.items self.now.last) place) }
+    {
+        let extent = place.extent as usize;
+        let index = place.index as usize;
+        match self.sealed.get(extent) {
+            Some(handle) => index < handle.extent().commit_len(),
+            None => extent == self.sealed.len() && index < self.last.len(),
         }
     }
 

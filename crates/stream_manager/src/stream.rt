@@ -29,6 +29,7 @@ impl Model for Stream {
 impl Stream {
     ghost use Rattle.std.specs.Prelude.{◌≡◌, ◌↔◌, ◌⊎◌, ◌≤◌, ◌<◌, ◌+◌, [], None, Some, Ok, Err, length, IfOk, IsSome, IsSomeAnd};
     ghost use Rattle.std.specs.List.{slice_get};
+    ghost use Rattle.std.specs.Option.{is_some};
     ghost use Rattle.extent_seal.specs.Counting.{CallsCopies, CallsNoOther, FailsCopies, FailsEach, all_faults};
     ghost use Rattle.extent_seal.specs.declared.sealed.ReadFault.TheVariants.{Unreachable};
     ghost use Rattle.stream_manager.specs.Counting.{CallsAppend, FailsAppend, CallsSettle, FailsSettle, CountsSeal, kept_in};
@@ -105,6 +106,13 @@ impl Stream {
         ensures discarded { CallsNoOther (kept_in self.now.sealed place.extent) (W.calls wire.old) (W.calls wire.new) }
     {
         self.parts.read(place, wire)
+    }
+
+    /// Whether there is an acknowledged block at the place. No node is called.
+    pub fn has_block(&self, place: Place) -> bool
+        ensures { result ≡ is_some (block_at (laid self.now) place) }
+    {
+        self.parts.has_block(place)
     }
 
     /// How many extents there are: the sealed ones, and the last one, which takes blocks.
