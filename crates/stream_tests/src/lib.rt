@@ -9,6 +9,7 @@ mod call_tests;
 mod every_delivery_tests;
 #[cfg(test)]
 mod plain_stream;
+mod sample_places;
 #[cfg(test)]
 mod samples;
 #[cfg(test)]

@@ -1,4 +1,5 @@
 //! Wires, blocks and answers for tests.
+use crate::sample_places::place;
 use extent_node::{Delivery, Script};
 use extent_seal::ReadFault;
 use stamp_values::{Place, Share};
@@ -73,7 +74,7 @@ pub(crate) fn settle(stream: &mut Stream, wire: &mut Script) -> Told {
 
 /// Reads the block at a place, if there is one.
 pub(crate) fn read(stream: &Stream, extent: u64, index: u64, wire: &mut Script) -> Told {
-    let place = Place { extent, index };
+    let place = place(extent, index);
     if !stream.has_block(place) {
         return Told::Nothing;
     }
