@@ -15,6 +15,7 @@ HEADING = """# Written by ./prove. A line for each must-fail edit that was tried
 """
 LINE = re.compile(r"(?P<edit>\w+/[\w.-]+) (?P<turned>[0-9a-f]{16}) (?P<around>[0-9a-f]{16}) (?P<day>\d{4}-\d\d-\d\d) (?P<toolchain>\S.*)")
 FUNCTION = re.compile(r"( *)(?:pub(?:\([\w ]+\))? )?(?:const )?(?:unsafe )?fn (\w+)")
+TYPE = re.compile(r"^(?:pub(?:\([\w ]+\))? )?(?:struct|enum) (\w+)", re.M)
 IMPLS = re.compile(r"impl(?:<.*?>)? (?:(?:\w+::)*(\w+)(?:<.*>)? for )?(?:\w+::)*(\w+)")
 
 
@@ -28,12 +29,14 @@ class Function:
     has_clause: bool
 
 
-def functions(text, module):
-    """The functions of a source file in the layout of `rt fmt`: a body begins with `{` at the end of the header or on a line of its own."""
-    lines, found, owner = text.split("\n"), [], ""
+def functions(text, module, homes):
+    """The functions of a source file in the layout of `rt fmt`: a body begins with `{` at the end of the header or on a line of its own.
+
+    The prover names a method by the module of its type, wherever the `impl` is: `homes` has the modules of the types."""
+    lines, found, owner = text.split("\n"), [], ()
     for first, line in enumerate(lines):
         impl, head = IMPLS.match(line), FUNCTION.match(line)
-        owner = f"{impl[2]}{impl[1] or ''}" if impl else "" if line == "}" else owner
+        owner = (*homes.get(impl[2], module), f"{impl[2]}{impl[1] or ''}") if impl else () if line == "}" else owner
         if not head:
             continue
         indent, start = head[1], first
@@ -50,7 +53,7 @@ def functions(text, module):
         is_empty = lines[start].endswith("{}")
         end = start if is_empty else next((at for at in range(start, len(lines)) if lines[at] == f"{indent}}}"), len(lines))
         has_clause = any(it.lstrip().startswith("ensures") for it in lines[first:start])
-        path = "::".join([*module, *([owner] if owner and indent else []), head[2]])
+        path = "::".join([*(owner if owner and indent else module), head[2]])
         found.append(Function(path, first, range(start + 1, end), has_clause))
     return found
 
@@ -59,6 +62,11 @@ def module_of(path):
     """The module of a source file as a path of names: empty for the root."""
     names = Path(path).with_suffix("").parts[1:]
     return () if names in (("lib",), ("main",)) else names
+
+
+def homes_of(texts):
+    """The modules of the types that a crate's sources declare, by their names."""
+    return {name: module_of(path) for path, text in texts.items() if path.startswith("src/") for name in TYPE.findall(text)}
 
 
 def stripped(text, path):
@@ -70,7 +78,7 @@ def stripped(text, path):
 def statements(text, path):
     """What a source file says outside of the bodies of its functions."""
     lines = text.split("\n")
-    inside = {at for it in functions(text, ()) for at in it.body}
+    inside = {at for it in functions(text, (), {}) for at in it.body}
     return stripped("\n".join(line for at, line in enumerate(lines) if at not in inside), path)
 
 
@@ -108,7 +116,7 @@ class Edit:
             if not path.startswith("src/") or texts.get(path, "").count(old) != 1:
                 return None
             line = texts[path][: texts[path].index(old)].count("\n")
-            around = [it for it in functions(texts[path], module_of(path)) if line in it.body and it.has_clause]
+            around = [it for it in functions(texts[path], module_of(path), homes_of(texts)) if line in it.body and it.has_clause]
             if not around:
                 return None
             found.add(around[-1].path)
