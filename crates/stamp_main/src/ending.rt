@@ -5,7 +5,7 @@ ghost use Rattle.stamp_main.specs.Ending.{ending_status, run_ending};
 use http_front::FrontFault;
 
 /// How the program ended.
-#[derive(Clone, Copy, PartialEq, Eq)]
+#[derive(Clone, Copy, Debug, PartialEq, Eq)]
 pub(crate) enum Ending {
     /// The command was carried out to its end.
     Done,
