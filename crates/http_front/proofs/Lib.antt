@@ -1,6 +1,4 @@
 pub mod BufferLemmas
-pub mod DecisionLemmas
-pub mod PlainLemmas
 pub mod Ends
 pub mod Fronts
 pub mod HeadLines

@@ -3,19 +3,15 @@
 
 mod buffer;
 mod connection;
-mod content;
-mod decision;
 mod end;
 mod head_end;
 mod input;
 mod output;
-mod plain;
 mod service;
 mod stream_laws;
 
 pub use connection::run;
 pub use end::{End, FrontFault};
-pub use plain::Plain;
 pub use service::{Clock, Service};
 pub use stream_laws::{
     a_head_ends_with_its_first_empty_line, a_stream_is_read_in_one_way, each_stream_is_read,

@@ -5,7 +5,8 @@ ghost use Rattle.replay_cases.specs.declared.creation.ServiceFault.TheVariants.{
 use crate::case::Case;
 use crate::clock::Moments;
 use access_rules::Keys;
-use http_front::{End, Plain, run};
+use account_service::Plain;
+use http_front::{End, run};
 use moment_text::write_http;
 use stamp_types::Moment;
 use std::alloc::{AllocError, Global};

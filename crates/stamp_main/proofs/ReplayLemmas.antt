@@ -14,7 +14,7 @@ use Rattle.http_front.specs.Conversations.Exchange.{Answered, RefusedAt}
 use Rattle.reply_form.specs.FixedReplies.{out_of_memory_bytes}
 use Rattle.request_form.specs.HeadForms.{with_body}
 use Rattle.http_front.specs.Outcomes.{UnlessWriteOrMemoryFailed}
-use Rattle.http_front.specs.PlainAnswers.{Held, AnswersAsModel, empty_held, held_reply}
+use Rattle.stamp_model.specs.Services.{Held, AnswersAsModel, empty_held, held_reply}
 use Rattle.reply_form.specs.ReplyBytes.{reply_bytes}
 use Rattle.http_front.specs.Streams.{Item, Tail, Reads, interim, tail_bytes}
 use Rattle.http_front.specs.Streams.Item.{Requested, Refused}

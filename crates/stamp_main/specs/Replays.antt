@@ -15,7 +15,7 @@ use Rattle.http_front.specs.Conversations.{IsInterimOrNothing, EndsAs}
 use Rattle.http_front.specs.Inputs.{read_size}
 use Rattle.reply_form.specs.FixedReplies.{out_of_memory_bytes}
 use Rattle.request_form.specs.HeadForms.{with_body}
-use Rattle.http_front.specs.PlainAnswers.{Held, empty_held, held_reply, held_after}
+use Rattle.stamp_model.specs.Services.{Held, empty_held, held_reply, held_after}
 use Rattle.reply_form.specs.ReplyBytes.{reply_bytes}
 use Rattle.http_front.specs.Streams.{Item, Tail, Reads, ReadsFront, interim, tail_bytes, refusal_of}
 use Rattle.http_front.specs.Streams.Item.{Requested, Refused}

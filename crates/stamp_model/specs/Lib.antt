@@ -7,3 +7,4 @@ pub mod Ranges
 pub mod Refusals
 pub mod Responses
 pub mod Runs
+pub mod Services

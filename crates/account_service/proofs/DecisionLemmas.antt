@@ -1,0 +1,129 @@
+-- What is decided on a request.
+use Rattle.std.proofs.Common.{◌≡◌, ◌≤◌, ◌<◌, ◌⊎◌, inl, inr, ℕ, ◌-◌, arith, true, List, [], ◌∷◌, ◌++◌, length, length-append, take, drop, Option, Some, None, refl, sym, ap, subst}
+use Rattle.std.proofs.lemmas.List.{append-nil, length-take}
+use Rattle.std.proofs.lemmas.List.Sums.{sum_by-cons}
+use Rattle.std.specs.Option.{option_map, option_or}
+use Rattle.stamp_values.specs.declared.condition.ByteRange.{ByteRange}
+use Rattle.stamp_values.specs.declared.op.Op.{Op}
+use Rattle.stamp_values.specs.declared.op.Op.TheVariants as op
+use Rattle.stamp_types.specs.declared.committed.Committed.{Committed}
+use Rattle.stamp_types.specs.declared.piece.Piece.{Piece}
+use Rattle.stamp_types.specs.declared.refusal.Refusal.{Refusal}
+use Rattle.stamp_types.specs.declared.reply.Reply.{Reply}
+use Rattle.stamp_types.specs.declared.rule.Rule.{Rule}
+use Rattle.stamp_types.specs.declared.standing.Standing.{Standing}
+use Rattle.stamp_types.specs.Pieces.{piece_bytes}
+use Rattle.stamp_types.specs.Requests.{Asked}
+use Rattle.stamp_types.specs.World.{Blob, Part}
+use Rattle.access_rules.specs.declared.judgement.Verdict.TheVariants.{Allow, Deny}
+use Rattle.access_rules.specs.declared.judgement.Way.{Way}
+use Rattle.access_rules.specs.declared.keys.Keys.{Keys}
+use Rattle.access_rules.specs.Rules.{first_rule, verdict_by, verdict_of, way_of}
+use Rattle.range_rows.specs.Access.{acl_of}
+use Rattle.range_rows.specs.declared.answer.Span.{Span}
+use Rattle.range_rows.specs.FoundParts.{sizes_found}
+use Rattle.range_rows.specs.NamedBlobs.{target_blob}
+use Rattle.range_rows.specs.ObjectReplies.{blob_read, frame, frame_by, is_served, ranged_frame, span_bytes, spans, spans_by, spans_len, standing_read}
+use Rattle.range_rows.specs.ObjectRules.{object_refusal}
+use Rattle.stamp_model.specs.Refusals.{access_refusal}
+use Rattle.stamp_model.proofs.ReplyLemmas.{unrefused}
+use Rattle.account_service.specs.Decisions.{decided_by, found_refusal, object_or_unserved}
+use Rattle.account_service.specs.HeldRows.{bytes_held}
+use Rattle.account_service.specs.declared.decision.Decision.TheVariants as decision
+
+-- ---- the verdict
+
+denied_by : (rule : Option Rule) (way : Way) (r : Rule) → verdict_by rule way ≡ Deny r → rule ≡ Some r
+denied_by None way r e = cc
+denied_by (Some x) way r e = let same : x ≡ r = cc in ap Some same
+
+allowed_by : (rule : Option Rule) (way w : Way) → verdict_by rule way ≡ Allow w → rule ≡ None
+allowed_by None way w e = refl
+allowed_by (Some x) way w e = cc
+
+module _ (keys : Keys) (p : Part (List Piece)) (q : Asked) (t : ℕ) where
+  by_first : (o : Option Rule) → first_rule (Some keys) (acl_of p) q.ask t ≡ o → option_or (option_map access_refusal o) (object_or_unserved p q) ≡ found_refusal keys p q t
+  by_first o e = sym (ap (λ (o : Option Rule). option_or (option_map access_refusal o) (object_or_unserved p q)) e)
+
+  -- a verdict that denies gives the refusal
+  pub refusal_denied : (r : Rule) → Deny r ≡ verdict_of (Some keys) (acl_of p) q.ask t → Some (access_refusal r) ≡ found_refusal keys p q t
+  refusal_denied r e = by_first (Some r) (denied_by _ (way_of q.ask.credential) r (sym e))
+
+  -- a verdict that allows leaves the refusal to the object and to whether the operation is served
+  pub refusal_allowed : (way : Way) → Allow way ≡ verdict_of (Some keys) (acl_of p) q.ask t → object_or_unserved p q ≡ found_refusal keys p q t
+  refusal_allowed way e = by_first None (allowed_by _ (way_of q.ask.credential) way (sym e))
+
+  -- if nothing refuses a request, the object does not refuse it
+  pub unopposed : None ≡ found_refusal keys p q t → object_refusal (sizes_found p) q ≡ None
+  unopposed free = (unrefused (Some keys) (sizes_found p) q t (sym free)).unopposed
+
+  -- if nothing refuses a request, its operation is served
+  pub served : None ≡ found_refusal keys p q t → is_served q.ask.op ≡ true
+  served free = (unrefused (Some keys) (sizes_found p) q t (sym free)).served
+
+-- ---- the decision
+
+-- a request that is decided to be refused has this refusal
+pub refused_by : (o : Option Refusal) (reply : Reply) (r : Refusal) → decision.Refused r ≡ decided_by o reply → o ≡ Some r
+refused_by None reply r e = cc
+refused_by (Some x) reply r e = let same : x ≡ r = cc in ap Some same
+
+-- nothing refuses a request that is decided to be allowed
+pub none_refuses : (o : Option Refusal) (reply given : Reply) → decision.Allowed given ≡ decided_by o reply → o ≡ None
+none_refuses None reply given e = refl
+none_refuses (Some x) reply given e = cc
+
+-- a request that is decided to be allowed has this reply
+pub reply_decided : (o : Option Refusal) (reply given : Reply) → decision.Allowed given ≡ decided_by o reply → given ≡ reply
+reply_decided None reply given e = cc
+reply_decided (Some x) reply given e = cc
+
+-- ---- memory
+
+shortened : (n : ℕ) (bs : List ℕ) (from : ℕ) → length (take n (drop from bs)) ≤ n
+shortened n bs from = omega (arith, length-take n (drop from bs))
+
+length-bytes_held : (ss : List Span) → length (bytes_held ss) ≤ spans_len ss
+length-bytes_held [] = omega arith
+length-bytes_held (s ∷ ss) =
+    omega (arith, length-append (span_bytes piece_bytes s) (bytes_held ss), shortened (s.to - s.from) (piece_bytes s.piece) s.from, length-bytes_held ss, sum_by-cons (λ (s : Span). s.to - s.from) s ss)
+
+ranged_body : (range : Option ByteRange) (c : Committed ℕ) → (ranged_frame range c).body ≡ []
+ranged_body None c = refl
+ranged_body (Some r) c = refl
+
+-- a frame has no body of its own, or nothing goes out after it
+one_body : (o : Op) (q : Asked) (s : Standing) (c : Committed ℕ) (b : Blob ℕ) (range : Option ByteRange) (d : Committed (List Piece))
+    → ((frame_by o q s c b).body ≡ []) ⊎ (spans_by o range d ≡ [])
+one_body op.CreateContainer q s c b range d = inl refl
+one_body op.ContainerProperties q s c b range d = inl refl
+one_body op.SetContainerMetadata q s c b range d = inl refl
+one_body op.DeleteContainer q s c b range d = inl refl
+one_body op.PutBlob q s c b range d = inl refl
+one_body op.GetBlob q s c b range d = inl (ranged_body q.ask.args.range c)
+one_body op.BlobProperties q s c b range d = inl refl
+one_body op.GetMetadata q s c b range d = inl refl
+one_body op.SetMetadata q s c b range d = inl refl
+one_body op.DeleteBlob q s c b range d = inl refl
+one_body op.PutBlock q s c b range d = inl refl
+one_body op.PutBlockList q s c b range d = inl refl
+one_body op.GetBlockList q s c b range d = inr refl
+one_body other q s c b range d = inl refl
+
+fits_by : (body : List ℕ) (ss : List Span) → (body ≡ []) ⊎ (ss ≡ []) → length body < 18446744073709551616 → spans_len ss ≤ 268435456
+    → length (body ++ bytes_held ss) < 18446744073709551616
+fits_by body ss (inl none) held short =
+    subst (λ (bs : List ℕ). length (bs ++ bytes_held ss) < 18446744073709551616) (sym none) (omega (arith, length-bytes_held ss, short))
+fits_by body ss (inr none) held short =
+    subst (λ (ss : List Span). length (body ++ bytes_held ss) < 18446744073709551616) (sym none) (subst (λ (bs : List ℕ). length bs < 18446744073709551616) (sym (append-nil body)) held)
+
+-- a reply with its content fits in memory
+pub fits_memory : (r : Reply) (p : Part ℕ) (d : Part (List Piece)) (q : Asked) (ss : List Span) (n : ℕ) → r ≡ frame p q → ss ≡ spans d q
+    → n ≡ length r.body → n < 18446744073709551616 → spans_len ss ≤ 268435456 → length (r.body ++ bytes_held ss) < 18446744073709551616
+fits_memory r p d q ss n is out counted held short =
+    fits_by r.body ss
+    (subst (λ (r : Reply). (r.body ≡ []) ⊎ (ss ≡ [])) (sym is)
+    (subst (λ (ss : List Span). ((frame p q).body ≡ []) ⊎ (ss ≡ [])) (sym out)
+    (one_body q.ask.op q (standing_read p) (blob_read p q.ask) (target_blob p q.ask) q.ask.args.range (blob_read d q.ask))))
+    (subst (λ n. n < 18446744073709551616) counted held)
+    short

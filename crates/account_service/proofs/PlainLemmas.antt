@@ -1,0 +1,248 @@
+-- What a service holds whose content is in memory, and what it answers.
+use Rattle.std.proofs.Common.{◌≡◌, ℕ, true, false, List, [], ◌∷◌, length, drop, zero, suc, get_or, Option, Some, None, Result, Ok, Err, IfOk, OnOk, OnErr, refl, sym, ap, ◌∙◌, subst}
+use Rattle.std.proofs.lemmas.List.Sums.{AllPass-from_list_all}
+use Rattle.std.specs.Prelude.{⊤}
+use Rattle.std.specs.declared.alloc.AllocError.{AllocError}
+use Rattle.std.specs.Option.{option_map, option_and_then}
+use Rattle.stamp_values.specs.Order.{keys_total, keys_exact}
+use Rattle.stamp_values.proofs.MapsLemmas.{map_values-empty}
+use Rattle.stamp_values.specs.Operations.{writes}
+use Rattle.stamp_values.specs.declared.op.Op.{Op}
+use Rattle.stamp_values.specs.declared.op.Op.TheVariants as op
+use Rattle.stamp_types.specs.declared.act.Act.{Act}
+use Rattle.stamp_types.specs.declared.act.Act.TheVariants as act
+use Rattle.stamp_types.specs.declared.args.Kept.{Kept}
+use Rattle.stamp_types.specs.declared.piece.Piece.{Piece}
+use Rattle.stamp_types.specs.declared.piece.Piece.TheVariants as piece
+use Rattle.stamp_types.specs.declared.refusal.Refusal.{Refusal}
+use Rattle.stamp_types.specs.declared.reply.Reply.{Reply}
+use Rattle.stamp_types.specs.Changes.{KeyedAct}
+use Rattle.stamp_types.specs.Contents.{EachActContent, EachContent}
+use Rattle.stamp_types.specs.Pieces.{cut_at_most, held, is_held, is_held_piece, piece_bytes, piece_len, pieces_len}
+use Rattle.stamp_types.specs.Replies.{denied}
+use Rattle.stamp_types.specs.Requests.{Asked}
+use Rattle.stamp_types.specs.World.{Part, World, blob_in, part_at, part_value, world_value, changed_in, same_pieces}
+use Rattle.stamp_types.proofs.WorldLemmas.{part_at-world_value}
+use Rattle.stamp_types.proofs.ContentReadings.{part_value-changed}
+use Rattle.stamp_types.proofs.EachContents.{EachContent-changed, EachContent-then, EachWorldContent-changed_in}
+use Rattle.access_rules.specs.declared.keys.Keys.{Keys}
+use Rattle.range_rows.specs.ObjectReplies.{ReadsWhole, byte_count, frame, is_served, reply_of, sizes, spans, with_content}
+use Rattle.range_rows.specs.ObjectRules.{object_refusal}
+use Rattle.range_rows.specs.RequestChanges.{delete_blob, put_blob, put_block, put_block_list, set_metadata, act_by, change_of, part_after}
+use Rattle.range_rows.proofs.SpanLemmas.{length-read, reply_of-read}
+use Rattle.stamp_model.specs.Effects.{unless_refused, world_after, effect_as}
+use Rattle.stamp_model.specs.Refusals.{refusal}
+use Rattle.stamp_model.specs.Responses.{response, reply}
+use Rattle.stamp_model.proofs.ContentLemmas.{sizes-read, world_value-effect}
+use Rattle.stamp_model.proofs.EffectLemmas.{on_key, effect-refused}
+use Rattle.stamp_model.proofs.ReplyLemmas.{unrefused}
+use Rattle.account_service.specs.Decisions.{found_reply}
+use Rattle.stamp_model.specs.Services.{empty_held, AnswersAsModel, held_reply, held_after}
+use Rattle.account_service.specs.HeldRows.{HeldRows, empty_rows, AreHeld, bytes_held, held_of, row_refusal, rows_after}
+
+-- ---- the rows of a new stamp
+
+-- rows without containers hold nothing, in bytes too
+pub held_of-empty_rows : (keys : Keys) → held_of (empty_rows keys) ≡ empty_held keys
+held_of-empty_rows keys = ap (λ (w : World (List ℕ)). record { keys = keys; world = w }) (map_values-empty keys_total keys_exact (part_value held))
+
+-- ---- requests that nothing refuses
+
+module _ (keys : Keys) (w : World (List Piece)) (h : HeldRows) (is : record { keys = keys; rows = w } ≡ h) (q : Asked) (t : ℕ) where
+  abbrev own : Part (List Piece)
+  own = part_at w q.ask.key
+
+  own_free : row_refusal h q t ≡ None → refusal (Some keys) (part_value pieces_len own) q t ≡ None
+  own_free free = ap (λ (x : HeldRows). row_refusal x q t) is ∙ free
+
+  -- if nothing refuses a request, the object does not refuse it
+  pub unopposed : row_refusal h q t ≡ None → object_refusal (part_value pieces_len own) q ≡ None
+  unopposed free = (unrefused (Some keys) (part_value pieces_len own) q t (own_free free)).unopposed
+
+  -- if nothing refuses a request, its operation is served
+  pub served : row_refusal h q t ≡ None → is_served q.ask.op ≡ true
+  served free = (unrefused (Some keys) (part_value pieces_len own) q t (own_free free)).served
+
+  effect_by : (c : Option KeyedAct) → row_refusal h q t ≡ None → change_of (part_value pieces_len own) q t ≡ c
+      → effect_as pieces_len same_pieces (Some keys) w q t ≡ world_after same_pieces c w
+  effect_by c free change =
+      ap (λ (o : Option Refusal). world_after same_pieces (unless_refused o (change_of (part_value pieces_len own) q t)) w) (own_free free)
+      ∙ ap (λ (c : Option KeyedAct). world_after same_pieces c w) change
+
+  rows_by : (c : Option KeyedAct) → row_refusal h q t ≡ None → change_of (part_value pieces_len own) q t ≡ c
+      → record { keys = keys; rows = world_after same_pieces c w } ≡ rows_after h q t
+  rows_by c free change =
+      ap (λ (v : World (List Piece)). record { keys = keys; rows = v }) (sym (effect_by c free change))
+      ∙ ap (λ (x : HeldRows). rows_after x q t) is
+
+  -- a change that is made is the change of the request
+  pub rows_after_write : (c : KeyedAct) → row_refusal h q t ≡ None → change_of (part_value pieces_len own) q t ≡ Some c
+      → record { keys = keys; rows = changed_in same_pieces w c } ≡ rows_after h q t
+  rows_after_write c free change = rows_by (Some c) free change
+
+-- ---- content in memory
+
+is_held-cut_at_most : (n : ℕ) (bs : List ℕ) → is_held (cut_at_most n bs) ≡ true
+is_held-cut_at_most zero bs = refl
+is_held-cut_at_most (suc n) [] = refl
+is_held-cut_at_most (suc n) (b ∷ bs) = is_held-cut_at_most n (drop 4194304 (b ∷ bs))
+
+module _ (z : Part ℕ) (q : Asked) (t : ℕ) where
+  abbrev BringsHeld : Option Act → Type 0
+  BringsHeld None = ⊤
+  BringsHeld (Some a) = EachActContent (λ ps. is_held ps ≡ true) a
+
+  brought_by : (o : Op) → BringsHeld (act_by o z q t)
+  brought_by op.CreateContainer = tt
+  brought_by op.SetContainerMetadata = tt
+  brought_by op.DeleteContainer = tt
+  brought_by op.SetMetadata = by_name q.ask.blob
+    where
+      by_name : (blob : Option (List ℕ)) → BringsHeld (option_map (λ name. act.SetMetadata (set_metadata q t name)) blob)
+      by_name None = tt
+      by_name (Some name) = tt
+  brought_by op.DeleteBlob = by_name q.ask.blob
+    where
+      by_name : (blob : Option (List ℕ)) → BringsHeld (option_map (λ name. act.DeleteBlob (delete_blob name)) blob)
+      by_name None = tt
+      by_name (Some name) = tt
+  brought_by op.PutBlob = by_parts q.ask.blob q.ask.args.kept
+    where
+      by_parts : (blob : Option (List ℕ)) (kept : Option Kept) → BringsHeld (option_and_then (λ name. option_map (λ kept. act.PutBlob (put_blob q t name kept)) kept) blob)
+      by_parts None kept = tt
+      by_parts (Some name) None = tt
+      by_parts (Some name) (Some kept) = is_held-cut_at_most (length q.body) q.body
+  brought_by op.PutBlock = by_parts q.ask.blob q.ask.args.block
+    where
+      by_parts : (blob : Option (List ℕ)) (id : Option (List ℕ)) → BringsHeld (option_and_then (λ name. option_map (λ id. act.PutBlock (put_block q name id)) id) blob)
+      by_parts None id = tt
+      by_parts (Some name) None = tt
+      by_parts (Some name) (Some id) = is_held-cut_at_most (length q.body) q.body
+  brought_by op.PutBlockList = by_parts q.ask.blob q.ask.args.kept
+    where
+      by_parts : (blob : Option (List ℕ)) (kept : Option Kept)
+          → BringsHeld (option_and_then (λ name. option_map (λ kept. act.PutBlockList (put_block_list (blob_in z name) q t name kept)) kept) blob)
+      by_parts None kept = tt
+      by_parts (Some name) None = tt
+      by_parts (Some name) (Some kept) = tt
+  brought_by other = tt
+
+  keyed : (a : Option Act) (c : KeyedAct) → BringsHeld a → option_map (on_key q.ask.key) a ≡ Some c → EachActContent (λ ps. is_held ps ≡ true) c.act
+  keyed None c brought e = cc
+  keyed (Some a) c brought e = let same : on_key q.ask.key a ≡ c = cc in subst (λ (c : KeyedAct). EachActContent (λ ps. is_held ps ≡ true) c.act) same brought
+
+  -- what a request brings is held in memory
+  pub brings_held : (c : KeyedAct) → change_of z q t ≡ Some c → EachActContent (λ ps. is_held ps ≡ true) c.act
+  brings_held c change = keyed (act_by q.ask.op z q t) c (brought_by q.ask.op) change
+
+-- whether the change is made or not, all content is in memory
+pub held_kept : (z : Part ℕ) (q : Asked) (t : ℕ) (w : World (List Piece)) (r : Result (Unit {0}) AllocError) (c : KeyedAct) (w' : World (List Piece)) → change_of z q t ≡ Some c → AreHeld w
+    → OnOk r (w' ≡ changed_in same_pieces w c) → OnErr r (w' ≡ w) → AreHeld w'
+held_kept z q t w (Ok x) c w' change all ok err =
+    subst AreHeld (sym ok) (EachWorldContent-changed_in (λ ps. is_held ps ≡ true) same_pieces w c all (brings_held z q t c change))
+held_kept z q t w (Err e) c w' change all ok err = subst AreHeld (sym err) all
+
+held_whole : (ps : List Piece) → is_held ps ≡ true → ReadsWhole piece_bytes ps
+held_whole ps h k d within = piece_whole (get_or ps k d) (AllPass-from_list_all is_held_piece ps h k d within)
+  where
+    piece_whole : (p : Piece) → is_held_piece p ≡ true → length (piece_bytes p) ≡ piece_len p
+    piece_whole (piece.Bytes bs) h = refl
+    piece_whole (piece.At place n) h = cc
+
+-- ---- the reply
+
+module _ (h : HeldRows) (q : Asked) (t : ℕ) (all : AreHeld h.rows) where
+  abbrev part : Part (List Piece)
+  part = part_at h.rows q.ask.key
+
+  abbrev row_sizes : Part ℕ
+  row_sizes = part_value pieces_len part
+
+  abbrev change : Option KeyedAct
+  change = change_of row_sizes q t
+
+  sized : EachContent (λ ps. byte_count (held ps) ≡ pieces_len ps) part
+  sized = EachContent-then (λ ps. is_held ps ≡ true) (λ ps. byte_count (held ps) ≡ pieces_len ps) (λ ps h. length-read piece_bytes ps (held_whole ps h)) part (all q.ask.key)
+
+  abbrev reply_by : Part (List ℕ) → Part ℕ → Reply
+  reply_by p z = response (refusal (Some h.keys) z q t) (part_after held (unless_refused (refusal (Some h.keys) z q t) (change_of z q t)) p) q
+
+  reply_by_rows : held_reply (held_of h) q t ≡ reply_by (part_value held part) row_sizes
+  reply_by_rows =
+      ap (λ (p : Part (List ℕ)). reply_by p (sizes p)) (part_at-world_value held h.rows q.ask.key)
+      ∙ ap (reply_by (part_value held part)) (sizes-read held pieces_len byte_count part sized)
+
+  same_refusal : refusal (Some h.keys) (sizes (part_at (world_value held h.rows) q.ask.key)) q t ≡ row_refusal h q t
+  same_refusal =
+      ap (λ (p : Part (List ℕ)). refusal (Some h.keys) (sizes p) q t) (part_at-world_value held h.rows q.ask.key)
+      ∙ ap (λ (z : Part ℕ). refusal (Some h.keys) z q t) (sizes-read held pieces_len byte_count part sized)
+
+  part_value-after : {D : Type 0} (f : List Piece → D) (c : Option KeyedAct) → part_value f (part_after same_pieces c part) ≡ part_after f c (part_value f part)
+  part_value-after f None = refl
+  part_value-after f (Some c) = part_value-changed f same_pieces c.act part
+
+  after_whole : (c : Option KeyedAct) → change ≡ c → EachContent (λ ps. is_held ps ≡ true) (part_after same_pieces c part)
+  after_whole None e = all q.ask.key
+  after_whole (Some c) e = EachContent-changed (λ ps. is_held ps ≡ true) same_pieces c.act part (all q.ask.key) (brings_held row_sizes q t c e)
+
+  -- the frame with the bytes of its spans is the reply
+  pub reply_with_spans : row_refusal h q t ≡ None
+      → found_reply part q t ≡ held_reply (held_of h) q t
+  reply_with_spans free =
+      let after = part_after same_pieces change part in
+      let whole = EachContent-then (λ ps. is_held ps ≡ true) (ReadsWhole piece_bytes) held_whole after (after_whole change refl) in
+      ap (λ (z : Part ℕ). with_content (frame z q) (bytes_held (spans after q))) (sym (part_value-after pieces_len change))
+      ∙ reply_of-read piece_bytes after q whole
+      ∙ ap (λ (p : Part (List ℕ)). reply_of p q) (part_value-after held change)
+      ∙ sym (reply_by_rows ∙ ap (λ (o : Option Refusal). response o (part_after held (unless_refused o change) (part_value held part)) q) free)
+
+  -- the reply to a refused request
+  pub reply_refused : (r : Refusal) → row_refusal h q t ≡ Some r → denied r ≡ held_reply (held_of h) q t
+  reply_refused r e =
+      sym (reply_by_rows ∙ ap (λ (o : Option Refusal). response o (part_after held (unless_refused o change) (part_value held part)) q) e)
+
+  -- a refused request changes nothing
+  held_refused : (r : Refusal) → row_refusal h q t ≡ Some r → held_of h ≡ held_after (held_of h) q t
+  held_refused r e =
+      ap (λ (w : World (List ℕ)). record { keys = h.keys; world = w })
+      (sym (effect-refused byte_count held (Some h.keys) (world_value held h.rows) q t r (same_refusal ∙ e)))
+
+  -- a request that is refused gets its refusal, and changes nothing
+  pub answers_refused : (r : Refusal) (reply : Reply) → row_refusal h q t ≡ Some r → reply ≡ denied r → AnswersAsModel (held_of h) q t reply (held_of h)
+  answers_refused r reply e is = (is ∙ reply_refused r e, held_refused r e)
+
+  -- the bytes of what the rows hold after a request are the bytes that are held after it
+  pub held_of-rows_after : held_of (rows_after h q t) ≡ held_after (held_of h) q t
+  held_of-rows_after =
+      ap (λ (w : World (List ℕ)). record { keys = h.keys; world = w }) (world_value-effect held pieces_len byte_count same_pieces (Some h.keys) h.rows q t sized)
+
+  -- a request that is carried out is answered as the model says
+  pub answers_allowed : (reply : Reply) (h' : HeldRows) → reply ≡ held_reply (held_of h) q t → h' ≡ rows_after h q t → AnswersAsModel (held_of h) q t reply (held_of h')
+  answers_allowed reply h' is new = (is, ap held_of new ∙ held_of-rows_after)
+
+module _ (h : HeldRows) (q : Asked) (t : ℕ) (all : AreHeld h.rows) where
+  pub answered_refused : (r : Refusal) (result : Result Reply AllocError) → row_refusal h q t ≡ Some r → IfOk result (λ reply. reply ≡ denied r)
+      → IfOk result (λ reply. AnswersAsModel (held_of h) q t reply (held_of h))
+  answered_refused r (Ok reply) e is = answers_refused h q t all r reply e is
+  answered_refused r (Err x) e is = is
+
+  pub answered_allowed : (reply : Reply) (result : Result Reply AllocError) (h' : HeldRows) → row_refusal h q t ≡ None → reply ≡ found_reply (part_at h.rows q.ask.key) q t
+      → IfOk result (λ given. given ≡ reply) → OnOk result (h' ≡ rows_after h q t) → IfOk result (λ reply. AnswersAsModel (held_of h) q t reply (held_of h'))
+  answered_allowed reply (Ok given) h' free made is new = answers_allowed h q t all given h' (is ∙ made ∙ reply_with_spans h q t all free) new
+  answered_allowed reply (Err x) h' free made is new = is
+
+-- an operation that reads changes nothing
+unchanging : (z : Part ℕ) (q : Asked) (t : ℕ) (o : Op) → writes o ≡ false → act_by o z q t ≡ None
+unchanging z q t op.CreateContainer reads = cc
+unchanging z q t op.SetContainerMetadata reads = cc
+unchanging z q t op.DeleteContainer reads = cc
+unchanging z q t op.PutBlob reads = cc
+unchanging z q t op.SetMetadata reads = cc
+unchanging z q t op.DeleteBlob reads = cc
+unchanging z q t op.PutBlock reads = cc
+unchanging z q t op.PutBlockList reads = cc
+unchanging z q t other reads = refl
+
+pub rows_after_read : (h : HeldRows) (q : Asked) (t : ℕ) → row_refusal h q t ≡ None → writes q.ask.op ≡ false → h ≡ rows_after h q t
+rows_after_read h q t free reads =
+    rows_by h.keys h.rows h refl q t None free (ap (option_map (on_key q.ask.key)) (unchanging (part_value pieces_len (part_at h.rows q.ask.key)) q t q.ask.op reads))

@@ -1,0 +1,42 @@
+-- What is decided on a request, from what rows find of its container (Blob service REST reference, 2012-02-12, the page of each
+-- operation).
+use Rattle.std.specs.Prelude.{ℕ, List, Option, Some, None}
+use Rattle.std.specs.Option.{option_or}
+use Rattle.stamp_types.specs.declared.piece.Piece.{Piece}
+use Rattle.stamp_types.specs.declared.refusal.Refusal.{Refusal}
+use Rattle.stamp_types.specs.declared.reply.Reply.{Reply}
+use Rattle.stamp_types.specs.Requests.{Asked}
+use Rattle.stamp_types.specs.World.{Part, part_at}
+use Rattle.access_rules.specs.declared.keys.Keys.{Keys}
+use Rattle.range_rows.specs.FoundParts.{pieces_found_after, sizes_found, sizes_found_after}
+use Rattle.range_rows.specs.ObjectReplies.{frame, spans, with_content}
+use Rattle.range_rows.specs.ObjectRules.{object_refusal}
+use Rattle.stamp_model.specs.Refusals.{refusal, unserved_refusal}
+use Rattle.account_service.specs.HeldRows.{HeldRows, bytes_held}
+use Rattle.account_service.specs.declared.decision.Decision.{Decision}
+use Rattle.account_service.specs.declared.decision.Decision.TheVariants as decision
+
+-- the refusal of a request that is permitted, from the sizes in its container
+abbrev pub object_or_unserved : Part (List Piece) → Asked → Option Refusal
+object_or_unserved p q = option_or (object_refusal (sizes_found p) q) (unserved_refusal q.ask.op)
+
+-- the refusal of a request, from the sizes in its container
+abbrev pub found_refusal : Keys → Part (List Piece) → Asked → ℕ → Option Refusal
+found_refusal keys p q t = refusal (Some keys) (sizes_found p) q t
+
+-- the reply to a request that nothing refuses, from its container
+abbrev pub found_reply : Part (List Piece) → Asked → ℕ → Reply
+found_reply p q t = with_content (frame (sizes_found_after p q t) q) (bytes_held (spans (pieces_found_after p q t) q))
+
+-- a request is refused, or else this is its reply
+abbrev pub decided_by : Option Refusal → Reply → Decision
+decided_by (Some r) reply = decision.Refused r
+decided_by None reply = decision.Allowed reply
+
+-- what is decided on a request, from its container
+abbrev pub decision_of : Keys → Part (List Piece) → Asked → ℕ → Decision
+decision_of keys p q t = decided_by (found_refusal keys p q t) (found_reply p q t)
+
+-- what is decided on a request, from the rows
+abbrev pub row_decision : HeldRows → Asked → ℕ → Decision
+row_decision h q t = decision_of h.keys (part_at h.rows q.ask.key) q t
