@@ -1,6 +1,6 @@
 //! Texts of times, compared with values from elsewhere.
 
-use moment_text::{TimeFault, read_http, read_iso, write_http};
+use moment_text::{TimeFault, read_http, read_iso, write_http, write_iso};
 use stamp_values::Moment;
 
 fn iso(text: &str) -> Option<u64> {
@@ -99,5 +99,22 @@ fn dates_are_cut_down_to_the_second(rt: HostRuntime) {
             written.is_some_and(|date| date.as_slice() == text.as_bytes()),
             "at {text}"
         );
+    }
+}
+
+// The texts come from Python's datetime.
+#[test]
+fn times_are_written_with_seven_decimals(rt: HostRuntime) {
+    for (ticks, text) in [
+        (0, "1970-01-01T00:00:00.0000000Z"),
+        (681_804_000_000_000, "1972-02-29T03:00:00.0000000Z"),
+        (9_517_824_001_234_567, "2000-02-29T00:00:00.1234567Z"),
+        (13_490_928_000_000_001, "2012-10-01T12:00:00.0000001Z"),
+        (13_490_964_000_000_000, "2012-10-01T13:00:00.0000000Z"),
+        (2_534_023_007_999_999_999, "9999-12-31T23:59:59.9999999Z"),
+    ] {
+        let moment = Moment::new(ticks).expect(&rt, "a moment");
+        let written = write_iso(rt.alloc(), moment).expect(&rt, "memory");
+        assert_eq!(rt; written.as_str(), text);
     }
 }

@@ -5,3 +5,5 @@ pub mod HttpLemmas
 pub mod IsoLemmas
 pub mod IsoMoment
 pub mod NumberLemmas
+pub mod TimeLemmas
+pub mod WriterLemmas

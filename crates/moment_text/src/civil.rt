@@ -1,9 +1,11 @@
 //! Days and times of day in UTC, and their moments.
 ghost use Rattle.std.specs.Prelude.{◌↔◌, IsSome, IfSome, ◌≡◌, ◌<◌, Some, None, if◌then◌else◌};
 ghost use Rattle.httpdate.specs.Calendar.{IsCivilDate, days_from_civil};
-ghost use Rattle.moment_text.specs.Iso.{is_in_range, ticks_of};
+ghost use Rattle.moment_text.specs.Civil.{time_at};
+ghost use Rattle.moment_text.specs.Iso.{FitsDigits, is_in_range, ticks_of};
 
 use jiff::civil::Date;
+use jiff_core::civil::Date as CivilDate;
 use stamp_values::Moment;
 
 /// The numbers of a day and of a time of day, whether or not that day and that time exist.
@@ -47,4 +49,24 @@ pub(crate) fn moment_of(time: CivilTime) -> Option<Moment>
     }
     let seconds = days * 86_400 + (time.hour * 3_600 + time.minute * 60 + time.second) as u64;
     Moment::new((seconds * 10_000_000 + time.fraction as u64) as i64)
+}
+
+/// The day and the time of day in UTC at which a moment lies.
+pub(crate) fn time_of(moment: Moment) -> CivilTime
+    ensures value { result ≡ time_at moment }
+    ensures fits { FitsDigits result }
+{
+    let ticks = moment.ticks();
+    let Ok(date) = CivilDate::from_unix_epoch_day((ticks / 864_000_000_000) as i64) else {
+        unreachable!()
+    };
+    CivilTime {
+        year: date.year as u32,
+        month: date.month as u32,
+        day: date.day as u32,
+        hour: (ticks / 36_000_000_000 % 24) as u32,
+        minute: (ticks / 600_000_000 % 60) as u32,
+        second: (ticks / 10_000_000 % 60) as u32,
+        fraction: (ticks % 10_000_000) as u32,
+    }
 }
