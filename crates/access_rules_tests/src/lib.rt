@@ -19,4 +19,6 @@ mod test_requests;
 #[cfg(test)]
 mod text_tests;
 #[cfg(test)]
+mod token_tests;
+#[cfg(test)]
 mod vector_tests;

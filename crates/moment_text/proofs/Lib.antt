@@ -5,5 +5,6 @@ pub mod HttpLemmas
 pub mod IsoLemmas
 pub mod IsoMoment
 pub mod NumberLemmas
+pub mod TimeBytes
 pub mod TimeLemmas
 pub mod WriterLemmas

@@ -1,0 +1,84 @@
+-- One string to sign has one meaning.
+use Rattle.std.proofs.Common.{◌≡◌, ℕ, IsTrue, List, ◌∷◌, ◌++◌, drop, Option, Some, None, IsSomeAnd, refl, sym, ap, ◌∙◌, append_assoc}
+use Rattle.std.proofs.lemmas.List.{append-nil, append_cancel_right}
+use Rattle.stamp_values.specs.Names.{is_blob}
+use Rattle.stamp_values.specs.declared.key.Key.{Key}
+use Rattle.stamp_values.specs.declared.signing.Field.{Field}
+use Rattle.sas_token.specs.declared.token.Resource.{Resource}
+use Rattle.sas_token.specs.declared.token.Resource.TheVariants.{Container, Blob}
+use Rattle.sas_token.specs.Tokens.{Sent, IsToken, blob_text, resource_text, token_string, HasGoodNames, MeanTheSame}
+use Rattle.sas_token.proofs.StringLemmas.{Lacks, Lacks-nil, Lacks-cons, Lacks-append, cut, never, time_lacks, permissions_lack, account_lacks, container_lacks, blob_lacks}
+use Rattle.sas_token.proofs.TokenLemmas.{same_letters, same_time}
+
+-- a blob is named if the token is for a blob
+abbrev IsNamed : Resource → Option (List ℕ) → Type 0
+IsNamed r name = r ≡ Blob → IsSomeAnd name (λ n. IsTrue (is_blob n))
+
+blob_text_lacks : (r : Resource) (name : Option (List ℕ)) → IsNamed r name → Lacks 10 (blob_text r name)
+blob_text_lacks Container name h = Lacks-nil 10
+blob_text_lacks Blob None h = Lacks-nil 10
+blob_text_lacks Blob (Some n) h = Lacks-cons 10 47 n refl (blob_lacks n (h refl))
+
+-- the line of the resource has no line feed
+resource_lacks : (t : Sent) (k : Key) (name : Option (List ℕ)) → HasGoodNames t k name → Lacks 10 (resource_text t.resource k name)
+resource_lacks t k name h =
+    Lacks-append 10 (47 ∷ k.account ++ 47 ∷ k.container) (blob_text t.resource name)
+    (Lacks-append 10 (47 ∷ k.account) (47 ∷ k.container)
+    (Lacks-cons 10 47 k.account refl (account_lacks 10 k.account refl h.account))
+    (Lacks-cons 10 47 k.container refl (container_lacks 10 k.container refl h.container)))
+    (blob_text_lacks t.resource name h.blob)
+
+resource_grouped : (r : Resource) (k : Key) (name : Option (List ℕ)) → resource_text r k name ≡ 47 ∷ (k.account ++ 47 ∷ (k.container ++ blob_text r name))
+resource_grouped r k name = append_assoc (47 ∷ k.account) (47 ∷ k.container) (blob_text r name)
+
+-- the container, the kind, and the blob are the same
+record SamePlace (c d : List ℕ) (r s : Resource) (a b : Option (List ℕ)) : Type 0 where
+  container : c ≡ d
+  kind : r ≡ s
+  blob : r ≡ Blob → a ≡ b
+
+same_place : (c d : List ℕ) (r s : Resource) (a b : Option (List ℕ)) → Lacks 47 c → Lacks 47 d → IsNamed r a → IsNamed s b → c ++ blob_text r a ≡ d ++ blob_text s b → SamePlace c d r s a b
+same_place c d Container Container a b h k g o e = record { container = sym (append-nil c) ∙ e ∙ append-nil d; kind = refl; blob = λ blob. absurd (cc) }
+same_place c d Container Blob a None h k g o e = absurd (o refl)
+same_place c d Container Blob a (Some m) h k g o e = absurd (never 47 c d m h (sym (append-nil c) ∙ e))
+same_place c d Blob Container None b h k g o e = absurd (g refl)
+same_place c d Blob Container (Some n) b h k g o e = absurd (never 47 d c n k (sym (append-nil d) ∙ sym e))
+same_place c d Blob Blob None b h k g o e = absurd (g refl)
+same_place c d Blob Blob (Some n) None h k g o e = absurd (o refl)
+same_place c d Blob Blob (Some n) (Some m) h k g o e =
+    let (front, rest) = cut 47 c d n m h k e in
+    record { container = front; kind = refl; blob = λ blob. ap Some rest }
+
+-- what the line of the resource says
+record SameResource (t u : Sent) (k l : Key) (a b : Option (List ℕ)) : Type 0 where
+  account : k.account ≡ l.account
+  place : SamePlace k.container l.container t.resource u.resource a b
+
+same_resources : (t u : Sent) (k l : Key) (a b : Option (List ℕ)) → HasGoodNames t k a → HasGoodNames u l b → resource_text t.resource k a ≡ resource_text u.resource l b → SameResource t u k l a b
+same_resources t u k l a b g o e =
+    let grouped = sym (resource_grouped t.resource k a) ∙ e ∙ resource_grouped u.resource l b in
+    let (account, rest) = cut 47 k.account l.account (k.container ++ blob_text t.resource a) (l.container ++ blob_text u.resource b) (account_lacks 47 k.account refl g.account) (account_lacks 47 l.account refl o.account) (ap (drop 1) grouped) in
+    record { account = account; place = same_place k.container l.container t.resource u.resource a b (container_lacks 47 k.container refl g.container) (container_lacks 47 l.container refl o.container) g.blob o.blob rest }
+
+pub one_meaning : (q r : List Field) (t u : Sent) (k l : Key) (a b : Option (List ℕ)) → IsToken q t → IsToken r u → t.version ≡ u.version → HasGoodNames t k a → HasGoodNames u l b → token_string t k a ≡ token_string u l b → MeanTheSame t u k l a b
+unfolding token_string
+one_meaning q r t u k l a b h j version g o e =
+    let (permissions, e₁) = cut 10 t.permissions u.permissions _ _ (permissions_lack t.permissions t.letters h.letters) (permissions_lack u.permissions u.letters j.letters) e in
+    let (start, e₂) = cut 10 t.start_text u.start_text _ _ (time_lacks t.start_text t.start h.start) (time_lacks u.start_text u.start j.start) e₁ in
+    let (expiry, e₃) = cut 10 t.expiry_text u.expiry_text _ _ (time_lacks t.expiry_text t.expiry h.expiry) (time_lacks u.expiry_text u.expiry j.expiry) e₂ in
+    let (resource, e₄) = cut 10 (resource_text t.resource k a) (resource_text u.resource l b) _ _ (resource_lacks t k a g) (resource_lacks u l b o) e₃ in
+    let id = append_cancel_right t.id u.id (10 ∷ u.version) (rw version at e₄) in
+    let same = same_resources t u k l a b g o resource in
+    record {
+      permissions = permissions;
+      letters = same_letters u.permissions t.letters u.letters (rw permissions at h.letters) j.letters;
+      start_text = start;
+      start = same_time u.start_text t.start u.start (rw start at h.start) j.start;
+      expiry_text = expiry;
+      expiry = same_time u.expiry_text t.expiry u.expiry (rw expiry at h.expiry) j.expiry;
+      id = id;
+      resource = same.place.kind;
+      account = same.account;
+      container = same.place.container;
+      blob = same.place.blob;
+    }

@@ -1,0 +1,22 @@
+//! Laws of tokens. Each law is the contract of a function that does nothing.
+ghost use Rattle.std.specs.Prelude.{◌≡◌, ℕ, List, Option};
+ghost use Rattle.stamp_values.specs.declared.key.Key.{Key};
+ghost use Rattle.stamp_values.specs.declared.signing.Field.{Field};
+ghost use Rattle.sas_token.specs.declared.fault.TokenFault.{TokenFault as Fault};
+ghost use Rattle.sas_token.specs.Tokens.{Sent, IsToken, IsFault, token_string, HasGoodNames, MeanTheSame};
+
+/// A query is one token, or it has one fault. It is not two tokens, has not two first faults, and is not a token with a fault.
+pub fn a_query_is_one_token()
+    ensures token { (query : List Field) (t u : Sent) → IsToken query t → IsToken query u → t ≡ u }
+    ensures fault { (query : List Field) (f g : Fault) → IsFault query f → IsFault query g → f ≡ g }
+    ensures not_both { (query : List Field) (t : Sent) (f : Fault) → IsToken query t
+        → ¬ IsFault query f }
+{}
+
+/// If two tokens of one version have one string to sign, they mean the same. So a signature of one token is not a signature of a
+/// token that means something else.
+pub fn one_string_has_one_meaning()
+    ensures { (q r : List Field) (t u : Sent) (k l : Key) (a b : Option (List ℕ)) → IsToken q t
+        → IsToken r u → t.version ≡ u.version → HasGoodNames t k a → HasGoodNames u l b
+        → token_string t k a ≡ token_string u l b → MeanTheSame t u k l a b }
+{}

@@ -1,0 +1,14 @@
+//! Shared access signatures: which query is a token, and which string its maker signed.
+#![tactic(auto)]
+
+mod fault;
+mod laws;
+mod reader;
+mod strings;
+mod token;
+
+pub use fault::TokenFault;
+pub use laws::{a_query_is_one_token, one_string_has_one_meaning};
+pub use reader::read_token;
+pub use strings::token_string;
+pub use token::{Resource, Token};
