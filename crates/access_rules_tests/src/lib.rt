@@ -8,6 +8,8 @@ mod key_tests;
 #[cfg(test)]
 mod level_tests;
 #[cfg(test)]
+mod policy_tests;
+#[cfg(test)]
 mod rule_tests;
 mod sample_parts;
 #[cfg(test)]

@@ -1,7 +1,11 @@
 //! What a container says about who may read it without a key.
 #![tactic(auto)]
 
+mod fields;
+mod laws;
 mod public_access;
 
+pub use fields::{FieldFault, Fields, fields_with, find};
+pub use laws::each_field_has_one_giver;
 pub use public_access::permits;
 pub use stamp_values::Acl;
