@@ -1,11 +1,12 @@
 -- An append after a settle.
-use Rattle.std.proofs.Common.{◌≡◌, inl, ℕ, Bool, true, false, Option, Some, None, ◌∷◌, refl, arith, Result, Ok, Err, List, [], append-nil, subst}
+use Rattle.std.proofs.Common.{◌≡◌, ◌∙◌, inl, ℕ, Bool, true, false, Option, Some, None, ◌∷◌, ◌++◌, length, map, sym, ap, refl, arith, Result, Ok, Err, List, [], append-nil, subst}
 use Rattle.std.specs.Option.{is_some}
 use Rattle.stamp_values.specs.declared.place.Place.{Place}
 use Rattle.extent_node.specs.Copies.{Block}
 use Rattle.extent_node.specs.Faults.{held}
-use Rattle.extent_seal.specs.Extents.{Open}
-use Rattle.stream_manager.specs.Places.{Follows, block_at}
+use Rattle.extent_seal.specs.Extents.{Open, Closed}
+use Rattle.stream_manager.specs.Extents.{closed_blocks, extents}
+use Rattle.stream_manager.specs.Places.{Follows, IsLastAt}
 use Rattle.extent_node.specs.Faults.{Counts}
 use Rattle.stream_manager.specs.Counting.{Grows, FailsAppend}
 use Rattle.stream_manager.specs.Outcomes.{IsPut, IsAppend}
@@ -29,11 +30,22 @@ put_after (Err fault.TooLarge) es mid fs old new kept block a b = absurd b
 -- the block of a doubt that is kept
 pub settle_kept : (es fs : List (List Block)) (tried : Option Block) (p : Place) (n m : ℕ) (kept : Bool) → kept ≡ true → is_some tried ≡ true
     → Follows es (held kept tried) fs
-    → ((b : Block) (q : Place) → held kept tried ≡ b ∷ [] → q.extent ≡ n → q.index ≡ m → block_at fs q ≡ Some b)
-    → p.extent ≡ n → p.index ≡ m → (b : Block) × (tried ≡ Some b) × Follows es (b ∷ []) fs × (block_at fs p ≡ Some b)
+    → ((b : Block) (q : Place) → held kept tried ≡ b ∷ [] → q.extent ≡ n → q.index ≡ m → IsLastAt fs q b)
+    → p.extent ≡ n → p.index ≡ m → (b : Block) × (tried ≡ Some b) × Follows es (b ∷ []) fs × IsLastAt fs p b
 settle_kept es fs (Some b) p n m true k s f a e i = (b, refl, f, a b p refl e i)
 settle_kept es fs None p n m kept k s f a e i = absurd (grind arith)
 settle_kept es fs tried p n m false k s f a e i = absurd (grind arith)
+
+-- the block of a short append, if the seal kept it
+pub short_kept : (sealed : List Closed) (old mid : Open) (fs : List (List Block)) (block : Block) (p : Place) (kept : Bool)
+    → mid.blocks ≡ old.blocks → mid.tried ≡ Some block → kept ≡ true
+    → Follows (extents sealed mid) (held kept mid.tried) fs
+    → ((b : Block) (q : Place) → held kept mid.tried ≡ b ∷ [] → q.extent ≡ length sealed → q.index ≡ length mid.blocks → IsLastAt fs q b)
+    → p.extent ≡ length sealed → p.index ≡ length old.blocks → Follows (extents sealed old) (block ∷ []) fs × IsLastAt fs p block
+short_kept sealed old mid fs block p kept n t k f a e i =
+    let h : held kept mid.tried ≡ block ∷ [] = rw (k, t) refl in
+    let g : Follows (extents sealed old) (held kept mid.tried) fs = subst (λ bs. Follows (map closed_blocks sealed ++ bs ∷ []) (held kept mid.tried) fs) n f in
+    (subst (λ l. Follows (extents sealed old) l fs) h g, a block p h e (i ∙ sym (ap length n)))
 
 -- the faults of a put after those of a settle
 pub fails_after : (r : Result Place AppendFault) (mid fs : List (List Block)) (new : Open) (block : Block) (a b c : Counts)

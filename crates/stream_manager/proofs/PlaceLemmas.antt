@@ -1,5 +1,5 @@
 -- Blocks that are appended, and extents that are sealed, leave each block at its place.
-use Rattle.std.proofs.Common.{◌≡◌, ◌≤◌, ◌<◌, ◌+◌, ◌∙◌, ℕ, zero, suc, Bool, Some, Result, Ok, Err, IfOk, List, [], ◌∷◌, ◌++◌, length, map, sym, ap, refl, arith, append-nil, append_assoc}
+use Rattle.std.proofs.Common.{◌≡◌, ◌≤◌, ◌<◌, ◌⊎◌, inl, inr, ◌+◌, ◌∙◌, ℕ, zero, suc, Bool, Some, Result, Ok, Err, IfOk, List, [], ◌∷◌, ◌++◌, length, map, sym, ap, refl, arith, append-nil, append_assoc, length-append}
 use Rattle.std.specs.List.{slice_get}
 use Rattle.std.specs.Option.{option_and_then}
 use Rattle.std.proofs.lemmas.Grind.{flat_map-append}
@@ -9,7 +9,7 @@ use Rattle.extent_node.specs.Copies.{Block}
 use Rattle.extent_node.specs.Faults.{held}
 use Rattle.extent_seal.specs.Extents.{Open, Closed}
 use Rattle.stream_manager.specs.Extents.{closed_blocks, extents}
-use Rattle.stream_manager.specs.Places.{block_at, blocks_of, KeepsSealed, Follows}
+use Rattle.stream_manager.specs.Places.{block_at, blocks_of, IsLastAt, KeepsSealed, Follows}
 
 -- what stands in a list stands there if more comes after it
 get_more : {X : Type 0} (xs ys : List X) (i : ℕ) (x : X) → slice_get xs i ≡ Some x → slice_get (xs ++ ys) i ≡ Some x
@@ -68,6 +68,39 @@ pub next_at : (front : List (List Block)) (last : List Block) (b : Block) (more 
 next_at front last b more rest p e i =
     rw (e, i) (ap (option_and_then (λ blocks. slice_get blocks (length last))) (get_next front (last ++ b ∷ more) rest) ∙ get_next last b more)
 
+-- an index with something is below the length
+get_below : {X : Type 0} (xs : List X) (i : ℕ) (x : X) → slice_get xs i ≡ Some x → i < length xs
+get_below [] i x h = absurd (grind arith)
+get_below (y ∷ xs) zero x h = omega arith
+get_below (y ∷ xs) (suc i) x h = let l = get_below xs i x h in omega arith
+
+-- the extents after an extent have no block
+none_in : (rest : List (List Block)) → (rest ≡ []) ⊎ (rest ≡ [] ∷ []) → (e i : ℕ) (c : Block)
+    → option_and_then (λ blocks. slice_get blocks i) (slice_get rest e) ≡ Some c → ⊥
+none_in rest (inl n) e i c h = grind arith
+none_in rest (inr n) zero i c h = grind arith
+none_in rest (inr n) (suc e) i c h = grind arith
+
+-- no block comes after the last block of an extent, if the extents after it have no block
+none_after : (front : List (List Block)) (last : List Block) (b : Block) (rest : List (List Block)) → (rest ≡ []) ⊎ (rest ≡ [] ∷ [])
+    → (e i : ℕ) (c : Block) → option_and_then (λ blocks. slice_get blocks i) (slice_get (front ++ (last ++ b ∷ []) ∷ rest) e) ≡ Some c
+    → (e < length front) ⊎ ((e ≡ length front) × (i ≤ length last))
+none_after [] last b rest n zero i c h = let l = get_below (last ++ b ∷ []) i c h in inr (refl, grind (arith, length-append))
+none_after [] last b rest n (suc e) i c h = absurd (none_in rest n e i c h)
+none_after (x ∷ front) last b rest n zero i c h = inl (omega arith)
+none_after (x ∷ front) last b rest n (suc e) i c h = elim (none_after front last b rest n e i c h) [
+  | inl l ↦ inl (omega arith)
+  | inr k ↦ inr (omega arith, k.1)
+]
+
+-- the place of the next block is the last one, if the extents after it have no block
+pub last_at : (front : List (List Block)) (last : List Block) (b : Block) (rest : List (List Block)) (p : Place) → (rest ≡ []) ⊎ (rest ≡ [] ∷ [])
+    → p.extent ≡ length front → p.index ≡ length last → IsLastAt (front ++ (last ++ b ∷ []) ∷ rest) p b
+last_at front last b rest p n e i = record {
+  here = next_at front last b [] rest p e i;
+  last = λ q c h. rw (e, i) (none_after front last b rest n q.extent q.index c h);
+}
+
 -- nothing is added
 pub same : (es : List (List Block)) → Follows es [] es
 same es = record { order = sym (append-nil (blocks_of es)); kept = λ p b h. h; sealed = record { closed = λ e h. refl; longer = omega arith } }
@@ -93,9 +126,9 @@ closed_follows front after last new more a n = rw (a, n) (closed front last more
 
 -- where the block is that the seal kept
 pub closed_at : (front after : List (List Block)) (last new more : List Block) (b : Block) (p : Place) → after ≡ front ++ (last ++ more) ∷ [] → new ≡ []
-    → more ≡ b ∷ [] → p.extent ≡ length front → p.index ≡ length last → block_at (after ++ new ∷ []) p ≡ Some b
+    → more ≡ b ∷ [] → p.extent ≡ length front → p.index ≡ length last → IsLastAt (after ++ new ∷ []) p b
 closed_at front after last new more b p a n m e i =
-    rw (a, n, m, append_assoc) (next_at front last b [] ([] ∷ []) p e i)
+    rw (a, n, m, append_assoc) (last_at front last b ([] ∷ []) p (inr refl) e i)
 
 -- the extents after an append that all nodes took
 pub grown_follows : (front : List (List Block)) (last new : List Block) (b : Block) → new ≡ last ++ b ∷ []
@@ -104,8 +137,8 @@ grown_follows front last new b n = rw n (grown front last (b ∷ []))
 
 -- where the block is that all nodes took
 pub grown_here : (front : List (List Block)) (last new : List Block) (b : Block) (p : Place) → new ≡ last ++ b ∷ []
-    → p.extent ≡ length front → p.index ≡ length last → block_at (front ++ new ∷ []) p ≡ Some b
-grown_here front last new b p n e i = rw n (next_at front last b [] [] p e i)
+    → p.extent ≡ length front → p.index ≡ length last → IsLastAt (front ++ new ∷ []) p b
+grown_here front last new b p n e i = rw n (last_at front last b [] p (inl refl) e i)
 
 -- a seal, or no seal
 pub close_follows : {E : Type 0} (r : Result Bool E) (front after : List (List Block)) (last new : Open)
@@ -118,12 +151,12 @@ close_follows (Err e) front after last new a n = tt
 pub close_at : {E : Type 0} (r : Result Bool E) (sealed : List Closed) (after : List (List Block)) (last new : Open)
     → IfOk r (λ kept. after ≡ map closed_blocks sealed ++ (last.blocks ++ held kept last.tried) ∷ []) → IfOk r (λ kept. new.blocks ≡ [])
     → IfOk r (λ kept. (b : Block) → (p : Place) → held kept last.tried ≡ b ∷ [] → p.extent ≡ length sealed → p.index ≡ length last.blocks
-    → block_at (after ++ new.blocks ∷ []) p ≡ Some b)
+    → IsLastAt (after ++ new.blocks ∷ []) p b)
 close_at (Ok kept) sealed after last new a n =
     λ b p m e i. closed_at (map closed_blocks sealed) after last.blocks new.blocks (held kept last.tried) b p a n m (e ∙ sym (length-map sealed closed_blocks)) i
 close_at (Err e) sealed after last new a n = tt
 
 -- where the block of an append is
 pub append_at : (sealed : List Closed) (last new : Open) (b : Block) (p : Place) → new.blocks ≡ last.blocks ++ b ∷ []
-    → p.extent ≡ length sealed → p.index ≡ length last.blocks → block_at (extents sealed new) p ≡ Some b
+    → p.extent ≡ length sealed → p.index ≡ length last.blocks → IsLastAt (extents sealed new) p b
 append_at sealed last new b p n e i = grown_here (map closed_blocks sealed) last.blocks new.blocks b p n (e ∙ sym (length-map sealed closed_blocks)) i

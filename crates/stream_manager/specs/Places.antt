@@ -1,5 +1,5 @@
 -- Blocks at places (SOSP 2011, section 4.1).
-use Rattle.std.specs.Prelude.{◌≡◌, ◌≤◌, ◌<◌, ◌+◌, ℕ, Option, Some, List, ◌++◌, length}
+use Rattle.std.specs.Prelude.{◌≡◌, ◌≤◌, ◌<◌, ◌⊎◌, ◌+◌, ℕ, Option, Some, List, ◌++◌, length}
 use Rattle.std.specs.List.{slice_get, flat_map}
 use Rattle.std.specs.Option.{option_and_then}
 use Rattle.stamp_values.specs.declared.place.Place.{Place}
@@ -8,6 +8,15 @@ use Rattle.extent_node.specs.Copies.{Block}
 -- the block at a place in a list of extents, each of them a list of blocks
 abbrev pub block_at : List (List Block) → Place → Option Block
 block_at es p = option_and_then (λ blocks. slice_get blocks p.index) (slice_get es p.extent)
+
+-- the first place is not after the second: it is in an earlier extent, or in the same extent at no greater index
+abbrev pub IsNotAfter : Place → Place → Type 0
+IsNotAfter q p = (q.extent < p.extent) ⊎ ((q.extent ≡ p.extent) × (q.index ≤ p.index))
+
+-- a block is at a place, and no block is at a later place
+pub record IsLastAt (es : List (List Block)) (p : Place) (b : Block) : Type 0 where
+  pub here : block_at es p ≡ Some b
+  pub last : (q : Place) (c : Block) → block_at es q ≡ Some c → IsNotAfter q p
 
 -- the blocks of all extents, in their order
 abbrev pub blocks_of : List (List Block) → List Block

@@ -50,7 +50,7 @@ impl Parts {
     ghost use Rattle.stream_manager.specs.Counting.{CallsAtMost, Grows, CallsTry, FailsTry, CallsAppend, FailsAppend, CallsSettle, FailsSettle, CountsSeal, kept_in};
     ghost use Rattle.stream_manager.specs.Extents.{closed_blocks, extents};
     ghost use Rattle.stream_manager.specs.Outcomes.{IsTried, IsPut, IsAppend, IsSettled, IsSealed};
-    ghost use Rattle.stream_manager.specs.Places.{Follows, block_at};
+    ghost use Rattle.stream_manager.specs.Places.{Follows, IsLastAt, block_at};
     ghost use Rattle.stream_manager.specs.Sizes.{IsWithin, AreSized, AreCounted};
     ghost use Rattle.stream_manager.specs.declared.faults.AppendFault.TheVariants.{TooLarge, Busy};
     ghost use Rattle.stream_manager.specs.declared.parts.Tried.TheVariants.{Excluded};
@@ -100,7 +100,7 @@ impl Parts {
             (held kept self.old.last.tried) (extents self.new.sealed.items self.new.last)) }
         ensures at { IfOk result (λ kept. (b : Block) → (p : Place) → held kept self.old.last.tried ≡ b ∷ []
             → p.extent ≡ length self.old.sealed.items → p.index ≡ length self.old.last.blocks
-            → block_at (extents self.new.sealed.items self.new.last) p ≡ Some b) }
+            → IsLastAt (extents self.new.sealed.items self.new.last) p b) }
         ensures blocks { IfOk result (λ kept. self.new.last.blocks ≡ []) }
         ensures tried { IfOk result (λ kept. self.new.last.tried ≡ None) }
         ensures same { OnErr result (extents self.new.sealed.items self.new.last ≡ extents self.old.sealed.items self.old.last) }
