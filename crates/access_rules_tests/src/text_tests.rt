@@ -94,7 +94,7 @@ fn dates_are_cut_down_to_the_second(rt: HostRuntime) {
         (13_490_928_000_000_001, "Mon, 01 Oct 2012 12:00:00 GMT"),
         (2_534_023_007_999_999_999, "Fri, 31 Dec 9999 23:59:59 GMT"),
     ] {
-        let written = Moment::new(ticks).map(write_http);
+        let written = Moment::new(ticks).map(|moment| write_http(moment));
         assert!(rt;
             written.is_some_and(|date| date.as_slice() == text.as_bytes()),
             "at {text}"

@@ -205,7 +205,11 @@ const QUARTER_MIB: usize = 256 * 1024;
 #[test]
 fn rows_and_answers_share_a_body(rt: HostRuntime) {
     let alloc = rt.alloc();
-    let body = body(&rt, alloc, vec![in alloc; 7; QUARTER_MIB].expect(&rt, "memory"));
+    let body = body(
+        &rt,
+        alloc,
+        vec![in alloc; 7; QUARTER_MIB].expect(&rt, "memory"),
+    );
     let mut rows = pics(&rt, alloc, 1);
     let mut answers = Vec::new(alloc);
     let before = resident(&rt).expect(&rt, "a status");
