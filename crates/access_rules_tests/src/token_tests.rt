@@ -1,6 +1,6 @@
 //! Tokens beside their neighbours, and strings to sign with signatures that were made elsewhere.
 use hmac_sign::{read_key, sign};
-use sas_token::{TokenFault, read_token, token_string};
+use sas_token::{Resource, TokenFault, read_token, token_string};
 use stamp_types::{FieldList, Key, Text};
 use std::alloc::Global;
 use std::process::Abort;
@@ -245,6 +245,12 @@ fn signature_of(rt: &impl Abort, alloc: Global, row: &Signed) -> String {
         None
     };
     let token = read_token(&query).expect(rt, "a token");
+    let is_named = match token.resource {
+        Resource::Blob => name.is_some(),
+        Resource::Container => true,
+    };
+    assert!(rt; is_named, "a blob's name");
+    assert!(rt; !key.container.as_str().is_empty(), "a container");
     let string = token_string(alloc, &token, &key, name).expect(rt, "memory");
     let secret = read_key(alloc, row.secret.as_bytes()).expect(rt, "a key");
     sign(alloc, &secret, &string).expect(rt, "memory")
