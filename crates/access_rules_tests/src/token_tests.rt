@@ -18,7 +18,7 @@ const GOOD: [(&str, &str); 7] = [
     ("sig", "c2lnbmF0dXJl"),
 ];
 
-// What a good token is read as, if it has these values under the name.
+// The fault of a token that is good but for what it has under the name: these values. `None` if it is good.
 fn fault_with(rt: &impl Abort, alloc: Global, name: &str, values: &[&[u8]]) -> Option<TokenFault> {
     let mut query = FieldList::new(alloc);
     for (other, value) in GOOD {
