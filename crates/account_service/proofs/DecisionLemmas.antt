@@ -1,8 +1,11 @@
 -- What is decided on a request.
-use Rattle.std.proofs.Common.{◌≡◌, ◌≤◌, ◌<◌, ◌⊎◌, inl, inr, ℕ, ◌-◌, arith, true, List, [], ◌∷◌, ◌++◌, length, length-append, take, drop, Option, Some, None, refl, sym, ap, subst}
+use Rattle.std.proofs.Common.{◌≡◌, ◌≤◌, ◌<◌, ◌⊎◌, inl, inr, ℕ, ◌-◌, arith, true, false, List, [], ◌∷◌, ◌++◌, length, length-append, take, drop, Option, Some, None, refl, sym, ap, ◌∙◌, subst}
 use Rattle.std.proofs.lemmas.List.{append-nil, length-take}
 use Rattle.std.proofs.lemmas.List.Sums.{sum_by-cons}
+use Rattle.std.specs.Prelude.{Result, Ok, Err, IfOk}
 use Rattle.std.specs.Option.{option_map, option_or}
+use Rattle.std.specs.declared.alloc.AllocError.{AllocError}
+use Rattle.stamp_values.specs.Operations.{writes}
 use Rattle.stamp_values.specs.declared.condition.ByteRange.{ByteRange}
 use Rattle.stamp_values.specs.declared.op.Op.{Op}
 use Rattle.stamp_values.specs.declared.op.Op.TheVariants as op
@@ -12,6 +15,7 @@ use Rattle.stamp_types.specs.declared.refusal.Refusal.{Refusal}
 use Rattle.stamp_types.specs.declared.reply.Reply.{Reply}
 use Rattle.stamp_types.specs.declared.rule.Rule.{Rule}
 use Rattle.stamp_types.specs.declared.standing.Standing.{Standing}
+use Rattle.stamp_types.specs.Changes.{KeyedAct}
 use Rattle.stamp_types.specs.Pieces.{piece_bytes}
 use Rattle.stamp_types.specs.Requests.{Asked}
 use Rattle.stamp_types.specs.World.{Blob, Part}
@@ -19,16 +23,22 @@ use Rattle.access_rules.specs.declared.judgement.Verdict.TheVariants.{Allow, Den
 use Rattle.access_rules.specs.declared.judgement.Way.{Way}
 use Rattle.access_rules.specs.declared.keys.Keys.{Keys}
 use Rattle.access_rules.specs.Rules.{first_rule, verdict_by, verdict_of, way_of}
-use Rattle.range_rows.specs.Access.{acl_of}
+use Rattle.row_trees.specs.Access.{acl_of}
 use Rattle.range_rows.specs.declared.answer.Span.{Span}
-use Rattle.range_rows.specs.FoundParts.{sizes_found}
+use Rattle.row_trees.specs.FoundParts.{sizes_found}
+use Rattle.range_rows.specs.Judgements.{IsAllowed}
 use Rattle.range_rows.specs.NamedBlobs.{target_blob}
+use Rattle.range_rows.specs.declared.judged.Allowed.{Allowed}
+use Rattle.range_rows.specs.declared.target.Target.{Target}
 use Rattle.range_rows.specs.ObjectReplies.{blob_read, frame, frame_by, is_served, ranged_frame, span_bytes, spans, spans_by, spans_len, standing_read}
 use Rattle.range_rows.specs.ObjectRules.{object_refusal}
-use Rattle.stamp_model.specs.Refusals.{access_refusal}
+use Rattle.range_rows.specs.RequestChanges.{act_by, change_of}
+use Rattle.stamp_model.specs.Refusals.{access_refusal, unserved_refusal}
+use Rattle.stamp_model.proofs.EffectLemmas.{on_key}
 use Rattle.stamp_model.proofs.ReplyLemmas.{unrefused}
-use Rattle.account_service.specs.Decisions.{decided_by, found_refusal, object_or_unserved}
+use Rattle.account_service.specs.Decisions.{decided_by, found_refusal, found_reply, object_or_unserved}
 use Rattle.account_service.specs.HeldRows.{bytes_held}
+use Rattle.account_service.specs.declared.decision.Decision.{Decision}
 use Rattle.account_service.specs.declared.decision.Decision.TheVariants as decision
 
 -- ---- the verdict
@@ -64,19 +74,45 @@ module _ (keys : Keys) (p : Part (List Piece)) (q : Asked) (t : ℕ) where
 -- ---- the decision
 
 -- a request that is decided to be refused has this refusal
-pub refused_by : (o : Option Refusal) (reply : Reply) (r : Refusal) → decision.Refused r ≡ decided_by o reply → o ≡ Some r
-refused_by None reply r e = cc
-refused_by (Some x) reply r e = let same : x ≡ r = cc in ap Some same
+pub refused_by : (o : Option Refusal) (reply : Reply) (change : Option KeyedAct) (r : Refusal) → decision.Refused r ≡ decided_by o reply change → o ≡ Some r
+refused_by None reply change r e = cc
+refused_by (Some x) reply change r e = let same : x ≡ r = cc in ap Some same
 
--- nothing refuses a request that is decided to be allowed
-pub none_refuses : (o : Option Refusal) (reply given : Reply) → decision.Allowed given ≡ decided_by o reply → o ≡ None
-none_refuses None reply given e = refl
-none_refuses (Some x) reply given e = cc
+-- nothing refuses a request that is decided to be allowed, and it has this reply and this change
+pub allowed_with : (o : Option Refusal) (reply given : Reply) (change made : Option KeyedAct) → decision.Allowed given made ≡ decided_by o reply change
+    → (o ≡ None) × (given ≡ reply) × (made ≡ change)
+allowed_with None reply given change made e = (refl, ap reply_told e, ap change_told e)
+  where
+    reply_told : Decision → Reply
+    reply_told (decision.Allowed r c) = r
+    reply_told (decision.Refused r) = reply
 
--- a request that is decided to be allowed has this reply
-pub reply_decided : (o : Option Refusal) (reply given : Reply) → decision.Allowed given ≡ decided_by o reply → given ≡ reply
-reply_decided None reply given e = cc
-reply_decided (Some x) reply given e = cc
+    change_told : Decision → Option KeyedAct
+    change_told (decision.Allowed r c) = c
+    change_told (decision.Refused r) = None
+allowed_with (Some x) reply given change made e = cc
+
+module _ (q : Asked) (t : ℕ) where
+  -- what is decided on a permitted request, from its container
+  abbrev permitted : Part (List Piece) → Decision
+  permitted p = decided_by (object_or_unserved p q) (found_reply p q t) (change_of (sizes_found p) q t)
+
+  -- a request that the object refuses is refused by this
+  pub object_refused : (p : Part (List Piece)) (r : Refusal) → Some r ≡ object_refusal (sizes_found p) q → decision.Refused r ≡ permitted p
+  object_refused p r is = ap (λ o. decided_by (option_or o (unserved_refusal q.ask.op)) (found_reply p q t) (change_of (sizes_found p) q t)) is
+
+  -- a request that nothing refuses has its reply and its change
+  allowed_decided : (a : Allowed) (target : Target) → IsAllowed a q → a.target ≡ target → None ≡ unserved_refusal q.ask.op
+      → decision.Allowed (found_reply a.target.container q t) (change_of (sizes_found a.target.container) q t) ≡ permitted target.container
+  allowed_decided a target is same served =
+      (λ i. decided_by (option_or (sym is.1 i) (served i)) (found_reply a.target.container q t) (change_of (sizes_found a.target.container) q t))
+      ∙ ap (λ (target : Target). permitted target.container) same
+
+  pub given_allowed : (a : Allowed) (target : Target) (given : Result Decision AllocError) → IsAllowed a q → a.target ≡ target → None ≡ unserved_refusal q.ask.op
+      → IfOk given (λ given. given ≡ decision.Allowed (found_reply a.target.container q t) (change_of (sizes_found a.target.container) q t))
+      → IfOk given (λ given. given ≡ permitted target.container)
+  given_allowed a target (Ok given) is same served made = made ∙ allowed_decided a target is same served
+  given_allowed a target (Err fault) is same served made = tt
 
 -- ---- memory
 
@@ -127,3 +163,21 @@ fits_memory r p d q ss n is out counted held short =
     (one_body q.ask.op q (standing_read p) (blob_read p q.ask) (target_blob p q.ask) q.ask.args.range (blob_read d q.ask))))
     (subst (λ n. n < 18446744073709551616) counted held)
     short
+
+-- ---- the change
+
+-- an operation that reads changes nothing
+unchanging : (z : Part ℕ) (q : Asked) (t : ℕ) (o : Op) → writes o ≡ false → act_by o z q t ≡ None
+unchanging z q t op.CreateContainer reads = cc
+unchanging z q t op.SetContainerMetadata reads = cc
+unchanging z q t op.DeleteContainer reads = cc
+unchanging z q t op.PutBlob reads = cc
+unchanging z q t op.SetMetadata reads = cc
+unchanging z q t op.DeleteBlob reads = cc
+unchanging z q t op.PutBlock reads = cc
+unchanging z q t op.PutBlockList reads = cc
+unchanging z q t other reads = refl
+
+-- a request that reads has no change
+pub no_change : (z : Part ℕ) (q : Asked) (t : ℕ) → writes q.ask.op ≡ false → None ≡ change_of z q t
+no_change z q t reads = sym (ap (option_map (on_key q.ask.key)) (unchanging z q t q.ask.op reads))

@@ -1,12 +1,11 @@
 -- What a service holds whose content is in memory, and what it answers.
 use Rattle.std.proofs.Common.{◌≡◌, ℕ, true, false, List, [], ◌∷◌, length, drop, zero, suc, get_or, Option, Some, None, Result, Ok, Err, IfOk, OnOk, OnErr, refl, sym, ap, ◌∙◌, subst}
 use Rattle.std.proofs.lemmas.List.Sums.{AllPass-from_list_all}
-use Rattle.std.specs.Prelude.{⊤}
+use Rattle.std.specs.Prelude.{⊤, IfSome, IsTrue}
 use Rattle.std.specs.declared.alloc.AllocError.{AllocError}
 use Rattle.std.specs.Option.{option_map, option_and_then}
 use Rattle.stamp_values.specs.Order.{keys_total, keys_exact}
 use Rattle.stamp_values.proofs.MapsLemmas.{map_values-empty}
-use Rattle.stamp_values.specs.Operations.{writes}
 use Rattle.stamp_values.specs.declared.op.Op.{Op}
 use Rattle.stamp_values.specs.declared.op.Op.TheVariants as op
 use Rattle.stamp_types.specs.declared.act.Act.{Act}
@@ -26,9 +25,10 @@ use Rattle.stamp_types.proofs.WorldLemmas.{part_at-world_value}
 use Rattle.stamp_types.proofs.ContentReadings.{part_value-changed}
 use Rattle.stamp_types.proofs.EachContents.{EachContent-changed, EachContent-then, EachWorldContent-changed_in}
 use Rattle.access_rules.specs.declared.keys.Keys.{Keys}
-use Rattle.range_rows.specs.ObjectReplies.{ReadsWhole, byte_count, frame, is_served, reply_of, sizes, spans, with_content}
-use Rattle.range_rows.specs.ObjectRules.{object_refusal}
+use Rattle.row_trees.specs.Fits.{fits}
+use Rattle.range_rows.specs.ObjectReplies.{ReadsWhole, byte_count, frame, reply_of, sizes, spans, with_content}
 use Rattle.range_rows.specs.RequestChanges.{delete_blob, put_blob, put_block, put_block_list, set_metadata, act_by, change_of, part_after}
+use Rattle.range_rows.proofs.ChangeLemmas.{change_fits}
 use Rattle.range_rows.proofs.SpanLemmas.{length-read, reply_of-read}
 use Rattle.stamp_model.specs.Effects.{unless_refused, world_after, effect_as}
 use Rattle.stamp_model.specs.Refusals.{refusal}
@@ -38,7 +38,7 @@ use Rattle.stamp_model.proofs.EffectLemmas.{on_key, effect-refused}
 use Rattle.stamp_model.proofs.ReplyLemmas.{unrefused}
 use Rattle.account_service.specs.Decisions.{found_reply}
 use Rattle.stamp_model.specs.Services.{empty_held, AnswersAsModel, held_reply, held_after}
-use Rattle.account_service.specs.HeldRows.{HeldRows, empty_rows, AreHeld, bytes_held, held_of, row_refusal, rows_after}
+use Rattle.account_service.specs.HeldRows.{HeldRows, empty_rows, AreHeld, bytes_held, held_of, row_refusal, rows_after, rows_with}
 
 -- ---- the rows of a new stamp
 
@@ -48,37 +48,24 @@ held_of-empty_rows keys = ap (λ (w : World (List ℕ)). record { keys = keys; w
 
 -- ---- requests that nothing refuses
 
-module _ (keys : Keys) (w : World (List Piece)) (h : HeldRows) (is : record { keys = keys; rows = w } ≡ h) (q : Asked) (t : ℕ) where
-  abbrev own : Part (List Piece)
-  own = part_at w q.ask.key
+module _ (h : HeldRows) (q : Asked) (t : ℕ) where
+  abbrev found : Part ℕ
+  found = part_value pieces_len (part_at h.rows q.ask.key)
 
-  own_free : row_refusal h q t ≡ None → refusal (Some keys) (part_value pieces_len own) q t ≡ None
-  own_free free = ap (λ (x : HeldRows). row_refusal x q t) is ∙ free
+  -- the rows with the change of the request are the rows after the request
+  pub rows_with_change : row_refusal h q t ≡ None → rows_with (change_of found q t) h ≡ rows_after h q t
+  rows_with_change free =
+      ap (λ (w : World (List Piece)). record { keys = h.keys; rows = w })
+      (sym (ap (λ (o : Option Refusal). world_after same_pieces (unless_refused o (change_of found q t)) h.rows) free))
 
-  -- if nothing refuses a request, the object does not refuse it
-  pub unopposed : row_refusal h q t ≡ None → object_refusal (part_value pieces_len own) q ≡ None
-  unopposed free = (unrefused (Some keys) (part_value pieces_len own) q t (own_free free)).unopposed
+  fits_own : (c : KeyedAct) → (c.key ≡ q.ask.key) × IsTrue (fits found c.act) → IsTrue (fits (part_value pieces_len (part_at h.rows c.key)) c.act)
+  fits_own c own = subst (λ k. IsTrue (fits (part_value pieces_len (part_at h.rows k)) c.act)) (sym own.0) own.1
 
-  -- if nothing refuses a request, its operation is served
-  pub served : row_refusal h q t ≡ None → is_served q.ask.op ≡ true
-  served free = (unrefused (Some keys) (part_value pieces_len own) q t (own_free free)).served
-
-  effect_by : (c : Option KeyedAct) → row_refusal h q t ≡ None → change_of (part_value pieces_len own) q t ≡ c
-      → effect_as pieces_len same_pieces (Some keys) w q t ≡ world_after same_pieces c w
-  effect_by c free change =
-      ap (λ (o : Option Refusal). world_after same_pieces (unless_refused o (change_of (part_value pieces_len own) q t)) w) (own_free free)
-      ∙ ap (λ (c : Option KeyedAct). world_after same_pieces c w) change
-
-  rows_by : (c : Option KeyedAct) → row_refusal h q t ≡ None → change_of (part_value pieces_len own) q t ≡ c
-      → record { keys = keys; rows = world_after same_pieces c w } ≡ rows_after h q t
-  rows_by c free change =
-      ap (λ (v : World (List Piece)). record { keys = keys; rows = v }) (sym (effect_by c free change))
-      ∙ ap (λ (x : HeldRows). rows_after x q t) is
-
-  -- a change that is made is the change of the request
-  pub rows_after_write : (c : KeyedAct) → row_refusal h q t ≡ None → change_of (part_value pieces_len own) q t ≡ Some c
-      → record { keys = keys; rows = changed_in same_pieces w c } ≡ rows_after h q t
-  rows_after_write c free change = rows_by (Some c) free change
+  -- the change of a request that nothing refuses fits
+  pub change_fits_rows : row_refusal h q t ≡ None → (o : Option KeyedAct) → change_of found q t ≡ o
+      → IfSome o (λ c. IsTrue (fits (part_value pieces_len (part_at h.rows c.key)) c.act))
+  change_fits_rows free None e = tt
+  change_fits_rows free (Some c) e = fits_own c (change_fits found q t c (unrefused (Some h.keys) found q t free).unopposed e)
 
 -- ---- content in memory
 
@@ -135,12 +122,16 @@ module _ (z : Part ℕ) (q : Asked) (t : ℕ) where
   pub brings_held : (c : KeyedAct) → change_of z q t ≡ Some c → EachActContent (λ ps. is_held ps ≡ true) c.act
   brings_held c change = keyed (act_by q.ask.op z q t) c (brought_by q.ask.op) change
 
+  -- the same of the change, if there is one
+  pub change_is_held : (o : Option KeyedAct) → change_of z q t ≡ o → IfSome o (λ c. EachActContent (λ ps. is_held ps ≡ true) c.act)
+  change_is_held None e = tt
+  change_is_held (Some c) e = brings_held c e
+
 -- whether the change is made or not, all content is in memory
-pub held_kept : (z : Part ℕ) (q : Asked) (t : ℕ) (w : World (List Piece)) (r : Result (Unit {0}) AllocError) (c : KeyedAct) (w' : World (List Piece)) → change_of z q t ≡ Some c → AreHeld w
-    → OnOk r (w' ≡ changed_in same_pieces w c) → OnErr r (w' ≡ w) → AreHeld w'
-held_kept z q t w (Ok x) c w' change all ok err =
-    subst AreHeld (sym ok) (EachWorldContent-changed_in (λ ps. is_held ps ≡ true) same_pieces w c all (brings_held z q t c change))
-held_kept z q t w (Err e) c w' change all ok err = subst AreHeld (sym err) all
+pub held_kept : (w : World (List Piece)) (r : Result (Unit {0}) AllocError) (c : KeyedAct) (w' : World (List Piece)) → EachActContent (λ ps. is_held ps ≡ true) c.act
+    → AreHeld w → OnOk r (w' ≡ changed_in same_pieces w c) → OnErr r (w' ≡ w) → AreHeld w'
+held_kept w (Ok x) c w' brought all ok err = subst AreHeld (sym ok) (EachWorldContent-changed_in (λ ps. is_held ps ≡ true) same_pieces w c all brought)
+held_kept w (Err e) c w' brought all ok err = subst AreHeld (sym err) all
 
 held_whole : (ps : List Piece) → is_held ps ≡ true → ReadsWhole piece_bytes ps
 held_whole ps h k d within = piece_whole (get_or ps k d) (AllPass-from_list_all is_held_piece ps h k d within)
@@ -226,23 +217,6 @@ module _ (h : HeldRows) (q : Asked) (t : ℕ) (all : AreHeld h.rows) where
   answered_refused r (Ok reply) e is = answers_refused h q t all r reply e is
   answered_refused r (Err x) e is = is
 
-  pub answered_allowed : (reply : Reply) (result : Result Reply AllocError) (h' : HeldRows) → row_refusal h q t ≡ None → reply ≡ found_reply (part_at h.rows q.ask.key) q t
-      → IfOk result (λ given. given ≡ reply) → OnOk result (h' ≡ rows_after h q t) → IfOk result (λ reply. AnswersAsModel (held_of h) q t reply (held_of h'))
-  answered_allowed reply (Ok given) h' free made is new = answers_allowed h q t all given h' (is ∙ made ∙ reply_with_spans h q t all free) new
-  answered_allowed reply (Err x) h' free made is new = is
-
--- an operation that reads changes nothing
-unchanging : (z : Part ℕ) (q : Asked) (t : ℕ) (o : Op) → writes o ≡ false → act_by o z q t ≡ None
-unchanging z q t op.CreateContainer reads = cc
-unchanging z q t op.SetContainerMetadata reads = cc
-unchanging z q t op.DeleteContainer reads = cc
-unchanging z q t op.PutBlob reads = cc
-unchanging z q t op.SetMetadata reads = cc
-unchanging z q t op.DeleteBlob reads = cc
-unchanging z q t op.PutBlock reads = cc
-unchanging z q t op.PutBlockList reads = cc
-unchanging z q t other reads = refl
-
-pub rows_after_read : (h : HeldRows) (q : Asked) (t : ℕ) → row_refusal h q t ≡ None → writes q.ask.op ≡ false → h ≡ rows_after h q t
-rows_after_read h q t free reads =
-    rows_by h.keys h.rows h refl q t None free (ap (option_map (on_key q.ask.key)) (unchanging (part_value pieces_len (part_at h.rows q.ask.key)) q t q.ask.op reads))
+  pub answered_allowed : (reply : Reply) (h' : HeldRows) → row_refusal h q t ≡ None → reply ≡ found_reply (part_at h.rows q.ask.key) q t
+      → h' ≡ rows_with (change_of (part_value pieces_len (part_at h.rows q.ask.key)) q t) h → AnswersAsModel (held_of h) q t reply (held_of h')
+  answered_allowed reply h' free made new = answers_allowed h q t all reply h' (made ∙ reply_with_spans h q t all free) (new ∙ rows_with_change h q t free)

@@ -2,15 +2,18 @@
 -- operation).
 use Rattle.std.specs.Prelude.{ℕ, List, Option, Some, None}
 use Rattle.std.specs.Option.{option_or}
+use Rattle.stamp_types.specs.Changes.{KeyedAct}
 use Rattle.stamp_types.specs.declared.piece.Piece.{Piece}
 use Rattle.stamp_types.specs.declared.refusal.Refusal.{Refusal}
 use Rattle.stamp_types.specs.declared.reply.Reply.{Reply}
 use Rattle.stamp_types.specs.Requests.{Asked}
 use Rattle.stamp_types.specs.World.{Part, part_at}
 use Rattle.access_rules.specs.declared.keys.Keys.{Keys}
-use Rattle.range_rows.specs.FoundParts.{pieces_found_after, sizes_found, sizes_found_after}
+use Rattle.row_trees.specs.FoundParts.{sizes_found}
+use Rattle.range_rows.specs.FoundParts.{pieces_found_after, sizes_found_after}
 use Rattle.range_rows.specs.ObjectReplies.{frame, spans, with_content}
 use Rattle.range_rows.specs.ObjectRules.{object_refusal}
+use Rattle.range_rows.specs.RequestChanges.{change_of}
 use Rattle.stamp_model.specs.Refusals.{refusal, unserved_refusal}
 use Rattle.account_service.specs.HeldRows.{HeldRows, bytes_held}
 use Rattle.account_service.specs.declared.decision.Decision.{Decision}
@@ -28,14 +31,14 @@ found_refusal keys p q t = refusal (Some keys) (sizes_found p) q t
 abbrev pub found_reply : Part (List Piece) → Asked → ℕ → Reply
 found_reply p q t = with_content (frame (sizes_found_after p q t) q) (bytes_held (spans (pieces_found_after p q t) q))
 
--- a request is refused, or else this is its reply
-abbrev pub decided_by : Option Refusal → Reply → Decision
-decided_by (Some r) reply = decision.Refused r
-decided_by None reply = decision.Allowed reply
+-- a request is refused, or else these are its reply and its change
+abbrev pub decided_by : Option Refusal → Reply → Option KeyedAct → Decision
+decided_by (Some r) reply change = decision.Refused r
+decided_by None reply change = decision.Allowed reply change
 
 -- what is decided on a request, from its container
 abbrev pub decision_of : Keys → Part (List Piece) → Asked → ℕ → Decision
-decision_of keys p q t = decided_by (found_refusal keys p q t) (found_reply p q t)
+decision_of keys p q t = decided_by (found_refusal keys p q t) (found_reply p q t) (change_of (sizes_found p) q t)
 
 -- what is decided on a request, from the rows
 abbrev pub row_decision : HeldRows → Asked → ℕ → Decision

@@ -5,6 +5,7 @@ use Rattle.std.specs.Coded.{Coded, code_by, coded_ℕ, coded×}
 use Rattle.std.specs.List.{flat_map}
 use Rattle.stamp_types.specs.declared.piece.Piece.{Piece}
 use Rattle.stamp_types.specs.declared.refusal.Refusal.{Refusal}
+use Rattle.stamp_types.specs.Changes.{KeyedAct}
 use Rattle.stamp_types.specs.Contents.{EachWorldContent}
 use Rattle.stamp_types.specs.Pieces.{held, is_held, piece_bytes, pieces_len}
 use Rattle.stamp_types.specs.Requests.{Asked}
@@ -12,9 +13,9 @@ use Rattle.stamp_types.specs.World.{World, part_at, part_value, world_value, sam
 use Rattle.stamp_types.specs.WorldCodes.{text_code}
 use Rattle.access_rules.specs.declared.keys.Keys.{Keys}
 use Rattle.range_rows.specs.declared.answer.Span.{Span}
-use Rattle.range_rows.specs.BlobRows.{rows_code}
+use Rattle.row_trees.specs.BlobRows.{rows_code}
 use Rattle.range_rows.specs.ObjectReplies.{span_bytes}
-use Rattle.stamp_model.specs.Effects.{effect_as}
+use Rattle.stamp_model.specs.Effects.{effect_as, world_after}
 use Rattle.stamp_model.specs.Refusals.{refusal}
 use Rattle.stamp_model.specs.Services.{Held}
 
@@ -52,6 +53,10 @@ row_refusal h q t = refusal (Some h.keys) (part_value pieces_len (part_at h.rows
 -- what rows hold after a request
 abbrev pub rows_after : HeldRows → Asked → ℕ → HeldRows
 rows_after h q t = record { keys = h.keys; rows = effect_as pieces_len same_pieces (Some h.keys) h.rows q t }
+
+-- what rows hold after a change, or the same if there is no change
+abbrev pub rows_with : Option KeyedAct → HeldRows → HeldRows
+rows_with c h = record { keys = h.keys; rows = world_after same_pieces c h.rows }
 
 -- the bytes of spans whose pieces are held in memory
 abbrev pub bytes_held : List Span → List ℕ

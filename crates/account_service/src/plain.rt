@@ -1,20 +1,22 @@
 //! The service over the rows of one account.
-ghost use Rattle.std.specs.Prelude.{◌≡◌, ◌↔◌, None, Some, IfOk, IfSome, IsSome, IsTrue, OnErr, OnOk};
-ghost use Rattle.stamp_values.specs.Operations.{writes};
+ghost use Rattle.std.specs.Prelude.{◌≡◌, ◌↔◌, IfOk, IfSome, IsSome, IsTrue, OnErr, OnOk};
 ghost use Rattle.stamp_values.specs.Names.{is_account};
-ghost use Rattle.stamp_types.specs.Replies.{denied};
+ghost use Rattle.stamp_types.specs.Contents.{EachActContent};
+ghost use Rattle.stamp_types.specs.Pieces.{is_held, pieces_len};
+ghost use Rattle.stamp_types.specs.World.{part_at, part_value};
+ghost use Rattle.row_trees.specs.Fits.{fits};
 ghost use Rattle.range_rows.specs.Readings.{reading_of};
 ghost use Rattle.account_service.specs.Decisions.{row_decision};
 ghost use Rattle.stamp_model.specs.Services.{AnswersAsModel, Held, empty_held};
 ghost use Rattle.account_service.specs.HeldRows.{AreHeld, empty_rows, held_of};
-ghost use Rattle.account_service.specs.HeldRows.{row_refusal, rows_after};
+ghost use Rattle.account_service.specs.HeldRows.{rows_with};
 
 use crate::decision::{Decision, decide};
 use access_rules::Keys;
 use http_front::Service;
 use name_rules::account_ok;
-use range_rows::{Reading, Rows};
-use stamp_types::{Moment, Reply, Request};
+use range_rows::{Reading, Rows, Target};
+use stamp_types::{Change, Moment, Reply, Request};
 use std::alloc::{AllocError, Global};
 use std::marker::Model;
 
@@ -56,80 +58,61 @@ impl Plain {
         Some(Self { keys, rows })
     }
 
-    // What is decided on a request. The request walks to its container once.
+    // What is decided on a request. The request walks to its container and to its blob once.
     fn decision(
         &self,
         alloc: Global,
         request: &Request,
-        reading: &Reading,
+        reading: Reading,
         moment: Moment,
     ) -> Result<Decision, AllocError>
-        requires { reading.now ≡ reading_of request.now }
+        requires { reading ≡ reading_of request.now }
         ensures decided { IfOk result (λ decision.
             decision ≡ row_decision self.now request.now moment) }
         ensures held { AreHeld self.now.rows }
     {
-        let found = self.rows.find(&request.ask().key);
-        decide(alloc, &self.keys, &found, request, reading, moment)
+        let ask = request.ask();
+        let target = Target::of(self.rows.find(&ask.key), ask);
+        decide(alloc, &self.keys, target, request, reading, moment)
     }
 
-    // Makes the change of a request that nothing refuses.
-    #[tactic(auto, using(crate::proofs::PlainLemmas::unopposed, crate::proofs::PlainLemmas::served, crate::proofs::PlainLemmas::rows_after_write))]
-    fn keep(
-        &mut self,
-        alloc: Global,
-        request: &Request,
-        reading: &Reading,
-        moment: Moment,
-    ) -> Result<(), AllocError>
-        requires write { IsTrue (writes request.now.ask.op) }
-        requires allowed { row_refusal self.old request.now moment ≡ None }
-        requires read { reading.now ≡ reading_of request.now }
-        ensures kept { OnOk result (self.new ≡ rows_after self.old request.now moment) }
+    // Makes a change, if there is one.
+    fn keep(&mut self, alloc: Global, change: Option<Change>) -> Result<(), AllocError>
+        requires held { IfSome change (λ c. EachActContent (λ ps. IsTrue (is_held ps)) c.act) }
+        requires fits { IfSome change (λ c. IsTrue
+            (fits (part_value pieces_len (part_at self.old.rows c.key)) c.act)) }
+        ensures kept { OnOk result (self.new ≡ rows_with change self.old) }
         ensures refused { OnErr result (self.new ≡ self.old) }
     {
-        let change = self.rows.change(alloc, request, reading, moment)?;
-        self.rows.take(alloc, change)
-    }
-
-    // Makes the change of a request that nothing refuses, if the request makes a change, and gives
-    // the reply, which was made before. So nothing is changed if memory runs out for the reply.
-    fn allowed(
-        &mut self,
-        alloc: Global,
-        request: &Request,
-        reading: &Reading,
-        moment: Moment,
-        reply: Reply,
-    ) -> Result<Reply, AllocError>
-        requires allowed { row_refusal self.old request.now moment ≡ None }
-        requires read { reading.now ≡ reading_of request.now }
-        ensures replied { IfOk result (λ given. given ≡ reply) }
-        ensures changed { OnOk result (self.new ≡ rows_after self.old request.now moment) }
-        ensures unchanged { OnErr result (self.new ≡ self.old) }
-    {
-        if request.ask().op.writes() {
-            self.keep(alloc, request, reading, moment)?;
+        match change {
+            Some(change) => self.rows.take(alloc, change),
+            None => Ok(()),
         }
-        Ok(reply)
     }
 
-    // The reply to a request, and the change of the request if nothing refuses it.
+    // The reply to a request, and the change of the request if nothing refuses it. The reply is made
+    // before the change, so nothing is changed if memory runs out for the reply.
     fn judged(
         &mut self,
         alloc: Global,
         request: &Request,
-        reading: &Reading,
+        reading: Reading,
         moment: Moment,
     ) -> Result<Reply, AllocError>
-        requires { reading.now ≡ reading_of request.now }
+        requires { reading ≡ reading_of request.now }
         ensures answered { IfOk result (λ reply.
             AnswersAsModel (held_of self.old) request.now moment reply (held_of self.new)) }
         ensures unchanged { OnErr result (self.new ≡ self.old) }
     {
         match self.decision(alloc, request, reading, moment)? {
             Decision::Refused(refusal) => Reply::denied(alloc, refusal),
-            Decision::Allowed(reply) => self.allowed(alloc, request, reading, moment, reply),
+            Decision::Allowed(reply, change) => match self.keep(alloc, change) {
+                Ok(()) => Ok(reply),
+                Err(fault) => {
+                    drop(reply);
+                    Err(fault)
+                }
+            },
         }
     }
 }
@@ -158,6 +141,6 @@ impl Service for Plain {
         ensures unchanged { OnErr result (self.new ≡ self.old) }
     {
         let reading = Reading::of(alloc, &request)?;
-        self.judged(alloc, &request, &reading, moment)
+        self.judged(alloc, &request, reading, moment)
     }
 }

@@ -1,5 +1,5 @@
 -- Block lists: the blocks that they take, and lists whose blocks are all found.
-use Rattle.std.proofs.Common.{◌≡◌, ℕ, zero, suc, ◌+◌, ◌≤◌, Bool, true, false, cond, ◌&&◌, ◌||◌, List, [], ◌∷◌, ◌++◌, length, Option, Some, None, IfSome, All, refl, sym, ap, subst, ◌∙◌, arith, le-leb, zero-add}
+use Rattle.std.proofs.Common.{◌≡◌, ℕ, zero, suc, ◌+◌, ◌≤◌, ◌<◌, Bool, true, false, cond, ◌&&◌, ◌||◌, List, [], ◌∷◌, ◌++◌, length, Option, Some, None, IfSome, All, refl, sym, ap, subst, ◌∙◌, arith, le-leb, zero-add}
 use Rattle.std.specs.Prelude.{find, flat_map, ◌==◌, is_none, is_some, nat_le, nat_eq, slice_index_or, slice_set, sum_by, unwrap_or}
 use Rattle.std.specs.Option.{option_map, option_and_then, option_to_list}
 use Rattle.std.specs.List.{list_all, position_from, AllByRecursion}
@@ -24,7 +24,7 @@ use Rattle.stamp_types.specs.declared.piece.Piece.{Piece}
 use Rattle.stamp_types.specs.Pieces.{pieces_len}
 use Rattle.stamp_types.specs.Changes.{are_blocks, blocks_len, has_ids_or_one, is_block, is_committed, is_in_one_piece}
 use Rattle.stamp_types.specs.World.{Blob, block_of, committed_content, content_from, has_block_id, taken_blocks, whole_block}
-use Rattle.block_blobs.specs.BlockLists.{EachInOnePiece, wanted_len, first_absent, first_missing, found_entries, list_fault, named_at, named_blocks, source_of, sources_of, taken_fault, taken_from, unnamed_blocks, wanted_fault}
+use Rattle.block_blobs.specs.BlockLists.{EachInOnePiece, wanted_len, entries_from, first_absent, first_missing, found_entries, found_sources, list_fault, named_at, named_blocks, source_of, sources_of, taken_fault, taken_from, unnamed_blocks, wanted_fault}
 use Rattle.block_blobs.specs.UncommittedBlocks.{are_in_one_piece}
 
 both : (a b : Bool) → a ≡ true → b ≡ true → (a && b) ≡ true
@@ -74,6 +74,15 @@ pub each_in_one_piece : (b : Blob (List Piece)) → is_committed b.committed ≡
 each_in_one_piece b committed uncommitted source.Uncommitted id =
     subst (λ o. IfSome o (λ content. is_in_one_piece content ≡ true)) (sym (finite.get-entries b.uncommitted id)) (found_passes is_in_one_piece id (finite.entries b.uncommitted) uncommitted)
 each_in_one_piece b committed uncommitted source.Committed id = found_committed b.committed id committed
+
+-- ---- the entries of a list
+
+-- no sources give no entries
+pub no_sources : (ws : List Wanted) (ss : List Source) → length ss < 1 → entries_from ws ss ≡ []
+unfolding entries_from
+no_sources [] ss none = refl
+no_sources (w ∷ ws) [] none = refl
+no_sources (w ∷ ws) (s ∷ ss) none = absurd (omega (arith, none))
 
 -- ---- the blocks that a list takes
 
@@ -179,6 +188,19 @@ module _ {C : Type 0} (b : Blob C) where
       length-flat_map_ones (λ w. option_map (taken_from w) (source_of b w)) ws
       (weaker (λ w. is_none (source_of b w) ≡ false) (λ w. is_none (option_map (taken_from w) (source_of b w)) ≡ false)
       (λ w. still_some (taken_from w) (source_of b w)) ws (each_found ws none))
+
+  entries_from-found : (ws : List Wanted) → AllByRecursion (λ w. is_none (source_of b w) ≡ false) ws → entries_from ws (found_sources b ws) ≡ found_entries b ws
+  unfolding entries_from
+  entries_from-found [] found = refl
+  entries_from-found (w ∷ ws) found =
+      elim (source_of b w) as (λ o. is_none o ≡ false → entries_from (w ∷ ws) (option_to_list o ++ found_sources b ws) ≡ option_to_list (option_map (taken_from w) o) ++ found_entries b ws) [
+        | None ↦ λ some. cc
+        | Some s ↦ λ some. ap (λ (entries : List Taken). taken_from w s ∷ entries) (entries_from-found ws found.1)
+      ] found.0
+
+  -- if no wanted block is missing, the sources that are found give the entries that are found
+  pub entries_from_found : (ws : List Wanted) → first_missing b ws ≡ None → entries_from ws (found_sources b ws) ≡ found_entries b ws
+  entries_from_found ws none = entries_from-found ws (each_found ws none)
 
   -- what is found first passes the test
   find_passes : (test : Source → Bool) (ss : List Source) → IfSome (find test ss) (λ s. test s ≡ true)

@@ -35,6 +35,16 @@ taken_from w s = record { id = w.id; from = s }
 abbrev pub found_entries : {C : Type 0} → Blob C → List Wanted → List Taken
 found_entries b ws = flat_map (λ w. option_to_list (option_map (taken_from w) (source_of b w))) ws
 
+-- where the wanted blocks are found, in their order, without those that are not found
+abbrev pub found_sources : {C : Type 0} → Blob C → List Wanted → List Source
+found_sources b ws = flat_map (λ w. option_to_list (source_of b w)) ws
+
+-- the entries of wanted blocks that are found in these sources, in their order
+unfoldable pub entries_from : List Wanted → List Source → List Taken
+entries_from [] ss = []
+entries_from (w ∷ ws) [] = []
+entries_from (w ∷ ws) (s ∷ ss) = taken_from w s ∷ entries_from ws ss
+
 -- the position of the first wanted block that is not found
 abbrev pub first_missing : {C : Type 0} → Blob C → List Wanted → Option ℕ
 first_missing b ws = position (λ w. is_none (source_of b w)) ws

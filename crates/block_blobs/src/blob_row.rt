@@ -6,6 +6,7 @@ ghost use Rattle.stamp_values.specs.Limits.{uncommitted_limit};
 ghost use Rattle.stamp_types.specs.Changes.{is_in_one_piece, is_committed, are_blocks, are_uncommitted, blocks_len};
 ghost use Rattle.stamp_types.specs.World.{no_blob, whole_block, uncommitted_entry, same_pieces};
 ghost use Rattle.block_blobs.specs.BlobChanges as blobs;
+ghost use Rattle.block_blobs.specs.Faults.{IsFault};
 
 use crate::block_fault::BlockFault;
 use crate::block_lists::total_len;
@@ -171,13 +172,7 @@ impl BlobRow {
         ensures put { OnOk result (self.new ≡ blob_with_block id.now content self.old) }
         ensures refused { OnErr result (self.new ≡ self.old) }
         ensures fits { OnOk result (blocks.block_fault id.now self.old.uncommitted ≡ None) }
-        ensures id { result ≢ Err BlockFault.Id }
-        ensures length { result ≡ Err BlockFault.Length
-            → blocks.block_fault id.now self.old.uncommitted ≡ Some BlockFault.Length }
-        ensures too_many { result ≡ Err BlockFault.TooMany
-            → blocks.block_fault id.now self.old.uncommitted ≡ Some BlockFault.TooMany }
-        ensures too_large { result ≢ Err BlockFault.TooLarge }
-        ensures not_found { (i : ℕ) → result ≢ Err (BlockFault.NotFound i) }
+        ensures fault { IfErr result (IsFault (blocks.block_fault id.now self.old.uncommitted)) }
     {
         self.uncommitted.put(id, content)?;
         Ok(())

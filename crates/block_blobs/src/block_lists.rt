@@ -1,5 +1,5 @@
 //! Block lists: where their blocks are found, and what a commit makes of them.
-ghost use Rattle.std.specs.Prelude.{◌≡◌, ◌≢◌, ◌↔◌, ◌<◌, ◌≤◌, ◌+◌, ◌++◌, ◌∷◌, [], ℕ, IsTrue, IfOk, IfErr, OnOk, OnErr, MatchOption, Some, None, map, sum_by};
+ghost use Rattle.std.specs.Prelude.{◌≡◌, ◌↔◌, ◌<◌, ◌≤◌, ◌+◌, ◌++◌, ◌∷◌, [], ℕ, IsTrue, IfOk, IfErr, OnOk, OnErr, MatchOption, Some, None, map, sum_by};
 ghost use Rattle.std.specs.Option.{option_copied, option_map};
 ghost use Rattle.std.specs.Map.Iter.{deref_pair};
 ghost use Rattle.stamp_values.specs.Limits.{blob_limit};
@@ -66,14 +66,32 @@ fn push_unnamed(blocks: &mut Vec<Block<Pieces>>, content: &Pieces) -> Result<(),
     Ok(())
 }
 
-// Puts an entry of this id, found in this source, after the entries.
-fn push_taken(entries: &mut Vec<Taken>, id: &BlockId, from: Source) -> Result<(), AllocError>
-    ensures { OnOk result (entries.new.items
-        ≡ entries.old.items ++ record { id = id.now; from = from } ∷ []) }
+/// The entries of wanted blocks that were found in these sources, in their order. The ids move.
+///
+/// `AllocError` if memory runs out for the list.
+#[tactic(auto, unfolding(crate::specs::BlockLists::entries_from))]
+pub fn entries_from(
+    alloc: Global,
+    wanted: Items<Wanted>,
+    sources: &[Source],
+) -> Result<Items<Taken>, AllocError>
+    ensures { IfOk result (λ entries. entries ≡ lists.entries_from wanted sources.now) }
 {
-    let id = id.clone()?;
-    entries.push(Taken { id, from })?;
-    Ok(())
+    let mut entries = Vec::with_capacity(alloc, sources.len())?;
+    let mut next = wanted.into_vec().into_iter();
+    let mut left = sources;
+    while let [from, rest @ ..] = left {
+        let Some(entry) = next.next() else {
+            return Ok(Items::new(entries));
+        };
+        let taken = Taken {
+            id: entry.id,
+            from: *from,
+        };
+        entries.push(taken)?;
+        left = rest;
+    }
+    Ok(Items::new(entries))
 }
 
 // Gives the block at this place the id, if there is a block.
@@ -161,14 +179,14 @@ impl BlobRow {
 
     // Where each wanted block is found, in their order, and how much room the blocks leave of 268,435,456
     // bytes, or `None` if they have more. `NotFound` with the position of the first that is not found.
-    fn found_entries<'a>(
+    fn found_sources<'a>(
         &'a self,
         alloc: Global,
         first: &FirstBlocks<'a>,
         wanted: &'a [Wanted],
-    ) -> Result<(Vec<Taken>, Option<u64>), BlockFault>
+    ) -> Result<(Vec<Source>, Option<u64>), BlockFault>
         requires { IsIndex self.now.committed (map deref_pair first.now.entries) }
-        ensures value { IfOk result (λ p. p.0.items ≡ lists.found_entries self.now wanted.now) }
+        ensures value { IfOk result (λ p. p.0.items ≡ lists.found_sources self.now wanted.now) }
         ensures room { IfOk result (λ p.
             Leaves p.1 (sum_by (lists.wanted_len self.now) wanted.now)) }
         ensures all { OnOk result (lists.first_missing self.now wanted.now ≡ None) }
@@ -183,7 +201,7 @@ impl BlobRow {
                 return Err(BlockFault::NotFound(position));
             };
             room = room_after(room, content.len());
-            push_taken(&mut found, &entry.id, from)?;
+            found.push(from)?;
         }
         Ok((found, room))
     }
@@ -200,20 +218,13 @@ impl BlobRow {
         &'a self,
         alloc: Global,
         wanted: &'a [Wanted],
-    ) -> Result<Items<Taken>, BlockFault>
-        ensures value { IfOk result (λ found. found ≡ lists.found_entries self.now wanted.now) }
+    ) -> Result<Items<Source>, BlockFault>
+        ensures value { IfOk result (λ found. found ≡ lists.found_sources self.now wanted.now) }
         ensures fits { OnOk result (lists.wanted_fault self.now wanted.now ≡ None) }
-        ensures id { result ≢ Err BlockFault.Id }
-        ensures length { result ≢ Err BlockFault.Length }
-        ensures not_found { (i : ℕ) → result ≡ Err (BlockFault.NotFound i)
-            → lists.wanted_fault self.now wanted.now ≡ Some (BlockFault.NotFound i) }
-        ensures too_many { result ≡ Err BlockFault.TooMany
-            → lists.wanted_fault self.now wanted.now ≡ Some BlockFault.TooMany }
-        ensures too_large { result ≡ Err BlockFault.TooLarge
-            → lists.wanted_fault self.now wanted.now ≡ Some BlockFault.TooLarge }
+        ensures fault { IfErr result (IsFault (lists.wanted_fault self.now wanted.now)) }
     {
         let first = first_blocks(alloc, self.committed_blocks())?;
-        let (found, room) = self.found_entries(alloc, &first, wanted)?;
+        let (found, room) = self.found_sources(alloc, &first, wanted)?;
         if wanted.len() > ENTRIES_LIMIT {
             return Err(BlockFault::TooMany);
         }
@@ -306,14 +317,7 @@ impl BlobRow {
         ensures committed { OnOk result (self.new ≡ blob_of_list count list self.old) }
         ensures refused { OnErr result (self.new ≡ self.old) }
         ensures fits { OnOk result (lists.taken_fault self.old list.entries ≡ None) }
-        ensures id { result ≢ Err BlockFault.Id }
-        ensures length { result ≢ Err BlockFault.Length }
-        ensures not_found { (i : ℕ) → result ≡ Err (BlockFault.NotFound i)
-            → lists.taken_fault self.old list.entries ≡ Some (BlockFault.NotFound i) }
-        ensures too_many { result ≡ Err BlockFault.TooMany
-            → lists.taken_fault self.old list.entries ≡ Some BlockFault.TooMany }
-        ensures too_large { result ≡ Err BlockFault.TooLarge
-            → lists.taken_fault self.old list.entries ≡ Some BlockFault.TooLarge }
+        ensures fault { IfErr result (IsFault (lists.taken_fault self.old list.entries)) }
     {
         let PutBlockList {
             blob: _,

@@ -14,4 +14,5 @@ mod whole_lists;
 
 pub use blob_row::BlobRow;
 pub use block_fault::BlockFault;
+pub use block_lists::entries_from;
 pub use laws::{a_commit_is_its_list, a_container_changes_by_its_blob};

@@ -2,7 +2,7 @@
 
 use crate::sample_blobs::{content, id, long_content, put_blob, put_block_list, set_metadata};
 use crate::sample_entries::entry;
-use block_blobs::{BlobRow, BlockFault};
+use block_blobs::{BlobRow, BlockFault, entries_from};
 use stamp_types::{Block, Items, Lookup, Piece, Pieces, UncommittedBlock, Wanted};
 use std::alloc::Global;
 use std::process::Abort;
@@ -38,9 +38,10 @@ fn commit_wanted(
     rt: &impl Abort,
     alloc: Global,
     row: &mut BlobRow,
-    wanted: &[Wanted],
+    wanted: Vec<Wanted>,
 ) -> Result<(), BlockFault> {
-    let entries = row.resolve(alloc, wanted)?;
+    let sources = row.resolve(alloc, &wanted)?;
+    let entries = entries_from(alloc, Items::new(wanted), sources.as_slice())?;
     row.commit(alloc, put_block_list(rt, alloc, entries), 7)?;
     Ok(())
 }
@@ -52,7 +53,7 @@ fn commit(
     entries: &[Entry],
 ) -> Result<(), BlockFault> {
     let wanted = wanted(rt, alloc, entries);
-    commit_wanted(rt, alloc, row, &wanted)
+    commit_wanted(rt, alloc, row, wanted)
 }
 
 fn is_block(block: &Block<Pieces>, text: &str) -> bool {
@@ -320,7 +321,7 @@ fn ends(
         put_long(rt, alloc, &mut row, B, second);
     }
     let wanted = many(rt, alloc, count);
-    commit_wanted(rt, alloc, &mut row, &wanted)
+    commit_wanted(rt, alloc, &mut row, wanted)
 }
 
 #[test]

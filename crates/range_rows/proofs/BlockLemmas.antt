@@ -24,9 +24,10 @@ use Rattle.block_blobs.specs.BlockLists.{first_missing, found_entries, list_faul
 use Rattle.block_blobs.specs.UncommittedBlocks.{block_count, block_fault, has_other_length, is_one_too_many}
 use Rattle.block_blobs.specs.declared.block_fault.BlockFault.TheVariants as fault
 use Rattle.block_blobs.proofs.EntryLemmas.{no_entries}
-use Rattle.range_rows.specs.FoundParts.{sized, sizes_found}
-use Rattle.range_rows.specs.ListedBlocks.{listed_size}
-use Rattle.range_rows.specs.NamedBlobs.{has_uncommitted, target_blob}
+use Rattle.row_trees.specs.FoundParts.{sized, sizes_found}
+use Rattle.row_trees.specs.ListedBlocks.{listed_size}
+use Rattle.row_trees.specs.FoundParts.{has_uncommitted}
+use Rattle.range_rows.specs.NamedBlobs.{target_blob}
 use Rattle.range_rows.specs.ObjectRules.{named_blob}
 use Rattle.range_rows.proofs.AnswerLemmas.{sizes_of_blocks}
 
@@ -134,18 +135,6 @@ wanted_fault-blob_value b ws =
     ap (listed_size (blob_value pieces_len b)) (found_entries-blob_value pieces_len b ws) ∙ listed_size-blob_value b (found_entries b ws) in
     λ i. list_fault (first_missing-blob_value pieces_len b ws i) (length ws) (size i)
 
--- ---- a blob of a name that was never used
-
--- it has no uncommitted block
-pub has_no_block : has_uncommitted (no_blob {C = List Piece}) ≡ false
-has_no_block = ap (λ (es : List (List ℕ × List Piece)). nat_lt 0 (length es)) no_entries
-
--- each block can be put
-pub block_fits_empty : (id : List ℕ) → block_fault id (no_blob {C = List Piece}).uncommitted ≡ None
-block_fits_empty id = λ i.
-    if list_any (λ e. not (length e.0 == length id)) (no_entries i) then Some fault.Length
-    else (if is_none (get-empty {X = List Piece} name_cmp id i) && nat_le 50000 (length (no_entries i)) then Some fault.TooMany else None)
-
 -- ---- a blob in a container
 
 -- a blob that was found in a container, by the sizes of its content
@@ -162,6 +151,10 @@ module _ {C : Type 0} (p : Part C) where
   -- its committed part
   pub committed-target_blob : (a : Ask) → (target_blob p a).committed ≡ named_blob p a
   committed-target_blob a = target_committed a.blob
+
+-- the blob that a request names by this name
+pub blob_of_target : (p : Part ℕ) (a : Ask) (name : List ℕ) → a.blob ≡ Some name → target_blob p a ≡ blob_in p name
+blob_of_target p a name named = ap (λ (o : Option (List ℕ)). unwrap_or (option_map (blob_in p) o) no_blob) named
 
 module _ {C D : Type 0} (f : C → D) (p : Part C) where
   target_read : (blob : Option (List ℕ)) → unwrap_or (option_map (blob_in (part_value f p)) blob) no_blob ≡ blob_value f (unwrap_or (option_map (blob_in p) blob) no_blob)

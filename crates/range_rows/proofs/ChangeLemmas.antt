@@ -16,16 +16,17 @@ use Rattle.stamp_types.specs.Changes.{KeyedAct}
 use Rattle.stamp_types.specs.Pieces.{pieces_len}
 use Rattle.stamp_types.specs.Requests.{Asked}
 use Rattle.stamp_types.specs.World.{Blob, Part, World, blob_in, no_blob, part_at, part_value}
-use Rattle.range_rows.specs.Fits.{fits}
-use Rattle.range_rows.specs.ObjectRules.{count_limit, needs_container, object_refusal, sizes_named}
-use Rattle.range_rows.specs.ListedBlocks.{entries_fault, listed_size}
+use Rattle.row_trees.specs.Fits.{fits}
+use Rattle.row_trees.specs.Fits.{count_limit}
+use Rattle.range_rows.specs.ObjectRules.{needs_container, object_refusal, sizes_named}
+use Rattle.row_trees.specs.ListedBlocks.{entries_fault, listed_size}
 use Rattle.range_rows.specs.NamedBlobs.{target_blob}
 use Rattle.range_rows.specs.Readings.{wanted_blocks}
 use Rattle.range_rows.specs.RequestChanges.{put_blob, put_block, put_block_list, set_metadata, delete_blob, act_by, change_of}
 use Rattle.block_blobs.specs.BlockLists.{first_missing, found_entries, list_fault}
 use Rattle.block_blobs.specs.UncommittedBlocks.{block_fault}
 use Rattle.block_blobs.proofs.ListLemmas.{first_absent-found_entries, length-found_entries}
-use Rattle.range_rows.proofs.Allowed.{needed_container, put_block_fits, room_for_write, wanted_list_fits}
+use Rattle.range_rows.proofs.Unrefused.{needed_container, put_block_fits, room_for_write, wanted_list_fits}
 use Rattle.range_rows.proofs.PutParts.{all_found}
 
 or_true : (b : Bool) → (b || true) ≡ true
@@ -115,17 +116,14 @@ key_of_change : (k : Key) (o : Option Act) (c : KeyedAct) → option_map (λ a. 
 key_of_change k None c h = cc
 key_of_change k (Some a) c h = ap (λ (o : Option KeyedAct). (unwrap_or o c).key) h
 
--- the change of a request that no rule of the object refuses fits the container of its key
-pub change_fits_world : (w : World (List Piece)) (q : Asked) (t : ℕ) (c : KeyedAct)
-    → object_refusal (sizes_named w q) q ≡ None → change_of (sizes_named w q) q t ≡ Some c → fits (part_value pieces_len (part_at w c.key)) c.act ≡ true
-change_fits_world w q t c free change =
-    let fitting : fits (sizes_named w q) c.act ≡ true =
-    subst (λ (o : Option KeyedAct). IfSome o (λ c. IsTrue (fits (sizes_named w q) c.act))) change (change_of-fits (sizes_named w q) q t free) in
-    ap (λ k. fits (part_value pieces_len (part_at w k)) c.act) (sym (key_of_change q.ask.key (act_by q.ask.op (sizes_named w q) q t) c change)) ∙ fitting
+-- the change of a request that no rule of the object refuses is under the key of the request, and fits its container
+pub change_fits : (p : Part ℕ) (q : Asked) (t : ℕ) (c : KeyedAct) → object_refusal p q ≡ None → change_of p q t ≡ Some c
+    → (c.key ≡ q.ask.key) × IsTrue (fits p c.act)
+change_fits p q t c free change =
+    (sym (key_of_change q.ask.key (act_by q.ask.op p q t) c change), subst (λ (o : Option KeyedAct). IfSome o (λ c. IsTrue (fits p c.act))) change (change_of-fits p q t free))
 
 -- the same if the change was made, or else memory ran out
-pub made_change_fits : (w : World (List Piece)) (q : Asked) (t : ℕ) (made : Result KeyedAct AllocError)
-    → object_refusal (sizes_named w q) q ≡ None → IfOk made (λ c. change_of (sizes_named w q) q t ≡ Some c)
-    → IfOk made (λ c. IsTrue (fits (part_value pieces_len (part_at w c.key)) c.act))
-made_change_fits w q t (Ok c) free change = change_fits_world w q t c free change
-made_change_fits w q t (Err e) free change = tt
+pub made_change_fits : (p : Part ℕ) (q : Asked) (t : ℕ) (made : Result KeyedAct AllocError)
+    → object_refusal p q ≡ None → IfOk made (λ c. change_of p q t ≡ Some c) → IfOk made (λ c. (c.key ≡ q.ask.key) × IsTrue (fits p c.act))
+made_change_fits p q t (Ok c) free change = change_fits p q t c free change
+made_change_fits p q t (Err fault) free change = tt

@@ -20,11 +20,12 @@ use Rattle.stamp_types.specs.Requests.{Asked, IsRequest}
 use Rattle.stamp_types.specs.World.{Blob, Part, blob_in, blob_value, committed_value, committed_with_metadata, no_blob, part_value, same_pieces, standing_with_metadata}
 use Rattle.stamp_types.proofs.EffectLemmas.{blob_in-set_metadata}
 use Rattle.range_rows.specs.NamedBlobs.{target_blob}
-use Rattle.range_rows.specs.FoundParts.{pieces_found_after, sizes_found, sizes_found_after}
+use Rattle.row_trees.specs.FoundParts.{sizes_found}
+use Rattle.range_rows.specs.FoundParts.{pieces_found_after, sizes_found_after}
 use Rattle.range_rows.specs.ObjectReplies.{blob_content, blob_read, date_headers, empty_blob, empty_standing, frame, frame_by, get_frame, is_served, list_frame, metadata_headers, put_reply, ranged_frame, ranged_spans, spans, spans_by, standing_read, success_reply, write_frame}
 use Rattle.range_rows.specs.ObjectRules.{needs_blob, needs_container, object_refusal}
 use Rattle.range_rows.specs.RequestChanges.{act_by, change_of, part_after, put_blob, put_block_list, set_container_metadata, set_metadata}
-use Rattle.range_rows.proofs.Allowed.{needed_blob, needed_container}
+use Rattle.range_rows.proofs.Unrefused.{needed_blob, needed_container}
 use Rattle.range_rows.proofs.AnswerLemmas.{blob_in-put, blob_in-put_list, named_blob-part_value}
 use Rattle.range_rows.proofs.BlockLemmas.{committed-target_blob, target_blob-part_value}
 

@@ -3,6 +3,7 @@ use Rattle.std.proofs.Common.{◌≡◌, ℕ, Bool, true, false, cond, List, [],
 use Rattle.std.specs.Prelude.{IsSome, find, is_some}
 use Rattle.std.specs.Option.{option_and_then, option_map, option_map_or}
 use Rattle.stamp_values.specs.Limits.{blob_limit, entries_limit}
+use Rattle.stamp_values.specs.declared.block.Source.{Source}
 use Rattle.stamp_values.specs.declared.block.Wanted.{Wanted}
 use Rattle.stamp_values.specs.declared.op.Op.{Op}
 use Rattle.stamp_values.specs.declared.op.Op.TheVariants as op
@@ -14,15 +15,18 @@ use Rattle.stamp_types.specs.World.{Blob, Part, blob_value}
 use Rattle.block_blobs.specs.BlockLists.{first_missing, found_entries, list_fault, wanted_fault}
 use Rattle.block_blobs.specs.UncommittedBlocks.{block_fault, has_other_length, is_one_too_many}
 use Rattle.block_blobs.specs.declared.block_fault.BlockFault.TheVariants as fault
-use Rattle.range_rows.specs.CauseGroups.{name_causes, condition_causes, body_causes, block_causes, last_causes, group_refusal, id_refusal, list_refusal}
-use Rattle.range_rows.specs.ListedBlocks.{listed_size}
+use Rattle.range_rows.specs.CauseGroups.{name_causes, condition_causes, body_causes, early_causes, block_causes, last_causes, group_refusal, id_refusal, list_refusal}
+use Rattle.row_trees.specs.ListedBlocks.{listed_size}
+use Rattle.range_rows.specs.JudgedBlocks.{blocks_by}
 use Rattle.range_rows.specs.NamedBlobs.{target_blob}
 use Rattle.range_rows.specs.ObjectRules.{Cause, cause_holds, cause_refusal, object_refusal}
 use Rattle.range_rows.specs.ObjectRules.Cause.{BlockIsMissing, ListIsTooLong, IdHasOtherLength, BlocksAreFull, ListIsTooLarge}
 use Rattle.range_rows.specs.Readings.{listed_in, reading_by, reading_of, wanted_blocks}
+use Rattle.range_rows.specs.declared.block_rules.Blocks.{Blocks}
+use Rattle.range_rows.specs.declared.block_rules.Blocks.TheVariants as blocks
 use Rattle.range_rows.specs.declared.reading.Reading.{Reading}
 use Rattle.range_rows.specs.declared.reading.Reading.TheVariants as reading
-use Rattle.range_rows.proofs.Allowed.{none_mapped}
+use Rattle.range_rows.proofs.Unrefused.{none_mapped}
 use Rattle.range_rows.proofs.BlockLemmas.{block_fault-map_values, wanted_fault-blob_value}
 
 -- ---- groups that follow each other
@@ -55,45 +59,49 @@ module _ (p : Part ℕ) (q : Asked) where
   unfolding group_refusal
   first_group r xs ys h = stopped_by cause_refusal (cause_holds p q) r xs ys h
 
-  all_groups : group_refusal (name_causes ++ condition_causes ++ body_causes ++ block_causes ++ last_causes) p q ≡ object_refusal p q
+  -- a request is refused early by the first group that refuses it
+
+  pub early_by_names : (r : Refusal) → group_refusal name_causes p q ≡ Some r → Some r ≡ group_refusal early_causes p q
+  early_by_names r h = sym (first_group r name_causes (condition_causes ++ body_causes) h)
+
+  module _ (names : group_refusal name_causes p q ≡ None) where
+    past_names : group_refusal early_causes p q ≡ group_refusal (condition_causes ++ body_causes) p q
+    past_names = next_group name_causes (condition_causes ++ body_causes) names
+
+    pub early_by_conditions : (r : Refusal) → group_refusal condition_causes p q ≡ Some r → Some r ≡ group_refusal early_causes p q
+    early_by_conditions r h = sym (past_names ∙ first_group r condition_causes body_causes h)
+
+    pub early_by_body : group_refusal condition_causes p q ≡ None → group_refusal body_causes p q ≡ group_refusal early_causes p q
+    early_by_body h = sym (past_names ∙ next_group condition_causes body_causes h)
+
+  all_groups : group_refusal (early_causes ++ block_causes ++ last_causes) p q ≡ object_refusal p q
   unfolding group_refusal
   all_groups = refl
 
-  abbrev after_names : List Cause
-  after_names = condition_causes ++ body_causes ++ block_causes ++ last_causes
-
-  abbrev after_conditions : List Cause
-  after_conditions = body_causes ++ block_causes ++ last_causes
-
   -- the object refuses a request by the first group that refuses it
-  pub refused_by_names : (r : Refusal) → group_refusal name_causes p q ≡ Some r → Some r ≡ object_refusal p q
-  refused_by_names r h = sym (sym all_groups ∙ first_group r name_causes after_names h)
 
-  module _ (names : group_refusal name_causes p q ≡ None) where
-    past_names : object_refusal p q ≡ group_refusal after_names p q
-    past_names = sym all_groups ∙ next_group name_causes after_names names
+  pub refused_early : (r : Refusal) → group_refusal early_causes p q ≡ Some r → object_refusal p q ≡ Some r
+  refused_early r h = sym all_groups ∙ first_group r early_causes (block_causes ++ last_causes) h
 
-    pub refused_by_conditions : (r : Refusal) → group_refusal condition_causes p q ≡ Some r → Some r ≡ object_refusal p q
-    refused_by_conditions r h = sym (past_names ∙ first_group r condition_causes after_conditions h)
+  module _ (early : group_refusal early_causes p q ≡ None) where
+    past_early : object_refusal p q ≡ group_refusal (block_causes ++ last_causes) p q
+    past_early = sym all_groups ∙ next_group early_causes (block_causes ++ last_causes) early
 
-    module _ (conditions : group_refusal condition_causes p q ≡ None) where
-      past_conditions : object_refusal p q ≡ group_refusal after_conditions p q
-      past_conditions = past_names ∙ next_group condition_causes after_conditions conditions
+    pub refused_by_blocks : (r : Refusal) → group_refusal block_causes p q ≡ Some r → object_refusal p q ≡ Some r
+    refused_by_blocks r h = past_early ∙ first_group r block_causes last_causes h
 
-      pub refused_by_body : (r : Refusal) → group_refusal body_causes p q ≡ Some r → Some r ≡ object_refusal p q
-      refused_by_body r h = sym (past_conditions ∙ first_group r body_causes (block_causes ++ last_causes) h)
-
-      module _ (body : group_refusal body_causes p q ≡ None) where
-        past_body : object_refusal p q ≡ group_refusal (block_causes ++ last_causes) p q
-        past_body = past_conditions ∙ next_group body_causes (block_causes ++ last_causes) body
-
-        pub refused_by_blocks : (r : Refusal) → group_refusal block_causes p q ≡ Some r → Some r ≡ object_refusal p q
-        refused_by_blocks r h = sym (past_body ∙ first_group r block_causes last_causes h)
-
-        pub refused_by_last : group_refusal block_causes p q ≡ None → group_refusal last_causes p q ≡ object_refusal p q
-        refused_by_last h = sym (past_body ∙ next_group block_causes last_causes h)
+    pub refused_by_last : group_refusal block_causes p q ≡ None → object_refusal p q ≡ group_refusal last_causes p q
+    refused_by_last h = past_early ∙ next_group block_causes last_causes h
 
 -- ---- the group of blocks
+
+abbrev refusal_told : Blocks → Option Refusal
+refusal_told (blocks.Refused r) = Some r
+refusal_told (blocks.Found ss) = None
+
+abbrev sources_told : Blocks → List Source
+sources_told (blocks.Refused r) = []
+sources_told (blocks.Found ss) = ss
 
 -- the refusal because of blocks, from the blob, the blocks that are wanted and the id of a block
 abbrev block_group : Blob ℕ → List Wanted → Option (List ℕ) → Option Refusal
@@ -130,6 +138,16 @@ by_faults false false = refl
 by_id : (b : Blob ℕ) (block : Option (List ℕ)) → id_refusal (option_and_then (λ id. block_fault id b.uncommitted) block) ≡ block_group b [] block
 by_id b None = refl
 by_id b (Some id) = by_faults (has_other_length id b.uncommitted) (is_one_too_many id b.uncommitted)
+
+-- blocks that were judged as refused are refused by this
+pub refusal_of_blocks : (g : Option Refusal) (ss : List Source) (r : Refusal) → blocks.Refused r ≡ blocks_by g ss → g ≡ Some r
+refusal_of_blocks (Some other) ss r h = ap (λ b. refusal_told b) (sym h)
+refusal_of_blocks None ss r h = cc
+
+-- blocks that were found are not refused, and are in these sources
+pub sources_of_blocks : (g : Option Refusal) (ss found : List Source) → blocks.Found found ≡ blocks_by g ss → (g ≡ None) × (found ≡ ss)
+sources_of_blocks None ss found h = (refl, ap (λ b. sources_told b) h)
+sources_of_blocks (Some r) ss found h = cc
 
 -- ---- what a reading says of its request
 

@@ -1,5 +1,5 @@
 -- The causes to refuse a request in groups that follow each other (Blob service REST reference, 2012-02-12, "Status and Error Codes").
-use Rattle.std.specs.Prelude.{ℕ, List, [], ◌∷◌, Option, Some, None, find}
+use Rattle.std.specs.Prelude.{ℕ, List, [], ◌∷◌, ◌++◌, Option, Some, None, find}
 use Rattle.std.specs.Option.{option_map}
 use Rattle.stamp_types.specs.Requests.{Asked}
 use Rattle.stamp_types.specs.World.{Part}
@@ -20,6 +20,10 @@ condition_causes = MatchFails ∷ IsNotModified ∷ BlobExists ∷ NoneMatchFail
 -- the causes in the body alone
 abbrev pub body_causes : List Cause
 body_causes = BodyIsDamaged ∷ BodyIsMalformed ∷ IdIsBad ∷ []
+
+-- the causes that come before those in blocks
+abbrev pub early_causes : List Cause
+early_causes = name_causes ++ condition_causes ++ body_causes
 
 -- the causes in blocks
 abbrev pub block_causes : List Cause

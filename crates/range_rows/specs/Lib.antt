@@ -1,10 +1,7 @@
-pub mod Access
-pub mod BlobRows
 pub mod CauseGroups
-pub mod Fits
 pub mod FoundParts
-pub mod Lending
-pub mod ListedBlocks
+pub mod JudgedBlocks
+pub mod Judgements
 pub mod NamedBlobs
 pub mod ObjectReplies
 pub mod ObjectRules

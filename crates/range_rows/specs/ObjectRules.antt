@@ -27,17 +27,14 @@ use Rattle.stamp_types.specs.Pieces.{pieces_len}
 use Rattle.stamp_types.specs.World.{Part, World, blob_in, part_at, part_value}
 use Rattle.block_blobs.specs.BlockLists.{first_missing, found_entries}
 use Rattle.block_blobs.specs.UncommittedBlocks.{has_other_length, is_one_too_many}
-use Rattle.range_rows.specs.ListedBlocks.{listed_size}
+use Rattle.row_trees.specs.Fits.{count_limit}
+use Rattle.row_trees.specs.ListedBlocks.{listed_size}
 use Rattle.range_rows.specs.NamedBlobs.{has_listed, target_blob}
 use Rattle.range_rows.specs.Readings.{has_bad_id, is_malformed, reading_of, wanted_blocks}
 
 -- the container that a request names, with the sizes of its content
 abbrev pub sizes_named : World (List Piece) → Asked → Part ℕ
 sizes_named w q = part_value pieces_len (part_at w q.ask.key)
-
--- the largest count: a container that has seen this number of changes takes no further change
-abbrev pub count_limit : ℕ
-count_limit = 18446744073709551615
 
 -- the operation is on a container that has to exist
 abbrev pub needs_container : Op → Bool

@@ -3,6 +3,7 @@
 use Rattle.std.specs.Prelude.{ℕ, List, Option, Some, None, unwrap_or}
 use Rattle.std.specs.Option.{option_map, option_and_then}
 use Rattle.md5.specs.Md5.{md5}
+use Rattle.stamp_values.specs.declared.block.Taken.{Taken}
 use Rattle.stamp_values.specs.declared.level.Level.TheVariants as level
 use Rattle.stamp_values.specs.declared.op.Op.{Op}
 use Rattle.stamp_values.specs.declared.op.Op.TheVariants as op
@@ -54,16 +55,20 @@ delete_blob name = record { blob = name }
 abbrev pub put_block : Asked → List ℕ → List ℕ → PutBlock
 put_block q name id = record { blob = name; id = id; content = cut q.body }
 
--- what a Put Block List does: the blob gets the blocks that are found, the kept headers with the MD5 that they give, if they give one,
--- and the metadata
-abbrev pub put_block_list : Blob ℕ → Asked → ℕ → List ℕ → Kept → PutBlockList
-put_block_list b q t name kept = record {
+-- what a Put Block List does that takes the blocks of these entries: the blob gets them, the kept headers with the MD5 that they give, if
+-- they give one, and the metadata
+abbrev pub put_block_list_of : List Taken → Asked → ℕ → List ℕ → Kept → PutBlockList
+put_block_list_of entries q t name kept = record {
   blob = name;
   moment = t;
   props = kept_fields kept None;
   metadata = q.ask.args.metadata;
-  entries = found_entries b (wanted_blocks q);
+  entries = entries;
 }
+
+-- what a Put Block List does: it takes the blocks that are found
+abbrev pub put_block_list : Blob ℕ → Asked → ℕ → List ℕ → Kept → PutBlockList
+put_block_list b q t name kept = put_block_list_of (found_entries b (wanted_blocks q)) q t name kept
 
 -- what a request of the operation does to a container at a moment; the other operations change nothing so far
 abbrev pub act_by : Op → Part ℕ → Asked → ℕ → Option Act

@@ -5,12 +5,13 @@ ghost use Rattle.stamp_types.specs.declared.header.Header.TheVariants as header;
 ghost use Rattle.stamp_types.specs.Pieces.{pieces_len};
 ghost use Rattle.stamp_types.specs.World.{block_value, blob_value};
 ghost use Rattle.body_forms.specs.WrittenLists.{block_list_text, block_view};
-ghost use Rattle.range_rows.specs.FoundParts.{sized};
+ghost use Rattle.row_trees.specs.FoundParts.{sized};
 ghost use Rattle.range_rows.specs.ObjectReplies as replies;
 
 use crate::replies::push_dates;
 use block_blobs::BlobRow;
 use body_forms::{ListedBlock, write_block_list};
+use row_trees::FoundBlob;
 use stamp_types::{
     Block, BlockKinds, Header, Items, Pieces, Reply, Share, Shares, Status, Visible,
 };
@@ -128,15 +129,8 @@ fn list_headers(alloc: Global, blob: &BlobRow) -> Result<Vec<Header>, AllocError
     Ok(headers)
 }
 
-/// The reply to Get Block List of these kinds: committed blocks are shown if a request asks for no
-/// kinds.
-///
-/// `AllocError` if memory runs out.
-pub(crate) fn list_reply(
-    alloc: Global,
-    kinds: Option<BlockKinds>,
-    blob: &BlobRow,
-) -> Result<Reply, AllocError>
+// The reply to Get Block List of these kinds, from the row of the blob.
+fn row_reply(alloc: Global, kinds: Option<BlockKinds>, blob: &BlobRow) -> Result<Reply, AllocError>
     ensures { IfOk result (λ reply.
         reply ≡ replies.list_frame kinds (blob_value pieces_len blob.now)) }
 {
@@ -153,4 +147,22 @@ pub(crate) fn list_reply(
         length,
         body,
     })
+}
+
+/// The reply to Get Block List of these kinds: committed blocks are shown if a request asks for no
+/// kinds. A blob without a row is listed with no block.
+///
+/// `AllocError` if memory runs out.
+pub(crate) fn list_reply(
+    alloc: Global,
+    kinds: Option<BlockKinds>,
+    blob: &FoundBlob<'_>,
+) -> Result<Reply, AllocError>
+    ensures { IfOk result (λ reply.
+        reply ≡ replies.list_frame kinds (blob_value pieces_len blob.now)) }
+{
+    match blob.row() {
+        Some(row) => row_reply(alloc, kinds, row),
+        None => row_reply(alloc, kinds, &BlobRow::new(alloc)),
+    }
 }

@@ -1,39 +1,46 @@
 //! The rules of the object on blocks.
-ghost use Rattle.std.specs.Prelude.{◌≡◌, ℕ, IfOk, IsErr};
+ghost use Rattle.std.specs.Prelude.{◌≡◌, [], ℕ, IfOk, IsErr};
 ghost use Rattle.std.specs.Option.{option_and_then};
 ghost use Rattle.stamp_values.specs.declared.op.Op.TheVariants as op;
 ghost use Rattle.stamp_types.specs.Pieces.{pieces_len};
 ghost use Rattle.stamp_types.specs.World.{Part, blob_value};
-ghost use Rattle.block_blobs.specs.BlockLists.{wanted_fault};
+ghost use Rattle.block_blobs.specs.BlockLists.{found_sources, wanted_fault};
 ghost use Rattle.block_blobs.specs.UncommittedBlocks.{block_fault};
 ghost use Rattle.range_rows.specs.CauseGroups as groups;
+ghost use Rattle.range_rows.specs.JudgedBlocks.{blocks_by};
 ghost use Rattle.range_rows.specs.NamedBlobs.{target_blob};
-ghost use Rattle.range_rows.specs.Readings.{reading_of};
+ghost use Rattle.range_rows.specs.Readings.{reading_of, wanted_blocks};
 
-use crate::found_blob::FoundBlob;
 use crate::object_rules::refused;
 use crate::reading::Reading;
 use block_blobs::BlockFault;
-use stamp_types::{Ask, Code, Refusal, Request, Rule, Wanted};
+use row_trees::FoundBlob;
+use stamp_types::{Ask, Code, Items, Refusal, Request, Rule, Source, Wanted};
 use std::alloc::{AllocError, Global};
 
-// The refusal of a block list that wants these blocks of the blob.
-fn list_refusal(
-    alloc: Global,
-    seen: &FoundBlob<'_>,
-    wanted: &[Wanted],
-) -> Result<Option<Refusal>, AllocError>
-    ensures { IfOk result (λ refusal.
-        refusal ≡ groups.list_refusal (wanted_fault seen.now wanted.now)) }
+/// Where the blocks are that a request wants, or the refusal because of blocks.
+#[derive(Drop)]
+pub(crate) enum Blocks {
+    Refused(Refusal),
+    /// The sources of the blocks, in their order.
+    Found(Items<Source>),
+}
+
+// Where the blocks are that a block list wants of the blob, or the refusal of the list.
+fn judged_list(alloc: Global, seen: &FoundBlob<'_>, wanted: &[Wanted]) -> Result<Blocks, AllocError>
+    ensures { IfOk result (λ blocks.
+        blocks ≡ blocks_by (groups.list_refusal (wanted_fault seen.now wanted.now))
+        (found_sources seen.now wanted.now)) }
 {
-    match seen.resolve(alloc, wanted) {
-        Ok(_found) => Ok(None),
-        Err(BlockFault::NotFound(_)) => Ok(Some(refused(Rule::O5, Code::InvalidBlockList))),
-        Err(BlockFault::TooMany) => Ok(Some(refused(Rule::O6, Code::BlockListTooLong))),
-        Err(BlockFault::TooLarge) => Ok(Some(refused(Rule::O6, Code::RequestBodyTooLarge))),
-        Err(BlockFault::NoMemory) => Err(AllocError),
+    let refusal = match seen.resolve(alloc, wanted) {
+        Ok(sources) => return Ok(Blocks::Found(sources)),
+        Err(BlockFault::NotFound(_)) => refused(Rule::O5, Code::InvalidBlockList),
+        Err(BlockFault::TooMany) => refused(Rule::O6, Code::BlockListTooLong),
+        Err(BlockFault::TooLarge) => refused(Rule::O6, Code::RequestBodyTooLarge),
+        Err(BlockFault::NoMemory) => return Err(AllocError),
         Err(BlockFault::Id | BlockFault::Length) => unreachable!(),
-    }
+    };
+    Ok(Blocks::Refused(refusal))
 }
 
 // The refusal of a request that puts a block into the blob, because of the id of the block.
@@ -51,28 +58,41 @@ fn id_refusal(seen: &FoundBlob<'_>, ask: &Ask) -> Option<Refusal>
     }
 }
 
-/// The refusal because of the blocks that the request wants, or because of the id of the block that
-/// it puts. Only the blocks of a Put Block List are looked up through an index.
+// No sources, or the refusal of a request that wants no blocks, because of the id of the block that it
+// puts.
+fn judged_id(alloc: Global, seen: &FoundBlob<'_>, ask: &Ask) -> Blocks
+    ensures { result ≡ blocks_by (groups.id_refusal
+        (option_and_then (λ id. block_fault id seen.now.uncommitted) ask.now.args.block)) [] }
+{
+    match id_refusal(seen, ask) {
+        Some(refusal) => Blocks::Refused(refusal),
+        None => Blocks::Found(Items::new(Vec::new(alloc))),
+    }
+}
+
+/// Where the blocks are that the request wants; or the refusal because of them, or because of the id of
+/// the block that the request puts. Only the blocks of a Put Block List are looked up.
 ///
-/// `AllocError` if memory runs out for that index.
-pub(crate) fn block_refusal(
+/// `AllocError` if memory runs out for the look-ups.
+pub(crate) fn judged_blocks(
     alloc: Global,
     request: &Request,
     reading: &Reading,
     seen: &FoundBlob<'_>,
-) -> Result<Option<Refusal>, AllocError>
+) -> Result<Blocks, AllocError>
     requires { reading.now ≡ reading_of request.now }
-    ensures rule { IfOk result (λ refusal. (p : Part ℕ)
+    ensures judged { IfOk result (λ blocks. (p : Part ℕ)
         → blob_value pieces_len seen.now ≡ target_blob p request.now.ask
-        → refusal ≡ groups.group_refusal groups.block_causes p request.now) }
+        → blocks ≡ blocks_by (groups.group_refusal groups.block_causes p request.now)
+        (found_sources seen.now (wanted_blocks request.now))) }
     ensures memory { IsErr result → request.now.ask.op ≡ op.PutBlockList }
 {
     let ask = request.ask();
     match reading {
         Reading::BlockList(wanted) => {
-            let refusal = list_refusal(alloc, seen, wanted.as_slice())?;
-            Ok(refusal)
+            let blocks = judged_list(alloc, seen, wanted.as_slice())?;
+            Ok(blocks)
         }
-        _ => Ok(id_refusal(seen, ask)),
+        _ => Ok(judged_id(alloc, seen, ask)),
     }
 }

@@ -2,7 +2,7 @@
 ghost use Rattle.std.specs.Prelude.{◌≡◌, ℕ, IfSome, IsTrue, None};
 ghost use Rattle.stamp_types.specs.Requests.{Asked};
 ghost use Rattle.stamp_types.specs.World.{Part};
-ghost use Rattle.range_rows.specs.Fits.{fits};
+ghost use Rattle.row_trees.specs.Fits.{fits};
 ghost use Rattle.range_rows.specs.ObjectRules.{object_refusal};
 ghost use Rattle.range_rows.specs.RequestChanges.{change_of};
 

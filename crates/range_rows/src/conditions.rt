@@ -2,7 +2,7 @@
 ghost use Rattle.std.specs.Prelude.{◌≡◌, ◌&&◌, not};
 ghost use Rattle.std.specs.Option.{option_copied};
 ghost use Rattle.stamp_values.specs.Operations.{has_conditions, writes};
-ghost use Rattle.range_rows.specs.FoundParts.{sized};
+ghost use Rattle.row_trees.specs.FoundParts.{sized};
 ghost use Rattle.range_rows.specs.ObjectRules as rules;
 
 use stamp_types::{Ask, Committed, Condition, Pieces};

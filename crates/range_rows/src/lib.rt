@@ -1,28 +1,22 @@
-//! What a partition holds in memory of its containers and their blobs, the rules of the object over
-//! it, what allowed requests change, and how they are answered.
+//! The rules of the object over rows, what allowed requests change, and how they are answered.
 #![tactic(auto)]
 
-mod acts;
 mod answer;
 mod answer_laws;
-mod block_acts;
 mod block_list_reply;
 mod block_rules;
 mod body_rules;
-mod change_fits;
 mod change_laws;
 mod conditions;
-mod container;
-mod found;
-mod found_blob;
+mod judged;
 mod object_rules;
 mod ranges;
 mod reading;
 mod replies;
 mod request_changes;
-mod row;
-mod rows;
+mod rows_rules;
 mod served;
+mod target;
 
 pub use answer::{Answer, Span};
 pub use answer_laws::{
@@ -30,7 +24,9 @@ pub use answer_laws::{
 };
 pub use body_forms::BodyFault;
 pub use change_laws::a_change_that_no_rule_refuses_fits;
-pub use found::Found;
+pub use judged::{Allowed, Judged};
 pub use reading::Reading;
-pub use rows::Rows;
+pub use row_trees::{Found, Rows};
+pub use rows_rules::ObjectRules;
 pub use served::is_served;
+pub use target::Target;

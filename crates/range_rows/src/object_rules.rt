@@ -4,19 +4,22 @@ ghost use Rattle.std.specs.Option.{option_copied};
 ghost use Rattle.stamp_values.specs.declared.op.Op.TheVariants as op;
 ghost use Rattle.stamp_types.specs.Pieces.{pieces_len};
 ghost use Rattle.stamp_types.specs.World.{Part, blob_value};
+ghost use Rattle.row_trees.specs.Fits.{count_limit};
 ghost use Rattle.range_rows.specs.CauseGroups as groups;
-ghost use Rattle.range_rows.specs.FoundParts.{sized, sizes_found};
+ghost use Rattle.row_trees.specs.FoundParts.{sized, sizes_found};
+ghost use Rattle.range_rows.specs.Judgements.{IfAllowed, IsAllowed, judged_by, judgement};
 ghost use Rattle.range_rows.specs.NamedBlobs as blobs;
+ghost use Rattle.range_rows.specs.NamedBlobs.{IsTarget};
 ghost use Rattle.range_rows.specs.ObjectRules as rules;
 
-use crate::block_rules::block_refusal;
+use crate::block_rules::{Blocks, judged_blocks};
 use crate::body_rules::body_refusal;
 use crate::conditions::{fails_if_match, has_unwanted_etag, is_not_modified, must_be_new};
-use crate::found::Found;
-use crate::found_blob::FoundBlob;
+use crate::judged::{Allowed, Judged};
 use crate::reading::Reading;
-use crate::rows::Rows;
-use stamp_types::{Ask, BlockKinds, ByteRange, Code, Op, Refusal, Request, Rule};
+use crate::target::Target;
+use row_trees::FoundBlob;
+use stamp_types::{Ask, BlockKinds, ByteRange, Code, Items, Op, Refusal, Request, Rule, Source};
 use std::alloc::{AllocError, Global};
 
 // Whether the container has to exist.
@@ -98,32 +101,32 @@ fn condition_refusal(request: &Request, seen: &FoundBlob<'_>) -> Option<Refusal>
     None
 }
 
-impl<'a> Found<'a> {
+impl<'a> Target<'a> {
     ghost use Rattle.range_rows.specs.Readings.{reading_of};
 
     // Whether the container exists.
     fn exists(&self) -> bool
-        ensures { result ≡ is_some self.now.standing }
+        ensures { result ≡ is_some self.now.container.standing }
     {
-        self.standing().is_some()
+        self.container.standing().is_some()
     }
 
     // Whether the container takes no further change.
     fn is_full(&self) -> bool
-        ensures { result ≡ nat_le rules.count_limit self.now.count }
+        ensures { result ≡ nat_le count_limit self.now.container.count }
     {
-        u64::MAX <= self.count()
+        u64::MAX <= self.container.count()
     }
 
     // The refusal because of what the request names.
     #[tactic(auto, unfolding(crate::specs::CauseGroups::group_refusal))]
     fn name_refusal(&self, request: &Request, seen: &FoundBlob<'_>) -> Option<Refusal>
         requires part { sized seen.now.committed
-            ≡ rules.named_blob (sizes_found self.now) request.now.ask }
+            ≡ rules.named_blob (sizes_found self.now.container) request.now.ask }
         requires blob { blob_value pieces_len seen.now
-            ≡ blobs.target_blob (sizes_found self.now) request.now.ask }
+            ≡ blobs.target_blob (sizes_found self.now.container) request.now.ask }
         ensures { result
-            ≡ groups.group_refusal groups.name_causes (sizes_found self.now) request.now }
+            ≡ groups.group_refusal groups.name_causes (sizes_found self.now.container) request.now }
     {
         let ask = request.ask();
         let exists = self.exists();
@@ -143,9 +146,9 @@ impl<'a> Found<'a> {
     #[tactic(auto, unfolding(crate::specs::CauseGroups::group_refusal))]
     fn last_refusal(&self, request: &Request, seen: &FoundBlob<'_>) -> Option<Refusal>
         requires part { sized seen.now.committed
-            ≡ rules.named_blob (sizes_found self.now) request.now.ask }
+            ≡ rules.named_blob (sizes_found self.now.container) request.now.ask }
         ensures { result
-            ≡ groups.group_refusal groups.last_causes (sizes_found self.now) request.now }
+            ≡ groups.group_refusal groups.last_causes (sizes_found self.now.container) request.now }
     {
         let ask = request.ask();
         if ask.op == Op::GetBlob && starts_past(seen, ask.args.range) {
@@ -157,62 +160,66 @@ impl<'a> Found<'a> {
         None
     }
 
-    /// The refusal of a request by the object, if the object refuses it: the rule and the code of
-    /// the first cause, in the order of the rules. The request names the container that was found.
-    /// `reading` is what the request's body says. Reads no byte of that body.
-    ///
-    /// `AllocError` if memory runs out for the look-ups of a Put Block List. No other operation
-    /// takes memory.
-    pub fn object_rule(
-        &self,
-        alloc: Global,
-        request: &Request,
-        reading: &Reading,
-    ) -> Result<Option<Refusal>, AllocError>
-        requires { reading.now ≡ reading_of request.now }
-        ensures rule { IfOk result (λ refusal.
-            refusal ≡ rules.object_refusal (sizes_found self.now) request.now) }
-        ensures memory { IsErr result → request.now.ask.op ≡ op.PutBlockList }
+    // What is judged last, if the blocks that the request wants are in these sources: the range, and
+    // whether the container takes a further change.
+    fn last_judged(self, request: &Request, sources: Items<Source>) -> Judged<'a>
+        requires { IsTarget self request.now.ask }
+        ensures { result ≡ judged_by (groups.group_refusal groups.last_causes
+            (sizes_found self.entry.container) request.now) self.entry sources }
     {
         let seen = self.named(request.ask());
-        if let Some(refusal) = self.name_refusal(request, &seen) {
-            return Ok(Some(refusal));
+        match self.last_refusal(request, seen) {
+            Some(refusal) => Judged::Refused(refusal),
+            None => Judged::Allowed(Allowed {
+                target: self,
+                sources,
+            }),
         }
-        if let Some(refusal) = condition_refusal(request, &seen) {
-            return Ok(Some(refusal));
-        }
-        if let Some(refusal) = body_refusal(request, reading) {
-            return Ok(Some(refusal));
-        }
-        if let Some(refusal) = block_refusal(alloc, request, reading, &seen)? {
-            return Ok(Some(refusal));
-        }
-        Ok(self.last_refusal(request, &seen))
     }
-}
 
-impl Rows {
-    ghost use Rattle.range_rows.specs.Readings.{reading_of};
+    // The refusal of a request before its blocks are looked at.
+    fn early_refusal(&self, request: &Request, reading: &Reading) -> Option<Refusal>
+        requires target { IsTarget self.now request.now.ask }
+        requires read { reading.now ≡ reading_of request.now }
+        ensures { result
+            ≡ groups.group_refusal groups.early_causes (sizes_found self.now.container) request.now }
+    {
+        let seen = self.named(request.ask());
+        if let Some(refusal) = self.name_refusal(request, seen) {
+            return Some(refusal);
+        }
+        if let Some(refusal) = condition_refusal(request, seen) {
+            return Some(refusal);
+        }
+        body_refusal(request, reading)
+    }
 
-    /// The refusal of a request by the object, if the object refuses it: the rule and the code of
-    /// the first cause, in the order of the rules. `reading` is what the request's body says. Reads
-    /// no byte of that body.
+    /// Judges a request by the object: the refusal by the first cause, in the order of the rules; or,
+    /// if no rule refuses the request, what was found for it. The target is the request's, and
+    /// `reading` is what its body says. Reads no byte of that body.
     ///
     /// `AllocError` if memory runs out for the look-ups of a Put Block List. No other operation
     /// takes memory.
-    pub fn object_rule(
-        &self,
+    pub fn judge(
+        self,
         alloc: Global,
         request: &Request,
         reading: &Reading,
-    ) -> Result<Option<Refusal>, AllocError>
-        requires { reading.now ≡ reading_of request.now }
-        ensures rule { IfOk result (λ refusal.
-            refusal ≡ rules.object_refusal (rules.sizes_named self.now request.now) request.now) }
+    ) -> Result<Judged<'a>, AllocError>
+        requires target { IsTarget self request.now.ask }
+        requires read { reading.now ≡ reading_of request.now }
+        ensures judged { IfOk result (λ judged. judged ≡ judgement self.entry request.now) }
+        ensures allowed { IfOk result (λ judged.
+            IfAllowed judged (λ a. IsAllowed a request.now × (a.target ≡ self.entry))) }
         ensures memory { IsErr result → request.now.ask.op ≡ op.PutBlockList }
     {
-        let found = self.find(&request.ask().key);
-        let refusal = found.object_rule(alloc, request, reading)?;
-        Ok(refusal)
+        if let Some(refusal) = self.early_refusal(request, reading) {
+            return Ok(Judged::Refused(refusal));
+        }
+        let blocks = judged_blocks(alloc, request, reading, self.named(request.ask()))?;
+        match blocks {
+            Blocks::Refused(refusal) => Ok(Judged::Refused(refusal)),
+            Blocks::Found(sources) => Ok(self.last_judged(request, sources)),
+        }
     }
 }

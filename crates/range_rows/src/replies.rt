@@ -10,15 +10,19 @@ ghost use Rattle.stamp_types.specs.Pieces.{pieces_len};
 ghost use Rattle.stamp_types.specs.Requests.{IsRequest};
 ghost use Rattle.stamp_types.specs.World.{committed_value};
 ghost use Rattle.stamp_types.specs.declared.status.Status.TheVariants as status;
-ghost use Rattle.range_rows.specs.FoundParts.{pieces_found_after, sizes_found, sizes_found_after};
+ghost use Rattle.row_trees.specs.FoundParts.{sizes_found};
+ghost use Rattle.range_rows.specs.FoundParts.{pieces_found_after, sizes_found_after};
+ghost use Rattle.range_rows.specs.Judgements.{IsAllowed};
+ghost use Rattle.range_rows.specs.NamedBlobs.{IsTarget};
 ghost use Rattle.range_rows.specs.ObjectReplies as replies;
 ghost use Rattle.range_rows.specs.ObjectRules.{object_refusal};
 
 use crate::answer::{Answer, Span};
-use crate::found::Found;
+use crate::block_list_reply::list_reply;
+use crate::judged::Allowed;
 use crate::ranges::{part_of, range_end, sent_range};
-use crate::reading::Reading;
-use crate::rows::Rows;
+use crate::target::Target;
+use row_trees::Found;
 use stamp_types::{
     Block, ByteRange, Committed, Header, Items, Meta, Metadata, Moment, Op, Piece, Pieces, Props,
     Reply, Request, SentRange, Shares, Status, Visible,
@@ -391,22 +395,23 @@ fn write_answer(
     Ok(without_content(alloc, frame))
 }
 
-// The answer to an allowed request that reads. The request walks to its blob once.
-#[tactic(auto, using(crate::proofs::Allowed::allowed_blob, crate::proofs::Allowed::allowed_container, crate::proofs::FrameLemmas::frame_of_container_properties, crate::proofs::FrameLemmas::frame_of_get_blob, crate::proofs::FrameLemmas::frame_of_blob_properties, crate::proofs::FrameLemmas::frame_of_get_metadata, crate::proofs::FrameLemmas::frame_of_block_list, crate::proofs::FrameLemmas::spans_of_get, crate::proofs::FrameLemmas::spans_of_others))]
-fn read_answer(alloc: Global, found: &Found<'_>, request: &Request) -> Result<Answer, AllocError>
+// The answer to an allowed request that reads.
+#[tactic(auto, using(crate::proofs::Unrefused::allowed_blob, crate::proofs::Unrefused::allowed_container, crate::proofs::FrameLemmas::frame_of_container_properties, crate::proofs::FrameLemmas::frame_of_get_blob, crate::proofs::FrameLemmas::frame_of_blob_properties, crate::proofs::FrameLemmas::frame_of_get_metadata, crate::proofs::FrameLemmas::frame_of_block_list, crate::proofs::FrameLemmas::spans_of_get, crate::proofs::FrameLemmas::spans_of_others))]
+fn read_answer(alloc: Global, target: &Target<'_>, request: &Request) -> Result<Answer, AllocError>
+    requires target { IsTarget target.now request.now.ask }
     requires served { IsTrue (replies.is_served request.now.ask.op) }
     requires reads { writes request.now.ask.op ≡ false }
-    requires allowed { object_refusal (sizes_found found.now) request.now ≡ None }
+    requires allowed { object_refusal (sizes_found target.now.container) request.now ≡ None }
     ensures frame { IfOk result (λ answer.
-        answer.frame ≡ replies.frame (sizes_found found.now) request.now) }
+        answer.frame ≡ replies.frame (sizes_found target.now.container) request.now) }
     ensures within { IfOk result (λ answer. IsTrue (list_all replies.is_within answer.spans)) }
     ensures short { IfOk result (λ answer. replies.spans_len answer.spans ≤ blob_limit) }
     ensures spans { IfOk result (λ answer.
-        answer.spans ≡ replies.spans found.now request.now) }
+        answer.spans ≡ replies.spans target.now.container request.now) }
 {
     let ask = request.ask();
-    let seen = found.named(ask);
-    match (ask.op, found.standing(), seen.committed()) {
+    let seen = target.named(ask);
+    match (ask.op, target.container.standing(), seen.committed()) {
         (Op::ContainerProperties, Some(standing), _) => {
             let frame = metadata_reply(alloc, &standing.metadata, standing.etag, standing.made)?;
             Ok(without_content(alloc, frame))
@@ -424,19 +429,21 @@ fn read_answer(alloc: Global, found: &Found<'_>, request: &Request) -> Result<An
             Ok(answer)
         }
         (Op::GetBlockList, _, _) => {
-            let frame = seen.list_reply(alloc, ask.args.kinds)?;
+            let frame = list_reply(alloc, ask.args.kinds, seen)?;
             Ok(without_content(alloc, frame))
         }
         _ => unreachable!(),
     }
 }
 
-impl<'a> Found<'a> {
+impl<'a> Allowed<'a> {
     ghost use Rattle.range_rows.specs.ObjectReplies.{is_served};
-    ghost use Rattle.range_rows.specs.Readings.{reading_of};
 
-    /// The answer to a request that was allowed at the moment, from the container that it names,
-    /// which was found. `Rows::reply` says what the answer has.
+    /// The answer to the request at the moment, if its operation is served. If the request makes a change, the answer is made from the container as it is after that change, which
+    /// is not applied yet.
+    ///
+    /// The answer has shares of the content, of which no byte is copied, or the content's places in
+    /// streams: whoever sends the answer reads the content there.
     ///
     /// `AllocError` if memory runs out for the headers or the list of spans, or if the content can
     /// have no further owner.
@@ -445,61 +452,22 @@ impl<'a> Found<'a> {
         &self,
         alloc: Global,
         request: &Request,
-        _reading: &Reading,
         moment: Moment,
     ) -> Result<Answer, AllocError>
+        requires allowed { IsAllowed self.now request.now }
         requires served { IsTrue (is_served request.now.ask.op) }
-        requires allowed { object_refusal (sizes_found self.now) request.now ≡ None }
-        requires read { _reading.now ≡ reading_of request.now }
         ensures frame { IfOk result (λ answer.
-            answer.frame ≡ replies.frame (sizes_found_after self.now request.now moment) request.now) }
+            answer.frame ≡ replies.frame (sizes_found_after self.now.target.container request.now moment) request.now) }
         ensures within { IfOk result (λ answer. IsTrue (list_all replies.is_within answer.spans)) }
         ensures short { IfOk result (λ answer. replies.spans_len answer.spans ≤ blob_limit) }
         ensures spans { IfOk result (λ answer.
-            answer.spans ≡ replies.spans (pieces_found_after self.now request.now moment) request.now) }
+            answer.spans ≡ replies.spans (pieces_found_after self.now.target.container request.now moment) request.now) }
     {
         if request.ask().op.writes() {
-            let answer = write_answer(alloc, self, request, moment)?;
+            let answer = write_answer(alloc, &self.target.container, request, moment)?;
             return Ok(answer);
         }
-        let answer = read_answer(alloc, self, request)?;
+        let answer = read_answer(alloc, &self.target, request)?;
         Ok(answer)
-    }
-}
-
-impl Rows {
-    ghost use Rattle.range_rows.specs.ObjectReplies.{is_served};
-    ghost use Rattle.range_rows.specs.ObjectRules.{sizes_named};
-    ghost use Rattle.range_rows.specs.Readings.{reading_of};
-    ghost use Rattle.range_rows.specs.RequestChanges.{pieces_after, sizes_after};
-
-    /// The answer to a request that was allowed at the moment. If the request makes a change, the
-    /// answer is made from the container as it is after that change, which is not applied yet.
-    /// `reading` is what the request's body says.
-    ///
-    /// The answer has shares of the content, of which no byte is copied, or the content's places in
-    /// streams: whoever sends the answer reads the content there.
-    ///
-    /// `AllocError` if memory runs out for the headers or the list of spans, or if the content can
-    /// have no further owner.
-    pub fn reply(
-        &self,
-        alloc: Global,
-        request: &Request,
-        reading: &Reading,
-        moment: Moment,
-    ) -> Result<Answer, AllocError>
-        requires served { IsTrue (is_served request.now.ask.op) }
-        requires allowed { object_refusal (sizes_named self.now request.now) request.now ≡ None }
-        requires read { reading.now ≡ reading_of request.now }
-        ensures frame { IfOk result (λ answer.
-            answer.frame ≡ replies.frame (sizes_after self.now request.now moment) request.now) }
-        ensures within { IfOk result (λ answer. IsTrue (list_all replies.is_within answer.spans)) }
-        ensures short { IfOk result (λ answer. replies.spans_len answer.spans ≤ blob_limit) }
-        ensures spans { IfOk result (λ answer.
-            answer.spans ≡ replies.spans (pieces_after self.now request.now moment) request.now) }
-    {
-        let found = self.find(&request.ask().key);
-        found.reply(alloc, request, reading, moment)
     }
 }

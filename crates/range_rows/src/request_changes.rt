@@ -2,21 +2,21 @@
 ghost use Rattle.std.specs.Prelude.{◌≡◌, ◌≤◌, ℕ, IfOk, IsTrue, None, Some, length, nat_le};
 ghost use Rattle.stamp_values.specs.Limits.{entries_limit, put_blob_limit, put_block_limit};
 ghost use Rattle.stamp_types.specs.Pieces.{pieces_len};
-ghost use Rattle.stamp_types.specs.World.{blob_in};
 ghost use Rattle.stamp_types.specs.PropsFields.{is_kept, kept_fields};
-ghost use Rattle.block_blobs.specs.BlockLists.{found_entries, wanted_fault};
+ghost use Rattle.block_blobs.specs.BlockLists.{found_entries};
 ghost use Rattle.stamp_values.specs.Operations.{writes};
 ghost use Rattle.stamp_types.specs.Changes.{is_act, is_in_one_piece};
-ghost use Rattle.range_rows.specs.FoundParts.{sizes_found};
+ghost use Rattle.row_trees.specs.FoundParts.{sizes_found};
+ghost use Rattle.range_rows.specs.Judgements.{IsAllowed};
+ghost use Rattle.range_rows.specs.NamedBlobs.{target_blob};
 ghost use Rattle.range_rows.specs.ObjectReplies.{is_served};
 ghost use Rattle.range_rows.specs.ObjectRules.{object_refusal};
 ghost use Rattle.range_rows.specs.Readings.{listed_in, reading_of, wanted_blocks};
 ghost use Rattle.range_rows.specs.RequestChanges as changes;
 
-use crate::found::Found;
+use crate::judged::Allowed;
 use crate::reading::Reading;
-use crate::rows::Rows;
-use block_blobs::BlockFault;
+use block_blobs::entries_from;
 use stamp_types::{
     Act, BlockId, Change, CreateContainer, DeleteBlob, Items, Kept, Level, Moment, Op, Pieces,
     Props, PutBlob, PutBlock, PutBlockList, Request, SetContainerMetadata, SetMetadata, Taken,
@@ -136,32 +136,12 @@ fn put_block(
 }
 
 // The blocks that the body wants: no blocks if the body is not a block list.
-fn wanted_in(reading: &Reading) -> &[Wanted]
-    ensures { result.now ≡ listed_in reading.now }
+fn wanted_in(alloc: Global, reading: Reading) -> Items<Wanted>
+    ensures { result ≡ listed_in reading }
 {
     match reading {
-        Reading::BlockList(wanted) => wanted.as_slice(),
-        _ => &[],
-    }
-}
-
-// The entries of a block list that no rule refuses: where the blob that was found has the blocks.
-fn entries_of(
-    alloc: Global,
-    found: &Found<'_>,
-    name: &Text,
-    wanted: &[Wanted],
-) -> Result<Items<Taken>, AllocError>
-    requires { wanted_fault (blob_in found.now name.now) wanted.now ≡ None }
-    ensures value { IfOk result (λ entries.
-        entries ≡ found_entries (blob_in (sizes_found found.now) name.now) wanted.now) }
-    ensures few { IfOk result (λ entries. IsTrue (nat_le (length entries) entries_limit)) }
-{
-    let blob = found.seen(name);
-    match blob.resolve(alloc, wanted) {
-        Ok(entries) => Ok(entries),
-        Err(BlockFault::NoMemory) => Err(AllocError),
-        Err(_) => unreachable!(),
+        Reading::BlockList(wanted) => wanted,
+        _ => Items::new(Vec::new(alloc)),
     }
 }
 
@@ -174,24 +154,19 @@ fn list_props(alloc: Global, kept: &Kept) -> Result<Props, AllocError>
     Ok(props)
 }
 
-// What a Put Block List of this name does, in the container that was found. No content moves.
+// What a Put Block List of this name does, which takes these blocks. No content moves.
 fn put_block_list(
     alloc: Global,
-    found: &Found<'_>,
     request: &Request,
-    reading: &Reading,
     moment: Moment,
     blob: &Text,
     kept: &Kept,
+    entries: Items<Taken>,
 ) -> Result<PutBlockList, AllocError>
-    requires kept { IsTrue (is_kept kept.now) }
-    requires read { reading.now ≡ reading_of request.now }
-    requires fits { wanted_fault (blob_in found.now blob.now) (wanted_blocks request.now) ≡ None }
-    ensures value { IfOk result (λ put. put ≡ changes.put_block_list
-        (blob_in (sizes_found found.now) blob.now) request.now moment blob.now kept.now) }
-    ensures few { IfOk result (λ put. IsTrue (nat_le (length put.entries) entries_limit)) }
+    requires { IsTrue (is_kept kept.now) }
+    ensures { IfOk result (λ put.
+        put ≡ changes.put_block_list_of entries request.now moment blob.now kept.now) }
 {
-    let entries = entries_of(alloc, found, blob, wanted_in(reading))?;
     let metadata = request.ask().args.metadata.clone()?;
     let blob = blob.clone()?;
     let props = list_props(alloc, kept)?;
@@ -204,101 +179,113 @@ fn put_block_list(
     })
 }
 
-// What an allowed request does that writes, in the container that was found.
-#[tactic(auto, using(crate::proofs::PutParts::kept_fits))]
-fn act_of(
-    alloc: Global,
-    found: &Found<'_>,
-    request: &Request,
-    reading: &Reading,
-    moment: Moment,
-) -> Result<Act, AllocError>
-    requires served { IsTrue (is_served request.now.ask.op) }
-    requires writes { IsTrue (writes request.now.ask.op) }
-    requires allowed { object_refusal (sizes_found found.now) request.now ≡ None }
-    requires read { reading.now ≡ reading_of request.now }
-    ensures value { IfOk result (λ act.
-        changes.act_by request.now.ask.op (sizes_found found.now) request.now moment ≡ Some act) }
-    ensures valid { IfOk result (λ act. IsTrue (is_act act)) }
-{
-    let ask = request.ask();
-    match (ask.op, &ask.blob, &ask.args.kept, &ask.args.block) {
-        (Op::CreateContainer, _, _, _) => {
-            Ok(Act::CreateContainer(create_container(request, moment)?))
-        }
-        (Op::SetContainerMetadata, _, _, _) => {
-            let set = set_container_metadata(request, moment)?;
-            Ok(Act::SetContainerMetadata(set))
-        }
-        (Op::DeleteContainer, _, _, _) => Ok(Act::DeleteContainer),
-        (Op::PutBlob, Some(blob), Some(kept), _) => {
-            Ok(Act::PutBlob(put_blob(alloc, request, moment, blob, kept)?))
-        }
-        (Op::SetMetadata, Some(blob), _, _) => {
-            Ok(Act::SetMetadata(set_metadata(request, moment, blob)?))
-        }
-        (Op::DeleteBlob, Some(blob), _, _) => Ok(Act::DeleteBlob(delete_blob(blob)?)),
-        (Op::PutBlock, Some(blob), _, Some(id)) => {
-            Ok(Act::PutBlock(put_block(alloc, request, blob, id)?))
-        }
-        (Op::PutBlockList, Some(blob), Some(kept), _) => {
-            let put = put_block_list(alloc, found, request, reading, moment, blob, kept)?;
-            Ok(Act::PutBlockList(put))
-        }
-        _ => unreachable!(),
+impl<'a> Allowed<'a> {
+    ghost use Rattle.row_trees.specs.Fits.{fits};
+
+    // The entries of the block list that the request wants. The ids move from the reading.
+    fn entries(
+        &self,
+        alloc: Global,
+        request: &Request,
+        reading: Reading,
+    ) -> Result<Items<Taken>, AllocError>
+        requires allowed { IsAllowed self.now request.now }
+        requires read { reading ≡ reading_of request.now }
+        ensures value { IfOk result (λ entries.
+            entries ≡ found_entries (target_blob (sizes_found self.now.target.container) request.now.ask)
+            (wanted_blocks request.now)) }
+        ensures few { IfOk result (λ entries. IsTrue (nat_le (length entries) entries_limit)) }
+    {
+        entries_from(alloc, wanted_in(alloc, reading), self.sources.as_slice())
     }
-}
 
-// The change that an allowed request makes that writes.
-fn change_made(
-    alloc: Global,
-    found: &Found<'_>,
-    request: &Request,
-    reading: &Reading,
-    moment: Moment,
-) -> Result<Change, AllocError>
-    requires served { IsTrue (is_served request.now.ask.op) }
-    requires writes { IsTrue (writes request.now.ask.op) }
-    requires allowed { object_refusal (sizes_found found.now) request.now ≡ None }
-    requires read { reading.now ≡ reading_of request.now }
-    ensures { IfOk result (λ change.
-        changes.change_of (sizes_found found.now) request.now moment ≡ Some change) }
-{
-    let key = request.ask().key.clone()?;
-    let act = act_of(alloc, found, request, reading, moment)?;
-    match Change::new(key, act) {
-        Some(change) => Ok(change),
-        None => unreachable!(),
+    // What the request does, if it writes.
+    #[tactic(auto, using(crate::proofs::PutParts::kept_fits, crate::proofs::BlockLemmas::blob_of_target))]
+    fn act(
+        &self,
+        alloc: Global,
+        request: &Request,
+        reading: Reading,
+        moment: Moment,
+    ) -> Result<Act, AllocError>
+        requires allowed { IsAllowed self.now request.now }
+        requires served { IsTrue (is_served request.now.ask.op) }
+        requires writes { IsTrue (writes request.now.ask.op) }
+        requires read { reading ≡ reading_of request.now }
+        ensures value { IfOk result (λ act. changes.act_by request.now.ask.op
+            (sizes_found self.now.target.container) request.now moment ≡ Some act) }
+        ensures valid { IfOk result (λ act. IsTrue (is_act act)) }
+    {
+        let ask = request.ask();
+        match (ask.op, &ask.blob, &ask.args.kept, &ask.args.block) {
+            (Op::CreateContainer, _, _, _) => {
+                Ok(Act::CreateContainer(create_container(request, moment)?))
+            }
+            (Op::SetContainerMetadata, _, _, _) => {
+                let set = set_container_metadata(request, moment)?;
+                Ok(Act::SetContainerMetadata(set))
+            }
+            (Op::DeleteContainer, _, _, _) => Ok(Act::DeleteContainer),
+            (Op::PutBlob, Some(blob), Some(kept), _) => {
+                Ok(Act::PutBlob(put_blob(alloc, request, moment, blob, kept)?))
+            }
+            (Op::SetMetadata, Some(blob), _, _) => {
+                Ok(Act::SetMetadata(set_metadata(request, moment, blob)?))
+            }
+            (Op::DeleteBlob, Some(blob), _, _) => Ok(Act::DeleteBlob(delete_blob(blob)?)),
+            (Op::PutBlock, Some(blob), _, Some(id)) => {
+                Ok(Act::PutBlock(put_block(alloc, request, blob, id)?))
+            }
+            (Op::PutBlockList, Some(blob), Some(kept), _) => {
+                let entries = self.entries(alloc, request, reading)?;
+                let put = put_block_list(alloc, request, moment, blob, kept, entries)?;
+                Ok(Act::PutBlockList(put))
+            }
+            _ => unreachable!(),
+        }
     }
-}
 
-impl Rows {
-    ghost use Rattle.stamp_types.specs.World.{part_at, part_value};
-    ghost use Rattle.range_rows.specs.Fits.{fits};
-    ghost use Rattle.range_rows.specs.ObjectRules.{sizes_named};
+    // The change that the request makes, if it writes.
+    fn change_made(
+        &self,
+        alloc: Global,
+        request: &Request,
+        reading: Reading,
+        moment: Moment,
+    ) -> Result<Change, AllocError>
+        requires allowed { IsAllowed self.now request.now }
+        requires served { IsTrue (is_served request.now.ask.op) }
+        requires writes { IsTrue (writes request.now.ask.op) }
+        requires read { reading ≡ reading_of request.now }
+        ensures { IfOk result (λ change. changes.change_of
+            (sizes_found self.now.target.container) request.now moment ≡ Some change) }
+    {
+        let key = request.ask().key.clone()?;
+        let act = self.act(alloc, request, reading, moment)?;
+        Ok(Change::fitting(key, act))
+    }
 
-    /// The change that an allowed request makes at the moment, if its operation writes and is
-    /// served. The change meets the condition of `take` and `apply`. `reading` is what the
-    /// request's body says. The ETag is given when the change is applied.
+    /// The change that the request makes at the moment, if its operation writes and is served. Rows make
+    /// this change. The request was judged with `reading`, whose ids move into the change. The ETag is
+    /// given when the change is made.
     ///
     /// `AllocError` if memory runs out for the change, or if the body can have no further owner.
     pub fn change(
         &self,
         alloc: Global,
         request: &Request,
-        reading: &Reading,
+        reading: Reading,
         moment: Moment,
     ) -> Result<Change, AllocError>
+        requires allowed { IsAllowed self.now request.now }
         requires served { IsTrue (is_served request.now.ask.op) }
         requires writes { IsTrue (writes request.now.ask.op) }
-        requires allowed { object_refusal (sizes_named self.now request.now) request.now ≡ None }
-        requires read { reading.now ≡ reading_of request.now }
-        ensures value { IfOk result (λ change.
-            changes.change_of (sizes_named self.now request.now) request.now moment ≡ Some change) }
-        ensures fits { IfOk result (λ change. IsTrue
-            (fits (part_value pieces_len (part_at self.now change.key)) change.act)) }
+        requires read { reading ≡ reading_of request.now }
+        ensures value { IfOk result (λ change. changes.change_of
+            (sizes_found self.now.target.container) request.now moment ≡ Some change) }
+        ensures fits { IfOk result (λ change. (change.key ≡ request.now.ask.key)
+            × IsTrue (fits (sizes_found self.now.target.container) change.act)) }
     {
-        let found = self.find(&request.ask().key);
-        change_made(alloc, &found, request, reading, moment)
+        self.change_made(alloc, request, reading, moment)
     }
 }

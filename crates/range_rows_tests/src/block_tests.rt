@@ -4,7 +4,7 @@
 use crate::sample_requests::{
     asked, body, content, key, moment, pics, props, request, store, text,
 };
-use range_rows::{BodyFault, Reading, Rows};
+use range_rows::{BodyFault, ObjectRules, Reading, Rows};
 use stamp_types::{
     Act, Args, Block, BlockId, Body, Bytes, Change, Code, Items, Lookup, Metadata, Op, Piece,
     Pieces, PutBlock, PutBlockList, Refusal, Request, Rule, Source, StoredBlob, Taken,

@@ -1,7 +1,7 @@
 //! Each operation once, in turn on one container: the status, the headers in their order, the
 //! length and the content of each reply, against values that were written by hand.
 
-use crate::sample_requests::{body, four_names, make, moment_after, request_with};
+use crate::sample_requests::{allowed, body, four_names, make, moment_after, request_with};
 use range_rows::{Answer, Reading, Rows, is_served};
 use stamp_types::{Header, Moment, Op, Piece, Request, Status};
 use std::alloc::Global;
@@ -170,9 +170,8 @@ fn answer(
 ) -> Answer {
     assert!(rt; is_served(request.ask().op));
     let reading = Reading::of(alloc, request).expect(rt, "memory");
-    let refusal = rows.object_rule(alloc, request, &reading);
-    assert!(rt; refusal.expect(rt, "memory").is_none());
-    let answer = rows.reply(alloc, request, &reading, moment);
+    let allowed = allowed(rt, alloc, rows, request, &reading);
+    let answer = allowed.reply(alloc, request, moment);
     answer.expect(rt, "memory")
 }
 
@@ -183,9 +182,8 @@ fn change(rt: &impl Abort, alloc: Global, rows: &mut Rows, request: &Request, mo
     }
     assert!(rt; is_served(request.ask().op));
     let reading = Reading::of(alloc, request).expect(rt, "memory");
-    let refusal = rows.object_rule(alloc, request, &reading);
-    assert!(rt; refusal.expect(rt, "memory").is_none());
-    let change = rows.change(alloc, request, &reading, moment);
+    let allowed = allowed(rt, alloc, rows, request, &reading);
+    let change = allowed.change(alloc, request, reading, moment);
     make(rt, alloc, rows, change.expect(rt, "memory"));
 }
 

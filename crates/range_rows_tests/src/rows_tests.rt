@@ -1,8 +1,8 @@
 //! What no clause says of rows: that the rules mean the reference's, that each call can succeed,
 //! and that no body is copied. Printed replies, with their lines, are cases of `replay_cases`.
 
-use crate::sample_requests::{Sum, body, make, moment, pics, pics_and_gone, request};
-use range_rows::{Answer, Reading, Rows, Span};
+use crate::sample_requests::{Sum, allowed, body, make, moment, pics, pics_and_gone, request};
+use range_rows::{Answer, ObjectRules, Reading, Rows, Span};
 use stamp_types::{Body, Change, Header, Items, Op, Piece, Request, Rule, Status};
 use std::alloc::Global;
 use std::fs;
@@ -106,9 +106,8 @@ fn make_as(rt: &impl Abort, alloc: Global, rows: &mut Rows, change: Change, way:
 fn change(rt: &impl Abort, alloc: Global, rows: &mut Rows, request: &Request, way: Way) {
     assert!(rt; request.ask().op == Op::PutBlob);
     let reading = Reading::of(alloc, request).expect(rt, "memory");
-    let refusal = rows.object_rule(alloc, request, &reading);
-    assert!(rt; refusal.expect(rt, "memory").is_none());
-    let change = rows.change(alloc, request, &reading, moment(rt));
+    let allowed = allowed(rt, alloc, rows, request, &reading);
+    let change = allowed.change(alloc, request, reading, moment(rt));
     let change = change.expect(rt, "memory");
     make_as(rt, alloc, rows, change, way);
 }
@@ -124,9 +123,8 @@ fn answer(
 ) -> Answer {
     assert!(rt; matches!(request.ask().op, Op::PutBlob | Op::GetBlob));
     let reading = Reading::of(alloc, request).expect(rt, "memory");
-    let refusal = rows.object_rule(alloc, request, &reading);
-    assert!(rt; refusal.expect(rt, "memory").is_none());
-    let answer = rows.reply(alloc, request, &reading, moment(rt));
+    let allowed = allowed(rt, alloc, rows, request, &reading);
+    let answer = allowed.reply(alloc, request, moment(rt));
     let answer = answer.expect(rt, "memory");
     let frame = &answer.frame;
     assert!(rt; frame.status == status && frame.length == length && frame.body.is_empty());

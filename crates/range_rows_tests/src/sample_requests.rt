@@ -1,7 +1,10 @@
 //! Requests and rows for tests.
+ghost use Rattle.std.specs.Prelude.{◌≡◌};
+ghost use Rattle.range_rows.specs.Judgements.{IsAllowed};
+ghost use Rattle.range_rows.specs.Readings.{reading_of};
 
 use crate::sample_parts::deleted_row;
-use range_rows::Rows;
+use range_rows::{Allowed, Judged, Reading, Rows, Target};
 use stamp_types::{
     Acl, Act, Args, Ask, Body, Bytes, Change, ContainerRow, Credential, FieldList, Items, Kept,
     Key, Level, Meta, Metadata, Moment, Op, Piece, Pieces, Policies, Props, Request, Share,
@@ -255,4 +258,23 @@ pub(crate) fn make(rt: &impl Abort, alloc: Global, rows: &mut Rows, change: Chan
     let fits = rows.fits(alloc, &change).expect(rt, "memory");
     assert!(rt; fits, "a change that does not fit");
     rows.take(alloc, change).expect(rt, "memory");
+}
+
+/// What was found for a request, which no rule may refuse.
+pub(crate) fn allowed<'a>(
+    rt: &impl Abort,
+    alloc: Global,
+    rows: &'a Rows,
+    request: &Request,
+    reading: &Reading,
+) -> Allowed<'a>
+    requires { reading.now ≡ reading_of request.now }
+    ensures { IsAllowed result request.now }
+{
+    let ask = request.ask();
+    let target = Target::of(rows.find(&ask.key), ask);
+    match target.judge(alloc, request, reading).expect(rt, "memory") {
+        Judged::Allowed(allowed) => allowed,
+        Judged::Refused(_) => panic!(rt; "refused"),
+    }
 }

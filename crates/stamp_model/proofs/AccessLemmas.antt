@@ -11,7 +11,7 @@ use Rattle.stamp_types.specs.Requests.{Asked}
 use Rattle.stamp_types.specs.World.{Part, World, part_at, changed}
 use Rattle.stamp_types.proofs.ActLaws.{access-changed}
 use Rattle.access_rules.specs.declared.keys.Keys.{Keys}
-use Rattle.range_rows.specs.Access.{acl_of}
+use Rattle.row_trees.specs.Access.{acl_of}
 use Rattle.range_rows.specs.RequestChanges.{delete_blob, set_container_metadata, set_metadata, act_by, part_after}
 use Rattle.stamp_model.specs.Effects.{alters_container, alters_access, effect_as}
 use Rattle.stamp_model.proofs.EffectLemmas.{on_key, said_of_block, said_of_list, said_of_put, said_of_named, related-after_act, related-effect}

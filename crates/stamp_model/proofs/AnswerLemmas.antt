@@ -23,7 +23,8 @@ use Rattle.stamp_types.specs.World.{Blob, Part, World, blob_in, blob_value, comm
 use Rattle.stamp_types.proofs.EffectLemmas.{blob_in-set_metadata}
 use Rattle.access_rules.specs.declared.keys.Keys.{Keys}
 use Rattle.range_rows.specs.ObjectReplies.{byte_count, sizes, standing_read, blob_read, frame_by, bytes_by, with_content, reply_of}
-use Rattle.range_rows.specs.NamedBlobs.{has_listed, has_uncommitted, target_blob}
+use Rattle.row_trees.specs.FoundParts.{has_uncommitted}
+use Rattle.range_rows.specs.NamedBlobs.{has_listed, target_blob}
 use Rattle.range_rows.specs.ObjectRules.{needs_container, needs_blob, is_list, named_blob, object_refusal}
 use Rattle.range_rows.specs.ObjectRules.Cause.{BlobIsAbsent}
 use Rattle.range_rows.specs.RequestChanges.{put_blob, put_block_list, set_container_metadata, set_metadata, act_by, change_of, part_after}

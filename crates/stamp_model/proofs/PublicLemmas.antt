@@ -34,7 +34,7 @@ use Rattle.access_rules.specs.Rules.{allows_less, first_rule, some_passes}
 use Rattle.access_rules.proofs.RouteLaw.{asking, by_route}
 use Rattle.range_rows.specs.ObjectReplies.{byte_count, sizes}
 use Rattle.range_rows.specs.ObjectRules.{object_refusal}
-use Rattle.range_rows.specs.Access.{acl_of}
+use Rattle.row_trees.specs.Access.{acl_of}
 use Rattle.range_rows.specs.RequestChanges.{act_by}
 use Rattle.stamp_model.specs.Refusals.{access_code, access_refusal, unserved_refusal, refusal}
 use Rattle.stamp_model.specs.Effects.{unless_refused, world_after, change, effect}

@@ -16,7 +16,7 @@ use Rattle.stamp_types.specs.World.{Part, World, blob_in, committed_value, part_
 use Rattle.access_rules.specs.declared.keys.Keys.{Keys}
 use Rattle.access_rules.specs.Routes.{Admits}
 use Rattle.access_rules.proofs.RouteLaw.{by_route}
-use Rattle.range_rows.specs.Access.{acl_of}
+use Rattle.row_trees.specs.Access.{acl_of}
 use Rattle.range_rows.specs.ObjectReplies.{byte_count, sizes, standing_read, empty_blob, frame_by, bytes_by, bytes_sent, with_content, reply_of}
 use Rattle.range_rows.specs.NamedBlobs.{target_blob}
 use Rattle.range_rows.specs.ObjectRules.{object_refusal}

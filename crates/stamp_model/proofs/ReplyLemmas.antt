@@ -24,7 +24,7 @@ use Rattle.access_rules.proofs.RouteLaw.{by_route}
 use Rattle.range_rows.specs.ObjectReplies.{is_served, byte_count, sizes, standing_read, blob_read, frame_by, ranged_frame, reply_of}
 use Rattle.range_rows.specs.NamedBlobs.{target_blob}
 use Rattle.range_rows.specs.ObjectRules.{object_refusal}
-use Rattle.range_rows.specs.Access.{acl_of}
+use Rattle.row_trees.specs.Access.{acl_of}
 use Rattle.stamp_model.specs.Refusals.{access_refusal, unserved_refusal, refusal, refusing_rule}
 use Rattle.stamp_model.specs.Effects.{change, effect}
 use Rattle.stamp_model.specs.Responses.{response, reply}

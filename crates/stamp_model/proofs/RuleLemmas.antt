@@ -17,7 +17,7 @@ use Rattle.access_rules.specs.Rules.{holds, access_rules, first_rule}
 use Rattle.range_rows.specs.ObjectReplies.{is_served}
 use Rattle.range_rows.specs.ObjectRules.{Cause, cause_holds, cause_refusal, causes, fails_if_match, fails_if_none_match, is_any, object_holds, object_refusal, object_rules}
 use Rattle.range_rows.specs.ObjectRules.Cause.{ContainerIsAbsent, ContainerExists, BlobIsAbsent}
-use Rattle.range_rows.specs.Access.{acl_of}
+use Rattle.row_trees.specs.Access.{acl_of}
 use Rattle.stamp_model.specs.Refusals.{access_refusal, unserved_refusal, is_unserved, refusing_rule, refuses, rules_in_order}
 
 or_none : (a b : Bool) → not b ≡ true → (a || b) ≡ a

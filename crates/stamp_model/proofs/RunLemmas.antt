@@ -6,7 +6,7 @@ use Rattle.stamp_types.specs.declared.rule.Rule.{Rule}
 use Rattle.stamp_types.specs.World.{World, part_at}
 use Rattle.access_rules.specs.declared.keys.Keys.{Keys}
 use Rattle.access_rules.specs.Routes.{Admits}
-use Rattle.range_rows.specs.Access.{acl_of}
+use Rattle.row_trees.specs.Access.{acl_of}
 use Rattle.stamp_model.specs.Runs.{Timed, AreAnswered, world_after_one, world_after_all, reply_to_one, replies_to}
 use Rattle.stamp_model.proofs.ReplyLemmas.{reply-admits, effect-named}
 

@@ -30,10 +30,11 @@ use Rattle.access_rules.specs.declared.keys.Keys.{Keys}
 use Rattle.access_rules.specs.Rules.{first_rule}
 use Rattle.block_blobs.specs.BlockLists.{first_missing, found_entries}
 use Rattle.block_blobs.specs.UncommittedBlocks.{has_other_length, is_one_too_many}
-use Rattle.range_rows.specs.ListedBlocks.{listed_size}
+use Rattle.row_trees.specs.ListedBlocks.{listed_size}
 use Rattle.range_rows.specs.NamedBlobs.{has_listed, target_blob}
 use Rattle.range_rows.specs.ObjectReplies.{blob_content, blob_read, byte_count, bytes_by, empty_blob, frame_by, get_frame, list_frame, ranged_bytes, ranged_frame, reply_of, shows_uncommitted, sizes, standing_read, with_content}
-use Rattle.range_rows.specs.ObjectRules.{Cause, cause_holds, cause_refusal, causes, count_limit, is_any, is_create, is_get, is_list, meets, misses, named_blob, needs_blob, needs_container, starts_past}
+use Rattle.row_trees.specs.Fits.{count_limit}
+use Rattle.range_rows.specs.ObjectRules.{Cause, cause_holds, cause_refusal, causes, is_any, is_create, is_get, is_list, meets, misses, named_blob, needs_blob, needs_container, starts_past}
 use Rattle.range_rows.specs.ObjectRules.Cause.{ContainerIsAbsent, ContainerExists, BlobIsAbsent, MatchFails, IsNotModified, BlobExists, NoneMatchFails, BodyIsDamaged, BodyIsMalformed, IdIsBad, BlockIsMissing, ListIsTooLong, IdHasOtherLength, BlocksAreFull, ListIsTooLarge, RangeIsPastTheEnd, CountIsFull}
 use Rattle.range_rows.specs.Readings.{listed_in, reading_by, wanted_blocks}
 use Rattle.range_rows.specs.RequestChanges.{act_by, change_of, part_after}

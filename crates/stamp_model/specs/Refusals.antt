@@ -12,7 +12,7 @@ use Rattle.stamp_types.specs.Requests.{Asked}
 use Rattle.stamp_types.specs.World.{Part}
 use Rattle.access_rules.specs.declared.keys.Keys.{Keys}
 use Rattle.access_rules.specs.Rules.{holds, access_rules, first_rule}
-use Rattle.range_rows.specs.Access.{acl_of}
+use Rattle.row_trees.specs.Access.{acl_of}
 use Rattle.range_rows.specs.ObjectReplies.{is_served}
 use Rattle.range_rows.specs.ObjectRules.{object_holds, object_rules, object_refusal}
 

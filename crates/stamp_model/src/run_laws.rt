@@ -15,7 +15,7 @@ ghost use Rattle.stamp_types.specs.Requests.{IsAsk};
 ghost use Rattle.stamp_types.specs.World.{World, part_at};
 ghost use Rattle.access_rules.specs.declared.keys.Keys.{Keys};
 ghost use Rattle.access_rules.specs.Routes.{Admits};
-ghost use Rattle.range_rows.specs.Access.{acl_of};
+ghost use Rattle.row_trees.specs.Access.{acl_of};
 ghost use Rattle.range_rows.specs.ObjectReplies.{date_headers, kept_lines};
 ghost use Rattle.range_rows.specs.ObjectRules.{needs_blob, needs_container};
 ghost use Rattle.range_rows.specs.RequestChanges.{put_props};

@@ -6,9 +6,9 @@ use Rattle.std.specs.Coded.{Coded, code_by, coded_ℕ, coded_bool, coded×, code
 use Rattle.stamp_values.specs.Order.{name_cmp}
 use Rattle.stamp_values.specs.Levels.{level_number}
 use Rattle.stamp_values.specs.Letters.{Permissions}
+use Rattle.stamp_values.specs.Trees.{key_code}
 use Rattle.stamp_types.specs.PropsFields.{PropsFields}
 use Rattle.stamp_types.specs.World.{World, Part, Blob}
-use Rattle.stamp_values.specs.declared.key.Key.{Key}
 use Rattle.stamp_values.specs.declared.level.Level.{Level}
 use Rattle.stamp_values.specs.declared.level.Level.TheVariants as level
 use Rattle.stamp_values.specs.declared.meta.Meta.{Meta}
@@ -21,10 +21,6 @@ use Rattle.stamp_types.specs.declared.committed.Committed.{Committed}
 -- the code of a text
 abbrev pub text_code : Coded (List ℕ)
 text_code = coded_list coded_ℕ
-
--- the code of a key
-abbrev pub key_code : Coded Key
-key_code = code_by (List ℕ × List ℕ) (coded× text_code text_code) (λ k. (k.account, k.container)) (λ p. record { account = p.0; container = p.1 }) (λ _. refl)
 
 -- the code of a name of metadata and its value
 abbrev pub meta_code : Coded Meta

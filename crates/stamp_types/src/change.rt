@@ -48,6 +48,14 @@ impl Change {
         }
     }
 
+    /// The change of parts that are known to be a change.
+    pub fn fitting(key: Key, act: Act) -> Self
+        requires { IsTrue (is_change (record { key = key; act = act })) }
+        ensures { result ≡ record { key = key; act = act } }
+    {
+        Self { key, act }
+    }
+
     pub fn key(&self) -> &Key
         ensures value { result.now ≡ self.now.key }
         ensures valid { IsTrue (is_change self.now) }

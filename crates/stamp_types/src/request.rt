@@ -60,6 +60,18 @@ impl Request {
         Ok(Some(Self { ask, body }))
     }
 
+    /// The request of parts that are known to fit its operation.
+    ///
+    /// `AllocError` if memory runs out for the allocation that shares `ask`. Then `ask` and `body`
+    /// are dropped.
+    pub fn fitting(alloc: Global, ask: Ask, body: Body) -> Result<Self, AllocError>
+        requires { IsRequest (asked ask body) }
+        ensures { IfOk result (λ q. q ≡ asked ask body) }
+    {
+        let ask = Arc::new(alloc, ask)?;
+        Ok(Self { ask, body })
+    }
+
     /// All parts except the body.
     pub fn ask(&self) -> &Ask
         ensures value { result.now ≡ self.now.ask }

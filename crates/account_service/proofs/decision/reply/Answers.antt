@@ -10,12 +10,12 @@ pub reply_with_content-requires-clause-short : goal.reply_with_content-requires-
 reply_with_content-requires-clause-short c =
     let answer = c.in_ok-answer.answer in
     let q = c.args.request.now in
-    fits_memory answer.frame (sizes_found_after c.args.found.now q c.args.moment) (pieces_found_after c.args.found.now q c.args.moment) q answer.spans c.len-held.result
+    fits_memory answer.frame (sizes_found_after c.args.allowed.now.target.container q c.args.moment) (pieces_found_after c.args.allowed.now.target.container q c.args.moment) q answer.spans c.len-held.result
     c.in_ok-answer.ensures.frame c.in_ok-answer.ensures.spans c.len-held.ensures c.len-held.type_inv c.in_ok-answer.ensures.short
 
 pub returns : goal.returns
 returns c =
     let answer = c.in_ok-answer.answer in
-    let is : with_content answer.frame (bytes_held answer.spans) ≡ found_reply c.args.found.now c.args.request.now c.args.moment =
+    let is : with_content answer.frame (bytes_held answer.spans) ≡ found_reply c.args.allowed.now.target.container c.args.request.now c.args.moment =
     (λ i. with_content (c.in_ok-answer.ensures.frame i) (bytes_held (c.in_ok-answer.ensures.spans i))) in
     subst (λ r. IfOk c.reply_with_content.result (λ reply. reply ≡ r)) is c.reply_with_content.ensures

@@ -1,6 +1,6 @@
 use Rattle.std.proofs.Common.{arith}
-use Rattle.range_rows.specs.FoundParts.{sizes_found}
-use Rattle.range_rows.proofs.Allowed.{room_for_write}
+use Rattle.row_trees.specs.FoundParts.{sizes_found}
+use Rattle.range_rows.proofs.Unrefused.{room_for_write}
 use Rattle.range_rows.proofs.replies.write_answer.Goals as goal
 
 pub overflow_add-count : goal.overflow_add-count

@@ -1,9 +1,11 @@
-use Rattle.std.proofs.Common.{rules}
-use Rattle.stamp_types.specs.World.{part_at}
+use Rattle.std.proofs.Common.{◌≡◌, rules, sym}
+use Rattle.stamp_types.specs.Pieces.{pieces_len}
+use Rattle.stamp_types.specs.World.{part_at, part_value}
+use Rattle.range_rows.specs.RequestChanges.{change_of}
 use Rattle.account_service.specs.Decisions.{found_reply}
-use Rattle.account_service.specs.HeldRows.{row_refusal}
-use Rattle.account_service.proofs.DecisionLemmas.{none_refuses, refused_by, reply_decided}
-use Rattle.account_service.proofs.PlainLemmas.{answered_refused, answered_allowed}
+use Rattle.account_service.specs.HeldRows.{row_refusal, rows_with}
+use Rattle.account_service.proofs.DecisionLemmas.{allowed_with, refused_by}
+use Rattle.account_service.proofs.PlainLemmas.{answered_refused, answered_allowed, change_fits_rows, change_is_held}
 use Rattle.account_service.proofs.plain.Plain.judged.Goals as goal
 
 pub returns-in-Refused-clause-answered : goal.returns-in-Refused-clause-answered
@@ -11,23 +13,34 @@ returns-in-Refused-clause-answered c =
     let h = c.args.self.now in
     let q = c.args.request.now in
     let t = c.args.moment in
-    let refused = refused_by (row_refusal h q t) (found_reply (part_at h.rows q.ask.key) q t) c.in-Refused.refusal (search rules) in
+    let p = part_at h.rows q.ask.key in
+    let refused = refused_by (row_refusal h q t) (found_reply p q t) (change_of (part_value pieces_len p) q t) c.in-Refused.refusal (search rules) in
     answered_refused h q t c.decision.ensures.held c.in-Refused.refusal c.denied.result refused c.denied.ensures
 
-pub allowed-requires-clause-allowed : goal.allowed-requires-clause-allowed
-allowed-requires-clause-allowed c =
+pub keep-requires-clause-held : goal.keep-requires-clause-held
+keep-requires-clause-held c =
     let h = c.args.self.now in
     let q = c.args.request.now in
     let t = c.args.moment in
-    none_refuses (row_refusal h q t) (found_reply (part_at h.rows q.ask.key) q t) c.in-Allowed.reply (search rules)
+    let p = part_at h.rows q.ask.key in
+    let told = allowed_with (row_refusal h q t) (found_reply p q t) c.in-Allowed.reply (change_of (part_value pieces_len p) q t) c.in-Allowed.change (search rules) in
+    change_is_held (part_value pieces_len p) q t c.in-Allowed.change (sym told.2)
 
-pub returns-in-Allowed-clause-answered : goal.returns-in-Allowed-clause-answered
-returns-in-Allowed-clause-answered c =
+pub keep-requires-clause-fits : goal.keep-requires-clause-fits
+keep-requires-clause-fits c =
     let h = c.args.self.now in
     let q = c.args.request.now in
     let t = c.args.moment in
-    let reply = c.in-Allowed.reply in
-    let made = found_reply (part_at h.rows q.ask.key) q t in
-    let free = none_refuses (row_refusal h q t) made reply (search rules) in
-    let is = reply_decided (row_refusal h q t) made reply (search rules) in
-    answered_allowed h q t c.decision.ensures.held reply c.allowed.result c.allowed.new.self free is c.allowed.ensures.replied c.allowed.ensures.changed
+    let p = part_at h.rows q.ask.key in
+    let told = allowed_with (row_refusal h q t) (found_reply p q t) c.in-Allowed.reply (change_of (part_value pieces_len p) q t) c.in-Allowed.change (search rules) in
+    change_fits_rows h q t told.0 c.in-Allowed.change (sym told.2)
+
+pub returns-in-Ok-clause-answered : goal.returns-in-Ok-clause-answered
+returns-in-Ok-clause-answered c =
+    let h = c.args.self.now in
+    let q = c.args.request.now in
+    let t = c.args.moment in
+    let p = part_at h.rows q.ask.key in
+    let told = allowed_with (row_refusal h q t) (found_reply p q t) c.in-Allowed.reply (change_of (part_value pieces_len p) q t) c.in-Allowed.change (search rules) in
+    let kept : c.keep.new.self ≡ rows_with (change_of (part_value pieces_len p) q t) h = search rules in
+    answered_allowed h q t c.decision.ensures.held c.in-Allowed.reply c.keep.new.self told.0 told.1 kept

@@ -1,0 +1,21 @@
+use Rattle.std.proofs.Common.{◌≡◌, None, Some, rules, sym, ap, ◌∙◌}
+use Rattle.range_rows.specs.Judgements.{judgement, refusal_in}
+use Rattle.range_rows.specs.declared.judged.Judged.TheVariants as judged
+use Rattle.range_rows.proofs.JudgementLemmas.{refusal_of_judgement}
+use Rattle.stamp_model.specs.Refusals.{unserved_refusal}
+use Rattle.account_service.proofs.DecisionLemmas.{given_allowed, object_refused}
+use Rattle.account_service.proofs.decision.permitted.Goals as goal
+
+pub returns-in-Refused : goal.returns-in-Refused
+returns-in-Refused c =
+    let t = c.args.target in
+    let q = c.args.request.now in
+    let is : judged.Refused c.in-Refused.refusal ≡ judgement t q = search rules in
+    object_refused q c.args.moment t.container c.in-Refused.refusal (refusal_of_judgement t q (judged.Refused c.in-Refused.refusal) is)
+
+pub returns-in-None : goal.returns-in-None
+returns-in-None c =
+    let t = c.args.target in
+    let q = c.args.request.now in
+    let served : None ≡ unserved_refusal q.ask.op = search rules in
+    given_allowed q c.args.moment c.in-Allowed.allowed t c.answered.result (search rules) (search rules) served c.answered.ensures

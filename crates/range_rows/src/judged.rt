@@ -1,0 +1,37 @@
+//! What judging a request gives.
+ghost use Rattle.std.specs.Prelude.{◌≡◌};
+ghost use Rattle.range_rows.specs.Judgements.{refusal_in};
+
+use crate::target::Target;
+use stamp_types::{Items, Refusal, Source};
+
+/// What the object says of a request.
+#[derive(Drop)]
+pub enum Judged<'a> {
+    /// A rule of the object refuses the request.
+    Refused(Refusal),
+    /// No rule of the object refuses the request.
+    Allowed(Allowed<'a>),
+}
+
+/// What was found for a request that no rule of the object refuses. The request's reply and its change
+/// are made from this.
+#[derive(Drop)]
+pub struct Allowed<'a> {
+    pub target: Target<'a>,
+    /// Where each block is found that a Put Block List wants, in their order. Another request has no
+    /// sources.
+    pub sources: Items<Source>,
+}
+
+impl<'a> Judged<'a> {
+    /// The refusal, if the request is refused.
+    pub fn refusal(&self) -> Option<Refusal>
+        ensures { result ≡ refusal_in self.now }
+    {
+        match self {
+            Self::Refused(refusal) => Some(*refusal),
+            Self::Allowed(_) => None,
+        }
+    }
+}

@@ -1,0 +1,5 @@
+pub mod BlockActs
+pub mod BlockFits
+pub mod FitLemmas
+pub mod NewRows
+pub mod Parts

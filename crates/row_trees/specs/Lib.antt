@@ -1,0 +1,5 @@
+pub mod Access
+pub mod BlobRows
+pub mod Fits
+pub mod FoundParts
+pub mod ListedBlocks

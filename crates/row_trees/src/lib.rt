@@ -1,0 +1,15 @@
+//! What a partition holds in memory of its containers and their blobs, and which changes it makes.
+#![tactic(auto)]
+
+mod acts;
+mod block_acts;
+mod change_fits;
+mod container;
+mod found;
+mod found_blob;
+mod row;
+mod rows;
+
+pub use found::Found;
+pub use found_blob::FoundBlob;
+pub use rows::Rows;
