@@ -6,26 +6,37 @@ use Rattle.extent_node.specs.Copies.{Block}
 use Rattle.extent_node.specs.Faults.{held}
 use Rattle.extent_seal.specs.Extents.{Open, Closed}
 use Rattle.stream_manager.specs.Extents.{closed_blocks, extents}
-use Rattle.stream_manager.specs.Places.{Follows, IsLastAt}
+use Rattle.stream_manager.specs.Places.{Follows, IsLastAt, Decides, is_kept}
 use Rattle.extent_node.specs.Faults.{Counts}
 use Rattle.stream_manager.specs.Counting.{Grows, FailsAppend}
 use Rattle.stream_manager.specs.Outcomes.{IsPut, IsAppend}
 use Rattle.stream_manager.specs.declared.faults.AppendFault.{AppendFault}
 use Rattle.stream_manager.specs.declared.faults.AppendFault.TheVariants as fault
-use Rattle.stream_manager.proofs.PlaceLemmas.{onward}
+use Rattle.stream_manager.proofs.PlaceLemmas.{onward, held_here, last_number}
 
 -- nothing is added after what was added
 onward_none : (es fs gs : List (List Block)) (xs : List Block) → Follows es xs fs → Follows fs [] gs → Follows es xs gs
 onward_none es fs gs xs a b = subst (λ l. Follows es l gs) (append-nil xs) (onward es fs gs xs [] a b)
 
+-- the older doubt is settled, and nothing is added after it
+settled_after : (sealed : List Closed) (mid fs : List (List Block)) (old : Open) (kept : Bool)
+    → Follows (extents sealed old) (held kept old.tried) mid → (is_some old.tried ≡ true → Decides kept (length sealed) old mid)
+    → Follows mid [] fs → Follows (extents sealed old) (held (is_kept (extents sealed old) old fs) old.tried) fs
+settled_after sealed mid fs old kept a c b =
+    let h = held_here kept (length sealed) old (extents sealed old) mid fs (last_number sealed old) c b.sealed in
+    subst (λ l. Follows (extents sealed old) l fs) h (onward_none (extents sealed old) mid fs _ a b)
+
 -- what a put does after the older doubt is settled
-pub put_after : (r : Result Place AppendFault) (es mid fs : List (List Block)) (old new : Open) (kept : Bool) (block : Block)
-    → Follows es (held kept old.tried) mid → IsPut r mid block fs new → IsAppend r es old block fs new
-put_after (Ok p) es mid fs old new kept block a b = ((kept, onward es mid fs _ _ a b.0), b.1, b.2)
-put_after (Err fault.Doubt) es mid fs old new kept block a b = ((kept, onward_none es mid fs _ a b.0), b.1)
-put_after (Err fault.Busy) es mid fs old new kept block a b = inl ((kept, onward_none es mid fs _ a b.0), b.1)
-put_after (Err fault.NoMemory) es mid fs old new kept block a b = inl ((kept, onward_none es mid fs _ a b.0), b.1)
-put_after (Err fault.TooLarge) es mid fs old new kept block a b = absurd b
+pub put_after : (r : Result Place AppendFault) (sealed : List Closed) (mid fs : List (List Block)) (old new : Open) (kept : Bool) (block : Block)
+    → Follows (extents sealed old) (held kept old.tried) mid → (is_some old.tried ≡ true → Decides kept (length sealed) old mid)
+    → IsPut r mid block fs new → IsAppend r (extents sealed old) old block fs new
+put_after (Ok p) sealed mid fs old new kept block a c b =
+    let h = held_here kept (length sealed) old (extents sealed old) mid fs (last_number sealed old) c b.0.sealed in
+    (subst (λ l. Follows (extents sealed old) (l ++ block ∷ []) fs) h (onward (extents sealed old) mid fs _ _ a b.0), b.1, b.2)
+put_after (Err fault.Doubt) sealed mid fs old new kept block a c b = (settled_after sealed mid fs old kept a c b.0, b.1)
+put_after (Err fault.Busy) sealed mid fs old new kept block a c b = inl (settled_after sealed mid fs old kept a c b.0, b.1)
+put_after (Err fault.NoMemory) sealed mid fs old new kept block a c b = inl (settled_after sealed mid fs old kept a c b.0, b.1)
+put_after (Err fault.TooLarge) sealed mid fs old new kept block a c b = absurd b
 
 -- the block of a doubt that is kept
 pub settle_kept : (es fs : List (List Block)) (tried : Option Block) (p : Place) (n m : ℕ) (kept : Bool) → kept ≡ true → is_some tried ≡ true

@@ -1,7 +1,7 @@
 -- Blocks that are appended, and extents that are sealed, leave each block at its place.
-use Rattle.std.proofs.Common.{◌≡◌, ◌≤◌, ◌<◌, ◌⊎◌, inl, inr, ◌+◌, ◌∙◌, ℕ, zero, suc, Bool, Some, Result, Ok, Err, IfOk, List, [], ◌∷◌, ◌++◌, length, map, sym, ap, refl, arith, append-nil, append_assoc, length-append}
+use Rattle.std.proofs.Common.{◌≡◌, ◌≤◌, ◌<◌, ◌⊎◌, inl, inr, ◌+◌, ◌∙◌, ℕ, zero, suc, Bool, true, false, Option, Some, None, ◌-◌, Result, Ok, Err, IfOk, List, [], ◌∷◌, ◌++◌, length, map, sym, ap, refl, arith, append-nil, append_assoc, length-append}
 use Rattle.std.specs.List.{slice_get}
-use Rattle.std.specs.Option.{option_and_then}
+use Rattle.std.specs.Option.{option_and_then, is_some}
 use Rattle.std.proofs.lemmas.Grind.{flat_map-append}
 use Rattle.std.proofs.lemmas.List.{length-map}
 use Rattle.stamp_values.specs.declared.place.Place.{Place}
@@ -9,7 +9,7 @@ use Rattle.extent_node.specs.Copies.{Block}
 use Rattle.extent_node.specs.Faults.{held}
 use Rattle.extent_seal.specs.Extents.{Open, Closed}
 use Rattle.stream_manager.specs.Extents.{closed_blocks, extents}
-use Rattle.stream_manager.specs.Places.{block_at, blocks_of, IsLastAt, KeepsSealed, Follows}
+use Rattle.stream_manager.specs.Places.{block_at, blocks_of, is_kept, IsLastAt, KeepsSealed, Follows, Decides}
 
 -- what stands in a list stands there if more comes after it
 get_more : {X : Type 0} (xs ys : List X) (i : ℕ) (x : X) → slice_get xs i ≡ Some x → slice_get (xs ++ ys) i ≡ Some x
@@ -160,3 +160,54 @@ close_at (Err e) sealed after last new a n = tt
 pub append_at : (sealed : List Closed) (last new : Open) (b : Block) (p : Place) → new.blocks ≡ last.blocks ++ b ∷ []
     → p.extent ≡ length sealed → p.index ≡ length last.blocks → IsLastAt (extents sealed new) p b
 append_at sealed last new b p n e i = grown_here (map closed_blocks sealed) last.blocks new.blocks b p n (e ∙ sym (length-map sealed closed_blocks)) i
+
+-- an extent after a seal, which had a doubt
+decided : (n : ℕ) (front after : List (List Block)) (last : Open) (new : List Block) (kept : Bool)
+    → after ≡ front ++ (last.blocks ++ held kept last.tried) ∷ [] → n ≡ length front → Decides kept n last (after ++ new ∷ [])
+decided n front after last new kept a e = record {
+  whole = rw (a, e, append_assoc) (get_next front (last.blocks ++ held kept last.tried) (new ∷ []));
+  later = rw (a, e) (grind (arith, length-append));
+}
+
+-- a seal ends a doubt
+pub close_decides : {E : Type 0} (r : Result Bool E) (sealed : List Closed) (after : List (List Block)) (last new : Open)
+    → IfOk r (λ kept. after ≡ map closed_blocks sealed ++ (last.blocks ++ held kept last.tried) ∷ [])
+    → IfOk r (λ kept. is_some last.tried ≡ true → Decides kept (length sealed) last (after ++ new.blocks ∷ []))
+close_decides (Ok kept) sealed after last new a =
+    λ s. decided (length sealed) (map closed_blocks sealed) after last new.blocks kept a (sym (length-map sealed closed_blocks))
+close_decides (Err e) sealed after last new a = tt
+
+-- nothing comes at the length of a list
+get_past : {X : Type 0} (xs : List X) → slice_get xs (length xs) ≡ None
+get_past [] = refl
+get_past (x ∷ xs) = get_past xs
+
+-- a block comes after some blocks, or it does not
+held_at : (xs : List Block) (d : Block) (kept : Bool) → is_some (slice_get (xs ++ held kept (Some d)) (length xs)) ≡ kept
+held_at xs d true = ap is_some (get_next xs d [])
+held_at xs d false = ap is_some (ap (λ l. slice_get l (length xs)) (append-nil xs) ∙ get_past xs)
+
+-- what was decided is seen at the place that was the next one
+kept_here : (kept : Bool) (n : ℕ) (old : Open) (d : Block) (es mid fs : List (List Block)) → length es - 1 ≡ n → old.tried ≡ Some d
+    → Decides kept n old mid → KeepsSealed mid fs → kept ≡ is_kept es old fs
+kept_here kept n old d es mid fs e t c k =
+    let h : slice_get fs n ≡ Some (old.blocks ++ held kept old.tried) = k.closed n c.later ∙ c.whole in
+    rw (e, h, t) (sym (held_at old.blocks d kept))
+
+-- without a block nothing is held
+held_as : (tried : Option Block) (a b : Bool) → ((d : Block) → tried ≡ Some d → a ≡ b) → held a tried ≡ held b tried
+held_as (Some d) a b h = ap (λ k. held k (Some d)) (h d refl)
+held_as None true true h = refl
+held_as None true false h = refl
+held_as None false true h = refl
+held_as None false false h = refl
+
+-- what was kept of a doubt, if there was one
+pub held_here : (kept : Bool) (n : ℕ) (old : Open) (es mid fs : List (List Block)) → length es - 1 ≡ n
+    → (is_some old.tried ≡ true → Decides kept n old mid) → KeepsSealed mid fs → held kept old.tried ≡ held (is_kept es old fs) old.tried
+held_here kept n old es mid fs e c k =
+    held_as old.tried kept (is_kept es old fs) (λ d t. kept_here kept n old d es mid fs e t (c (ap is_some t)) k)
+
+-- the number of the last extent
+pub last_number : (sealed : List Closed) (last : Open) → length (extents sealed last) - 1 ≡ length sealed
+last_number sealed last = grind (arith, length-append, length-map)

@@ -6,7 +6,7 @@ use Rattle.extent_node.specs.Copies.{Block}
 use Rattle.extent_node.specs.Faults.{held}
 use Rattle.extent_seal.specs.Extents.{Open}
 use Rattle.stream_manager.specs.Outcomes.{IsAppend, IsSettled, IsSealed}
-use Rattle.stream_manager.specs.Places.{blocks_of, Follows}
+use Rattle.stream_manager.specs.Places.{blocks_of, is_kept, Follows}
 use Rattle.stream_manager.specs.Runs.{IsStep, IsRun, end_of}
 use Rattle.stream_manager.specs.Streams.{Streamed, laid}
 use Rattle.stream_manager.specs.declared.faults.AppendFault.{AppendFault}
@@ -25,10 +25,10 @@ unchanged : (es fs : List (List Block)) → fs ≡ es → Leads es fs
 unchanged es fs e = ([], subst (λ x. Follows es [] x) (sym e) (same es))
 
 append_leads : (r : Result Place AppendFault) (es fs : List (List Block)) (old new : Open) (block : Block) → IsAppend r es old block fs new → Leads es fs
-append_leads (Ok p) es fs old new block a = (held a.0.0 old.tried ++ block ∷ [], a.0.1)
-append_leads (Err fault.Doubt) es fs old new block a = (held a.0.0 old.tried, a.0.1)
-append_leads (Err fault.Busy) es fs old new block a = elim a [ inl x ↦ (held x.0.0 old.tried, x.0.1) | inr x ↦ unchanged es fs x.0 ]
-append_leads (Err fault.NoMemory) es fs old new block a = elim a [ inl x ↦ (held x.0.0 old.tried, x.0.1) | inr x ↦ unchanged es fs x.0 ]
+append_leads (Ok p) es fs old new block a = (held (is_kept es old fs) old.tried ++ block ∷ [], a.0)
+append_leads (Err fault.Doubt) es fs old new block a = (held (is_kept es old fs) old.tried, a.0)
+append_leads (Err fault.Busy) es fs old new block a = elim a [ inl x ↦ (held (is_kept es old fs) old.tried, x.0) | inr x ↦ unchanged es fs x.0 ]
+append_leads (Err fault.NoMemory) es fs old new block a = elim a [ inl x ↦ (held (is_kept es old fs) old.tried, x.0) | inr x ↦ unchanged es fs x.0 ]
 append_leads (Err fault.TooLarge) es fs old new block a = unchanged es fs a.0
 
 settle_leads : (r : Result Settled SettleFault) (es fs : List (List Block)) (old new : Open) → IsSettled r es old fs new → Leads es fs
@@ -38,7 +38,7 @@ settle_leads (Ok settled.Dropped) es fs old new a = ([], a.1)
 settle_leads (Err e) es fs old new a = unchanged es fs a.1
 
 seal_leads : (r : Result (Unit {0}) SettleFault) (es fs : List (List Block)) (old new : Open) → IsSealed r es old fs new → Leads es fs
-seal_leads (Ok u) es fs old new a = (held a.0.0 old.tried, a.0.1)
+seal_leads (Ok u) es fs old new a = (held (is_kept es old fs) old.tried, a.0)
 seal_leads (Err e) es fs old new a = unchanged es fs a.0
 
 step_leads : (s t : Streamed) → IsStep s t → Leads (laid s) (laid t)
@@ -86,10 +86,10 @@ ends_alone es fs old d new kept t o = ends es fs old d new kept [] t (o ∙ ap (
 
 doubt_append : (r : Result Place AppendFault) (es fs : List (List Block)) (old new : Open) (block d : Block) → old.tried ≡ Some d
     → IsAppend r es old block fs new → EndsWhole es fs new d
-doubt_append (Ok p) es fs old new block d t a = ends es fs old d new a.0.0 (block ∷ []) t a.0.1.order
-doubt_append (Err fault.Doubt) es fs old new block d t a = ends_alone es fs old d new a.0.0 t a.0.1.order
-doubt_append (Err fault.Busy) es fs old new block d t a = elim a [ inl x ↦ ends_alone es fs old d new x.0.0 t x.0.1.order | inr x ↦ stays es fs old new d t x.0 x.1 ]
-doubt_append (Err fault.NoMemory) es fs old new block d t a = elim a [ inl x ↦ ends_alone es fs old d new x.0.0 t x.0.1.order | inr x ↦ stays es fs old new d t x.0 x.1 ]
+doubt_append (Ok p) es fs old new block d t a = ends es fs old d new (is_kept es old fs) (block ∷ []) t a.0.order
+doubt_append (Err fault.Doubt) es fs old new block d t a = ends_alone es fs old d new (is_kept es old fs) t a.0.order
+doubt_append (Err fault.Busy) es fs old new block d t a = elim a [ inl x ↦ ends_alone es fs old d new (is_kept es old fs) t x.0.order | inr x ↦ stays es fs old new d t x.0 x.1 ]
+doubt_append (Err fault.NoMemory) es fs old new block d t a = elim a [ inl x ↦ ends_alone es fs old d new (is_kept es old fs) t x.0.order | inr x ↦ stays es fs old new d t x.0 x.1 ]
 doubt_append (Err fault.TooLarge) es fs old new block d t a = stays es fs old new d t a.0 a.1
 
 doubt_settle : (r : Result Settled SettleFault) (es fs : List (List Block)) (old new : Open) (d : Block) → old.tried ≡ Some d
@@ -102,7 +102,7 @@ doubt_settle (Err e) es fs old new d t a = stays es fs old new d t a.1 a.2
 
 doubt_seal : (r : Result (Unit {0}) SettleFault) (es fs : List (List Block)) (old new : Open) (d : Block) → old.tried ≡ Some d
     → IsSealed r es old fs new → EndsWhole es fs new d
-doubt_seal (Ok u) es fs old new d t a = ends_alone es fs old d new a.0.0 t a.0.1.order
+doubt_seal (Ok u) es fs old new d t a = ends_alone es fs old d new (is_kept es old fs) t a.0.order
 doubt_seal (Err e) es fs old new d t a = stays es fs old new d t a.0 a.1
 
 pub doubt_ends : (s t : Streamed) (d : Block) → s.last.tried ≡ Some d → IsStep s t → EndsWhole (laid s) (laid t) t.last d

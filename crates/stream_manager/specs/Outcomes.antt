@@ -1,10 +1,10 @@
 -- What calls do to streams (SOSP 2011, section 4.3).
-use Rattle.std.specs.Prelude.{◌≡◌, ◌⊎◌, Bool, Some, None, IsSome, Result, Ok, Err, List, [], ◌∷◌, ◌++◌}
+use Rattle.std.specs.Prelude.{◌≡◌, ◌⊎◌, Some, None, IsSome, Result, Ok, Err, List, [], ◌∷◌, ◌++◌}
 use Rattle.stamp_values.specs.declared.place.Place.{Place}
 use Rattle.extent_node.specs.Copies.{Block}
 use Rattle.extent_node.specs.Faults.{held}
 use Rattle.extent_seal.specs.Extents.{Open}
-use Rattle.stream_manager.specs.Places.{IsLastAt, Follows}
+use Rattle.stream_manager.specs.Places.{IsLastAt, Follows, is_kept}
 use Rattle.stream_manager.specs.declared.parts.Tried.{Tried}
 use Rattle.stream_manager.specs.declared.parts.Tried.TheVariants as tried
 use Rattle.stream_manager.specs.declared.faults.AppendFault.{AppendFault}
@@ -29,10 +29,10 @@ IsPut (Err fault.TooLarge) es block fs last = ⊥
 
 -- what an append does, from these extents and this last one: an older doubt is kept or dropped first, or it stays
 abbrev pub IsAppend : Result Place AppendFault → List (List Block) → Open → Block → List (List Block) → Open → Type 0
-IsAppend (Ok p) es old block fs new = ((kept : Bool) × Follows es (held kept old.tried ++ block ∷ []) fs) × IsLastAt fs p block × (new.tried ≡ None)
-IsAppend (Err fault.Doubt) es old block fs new = ((kept : Bool) × Follows es (held kept old.tried) fs) × (new.tried ≡ Some block)
-IsAppend (Err fault.Busy) es old block fs new = (((kept : Bool) × Follows es (held kept old.tried) fs) × (new.tried ≡ None)) ⊎ ((fs ≡ es) × (new ≡ old))
-IsAppend (Err fault.NoMemory) es old block fs new = (((kept : Bool) × Follows es (held kept old.tried) fs) × (new.tried ≡ None)) ⊎ ((fs ≡ es) × (new ≡ old))
+IsAppend (Ok p) es old block fs new = Follows es (held (is_kept es old fs) old.tried ++ block ∷ []) fs × IsLastAt fs p block × (new.tried ≡ None)
+IsAppend (Err fault.Doubt) es old block fs new = Follows es (held (is_kept es old fs) old.tried) fs × (new.tried ≡ Some block)
+IsAppend (Err fault.Busy) es old block fs new = (Follows es (held (is_kept es old fs) old.tried) fs × (new.tried ≡ None)) ⊎ ((fs ≡ es) × (new ≡ old))
+IsAppend (Err fault.NoMemory) es old block fs new = (Follows es (held (is_kept es old fs) old.tried) fs × (new.tried ≡ None)) ⊎ ((fs ≡ es) × (new ≡ old))
 IsAppend (Err fault.TooLarge) es old block fs new = (fs ≡ es) × (new ≡ old)
 
 -- what a settle does
@@ -44,5 +44,5 @@ IsSettled (Err e) es old fs new = IsSome old.tried × (fs ≡ es) × (new ≡ ol
 
 -- what a seal does
 abbrev pub IsSealed : Result (Unit {0}) SettleFault → List (List Block) → Open → List (List Block) → Open → Type 0
-IsSealed (Ok _) es old fs new = ((kept : Bool) × Follows es (held kept old.tried) fs) × (new.blocks ≡ []) × (new.tried ≡ None)
+IsSealed (Ok _) es old fs new = Follows es (held (is_kept es old fs) old.tried) fs × (new.blocks ≡ []) × (new.tried ≡ None)
 IsSealed (Err e) es old fs new = (fs ≡ es) × (new ≡ old)

@@ -1,9 +1,11 @@
 -- Blocks at places (SOSP 2011, section 4.1).
-use Rattle.std.specs.Prelude.{◌≡◌, ◌≤◌, ◌<◌, ◌⊎◌, ◌+◌, ℕ, Option, Some, List, ◌++◌, length}
+use Rattle.std.specs.Prelude.{◌≡◌, ◌≤◌, ◌<◌, ◌⊎◌, ◌+◌, ◌-◌, ℕ, Bool, Option, Some, List, ◌++◌, length}
 use Rattle.std.specs.List.{slice_get, flat_map}
-use Rattle.std.specs.Option.{option_and_then}
+use Rattle.std.specs.Option.{option_and_then, is_some}
 use Rattle.stamp_values.specs.declared.place.Place.{Place}
 use Rattle.extent_node.specs.Copies.{Block}
+use Rattle.extent_node.specs.Faults.{held}
+use Rattle.extent_seal.specs.Extents.{Open}
 
 -- the block at a place in a list of extents, each of them a list of blocks
 abbrev pub block_at : List (List Block) → Place → Option Block
@@ -17,6 +19,14 @@ IsNotAfter q p = (q.extent < p.extent) ⊎ ((q.extent ≡ p.extent) × (q.index 
 pub record IsLastAt (es : List (List Block)) (p : Place) (b : Block) : Type 0 where
   pub here : block_at es p ≡ Some b
   pub last : (q : Place) (c : Block) → block_at es q ≡ Some c → IsNotAfter q p
+
+-- the place after the last acknowledged block: a block that is in doubt is there, if it is kept
+abbrev pub next_place : List (List Block) → Open → Place
+next_place es last = record { extent = length es - 1; index = length last.blocks }
+
+-- whether the block that was in doubt before is in the extents after
+abbrev pub is_kept : List (List Block) → Open → List (List Block) → Bool
+is_kept es old fs = is_some (block_at fs (next_place es old))
 
 -- the blocks of all extents, in their order
 abbrev pub blocks_of : List (List Block) → List Block
@@ -36,3 +46,8 @@ pub record Follows (es : List (List Block)) (added : List Block) (fs : List (Lis
   pub order : blocks_of fs ≡ blocks_of es ++ added
   pub kept : KeepsPlaces es fs
   pub sealed : KeepsSealed es fs
+
+-- a doubt has ended: extent n, which had it, is sealed with its block if that was kept, and without its block if not
+pub record Decides (kept : Bool) (n : ℕ) (old : Open) (fs : List (List Block)) : Type 0 where
+  pub whole : slice_get fs n ≡ Some (old.blocks ++ held kept old.tried)
+  pub later : n + 1 < length fs

@@ -14,5 +14,4 @@ pub use laws::{
     a_walk_meets_all_blocks_in_order, an_acknowledged_block_is_read_for_good,
     blocks_keep_their_order,
 };
-pub use parts::BLOCK_LIMIT;
 pub use stream::Stream;

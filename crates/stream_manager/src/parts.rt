@@ -6,12 +6,9 @@ use crate::handle::{Handle, share_all};
 use crate::spare::Spare;
 use extent_node::Wire;
 use extent_seal::{Appended, NoReplica, OpenExtent, ReadFault};
-use stamp_values::{Place, Share};
+use stamp_values::{BLOCK_LIMIT, Place, Share};
 use std::alloc::{AllocError, Global};
 use std::mem;
-
-/// The most bytes that a block of a stream may have.
-pub const BLOCK_LIMIT: usize = 16_777_216;
 
 /// What became of a block that was tried on the last extent.
 #[derive(Drop)]
@@ -38,7 +35,7 @@ pub(crate) struct Parts {
 }
 
 impl Parts {
-    ghost use Rattle.std.specs.Prelude.{◌≡◌, ◌↔◌, ◌⊎◌, Ok, ◌<◌, ◌≤◌, ◌+◌, ◌++◌, ◌∷◌, [], None, Some, Err, map, length, IfOk, IsSome, IsSomeAnd, OnErr};
+    ghost use Rattle.std.specs.Prelude.{◌≡◌, ◌↔◌, ◌⊎◌, Ok, ◌<◌, ◌≤◌, ◌+◌, ◌++◌, ◌∷◌, [], true, None, Some, Err, map, length, IfOk, IsSome, IsSomeAnd, OnErr};
     ghost use Rattle.std.specs.List.{slice_get};
     ghost use Rattle.std.specs.Option.{is_some};
     ghost use Rattle.std.specs.Vec.{vec_len, vec_capacity};
@@ -50,7 +47,7 @@ impl Parts {
     ghost use Rattle.stream_manager.specs.Counting.{CallsAtMost, Grows, CallsTry, FailsTry, CallsAppend, FailsAppend, CallsSettle, FailsSettle, CountsSeal, kept_in};
     ghost use Rattle.stream_manager.specs.Extents.{closed_blocks, extents};
     ghost use Rattle.stream_manager.specs.Outcomes.{IsTried, IsPut, IsAppend, IsSettled, IsSealed};
-    ghost use Rattle.stream_manager.specs.Places.{Follows, IsLastAt, block_at};
+    ghost use Rattle.stream_manager.specs.Places.{Decides, Follows, IsLastAt, block_at, next_place};
     ghost use Rattle.stream_manager.specs.Sizes.{IsWithin, AreSized, AreCounted};
     ghost use Rattle.stream_manager.specs.declared.faults.AppendFault.TheVariants.{TooLarge, Busy};
     ghost use Rattle.stream_manager.specs.declared.parts.Tried.TheVariants.{Excluded};
@@ -101,6 +98,8 @@ impl Parts {
         ensures at { IfOk result (λ kept. (b : Block) → (p : Place) → held kept self.old.last.tried ≡ b ∷ []
             → p.extent ≡ length self.old.sealed.items → p.index ≡ length self.old.last.blocks
             → IsLastAt (extents self.new.sealed.items self.new.last) p b) }
+        ensures decided { IfOk result (λ kept. is_some self.old.last.tried ≡ true
+            → Decides kept (length self.old.sealed.items) self.old.last (extents self.new.sealed.items self.new.last)) }
         ensures blocks { IfOk result (λ kept. self.new.last.blocks ≡ []) }
         ensures tried { IfOk result (λ kept. self.new.last.tried ≡ None) }
         ensures same { OnErr result (extents self.new.sealed.items self.new.last ≡ extents self.old.sealed.items self.old.last) }
@@ -194,6 +193,8 @@ impl Parts {
         requires room { vec_len self.old.sealed < vec_capacity self.old.sealed }
         ensures follows { IfOk result (λ kept. Follows (extents self.old.sealed.items self.old.last)
             (held kept self.old.last.tried) (extents self.new.sealed.items self.new.last)) }
+        ensures decided { IfOk result (λ kept. is_some self.old.last.tried ≡ true
+            → Decides kept (length self.old.sealed.items) self.old.last (extents self.new.sealed.items self.new.last)) }
         ensures tried { IfOk result (λ kept. self.new.last.tried ≡ None) }
         ensures same { OnErr result (extents self.new.sealed.items self.new.last ≡ extents self.old.sealed.items self.old.last) }
         ensures same_sealed { OnErr result (self.new.sealed.items ≡ self.old.sealed.items) }
@@ -340,6 +341,17 @@ impl Parts {
         match self.sealed.get(extent) {
             Some(handle) => index < handle.extent().commit_len(),
             None => extent == self.sealed.len() && index < self.last.len(),
+        }
+    }
+
+    /// The place after the last acknowledged block.
+    #[tactic(auto, using(crate::proofs::PlaceLemmas::last_number))]
+    pub fn next_place(&self) -> Place
+        ensures { result ≡ next_place (extents self.now.sealed.items self.now.last) self.now.last }
+    {
+        Place {
+            extent: self.sealed.len() as u64,
+            index: self.last.len() as u64,
         }
     }
 

@@ -34,7 +34,7 @@ impl Stream {
     ghost use Rattle.extent_seal.specs.declared.sealed.ReadFault.TheVariants.{Unreachable};
     ghost use Rattle.stream_manager.specs.Counting.{CallsAppend, FailsAppend, CallsSettle, FailsSettle, CountsSeal, kept_in};
     ghost use Rattle.stream_manager.specs.Outcomes.{IsAppend, IsSettled, IsSealed};
-    ghost use Rattle.stream_manager.specs.Places.{block_at};
+    ghost use Rattle.stream_manager.specs.Places.{block_at, next_place};
     ghost use Rattle.stream_manager.specs.Sizes.{AreSized};
     ghost use Rattle.stream_manager.specs.Streams.{laid};
     ghost use Rattle.stream_manager.specs.declared.faults.AppendFault.TheVariants.{TooLarge, Busy};
@@ -113,6 +113,15 @@ impl Stream {
         ensures { result ≡ is_some (block_at (laid self.now) place) }
     {
         self.parts.has_block(place)
+    }
+
+    /// The place after the last acknowledged block. No node is called.
+    ///
+    /// A block that is in doubt is at this place if a later append, settle or seal keeps it. If it is dropped, no block comes there.
+    pub fn next_place(&self) -> Place
+        ensures { result ≡ next_place (laid self.now) self.now.last }
+    {
+        self.parts.next_place()
     }
 
     /// How many extents there are: the sealed ones, and the last one, which takes blocks.

@@ -4,11 +4,12 @@ use Rattle.stream_manager.proofs.parts.Parts.append.Goals as goal
 
 pub returns-clause-appended : goal.returns-clause-appended
 returns-clause-appended g c =
-    put_after c.put.result (extents c.args.self.now.sealed.items c.args.self.now.last)
+    put_after c.put.result c.args.self.now.sealed.items
     (extents c.make_ready.new.self.sealed.items c.make_ready.new.self.last)
     (extents c.put.new.self.sealed.items c.put.new.self.last)
     c.args.self.now.last c.put.new.self.last c.in_ok-make_ready.field-0 c.args.block.now
-    (rw (← c.reserve.ensures.items) c.in_ok-make_ready.ensures.follows) c.put.ensures.put
+    (rw (← c.reserve.ensures.items) c.in_ok-make_ready.ensures.follows)
+    (rw (← c.reserve.ensures.items) c.in_ok-make_ready.ensures.decided) c.put.ensures.put
 
 pub returns-clause-counted : goal.returns-clause-counted
 returns-clause-counted g c =

@@ -1,6 +1,6 @@
 use Rattle.std.proofs.Common.{map}
 use Rattle.stream_manager.specs.Extents.{closed_blocks}
-use Rattle.stream_manager.proofs.PlaceLemmas.{close_follows, close_at}
+use Rattle.stream_manager.proofs.PlaceLemmas.{close_follows, close_at, close_decides}
 use Rattle.stream_manager.proofs.SizeLemmas.{close_sized, close_counted}
 use Rattle.stream_manager.proofs.parts.Parts.close_last.Goals as goal
 
@@ -23,3 +23,8 @@ pub returns-clause-bytes : goal.returns-clause-bytes
 returns-clause-bytes g c =
     close_counted c.close.result c.args.self.now.bytes c.close.new.self.bytes c.args.self.now.last c.close.new.self.last
     c.close.ensures.blocks c.close.ensures.bytes c.close.ensures.same_bytes c.close.ensures.same_last c.requires.bytes
+
+pub returns-clause-decided : goal.returns-clause-decided
+returns-clause-decided g c =
+    close_decides c.close.result c.args.self.now.sealed.items (map closed_blocks c.close.new.self.sealed.items)
+    c.args.self.now.last c.close.new.self.last c.close.ensures.moved
