@@ -142,7 +142,8 @@ impl Props {
 
     /// Never empty (Content-Type).
     pub fn content_type(&self) -> &Visible
-        ensures { result.now ≡ self.now.content_type }
+        ensures value { result.now ≡ self.now.content_type }
+        ensures valid { IsTrue (is_props self.now) }
     {
         &self.content_type
     }
