@@ -74,15 +74,17 @@ module _ {C : Type 0} where
   find-id_entries [] q = refl
   find-id_entries (b ∷ bs) q = found_first b.id q b bs (find-id_entries bs q)
 
-  in_blocks : (o : Option (Committed C)) (q : List ℕ) → option_map (λ block. block.content) (find (has_block_id q) (blocks_of o)) ≡ option_and_then (committed_content q) o
+  -- a look-up among the blocks of a committed part is a look-up in the committed part
+  pub in_blocks : (o : Option (Committed C)) (q : List ℕ) → option_map (λ block. block.content) (find (has_block_id q) (blocks_of o)) ≡ option_and_then (committed_content q) o
   in_blocks None q = refl
   in_blocks (Some c) q = refl
 
-  -- a look-up in the index finds the content of the first committed block of the id
-  pub find_index : (o : Option (Committed C)) (es : List (List ℕ × C)) (q : List ℕ) → IsIndex o es → finite.find name_cmp q es ≡ option_and_then (committed_content q) o
-  find_index o es q index =
-      ap (finite.find name_cmp q) index ∙ sym (get-entries (first_contents (blocks_of o)) q)
-      ∙ get-from_entries names_total (flat_map id_entries (blocks_of o)) q ∙ find-id_entries (blocks_of o) q ∙ in_blocks o q
+-- a look-up in the index of blocks finds the content of the first block of the id
+pub find_first : {C : Type 0} (bs : List (Block C)) (es : List (List ℕ × C)) (q : List ℕ) → IsIndex bs es
+    → finite.find name_cmp q es ≡ option_map (λ block. block.content) (find (has_block_id q) bs)
+find_first bs es q index =
+    ap (finite.find name_cmp q) index ∙ sym (get-entries (first_contents bs) q)
+    ∙ get-from_entries names_total (flat_map id_entries bs) q ∙ find-id_entries bs q
 
 module _ {C : Type 0} where
   no_contents : entries (finite.empty {X = C} {R = name_cmp}) ≡ []

@@ -25,6 +25,6 @@ abbrev pub blocks_of : {C : Type 0} → Option (Committed C) → List (Block C)
 blocks_of None = []
 blocks_of (Some c) = c.blocks
 
--- the entries are the content of a committed part by its ids, in the order of the ids
-abbrev pub IsIndex : {C : Type 0} → Option (Committed C) → List (List ℕ × C) → Type 0
-IsIndex committed es = es ≡ entries (first_contents (blocks_of committed))
+-- the entries are the content of blocks by their ids, in the order of the ids
+abbrev pub IsIndex : {C : Type 0} → List (Block C) → List (List ℕ × C) → Type 0
+IsIndex blocks es = es ≡ entries (first_contents blocks)

@@ -1,7 +1,6 @@
 //! Block lists: where their blocks are found, and what a commit makes of them.
 ghost use Rattle.std.specs.Prelude.{◌≡◌, ◌↔◌, ◌<◌, ◌≤◌, ◌+◌, ◌++◌, ◌∷◌, [], ℕ, IsTrue, IfOk, IfErr, OnOk, OnErr, MatchOption, Some, None, map, sum_by};
 ghost use Rattle.std.specs.Option.{option_copied, option_map};
-ghost use Rattle.std.specs.Map.Iter.{deref_pair};
 ghost use Rattle.stamp_values.specs.Limits.{blob_limit};
 ghost use Rattle.stamp_types.specs.Changes.{are_blocks, blocks_len};
 ghost use Rattle.stamp_types.specs.Pieces.{pieces_len};
@@ -10,11 +9,11 @@ ghost use Rattle.block_blobs.specs.BlobChanges.{blob_of_list};
 ghost use Rattle.block_blobs.specs.BlockLists as lists;
 ghost use Rattle.block_blobs.specs.BlockLists.{EachInOnePiece, Leaves};
 ghost use Rattle.block_blobs.specs.Faults.{IsFault};
-ghost use Rattle.block_blobs.specs.FirstBlocks.{IsIndex, blocks_of};
+ghost use Rattle.block_blobs.specs.FirstBlocks.{blocks_of};
 
 use crate::blob_row::BlobRow;
 use crate::block_fault::BlockFault;
-use crate::first_blocks::{FirstBlocks, first_blocks, first_content};
+use crate::committed_blocks::CommittedBlocks;
 use crate::next_blocks::NextBlocks;
 use stamp_types::{
     BLOB_LIMIT, Block, BlockId, Committed, ENTRIES_LIMIT, Items, Lookup, Pieces, PutBlockList,
@@ -135,46 +134,52 @@ impl BlobRow {
     }
 
     // The content of the block of an id, if there is one in the source.
-    #[tactic(auto, using(crate::proofs::FirstContents::find_index))]
+    #[tactic(auto, using(crate::proofs::FirstContents::in_blocks))]
     fn content<'a>(
         &'a self,
-        first: &FirstBlocks<'a>,
+        alloc: Global,
+        committed: &mut CommittedBlocks<'a>,
         next: &mut NextBlocks<'a>,
         from: Source,
         id: &'a BlockId,
-    ) -> Option<&'a Pieces>
-        requires committed { IsIndex self.now.committed (map deref_pair first.now.entries) }
+    ) -> Result<Option<&'a Pieces>, AllocError>
+        requires committed { committed.old ≡ blocks_of self.now.committed }
         requires uncommitted { next.old ≡ self.now.uncommitted }
-        ensures content { option_copied result ≡ content_from from id.now self.now }
+        ensures content { IfOk result (λ content.
+            option_copied content ≡ content_from from id.now self.now) }
+        ensures same_committed { committed.new ≡ committed.old }
         ensures same { next.new ≡ next.old }
     {
         match from {
-            Source::Uncommitted => next.content(id),
-            Source::Committed => first_content(first, id),
+            Source::Uncommitted => Ok(next.content(id)),
+            Source::Committed => committed.content(alloc, id),
         }
     }
 
     // Where a wanted block is found, and its content.
     fn find<'a>(
         &'a self,
-        first: &FirstBlocks<'a>,
+        alloc: Global,
+        committed: &mut CommittedBlocks<'a>,
         next: &mut NextBlocks<'a>,
         wanted: &'a Wanted,
-    ) -> Option<(Source, &'a Pieces)>
-        requires committed { IsIndex self.now.committed (map deref_pair first.now.entries) }
+    ) -> Result<Option<(Source, &'a Pieces)>, AllocError>
+        requires committed { committed.old ≡ blocks_of self.now.committed }
         requires uncommitted { next.old ≡ self.now.uncommitted }
-        ensures found { MatchOption result (lists.source_of self.now wanted.now ≡ None)
+        ensures found { IfOk result (λ found. MatchOption found
+            (lists.source_of self.now wanted.now ≡ None)
             (λ found. (lists.source_of self.now wanted.now ≡ Some found.0)
-            × (pieces_len found.1.now ≡ lists.wanted_len self.now wanted.now)) }
+            × (pieces_len found.1.now ≡ lists.wanted_len self.now wanted.now))) }
+        ensures same_committed { committed.new ≡ committed.old }
         ensures same { next.new ≡ next.old }
     {
         let sources = sources_of(wanted.lookup);
         for source in sources {
-            if let Some(content) = self.content(first, next, *source, &wanted.id) {
-                return Some((*source, content));
+            if let Some(content) = self.content(alloc, committed, next, *source, &wanted.id)? {
+                return Ok(Some((*source, content)));
             }
         }
-        None
+        Ok(None)
     }
 
     // Where each wanted block is found, in their order, and how much room the blocks leave of 268,435,456
@@ -182,10 +187,8 @@ impl BlobRow {
     fn found_sources<'a>(
         &'a self,
         alloc: Global,
-        first: &FirstBlocks<'a>,
         wanted: &'a [Wanted],
     ) -> Result<(Vec<Source>, Option<u64>), BlockFault>
-        requires { IsIndex self.now.committed (map deref_pair first.now.entries) }
         ensures value { IfOk result (λ p. p.0.items ≡ lists.found_sources self.now wanted.now) }
         ensures room { IfOk result (λ p.
             Leaves p.1 (sum_by (lists.wanted_len self.now) wanted.now)) }
@@ -194,10 +197,11 @@ impl BlobRow {
             (IsFault (option_map BlockFault.NotFound (lists.first_missing self.now wanted.now))) }
     {
         let mut found = Vec::with_capacity(alloc, wanted.len())?;
+        let mut committed = CommittedBlocks::new(self.committed_blocks());
         let mut next = NextBlocks::new(self.uncommitted_blocks());
         let mut room = Some(BLOB_LIMIT);
         for (position, entry) in wanted.iter().enumerate() {
-            let Some((from, content)) = self.find(first, &mut next, entry) else {
+            let Some((from, content)) = self.find(alloc, &mut committed, &mut next, entry)? else {
                 return Err(BlockFault::NotFound(position));
             };
             room = room_after(room, content.len());
@@ -223,8 +227,7 @@ impl BlobRow {
         ensures fits { OnOk result (lists.wanted_fault self.now wanted.now ≡ None) }
         ensures fault { IfErr result (IsFault (lists.wanted_fault self.now wanted.now)) }
     {
-        let first = first_blocks(alloc, self.committed_blocks())?;
-        let (found, room) = self.found_sources(alloc, &first, wanted)?;
+        let (found, room) = self.found_sources(alloc, wanted)?;
         if wanted.len() > ENTRIES_LIMIT {
             return Err(BlockFault::TooMany);
         }
@@ -247,11 +250,12 @@ impl BlobRow {
         ensures missing { IfErr result
             (IsFault (option_map BlockFault.NotFound (lists.first_absent self.now entries.now))) }
     {
-        let first = first_blocks(alloc, self.committed_blocks())?;
+        let mut committed = CommittedBlocks::new(self.committed_blocks());
         let mut next = NextBlocks::new(self.uncommitted_blocks());
         let mut blocks = Vec::with_capacity(alloc, entries.len())?;
         for (i, entry) in entries.iter().enumerate() {
-            let Some(content) = self.content(&first, &mut next, entry.from, &entry.id) else {
+            let content = self.content(alloc, &mut committed, &mut next, entry.from, &entry.id)?;
+            let Some(content) = content else {
                 return Err(BlockFault::NotFound(i));
             };
             push_unnamed(&mut blocks, content)?;

@@ -4,6 +4,7 @@
 mod blob_row;
 mod block_fault;
 mod block_lists;
+mod committed_blocks;
 mod content_by_id;
 mod first_blocks;
 mod laws;
