@@ -11,7 +11,8 @@ fn an_excluded_block_is_tried_once_more(rt: HostRuntime) {
     let mut wire = script(&rt, alloc, &[D, L, R, D, D, D], &YES);
     let one = block(&rt, alloc, 7, 3);
     assert_eq!(rt; append(&mut stream, &one, &mut wire), Told::At(1, 0));
-    assert_eq!(rt; stream.extent_count(), 2);
+    assert!(rt; stream.extent_count() == 2);
+    assert_eq!(rt; stream.extent_len(0), 0);
     assert_eq!(rt; read(&stream, 0, 0, &mut wire), Told::Nothing);
     assert_eq!(rt; read(&stream, 1, 0, &mut wire), Told::Read(7, 3));
 }
@@ -48,6 +49,35 @@ fn a_doubt_is_dropped(rt: HostRuntime) {
     assert_eq!(rt; append(&mut stream, &one, &mut wire), Told::Doubt);
     assert_eq!(rt; settle(&mut stream, &mut wire), Told::Dropped);
     assert_eq!(rt; append(&mut stream, &one, &mut wire), Told::At(1, 0));
+}
+
+#[test]
+fn an_append_keeps_an_older_doubt(rt: HostRuntime) {
+    let alloc = rt.alloc();
+    let mut stream = Stream::new(alloc, 268_435_456);
+    let asks = [false, false, false, true, false, false];
+    let mut wire = script(&rt, alloc, &[D, R, R], &asks);
+    let (one, two) = (block(&rt, alloc, 7, 3), block(&rt, alloc, 8, 2));
+    assert_eq!(rt; append(&mut stream, &one, &mut wire), Told::Doubt);
+    let place = stream.next_place();
+    assert!(rt; !stream.has_block(place));
+    assert_eq!(rt; append(&mut stream, &two, &mut wire), Told::At(1, 0));
+    assert!(rt; stream.has_block(place));
+    assert_eq!(rt; read(&stream, 0, 0, &mut wire), Told::Read(7, 3));
+}
+
+#[test]
+fn an_append_drops_an_older_doubt(rt: HostRuntime) {
+    let alloc = rt.alloc();
+    let mut stream = Stream::new(alloc, 268_435_456);
+    let asks = [false, false, false, false, true, false];
+    let mut wire = script(&rt, alloc, &[D, R, R], &asks);
+    let (one, two) = (block(&rt, alloc, 7, 3), block(&rt, alloc, 8, 2));
+    assert_eq!(rt; append(&mut stream, &one, &mut wire), Told::Doubt);
+    let place = stream.next_place();
+    assert_eq!(rt; append(&mut stream, &two, &mut wire), Told::At(1, 0));
+    assert!(rt; !stream.has_block(place));
+    assert_eq!(rt; read(&stream, 0, 0, &mut wire), Told::Nothing);
 }
 
 #[test]
