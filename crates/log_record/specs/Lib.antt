@@ -1,0 +1,7 @@
+pub mod Fits
+pub mod Forms
+pub mod Outcomes
+pub mod ReadFields
+pub mod ReadRecords
+pub mod Reading
+pub mod Records

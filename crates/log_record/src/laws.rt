@@ -1,0 +1,13 @@
+//! Laws of records. Each law is the contract of a function that does nothing.
+ghost use Rattle.log_record.specs.ReadRecords.{IsPrefixFree, SaysOneChange};
+
+/// If two records are at the front of the same bytes, then they are records of one change, and the
+/// same bytes follow both. So no record is the beginning of another record.
+pub fn no_record_begins_another()
+    ensures { IsPrefixFree }
+{}
+
+/// Two changes with the same record are the same change.
+pub fn a_record_says_one_change()
+    ensures { SaysOneChange }
+{}

@@ -1,0 +1,22 @@
+//! Changes of containers as bytes and back: the records of a log, version 1.
+#![tactic(auto)]
+
+mod access;
+mod acts;
+mod blob_acts;
+mod blocks;
+mod container_acts;
+mod content;
+mod field;
+mod kept;
+mod laws;
+mod left;
+mod lists;
+mod record;
+mod record_fault;
+mod rows;
+mod values;
+
+pub use laws::{a_record_says_one_change, no_record_begins_another};
+pub use record::{read_change, write_change};
+pub use record_fault::RecordFault;
