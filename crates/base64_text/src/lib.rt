@@ -3,4 +3,4 @@
 
 mod reading;
 
-pub use reading::{append_base64, decoded_base64, is_base64_within};
+pub use reading::{append_base64, decoded_base64, is_base64_within, write_base64};

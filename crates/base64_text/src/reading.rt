@@ -1,6 +1,6 @@
 //! The text of bytes in Base64, and the bytes of a text.
-ghost use Rattle.std.specs.Prelude.{◌≡◌, ◌++◌, IfOk, IfSome, OnOk, option_map, string_bytes};
-ghost use Rattle.base64_text.specs.Base64.{standard, encode_of, decoded_of, IsBytes};
+ghost use Rattle.std.specs.Prelude.{◌≡◌, ◌≢◌, ◌++◌, ℕ, List, IfOk, IfSome, None, OnOk, option_map, string_bytes};
+ghost use Rattle.base64_text.specs.Base64.{standard, base64_of, decoded_of, IsBytes};
 ghost use Rattle.base64_text.specs.Base64 as base64;
 
 use base64::DecodeAllocError;
@@ -13,7 +13,10 @@ use std::alloc::{AllocError, Global};
 /// `AllocError` if memory runs out.
 pub fn decoded_base64(alloc: Global, text: &[u8]) -> Result<Option<Vec<u8>>, AllocError>
     ensures value { IfOk result (λ o. option_map (λ v. v.items) o ≡ decoded_of standard text.now) }
-    ensures read { IfOk result (λ o. IfSome o (λ v. text.now ≡ encode_of standard v.items)) }
+    ensures read { IfOk result (λ o. IfSome o (λ v. text.now ≡ base64_of v.items)) }
+    ensures bytes { IfOk result (λ o. IfSome o (λ v. IsBytes v.items)) }
+    ensures refused { IfOk result (λ o. o ≡ None
+        → (bytes : List ℕ) → IsBytes bytes → text.now ≢ base64_of bytes) }
 {
     match STANDARD.decode(alloc, text) {
         Ok(bytes) => Ok(Some(bytes)),
@@ -22,12 +25,21 @@ pub fn decoded_base64(alloc: Global, text: &[u8]) -> Result<Option<Vec<u8>>, All
     }
 }
 
+/// The Base64 of the bytes, padded (RFC 4648, section 4).
+///
+/// `AllocError` if memory runs out.
+pub fn write_base64(alloc: Global, bytes: &[u8]) -> Result<String, AllocError>
+    ensures { IfOk result (λ text. string_bytes text ≡ base64_of bytes.now) }
+{
+    STANDARD.encode(alloc, bytes)
+}
+
 /// Appends the Base64 of the bytes, padded (RFC 4648, section 4).
 ///
 /// `AllocError` if memory runs out.
 pub fn append_base64(out: &mut String, bytes: &[u8]) -> Result<(), AllocError>
     ensures { OnOk result
-        (string_bytes out.new ≡ string_bytes out.old ++ encode_of standard bytes.now) }
+        (string_bytes out.new ≡ string_bytes out.old ++ base64_of bytes.now) }
 {
     STANDARD.encode_string(bytes, out)
 }

@@ -1,11 +1,10 @@
 //! Keys as texts in Base64.
 ghost use Rattle.std.specs.Prelude.{◌≡◌, ◌≢◌, ℕ, List, Err, IfOk};
-ghost use Rattle.base64.specs.GeneralPurpose.{IsBytes};
-ghost use Rattle.hmac_sign.specs.Signature.{base64_of};
+ghost use Rattle.hmac_sign.specs.Signature.{IsBytes, base64_of};
+ghost use Rattle.hmac_sign.specs.declared.secret.SecretFault.TheVariants as fault;
 
-use base64::DecodeAllocError;
-use base64::engine::general_purpose::STANDARD;
-use std::alloc::Global;
+use base64_text::decoded_base64;
+use std::alloc::{AllocError, Global};
 use thiserror::Error;
 
 /// Why a text did not give a key.
@@ -19,6 +18,14 @@ pub enum SecretFault {
     NoMemory,
 }
 
+impl From<AllocError> for SecretFault {
+    ghost from_gives = { λ _ e. e ≡ fault.NoMemory };
+
+    fn from(_error: AllocError) -> Self {
+        Self::NoMemory
+    }
+}
+
 /// The key whose Base64 is the text. The text has to be padded, without any other byte, and no bit may be left over. An empty
 /// text gives the empty key.
 ///
@@ -29,8 +36,8 @@ pub fn read_key(alloc: Global, text: &[u8]) -> Result<Vec<u8>, SecretFault>
     ensures refused { (result ≡ Err SecretFault.NotBase64)
         → (key : List ℕ) → IsBytes key → text.now ≢ base64_of key }
 {
-    STANDARD.decode(alloc, text).map_err(|fault| match fault {
-        DecodeAllocError::DecodeError(_) => SecretFault::NotBase64,
-        DecodeAllocError::OutOfMemory => SecretFault::NoMemory,
-    })
+    match decoded_base64(alloc, text)? {
+        Some(key) => Ok(key),
+        None => Err(SecretFault::NotBase64),
+    }
 }

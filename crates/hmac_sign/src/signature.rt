@@ -3,7 +3,7 @@ ghost use Rattle.std.specs.Prelude.{◌≡◌, IfOk, string_bytes};
 ghost use Rattle.hmac_sign.specs.Signature.{signature_of};
 
 use crate::hmac;
-use base64::engine::general_purpose::STANDARD;
+use base64_text::write_base64;
 use std::alloc::{AllocError, Global};
 
 /// The signature of `message` under `key`: its HMAC in Base64, 44 characters.
@@ -12,5 +12,5 @@ use std::alloc::{AllocError, Global};
 pub fn sign(alloc: Global, key: &[u8], message: &[u8]) -> Result<String, AllocError>
     ensures { IfOk result (λ text. string_bytes text ≡ signature_of key.now message.now) }
 {
-    STANDARD.encode(alloc, &hmac(key, message))
+    write_base64(alloc, &hmac(key, message))
 }

@@ -6,7 +6,7 @@ ghost use Rattle.hmac_sign.specs.Hmac.{hmac_of};
 ghost use Rattle.hmac_sign.specs.Signature.{signature_of};
 
 use crate::code::{code_of, padded_hashers};
-use base64::engine::general_purpose::STANDARD;
+use base64_text::write_base64;
 use sha2::Sha256;
 use std::alloc::{AllocError, Global};
 use std::fmt;
@@ -65,7 +65,7 @@ impl SigningKey {
     pub fn sign(&self, alloc: Global, message: &[u8]) -> Result<String, AllocError>
         ensures { IfOk result (λ text. string_bytes text ≡ signature_of self.now message.now) }
     {
-        STANDARD.encode(alloc, &self.hmac(message))
+        write_base64(alloc, &self.hmac(message))
     }
 }
 

@@ -1,7 +1,7 @@
 -- Replies as bytes (RFC 9112, sections 4, 6.1 and 9.6; RFC 9110, sections 6.6.1, 9.3.2, 15 and 15.4.5).
 use Rattle.std.specs.Prelude.{ℕ, Bool, true, false, Option, Some, None, List, [], ◌++◌, codes, decimal, flat_map, unwrap_or, ◌||◌, not, if◌then◌else◌}
 use Rattle.http.specs.StatusCode.{reason_phrase}
-use Rattle.reply_form.specs.HeaderLines.{line, header_line}
+use Rattle.reply_form.specs.HeaderLines.{line, reply_line}
 use Rattle.moment_text.specs.Http.{http_text}
 use Rattle.stamp_types.specs.Rules.{rule_label}
 use Rattle.stamp_types.specs.Statuses.{status_number}
@@ -59,7 +59,7 @@ head_bytes reply moment close =
     ++ line (codes "Date") (http_text moment)
     ++ line (codes "x-ms-version") (codes "2012-02-12")
     ++ rule_line reply.rule
-    ++ flat_map header_line reply.headers
+    ++ flat_map reply_line reply.headers
     ++ connection_line close
     ++ length_line reply.status reply.length
     ++ codes "\r\n"

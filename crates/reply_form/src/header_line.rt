@@ -1,8 +1,9 @@
 //! Header lines of replies.
-ghost use Rattle.std.specs.Prelude.{◌≡◌, ◌++◌, IfOk, OnOk, codes, decimal, flat_map, string_bytes};
-ghost use Rattle.reply_form.specs.HeaderLines.{line, md5_text, level_line, range_text, header_line};
+ghost use Rattle.std.specs.Prelude.{◌≡◌, ◌++◌, OnOk, codes, decimal, flat_map};
+ghost use Rattle.base64_text.specs.Base64.{base64_of};
+ghost use Rattle.reply_form.specs.HeaderLines.{line, level_line, sent_range_text, reply_line};
 
-use base64::engine::general_purpose::STANDARD;
+use base64_text::write_base64;
 use itoa::Buffer;
 use moment_text::write_http;
 use stamp_types::{Header, Level, Meta, SentRange, write_etag};
@@ -59,7 +60,7 @@ fn append_marked(out: &mut Vec<u8>, mark: &str, number: u64) -> Result<(), Alloc
 #[tactic(auto, unfolding(crate::specs::HeaderLines::line))]
 fn append_range(out: &mut Vec<u8>, range: SentRange) -> Result<(), AllocError>
     ensures { OnOk result
-        (out.new.items ≡ out.old.items ++ line (codes "Content-Range") (range_text range)) }
+        (out.new.items ≡ out.old.items ++ line (codes "Content-Range") (sent_range_text range)) }
 {
     append_marked(out, "Content-Range: bytes ", range.first)?;
     append_marked(out, "-", range.last)?;
@@ -78,19 +79,12 @@ fn append_level(out: &mut Vec<u8>, level: Level) -> Result<(), AllocError>
     }
 }
 
-// An MD5 in Base64 (RFC 1864; RFC 4648, section 4).
-#[tactic(auto, unfolding(crate::specs::HeaderLines::md5_text))]
-fn md5_text(alloc: Global, md5: &[u8; 16]) -> Result<String, AllocError>
-    ensures { IfOk result (λ text. string_bytes text ≡ md5_text md5.now) }
-{
-    STANDARD.encode(alloc, md5)
-}
-
+// The line of an MD5 (RFC 1864).
 fn append_md5(alloc: Global, out: &mut Vec<u8>, md5: &[u8; 16]) -> Result<(), AllocError>
     ensures { OnOk result
-        (out.new.items ≡ out.old.items ++ line (codes "Content-MD5") (md5_text md5.now)) }
+        (out.new.items ≡ out.old.items ++ line (codes "Content-MD5") (base64_of md5.now)) }
 {
-    let text = md5_text(alloc, md5)?;
+    let text = write_base64(alloc, md5)?;
     append_line(out, "Content-MD5", text.as_bytes())
 }
 
@@ -102,7 +96,7 @@ pub(crate) fn append_header(
     out: &mut Vec<u8>,
     header: &Header,
 ) -> Result<(), AllocError>
-    ensures { OnOk result (out.new.items ≡ out.old.items ++ header_line header.now) }
+    ensures { OnOk result (out.new.items ≡ out.old.items ++ reply_line header.now) }
 {
     match header {
         Header::ContentType(value) => append_line(out, "Content-Type", value.as_str().as_bytes()),
@@ -136,7 +130,7 @@ pub(crate) fn append_headers(
     out: &mut Vec<u8>,
     headers: &[Header],
 ) -> Result<(), AllocError>
-    ensures { OnOk result (out.new.items ≡ out.old.items ++ flat_map header_line headers.now) }
+    ensures { OnOk result (out.new.items ≡ out.old.items ++ flat_map reply_line headers.now) }
 {
     for header in headers {
         append_header(alloc, out, header)?;

@@ -2,7 +2,7 @@
 ghost use Rattle.std.specs.Prelude.{◌≡◌, ◌++◌, IfOk, OnOk, codes};
 ghost use Rattle.std.specs.List.{concat};
 ghost use Rattle.moment_text.specs.Http.{http_text};
-ghost use Rattle.reply_form.specs.HeaderLines.{line, header_line};
+ghost use Rattle.reply_form.specs.HeaderLines.{line, reply_line};
 ghost use Rattle.reply_form.specs.ReplyBytes.{phrase, status_line, rule_line, connection_line, length_line, is_not_modified, is_head, sends_body, head_bytes, reply_bytes};
 
 use crate::header_line::{append_headers, append_line, append_number_line};
