@@ -83,10 +83,7 @@ impl Head {
         ensures { IfOk result (λ q. q ≡ head_forms.with_body self body) }
     {
         let body = body_by(self.ask.signing.verb, body);
-        let Some(request) = Request::new(alloc, self.ask, body)? else {
-            unreachable!()
-        };
-        Ok(request)
+        Request::fitting(alloc, self.ask, body)
     }
 }
 
