@@ -6,8 +6,8 @@ use Rattle.std.proofs.KnownBytes.{Consumes-nil, Consumes-trans, Appends-trans}
 use Rattle.request_form.specs.declared.denial.Denial.{Denial}
 use Rattle.http_front.specs.declared.end.FrontFault.{FrontFault}
 use Rattle.http_front.specs.declared.end.FrontFault.TheVariants.{Read, Write, Turns, NoMemory}
-use Rattle.http_front.specs.declared.input.Found.{Found}
-use Rattle.http_front.specs.declared.input.Found.TheVariants as Founds
+use Rattle.http_front.specs.declared.input.NextItem.{NextItem}
+use Rattle.http_front.specs.declared.input.NextItem.TheVariants as next_item
 use Rattle.http_front.specs.declared.input.Call.{Call}
 use Rattle.http_front.specs.HeadEnds.{head_len}
 use Rattle.request_form.specs.HeadForms.{Form}
@@ -158,7 +158,7 @@ module _ (U : Type 0) (u : U) (form : Form) (count : ℕ) (left left' left'' hel
   takes_whole : (body : List ℕ) → ReadsMore {T = U} (Ok u) left left' buffer headed → Appends held held' [] → turns + length buffer ≤ turns' + length headed
       → length headed + turns' * read_size ≤ length buffer + turns * read_size
       → ReadsBody (Ok body) form count left' left'' held' held'' headed buffer' turns' turns''
-      → ReadsItem (Ok (Some (Founds.Called (call_of form body)))) left left'' held held'' buffer buffer' turns turns''
+      → ReadsItem (Ok (Some (next_item.Called (call_of form body)))) left left'' held held'' buffer buffer' turns turns''
   takes_whole body first none spent bound b = record {
     more = first.more ++ b.more;
     consumed = Consumes-trans left left' left'' first.more b.more first.consumed b.consumed;
@@ -171,7 +171,7 @@ module _ (U : Type 0) (u : U) (form : Form) (count : ℕ) (left left' left'' hel
 
   takes_starved : (body : List ℕ) (fault : FrontFault) → fault ≡ NoMemory → ReadsMore {T = U} (Ok u) left left' buffer headed → Appends held held' []
       → ReadsBody (Ok body) form count left' left'' held' held'' headed buffer' turns' turns''
-      → UnlessWriteFailed {T = Option Found} (Err fault) (ReadsItem (Err fault) left left'' held held'' buffer buffer' turns turns'')
+      → UnlessWriteFailed {T = Option NextItem} (Err fault) (ReadsItem (Err fault) left left'' held held'' buffer buffer' turns turns'')
   takes_starved body NoMemory is first none b = record {
     more = first.more ++ b.more;
     consumed = Consumes-trans left left' left'' first.more b.more first.consumed b.consumed;
@@ -188,7 +188,7 @@ module _ (U : Type 0) (u : U) (form : Form) (count : ℕ) (left left' left'' hel
   takes_cut : (fault : FrontFault) → ReadsMore {T = U} (Ok u) left left' buffer headed → Appends held held' [] → turns + length buffer ≤ turns' + length headed
       → length headed + turns' * read_size ≤ length buffer + turns * read_size
       → UnlessWriteFailed {T = List ℕ} (Err fault) (ReadsBody (Err fault) form count left' left'' held' held'' headed buffer' turns' turns'')
-      → UnlessWriteFailed {T = Option Found} (Err fault) (ReadsItem (Err fault) left left'' held held'' buffer buffer' turns turns'')
+      → UnlessWriteFailed {T = Option NextItem} (Err fault) (ReadsItem (Err fault) left left'' held held'' buffer buffer' turns turns'')
   takes_cut Read first none spent bound b = record {
     more = first.more ++ b.more;
     consumed = Consumes-trans left left' left'' first.more b.more first.consumed b.consumed;
@@ -219,7 +219,7 @@ module _ (U : Type 0) (u : U) (form : Form) (count : ℕ) (left left' left'' hel
   }
 
   -- the bytes that came until the head was whole, and the bytes that came for its body
-  pub takes_of : (result : Result (Option Found) FrontFault) (o : Result (List ℕ) FrontFault)
+  pub takes_of : (result : Result (Option NextItem) FrontFault) (o : Result (List ℕ) FrontFault)
       → ReadsMore {T = U} (Ok u) left left' buffer headed → Appends held held' [] → turns + length buffer ≤ turns' + length headed
       → length headed + turns' * read_size ≤ length buffer + turns * read_size
       → UnlessWriteFailed o (ReadsBody o form count left' left'' held' held'' headed buffer' turns' turns'') → IsCallOfBody form o result
@@ -231,17 +231,17 @@ module _ (U : Type 0) (u : U) (form : Form) (count : ℕ) (left left' left'' hel
       subst (λ r. UnlessWriteFailed r (ReadsItem r left left'' held held'' buffer buffer' turns turns'')) (sym j) (takes_cut fault first none spent bound b)
 
 -- a request makes the measure less
-pub less_of : (P Q : Type 0) (result : Result (Option Found) FrontFault) (o : Result (List ℕ) FrontFault) (form : Form) (call : Call)
-    → OnOk o P → IsCallOfBody form o result → result ≡ Ok (Some (Founds.Called call)) → (P → Q) → Q
+pub less_of : (P Q : Type 0) (result : Result (Option NextItem) FrontFault) (o : Result (List ℕ) FrontFault) (form : Form) (call : Call)
+    → OnOk o P → IsCallOfBody form o result → result ≡ Ok (Some (next_item.Called call)) → (P → Q) → Q
 less_of P Q result (Ok body) form call p j is f = f p
-less_of P Q result (Err fault) form call p j is f = absurd (let h : Err fault ≡ Ok (Some (Founds.Called call)) = sym j ∙ is in cc)
+less_of P Q result (Err fault) form call p j is f = absurd (let h : Err fault ≡ Ok (Some (next_item.Called call)) = sym j ∙ is in cc)
 
 -- a head that is refused
 pub takes_refused : (U : Type 0) (u : U) (denial : Denial) (count : ℕ) (left left' held held' : Option (List ℕ)) (buffer headed : List ℕ) (turns turns' : ℕ)
     → ReadsMore {T = U} (Ok u) left left' buffer headed → Appends held held' [] → turns + length buffer ≤ turns' + length headed
     → length headed + turns' * read_size ≤ length buffer + turns * read_size
     → head_len headed ≡ Some count → Refuses (take count headed) denial
-    → ReadsItem (Ok (Some (Founds.Refused denial))) left left' held held' buffer headed turns turns'
+    → ReadsItem (Ok (Some (next_item.Refused denial))) left left' held held' buffer headed turns turns'
 takes_refused U u denial count left left' held held' buffer headed turns turns' first none spent bound ends refused = record {
   more = first.more;
   consumed = first.consumed;

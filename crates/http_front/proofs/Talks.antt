@@ -11,8 +11,8 @@ use Rattle.http_front.specs.declared.end.End.TheVariants.{Clean, Closed}
 use Rattle.http_front.specs.declared.end.FrontFault.{FrontFault}
 use Rattle.http_front.specs.declared.end.FrontFault.TheVariants.{Read, Write, Turns, NoMemory}
 use Rattle.http_front.specs.declared.input.Call.{Call}
-use Rattle.http_front.specs.declared.input.Found.{Found}
-use Rattle.http_front.specs.declared.input.Found.TheVariants as Founds
+use Rattle.http_front.specs.declared.input.NextItem.{NextItem}
+use Rattle.http_front.specs.declared.input.NextItem.TheVariants as next_item
 use Rattle.http_front.specs.Answers.{LeavesItemUnanswered, AnswersCall, LeavesRequestUnanswered, AnswersItem}
 use Rattle.http_front.specs.Conversations.{Exchange, item_of, moment_of, bytes_of, ClockGives, ServiceRepliesTo, ServiceReplies, EndsAs, AnswersInput, AnswersReceived, IsInterimOrNothing, StopsBeforeOrAtItem, StopsAtItem, EndsOutOfMemory}
 use Rattle.http_front.specs.Conversations.Exchange.{Answered, RefusedAt}
@@ -47,12 +47,12 @@ pub record Step {C S : Type 0} (gives : C → ℕ → C → Type 0) (answers : S
   pub written : Appends held held' (bytes_of exchange)
 
 pub step_of : {C S : Type 0} (gives : C → ℕ → C → Type 0) (answers : S → Asked → ℕ → Reply → S → Type 0)
-    (clock clock' : C) (world world' : S) (held held' held'' : Option (List ℕ)) (bytes rest written : List ℕ) (found : Found) (closes : Bool)
+    (clock clock' : C) (world world' : S) (held held' held'' : Option (List ℕ)) (bytes rest written : List ℕ) (found : NextItem) (closes : Bool)
     → IsFoundAtFront (Ok (Some found)) bytes rest written → Appends held held' written
     → AnswersItem gives answers clock clock' world world' held' held'' found closes
     → Step gives answers clock clock' world world' held held'' bytes rest closes
 unfolding bytes_of
-step_of gives answers clock clock' world world' held held' held'' bytes rest written (Founds.Called call) closes f w s =
+step_of gives answers clock clock' world world' held held' held'' bytes rest written (next_item.Called call) closes f w s =
     let a = subst (λ k. AnswersCall answers world world' held' held'' k s.moment) f.3 s.answered.0 in record {
       exchange = Answered f.0 f.1 s.moment a.reply;
       begins = f.2;
@@ -61,7 +61,7 @@ step_of gives answers clock clock' world world' held held' held'' bytes rest wri
       replied = a.replied;
       written = Appends-trans held held' held'' (interim f.0) _ (subst (Appends held held') f.4 w) a.written;
     }
-step_of gives answers clock clock' world world' held held' held'' bytes rest written (Founds.Refused denial) closes f w s = record {
+step_of gives answers clock clock' world world' held held' held'' bytes rest written (next_item.Refused denial) closes f w s = record {
   exchange = RefusedAt denial s.moment;
   begins = f.0;
   closing = sym s.answered.2;
@@ -160,7 +160,7 @@ module _ {C S : Type 0} (gives : C → ℕ → C → Type 0) (answers : S → As
 
   -- an item that doesn't close
   pub serving_more : (clock clock' clock'' : C) (world world' world'' : S) (left left' left'' held held' held'' held''' : Option (List ℕ))
-      (buffer buffer' : List ℕ) (turns turns' turns'' : ℕ) (found : Found) (closes : Bool)
+      (buffer buffer' : List ℕ) (turns turns' turns'' : ℕ) (found : NextItem) (closes : Bool)
       → Serving gives answers clock clock' world world' left left' held held' buffer turns turns'
       → ReadsItem (Ok (Some found)) left' left'' held' held'' buffer buffer' turns' turns''
       → AnswersItem gives answers clock' clock'' world' world'' held'' held''' found closes → closes ≡ false
@@ -182,7 +182,7 @@ module _ {C S : Type 0} (gives : C → ℕ → C → Type 0) (answers : S → As
 
   -- an item that closes
   pub closed : (clock clock' clock'' : C) (world world' world'' : S) (left left' left'' held held' held'' held''' : Option (List ℕ))
-      (buffer buffer' : List ℕ) (turns turns' turns'' : ℕ) (found : Found) (closes : Bool)
+      (buffer buffer' : List ℕ) (turns turns' turns'' : ℕ) (found : NextItem) (closes : Bool)
       → Serving gives answers clock clock' world world' left left' held held' buffer turns turns'
       → ReadsItem (Ok (Some found)) left' left'' held' held'' buffer buffer' turns' turns''
       → AnswersItem gives answers clock' clock'' world' world'' held'' held''' found closes → closes ≡ true
@@ -247,7 +247,7 @@ module _ {C S : Type 0} (gives : C → ℕ → C → Type 0) (answers : S → As
 
   pub cut : (fault : FrontFault) (clock clock' : C) (world world' : S) (left left' left'' held held' held'' : Option (List ℕ)) (buffer buffer' : List ℕ) (turns turns' turns'' : ℕ)
       → Serving gives answers clock clock' world world' left left' held held' buffer turns turns'
-      → UnlessWriteFailed {T = Option Found} (Err fault) (ReadsItem (Err fault) left' left'' held' held'' buffer buffer' turns' turns'')
+      → UnlessWriteFailed {T = Option NextItem} (Err fault) (ReadsItem (Err fault) left' left'' held' held'' buffer buffer' turns' turns'')
       → UnlessWriteOrMemoryFailed {T = End} (Err fault) (AnswersReceived gives answers clock clock' world world' left left'' held held'' (Err fault) turns)
   cut Read clock clock' world world' left left' left'' held held' held'' buffer buffer' turns turns' turns'' serving takes = record {
     received = serving.received ++ takes.more;
@@ -271,9 +271,9 @@ module _ {C S : Type 0} (gives : C → ℕ → C → Type 0) (answers : S → As
 
 -- ---- memory ran out
 
-begun_of : (bytes rest written : List ℕ) (found : Found) → IsFoundAtFront (Ok (Some found)) bytes rest written → IsInterimOrNothing bytes written
-begun_of bytes rest written (Founds.Called call) f = inr (f.0, f.2.count, f.2.head, f.4)
-begun_of bytes rest written (Founds.Refused denial) f = inl f.1
+begun_of : (bytes rest written : List ℕ) (found : NextItem) → IsFoundAtFront (Ok (Some found)) bytes rest written → IsInterimOrNothing bytes written
+begun_of bytes rest written (next_item.Called call) f = inr (f.0, f.2.count, f.2.head, f.4)
+begun_of bytes rest written (next_item.Refused denial) f = inl f.1
 
 module _ {C S : Type 0} (gives : C → ℕ → C → Type 0) (answers : S → Asked → ℕ → Reply → S → Type 0) (starves : S → S → Type 0) where
   -- memory ran out at the item at the front
@@ -300,7 +300,7 @@ module _ {C S : Type 0} (gives : C → ℕ → C → Type 0) (answers : S → As
 
   pub starve_item : (fault : FrontFault) (clock clock' : C) (world world' : S) (left left' left'' held held' held'' : Option (List ℕ)) (buffer buffer' : List ℕ) (turns turns' turns'' : ℕ)
       → Serving gives answers clock clock' world world' left left' held held' buffer turns turns'
-      → UnlessWriteFailed {T = Option Found} (Err fault) (ReadsItem (Err fault) left' left'' held' held'' buffer buffer' turns' turns'')
+      → UnlessWriteFailed {T = Option NextItem} (Err fault) (ReadsItem (Err fault) left' left'' held' held'' buffer buffer' turns' turns'')
       → fault ≡ NoMemory → EndsOutOfMemory gives answers starves clock clock' world world' left left'' held held'' []
   starve_item NoMemory clock clock' world world' left left' left'' held held' held'' buffer buffer' turns turns' turns'' serving takes is =
       starve clock clock' clock' world world' world' left left' left'' held held' held'' buffer takes.more takes.written turns turns' serving takes.consumed takes.appended takes.found (inl (refl, refl))
@@ -308,9 +308,9 @@ module _ {C S : Type 0} (gives : C → ℕ → C → Type 0) (answers : S → As
   starve_item Turns clock clock' world world' left left' left'' held held' held'' buffer buffer' turns turns' turns'' serving takes is = absurd (cc)
   starve_item Write clock clock' world world' left left' left'' held held' held'' buffer buffer' turns turns' turns'' serving takes is = absurd (cc)
 
-  stops_at_item : (clock clock' : C) (world world' : S) (bytes rest written : List ℕ) (found : Found) → IsFoundAtFront (Ok (Some found)) bytes rest written
+  stops_at_item : (clock clock' : C) (world world' : S) (bytes rest written : List ℕ) (found : NextItem) → IsFoundAtFront (Ok (Some found)) bytes rest written
       → LeavesItemUnanswered gives answers starves clock clock' world world' found → StopsAtItem gives answers starves clock clock' world world' bytes written
-  stops_at_item clock clock' world world' bytes rest written (Founds.Called call) f a = record {
+  stops_at_item clock clock' world world' bytes rest written (next_item.Called call) f a = record {
     item = Requested f.0 f.1;
     rest = rest;
     begins = f.2;
@@ -319,7 +319,7 @@ module _ {C S : Type 0} (gives : C → ℕ → C → Type 0) (answers : S → As
     clock_gave = a.clock_gave;
     left = subst (λ (k : Call). LeavesRequestUnanswered answers starves world world' k.request a.moment) f.3 a.left;
   }
-  stops_at_item clock clock' world world' bytes rest written (Founds.Refused denial) f a = record {
+  stops_at_item clock clock' world world' bytes rest written (next_item.Refused denial) f a = record {
     item = Refused denial;
     rest = rest;
     begins = f.0;
@@ -329,7 +329,7 @@ module _ {C S : Type 0} (gives : C → ℕ → C → Type 0) (answers : S → As
     left = a.left;
   }
 
-  pub starve_answer : (found : Found) (clock clock' clock'' : C) (world world' world'' : S) (left left' left'' held held' held'' : Option (List ℕ)) (buffer buffer' : List ℕ) (turns turns' turns'' : ℕ)
+  pub starve_answer : (found : NextItem) (clock clock' clock'' : C) (world world' world'' : S) (left left' left'' held held' held'' : Option (List ℕ)) (buffer buffer' : List ℕ) (turns turns' turns'' : ℕ)
       → Serving gives answers clock clock' world world' left left' held held' buffer turns turns'
       → ReadsItem (Ok (Some found)) left' left'' held' held'' buffer buffer' turns' turns''
       → LeavesItemUnanswered gives answers starves clock' clock'' world' world'' found

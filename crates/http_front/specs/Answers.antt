@@ -6,8 +6,8 @@ use Rattle.stamp_types.specs.Replies.{denied}
 use Rattle.stamp_types.specs.declared.reply.Reply.{Reply}
 use Rattle.request_form.specs.declared.denial.Denial.{Denial}
 use Rattle.http_front.specs.declared.input.Call.{Call}
-use Rattle.http_front.specs.declared.input.Found.{Found}
-use Rattle.http_front.specs.declared.input.Found.TheVariants as Founds
+use Rattle.http_front.specs.declared.input.NextItem.{NextItem}
+use Rattle.http_front.specs.declared.input.NextItem.TheVariants as next_item
 use Rattle.reply_form.specs.ReplyBytes.{reply_bytes}
 use Rattle.http_front.specs.Streams.{refusal_of}
 
@@ -22,13 +22,13 @@ abbrev pub WritesRefusal : Option (List ℕ) → Option (List ℕ) → Denial �
 WritesRefusal held held' denial moment = Appends held held' (reply_bytes (denied (refusal_of denial)) moment denial.verb true)
 
 -- an item was answered; the service gets no refused head, and a refused head closes the connection
-abbrev pub IsAnswered : {S : Type 0} → (S → Asked → ℕ → Reply → S → Type 0) → S → S → Option (List ℕ) → Option (List ℕ) → Found → Bool → ℕ → Type 0
-IsAnswered answers world world' held held' (Founds.Called call) closes moment = AnswersCall answers world world' held held' call moment × (closes ≡ call.closes)
-IsAnswered answers world world' held held' (Founds.Refused denial) closes moment = WritesRefusal held held' denial moment × (world' ≡ world) × (closes ≡ true)
+abbrev pub IsAnswered : {S : Type 0} → (S → Asked → ℕ → Reply → S → Type 0) → S → S → Option (List ℕ) → Option (List ℕ) → NextItem → Bool → ℕ → Type 0
+IsAnswered answers world world' held held' (next_item.Called call) closes moment = AnswersCall answers world world' held held' call moment × (closes ≡ call.closes)
+IsAnswered answers world world' held held' (next_item.Refused denial) closes moment = WritesRefusal held held' denial moment × (world' ≡ world) × (closes ≡ true)
 
 -- the clock gave one moment, and an item was answered at it
 pub record AnswersItem {C S : Type 0} (gives : C → ℕ → C → Type 0) (answers : S → Asked → ℕ → Reply → S → Type 0)
-    (clock clock' : C) (world world' : S) (held held' : Option (List ℕ)) (found : Found) (closes : Bool) : Type 0 where
+    (clock clock' : C) (world world' : S) (held held' : Option (List ℕ)) (found : NextItem) (closes : Bool) : Type 0 where
   pub moment : ℕ
   pub clock_gave : gives clock moment clock'
   pub answered : IsAnswered answers world world' held held' found closes moment
@@ -38,13 +38,13 @@ abbrev pub LeavesRequestUnanswered : {S : Type 0} → (S → Asked → ℕ → R
 LeavesRequestUnanswered answers starves world world' request moment = starves world world' ⊎ ((reply : Reply) × answers world request moment reply world')
 
 -- an item wasn't answered; the service gets no refused head
-abbrev pub IsLeftUnanswered : {S : Type 0} → (S → Asked → ℕ → Reply → S → Type 0) → (S → S → Type 0) → S → S → Found → ℕ → Type 0
-IsLeftUnanswered answers starves world world' (Founds.Called call) moment = LeavesRequestUnanswered answers starves world world' call.request moment
-IsLeftUnanswered answers starves world world' (Founds.Refused denial) moment = world' ≡ world
+abbrev pub IsLeftUnanswered : {S : Type 0} → (S → Asked → ℕ → Reply → S → Type 0) → (S → S → Type 0) → S → S → NextItem → ℕ → Type 0
+IsLeftUnanswered answers starves world world' (next_item.Called call) moment = LeavesRequestUnanswered answers starves world world' call.request moment
+IsLeftUnanswered answers starves world world' (next_item.Refused denial) moment = world' ≡ world
 
 -- the clock gave one moment, and an item wasn't answered at it
 pub record LeavesItemUnanswered {C S : Type 0} (gives : C → ℕ → C → Type 0) (answers : S → Asked → ℕ → Reply → S → Type 0) (starves : S → S → Type 0)
-    (clock clock' : C) (world world' : S) (found : Found) : Type 0 where
+    (clock clock' : C) (world world' : S) (found : NextItem) : Type 0 where
   pub moment : ℕ
   pub clock_gave : gives clock moment clock'
   pub left : IsLeftUnanswered answers starves world world' found moment

@@ -11,8 +11,8 @@ use Rattle.http_front.specs.declared.end.FrontFault.TheVariants.{Write, Turns, N
 use Rattle.http_front.specs.declared.input.Awaited.{Awaited}
 use Rattle.http_front.specs.declared.input.Awaited.TheVariants.{Head, TooLong, End}
 use Rattle.http_front.specs.declared.input.Call.{Call}
-use Rattle.http_front.specs.declared.input.Found.{Found}
-use Rattle.http_front.specs.declared.input.Found.TheVariants as Founds
+use Rattle.http_front.specs.declared.input.NextItem.{NextItem}
+use Rattle.http_front.specs.declared.input.NextItem.TheVariants as next_item
 
 -- the most bytes that one read asks for
 abbrev pub read_size : ℕ
@@ -90,30 +90,30 @@ pub record ReadsBody (result : Result (List ℕ) FrontFault) (form : Form) (coun
   pub within : TurnsLimitBytes result turns turns' (length more)
 
 -- the result is the request that the head and its body make, unless memory runs out; or it is the fault that ended the body
-abbrev pub IsCallOfBody : Form → Result (List ℕ) FrontFault → Result (Option Found) FrontFault → Type 0
-IsCallOfBody form (Ok body) (Ok found) = found ≡ Some (Founds.Called (call_of form body))
+abbrev pub IsCallOfBody : Form → Result (List ℕ) FrontFault → Result (Option NextItem) FrontFault → Type 0
+IsCallOfBody form (Ok body) (Ok found) = found ≡ Some (next_item.Called (call_of form body))
 IsCallOfBody form (Ok body) (Err fault) = fault ≡ NoMemory
 IsCallOfBody form (Err fault) result = result ≡ Err fault
 
 -- what is at the front, which bytes follow it, and what was written before its answer
-abbrev pub IsFoundAtFront : Result (Option Found) FrontFault → List ℕ → List ℕ → List ℕ → Type 0
+abbrev pub IsFoundAtFront : Result (Option NextItem) FrontFault → List ℕ → List ℕ → List ℕ → Type 0
 IsFoundAtFront (Ok None) bytes rest written = (bytes ≡ []) × (written ≡ [])
-IsFoundAtFront (Ok (Some (Founds.Called call))) bytes rest written =
+IsFoundAtFront (Ok (Some (next_item.Called call))) bytes rest written =
     (form : Form) × (body : List ℕ) × HasRequest bytes form body rest × (call ≡ call_of form body) × (written ≡ interim form)
-IsFoundAtFront (Ok (Some (Founds.Refused denial))) bytes rest written = BeginsWith bytes (Refused denial) rest × (written ≡ [])
+IsFoundAtFront (Ok (Some (next_item.Refused denial))) bytes rest written = BeginsWith bytes (Refused denial) rest × (written ≡ [])
 IsFoundAtFront (Err Write) bytes rest written = Unit {0}
 IsFoundAtFront (Err NoMemory) bytes rest written = (written ≡ []) ⊎ ((form : Form) × (count : ℕ) × HasHead bytes count form × (written ≡ interim form))
 IsFoundAtFront (Err fault) bytes rest written = (tail : Tail) × EndsIn bytes tail × (written ≡ tail_bytes tail)
 
 -- `EachTurnReadsAByte` holds if an item was read, or if the turns were used up
-abbrev pub EachTurnOfItemReadsAByte : Result (Option Found) FrontFault → ℕ → ℕ → ℕ → Type 0
+abbrev pub EachTurnOfItemReadsAByte : Result (Option NextItem) FrontFault → ℕ → ℕ → ℕ → Type 0
 EachTurnOfItemReadsAByte (Ok (Some found)) turns turns' count = turns ≤ turns' + count
 EachTurnOfItemReadsAByte (Ok None) turns turns' count = Unit {0}
 EachTurnOfItemReadsAByte (Err Turns) turns turns' count = turns ≤ count
 EachTurnOfItemReadsAByte (Err fault) turns turns' count = Unit {0}
 
 -- These bytes came. With them the result is at the front of the buffer, and these bytes were written before its answer.
-pub record ReadsItem (result : Result (Option Found) FrontFault) (left left' held held' : Option (List ℕ)) (buffer buffer' : List ℕ) (turns turns' : ℕ) : Type 0 where
+pub record ReadsItem (result : Result (Option NextItem) FrontFault) (left left' held held' : Option (List ℕ)) (buffer buffer' : List ℕ) (turns turns' : ℕ) : Type 0 where
   pub more : List ℕ
   pub consumed : Consumes left left' more
   pub written : List ℕ

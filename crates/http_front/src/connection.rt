@@ -13,7 +13,7 @@ ghost use Rattle.stamp_types.specs.Replies.{denied};
 
 use crate::buffer::Buffer;
 use crate::end::{End, FrontFault};
-use crate::input::{Call, Found, next_item};
+use crate::input::{Call, NextItem, next_item};
 use crate::output::send;
 use crate::service::{Clock, Service};
 use reply_form::{out_of_memory_reply, sends_body, write_head, write_reply};
@@ -120,7 +120,7 @@ fn answer_item<W: Write, C: Clock, S: Service>(
     writer: &mut W,
     clock: &mut C,
     service: &mut S,
-    found: Found,
+    found: NextItem,
 ) -> Result<bool, FrontFault>
     ensures answered { IfOk result (λ closes. AnswersItem C.gives S.answers
         clock.old clock.new (S.world service.old) (S.world service.new)
@@ -132,12 +132,12 @@ fn answer_item<W: Write, C: Clock, S: Service>(
 {
     let moment = clock.now();
     match found {
-        Found::Called(call) => {
+        NextItem::Called(call) => {
             let closes = call.closes;
             answer_call(alloc, writer, service, call, moment)?;
             Ok(closes)
         }
-        Found::Refused(denial) => {
+        NextItem::Refused(denial) => {
             answer_denial(alloc, writer, denial, moment)?;
             Ok(true)
         }

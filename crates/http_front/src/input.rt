@@ -9,7 +9,7 @@ ghost use Rattle.http_front.specs.Streams.{HasHead, interim};
 ghost use Rattle.http_front.specs.declared.end.FrontFault.{FrontFault};
 ghost use Rattle.http_front.specs.declared.input.Awaited.{Awaited};
 ghost use Rattle.http_front.specs.declared.input.Call.{Call};
-ghost use Rattle.http_front.specs.declared.input.Found.{Found};
+ghost use Rattle.http_front.specs.declared.input.NextItem.{NextItem};
 
 use crate::buffer::{Buffer, READ_SIZE};
 use crate::end::FrontFault;
@@ -41,7 +41,7 @@ pub(crate) struct Call {
 
 /// An item.
 #[derive(Drop)]
-pub(crate) enum Found {
+pub(crate) enum NextItem {
     Called(Call),
     Refused(Denial),
 }
@@ -390,7 +390,7 @@ fn join(
     alloc: Global,
     head: Head,
     body: Result<Gathering, FrontFault>,
-) -> Result<Option<Found>, FrontFault>
+) -> Result<Option<NextItem>, FrontFault>
     requires { IfOk body (λ body. length body ≡ head.body_len) }
     ensures { IsCallOfBody head body result }
 {
@@ -404,7 +404,7 @@ fn join(
         }
     };
     let request = request_of(alloc, head, body)?;
-    Ok(Some(Found::Called(Call {
+    Ok(Some(NextItem::Called(Call {
         request,
         verb,
         closes,
@@ -418,23 +418,23 @@ pub(crate) fn next_item<R: Read, W: Write>(
     writer: &mut W,
     buffer: &mut Buffer,
     turns: &mut u64,
-) -> Result<Option<Found>, FrontFault>
+) -> Result<Option<NextItem>, FrontFault>
     ensures read { UnlessWriteFailed result (ReadsItem result
         (R.remaining reader.old) (R.remaining reader.new)
         (W.contents writer.old) (W.contents writer.new)
         buffer.old buffer.new turns.old turns.new) }
     ensures end { result ≡ Ok None → IsAtEnd (R.remaining reader.new) }
-    ensures measure { (call : Call) → result ≡ Ok (Some (Found.Called call)) →
+    ensures measure { (call : Call) → result ≡ Ok (Some (NextItem.Called call)) →
         work_left turns.new buffer.new < work_left turns.old buffer.old }
 {
     let count = match await_head(reader, writer, buffer, turns)? {
         Awaited::Head(count) => count,
-        Awaited::TooLong => return Ok(Some(Found::Refused(no_head()))),
+        Awaited::TooLong => return Ok(Some(NextItem::Refused(no_head()))),
         Awaited::End => return Ok(None),
     };
     let head = match read_head(alloc, &buffer.as_slice()[..count]) {
         Ok(head) => head,
-        Err(HeadFault::Denied(denial)) => return Ok(Some(Found::Refused(denial))),
+        Err(HeadFault::Denied(denial)) => return Ok(Some(NextItem::Refused(denial))),
         Err(HeadFault::NoMemory) => return Err(FrontFault::NoMemory),
     };
     let body = read_body(alloc, reader, writer, buffer, turns, &head, count);
