@@ -109,13 +109,13 @@ abbrev pub listed_block : Block ℕ → List ListedBlock
 listed_block b = option_to_list (option_map (λ id. record { id = id; len = b.content }) b.id)
 
 -- the blocks that have an id, in their order
-abbrev pub listed_blocks : List (Block ℕ) → List ListedBlock
-listed_blocks bs = flat_map listed_block bs
+abbrev pub shown_blocks : List (Block ℕ) → List ListedBlock
+shown_blocks bs = flat_map listed_block bs
 
 -- the committed blocks that have an id, in their order
 abbrev pub listed_committed : Option (Committed ℕ) → List ListedBlock
 listed_committed None = []
-listed_committed (Some c) = listed_blocks c.blocks
+listed_committed (Some c) = shown_blocks c.blocks
 
 -- the block of an id and a size, as it is listed
 abbrev pub listed_entry : List ℕ × ℕ → ListedBlock

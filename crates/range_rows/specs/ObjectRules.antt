@@ -30,7 +30,7 @@ use Rattle.block_blobs.specs.UncommittedBlocks.{has_other_length, is_one_too_man
 use Rattle.row_trees.specs.Fits.{count_limit}
 use Rattle.row_trees.specs.ListedBlocks.{listed_size}
 use Rattle.range_rows.specs.NamedBlobs.{has_listed, target_blob}
-use Rattle.range_rows.specs.Readings.{has_bad_id, is_malformed, reading_of, wanted_blocks}
+use Rattle.range_rows.specs.Readings.{tells_bad_id, is_malformed, reading_of, wanted_blocks}
 
 -- the container that a request names, with the sizes of its content
 abbrev pub sizes_named : World (List Piece) → Asked → Part ℕ
@@ -175,7 +175,7 @@ cause_holds p q BlobExists = writes q.ask.op && (is_any q.ask.args.if_none_match
 cause_holds p q NoneMatchFails = writes q.ask.op && (not (is_any q.ask.args.if_none_match) && fails_if_none_match p q.ask)
 cause_holds p q BodyIsDamaged = is_damaged q
 cause_holds p q BodyIsMalformed = is_malformed (reading_of q)
-cause_holds p q IdIsBad = has_bad_id (reading_of q)
+cause_holds p q IdIsBad = tells_bad_id (reading_of q)
 cause_holds p q BlockIsMissing = is_some (first_missing (target_blob p q.ask) (wanted_blocks q))
 cause_holds p q ListIsTooLong = nat_lt entries_limit (length (wanted_blocks q))
 cause_holds p q IdHasOtherLength = of_its_block has_other_length p q.ask

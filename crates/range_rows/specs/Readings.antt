@@ -39,6 +39,6 @@ is_malformed (reading.Fault fault.Form) = true
 is_malformed other = false
 
 -- the body has its form, and an id in it is not an id of a block
-abbrev pub has_bad_id : Reading → Bool
-has_bad_id (reading.Fault fault.Id) = true
-has_bad_id other = false
+abbrev pub tells_bad_id : Reading → Bool
+tells_bad_id (reading.Fault fault.Id) = true
+tells_bad_id other = false

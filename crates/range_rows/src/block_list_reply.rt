@@ -35,7 +35,7 @@ fn push_block<'a>(
 // The blocks that have an id, in their order.
 fn named_blocks(alloc: Global, blocks: &[Block<Pieces>]) -> Result<Vec<ListedBlock<'_>>, AllocError>
     ensures { IfOk result (λ list. map block_view list.items
-        ≡ replies.listed_blocks (map (block_value pieces_len) blocks.now)) }
+        ≡ replies.shown_blocks (map (block_value pieces_len) blocks.now)) }
 {
     let mut list = Vec::with_capacity(alloc, blocks.len())?;
     let mut left = blocks;
