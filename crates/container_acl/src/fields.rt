@@ -1,7 +1,7 @@
 //! What a token and the policy that it names give together.
-ghost use Rattle.std.specs.Prelude.{◌≡◌, Option, option_map};
+ghost use Rattle.std.specs.Prelude.{◌≡◌, Some};
 ghost use Rattle.std.specs.Option.{option_copied};
-ghost use Rattle.container_acl.specs.Fields as specs;
+ghost use Rattle.container_acl.specs.JoinedFields as specs;
 
 use sas_token::Token;
 use stamp_values::{Acl, Letters, Moment, Policy};
@@ -39,28 +39,23 @@ pub fn find<'a>(acl: &'a Acl, id: &[u8]) -> Option<&'a Policy>
     None
 }
 
-// A field that is joined, or `Both` if token and policy give it.
-fn joined<T: Drop>(own: Option<T>, stored: Option<T>) -> Result<Option<T>, FieldFault>
-    ensures { result ≡ specs.only (specs.joined own stored) }
+// Whether token and policy both give the start, the expiry or the permissions.
+fn gives_twice(token: &Token<'_>, policy: &Policy) -> bool
+    ensures { result ≡ specs.gives_twice token.now (Some policy.now) }
 {
-    match (own, stored) {
-        (Some(_own), Some(_stored)) => Err(FieldFault::Both),
-        (Some(own), None) => Ok(Some(own)),
-        (None, stored) => Ok(stored),
-    }
+    (token.start.is_some() && policy.start.is_some())
+        || (token.expiry.is_some() && policy.expiry.is_some())
+        || (token.letters.is_some() && policy.letters.is_some())
 }
 
-// The fields of a token with its policy, or of a token that names no policy.
-fn with_policy(token: &Token<'_>, policy: Option<&Policy>) -> Result<Fields, FieldFault>
-    ensures { result ≡ specs.with_policy token.now (option_copied policy.entry) }
+// The fields with this start, if the expiry and the permissions are given.
+fn whole(
+    start: Option<Moment>,
+    expiry: Option<Moment>,
+    letters: Option<Letters>,
+) -> Result<Fields, FieldFault>
+    ensures { result ≡ specs.whole start expiry letters }
 {
-    let (start, expiry, letters) = match policy {
-        Some(policy) => (policy.start, policy.expiry, policy.letters),
-        None => (None, None, None),
-    };
-    let start = joined(token.start, start)?;
-    let expiry = joined(token.expiry, expiry)?;
-    let letters = joined(token.letters, letters)?;
     match (expiry, letters) {
         (Some(expiry), Some(letters)) => Ok(Fields {
             start,
@@ -71,16 +66,30 @@ fn with_policy(token: &Token<'_>, policy: Option<&Policy>) -> Result<Fields, Fie
     }
 }
 
+// The fields of a token with its policy.
+fn with_policy(token: &Token<'_>, policy: &Policy) -> Result<Fields, FieldFault>
+    ensures { result ≡ specs.with_policy token.now (Some policy.now) }
+{
+    if gives_twice(token, policy) {
+        return Err(FieldFault::Both);
+    }
+    whole(
+        token.start.or(policy.start),
+        token.expiry.or(policy.expiry),
+        token.letters.or(policy.letters),
+    )
+}
+
 /// What a token and the policy that it names in the container give together. A token without an id has no policy. The call takes
 /// no memory, and looks at no signature.
 pub fn fields_with(acl: &Acl, token: &Token<'_>) -> Result<Fields, FieldFault>
     ensures { result ≡ specs.fields_with acl.now token.now }
 {
     if token.id.is_empty() {
-        return with_policy(token, None);
+        return whole(token.start, token.expiry, token.letters);
     }
     match find(acl, token.id) {
-        Some(policy) => with_policy(token, Some(policy)),
+        Some(policy) => with_policy(token, policy),
         None => Err(FieldFault::Absent),
     }
 }
