@@ -1,0 +1,110 @@
+//! That a change of each kind is written as its record, and that the record is read as the change.
+//! The bytes are from outside.
+
+use crate::sample_fields::key;
+use crate::{sample_acts, sample_records};
+use log_record::{read_change, write_change};
+use stamp_types::{Act, Change};
+use std::alloc::Global;
+use std::process::Abort;
+use std::test::*;
+
+fn change(rt: &impl Abort, alloc: Global, act: Act) -> Change {
+    Change::new(key(rt, alloc), act).expect(rt, "a good change")
+}
+
+fn is_written(rt: &impl Abort, alloc: Global, change: &Change, record: &[u8]) -> bool {
+    let written = write_change(alloc, change, 0).expect(rt, "memory");
+    written.as_slice() == record
+}
+
+fn is_read(rt: &impl Abort, alloc: Global, change: &Change, record: &[u8]) -> bool {
+    let (read, epoch) = read_change(alloc, record).expect(rt, "a record");
+    epoch == 0 && read.same(change)
+}
+
+// Whether the change is written as the record, and the record is read as the change.
+fn both_ways(rt: &impl Abort, alloc: Global, act: Act, record: &[u8]) -> bool {
+    let change = change(rt, alloc, act);
+    is_written(rt, alloc, &change, record) && is_read(rt, alloc, &change, record)
+}
+
+#[test]
+fn a_deleted_container_is_written_and_read(rt: HostRuntime) {
+    let alloc = rt.alloc();
+    assert!(rt;
+        both_ways(
+            &rt,
+            alloc,
+            Act::DeleteContainer,
+            sample_records::delete_container()
+        )
+    );
+}
+
+#[test]
+fn a_created_container_is_written_and_read(rt: HostRuntime) {
+    let act = sample_acts::create_container(&rt, rt.alloc());
+    assert!(rt; both_ways(&rt, rt.alloc(), act, sample_records::create_container()));
+}
+
+#[test]
+fn metadata_of_a_container_is_written_and_read(rt: HostRuntime) {
+    let act = sample_acts::set_container_metadata(&rt, rt.alloc());
+    assert!(rt;
+        both_ways(
+            &rt,
+            rt.alloc(),
+            act,
+            sample_records::set_container_metadata()
+        )
+    );
+}
+
+#[test]
+fn access_of_a_container_is_written_and_read(rt: HostRuntime) {
+    let act = sample_acts::set_acl(&rt, rt.alloc());
+    assert!(rt; both_ways(&rt, rt.alloc(), act, sample_records::set_acl()));
+}
+
+#[test]
+fn a_put_blob_is_written_and_read(rt: HostRuntime) {
+    let act = sample_acts::put_blob(&rt, rt.alloc());
+    assert!(rt; both_ways(&rt, rt.alloc(), act, sample_records::put_blob()));
+}
+
+#[test]
+fn metadata_of_a_blob_is_written_and_read(rt: HostRuntime) {
+    let act = sample_acts::set_metadata(&rt, rt.alloc());
+    assert!(rt; both_ways(&rt, rt.alloc(), act, sample_records::set_metadata()));
+}
+
+#[test]
+fn a_deleted_blob_is_written_and_read(rt: HostRuntime) {
+    let act = sample_acts::delete_blob(&rt, rt.alloc());
+    assert!(rt; both_ways(&rt, rt.alloc(), act, sample_records::delete_blob()));
+}
+
+#[test]
+fn a_put_block_is_written_and_read(rt: HostRuntime) {
+    let act = sample_acts::put_block(&rt, rt.alloc());
+    assert!(rt; both_ways(&rt, rt.alloc(), act, sample_records::put_block()));
+}
+
+#[test]
+fn a_put_block_list_is_written_and_read(rt: HostRuntime) {
+    let act = sample_acts::put_block_list(&rt, rt.alloc());
+    assert!(rt; both_ways(&rt, rt.alloc(), act, sample_records::put_block_list()));
+}
+
+#[test]
+fn a_row_of_a_container_is_written_and_read(rt: HostRuntime) {
+    let act = sample_acts::container_row(&rt, rt.alloc());
+    assert!(rt; both_ways(&rt, rt.alloc(), act, sample_records::container_row()));
+}
+
+#[test]
+fn a_row_of_a_blob_is_written_and_read(rt: HostRuntime) {
+    let act = sample_acts::stored_blob(&rt, rt.alloc());
+    assert!(rt; both_ways(&rt, rt.alloc(), act, sample_records::stored_blob()));
+}
