@@ -1,9 +1,9 @@
 -- The forms of what changes do, and of a key with what a change does.
-use Rattle.std.proofs.Common.{◌≡◌, ℕ, ◌==◌, cond, List, [], ◌∷◌, ◌++◌, Option, Some, None, refl, sym, ap, subst, ◌∙◌}
+use Rattle.std.proofs.Common.{◌≡◌, ℕ, List, ◌++◌, Some, refl, sym, subst}
 use Rattle.stamp_types.specs.declared.act.Act.{Act}
 use Rattle.stamp_types.specs.declared.act.Act.TheVariants as acts
 use Rattle.log_record.specs.Fits.{FitsCreateContainer, FitsSetContainerMetadata, FitsSetAcl, FitsPutBlob, FitsSetMetadata, FitsPutBlock, FitsPutBlockList, FitsContainerRow, FitsStoredBlob, FitsDeleteBlob, FitsAct}
-use Rattle.log_record.specs.Reading.{Read, ◌>>=◌, made_at}
+use Rattle.log_record.specs.Reading.{Read, made_at}
 use Rattle.log_record.specs.Records.{create_container_bytes, set_container_metadata_bytes, set_acl_bytes, put_blob_bytes, set_metadata_bytes, put_block_bytes, put_block_list_bytes, container_row_bytes, stored_blob_bytes, delete_blob_bytes, kind_of, act_bytes}
 use Rattle.log_record.specs.ReadRecords.{create_container_of, create_container_at, set_container_metadata_of, set_container_metadata_at, set_acl_of, set_acl_at, put_blob_of, put_blob_at, set_metadata_of, set_metadata_at, put_block_of, put_block_at, put_block_list_of, put_block_list_at, container_row_of, container_row_at, stored_blob_of, stored_blob_at, delete_blob_of, delete_blob_at, act_at}
 use Rattle.log_record.proofs.FormLemmas.{IsBytes, IsForm, some_is, bind_some, long_form}

@@ -2,7 +2,9 @@ pub mod ActForms
 pub mod FieldForms
 pub mod FormLemmas
 pub mod ItemTurns
+pub mod LengthLemmas
 pub mod LetterLemmas
 pub mod RecordLemmas
+pub mod SizeLemmas
 pub mod SumLemmas
 pub mod TextLemmas

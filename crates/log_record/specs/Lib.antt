@@ -5,3 +5,4 @@ pub mod ReadFields
 pub mod ReadRecords
 pub mod Reading
 pub mod Records
+pub mod Sizes

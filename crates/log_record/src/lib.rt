@@ -17,6 +17,6 @@ mod record_fault;
 mod rows;
 mod values;
 
-pub use laws::{a_record_says_one_change, no_record_begins_another};
+pub use laws::{a_placed_record_fits_a_block, a_record_says_one_change, no_record_begins_another};
 pub use record::{read_change, write_change};
 pub use record_fault::RecordFault;

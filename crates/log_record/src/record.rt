@@ -1,8 +1,9 @@
 //! Records of a log: one change each.
-ghost use Rattle.std.specs.Prelude.{◌≡◌, ◌++◌, IfOk, IsOk, OnOk};
+ghost use Rattle.std.specs.Prelude.{◌≡◌, ◌++◌, ◌≤◌, IfOk, IsOk, OnOk, length};
 ghost use Rattle.log_record.specs.Fits.{IsRecorded};
 ghost use Rattle.log_record.specs.Outcomes.{Gives, Fills, FillsBy, Tells};
 ghost use Rattle.log_record.specs.Records.{record_bytes};
+ghost use Rattle.log_record.specs.Sizes.{IsPlacedChange};
 ghost use Rattle.log_record.specs.ReadRecords.{keyed, keyed_at, fields_of, change_of, record_of, ReadsAgain};
 
 use crate::acts::{append_act, kind_of, read_act};
@@ -24,13 +25,17 @@ fn append_record(change: &Change, out: &mut Vec<u8>) -> Result<(), AllocError>
 }
 
 /// The record of the change, in version 1, in as much room as it has bytes. Version 1 has no epoch,
-/// so the epoch has to be 0.
+/// so the epoch has to be 0. If the content of the change is at places, the record has at most
+/// 16,777,216 bytes, as many as a block of a stream.
 ///
 /// `AllocError` if memory runs out.
+#[tactic(auto, using(crate::proofs::SizeLemmas::written_within))]
 pub fn write_change(alloc: Global, change: &Change, epoch: u64) -> Result<Vec<u8>, AllocError>
     requires { epoch ≡ 0 }
     ensures written { IfOk result (λ bytes. bytes.items ≡ record_bytes change.now) }
     ensures fits { IsOk result → IsRecorded change.now }
+    ensures short { IfOk result (λ bytes.
+        IsPlacedChange change.now → length bytes.items ≤ 16_777_216) }
 {
     let mut out = Vec::new(alloc);
     append_record(change, &mut out)?;

@@ -1,4 +1,3 @@
-use Rattle.std.proofs.Common.{◌≡◌}
 use Rattle.std.proofs.lemmas.Result.{err_from_is_err_and}
 use Rattle.log_record.specs.Reading.{each_at}
 use Rattle.log_record.proofs.ItemTurns.{goes_on, ends, is_done}
