@@ -1,6 +1,6 @@
 //! What no clause says: that each call can succeed. The texts are those of RFC 4648, section 10, and their nearest neighbours.
 
-use base64_text::{append_base64, decoded_base64, is_base64_within};
+use base64_text::{append_base64, decoded_base64, is_base64_within, write_base64};
 use std::test::Fail;
 
 #[test]
@@ -43,6 +43,13 @@ fn lengths_are_those_of_the_bytes(rt: HostRuntime) -> Result<(), Fail> {
         let read = is_base64_within(rt.alloc(), 1, 2, text.as_bytes());
         assert!(rt; read == Ok(wanted), "of {text}");
     }
+    Ok(())
+}
+
+#[test]
+fn bytes_are_written(rt: HostRuntime) -> Result<(), Fail> {
+    let text = write_base64(rt.alloc(), b"foobar").expect(&rt, "memory");
+    assert!(rt; text.as_str() == "Zm9vYmFy");
     Ok(())
 }
 

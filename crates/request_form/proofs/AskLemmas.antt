@@ -22,7 +22,7 @@ use Rattle.request_form.specs.HeadMetadata.{metadata_by}
 use Rattle.request_form.specs.HeadRanges.{is_get_blob, range_of, range_sent}
 use Rattle.request_form.specs.HeadReads.{AreFields, IsLine}
 use Rattle.request_form.specs.HeadRules.{OperationRow, body_len_of, is_put_blob, is_row, op_at, op_of, operations, row_at, verb_of}
-use Rattle.request_form.specs.Targets.{container_of, kind_of, target_of}
+use Rattle.request_form.specs.Targets.{container_of, path_kind_of, target_of}
 use Rattle.request_form.specs.declared.header_lines.Fields.{Fields}
 use Rattle.request_form.specs.HeadParts.{HeadParts}
 use Rattle.request_form.specs.declared.request_line.Line.{Line}
@@ -49,7 +49,7 @@ by_verb : (passes : Op → Bool) (verb : Option Verb) (target : Target) (op : Op
 unfolding op_at row_at
 by_verb passes None target op each e = absurd (cc)
 by_verb passes (Some verb) target op each e =
-    found_op passes (is_row verb (kind_of target.path) (first_value target.query (codes "restype")) (first_value target.query (codes "comp"))) operations op each
+    found_op passes (is_row verb (path_kind_of target.path) (first_value target.query (codes "restype")) (first_value target.query (codes "comp"))) operations op each
     (row_of (is_sent target.query (codes "blockid")) (row_at verb target) op e)
 
 -- the operation of a head passes a test that the operation of each row passes

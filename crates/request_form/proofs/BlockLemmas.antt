@@ -18,7 +18,7 @@ use Rattle.request_form.specs.HeadFields.{is_bad}
 use Rattle.request_form.specs.HeadForms.{kept_by}
 use Rattle.request_form.specs.HeadMetadata.{metadata_by}
 use Rattle.request_form.specs.HeadParts.{HeadParts}
-use Rattle.request_form.specs.HeadRules.{has_bad_id, has_bad_parameter, if_identified, is_bad_parameter, is_good_value, is_id, op_at, op_of, row_at, verb_of}
+use Rattle.request_form.specs.HeadRules.{has_bad_block_id, has_bad_parameter, if_identified, is_bad_parameter, is_good_value, is_id, op_at, op_of, row_at, verb_of}
 use Rattle.request_form.specs.Targets.{target_of}
 use Rattle.request_form.proofs.ValueLemmas.{args_short}
 
@@ -48,7 +48,7 @@ good_id v good = of_bytes (decoded_of standard v) good
 
 -- an id that was sent is there and has at most 64 bytes, if no parameter is bad
 id_sent : (query : List Field) → is_sent query (codes "blockid") ≡ true → has_bad_parameter query ≡ false → IsShortId (id_given query)
-unfolding has_bad_parameter has_bad_id is_bad_parameter is_bad
+unfolding has_bad_parameter has_bad_block_id is_bad_parameter is_bad
 id_sent query sent good =
     let all = or_parts _ _ good in
     let first = or_parts _ _ all.0 in

@@ -13,3 +13,4 @@ pub mod TargetLemmas
 pub mod TextLemmas
 pub mod TwiceLemmas
 pub mod ValueLemmas
+pub mod VerbLemmas

@@ -10,7 +10,7 @@ use Rattle.stamp_values.specs.Names.{is_metadata_name}
 use Rattle.stamp_values.specs.Texts.{is_visible}
 use Rattle.stamp_values.specs.declared.signing.Field.{Field}
 use Rattle.request_form.specs.HeadFields.{is_meta}
-use Rattle.request_form.specs.HeadMetadata.{are_bad_to_keep, by_name, is_before, meta_fields, meta_of, metas_of, placed, unprefixed}
+use Rattle.request_form.specs.HeadMetadata.{are_bad_to_keep, in_name_order, is_before, meta_fields, meta_of, metas_of, placed, unprefixed}
 use Rattle.request_form.proofs.TextLemmas.{metadata_name_visible}
 
 -- the length of a header if the header is one of metadata, and else 0
@@ -41,7 +41,7 @@ unprefixed_len (f ∷ fs) = rw (sum_by-cons meta_counted f fs) (by_meta (is_meta
 -- the metadata are not longer than their headers
 pub metas_count : (fields : List Field) → metadata_len (metas_of fields) ≤ sum_by meta_counted fields
 unfolding metas_of
-metas_count fields = omega (arith, metas_len (by_name (meta_fields fields)), placed_len (meta_fields fields) [], unprefixed_len fields)
+metas_count fields = omega (arith, metas_len (in_name_order (meta_fields fields)), placed_len (meta_fields fields) [], unprefixed_len fields)
 
 -- name and value are visible
 abbrev is_shown : Field → Bool

@@ -8,7 +8,7 @@ use Rattle.std.specs.List.Sorted.{IsPermutation, IsSortedBy, IsStableBy, ties}
 use Rattle.std.specs.Cmp.{IsStrictWeakOrder}
 use Rattle.std.specs.Cmp.Lexicographic.{nat_list_cmp_total}
 use Rattle.stamp_values.specs.declared.signing.Field.{Field}
-use Rattle.request_form.specs.HeadMetadata.{by_name, has_lesser_name, placed}
+use Rattle.request_form.specs.HeadMetadata.{in_name_order, has_lesser_name, placed}
 
 -- no member comes before a member that is earlier in the list
 abbrev Rises : List Field → Type 0
@@ -141,13 +141,13 @@ tied_fold x (f ∷ fs) done up =
     ∙ ap (λ hs. tied x done ++ hs) (tied_front x f fs)
 
 -- no field is left out, and no field comes twice
-pub all_kept : (fs : List Field) → IsPermutation fs (by_name fs)
-all_kept fs = subst (λ gs. IsPermutation gs (by_name fs)) (append-nil fs) (same_fold fs [])
+pub all_kept : (fs : List Field) → IsPermutation fs (in_name_order fs)
+all_kept fs = subst (λ gs. IsPermutation gs (in_name_order fs)) (append-nil fs) (same_fold fs [])
 
 -- the names rise
-pub rising : (fs : List Field) → IsSortedBy has_lesser_name (by_name fs)
-rising fs = sorted_from_rises (by_name fs) (rises_fold fs [] tt)
+pub rising : (fs : List Field) → IsSortedBy has_lesser_name (in_name_order fs)
+rising fs = sorted_from_rises (in_name_order fs) (rises_fold fs [] tt)
 
 -- fields of one name are in the order sent
-pub as_sent : (fs : List Field) → IsStableBy has_lesser_name fs (by_name fs)
+pub as_sent : (fs : List Field) → IsStableBy has_lesser_name fs (in_name_order fs)
 as_sent fs = λ x. tied_fold x fs [] tt

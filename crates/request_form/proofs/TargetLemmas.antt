@@ -1,15 +1,16 @@
 -- The origin form: its test, its form in the grammar of the crate `http_uri`, and that it is a text if the target is a text.
-use Rattle.std.proofs.Common.{◌≡◌, ◌⊎◌, inl, inr, ℕ, suc, ◌+◌, ◌<◌, ◌≤◌, Bool, true, false, cond, not, ◌&&◌, List, [], ◌∷◌, ◌++◌, length, get_or, take, drop, refl, sym, ap, ◌∙◌, subst, arith, eqb-true, Option, Some, None}
-use Rattle.std.specs.Prelude.{◌==◌, slice_index, nat_lt, IsUtf8, codes, if◌then◌else◌, IfSome}
+use Rattle.std.proofs.Common.{◌≡◌, ◌⊎◌, inl, inr, ℕ, suc, ◌+◌, ◌<◌, ◌≤◌, Bool, true, false, cond, not, ◌&&◌, ◌||◌, List, [], ◌∷◌, ◌++◌, length, get_or, take, drop, refl, sym, ap, ◌∙◌, subst, arith, eqb-true, Option, Some, None}
+use Rattle.std.specs.Prelude.{◌==◌, slice_index, nat_lt, IsUtf8, codes, if◌then◌else◌, IfSome, is_some}
 use Rattle.std.specs.List.{list_all, position_or_len, prefix_len, AllPass}
-use Rattle.std.proofs.lemmas.Bool.{and_parts, both_ways}
+use Rattle.std.proofs.lemmas.Bool.{and_parts, both_ways, false_from_ne_true}
 use Rattle.std.proofs.lemmas.Bool.Decides.{nat_tests}
 use Rattle.std.proofs.lemmas.List.{take_all, drop_all, get_or-drop, length-drop}
 use Rattle.std.proofs.lemmas.List.Sums.{AllPass-from_list_all, list_all-from_AllPass, prefix_len_stops}
 use Rattle.std.proofs.lemmas.Str.{IsUtf8-drop, IsUtf8-nil, IsCharBoundary-before_ascii}
-use Rattle.http_uri.specs.ByteClasses.{is_path_byte, is_query_byte, is_authority_byte, is_scheme_byte, index_of, split_once_back}
-use Rattle.http_uri.specs.Grammar.{IsPathAndQuery, IsUriText, IsForm, without_fragment}
-use Rattle.http_uri.specs.Uri.{SpellsNone}
+use Rattle.http_uri.specs.ByteClasses.{is_path_byte, is_query_byte, is_authority_byte, is_scheme_byte, index_of, split_once_back, split_once_front}
+use Rattle.http_uri.specs.Grammar.{IsPathAndQuery, IsUriText, IsForm, or_slash, without_fragment}
+use Rattle.http_uri.specs.Uri.{SpellsNone, uri_data, uri_path, uri_scheme}
+use Rattle.http_uri.specs.declared.uri.Uri.{Uri}
 use Rattle.http_uri.specs.Error.{IsOutOfMemory, is_out_of_memory}
 use Rattle.http_uri.specs.declared.error.UriError.{UriError}
 use Rattle.http_uri.specs.declared.error.UriError.TheVariants.{Invalid}
@@ -106,6 +107,68 @@ is_origin_spelled text (Some s) (Some a) kept start none form =
         let slash : x ≡ 47 = sym first ∙ start in
         let both = ap is_scheme_byte slash in
         cc
+
+-- an address that such a text spells has the whole text as its path and query
+pub data_of_spelled : (text : List ℕ) (scheme authority : Option (List ℕ)) (kept : List ℕ) → slice_index text 0 ≡ 47 → index_of 35 text ≡ length text → IsForm text scheme authority kept → kept ≡ text
+data_of_spelled text None None kept start none form = form.1 ∙ whole text none
+data_of_spelled text None (Some a) kept start none form =
+    let first : is_authority_byte (slice_index text 0) ≡ true = (form.0.bytes 0 form.0.nonempty).byte in
+    let both = ap is_authority_byte start in
+    cc
+data_of_spelled text (Some s) None kept start none form = absurd form
+data_of_spelled text (Some s) (Some a) kept start none form =
+    by_name form.name form.is_scheme.0 form.spelled
+  where
+    by_name : (name : List ℕ) → AllPass is_scheme_byte name → text ≡ name ++ codes "://" ++ a ++ form.tail → kept ≡ text
+    by_name [] bytes spelled = let first : slice_index text 0 ≡ 58 = ap (λ t. slice_index t 0) spelled in absurd (omega arith)
+    by_name (x ∷ name) bytes spelled =
+        let first : slice_index text 0 ≡ x = ap (λ t. slice_index t 0) spelled in
+        let is : is_scheme_byte x ≡ true = bytes 0 0 (omega arith) in
+        let slash : x ≡ 47 = sym first ∙ start in
+        let both = ap is_scheme_byte slash in
+        cc
+
+-- a list with an element is not empty
+not_empty : (x : ℕ) (xs : List ℕ) → (length (x ∷ xs) == 0) ≡ false
+not_empty x xs = false_from_ne_true (length (x ∷ xs) == 0) (λ e. let none = eqb-true (length (x ∷ xs)) 0 e in absurd (omega (arith, none)))
+
+kept : (x : ℕ) (xs : List ℕ) → or_slash (x ∷ xs) ≡ x ∷ xs
+kept x xs = rw (not_empty x xs) refl
+
+-- the path of a text that begins with `/` is not empty
+slash_path : (text : List ℕ) → slice_index text 0 ≡ 47 → or_slash (split_once_front 63 text) ≡ path_of text
+unfolding path_of
+slash_path [] start = absurd (omega (arith, start))
+slash_path (x ∷ xs) start =
+    let other : (x == 63) ≡ false = rw start refl in
+    let next : 1 + position_or_len is_question_mark xs ≡ suc (position_or_len is_question_mark xs) = omega arith in
+    rw (other, next) (kept x (take (position_or_len is_question_mark xs) xs))
+
+-- the path of an address whose path and query are an origin form, as it was sent
+pub path_of_address : (address : Uri) → is_origin (uri_data address) ≡ true → uri_path address ≡ path_of (uri_data address)
+path_of_address address is = shown (uri_data address) (uri_scheme address) (origin_parts (uri_data address) is).0
+  where
+    shown : (text : List ℕ) (scheme : Option (List ℕ)) → slice_index text 0 ≡ 47 → (if not (length text == 0) || is_some scheme then or_slash (split_once_front 63 text) else []) ≡ path_of text
+    shown [] scheme start = absurd (omega (arith, start))
+    shown (x ∷ xs) scheme start = rw (not_empty x xs) (slash_path (x ∷ xs) start)
+
+-- the query of a text that has a question mark
+pub query_text_some : (text query : List ℕ) → split_once_back 63 text ≡ Some query → query_text text ≡ query
+unfolding query_text
+query_text_some text query found =
+    elim (nat_lt (index_of 63 text) (length text)) as (λ b. (if b then Some (drop (index_of 63 text + 1) text) else None) ≡ Some query → drop (index_of 63 text + 1) text ≡ query) [
+      | true ↦ λ same. cc
+      | false ↦ λ same. cc
+    ] found
+
+-- a text without a question mark has no query
+pub query_text_none : (text : List ℕ) → split_once_back 63 text ≡ None → query_text text ≡ []
+unfolding query_text
+query_text_none text missing =
+    elim (nat_lt (index_of 63 text) (length text)) as (λ b. nat_lt (index_of 63 text) (length text) ≡ b → (if b then Some (drop (index_of 63 text + 1) text) else None) ≡ None → drop (index_of 63 text + 1) text ≡ []) [
+      | true ↦ λ e same. cc
+      | false ↦ λ e same. drop_all (index_of 63 text + 1) text (grind arith)
+    ] refl missing
 
 -- the grammar takes each origin form that is a text and short
 pub origin_spells : (text : List ℕ) → is_origin text ≡ true → IsUtf8 text → length text ≤ 65534 → IsUriText text None None text

@@ -5,7 +5,7 @@ use Rattle.std.specs.List.{list_any}
 use Rattle.stamp_values.specs.Fields.{is_sent, is_sent_twice, standard_names}
 use Rattle.stamp_values.specs.declared.signing.Field.{Field}
 use Rattle.stamp_values.proofs.FieldLemmas.{is_sent_twice_none, is_sent_twice_cons}
-use Rattle.request_form.specs.HeadFields.{is_ms, is_meta}
+use Rattle.request_form.specs.HeadFields.{is_own_name, is_meta}
 use Rattle.request_form.specs.HeadRules.{has_own_twice, has_standard_twice, is_own_twice}
 
 -- if a name that passes was sent twice, some field has a name that passes
@@ -49,7 +49,7 @@ no_own_twice : (fields : List Field) → list_any (λ f. is_sent_twice fields f.
 unfolding has_own_twice
 no_own_twice fields none =
     none_of (λ f. is_own_twice fields f.name)
-    (λ f. ap (λ b. is_ms f.name && not (is_meta f.name) && b) (never_twice fields none f.name) ∙ last_false (is_ms f.name) (not (is_meta f.name))) fields
+    (λ f. ap (λ b. is_own_name f.name && not (is_meta f.name) && b) (never_twice fields none f.name) ∙ last_false (is_own_name f.name) (not (is_meta f.name))) fields
 
 -- if no name was sent twice, no header was sent twice that may be sent once
 pub no_bad_twice : (fields : List Field) → list_any (λ f. is_sent_twice fields f.name) fields ≡ false → (has_standard_twice fields || has_own_twice fields) ≡ false

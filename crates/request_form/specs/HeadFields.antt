@@ -40,8 +40,8 @@ abbrev pub is_md5 : List ℕ → Bool
 is_md5 text = is_base64_within 16 16 text
 
 -- the name of one of the service's own headers
-abbrev pub is_ms : List ℕ → Bool
-is_ms name = bytes_eq (take 5 name) (codes "x-ms-")
+abbrev pub is_own_name : List ℕ → Bool
+is_own_name name = bytes_eq (take 5 name) (codes "x-ms-")
 
 -- the name of a header of metadata
 abbrev pub is_meta : List ℕ → Bool

@@ -30,8 +30,8 @@ abbrev pub placed : List Field → Field → List Field
 placed fields f = insert fields (position_or_len (is_before f.name) fields) f
 
 -- the fields by the bytes of their names
-abbrev pub by_name : List Field → List Field
-by_name fields = fold placed [] fields
+abbrev pub in_name_order : List Field → List Field
+in_name_order fields = fold placed [] fields
 
 -- the name of the first field comes before the name of the second, by their bytes
 abbrev pub has_lesser_name : Field → Field → Bool
@@ -49,7 +49,7 @@ meta_of f = record { name = f.name; value = f.value }
 
 -- the metadata that were sent, by the bytes of their names in lower case
 unfoldable pub metas_of : List Field → List Meta
-metas_of fields = map meta_of (by_name (meta_fields fields))
+metas_of fields = map meta_of (in_name_order (meta_fields fields))
 
 -- these are not metadata that are kept: a name is bad or is there twice, names and values are too long together, or a byte of
 -- a value is not visible

@@ -21,9 +21,9 @@ use Rattle.stamp_types.specs.declared.rule.Rule.TheVariants.{F1, F2, F3, F4, F5,
 use Rattle.stamp_values.specs.Fields.{is_sent, is_sent_twice, first_value, standard_names}
 use Rattle.name_rules.specs.BlobNames.{name_of}
 use Rattle.stamp_values.specs.Ascii.{quote}
-use Rattle.request_form.specs.Targets.{is_nothing, origin_of, is_origin, target_of, account_of, container_of, blob_of, kind_of}
+use Rattle.request_form.specs.Targets.{is_nothing, origin_of, is_origin, target_of, account_of, container_of, blob_of, path_kind_of}
 use Rattle.base64_text.specs.Base64.{is_base64_within}
-use Rattle.request_form.specs.HeadFields.{is_bad, has_bad, is_number, is_md5, is_ms, is_meta}
+use Rattle.request_form.specs.HeadFields.{is_bad, has_bad, is_number, is_md5, is_own_name, is_meta}
 use Rattle.request_form.specs.HeadMetadata.{has_bad_metadata_by}
 use Rattle.request_form.specs.declared.denial.Denial.{Denial}
 use Rattle.request_form.specs.declared.target.Target.{Target}
@@ -75,12 +75,12 @@ is_verb Delete Delete = true
 is_verb verb other = false
 
 -- the paths name things of the same kind
-abbrev pub is_kind : PathKind → PathKind → Bool
-is_kind path.Root path.Root = true
-is_kind path.Account path.Account = true
-is_kind path.Container path.Container = true
-is_kind path.Blob path.Blob = true
-is_kind kind other = false
+abbrev pub is_path_kind : PathKind → PathKind → Bool
+is_path_kind path.Root path.Root = true
+is_path_kind path.Account path.Account = true
+is_path_kind path.Container path.Container = true
+is_path_kind path.Blob path.Blob = true
+is_path_kind kind other = false
 
 -- the values are the same, or both are missing
 abbrev pub is_value : Option (List ℕ) → Option (List ℕ) → Bool
@@ -90,7 +90,7 @@ is_value v other = false
 
 -- the row is the one that is asked for
 abbrev pub is_row : Verb → PathKind → Option (List ℕ) → Option (List ℕ) → OperationRow → Bool
-is_row verb kind restype comp row = is_verb verb row.verb && is_kind kind row.kind && is_value restype row.restype && is_value comp row.comp
+is_row verb kind restype comp row = is_verb verb row.verb && is_path_kind kind row.kind && is_value restype row.restype && is_value comp row.comp
 
 -- the operation of the row that is asked for
 abbrev pub op_by : Verb → PathKind → Option (List ℕ) → Option (List ℕ) → Option Op
@@ -98,7 +98,7 @@ op_by verb kind restype comp = option_map (λ row. row.op) (find (is_row verb ki
 
 -- the operation of the row that a method and a target fit
 unfoldable pub row_at : Verb → Target → Option Op
-row_at verb target = op_by verb (kind_of target.path) (first_value target.query (codes "restype")) (first_value target.query (codes "comp"))
+row_at verb target = op_by verb (path_kind_of target.path) (first_value target.query (codes "restype")) (first_value target.query (codes "comp"))
 
 -- the operation, but not Put Block if the id of its block is not given
 abbrev pub if_identified : Bool → Op → Option Op
@@ -144,8 +144,8 @@ unfoldable pub is_bad_parameter : List Field → List ℕ → (List ℕ → Bool
 is_bad_parameter query name test = is_sent_twice query name || is_bad query name (is_good_value test)
 
 -- the id of a block is bad
-unfoldable pub has_bad_id : List Field → Bool
-has_bad_id query = is_bad_parameter query (codes "blockid") is_id
+unfoldable pub has_bad_block_id : List Field → Bool
+has_bad_block_id query = is_bad_parameter query (codes "blockid") is_id
 
 -- the kinds of blocks are bad
 unfoldable pub has_bad_kinds : List Field → Bool
@@ -154,12 +154,12 @@ has_bad_kinds query = is_bad_parameter query (codes "blocklisttype") is_kinds
 -- a parameter that operations have is bad
 unfoldable pub has_bad_parameter : List Field → Bool
 has_bad_parameter query =
-    list_any (λ name. is_bad_parameter query name (is_value_of name)) parameter_names || has_bad_id query || has_bad_kinds query
+    list_any (λ name. is_bad_parameter query name (is_value_of name)) parameter_names || has_bad_block_id query || has_bad_kinds query
 
 -- the method is PUT
-abbrev pub is_put : Option Verb → Bool
-is_put (Some Put) = true
-is_put other = false
+abbrev pub is_put_verb : Option Verb → Bool
+is_put_verb (Some Put) = true
+is_put_verb other = false
 
 -- the method writes
 abbrev pub is_write : Option Verb → Bool
@@ -216,7 +216,7 @@ has_bad_kept takes_plain fields =
 
 -- the name is that of one of the service's own headers, but not of metadata, and was sent twice
 abbrev pub is_own_twice : List Field → List ℕ → Bool
-is_own_twice fields name = is_ms name && not (is_meta name) && is_sent_twice fields name
+is_own_twice fields name = is_own_name name && not (is_meta name) && is_sent_twice fields name
 
 -- one of the service's own headers was sent twice
 unfoldable pub has_own_twice : List Field → Bool
@@ -261,7 +261,7 @@ body_len_of fields = option_map_or (λ v. digits_value 10 v) (first_value fields
 
 -- F4: a PUT has no length, or the head asks for a transfer coding
 unfoldable pub has_no_length : HeadParts → Bool
-has_no_length p = is_put (verb_of p.method) && not (is_sent p.fields (codes "content-length")) || is_sent p.fields (codes "transfer-encoding")
+has_no_length p = is_put_verb (verb_of p.method) && not (is_sent p.fields (codes "content-length")) || is_sent p.fields (codes "transfer-encoding")
 
 -- F4: the length was sent twice, or it is not a number
 unfoldable pub has_bad_length : HeadParts → Bool

@@ -93,7 +93,7 @@ unfoldable pub blob_of : List ℕ → List ℕ
 blob_of path = after_first is_slash (after_account path)
 
 -- what the path names; an empty last part does not count
-unfoldable pub kind_of : List ℕ → PathKind
-kind_of path =
+unfoldable pub path_kind_of : List ℕ → PathKind
+path_kind_of path =
     if is_nothing (drop 1 path) then Root
     else (if is_nothing (after_account path) then Account else (if is_nothing (blob_of path) then Container else Blob))

@@ -34,11 +34,11 @@ fn id_of(alloc: Global, value: &[u8]) -> Result<Option<BlockId>, AllocError>
 /// The id of a block that a query gives, if the query has the parameter.
 ///
 /// `Refused` if the parameter is given twice, or its value is not the strict Base64 of 1 to 64 bytes.
-#[tactic(auto, unfolding(crate::specs::HeadRules::has_bad_id, crate::specs::HeadRules::is_bad_parameter, crate::specs::HeadFields::is_bad))]
+#[tactic(auto, unfolding(crate::specs::HeadRules::has_bad_block_id, crate::specs::HeadRules::is_bad_parameter, crate::specs::HeadFields::is_bad))]
 pub(crate) fn read_id(alloc: Global, query: &FieldList) -> Result<Option<BlockId>, ValueFault>
     ensures { MatchResult result
-        (λ id. (heads.has_bad_id query.now ≡ false) × (id ≡ blocks.id_given query.now))
-        (RefusesValue (heads.has_bad_id query.now) InvalidQueryParameterValue) }
+        (λ id. (heads.has_bad_block_id query.now ≡ false) × (id ≡ blocks.id_given query.now))
+        (RefusesValue (heads.has_bad_block_id query.now) InvalidQueryParameterValue) }
 {
     if query.is_sent_twice(b"blockid") {
         return Err(ValueFault::Refused(Code::InvalidQueryParameterValue));

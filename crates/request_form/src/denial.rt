@@ -5,6 +5,7 @@ ghost use Rattle.request_form.specs.declared.denial.HeadFault.TheVariants.{NoMem
 
 use stamp_types::{Code, Rule, Status, Verb};
 use std::alloc::AllocError;
+use thiserror::Error;
 
 /// Why a head is refused: the first of the rules F1 to F8 that holds. The connection ends after the reply.
 #[derive(Clone, Copy, Debug, PartialEq, Eq)]
@@ -18,11 +19,13 @@ pub struct Denial {
 }
 
 /// Why a head gives no request.
-#[derive(Clone, Copy, Debug, PartialEq, Eq)]
+#[derive(Clone, Copy, Debug, PartialEq, Eq, Error)]
 pub enum HeadFault {
     /// A rule refuses the head, or the bytes are not a head.
+    #[error("the head is refused")]
     Denied(Denial),
     /// Memory ran out.
+    #[error("out of memory")]
     NoMemory,
 }
 

@@ -78,8 +78,8 @@ pub(crate) fn md5_of(alloc: Global, text: &[u8]) -> Result<Option<[u8; 16]>, All
 }
 
 /// Whether the name is that of one of the service's own headers.
-pub(crate) fn is_ms(name: &[u8]) -> bool
-    ensures { result ≡ heads.is_ms name.now }
+pub(crate) fn is_own_name(name: &[u8]) -> bool
+    ensures { result ≡ heads.is_own_name name.now }
 {
     name.starts_with(b"x-ms-".as_slice())
 }

@@ -2,7 +2,7 @@
 ghost use Rattle.std.specs.Prelude.{◌≡◌, ◌⊎◌, ℕ, List};
 ghost use Rattle.stamp_values.specs.declared.signing.Field.{Field};
 ghost use Rattle.request_form.specs.HeadForms.{Form};
-ghost use Rattle.request_form.specs.HeadMetadata.{AreByName, by_name, meta_fields};
+ghost use Rattle.request_form.specs.HeadMetadata.{AreByName, in_name_order, meta_fields};
 ghost use Rattle.request_form.specs.Heads.{Accepts, Refuses};
 ghost use Rattle.request_form.specs.declared.denial.Denial.{Denial};
 
@@ -22,5 +22,5 @@ pub fn each_head_is_accepted_or_refused()
 /// Metadata have all headers of metadata that were sent, each once, in the order of the bytes of their names. If a name was sent
 /// twice, what was sent first comes first.
 pub fn metadata_are_in_the_order_of_their_names()
-    ensures { (fields : List Field) → AreByName (meta_fields fields) (by_name (meta_fields fields)) }
+    ensures { (fields : List Field) → AreByName (meta_fields fields) (in_name_order (meta_fields fields)) }
 {}

@@ -50,8 +50,8 @@ fn put<'a>(fields: &mut Vec<FieldRef<'a>>, field: FieldRef<'a>) -> Result<(), Al
 
 // The headers of metadata under their names without `x-ms-meta-`, by the bytes of these names.
 #[tactic(auto, unfolding(crate::specs::HeadMetadata::meta_fields))]
-fn by_name(alloc: Global, fields: &FieldList) -> Result<Vec<FieldRef<'_>>, AllocError>
-    ensures { IfOk result (λ v. v.items ≡ metadata.by_name (metadata.meta_fields fields.now)) }
+fn in_name_order(alloc: Global, fields: &FieldList) -> Result<Vec<FieldRef<'_>>, AllocError>
+    ensures { IfOk result (λ v. v.items ≡ metadata.in_name_order (metadata.meta_fields fields.now)) }
 {
     let mut sent = Vec::new(alloc);
     for field in fields.fields() {
@@ -191,7 +191,7 @@ pub(crate) fn read_metadata(
         × (ms ≡ metadata.metadata_by op fields.now))
         (RefusesValue (metadata.has_bad_metadata_by op fields.now) InvalidMetadata) }
 {
-    let sent = by_name(alloc, fields)?;
+    let sent = in_name_order(alloc, fields)?;
     if op.keeps_metadata() {
         return kept_metadata(alloc, &sent);
     }

@@ -37,7 +37,7 @@ pub(crate) fn read_line(alloc: Global, head: &ParsedHead<'_>) -> Result<Line, He
     let Some(target) = read_target(alloc, head.target)? else {
         return Err(HeadFault::Denied(no_head()));
     };
-    let Some(verb) = verb(head.method) else {
+    let Some(verb) = verb(alloc, head.method)? else {
         return Err(HeadFault::Denied(denied(Rule::F2, Code::UnsupportedHttpVerb, None)));
     };
     let Operation { op, block, kinds } = match read_operation(alloc, verb, &target) {

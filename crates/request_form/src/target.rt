@@ -1,8 +1,9 @@
 //! Rule F1: the request target, and what it names.
 ghost use Rattle.std.specs.Prelude.{◌≡◌, ◌≤◌, ◌==◌, ◌++◌, ◌∷◌, [], IfOk, MatchOption, OnOk, false, true, length, map, filter, not, take, drop, bytes_eq, codes, IsTrue, IsUtf8, slice_index};
 ghost use Rattle.std.specs.List.{position_or_len, before_first, after_first, prefix_len};
+ghost use Rattle.http_uri.specs.Uri.{uri_data};
 ghost use Rattle.stamp_values.specs.Ascii.{number_sign, slash};
-ghost use Rattle.request_form.specs.Targets.{address_limit, lowered, is_in_authority, origin_of, is_origin, path_of, query_text, query_of, target_of, parameter_of, account_of, after_account, container_of, blob_of, kind_of, is_nothing, pieces_of};
+ghost use Rattle.request_form.specs.Targets.{address_limit, lowered, is_in_authority, origin_of, is_origin, path_of, query_text, query_of, target_of, parameter_of, account_of, after_account, container_of, blob_of, path_kind_of, is_nothing, pieces_of};
 
 use crate::path_kind::PathKind;
 use http_uri::{Uri, UriError};
@@ -93,49 +94,56 @@ fn origin(target: &[u8]) -> &[u8]
     &target[7 + len..]
 }
 
-// Whether a text that begins with `/` and has no `#` is an address.
-fn is_spelled(alloc: Global, origin: &[u8]) -> Result<bool, AllocError>
+// The address that a text spells which begins with `/` and has no `#`: the whole text is the address's path and query.
+fn spelled(alloc: Global, origin: &[u8]) -> Result<Option<Uri>, AllocError>
     requires start { slice_index origin.now 0 ≡ slash }
     requires unsigned { position_or_len (λ b. b == number_sign) origin.now ≡ length origin.now }
     requires short { length origin.now ≤ address_limit }
     requires utf8 { IsUtf8 origin.now }
-    ensures { IfOk result (λ b. b ≡ is_origin origin.now) }
+    ensures { IfOk result (λ o. MatchOption o (is_origin origin.now ≡ false)
+        (λ a. (is_origin origin.now ≡ true) × (uri_data a ≡ origin.now))) }
 {
     match Uri::from_bytes(alloc, origin) {
-        Ok(_address) => Ok(true),
-        Err(UriError::Invalid(_)) => Ok(false),
+        Ok(address) => Ok(Some(address)),
+        Err(UriError::Invalid(_)) => Ok(None),
         Err(UriError::OutOfMemory) => Err(AllocError),
     }
 }
 
-// Whether a text is an origin form: it begins with `/` and has only bytes of a path and a query (RFC 9112, section 3.2.1;
+// The address of a text that is an origin form: the text begins with `/` and has only bytes of a path and a query (RFC 9112, section 3.2.1;
 // RFC 3986, section 3). So it is not `*`, and it has no fragment.
 #[tactic(auto, using(crate::proofs::TargetLemmas::is_origin_signed), unfolding(crate::specs::Targets::is_origin))]
-fn is_origin(alloc: Global, origin: &[u8]) -> Result<bool, AllocError>
+fn address(alloc: Global, origin: &[u8]) -> Result<Option<Uri>, AllocError>
     requires short { length origin.now ≤ address_limit }
     requires utf8 { IsUtf8 origin.now }
-    ensures { IfOk result (λ b. b ≡ is_origin origin.now) }
+    ensures { IfOk result (λ o. MatchOption o (is_origin origin.now ≡ false)
+        (λ a. (is_origin origin.now ≡ true) × (uri_data a ≡ origin.now))) }
 {
     // The reader of addresses takes `*`, and leaves out a fragment without an error.
     if origin.first() != Some(&b'/') || position(origin, b'#') < origin.len() {
-        return Ok(false);
+        return Ok(None);
     }
-    is_spelled(alloc, origin)
+    spelled(alloc, origin)
 }
 
 // The path of an origin form, as it was sent.
-#[tactic(auto, unfolding(crate::specs::Targets::path_of))]
-fn path(origin: &[u8]) -> &[u8]
-    ensures { result.now ≡ path_of origin.now }
+#[tactic(auto, using(crate::proofs::TargetLemmas::path_of_address))]
+fn path(alloc: Global, address: &Uri) -> Result<Bytes, AllocError>
+    requires { is_origin (uri_data address.now) ≡ true }
+    ensures { IfOk result (λ b. b ≡ path_of (uri_data address.now)) }
 {
-    before(origin, b'?')
+    Ok(Bytes::new(address.path().as_bytes().to_vec(alloc)?))
 }
 
-#[tactic(auto, unfolding(crate::specs::Targets::query_text))]
-fn query_text(origin: &[u8]) -> &[u8]
-    ensures { result.now ≡ query_text origin.now }
+// The query of an address, as it was sent; no bytes if it has no query.
+#[tactic(auto, using(crate::proofs::TargetLemmas::query_text_some, crate::proofs::TargetLemmas::query_text_none))]
+fn query_text(address: &Uri) -> &str
+    ensures { result.now ≡ query_text (uri_data address.now) }
 {
-    after(origin, b'?')
+    match address.query() {
+        Some(text) => text,
+        None => "",
+    }
 }
 
 // Puts the parameter of a piece at the end: the piece is cut at its first `=`, and each side is decoded.
@@ -162,10 +170,10 @@ fn read_parameters(alloc: Global, query: &[u8]) -> Result<FieldList, AllocError>
 }
 
 #[tactic(auto, unfolding(crate::specs::Targets::query_of))]
-fn query(alloc: Global, origin: &[u8]) -> Result<FieldList, AllocError>
-    ensures { IfOk result (λ q. q ≡ query_of origin.now) }
+fn query(alloc: Global, address: &Uri) -> Result<FieldList, AllocError>
+    ensures { IfOk result (λ q. q ≡ query_of (uri_data address.now)) }
 {
-    read_parameters(alloc, query_text(origin))
+    read_parameters(alloc, query_text(address).as_bytes())
 }
 
 /// The path and the parameters of a target, by rule F1: `None` if the target has no origin form.
@@ -178,12 +186,11 @@ pub(crate) fn read_target(alloc: Global, target: &[u8]) -> Result<Option<Target>
     ensures { IfOk result (λ o. MatchOption o (is_origin (origin_of target.now) ≡ false)
         (λ t. (is_origin (origin_of target.now) ≡ true) × (t ≡ target_of target.now))) }
 {
-    let origin = origin(target);
-    if !is_origin(alloc, origin)? {
+    let Some(address) = address(alloc, origin(target))? else {
         return Ok(None);
-    }
-    let path = Bytes::new(path(origin).to_vec(alloc)?);
-    let query = query(alloc, origin)?;
+    };
+    let path = path(alloc, &address)?;
+    let query = query(alloc, &address)?;
     Ok(Some(Target { path, query }))
 }
 
@@ -229,9 +236,9 @@ pub(crate) fn blob(path: &[u8]) -> &[u8]
 }
 
 /// What a path names, by how many parts it has. An empty last part does not count.
-#[tactic(auto, unfolding(crate::specs::Targets::kind_of))]
+#[tactic(auto, unfolding(crate::specs::Targets::path_kind_of))]
 pub(crate) fn kind(path: &[u8]) -> PathKind
-    ensures { result ≡ kind_of path.now }
+    ensures { result ≡ path_kind_of path.now }
 {
     if tail(path).is_empty() {
         PathKind::Root

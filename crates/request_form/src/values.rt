@@ -13,7 +13,7 @@ ghost use Rattle.request_form.specs.HeadReads.{RefusesValue};
 ghost use Rattle.request_form.specs.HeadRules as heads;
 
 use crate::condition_field::condition_by;
-use crate::head_fields::{is_meta, is_ms, md5_of};
+use crate::head_fields::{is_meta, is_own_name, md5_of};
 use crate::level_field::level_by;
 use crate::metadata_fields::read_metadata;
 use crate::operation::is_put_blob;
@@ -28,7 +28,7 @@ use std::alloc::Global;
 fn is_own_twice(fields: &FieldList, name: &[u8]) -> bool
     ensures { result ≡ heads.is_own_twice fields.now name.now }
 {
-    is_ms(name) && !is_meta(name) && fields.is_sent_twice(name)
+    is_own_name(name) && !is_meta(name) && fields.is_sent_twice(name)
 }
 
 #[tactic(auto, unfolding(crate::specs::HeadRules::has_own_twice))]
