@@ -1,4 +1,4 @@
-//! Tests of block lists as bodies, and of one blob of blocks, by their public calls.
+//! Tests of block lists and stored policies as bodies, and of one blob of blocks, by their public calls.
 #![tactic(auto)]
 
 #[cfg(test)]
@@ -12,3 +12,5 @@ mod sample_blobs;
 mod sample_entries;
 #[cfg(test)]
 mod written_list_tests;
+#[cfg(test)]
+mod written_policy_tests;

@@ -1,6 +1,7 @@
 pub mod AttributeTurns
 pub mod Complete
 pub mod ElementTurns
+pub mod EscapeLemmas
 pub mod FaultLemmas
 pub mod FrontLemmas
 pub mod IdLemmas
@@ -11,3 +12,4 @@ pub mod Readings
 pub mod Runs
 pub mod Sound
 pub mod TextLemmas
+pub mod WrittenLemmas

@@ -1,6 +1,7 @@
 pub mod BlockLists
 pub mod Bodies
 pub mod ElementReading
+pub mod Escapes
 pub mod FrontReading
 pub mod Ids
 pub mod Markup
@@ -9,3 +10,4 @@ pub mod Reading
 pub mod Texts
 pub mod Tokens
 pub mod WrittenLists
+pub mod WrittenPolicies

@@ -2,6 +2,7 @@
 ghost use Rattle.std.specs.Prelude.{◌≡◌, ◌↔◌, List, ℕ, Some};
 ghost use Rattle.body_forms.specs.Bodies.{IsBlockListBody};
 ghost use Rattle.body_forms.specs.BlockLists.{Entry};
+ghost use Rattle.body_forms.specs.Escapes.{escaped, IsReadBack};
 ghost use Rattle.body_forms.specs.FrontReading.{body_entries};
 
 /// A body is a block list in one way at most: it has one list of entries.
@@ -14,4 +15,9 @@ pub fn a_body_is_read_in_one_way()
 pub fn the_reading_is_the_grammar()
     ensures { (body : List ℕ) (entries : List Entry)
         → IsBlockListBody body entries ↔ (body_entries body ≡ Some entries) }
+{}
+
+/// A text that is written with references is read back as itself, and as no other text.
+pub fn what_is_escaped_is_read_back()
+    ensures { (text : List ℕ) → IsReadBack text (escaped text) }
 {}
