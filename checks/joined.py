@@ -5,6 +5,8 @@ import subprocess
 import tree
 
 JOINED = "joined_tests"
+# How long one test may take, in seconds: five times what the toolchain gives it, since proofs run beside the tests.
+LONGEST = 300
 PASSED = re.compile(r"^test result: ok\. (\d+) passed; 0 failed", re.M)
 
 
@@ -39,5 +41,5 @@ def run_tests(names):
     with tree.copy_of_tree(tree.with_crates_below(names), ()) as copy:
         folder = write_joined(copy, names)
         how = {"stdin": subprocess.DEVNULL, "stdout": subprocess.PIPE, "stderr": subprocess.STDOUT, "text": True, "errors": "replace"}
-        ran = subprocess.run(["rt", "try", "--test"], cwd=folder, **how)
+        ran = subprocess.run(["rt", "try", "--test", "--seconds", str(LONGEST)], cwd=folder, **how)
     return not ran.returncode and have_all_passed(ran.stdout, wanted), f"{ran.stdout}prove: there are {wanted} tests\n"
