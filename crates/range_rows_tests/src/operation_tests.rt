@@ -3,7 +3,7 @@
 
 use crate::sample_requests::{allowed, body, four_names, make, moment_after, request_with};
 use range_rows::{Answer, Reading, Rows, is_served};
-use stamp_types::{Header, Moment, Op, Piece, Request, Status};
+use stamp_types::{Change, Header, Moment, Op, Piece, Request, Status};
 use std::alloc::Global;
 use std::process::Abort;
 
@@ -175,16 +175,27 @@ fn answer(
     answer.expect(rt, "memory")
 }
 
-// Makes the change of the request, if its operation writes.
-fn change(rt: &impl Abort, alloc: Global, rows: &mut Rows, request: &Request, moment: Moment) {
-    if !request.ask().op.writes() {
-        return;
-    }
-    assert!(rt; is_served(request.ask().op));
+// The change of a request whose operation writes.
+fn change_of(
+    rt: &impl Abort,
+    alloc: Global,
+    rows: &Rows,
+    request: &Request,
+    moment: Moment,
+) -> Change {
+    assert!(rt; request.ask().op.writes() && is_served(request.ask().op));
     let reading = Reading::of(alloc, request).expect(rt, "memory");
     let allowed = allowed(rt, alloc, rows, request, &reading);
     let change = allowed.change(alloc, request, reading, moment);
-    make(rt, alloc, rows, change.expect(rt, "memory"));
+    change.expect(rt, "memory")
+}
+
+// Makes the change of the request, if its operation writes.
+fn change(rt: &impl Abort, alloc: Global, rows: &mut Rows, request: &Request, moment: Moment) {
+    if request.ask().op.writes() {
+        let change = change_of(rt, alloc, rows, request, moment);
+        make(rt, alloc, rows, change);
+    }
 }
 
 fn asked(rt: &impl Abort, alloc: Global, op: Op) -> Request {

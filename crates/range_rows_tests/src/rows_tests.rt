@@ -102,14 +102,13 @@ fn make_as(rt: &impl Abort, alloc: Global, rows: &mut Rows, change: Change, way:
     }
 }
 
-// Makes the change of a Put Blob.
-fn change(rt: &impl Abort, alloc: Global, rows: &mut Rows, request: &Request, way: Way) {
+// The change of a Put Blob.
+fn change_of(rt: &impl Abort, alloc: Global, rows: &Rows, request: &Request) -> Change {
     assert!(rt; request.ask().op == Op::PutBlob);
     let reading = Reading::of(alloc, request).expect(rt, "memory");
     let allowed = allowed(rt, alloc, rows, request, &reading);
     let change = allowed.change(alloc, request, reading, moment(rt));
-    let change = change.expect(rt, "memory");
-    make_as(rt, alloc, rows, change, way);
+    change.expect(rt, "memory")
 }
 
 // The answer, whose frame has this status and length, and no body.
@@ -135,7 +134,8 @@ fn put(rt: &impl Abort, alloc: Global, rows: &mut Rows, blob: &str, body: Body, 
     let request = request(rt, alloc, Op::PutBlob, "pics", blob, None, body);
     let answer = answer(rt, alloc, rows, &request, Status::Created, 0);
     assert!(rt; answer.spans.as_slice().is_empty());
-    change(rt, alloc, rows, &request, way);
+    let change = change_of(rt, alloc, rows, &request);
+    make_as(rt, alloc, rows, change, way);
 }
 
 // The spans that go out on a Get Blob of a blob of so many bytes. The metadata has its line after
