@@ -9,7 +9,7 @@ use Rattle.std.specs.Cmp.Lexicographic.{pointwise}
 use Rattle.md5.specs.Md5.{md5}
 use Rattle.stamp_values.specs.Limits.{blob_limit, entries_limit}
 use Rattle.stamp_values.specs.Order.{name_cmp}
-use Rattle.stamp_values.specs.Operations.{has_conditions, writes}
+use Rattle.stamp_values.specs.Operations.{has_conditions, is_op, writes}
 use Rattle.stamp_values.specs.declared.condition.ByteRange.{ByteRange}
 use Rattle.stamp_values.specs.declared.condition.Condition.{Condition}
 use Rattle.stamp_values.specs.declared.condition.Condition.TheVariants as condition
@@ -51,33 +51,13 @@ needs_blob op.SetMetadata = true
 needs_blob op.DeleteBlob = true
 needs_blob _ = false
 
--- the operation is Create Container
-abbrev pub is_create : Op → Bool
-is_create op.CreateContainer = true
-is_create _ = false
-
--- the operation is Put Blob
-abbrev pub is_put : Op → Bool
-is_put op.PutBlob = true
-is_put _ = false
-
--- the operation is Get Blob
-abbrev pub is_get : Op → Bool
-is_get op.GetBlob = true
-is_get _ = false
-
--- the operation is Get Block List
-abbrev pub is_list : Op → Bool
-is_list op.GetBlockList = true
-is_list _ = false
-
 -- what readers see of the blob that the request names, if it names one
 abbrev pub named_blob : {C : Type 0} → Part C → Ask → Option (Committed C)
 named_blob p a = option_and_then (λ name. (blob_in p name).committed) a.blob
 
 -- the request needs something of a blob that the blob does not have
 abbrev pub lacks_blob : Part ℕ → Ask → Bool
-lacks_blob p a = (needs_blob a.op && is_none (named_blob p a)) || (is_list a.op && not (has_listed a.args.kinds (target_blob p a)))
+lacks_blob p a = (needs_blob a.op && is_none (named_blob p a)) || (is_op op.GetBlockList a.op && not (has_listed a.args.kinds (target_blob p a)))
 
 -- the value of x-ms-blob-content-md5
 abbrev pub kept_md5 : Ask → Option (List ℕ)
@@ -90,7 +70,7 @@ has_other_md5 body (Some sum) = not (pointwise nat_eq sum (md5 body))
 
 -- the body has another MD5 than Content-MD5 says, or on Put Blob than x-ms-blob-content-md5 says
 abbrev pub is_damaged : Asked → Bool
-is_damaged q = has_other_md5 q.body q.ask.args.content_md5 || (is_put q.ask.op && has_other_md5 q.body (kept_md5 q.ask))
+is_damaged q = has_other_md5 q.body q.ask.args.content_md5 || (is_op op.PutBlob q.ask.op && has_other_md5 q.body (kept_md5 q.ask))
 
 -- the blob matches the condition: `*` matches each blob that readers see, an ETag matches the blob that has it
 abbrev pub matches : {C : Type 0} → Option (Committed C) → Condition → Bool
@@ -134,7 +114,7 @@ starts_past (Some c) (Some r) = nat_le (blob_size c) r.first
 
 -- a range is sent on Get Blob, and its first byte comes after the last byte of the blob
 abbrev pub is_past_the_end : Part ℕ → Ask → Bool
-is_past_the_end p a = is_get a.op && starts_past (named_blob p a) a.args.range
+is_past_the_end p a = is_op op.GetBlob a.op && starts_past (named_blob p a) a.args.range
 
 -- the request puts a block, and this is true of the block's id and the uncommitted blocks of its blob
 abbrev pub of_its_block : (List ℕ → FinMap name_cmp ℕ → Bool) → Part ℕ → Ask → Bool
@@ -167,7 +147,7 @@ pub data Cause : Type 0 where
 -- whether a cause to refuse exists, if the container is as this part of the world says: each cause by itself
 abbrev pub cause_holds : Part ℕ → Asked → Cause → Bool
 cause_holds p q ContainerIsAbsent = needs_container q.ask.op && is_none p.standing
-cause_holds p q ContainerExists = is_create q.ask.op && is_some p.standing
+cause_holds p q ContainerExists = is_op op.CreateContainer q.ask.op && is_some p.standing
 cause_holds p q BlobIsAbsent = lacks_blob p q.ask
 cause_holds p q MatchFails = fails_if_match p q.ask
 cause_holds p q IsNotModified = not (writes q.ask.op) && fails_if_none_match p q.ask

@@ -1,6 +1,7 @@
 //! The rules of the object.
 ghost use Rattle.std.specs.Prelude.{◌≡◌, ◌&&◌, ◌||◌, ℕ, IfOk, IsErr, is_none, is_some, nat_le, not};
 ghost use Rattle.std.specs.Option.{option_copied};
+ghost use Rattle.stamp_values.specs.Operations.{is_op};
 ghost use Rattle.stamp_values.specs.declared.op.Op.TheVariants as op;
 ghost use Rattle.stamp_types.specs.Pieces.{pieces_len};
 ghost use Rattle.stamp_types.specs.World.{Part, blob_value};
@@ -53,7 +54,7 @@ fn has_listed(kinds: Option<BlockKinds>, seen: &FoundBlob<'_>) -> bool
 // Whether the request needs something of the blob that the blob does not have.
 fn lacks_blob(ask: &Ask, seen: &FoundBlob<'_>) -> bool
     ensures { result ≡ ((rules.needs_blob ask.now.op && is_none (sized seen.now.committed))
-        || (rules.is_list ask.now.op
+        || (is_op op.GetBlockList ask.now.op
         && not (blobs.has_listed ask.now.args.kinds (blob_value pieces_len seen.now)))) }
 {
     (needs_blob(ask.op) && seen.committed().is_none())

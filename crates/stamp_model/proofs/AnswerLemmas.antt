@@ -5,7 +5,7 @@ use Rattle.std.specs.Prelude.{is_none, is_some}
 use Rattle.std.specs.FinMap.{entries}
 use Rattle.std.specs.Option.{option_map, option_and_then}
 use Rattle.stamp_values.specs.Maps.{entry_value}
-use Rattle.stamp_values.specs.Operations.{names_blob, keeps_headers, writes}
+use Rattle.stamp_values.specs.Operations.{is_op, keeps_headers, names_blob, writes}
 use Rattle.stamp_values.specs.Order.{names_exact, names_total}
 use Rattle.stamp_values.specs.declared.block.BlockKinds.{BlockKinds}
 use Rattle.stamp_values.specs.declared.block.BlockKinds.TheVariants as kinds
@@ -25,7 +25,7 @@ use Rattle.access_rules.specs.declared.keys.Keys.{Keys}
 use Rattle.range_rows.specs.ObjectReplies.{byte_count, sizes, standing_read, blob_read, frame_by, bytes_by, with_content, reply_of}
 use Rattle.row_trees.specs.FoundParts.{has_uncommitted}
 use Rattle.range_rows.specs.NamedBlobs.{has_listed, target_blob}
-use Rattle.range_rows.specs.ObjectRules.{needs_container, needs_blob, is_list, named_blob, object_refusal}
+use Rattle.range_rows.specs.ObjectRules.{needs_container, needs_blob, named_blob, object_refusal}
 use Rattle.range_rows.specs.ObjectRules.Cause.{BlobIsAbsent}
 use Rattle.range_rows.specs.RequestChanges.{put_blob, put_block_list, set_container_metadata, set_metadata, act_by, change_of, part_after}
 use Rattle.range_rows.proofs.AnswerLemmas.{blob_in-put_list, blob_in-put}
@@ -33,7 +33,7 @@ use Rattle.range_rows.proofs.BlockLemmas.{target_blob-part_value}
 use Rattle.range_rows.proofs.ListLemmas.{entries-map_values}
 use Rattle.stamp_model.specs.Refusals.{refusal}
 use Rattle.stamp_model.specs.Effects.{unless_refused, change, effect}
-use Rattle.stamp_model.specs.Responses.{tells_container, tells_blob, tells_blocks}
+use Rattle.stamp_model.specs.Responses.{tells_container, tells_blob}
 use Rattle.stamp_model.proofs.ArgumentLemmas.{no_cause}
 use Rattle.stamp_model.proofs.EffectLemmas.{on_key}
 use Rattle.stamp_model.proofs.ObjectLemmas.{is_some-mapped, container_needed, blob_needed}
@@ -124,26 +124,26 @@ module _ (keys : Option Keys) (w : World (List ℕ)) (q : Asked) (t : ℕ) (free
   abbrev listed_in : Part (List ℕ) → Bool
   listed_in p = has_listed q.ask.args.kinds (target_blob p q.ask)
 
-  listed_by : (o : Op) → q.ask.op ≡ o → tells_blocks o ≡ true → listed_in (part_at w q.ask.key) ≡ true
+  listed_by : (o : Op) → q.ask.op ≡ o → is_op op.GetBlockList o ≡ true → listed_in (part_at w q.ask.key) ≡ true
   listed_by op.GetBlockList is tells =
       sym (has_listed-read byte_count (target_blob (part_at w q.ask.key) q.ask) q.ask.args.kinds)
       ∙ ap (λ (b : Blob ℕ). has_listed q.ask.args.kinds b) (sym (target_blob-part_value byte_count (part_at w q.ask.key) q.ask))
       ∙ not_missing (has_listed q.ask.args.kinds (target_blob (sizes (part_at w q.ask.key)) q.ask))
-      (sym (ap (λ (o : Op). (needs_blob o && is_none (named_blob (sizes (part_at w q.ask.key)) q.ask)) || (is_list o && not (has_listed q.ask.args.kinds (target_blob (sizes (part_at w q.ask.key)) q.ask)))) is)
+      (sym (ap (λ (o : Op). (needs_blob o && is_none (named_blob (sizes (part_at w q.ask.key)) q.ask)) || (is_op op.GetBlockList o && not (has_listed q.ask.args.kinds (target_blob (sizes (part_at w q.ask.key)) q.ask)))) is)
       ∙ no_cause keys (sizes (part_at w q.ask.key)) q t free BlobIsAbsent)
   listed_by other is tells = cc
 
-  reads_by : (o : Op) → tells_blocks o ≡ true → writes o ≡ false
+  reads_by : (o : Op) → is_op op.GetBlockList o ≡ true → writes o ≡ false
   reads_by op.GetBlockList tells = refl
   reads_by other tells = cc
 
   -- if nothing refuses a request whose answer tells of blocks, the blob has what is listed
-  pub blocks-unrefused : tells_blocks q.ask.op ≡ true → listed_in (part_at (effect keys w q t) q.ask.key) ≡ true
+  pub blocks-unrefused : is_op op.GetBlockList q.ask.op ≡ true → listed_in (part_at (effect keys w q t) q.ask.key) ≡ true
   blocks-unrefused tells =
       ap (λ (v : World (List ℕ)). listed_in (part_at v q.ask.key)) (effect-read keys w q t (reads_by q.ask.op tells)) ∙ listed_by q.ask.op refl tells
 
 module _ (q : Asked) (s r : Standing) (c d : Committed ℕ) (b g : Blob ℕ) (e h : Committed (List ℕ)) where
-  neither_told : (o : Op) → tells_container o ≡ false → tells_blob o ≡ false → tells_blocks o ≡ false
+  neither_told : (o : Op) → tells_container o ≡ false → tells_blob o ≡ false → is_op op.GetBlockList o ≡ false
       → with_content (frame_by o q s c b) (bytes_by o q.ask.args.range e) ≡ with_content (frame_by o q r d g) (bytes_by o q.ask.args.range h)
   neither_told op.CreateContainer container blob blocks = cc
   neither_told op.ContainerProperties container blob blocks = cc
@@ -158,7 +158,7 @@ module _ (q : Asked) (s r : Standing) (c d : Committed ℕ) (b g : Blob ℕ) (e 
   neither_told other container blob blocks = refl
 
 -- an answer that tells neither of the container nor of the blob is the same whatever the container is
-pub reply_of-neither : (p r : Part (List ℕ)) (q : Asked) → tells_container q.ask.op ≡ false → tells_blob q.ask.op ≡ false → tells_blocks q.ask.op ≡ false → reply_of p q ≡ reply_of r q
+pub reply_of-neither : (p r : Part (List ℕ)) (q : Asked) → tells_container q.ask.op ≡ false → tells_blob q.ask.op ≡ false → is_op op.GetBlockList q.ask.op ≡ false → reply_of p q ≡ reply_of r q
 reply_of-neither p r q container blob blocks =
     neither_told q (standing_read (sizes p)) (standing_read (sizes r)) (blob_read (sizes p) q.ask) (blob_read (sizes r) q.ask)
     (target_blob (sizes p) q.ask) (target_blob (sizes r) q.ask) (blob_read p q.ask) (blob_read r q.ask) q.ask.op container blob blocks

@@ -8,7 +8,7 @@ use Rattle.std.specs.List.{flat_map}
 use Rattle.std.specs.Option.{option_map, option_and_then, option_to_list}
 use Rattle.md5.specs.Md5.{md5}
 use Rattle.stamp_values.specs.Maps.{map_values}
-use Rattle.stamp_values.specs.Operations.{keeps_headers}
+use Rattle.stamp_values.specs.Operations.{is_op, keeps_headers}
 use Rattle.stamp_values.specs.Order.{name_cmp, names_total, names_exact}
 use Rattle.stamp_values.specs.declared.block.BlockKinds.{BlockKinds}
 use Rattle.stamp_values.specs.declared.block.BlockKinds.TheVariants as kinds
@@ -41,7 +41,7 @@ use Rattle.access_rules.specs.declared.keys.Keys.{Keys}
 use Rattle.block_blobs.specs.BlockLists.{first_missing, found_entries, source_of, sources_of, taken_from}
 use Rattle.range_rows.specs.NamedBlobs.{has_listed, target_blob}
 use Rattle.range_rows.specs.ObjectReplies.{blob_content, byte_count, date_headers, kept_lines, list_text, ranged_bytes, ranged_frame, sizes, with_content}
-use Rattle.range_rows.specs.ObjectRules.{cause_holds, cause_refusal, causes, is_create, is_list, lacks_blob, named_blob, needs_blob, needs_container, object_refusal}
+use Rattle.range_rows.specs.ObjectRules.{cause_holds, cause_refusal, causes, lacks_blob, named_blob, needs_blob, needs_container, object_refusal}
 use Rattle.range_rows.specs.ObjectRules.Cause.{ContainerIsAbsent, ContainerExists, BlobIsAbsent, BlockIsMissing}
 use Rattle.range_rows.specs.Readings.{wanted_blocks}
 use Rattle.range_rows.specs.RequestChanges.{act_by, put_blob, put_block, put_block_list}
@@ -282,9 +282,9 @@ object_refusal-list p q name is named exists none =
     ap (λ (blob : Option (List ℕ)). unwrap_or (option_map (blob_in (sizes p)) blob) no_blob) named
     ∙ blob_in-part_value byte_count p name ∙ ap (λ (b : Blob (List ℕ)). blob_value byte_count b) none ∙ blob_value-no_blob byte_count in
     let lacks : lacks_blob (sizes p) q.ask ≡ true =
-    (λ i. (needs_blob (is i) && is_none (named_blob (sizes p) q.ask)) || (is_list (is i) && not (has_listed q.ask.args.kinds (target i))))
+    (λ i. (needs_blob (is i) && is_none (named_blob (sizes p) q.ask)) || (is_op op.GetBlockList (is i) && not (has_listed q.ask.args.kinds (target i))))
     ∙ ap (λ b. not b) (nothing_listed q.ask.args.kinds) in
-    let makes : (is_create q.ask.op && is_some p.standing) ≡ false = ap (λ (o : Op). is_create o && is_some p.standing) is in
+    let makes : (is_op op.CreateContainer q.ask.op && is_some p.standing) ≡ false = ap (λ (o : Op). is_op op.CreateContainer o && is_some p.standing) is in
     λ i. option_map cause_refusal (cond (there_is (needs_container q.ask.op) p.standing exists i) (Some ContainerIsAbsent)
     (cond (makes i) (Some ContainerExists) (cond (lacks i) (Some BlobIsAbsent) (find (cause_holds (sizes p) q) (drop 3 causes)))))
 

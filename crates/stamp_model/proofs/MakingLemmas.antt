@@ -4,6 +4,7 @@ use Rattle.std.proofs.lemmas.List.{reverse-append}
 use Rattle.std.proofs.lemmas.List.Folds.{find-append}
 use Rattle.std.specs.Prelude.{find, is_some}
 use Rattle.std.specs.Option.{option_map, option_or}
+use Rattle.stamp_values.specs.Operations.{is_op}
 use Rattle.stamp_values.specs.declared.key.Key.{Key}
 use Rattle.stamp_values.specs.declared.op.Op.{Op}
 use Rattle.stamp_values.specs.declared.op.Op.TheVariants as op
@@ -15,7 +16,7 @@ use Rattle.stamp_types.specs.Requests.{Asked}
 use Rattle.stamp_types.specs.World.{Part, no_part, standing_with_metadata}
 use Rattle.access_rules.specs.declared.keys.Keys.{Keys}
 use Rattle.range_rows.specs.ObjectReplies.{sizes}
-use Rattle.range_rows.specs.ObjectRules.{is_create, needs_container, object_refusal}
+use Rattle.range_rows.specs.ObjectRules.{needs_container, object_refusal}
 use Rattle.range_rows.specs.RequestChanges.{set_container_metadata, act_by, change_of, part_after}
 use Rattle.stamp_model.specs.Effects.{unless_refused}
 use Rattle.stamp_model.specs.Histories.{pair_of, after_entry, replay_from, replay, makes_or_deletes, operations, last_making_or_deletion, IsAccepted, IsLegal, IsLegalFrom}
@@ -28,7 +29,7 @@ use Rattle.stamp_model.proofs.ReplyLemmas.{unrefused}
 -- whether a container exists after the last operation that makes it or deletes it, if it existed before all of them
 abbrev exists_after : Option Op → Bool → Bool
 exists_after None b = b
-exists_after (Some o) b = is_create o
+exists_after (Some o) b = is_op op.CreateContainer o
 
 in_turn : (x y : Option Op) (b : Bool) → exists_after (option_or x y) b ≡ exists_after x (exists_after y b)
 in_turn None y b = refl

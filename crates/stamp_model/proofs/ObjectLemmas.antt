@@ -3,6 +3,7 @@ use Rattle.std.proofs.Common.{◌≡◌, ℕ, Bool, true, false, cond, not, ◌&
 use Rattle.std.specs.Prelude.{find, is_none, is_some}
 use Rattle.std.specs.Option.{option_map, option_and_then}
 use Rattle.std.specs.FinMap as finite
+use Rattle.stamp_values.specs.Operations.{is_op}
 use Rattle.stamp_values.specs.Order.{name_cmp}
 use Rattle.stamp_values.specs.declared.op.Op.{Op}
 use Rattle.stamp_values.specs.declared.op.Op.TheVariants as op
@@ -11,7 +12,7 @@ use Rattle.stamp_types.specs.Requests.{Asked}
 use Rattle.stamp_types.specs.World.{Blob, Part, no_blob, blob_in, committed_value}
 use Rattle.range_rows.specs.ObjectReplies.{byte_count, sizes}
 use Rattle.range_rows.specs.NamedBlobs.{has_listed, target_blob}
-use Rattle.range_rows.specs.ObjectRules.{needs_container, needs_blob, is_create, is_list, named_blob, Cause, cause_holds, cause_refusal, causes, object_refusal}
+use Rattle.range_rows.specs.ObjectRules.{needs_container, needs_blob, named_blob, Cause, cause_holds, cause_refusal, causes, object_refusal}
 use Rattle.range_rows.specs.ObjectRules.Cause.{ContainerIsAbsent, ContainerExists, BlobIsAbsent}
 use Rattle.range_rows.proofs.AnswerLemmas.{named_blob-part_value}
 
@@ -38,7 +39,7 @@ there_is true None h = cc
 there_is true (Some x) h = refl
 there_is false o h = refl
 
-no_creation : (o : Op) (b : Bool) → needs_blob o ≡ true → (is_create o && b) ≡ false
+no_creation : (o : Op) (b : Bool) → needs_blob o ≡ true → (is_op op.CreateContainer o && b) ≡ false
 no_creation op.CreateContainer b needs = cc
 no_creation other b needs = refl
 
@@ -73,7 +74,7 @@ module _ (p : Part (List ℕ)) (q : Asked) where
       let unseen : named_blob (sizes p) q.ask ≡ None = named_blob-part_value byte_count p q.ask ∙ ap (option_map (committed_value byte_count)) none in
       λ i. option_map cause_refusal (cond (there_is (needs_container q.ask.op) p.standing exists i) (Some ContainerIsAbsent)
       (cond (no_creation q.ask.op (is_some p.standing) needs i) (Some ContainerExists)
-      (cond ((needs i && is_none (unseen i)) || (is_list q.ask.op && not (has_listed q.ask.args.kinds (target_blob (sizes p) q.ask)))) (Some BlobIsAbsent) (find (cause_holds (sizes p) q) (drop 3 causes)))))
+      (cond ((needs i && is_none (unseen i)) || (is_op op.GetBlockList q.ask.op && not (has_listed q.ask.args.kinds (target_blob (sizes p) q.ask)))) (Some BlobIsAbsent) (find (cause_holds (sizes p) q) (drop 3 causes)))))
 
   -- readers see no blob in a container without blobs
   pub named_blob-empty : p.blobs ≡ finite.empty → named_blob p q.ask ≡ None

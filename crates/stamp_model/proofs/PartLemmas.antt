@@ -7,7 +7,7 @@ use Rattle.std.proofs.lemmas.List.Sums.{sum_by-cons}
 use Rattle.std.specs.Prelude.{Contains, is_some, sum_by}
 use Rattle.std.specs.List.{flat_map, slice_range}
 use Rattle.std.specs.Option.{option_map, option_map_or}
-use Rattle.stamp_values.specs.Operations.{writes}
+use Rattle.stamp_values.specs.Operations.{is_op, writes}
 use Rattle.stamp_values.specs.declared.condition.ByteRange.{ByteRange}
 use Rattle.stamp_values.specs.declared.key.Key.{Key}
 use Rattle.stamp_values.specs.declared.op.Op.TheVariants as op
@@ -21,7 +21,7 @@ use Rattle.stamp_types.specs.World.{Part, World, block_value, committed_value, p
 use Rattle.access_rules.specs.declared.keys.Keys.{Keys}
 use Rattle.range_rows.specs.ObjectReplies.{blob_content, byte_count, bytes_by, date_headers, empty_blob, frame_by, get_frame, kept_lines, part_frame, part_headers, range_end, ranged_bytes, ranged_frame, reply_of, sent_range, sizes, standing_read, with_content, without_md5}
 use Rattle.range_rows.specs.NamedBlobs.{target_blob}
-use Rattle.range_rows.specs.ObjectRules.{Cause, blob_size, cause_holds, is_get, named_blob, needs_blob, starts_past}
+use Rattle.range_rows.specs.ObjectRules.{Cause, blob_size, cause_holds, named_blob, needs_blob, starts_past}
 use Rattle.range_rows.specs.ObjectRules.Cause.{BlobIsAbsent, RangeIsPastTheEnd}
 use Rattle.range_rows.proofs.AnswerLemmas.{named_blob-part_value}
 use Rattle.stamp_model.specs.Ranges.{IsPartOf, without_range}
@@ -128,7 +128,7 @@ module _ (keys : Option Keys) (w : World (List ℕ)) (q : Asked) (t : ℕ) (boun
   starts_within : (r : ByteRange) → q.ask.args.range ≡ Some r → r.first < length (blob_content d)
   starts_within r asks =
       let unpast : nat_le (blob_size (committed_value byte_count d)) r.first ≡ false =
-      sym (λ i. is_get (gets i) && starts_past (named-sized i) (asks i)) ∙ no_cause keys (sizes (part_at w q.ask.key)) q t free RangeIsPastTheEnd in
+      sym (λ i. is_op op.GetBlob (gets i) && starts_past (named-sized i) (asks i)) ∙ no_cause keys (sizes (part_at w q.ask.key)) q t free RangeIsPastTheEnd in
       subst (λ n. r.first < n) (sizes_of_bytes d.blocks) (leb-false (blob_size (committed_value byte_count d)) r.first unpast)
 
 -- ---- a part and the whole
@@ -143,7 +143,7 @@ seen f (Some c) h = (c, refl)
 
 -- to take the range away adds no cause to refuse a request
 fewer_causes : (q : Asked) (p : Part ℕ) (c : Cause) → cause_holds p q c ≡ false → cause_holds p (without_range q) c ≡ false
-fewer_causes q p RangeIsPastTheEnd h = and_false (is_get q.ask.op)
+fewer_causes q p RangeIsPastTheEnd h = and_false (is_op op.GetBlob q.ask.op)
 fewer_causes q p other h = h
 
 module _ (keys : Option Keys) (w : World (List ℕ)) (q : Asked) (t : ℕ) (bound : Option Key) (r : ByteRange) (fits : IsAsk q.ask) (asks : q.ask.args.range ≡ Some r)

@@ -6,7 +6,7 @@ use Rattle.std.specs.FinMap as finite
 use Rattle.std.specs.Option.{option_map, option_map_or, option_and_then, option_or}
 use Rattle.std.specs.Ordering.{eq_by_cmp}
 use Rattle.stamp_values.specs.Limits.{blob_limit}
-use Rattle.stamp_values.specs.Operations.{has_conditions, writes}
+use Rattle.stamp_values.specs.Operations.{has_conditions, is_op, writes}
 use Rattle.stamp_values.specs.Order.{name_cmp, names_total, names_exact}
 use Rattle.stamp_values.specs.declared.block.BlockKinds.{BlockKinds}
 use Rattle.stamp_values.specs.declared.block.BlockKinds.TheVariants as kinds
@@ -34,7 +34,7 @@ use Rattle.row_trees.specs.ListedBlocks.{listed_size}
 use Rattle.range_rows.specs.NamedBlobs.{has_listed, target_blob}
 use Rattle.range_rows.specs.ObjectReplies.{blob_content, blob_read, byte_count, bytes_by, empty_blob, frame_by, get_frame, list_frame, ranged_bytes, ranged_frame, reply_of, shows_uncommitted, sizes, standing_read, with_content}
 use Rattle.row_trees.specs.Fits.{count_limit}
-use Rattle.range_rows.specs.ObjectRules.{Cause, cause_holds, cause_refusal, causes, is_any, is_create, is_get, is_list, meets, misses, named_blob, needs_blob, needs_container, starts_past}
+use Rattle.range_rows.specs.ObjectRules.{Cause, cause_holds, cause_refusal, causes, is_any, meets, misses, named_blob, needs_blob, needs_container, starts_past}
 use Rattle.range_rows.specs.ObjectRules.Cause.{ContainerIsAbsent, ContainerExists, BlobIsAbsent, MatchFails, IsNotModified, BlobExists, NoneMatchFails, BodyIsDamaged, BodyIsMalformed, IdIsBad, BlockIsMissing, ListIsTooLong, IdHasOtherLength, BlocksAreFull, ListIsTooLarge, RangeIsPastTheEnd, CountIsFull}
 use Rattle.range_rows.specs.Readings.{listed_in, reading_by, wanted_blocks}
 use Rattle.range_rows.specs.RequestChanges.{act_by, change_of, part_after}
@@ -126,7 +126,7 @@ none_unless : {X : Type 0} (o : Option X) → (is_some o ≡ true → ⊥) → o
 none_unless None h = refl
 none_unless (Some x) h = absurd (h refl)
 
-lists_alike : (o : Op) (k : Option BlockKinds) (b d : Blob ℕ) → reads_committed o k ≡ true → b.committed ≡ d.committed → (is_list o && not (has_listed k b)) ≡ (is_list o && not (has_listed k d))
+lists_alike : (o : Op) (k : Option BlockKinds) (b d : Blob ℕ) → reads_committed o k ≡ true → b.committed ≡ d.committed → (is_op op.GetBlockList o && not (has_listed k b)) ≡ (is_op op.GetBlockList o && not (has_listed k d))
 lists_alike op.GetBlockList None b d reads same = ap (λ (c : Option (Committed ℕ)). not (is_some c)) same
 lists_alike op.GetBlockList (Some kinds.Committed) b d reads same = ap (λ (c : Option (Committed ℕ)). not (is_some c)) same
 lists_alike op.GetBlockList (Some kinds.Uncommitted) b d reads same = cc
@@ -150,7 +150,7 @@ module _ (p r : Part ℕ) (alike : IsSeenAlike p r) (q : Asked) (fits : IsAsk q.
 
   alike_cause : (c : Cause) → cause_holds p q c ≡ cause_holds r q c
   alike_cause ContainerIsAbsent = ap (λ (s : Option Standing). needs_container q.ask.op && is_none s) alike.standing
-  alike_cause ContainerExists = ap (λ (s : Option Standing). is_create q.ask.op && is_some s) alike.standing
+  alike_cause ContainerExists = ap (λ (s : Option Standing). is_op op.CreateContainer q.ask.op && is_some s) alike.standing
   alike_cause BlobIsAbsent =
       let listed = lists_alike q.ask.op q.ask.args.kinds (target_blob p q.ask) (target_blob r q.ask) reads (target_alike p r alike q.ask) in
       λ i. (needs_blob q.ask.op && is_none (named i)) || listed i
@@ -174,7 +174,7 @@ module _ (p r : Part ℕ) (alike : IsSeenAlike p r) (q : Asked) (fits : IsAsk q.
   alike_cause ListIsTooLarge =
       ap (λ (ws : List Wanted). nat_lt blob_limit (listed_size (target_blob p q.ask) (found_entries (target_blob p q.ask) ws))) nothing_wanted
       ∙ sym (ap (λ (ws : List Wanted). nat_lt blob_limit (listed_size (target_blob r q.ask) (found_entries (target_blob r q.ask) ws))) nothing_wanted)
-  alike_cause RangeIsPastTheEnd = ap (λ (c : Option (Committed ℕ)). is_get q.ask.op && starts_past c q.ask.args.range) named
+  alike_cause RangeIsPastTheEnd = ap (λ (c : Option (Committed ℕ)). is_op op.GetBlob q.ask.op && starts_past c q.ask.args.range) named
   alike_cause CountIsFull = ap (λ b. b && nat_le count_limit p.count) no_write ∙ sym (ap (λ b. b && nat_le count_limit r.count) no_write)
 
   refusal_alike : (keys : Option Keys) (t : ℕ) → refusal keys p q t ≡ refusal keys r q t

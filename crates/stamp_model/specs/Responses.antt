@@ -30,11 +30,6 @@ tells_blob op.SetMetadata = true
 tells_blob op.PutBlockList = true
 tells_blob _ = false
 
--- the answer of the operation tells which blocks a blob has
-abbrev pub tells_blocks : Op → Bool
-tells_blocks op.GetBlockList = true
-tells_blocks _ = false
-
 -- the reply to a refused request, or else what the operation answers from this container
 abbrev pub response : Option Refusal → Part (List ℕ) → Asked → Reply
 response None p q = reply_of p q

@@ -1,7 +1,8 @@
 //! Laws of effects and replies. Each law is the contract of a function that does nothing.
 ghost use Rattle.std.specs.Prelude.{◌≡◌, ◌≢◌, ◌≤◌, ◌⊎◌, ℕ, ◌+◌, List, Option, Some, None, IsSome, IsTrue, false, find};
-ghost use Rattle.stamp_values.specs.Operations.{names_container};
+ghost use Rattle.stamp_values.specs.Operations.{is_op, names_container};
 ghost use Rattle.stamp_values.specs.declared.key.Key.{Key};
+ghost use Rattle.stamp_values.specs.declared.op.Op.TheVariants as op;
 ghost use Rattle.stamp_values.specs.declared.level.Level.{Level};
 ghost use Rattle.stamp_values.specs.declared.level.Level.TheVariants as level;
 ghost use Rattle.stamp_values.specs.declared.signing.Credential.TheVariants.{Anonymous};
@@ -23,7 +24,7 @@ ghost use Rattle.range_rows.specs.ObjectReplies.{is_served, reply_of, sizes};
 ghost use Rattle.row_trees.specs.Access.{acl_of};
 ghost use Rattle.stamp_model.specs.Refusals.{refusing_rule, refuses, rules_in_order};
 ghost use Rattle.stamp_model.specs.Effects.{alters_access, alters_container, change, effect, effect_as};
-ghost use Rattle.stamp_model.specs.Responses.{reply, tells_blob, tells_blocks, tells_container};
+ghost use Rattle.stamp_model.specs.Responses.{reply, tells_blob, tells_container};
 
 /// The container of a request's key decides what that container is after the request. If the
 /// operation names a container, the container also decides the reply to the request.
@@ -131,11 +132,11 @@ pub fn an_answer_is_of_what_exists()
         → IsSome (named_blob (part_at (effect keys w q t) q.ask.key) q.ask) }
     ensures blocks { (keys : Option Keys) (w : World (List ℕ)) (q : Asked) (t : ℕ)
         (bound : Option Key)
-        → (reply keys w q t bound).rule ≡ None → IsTrue (tells_blocks q.ask.op)
+        → (reply keys w q t bound).rule ≡ None → IsTrue (is_op op.GetBlockList q.ask.op)
         → IsTrue (has_listed q.ask.args.kinds
         (target_blob (part_at (effect keys w q t) q.ask.key) q.ask)) }
     ensures neither { (p r : Part (List ℕ)) (q : Asked) → tells_container q.ask.op ≡ false
-        → tells_blob q.ask.op ≡ false → tells_blocks q.ask.op ≡ false
+        → tells_blob q.ask.op ≡ false → is_op op.GetBlockList q.ask.op ≡ false
         → reply_of p q ≡ reply_of r q }
 {}
 
