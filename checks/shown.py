@@ -1,0 +1,98 @@
+"""What README.md and docs/using.md show: commands with what they print, and tables of requests with their answers.
+
+Each function gives what was tried, what came of it, and what the page says.
+"""
+import re
+import shlex
+import subprocess
+from pathlib import Path
+
+ROOT = Path(__file__).resolve().parent.parent
+PAGES = ("README.md", "docs/using.md")
+REPLAY = ["replay", "2012-10-01T12:00:00Z", "devstoreaccount1", "a2V5MQ==", "a2V5Mg=="]
+# A command, perhaps a line about it, and perhaps what it prints.
+SHOWN = re.compile(r"^```sh\n(.*?)^```\n(?:\n[^`\n][^\n]*\n)?\n(?:```text\n(.*?)^```\n)?", re.S | re.M)
+SIGNED = "x-ms-date: Mon, 01 Oct 2012 12:00:00 GMT\n"
+
+
+def commands(program):
+    """The commands of each page, in one shell, each with what it prints. A line of a reply ends in CR LF, and of a page in LF."""
+    for page in PAGES:
+        before = ""
+        for number, (command, printed) in enumerate(SHOWN.findall((ROOT / page).read_text(encoding="utf-8")), 1):
+            command = command.replace("./stamp ", f"{shlex.quote(program)} ")
+            script = f"{{ {before}:\n}} >/dev/null\n{command}"
+            ran = subprocess.run(["bash", "-euc", script], cwd=ROOT, stdout=subprocess.PIPE, stderr=subprocess.PIPE, timeout=60)
+            yield f"{page}, command {number}", (ran.stdout.decode().replace("\r\n", "\n").rstrip("\n"), ran.stderr), (printed.rstrip("\n"), b"")
+            before += command
+
+
+def rows(heading):
+    """The cells of the table that follows a heading of docs/using.md."""
+    text = (ROOT / "docs" / "using.md").read_text(encoding="utf-8").split(f"\n## {heading}\n")[1].split("\n## ")[0]
+    lines = [line for line in text.splitlines() if line.startswith("|")]
+    return [[cell.strip() for cell in line.strip("|").split("|")] for line in lines[2:]]
+
+
+def head_of(cell):
+    """The head that a cell shows: the request line, and perhaps header lines."""
+    request, *headers = re.findall(r"`(.*?)`", cell)
+    length = ["Content-Length: 0"] if request.startswith("P") else []
+    return "".join(f"{line}\n" for line in (f"{request} HTTP/1.1", *headers, *length))
+
+
+def signed(head):
+    """The head with its date, its signature and its empty line."""
+    head += SIGNED
+    line = subprocess.run([ROOT / "examples" / "signature", REPLAY[3]], input=head.encode(), stdout=subprocess.PIPE, check=True).stdout
+    return head.encode() + line + b"\n"
+
+
+def answers(program, stream):
+    """The exit status of a replay, and the status of each reply with the rule that it names."""
+    ran = subprocess.run([program, *REPLAY], input=stream, stdout=subprocess.PIPE, stderr=subprocess.PIPE, timeout=60)
+    replies = re.findall(rb"HTTP/1\.1 (\d+) .*?\r\n\r\n", ran.stdout, re.S)
+    rules = re.findall(rb"x-stamp-rule: (\w+)\r\n", ran.stdout)
+    return ran.returncode, [int(status) for status in replies], [rule.decode() for rule in rules]
+
+
+def refused(program):
+    """Operations that do not exist: each is refused by the rule that its row names, and ends the connection."""
+    found = rows("What does not exist here")
+    for _, request, answer in found:
+        rule, status = re.match(r"(\w+), (\d+)", answer).groups()
+        head = head_of(request).encode() + b"\n"
+        yield f"using.md: {request}", answers(program, head + head), (0, [int(status)], [rule])
+    yield "using.md: rows of what does not exist", len(found) > 10, True
+
+
+def ignored(program):
+    """What is ignored: each request is answered as its row says, and a blob that was deleted is gone."""
+    found = rows("What is ignored and may surprise")
+    create = signed("PUT /devstoreaccount1/pics?restype=container HTTP/1.1\nContent-Length: 0\n")
+    put = signed("PUT /devstoreaccount1/pics/a.txt HTTP/1.1\nContent-Length: 5\nx-ms-blob-type: BlockBlob\n") + b"hello"
+    get = signed("GET /devstoreaccount1/pics/a.txt HTTP/1.1\n")
+    for request, answer in found:
+        last = ([404], ["O3"]) if "deleted" in answer else ([200], [])
+        stream = create + put + signed(head_of(request)) + get
+        yield f"using.md: {request}", answers(program, stream), (0, [201, 201, int(answer[:3]), *last[0]], last[1])
+    yield "using.md: rows of what is ignored", len(found) > 5, True
+
+
+def signing(_program):
+    """What examples/signature says if there is nothing to sign, or no key to sign with."""
+    head = b"GET /devstoreaccount1/pics HTTP/1.1\n"
+    for word, given, why in (
+        ("a2V5MQ==", b"", b"the head is empty"),
+        ("a2V5MQ==", b"GET /\n", b"the first line is not METHOD TARGET HTTP/1.1: b'GET /'"),
+        ("a2V5MQ==", b"GET / HTTP/1.1\n", b"the target names no account: b'/'"),
+        ("a2V5MQ==", head + b"Date\n", b"not a header line: b'Date'"),
+        ("a2V5MQ", head, b"the key is not padded Base64: 'a2V5MQ'"),
+    ):
+        ran = subprocess.run([ROOT / "examples" / "signature", word], input=given, stdout=subprocess.PIPE, stderr=subprocess.PIPE)
+        yield f"examples/signature: {why.decode()}", (ran.returncode, ran.stdout, ran.stderr), (1, b"", b"signature: " + why + b"\n")
+
+
+def all_shown(program):
+    for shown in (commands, refused, ignored, signing):
+        yield from shown(program)
