@@ -7,6 +7,13 @@ BEGIN, END = "<!-- checks/lists writes what follows -->\n", "<!-- checks/lists w
 LINK = re.compile(r"\]\((?!https?:)([^)#\s]*)(#[^)\s]*)?\)")
 FENCED = re.compile(r"^```.*?^```", re.S | re.M)
 
+# The pages that people read first, which have no sentence of more words than SENTENCE.
+SHORT_SENTENCES = ("README.md", "docs/using.md", "docs/theorem.md", "docs/architecture.md", "docs/gate.md")
+SENTENCE = 40
+# The most words of a page, and of all pages together, beside the lists that are generated.
+LIMITS = {"README.md": 1200, "docs/architecture.md": 2500, "docs/gate.md": 1300}
+ALL = 62_000
+
 
 def all_pages():
     return sorted([tree.ROOT / "README.md", *tree.ROOT.glob("docs/**/*.md"), *tree.ROOT.glob("crates/*/README.md")])
@@ -52,5 +59,30 @@ def broken_links():
                 yield f"{name_of(file)}: no such heading: {path}{place}"
 
 
+def words_in(text):
+    return sum(bool(re.search(r"\w", word)) for word in text.split())
+
+
+def sentences(page):
+    """The sentences of a page: what is in a block of code is none, and a cell, an item of a list and a heading end one."""
+    for paragraph in re.split(r"\n\s*\n|\n(?=[-#|]|\d+\. )|(?<!\\)\|", FENCED.sub("", page)):
+        yield from re.split(r"(?<=[.?!])[)*]*\s+(?=[^a-z])", paragraph)
+
+
+def too_long():
+    """Sentences and pages that are too long. The lists that are generated do not count."""
+    for name in SHORT_SENTENCES:
+        for sentence in sentences(text_of(tree.ROOT / name)):
+            if words_in(sentence) > SENTENCE:
+                yield f"{name}: a sentence of {words_in(sentence)} words: {' '.join(sentence.split())[:70]}.."
+    lengths = {name_of(file): words_in(by_hand(text_of(file))) for file in all_pages()}
+    for name, limit in LIMITS.items():
+        if lengths[name] > limit:
+            yield f"{name}: {lengths[name]} words, and at most {limit} are allowed"
+    if sum(lengths.values()) > ALL:
+        yield f"all pages have {sum(lengths.values())} words together, and at most {ALL} are allowed"
+
+
 def faults():
     yield from broken_links()
+    yield from too_long()
