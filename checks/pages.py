@@ -1,5 +1,6 @@
 """The pages of this repository: their links, their words, their sentences, and the lists in them that are generated."""
 import re
+from collections import Counter
 
 import tree
 
@@ -60,7 +61,8 @@ def broken_links():
 
 
 def words_in(text):
-    return sum(bool(re.search(r"\w", word)) for word in text.split())
+    """How many words a text has: a word has a letter, so the numbers of a table are none."""
+    return sum(bool(re.search(r"[^\W\d_]", word)) for word in text.split())
 
 
 def sentences(page):
@@ -69,12 +71,15 @@ def sentences(page):
         yield from re.split(r"(?<=[.?!])[)*]*\s+(?=[^a-z])", paragraph)
 
 
-def too_long():
-    """Sentences and pages that are too long. The lists that are generated do not count."""
+def long_sentences():
     for name in SHORT_SENTENCES:
         for sentence in sentences(text_of(tree.ROOT / name)):
             if words_in(sentence) > SENTENCE:
                 yield f"{name}: a sentence of {words_in(sentence)} words: {' '.join(sentence.split())[:70]}.."
+
+
+def long_pages():
+    """Pages that have too many words, each by itself or all together. The lists that are generated do not count."""
     lengths = {name_of(file): words_in(by_hand(text_of(file))) for file in all_pages()}
     for name, limit in LIMITS.items():
         if lengths[name] > limit:
@@ -83,6 +88,12 @@ def too_long():
         yield f"all pages have {sum(lengths.values())} words together, and at most {ALL} are allowed"
 
 
+def doubled_terms():
+    """Terms that have more than one row in the part of docs/definitions.md that is written by hand."""
+    rows = Counter(re.findall(r"^\| ([^|`]+) \|", by_hand(text_of(tree.ROOT / "docs" / "definitions.md")), re.M))
+    yield from (f"docs/definitions.md: {rows[term]} rows for {term}" for term in rows if rows[term] > 1 and term not in ("Term", "---"))
+
+
 def faults():
-    yield from broken_links()
-    yield from too_long()
+    for found in (broken_links, doubled_terms, long_sentences, long_pages):
+        yield from found()

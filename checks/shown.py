@@ -1,4 +1,5 @@
-"""What README.md and docs/using.md show: commands with what they print, and tables of requests with their answers.
+"""What README.md and docs/using.md show: commands with what they print, and tables of requests with their answers; and the records of
+docs/formats/records.md.
 
 Each function gives what was tried, what came of it, and what the page says.
 """
@@ -93,6 +94,14 @@ def signing(_program):
         yield f"examples/signature: {why.decode()}", (ran.returncode, ran.stdout, ran.stderr), (1, b"", b"signature: " + why + b"\n")
 
 
+def records(_program):
+    """The bytes of each record on its page, which are those that examples/records makes, in the same order."""
+    page = (ROOT / "docs" / "formats" / "records.md").read_text(encoding="utf-8").split("\n## One record of each kind\n")[1].split("\n## ")[0]
+    shown = [re.findall(r"^\| `([0-9a-f ]+)` \|", section, re.M) for section in page.split("\n### ")[1:]]
+    made = subprocess.run([ROOT / "examples" / "records"], stdout=subprocess.PIPE, check=True).stdout.decode().splitlines()
+    yield "the records of records.md", ["".join(rows).replace(" ", "") for rows in shown], [line.split()[1] for line in made]
+
+
 def all_shown(program):
-    for shown in (commands, refused, ignored, signing):
+    for shown in (commands, refused, ignored, signing, records):
         yield from shown(program)
