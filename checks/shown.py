@@ -1,5 +1,5 @@
-"""What README.md and docs/using.md show: commands with what they print, and tables of requests with their answers; and the records of
-docs/formats/records.md.
+"""What README.md, docs/using.md and pages of docs/formats show: commands with what they print, tables of requests with their answers, and
+the bytes of records.
 
 Each function gives what was tried, what came of it, and what the page says.
 """
@@ -9,7 +9,7 @@ import subprocess
 from pathlib import Path
 
 ROOT = Path(__file__).resolve().parent.parent
-PAGES = ("README.md", "docs/using.md")
+PAGES = ("README.md", "docs/using.md", "docs/formats/tokens.md")
 REPLAY = ["replay", "2012-10-01T12:00:00Z", "devstoreaccount1", "a2V5MQ==", "a2V5Mg=="]
 # A command, perhaps a line about it, and perhaps what it prints.
 SHOWN = re.compile(r"^```sh\n(.*?)^```\n(?:\n[^`\n][^\n]*\n)?\n(?:```text\n(.*?)^```\n)?", re.S | re.M)
