@@ -1,5 +1,5 @@
 //! What one node has of an extent.
-ghost use Rattle.std.specs.Prelude.{◌≡◌, ◌++◌, ◌∷◌, ◌<◌, [], Some, length, take, OnOk};
+ghost use Rattle.std.specs.Prelude.{◌≡◌, ◌++◌, ◌∷◌, ◌<◌, [], Some, length, take, OnOk, OnErr};
 ghost use Rattle.std.specs.List.{slice_get};
 
 use crate::wire::{Delivery, Node, Wire};
@@ -28,21 +28,27 @@ impl Model for Replica {
 impl Replica {
     ghost use Rattle.extent_node.specs.Faults.{CountsCall, CountsFault, is_done, is_taken, held};
 
-    /// No blocks. Takes no memory.
+    /// No blocks, and room for none. Takes no memory.
     pub fn new(alloc: Global) -> Self
-        ensures { result.blocks ≡ [] }
+        ensures blocks { result.blocks ≡ [] }
+        ensures room { result.room ≡ 0 }
     {
         Self {
             blocks: Vec::new(alloc),
         }
     }
 
-    /// Makes room for one more block. The blocks stay as they are, also if memory runs out.
+    /// Makes room for one more block, if there is no room. The blocks stay as they are.
+    ///
+    /// `AllocError`: there was no room, and memory ran out. The replica is as it was.
     pub fn reserve(&mut self) -> Result<(), AllocError>
         ensures same { self.new.blocks ≡ self.old.blocks }
         ensures room { OnOk result (0 < self.new.room) }
+        ensures refused { OnErr result (self.old.room ≡ 0) }
+        ensures unchanged { OnErr result (self.new ≡ self.old) }
     {
-        self.blocks.reserve(1)
+        self.blocks.reserve(1)?;
+        Ok(())
     }
 
     /// Takes one more block, which there is room for.
