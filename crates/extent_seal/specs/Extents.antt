@@ -1,5 +1,5 @@
 -- Extents: what is seen of them, and what each replica of them has (SOSP 2011, sections 4.1 and 4.3).
-use Rattle.std.specs.Prelude.{Bool, Option, Some, None, List, [], ◌++◌}
+use Rattle.std.specs.Prelude.{ℕ, min, Bool, Option, Some, None, List, [], ◌++◌}
 use Rattle.extent_node.specs.Copies.{Block, Copy}
 use Rattle.extent_node.specs.Faults.{held}
 use Rattle.extent_node.specs.declared.wire.Node.{Node}
@@ -24,6 +24,15 @@ pub record Open : Type 0 where
   pub tried : Option Block
   -- the nodes that took that block
   pub took : Three
+
+-- an extent that takes blocks, and the number of blocks that there is room for in each of its replicas
+pub record WithRoom : Type 0 where
+  pub extent : Open
+  pub room : ℕ
+
+-- the room that each of the three replicas has
+abbrev pub least_room : Copy → Copy → Copy → ℕ
+least_room zero one two = min zero.room (min one.room two.room)
 
 -- the blocks of the replica of a node: the acknowledged ones, and the block that was tried if the node took it
 abbrev pub replica : Open → Bool → List Block

@@ -10,3 +10,4 @@ mod shares;
 pub use laws::replicas_hold_prefixes;
 pub use open_extent::{Appended, NoReplica, OpenExtent};
 pub use sealed::{ReadFault, Sealed};
+pub use shares::Shares;

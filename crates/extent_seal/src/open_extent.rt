@@ -1,5 +1,6 @@
 //! Extents that take blocks.
-ghost use Rattle.std.specs.Prelude.{◌≡◌, ◌<◌, OnOk};
+ghost use Rattle.std.specs.Prelude.{◌≡◌, ◌<◌, OnOk, OnErr};
+ghost use Rattle.extent_seal.specs.Extents.{least_room};
 
 use crate::cutting::cut;
 use crate::sealed::{ReadFault, Sealed, shared};
@@ -42,14 +43,17 @@ pub struct OpenExtent {
 impl Model for OpenExtent {
     ghost use Rattle.std.specs.Prelude.{◌≡◌, ◌++◌, take, length};
     ghost use Rattle.extent_node.specs.Faults.{held};
-    ghost use Rattle.extent_seal.specs.Extents.{Open};
+    ghost use Rattle.extent_seal.specs.Extents.{Open, WithRoom, least_room};
 
-    ghost Value = { Open };
+    ghost Value = { WithRoom };
 
     ghost view = { λ e. record {
-      blocks = take e.acknowledged e.zero.blocks;
-      tried = e.tried;
-      took = record { zero = e.took_zero; one = e.took_one; two = e.took_two };
+      extent = record {
+        blocks = take e.acknowledged e.zero.blocks;
+        tried = e.tried;
+        took = record { zero = e.took_zero; one = e.took_one; two = e.took_two };
+      };
+      room = least_room e.zero e.one e.two;
     } };
 
     ghost invariant = { λ e.
@@ -59,14 +63,14 @@ impl Model for OpenExtent {
         × (e.acknowledged ≡ length (take e.acknowledged e.zero.blocks)))) };
 }
 
-// Makes room for one more block in each replica.
+// Makes room for one more block in each replica. If it is refused, a replica without room has no room yet.
 fn reserve(zero: &mut Replica, one: &mut Replica, two: &mut Replica) -> Result<(), AllocError>
     ensures zero { zero.new.blocks ≡ zero.old.blocks }
     ensures one { one.new.blocks ≡ one.old.blocks }
     ensures two { two.new.blocks ≡ two.old.blocks }
-    ensures room_zero { OnOk result (0 < zero.new.room) }
-    ensures room_one { OnOk result (0 < one.new.room) }
-    ensures room_two { OnOk result (0 < two.new.room) }
+    ensures room { OnOk result (0 < least_room zero.new one.new two.new) }
+    ensures refused { OnErr result (least_room zero.old one.old two.old ≡ 0) }
+    ensures unchanged { OnErr result (least_room zero.new one.new two.new ≡ 0) }
 {
     zero.reserve()?;
     one.reserve()?;
@@ -75,7 +79,7 @@ fn reserve(zero: &mut Replica, one: &mut Replica, two: &mut Replica) -> Result<(
 }
 
 impl OpenExtent {
-    ghost use Rattle.std.specs.Prelude.{◌≡◌, ◌<◌, [], Some, None, Err, length, OnErr, IfOk, IfErr};
+    ghost use Rattle.std.specs.Prelude.{◌≡◌, ◌<◌, [], Some, None, Err, length, OnOk, OnErr, IfOk, IfErr};
     ghost use Rattle.std.specs.Option.{is_some};
     ghost use Rattle.std.specs.List.{slice_get};
     ghost use Rattle.extent_seal.specs.declared.sealed.ReadFault.TheVariants.{Unreachable};
@@ -84,10 +88,11 @@ impl OpenExtent {
     ghost use Rattle.extent_seal.specs.Appends.{IsAppended};
     ghost use Rattle.extent_seal.specs.Counting.{CallsEach, CountsAppend, FailsUnless, FailsEach};
 
-    /// An extent without blocks. Takes no memory.
+    /// An extent without blocks, and with room for none. Takes no memory.
     pub fn new(alloc: Global) -> Self
-        ensures blocks { result.blocks ≡ [] }
-        ensures tried { result.tried ≡ None }
+        ensures blocks { result.extent.blocks ≡ [] }
+        ensures tried { result.extent.tried ≡ None }
+        ensures room { result.room ≡ 0 }
     {
         Self {
             zero: Replica::new(alloc),
@@ -101,46 +106,66 @@ impl OpenExtent {
         }
     }
 
-    /// Makes room for one more block, so that the next append needs no memory for its list of blocks.
+    /// Makes room for one more block in each of the three replicas, if there is no room. The blocks stay as they are.
+    ///
+    /// `AllocError`: there was no room, and memory ran out. The extent is as it was.
     pub fn reserve(&mut self) -> Result<(), AllocError>
-        ensures { self.new ≡ self.old }
+        ensures same { self.new.extent ≡ self.old.extent }
+        ensures room { OnOk result (0 < self.new.room) }
+        ensures refused { OnErr result (self.old.room ≡ 0) }
+        ensures unchanged { OnErr result (self.new ≡ self.old) }
     {
-        reserve(&mut self.zero, &mut self.one, &mut self.two)
+        reserve(&mut self.zero, &mut self.one, &mut self.two)?;
+        Ok(())
     }
 
-    /// Puts the block to each of the three nodes. The block is acknowledged if all three take it and say so.
+    /// Puts the block to each of the three nodes, by `append_reserved`.
     ///
-    /// Room for all three is taken before the first put. `AllocError`: no node was called, and the extent is as it was.
+    /// Room in all three replicas and four owners of the block are taken before the first put. `AllocError`: no node was called, and
+    /// the extent is as it was.
     pub fn append<W: Wire>(&mut self, block: &Share, wire: &mut W) -> Result<Appended, AllocError>
-        requires { self.old.tried ≡ None }
-        ensures appended { IfOk result (λ a. IsAppended a self.old block.now self.new) }
+        requires { self.old.extent.tried ≡ None }
+        ensures appended { IfOk result (λ a. IsAppended a self.old.extent block.now self.new.extent) }
         ensures called { IfOk result (λ a. CallsEach (W.calls wire.old) (W.calls wire.new)) }
-        ensures counted { IfOk result (λ a. CountsAppend a self.new.took (W.faults wire.old) (W.faults wire.new)) }
+        ensures counted { IfOk result (λ a. CountsAppend a self.new.extent.took (W.faults wire.old) (W.faults wire.new)) }
         ensures refused { OnErr result (self.new ≡ self.old) }
         ensures unheard { OnErr result (wire.new ≡ wire.old) }
     {
         let shares = Shares::new(block)?;
-        reserve(&mut self.zero, &mut self.one, &mut self.two)?;
-        let zero = self.zero.put(Node::Zero, shares.zero, wire);
-        let one = self.one.put(Node::One, shares.one, wire);
-        let two = self.two.put(Node::Two, shares.two, wire);
+        self.reserve()?;
+        Ok(self.append_reserved(shares, wire))
+    }
+
+    /// Puts the block to each of the three nodes, with the room that was made. Takes no memory.
+    ///
+    /// The block is acknowledged if all three nodes take it and say so.
+    pub fn append_reserved<W: Wire>(&mut self, block: Shares, wire: &mut W) -> Appended
+        requires clear { self.old.extent.tried ≡ None }
+        requires room { 0 < self.old.room }
+        ensures appended { IsAppended result self.old.extent block self.new.extent }
+        ensures called { CallsEach (W.calls wire.old) (W.calls wire.new) }
+        ensures counted { CountsAppend result self.new.extent.took (W.faults wire.old) (W.faults wire.new) }
+    {
+        let zero = self.zero.put(Node::Zero, block.zero, wire);
+        let one = self.one.put(Node::One, block.one, wire);
+        let two = self.two.put(Node::Two, block.two, wire);
         if zero.is_done() && one.is_done() && two.is_done() {
             self.acknowledged = self.zero.len();
-            return Ok(Appended::All);
+            return Appended::All;
         }
-        self.tried = Some(shares.tried);
+        self.tried = Some(block.tried);
         self.took_zero = zero.is_taken();
         self.took_one = one.is_taken();
         self.took_two = two.is_taken();
-        Ok(Appended::Short)
+        Appended::Short
     }
 
     /// Asks each node once, and keeps the replicas of the nodes that answer, cut to the smallest length among them. Takes no memory.
     ///
     /// `NoReplica`: no node answered, and the extent comes back as it was.
     pub fn seal<W: Wire>(self, wire: &mut W) -> Result<Sealed, (Self, NoReplica)>
-        ensures sealed { IfOk result (λ s. Seals self s) }
-        ensures committed { IfOk result (λ s. IsCommitted self s.blocks) }
+        ensures sealed { IfOk result (λ s. Seals self.extent s) }
+        ensures committed { IfOk result (λ s. IsCommitted self.extent s.blocks) }
         ensures called { CallsEach (W.calls wire.old) (W.calls wire.new) }
         ensures counted { IfOk result (λ s. FailsUnless s.kept (W.faults wire.old) (W.faults wire.new)) }
         ensures same { IfErr result (λ e. e.0 ≡ self) }
@@ -162,14 +187,14 @@ impl OpenExtent {
 
     /// How many blocks are acknowledged.
     pub fn len(&self) -> usize
-        ensures { result ≡ length self.now.blocks }
+        ensures { result ≡ length self.now.extent.blocks }
     {
         self.acknowledged
     }
 
     /// Whether an append was short.
     pub fn is_short(&self) -> bool
-        ensures { result ≡ is_some self.now.tried }
+        ensures { result ≡ is_some self.now.extent.tried }
     {
         self.tried.is_some()
     }
@@ -178,8 +203,8 @@ impl OpenExtent {
     ///
     /// The nodes are asked in the order 0, 1, 2 until one of them answers yes. Unreachable: each was asked once and answered no.
     pub fn read<W: Wire>(&self, index: usize, wire: &mut W) -> Result<Share, ReadFault>
-        requires { index < length self.now.blocks }
-        ensures read { IfOk result (λ b. slice_get self.now.blocks index ≡ Some b) }
+        requires { index < length self.now.extent.blocks }
+        ensures read { IfOk result (λ b. slice_get self.now.extent.blocks index ≡ Some b) }
         ensures called { result ≡ Err Unreachable → CallsEach (W.calls wire.old) (W.calls wire.new) }
         ensures unreachable { result ≡ Err Unreachable → FailsEach (W.faults wire.old) (W.faults wire.new) }
     {
@@ -197,7 +222,7 @@ impl OpenExtent {
 
     /// Lends the replica of a node.
     pub fn replica(&self, node: Node) -> &Replica
-        ensures { result.now.blocks ≡ replica self.now (answer_of self.now.took node) }
+        ensures { result.now.blocks ≡ replica self.now.extent (answer_of self.now.extent.took node) }
     {
         match node {
             Node::Zero => &self.zero,

@@ -3,23 +3,38 @@ ghost use Rattle.std.specs.Prelude.{◌≡◌, IfOk};
 
 use stamp_values::Share;
 use std::alloc::AllocError;
+use std::marker::Model;
 
-/// A share of a block for each of the three replicas, and a share to remember the block by. No byte is copied.
+/// A block with all its owners that an append needs: one for each of the three replicas, and one to remember the block by.
+///
+/// It is seen as the block. No byte is copied.
 #[derive(Drop)]
-pub(crate) struct Shares {
-    pub zero: Share,
-    pub one: Share,
-    pub two: Share,
-    pub tried: Share,
+pub struct Shares {
+    pub(crate) zero: Share,
+    pub(crate) one: Share,
+    pub(crate) two: Share,
+    pub(crate) tried: Share,
+}
+
+impl Model for Shares {
+    ghost use Rattle.std.specs.Prelude.{◌≡◌};
+    ghost use Rattle.extent_node.specs.Copies.{Block};
+
+    ghost Value = { Block };
+
+    ghost view = { λ s. s.tried };
+
+    ghost invariant = { λ s. (s.zero ≡ s.tried) × ((s.one ≡ s.tried) × (s.two ≡ s.tried)) };
 }
 
 impl Shares {
+    ghost use Rattle.std.specs.Prelude.{◌≡◌, length, IfOk};
+
     /// Four more owners of the bytes of the block.
+    ///
+    /// `AllocError` if the block cannot have four more owners.
     pub fn new(block: &Share) -> Result<Self, AllocError>
-        ensures zero { IfOk result (λ s. s.zero ≡ block.now) }
-        ensures one { IfOk result (λ s. s.one ≡ block.now) }
-        ensures two { IfOk result (λ s. s.two ≡ block.now) }
-        ensures tried { IfOk result (λ s. s.tried ≡ block.now) }
+        ensures { IfOk result (λ s. s ≡ block.now) }
     {
         let zero = block.share()?;
         let one = block.share()?;
@@ -31,5 +46,12 @@ impl Shares {
             two,
             tried,
         })
+    }
+
+    /// How many bytes the block has.
+    pub fn len(&self) -> usize
+        ensures { result ≡ length self.now }
+    {
+        self.tried.len()
     }
 }

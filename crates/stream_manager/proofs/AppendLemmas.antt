@@ -35,7 +35,7 @@ put_after (Ok p) sealed mid fs old new kept block a c b =
     (subst (λ l. Follows (extents sealed old) (l ++ block ∷ []) fs) h (onward (extents sealed old) mid fs _ _ a b.0), b.1, b.2)
 put_after (Err fault.Doubt) sealed mid fs old new kept block a c b = (settled_after sealed mid fs old kept a c b.0, b.1)
 put_after (Err fault.Busy) sealed mid fs old new kept block a c b = inl (settled_after sealed mid fs old kept a c b.0, b.1)
-put_after (Err fault.NoMemory) sealed mid fs old new kept block a c b = inl (settled_after sealed mid fs old kept a c b.0, b.1)
+put_after (Err fault.NoMemory) sealed mid fs old new kept block a c b = absurd b
 put_after (Err fault.TooLarge) sealed mid fs old new kept block a c b = absurd b
 
 -- the block of a doubt that is kept
@@ -64,5 +64,5 @@ pub fails_after : (r : Result Place AppendFault) (mid fs : List (List Block)) (n
 fails_after (Ok p) mid fs new block a b c g i f = (omega (arith, g, f), omega (arith, g, f), omega (arith, g, f))
 fails_after (Err fault.Doubt) mid fs new block a b c g i f = (omega (arith, g, f), (omega (arith, g, f), omega (arith, g, f), omega (arith, g, f)))
 fails_after (Err fault.Busy) mid fs new block a b c g i f = (omega (arith, g, f), (omega (arith, g, f), omega (arith, g, f), omega (arith, g, f)))
-fails_after (Err fault.NoMemory) mid fs new block a b c g i f = (omega (arith, g, f), omega (arith, g, f), omega (arith, g, f))
+fails_after (Err fault.NoMemory) mid fs new block a b c g i f = absurd i
 fails_after (Err fault.TooLarge) mid fs new block a b c g i f = absurd i

@@ -28,7 +28,7 @@ append_leads : (r : Result Place AppendFault) (es fs : List (List Block)) (old n
 append_leads (Ok p) es fs old new block a = (held (is_kept es old fs) old.tried ++ block ∷ [], a.0)
 append_leads (Err fault.Doubt) es fs old new block a = (held (is_kept es old fs) old.tried, a.0)
 append_leads (Err fault.Busy) es fs old new block a = elim a [ inl x ↦ (held (is_kept es old fs) old.tried, x.0) | inr x ↦ unchanged es fs x.0 ]
-append_leads (Err fault.NoMemory) es fs old new block a = elim a [ inl x ↦ (held (is_kept es old fs) old.tried, x.0) | inr x ↦ unchanged es fs x.0 ]
+append_leads (Err fault.NoMemory) es fs old new block a = unchanged es fs a.0
 append_leads (Err fault.TooLarge) es fs old new block a = unchanged es fs a.0
 
 settle_leads : (r : Result Settled SettleFault) (es fs : List (List Block)) (old new : Open) → IsSettled r es old fs new → Leads es fs
@@ -89,7 +89,7 @@ doubt_append : (r : Result Place AppendFault) (es fs : List (List Block)) (old n
 doubt_append (Ok p) es fs old new block d t a = ends es fs old d new (is_kept es old fs) (block ∷ []) t a.0.order
 doubt_append (Err fault.Doubt) es fs old new block d t a = ends_alone es fs old d new (is_kept es old fs) t a.0.order
 doubt_append (Err fault.Busy) es fs old new block d t a = elim a [ inl x ↦ ends_alone es fs old d new (is_kept es old fs) t x.0.order | inr x ↦ stays es fs old new d t x.0 x.1 ]
-doubt_append (Err fault.NoMemory) es fs old new block d t a = elim a [ inl x ↦ ends_alone es fs old d new (is_kept es old fs) t x.0.order | inr x ↦ stays es fs old new d t x.0 x.1 ]
+doubt_append (Err fault.NoMemory) es fs old new block d t a = stays es fs old new d t a.0 a.1
 doubt_append (Err fault.TooLarge) es fs old new block d t a = stays es fs old new d t a.0 a.1
 
 doubt_settle : (r : Result Settled SettleFault) (es fs : List (List Block)) (old new : Open) (d : Block) → old.tried ≡ Some d

@@ -39,20 +39,20 @@ CallsTry (tried.Placed p) before after old new = CallsAtMost 1 before after old 
 CallsTry tried.Excluded before after old new = CallsAtMost 1 before after old new
 CallsTry tried.Doubt before after old new = CallsAtMost 2 before after old new
 
--- the faults of an append: in a doubt a put failed, and then each node failed; if it is Busy, two calls failed at least
+-- the faults of an append: in a doubt a put failed, and then each node failed; if it is Busy, two calls failed at least; there is no fault if it is refused
 abbrev pub FailsAppend : Result Place AppendFault → Counts → Counts → Type 0
 FailsAppend (Ok p) old new = Grows old new
 FailsAppend (Err fault.Doubt) old new = (all_faults old + 4 ≤ all_faults new) × FailsEachAtLeast old new
 FailsAppend (Err fault.Busy) old new = (all_faults old + 2 ≤ all_faults new) × Grows old new
-FailsAppend (Err fault.NoMemory) old new = Grows old new
+FailsAppend (Err fault.NoMemory) old new = new ≡ old
 FailsAppend (Err fault.TooLarge) old new = new ≡ old
 
--- the calls of an append: at most two puts to each node, and one ask for each extent that was sealed; in a doubt one ask more, which no node answered
+-- the calls of an append: at most two puts to each node, and one ask for each extent that was sealed; in a doubt one ask more, which no node answered; no call if it is refused
 abbrev pub CallsAppend : Result Place AppendFault → ℕ → ℕ → Counts → Counts → Type 0
 CallsAppend (Ok p) before after old new = CallsAtMost 2 before after old new
 CallsAppend (Err fault.Doubt) before after old new = CallsAtMost 3 before after old new
 CallsAppend (Err fault.Busy) before after old new = CallsAtMost 2 before after old new
-CallsAppend (Err fault.NoMemory) before after old new = CallsAtMost 2 before after old new
+CallsAppend (Err fault.NoMemory) before after old new = new ≡ old
 CallsAppend (Err fault.TooLarge) before after old new = new ≡ old
 
 -- a settle calls each node once, and no node if there is no doubt or memory runs out

@@ -5,5 +5,6 @@ pub mod Outcomes
 pub mod Places
 pub mod Runs
 pub mod Sizes
+pub mod Spares
 pub mod Streams
 pub mod Walks

@@ -19,20 +19,24 @@ IsTried (tried.Placed p) es block fs last = Follows es (block ∷ []) fs × IsLa
 IsTried tried.Excluded es block fs last = Follows es [] fs × (last.tried ≡ None) × (last.blocks ≡ [])
 IsTried tried.Doubt es block fs last = Follows es [] fs × (last.tried ≡ Some block)
 
--- what an append does, from these extents without a doubt
+-- what the tries of an append do, from these extents without a doubt: memory was taken before them
 abbrev pub IsPut : Result Place AppendFault → List (List Block) → Block → List (List Block) → Open → Type 0
 IsPut (Ok p) es block fs last = Follows es (block ∷ []) fs × IsLastAt fs p block × (last.tried ≡ None)
 IsPut (Err fault.Doubt) es block fs last = Follows es [] fs × (last.tried ≡ Some block)
 IsPut (Err fault.Busy) es block fs last = Follows es [] fs × (last.tried ≡ None)
-IsPut (Err fault.NoMemory) es block fs last = Follows es [] fs × (last.tried ≡ None)
+IsPut (Err fault.NoMemory) es block fs last = ⊥
 IsPut (Err fault.TooLarge) es block fs last = ⊥
+
+-- the append was refused before any node was called
+abbrev pub IsRefused : Result Place AppendFault → Type 0
+IsRefused r = (r ≡ Err fault.TooLarge) ⊎ (r ≡ Err fault.NoMemory)
 
 -- what an append does, from these extents and this last one: an older doubt is kept or dropped first, or it stays
 abbrev pub IsAppend : Result Place AppendFault → List (List Block) → Open → Block → List (List Block) → Open → Type 0
 IsAppend (Ok p) es old block fs new = Follows es (held (is_kept es old fs) old.tried ++ block ∷ []) fs × IsLastAt fs p block × (new.tried ≡ None)
 IsAppend (Err fault.Doubt) es old block fs new = Follows es (held (is_kept es old fs) old.tried) fs × (new.tried ≡ Some block)
 IsAppend (Err fault.Busy) es old block fs new = (Follows es (held (is_kept es old fs) old.tried) fs × (new.tried ≡ None)) ⊎ ((fs ≡ es) × (new ≡ old))
-IsAppend (Err fault.NoMemory) es old block fs new = (Follows es (held (is_kept es old fs) old.tried) fs × (new.tried ≡ None)) ⊎ ((fs ≡ es) × (new ≡ old))
+IsAppend (Err fault.NoMemory) es old block fs new = (fs ≡ es) × (new ≡ old)
 IsAppend (Err fault.TooLarge) es old block fs new = (fs ≡ es) × (new ≡ old)
 
 -- what a settle does

@@ -5,7 +5,7 @@ mod faults;
 mod handle;
 mod laws;
 mod parts;
-mod spare;
+mod spares;
 mod stream;
 
 pub use faults::{AppendFault, SettleFault, Settled};

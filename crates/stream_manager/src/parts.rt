@@ -3,9 +3,9 @@ ghost use Rattle.std.specs.Prelude.{◌≡◌};
 
 use crate::faults::{AppendFault, SettleFault, Settled};
 use crate::handle::{Handle, share_all};
-use crate::spare::Spare;
+use crate::spares::Spares;
 use extent_node::Wire;
-use extent_seal::{Appended, NoReplica, OpenExtent, ReadFault};
+use extent_seal::{Appended, NoReplica, OpenExtent, ReadFault, Shares};
 use stamp_values::{BLOCK_LIMIT, Place, Share};
 use std::alloc::{AllocError, Global};
 use std::mem;
@@ -31,11 +31,12 @@ pub(crate) struct Parts {
     pub last: OpenExtent,
     // The bytes of the acknowledged blocks of the last extent.
     pub bytes: u64,
-    pub spare: Spare,
+    // The extents that follow when the last one is sealed.
+    pub spares: Spares,
 }
 
 impl Parts {
-    ghost use Rattle.std.specs.Prelude.{◌≡◌, ◌↔◌, ◌⊎◌, Ok, ◌<◌, ◌≤◌, ◌+◌, ◌++◌, ◌∷◌, [], true, None, Some, Err, map, length, IfOk, IsSome, IsSomeAnd, OnErr};
+    ghost use Rattle.std.specs.Prelude.{◌≡◌, ◌↔◌, ◌⊎◌, Ok, ◌<◌, ◌≤◌, ◌+◌, ◌++◌, ◌∷◌, [], true, false, None, Some, Err, map, length, IfOk, IsSome, IsSomeAnd, OnOk, OnErr};
     ghost use Rattle.std.specs.List.{slice_get};
     ghost use Rattle.std.specs.Option.{is_some};
     ghost use Rattle.std.specs.Vec.{vec_len, vec_capacity};
@@ -46,7 +47,7 @@ impl Parts {
     ghost use Rattle.stamp_values.specs.declared.place.Place.{Place};
     ghost use Rattle.stream_manager.specs.Counting.{CallsAtMost, Grows, CallsTry, FailsTry, CallsAppend, FailsAppend, CallsSettle, FailsSettle, CountsSeal, kept_in};
     ghost use Rattle.stream_manager.specs.Extents.{closed_blocks, extents};
-    ghost use Rattle.stream_manager.specs.Outcomes.{IsTried, IsPut, IsAppend, IsSettled, IsSealed};
+    ghost use Rattle.stream_manager.specs.Outcomes.{IsTried, IsPut, IsAppend, IsRefused, IsSettled, IsSealed};
     ghost use Rattle.stream_manager.specs.Places.{Decides, Follows, IsLastAt, block_at, next_place};
     ghost use Rattle.stream_manager.specs.Sizes.{IsWithin, AreSized, AreCounted};
     ghost use Rattle.stream_manager.specs.declared.faults.AppendFault.TheVariants.{TooLarge, Busy};
@@ -57,11 +58,11 @@ impl Parts {
         requires room { vec_len self.old.sealed < vec_capacity self.old.sealed }
         ensures limit { self.new.limit ≡ self.old.limit }
         ensures moved { IfOk result (λ kept. map closed_blocks self.new.sealed.items
-            ≡ map closed_blocks self.old.sealed.items ++ (self.old.last.blocks ++ held kept self.old.last.tried) ∷ []) }
-        ensures blocks { IfOk result (λ kept. self.new.last.blocks ≡ []) }
-        ensures tried { IfOk result (λ kept. self.new.last.tried ≡ None) }
+            ≡ map closed_blocks self.old.sealed.items ++ (self.old.last.extent.blocks ++ held kept self.old.last.extent.tried) ∷ []) }
+        ensures blocks { IfOk result (λ kept. self.new.last.extent.blocks ≡ []) }
+        ensures tried { IfOk result (λ kept. self.new.last.extent.tried ≡ None) }
         ensures same_sealed { OnErr result (self.new.sealed.items ≡ self.old.sealed.items) }
-        ensures same_last { OnErr result (self.new.last ≡ self.old.last) }
+        ensures same_last { OnErr result (self.new.last.extent ≡ self.old.last.extent) }
         ensures called { CallsEach (W.calls wire.old) (W.calls wire.new) }
         ensures counted { IfOk result (λ kept. Grows (W.faults wire.old) (W.faults wire.new)) }
         ensures unanswered { OnErr result (FailsEach (W.faults wire.old) (W.faults wire.new)) }
@@ -70,9 +71,11 @@ impl Parts {
         ensures bytes { IfOk result (λ kept. self.new.bytes ≡ 0) }
         ensures same_bytes { OnErr result (self.new.bytes ≡ self.old.bytes) }
         ensures longer { IfOk result (λ kept. vec_len self.new.sealed ≡ vec_len self.old.sealed + 1) }
+        ensures last_room { IfOk result (λ kept. self.new.last.room ≡ self.old.spares.next) }
+        ensures next_room { IfOk result (λ kept. self.new.spares.next ≡ self.old.spares.after) }
     {
         let len = self.last.len();
-        let next = self.spare.take(self.alloc);
+        let next = self.spares.take(self.alloc);
         let last = mem::replace(&mut self.last, next);
         match last.seal(wire) {
             Ok(sealed) => {
@@ -90,150 +93,199 @@ impl Parts {
 
     // The extents after a seal follow those before it.
     fn close_last<W: Wire>(&mut self, wire: &mut W) -> Result<bool, NoReplica>
-        requires sized { AreSized self.old.limit self.old.sealed.items self.old.last }
-        requires bytes { AreCounted self.old.bytes self.old.last }
+        requires sized { AreSized self.old.limit self.old.sealed.items self.old.last.extent }
+        requires bytes { AreCounted self.old.bytes self.old.last.extent }
         requires room { vec_len self.old.sealed < vec_capacity self.old.sealed }
-        ensures follows { IfOk result (λ kept. Follows (extents self.old.sealed.items self.old.last)
-            (held kept self.old.last.tried) (extents self.new.sealed.items self.new.last)) }
-        ensures at { IfOk result (λ kept. (b : Block) → (p : Place) → held kept self.old.last.tried ≡ b ∷ []
-            → p.extent ≡ length self.old.sealed.items → p.index ≡ length self.old.last.blocks
-            → IsLastAt (extents self.new.sealed.items self.new.last) p b) }
-        ensures decided { IfOk result (λ kept. is_some self.old.last.tried ≡ true
-            → Decides kept (length self.old.sealed.items) self.old.last (extents self.new.sealed.items self.new.last)) }
-        ensures blocks { IfOk result (λ kept. self.new.last.blocks ≡ []) }
-        ensures tried { IfOk result (λ kept. self.new.last.tried ≡ None) }
-        ensures same { OnErr result (extents self.new.sealed.items self.new.last ≡ extents self.old.sealed.items self.old.last) }
+        ensures follows { IfOk result (λ kept. Follows (extents self.old.sealed.items self.old.last.extent)
+            (held kept self.old.last.extent.tried) (extents self.new.sealed.items self.new.last.extent)) }
+        ensures at { IfOk result (λ kept. (b : Block) → (p : Place) → held kept self.old.last.extent.tried ≡ b ∷ []
+            → p.extent ≡ length self.old.sealed.items → p.index ≡ length self.old.last.extent.blocks
+            → IsLastAt (extents self.new.sealed.items self.new.last.extent) p b) }
+        ensures decided { IfOk result (λ kept. is_some self.old.last.extent.tried ≡ true
+            → Decides kept (length self.old.sealed.items) self.old.last.extent (extents self.new.sealed.items self.new.last.extent)) }
+        ensures blocks { IfOk result (λ kept. self.new.last.extent.blocks ≡ []) }
+        ensures tried { IfOk result (λ kept. self.new.last.extent.tried ≡ None) }
+        ensures same { OnErr result (extents self.new.sealed.items self.new.last.extent ≡ extents self.old.sealed.items self.old.last.extent) }
         ensures same_sealed { OnErr result (self.new.sealed.items ≡ self.old.sealed.items) }
-        ensures same_last { OnErr result (self.new.last ≡ self.old.last) }
+        ensures same_last { OnErr result (self.new.last.extent ≡ self.old.last.extent) }
         ensures called { CallsEach (W.calls wire.old) (W.calls wire.new) }
         ensures counted { IfOk result (λ kept. Grows (W.faults wire.old) (W.faults wire.new)) }
         ensures unanswered { OnErr result (FailsEach (W.faults wire.old) (W.faults wire.new)) }
         ensures one_more { vec_len self.new.sealed ≤ vec_len self.old.sealed + 1 }
         ensures capacity { vec_capacity self.new.sealed ≡ vec_capacity self.old.sealed }
-        ensures sized { AreSized self.new.limit self.new.sealed.items self.new.last }
-        ensures bytes { AreCounted self.new.bytes self.new.last }
+        ensures sized { AreSized self.new.limit self.new.sealed.items self.new.last.extent }
+        ensures bytes { AreCounted self.new.bytes self.new.last.extent }
         ensures limit { self.new.limit ≡ self.old.limit }
         ensures longer { IfOk result (λ kept. vec_len self.new.sealed ≡ vec_len self.old.sealed + 1) }
+        ensures last_room { IfOk result (λ kept. self.new.last.room ≡ self.old.spares.next) }
+        ensures next_room { IfOk result (λ kept. self.new.spares.next ≡ self.old.spares.after) }
     {
         self.close(wire)
     }
 
-    // Tries the block on the last extent.
+    // Tries the block on the last extent. Takes no memory.
     #[tactic(auto, using(crate::proofs::SizeLemmas::short_sized, crate::proofs::SizeLemmas::whole_sized, crate::proofs::CountLemmas::one_more_bound))]
-    fn try_once<W: Wire>(&mut self, block: &Share, wire: &mut W) -> Result<Tried, AllocError>
-        requires sized { AreSized self.old.limit self.old.sealed.items self.old.last }
-        requires bytes { AreCounted self.old.bytes self.old.last }
-        requires fits { IsWithin self.old.limit (self.old.last.blocks ++ block.now ∷ []) }
-        requires clear { self.old.last.tried ≡ None }
+    fn try_once<W: Wire>(&mut self, block: Shares, wire: &mut W) -> Tried
+        requires sized { AreSized self.old.limit self.old.sealed.items self.old.last.extent }
+        requires bytes { AreCounted self.old.bytes self.old.last.extent }
+        requires fits { IsWithin self.old.limit (self.old.last.extent.blocks ++ block ∷ []) }
+        requires clear { self.old.last.extent.tried ≡ None }
         requires room { vec_len self.old.sealed < vec_capacity self.old.sealed }
-        ensures tried { IfOk result (λ t. IsTried t (extents self.old.sealed.items self.old.last) block.now
-            (extents self.new.sealed.items self.new.last) self.new.last) }
-        ensures called { IfOk result (λ t. CallsTry t (vec_len self.old.sealed) (vec_len self.new.sealed) (W.calls wire.old) (W.calls wire.new)) }
-        ensures counted { IfOk result (λ t. FailsTry t (W.faults wire.old) (W.faults wire.new)) }
-        ensures refused { OnErr result (self.new ≡ self.old) }
-        ensures unheard { OnErr result (wire.new ≡ wire.old) }
+        requires last_room { 0 < self.old.last.room }
+        ensures tried { IsTried result (extents self.old.sealed.items self.old.last.extent) block
+            (extents self.new.sealed.items self.new.last.extent) self.new.last.extent }
+        ensures called { CallsTry result (vec_len self.old.sealed) (vec_len self.new.sealed) (W.calls wire.old) (W.calls wire.new) }
+        ensures counted { FailsTry result (W.faults wire.old) (W.faults wire.new) }
         ensures one_more { vec_len self.new.sealed ≤ vec_len self.old.sealed + 1 }
         ensures capacity { vec_capacity self.new.sealed ≡ vec_capacity self.old.sealed }
-        ensures sized { AreSized self.new.limit self.new.sealed.items self.new.last }
-        ensures bytes { AreCounted self.new.bytes self.new.last }
+        ensures sized { AreSized self.new.limit self.new.sealed.items self.new.last.extent }
+        ensures bytes { AreCounted self.new.bytes self.new.last.extent }
         ensures limit { self.new.limit ≡ self.old.limit }
-        ensures once { (result ≡ Ok Excluded) → vec_len self.new.sealed ≡ vec_len self.old.sealed + 1 }
+        ensures once { (result ≡ Excluded) → vec_len self.new.sealed ≡ vec_len self.old.sealed + 1 }
+        ensures last_room { (result ≡ Excluded) → self.new.last.room ≡ self.old.spares.next }
     {
         let place = Place {
             extent: self.sealed.len() as u64,
             index: self.last.len() as u64,
         };
-        match self.last.append(block, wire)? {
+        let len = block.len();
+        match self.last.append_reserved(block, wire) {
             Appended::All => {
-                self.bytes = self.bytes.saturating_add(block.len() as u64);
-                Ok(Tried::Placed(place))
+                self.bytes = self.bytes.saturating_add(len as u64);
+                Tried::Placed(place)
             }
             Appended::Short => match self.close_last(wire) {
-                Ok(true) => Ok(Tried::Placed(place)),
-                Ok(false) => Ok(Tried::Excluded),
-                Err(NoReplica) => Ok(Tried::Doubt),
+                Ok(true) => Tried::Placed(place),
+                Ok(false) => Tried::Excluded,
+                Err(NoReplica) => Tried::Doubt,
             },
         }
     }
 
-    // Tries the block, and once more on a new extent if it is excluded.
+    // Tries the block, and once more on a new extent if it is excluded. Takes no memory.
     #[tactic(auto, using(crate::proofs::SizeLemmas::first_within))]
-    fn put<W: Wire>(&mut self, block: &Share, wire: &mut W) -> Result<Place, AppendFault>
-        requires sized { AreSized self.old.limit self.old.sealed.items self.old.last }
-        requires bytes { AreCounted self.old.bytes self.old.last }
-        requires fits { IsWithin self.old.limit (self.old.last.blocks ++ block.now ∷ []) }
-        requires clear { self.old.last.tried ≡ None }
+    fn put<W: Wire>(
+        &mut self,
+        block: Shares,
+        again: Shares,
+        wire: &mut W,
+    ) -> Result<Place, AppendFault>
+        requires sized { AreSized self.old.limit self.old.sealed.items self.old.last.extent }
+        requires bytes { AreCounted self.old.bytes self.old.last.extent }
+        requires fits { IsWithin self.old.limit (self.old.last.extent.blocks ++ block ∷ []) }
+        requires clear { self.old.last.extent.tried ≡ None }
         requires room { vec_len self.old.sealed + 1 < vec_capacity self.old.sealed }
-        ensures put { IsPut result (extents self.old.sealed.items self.old.last) block.now
-            (extents self.new.sealed.items self.new.last) self.new.last }
+        requires last_room { 0 < self.old.last.room }
+        requires next_room { 0 < self.old.spares.next }
+        requires again { again ≡ block }
+        ensures put { IsPut result (extents self.old.sealed.items self.old.last.extent) block
+            (extents self.new.sealed.items self.new.last.extent) self.new.last.extent }
         ensures called { CallsAppend result (vec_len self.old.sealed) (vec_len self.new.sealed) (W.calls wire.old) (W.calls wire.new) }
         ensures counted { FailsAppend result (W.faults wire.old) (W.faults wire.new) }
-        ensures sized { AreSized self.new.limit self.new.sealed.items self.new.last }
-        ensures bytes { AreCounted self.new.bytes self.new.last }
+        ensures sized { AreSized self.new.limit self.new.sealed.items self.new.last.extent }
+        ensures bytes { AreCounted self.new.bytes self.new.last.extent }
         ensures limit { self.new.limit ≡ self.old.limit }
         ensures twice { (result ≡ Err Busy) → vec_len self.new.sealed ≡ vec_len self.old.sealed + 2 }
     {
-        match self.try_once(block, wire)? {
+        match self.try_once(block, wire) {
             Tried::Placed(place) => return Ok(place),
             Tried::Doubt => return Err(AppendFault::Doubt),
             Tried::Excluded => {}
         }
-        match self.try_once(block, wire)? {
+        match self.try_once(again, wire) {
             Tried::Placed(place) => Ok(place),
             Tried::Doubt => Err(AppendFault::Doubt),
             Tried::Excluded => Err(AppendFault::Busy),
         }
     }
 
-    // Settles a doubt, and seals the last extent if it would hold too many bytes with `len` more.
-    #[tactic(auto, using(crate::proofs::SizeLemmas::first_within, crate::proofs::SizeLemmas::room_within, crate::proofs::CountLemmas::one_more_bound))]
-    fn make_ready<W: Wire>(&mut self, len: usize, wire: &mut W) -> Result<bool, NoReplica>
-        requires sized { AreSized self.old.limit self.old.sealed.items self.old.last }
-        requires bytes { AreCounted self.old.bytes self.old.last }
+    // Whether the last extent is sealed before a block of `len` bytes is tried: it has a doubt, or would hold too many bytes.
+    #[tactic(auto, using(crate::proofs::SizeLemmas::first_within, crate::proofs::SizeLemmas::room_within))]
+    fn seals_before(&self, len: usize) -> bool
+        requires bytes { AreCounted self.now.bytes self.now.last.extent }
+        ensures clear { (result ≡ false) → self.now.last.extent.tried ≡ None }
+        ensures fits { (result ≡ false) → (b : Block) → length b ≡ len → IsWithin self.now.limit (self.now.last.extent.blocks ++ b ∷ []) }
+    {
+        if self.last.is_short() {
+            return true;
+        }
+        self.last.len() > 0 && self.bytes.saturating_add(len as u64) > u64::from(self.limit)
+    }
+
+    // Makes all room that an append may need: for three seals, in two extents that follow, and in the last one if it is not sealed first.
+    fn make_room(&mut self, seals: bool) -> Result<(), AllocError>
+        ensures same_sealed { self.new.sealed.items ≡ self.old.sealed.items }
+        ensures same_last { self.new.last.extent ≡ self.old.last.extent }
+        ensures same_limit { self.new.limit ≡ self.old.limit }
+        ensures same_bytes { self.new.bytes ≡ self.old.bytes }
+        ensures room { OnOk result (vec_len self.new.sealed + 2 < vec_capacity self.new.sealed) }
+        ensures last_room { OnOk result ((seals ≡ false) → 0 < self.new.last.room) }
+        ensures next_room { OnOk result (0 < self.new.spares.next) }
+        ensures after_room { OnOk result (0 < self.new.spares.after) }
+    {
+        self.sealed.reserve(3)?;
+        self.spares.reserve()?;
+        if !seals {
+            self.last.reserve()?;
+        }
+        Ok(())
+    }
+
+    // Seals the last extent, if it is to be sealed before a block is tried. Takes no memory.
+    #[tactic(auto, using(crate::proofs::SizeLemmas::first_within, crate::proofs::CountLemmas::one_more_bound))]
+    fn make_ready<W: Wire>(&mut self, seals: bool, wire: &mut W) -> Result<bool, NoReplica>
+        requires sized { AreSized self.old.limit self.old.sealed.items self.old.last.extent }
+        requires bytes { AreCounted self.old.bytes self.old.last.extent }
         requires room { vec_len self.old.sealed < vec_capacity self.old.sealed }
-        ensures follows { IfOk result (λ kept. Follows (extents self.old.sealed.items self.old.last)
-            (held kept self.old.last.tried) (extents self.new.sealed.items self.new.last)) }
-        ensures decided { IfOk result (λ kept. is_some self.old.last.tried ≡ true
-            → Decides kept (length self.old.sealed.items) self.old.last (extents self.new.sealed.items self.new.last)) }
-        ensures tried { IfOk result (λ kept. self.new.last.tried ≡ None) }
-        ensures same { OnErr result (extents self.new.sealed.items self.new.last ≡ extents self.old.sealed.items self.old.last) }
+        requires clear { (seals ≡ false) → self.old.last.extent.tried ≡ None }
+        requires last_room { (seals ≡ false) → 0 < self.old.last.room }
+        requires next_room { 0 < self.old.spares.next }
+        requires after_room { 0 < self.old.spares.after }
+        ensures follows { IfOk result (λ kept. Follows (extents self.old.sealed.items self.old.last.extent)
+            (held kept self.old.last.extent.tried) (extents self.new.sealed.items self.new.last.extent)) }
+        ensures decided { IfOk result (λ kept. is_some self.old.last.extent.tried ≡ true
+            → Decides kept (length self.old.sealed.items) self.old.last.extent (extents self.new.sealed.items self.new.last.extent)) }
+        ensures tried { IfOk result (λ kept. self.new.last.extent.tried ≡ None) }
+        ensures same { OnErr result (extents self.new.sealed.items self.new.last.extent ≡ extents self.old.sealed.items self.old.last.extent) }
         ensures same_sealed { OnErr result (self.new.sealed.items ≡ self.old.sealed.items) }
-        ensures same_last { OnErr result (self.new.last ≡ self.old.last) }
+        ensures same_last { OnErr result (self.new.last.extent ≡ self.old.last.extent) }
         ensures called { IfOk result (λ kept. CallsAtMost 0 (vec_len self.old.sealed) (vec_len self.new.sealed) (W.calls wire.old) (W.calls wire.new)) }
         ensures unanswered_calls { OnErr result (CallsEach (W.calls wire.old) (W.calls wire.new)) }
         ensures counted { IfOk result (λ kept. Grows (W.faults wire.old) (W.faults wire.new)) }
         ensures unanswered { OnErr result (FailsEach (W.faults wire.old) (W.faults wire.new)) }
         ensures one_more { vec_len self.new.sealed ≤ vec_len self.old.sealed + 1 }
         ensures capacity { vec_capacity self.new.sealed ≡ vec_capacity self.old.sealed }
-        ensures sized { AreSized self.new.limit self.new.sealed.items self.new.last }
-        ensures bytes { AreCounted self.new.bytes self.new.last }
+        ensures sized { AreSized self.new.limit self.new.sealed.items self.new.last.extent }
+        ensures bytes { AreCounted self.new.bytes self.new.last.extent }
         ensures limit { self.new.limit ≡ self.old.limit }
-        ensures fits { IfOk result (λ kept. (b : Block) → length b ≡ len
-            → IsWithin self.new.limit (self.new.last.blocks ++ b ∷ [])) }
+        ensures fits { IfOk result (λ kept. (b : Block)
+            → ((seals ≡ false) → IsWithin self.old.limit (self.old.last.extent.blocks ++ b ∷ []))
+            → IsWithin self.new.limit (self.new.last.extent.blocks ++ b ∷ [])) }
         ensures longer { IfOk result (λ kept. vec_len self.old.sealed ≤ vec_len self.new.sealed) }
+        ensures last_room { IfOk result (λ kept. 0 < self.new.last.room) }
+        ensures next_room { IfOk result (λ kept. 0 < self.new.spares.next) }
     {
-        if self.last.is_short() {
-            return self.close_last(wire);
-        }
-        if self.last.len() > 0 && self.bytes.saturating_add(len as u64) > u64::from(self.limit) {
+        if seals {
             return self.close_last(wire);
         }
         Ok(false)
     }
 
-    /// Appends the block, after a doubt is settled.
+    /// Appends the block, after a doubt is settled. All memory that this may need is taken before a node is called.
     #[tactic(auto, using(crate::proofs::CountLemmas::one_more_bound))]
     pub fn append<W: Wire>(&mut self, block: &Share, wire: &mut W) -> Result<Place, AppendFault>
-        requires sized { AreSized self.old.limit self.old.sealed.items self.old.last }
-        requires bytes { AreCounted self.old.bytes self.old.last }
-        ensures appended { IsAppend result (extents self.old.sealed.items self.old.last) self.old.last block.now
-            (extents self.new.sealed.items self.new.last) self.new.last }
+        requires sized { AreSized self.old.limit self.old.sealed.items self.old.last.extent }
+        requires bytes { AreCounted self.old.bytes self.old.last.extent }
+        ensures appended { IsAppend result (extents self.old.sealed.items self.old.last.extent) self.old.last.extent block.now
+            (extents self.new.sealed.items self.new.last.extent) self.new.last.extent }
         ensures called { CallsAppend result (vec_len self.old.sealed) (vec_len self.new.sealed) (W.calls wire.old) (W.calls wire.new) }
         ensures counted { FailsAppend result (W.faults wire.old) (W.faults wire.new) }
         ensures large { (result ≡ Err TooLarge) ↔ (16_777_216 < length block.now) }
-        ensures unheard { (result ≡ Err TooLarge) → wire.new ≡ wire.old }
-        ensures sized { AreSized self.new.limit self.new.sealed.items self.new.last }
-        ensures bytes { AreCounted self.new.bytes self.new.last }
+        ensures unheard { IsRefused result → wire.new ≡ wire.old }
+        ensures same_sealed { IsRefused result → self.new.sealed.items ≡ self.old.sealed.items }
+        ensures same_last { IsRefused result → self.new.last.extent ≡ self.old.last.extent }
+        ensures sized { AreSized self.new.limit self.new.sealed.items self.new.last.extent }
+        ensures bytes { AreCounted self.new.bytes self.new.last.extent }
         ensures limit { self.new.limit ≡ self.old.limit }
         ensures busy { (result ≡ Err Busy) → ((self.new.sealed.items ≡ self.old.sealed.items) × FailsEach (W.faults wire.old) (W.faults wire.new))
             ⊎ (length self.old.sealed.items + 2 ≤ length self.new.sealed.items) }
@@ -241,22 +293,24 @@ impl Parts {
         if block.len() > BLOCK_LIMIT {
             return Err(AppendFault::TooLarge);
         }
-        self.sealed.reserve(3)?;
-        self.make_ready(block.len(), wire)?;
-        self.spare.reserve()?;
-        self.put(block, wire)
+        let first = Shares::new(block)?;
+        let again = Shares::new(block)?;
+        let seals = self.seals_before(block.len());
+        self.make_room(seals)?;
+        self.make_ready(seals, wire)?;
+        self.put(first, again, wire)
     }
 
     /// Settles a doubt, if there is one.
     pub fn settle<W: Wire>(&mut self, wire: &mut W) -> Result<Settled, SettleFault>
-        requires sized { AreSized self.old.limit self.old.sealed.items self.old.last }
-        requires bytes { AreCounted self.old.bytes self.old.last }
-        ensures settled { IsSettled result (extents self.old.sealed.items self.old.last) self.old.last
-            (extents self.new.sealed.items self.new.last) self.new.last }
+        requires sized { AreSized self.old.limit self.old.sealed.items self.old.last.extent }
+        requires bytes { AreCounted self.old.bytes self.old.last.extent }
+        ensures settled { IsSettled result (extents self.old.sealed.items self.old.last.extent) self.old.last.extent
+            (extents self.new.sealed.items self.new.last.extent) self.new.last.extent }
         ensures called { CallsSettle result (W.calls wire.old) (W.calls wire.new) }
         ensures counted { FailsSettle result (W.faults wire.old) (W.faults wire.new) }
-        ensures sized { AreSized self.new.limit self.new.sealed.items self.new.last }
-        ensures bytes { AreCounted self.new.bytes self.new.last }
+        ensures sized { AreSized self.new.limit self.new.sealed.items self.new.last.extent }
+        ensures bytes { AreCounted self.new.bytes self.new.last.extent }
         ensures limit { self.new.limit ≡ self.old.limit }
     {
         if !self.last.is_short() {
@@ -276,13 +330,13 @@ impl Parts {
 
     /// Seals the last extent if it holds a block or a doubt.
     pub fn seal<W: Wire>(&mut self, wire: &mut W) -> Result<(), SettleFault>
-        requires sized { AreSized self.old.limit self.old.sealed.items self.old.last }
-        requires bytes { AreCounted self.old.bytes self.old.last }
-        ensures sealed { IsSealed result (extents self.old.sealed.items self.old.last) self.old.last
-            (extents self.new.sealed.items self.new.last) self.new.last }
+        requires sized { AreSized self.old.limit self.old.sealed.items self.old.last.extent }
+        requires bytes { AreCounted self.old.bytes self.old.last.extent }
+        ensures sealed { IsSealed result (extents self.old.sealed.items self.old.last.extent) self.old.last.extent
+            (extents self.new.sealed.items self.new.last.extent) self.new.last.extent }
         ensures counted { CountsSeal result (W.calls wire.old) (W.calls wire.new) (W.faults wire.old) (W.faults wire.new) }
-        ensures sized { AreSized self.new.limit self.new.sealed.items self.new.last }
-        ensures bytes { AreCounted self.new.bytes self.new.last }
+        ensures sized { AreSized self.new.limit self.new.sealed.items self.new.last.extent }
+        ensures bytes { AreCounted self.new.bytes self.new.last.extent }
         ensures limit { self.new.limit ≡ self.old.limit }
     {
         if !self.last.is_short() && self.last.len() == 0 {
@@ -298,11 +352,11 @@ impl Parts {
     /// No extents but an empty one. Takes no memory.
     pub fn new(alloc: Global, limit: u32) -> Self
         ensures limit { result.limit ≡ limit }
-        ensures sized { AreSized result.limit result.sealed.items result.last }
-        ensures bytes { AreCounted result.bytes result.last }
+        ensures sized { AreSized result.limit result.sealed.items result.last.extent }
+        ensures bytes { AreCounted result.bytes result.last.extent }
         ensures sealed { result.sealed.items ≡ [] }
-        ensures blocks { result.last.blocks ≡ [] }
-        ensures tried { result.last.tried ≡ None }
+        ensures blocks { result.last.extent.blocks ≡ [] }
+        ensures tried { result.last.extent.tried ≡ None }
     {
         Self {
             alloc,
@@ -310,15 +364,15 @@ impl Parts {
             sealed: Vec::new(alloc),
             last: OpenExtent::new(alloc),
             bytes: 0,
-            spare: Spare::new(alloc),
+            spares: Spares::new(alloc),
         }
     }
 
     /// The block at a place.
     #[tactic(auto, using(crate::proofs::ReadLemmas::in_sealed, crate::proofs::ReadLemmas::in_last))]
     pub fn read<W: Wire>(&self, place: Place, wire: &mut W) -> Result<Share, ReadFault>
-        requires { IsSome (block_at (extents self.now.sealed.items self.now.last) place) }
-        ensures read { IfOk result (λ b. block_at (extents self.now.sealed.items self.now.last) place ≡ Some b) }
+        requires { IsSome (block_at (extents self.now.sealed.items self.now.last.extent) place) }
+        ensures read { IfOk result (λ b. block_at (extents self.now.sealed.items self.now.last.extent) place ≡ Some b) }
         ensures called { result ≡ Err Unreachable → CallsCopies (kept_in self.now.sealed.items place.extent) (W.calls wire.old) (W.calls wire.new) }
         ensures unreachable { result ≡ Err Unreachable → FailsCopies (kept_in self.now.sealed.items place.extent) (W.faults wire.old) (W.faults wire.new) }
         ensures faulty { result ≡ Err Unreachable → all_faults (W.faults wire.old) < all_faults (W.faults wire.new) }
@@ -334,7 +388,7 @@ impl Parts {
     /// Whether there is an acknowledged block at the place.
     #[tactic(auto, using(crate::proofs::ReadLemmas::has_sealed, crate::proofs::ReadLemmas::has_last))]
     pub fn has_block(&self, place: Place) -> bool
-        ensures { result ≡ is_some (block_at (extents self.now.sealed.items self.now.last) place) }
+        ensures { result ≡ is_some (block_at (extents self.now.sealed.items self.now.last.extent) place) }
     {
         let extent = place.extent as usize;
         let index = place.index as usize;
@@ -347,7 +401,7 @@ impl Parts {
     /// The place after the last acknowledged block.
     #[tactic(auto, using(crate::proofs::PlaceLemmas::last_number))]
     pub fn next_place(&self) -> Place
-        ensures { result ≡ next_place (extents self.now.sealed.items self.now.last) self.now.last }
+        ensures { result ≡ next_place (extents self.now.sealed.items self.now.last.extent) self.now.last.extent }
     {
         Place {
             extent: self.sealed.len() as u64,
@@ -358,7 +412,7 @@ impl Parts {
     /// How many extents there are, with the last one.
     #[tactic(auto, using(crate::proofs::ReadLemmas::count_of_extents))]
     pub fn extent_count(&self) -> usize
-        ensures { result ≡ length (extents self.now.sealed.items self.now.last) }
+        ensures { result ≡ length (extents self.now.sealed.items self.now.last.extent) }
     {
         self.sealed.len() + 1
     }
@@ -366,8 +420,8 @@ impl Parts {
     /// How many acknowledged blocks an extent has.
     #[tactic(auto, using(crate::proofs::ReadLemmas::sealed_extent, crate::proofs::ReadLemmas::last_extent))]
     pub fn extent_len(&self, extent: usize) -> usize
-        requires { extent < length (extents self.now.sealed.items self.now.last) }
-        ensures { IsSomeAnd (slice_get (extents self.now.sealed.items self.now.last) extent) (λ blocks. result ≡ length blocks) }
+        requires { extent < length (extents self.now.sealed.items self.now.last.extent) }
+        ensures { IsSomeAnd (slice_get (extents self.now.sealed.items self.now.last.extent) extent) (λ blocks. result ≡ length blocks) }
     {
         match self.sealed.get(extent) {
             Some(handle) => handle.extent().commit_len(),
@@ -378,18 +432,18 @@ impl Parts {
     /// The same sealed extents, each of them shared, with a last extent of its own.
     #[tactic(auto, using(crate::proofs::SizeLemmas::none_sized))]
     pub fn share(&mut self) -> Result<Self, AllocError>
-        requires sized { AreSized self.old.limit self.old.sealed.items self.old.last }
-        ensures same { extents self.new.sealed.items self.new.last ≡ extents self.old.sealed.items self.old.last }
+        requires sized { AreSized self.old.limit self.old.sealed.items self.old.last.extent }
+        ensures same { extents self.new.sealed.items self.new.last.extent ≡ extents self.old.sealed.items self.old.last.extent }
         ensures same_sealed { self.new.sealed.items ≡ self.old.sealed.items }
-        ensures same_last { self.new.last ≡ self.old.last }
+        ensures same_last { self.new.last.extent ≡ self.old.last.extent }
         ensures same_limit { self.new.limit ≡ self.old.limit }
         ensures same_bytes { self.new.bytes ≡ self.old.bytes }
         ensures sealed { IfOk result (λ s. s.sealed.items ≡ self.old.sealed.items) }
-        ensures blocks { IfOk result (λ s. s.last.blocks ≡ []) }
-        ensures tried { IfOk result (λ s. s.last.tried ≡ None) }
+        ensures blocks { IfOk result (λ s. s.last.extent.blocks ≡ []) }
+        ensures tried { IfOk result (λ s. s.last.extent.tried ≡ None) }
         ensures limit { IfOk result (λ s. s.limit ≡ self.old.limit) }
-        ensures sized { IfOk result (λ s. AreSized s.limit s.sealed.items s.last) }
-        ensures bytes { IfOk result (λ s. AreCounted s.bytes s.last) }
+        ensures sized { IfOk result (λ s. AreSized s.limit s.sealed.items s.last.extent) }
+        ensures bytes { IfOk result (λ s. AreCounted s.bytes s.last.extent) }
     {
         let sealed = share_all(&mut self.sealed, self.alloc)?;
         Ok(Self {
@@ -398,7 +452,7 @@ impl Parts {
             sealed,
             last: OpenExtent::new(self.alloc),
             bytes: 0,
-            spare: Spare::new(self.alloc),
+            spares: Spares::new(self.alloc),
         })
     }
 }

@@ -21,9 +21,9 @@ impl Model for Stream {
 
     ghost Value = { Streamed };
 
-    ghost view = { λ s. record { limit = s.parts.limit; sealed = s.parts.sealed.items; last = s.parts.last } };
+    ghost view = { λ s. record { limit = s.parts.limit; sealed = s.parts.sealed.items; last = s.parts.last.extent } };
 
-    ghost invariant = { λ s. AreSized s.parts.limit s.parts.sealed.items s.parts.last × AreCounted s.parts.bytes s.parts.last };
+    ghost invariant = { λ s. AreSized s.parts.limit s.parts.sealed.items s.parts.last.extent × AreCounted s.parts.bytes s.parts.last.extent };
 }
 
 impl Stream {
@@ -33,7 +33,7 @@ impl Stream {
     ghost use Rattle.extent_seal.specs.Counting.{CallsCopies, CallsNoOther, FailsCopies, FailsEach, all_faults};
     ghost use Rattle.extent_seal.specs.declared.sealed.ReadFault.TheVariants.{Unreachable};
     ghost use Rattle.stream_manager.specs.Counting.{CallsAppend, FailsAppend, CallsSettle, FailsSettle, CountsSeal, kept_in};
-    ghost use Rattle.stream_manager.specs.Outcomes.{IsAppend, IsSettled, IsSealed};
+    ghost use Rattle.stream_manager.specs.Outcomes.{IsAppend, IsRefused, IsSettled, IsSealed};
     ghost use Rattle.stream_manager.specs.Places.{block_at, next_place};
     ghost use Rattle.stream_manager.specs.Sizes.{AreSized};
     ghost use Rattle.stream_manager.specs.Streams.{laid};
@@ -55,12 +55,15 @@ impl Stream {
     ///
     /// An older doubt is settled first, and an extent that the block would make too large is sealed first. If some delivery is not
     /// Done, the extent is sealed; if the block is not within its commit length, the block is tried once more, on a new extent.
+    ///
+    /// All memory that these steps may need is taken first. TooLarge and NoMemory: no node was called, and the stream is as it was.
     pub fn append<W: Wire>(&mut self, block: &Share, wire: &mut W) -> Result<Place, AppendFault>
         ensures appended { IsAppend result (laid self.old) self.old.last block.now (laid self.new) self.new.last }
         ensures called { CallsAppend result (length self.old.sealed) (length self.new.sealed) (W.calls wire.old) (W.calls wire.new) }
         ensures counted { FailsAppend result (W.faults wire.old) (W.faults wire.new) }
         ensures large { (result ≡ Err TooLarge) ↔ (16_777_216 < length block.now) }
-        ensures unheard { (result ≡ Err TooLarge) → wire.new ≡ wire.old }
+        ensures refused { IsRefused result → self.new ≡ self.old }
+        ensures unheard { IsRefused result → wire.new ≡ wire.old }
         ensures busy { (result ≡ Err Busy) → ((self.new.sealed ≡ self.old.sealed) × FailsEach (W.faults wire.old) (W.faults wire.new)) ⊎ (length self.old.sealed + 2 ≤ length self.new.sealed) }
         ensures limit { self.new.limit ≡ self.old.limit }
         ensures sized { AreSized self.new.limit self.new.sealed self.new.last }

@@ -8,6 +8,8 @@ mod call_tests;
 #[cfg(test)]
 mod every_delivery_tests;
 #[cfg(test)]
+mod extent_tests;
+#[cfg(test)]
 mod plain_stream;
 mod sample_places;
 #[cfg(test)]

@@ -6,8 +6,8 @@ pub invariant_of-result : goal.invariant_of-result
 invariant_of-result g c =
     let i = c.self.invariant in
     let k = c.cut-kept in
-    all_same (extent.the_view c.self.inside) k.result.zero k.result.one k.result.two k.result.len
-    (sealing (extent.the_view c.self.inside) c.self.inside.zero.blocks c.self.inside.one.blocks c.self.inside.two.blocks
+    all_same (extent.the_view c.self.inside).extent k.result.zero k.result.one k.result.two k.result.len
+    (sealing (extent.the_view c.self.inside).extent c.self.inside.zero.blocks c.self.inside.one.blocks c.self.inside.two.blocks
     k.result.zero k.result.one k.result.two k.result.len c.ask-zero.result c.ask-one.result c.ask-two.result
     i.0 i.1.0 i.1.1.0 k.ensures.kept_zero k.ensures.kept_one k.ensures.kept_two
     k.ensures.cut_zero k.ensures.cut_one k.ensures.cut_two k.ensures.smallest)
@@ -17,8 +17,8 @@ sealed g c =
     let i = c.self.invariant in
     let k = c.cut-kept in
     rw (← c.self.view_is)
-    (seals (extent.the_view c.self.inside) k.result.zero k.result.one k.result.two k.result.len
-    (sealing (extent.the_view c.self.inside) c.self.inside.zero.blocks c.self.inside.one.blocks c.self.inside.two.blocks
+    (seals (extent.the_view c.self.inside).extent k.result.zero k.result.one k.result.two k.result.len
+    (sealing (extent.the_view c.self.inside).extent c.self.inside.zero.blocks c.self.inside.one.blocks c.self.inside.two.blocks
     k.result.zero k.result.one k.result.two k.result.len c.ask-zero.result c.ask-one.result c.ask-two.result
     i.0 i.1.0 i.1.1.0 k.ensures.kept_zero k.ensures.kept_one k.ensures.kept_two
     k.ensures.cut_zero k.ensures.cut_one k.ensures.cut_two k.ensures.smallest))
@@ -27,4 +27,4 @@ pub returns-clause-sealed : goal.returns-clause-sealed
 returns-clause-sealed g c = sealed g c
 
 pub returns-clause-committed : goal.returns-clause-committed
-returns-clause-committed g c = committed c.args.self _ (sealed g c)
+returns-clause-committed g c = committed c.args.self.extent _ (sealed g c)
