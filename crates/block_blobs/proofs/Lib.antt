@@ -8,3 +8,4 @@ pub mod StoredBlocks
 pub mod ListFaults
 pub mod NextLemmas
 pub mod WholeLists
+pub mod RowLemmas

@@ -5,3 +5,4 @@ pub mod FirstBlocks
 pub mod IdTrees
 pub mod BlockLists
 pub mod BlobChanges
+pub mod StoredRows

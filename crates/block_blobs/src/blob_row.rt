@@ -3,16 +3,19 @@ ghost use Rattle.std.specs.Prelude.{ℕ, List, IsSome, false, ◌≡◌, ◌≢�
 ghost use Rattle.std.specs.Option.{option_copied};
 ghost use Rattle.std.specs.FinMap as finite;
 ghost use Rattle.stamp_values.specs.Limits.{uncommitted_limit};
-ghost use Rattle.stamp_types.specs.Changes.{is_in_one_piece, is_committed, are_blocks, are_uncommitted, blocks_len};
+ghost use Rattle.stamp_types.specs.Changes.{is_in_one_piece, is_committed, is_stored_blob, are_blocks, are_uncommitted, blocks_len};
 ghost use Rattle.stamp_types.specs.World.{no_blob, whole_block, uncommitted_entry, same_pieces};
 ghost use Rattle.block_blobs.specs.BlobChanges as blobs;
 ghost use Rattle.block_blobs.specs.Faults.{IsFault};
+ghost use Rattle.block_blobs.specs.StoredRows.{is_left, row_of};
+ghost use Rattle.stamp_values.specs.Names.{is_blob};
 
 use crate::block_fault::BlockFault;
 use crate::block_lists::total_len;
 use crate::uncommitted::Uncommitted;
 use stamp_types::{
-    Block, BlockId, Committed, Items, Moment, Pieces, PutBlob, SetMetadata, UncommittedBlock,
+    Block, BlockId, Committed, Items, Moment, Pieces, PutBlob, SetMetadata, StoredBlob, Text,
+    UncommittedBlock,
 };
 use std::alloc::{AllocError, Global};
 use std::collections::btree_map::{IntoIter, Iter};
@@ -112,6 +115,38 @@ impl BlobRow {
             }),
             Err(fault) => {
                 drop(committed);
+                Err(fault)
+            }
+        }
+    }
+
+    /// The row of a checkpoint that says this blob under this name, as `stored` reads it. The name
+    /// moves into the row. The row has texts and ids of its own, and shares the content. If the name
+    /// is good and something is left of the blob, the row is an act of a good change.
+    ///
+    /// `AllocError` if memory runs out, or if the content of a block can have no further owner.
+    #[tactic(auto, using(crate::proofs::RowLemmas::good_row))]
+    pub fn row(&self, alloc: Global, name: Text) -> Result<StoredBlob, AllocError>
+        ensures row { IfOk result (λ row. row ≡ row_of name self.now) }
+        ensures valid { IsTrue (is_blob name) → IsTrue (is_left self.now)
+            → IfOk result (λ row. IsTrue (is_stored_blob row)) }
+    {
+        let committed = match self.committed.clone() {
+            Ok(committed) => committed,
+            Err(fault) => {
+                drop(name);
+                return Err(fault);
+            }
+        };
+        match self.uncommitted.listed(alloc) {
+            Ok(uncommitted) => Ok(StoredBlob {
+                blob: name,
+                committed,
+                uncommitted,
+            }),
+            Err(fault) => {
+                drop(committed);
+                drop(name);
                 Err(fault)
             }
         }

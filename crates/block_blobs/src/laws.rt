@@ -10,6 +10,7 @@ ghost use Rattle.stamp_types.specs.declared.act.SetMetadata.{SetMetadata};
 ghost use Rattle.stamp_types.specs.declared.piece.Piece.{Piece};
 ghost use Rattle.stamp_types.specs.World.{Blob, Part, blob_in, blobs_after, content_from, same_pieces, with_blob};
 ghost use Rattle.block_blobs.specs.BlobChanges.{blob_of_list, blob_of_put, blob_with_block, blob_with_metadata};
+ghost use Rattle.block_blobs.specs.StoredRows.{blob_of_row, row_of};
 ghost use Rattle.block_blobs.specs.BlockLists.{first_absent, first_missing, found_entries, taken_fault, wanted_fault};
 
 /// If all wanted blocks are found, as many entries are found as blocks are wanted, and no block of
@@ -49,4 +50,12 @@ pub fn a_container_changes_by_its_blob()
     ensures list { (n : ℕ) (a : PutBlockList) (p : Part (List Piece))
         → blobs_after same_pieces n (act.PutBlockList a) p
         ≡ with_blob p a.blob (blob_of_list n a (blob_in p a.blob)) }
+{}
+
+/// The row that a blob gives to a checkpoint makes the blob again, under its name and whatever was
+/// there. No other blob of the container changes. `n` is the count of the container after the row.
+pub fn a_row_makes_its_blob_again()
+    ensures blob { (name : List ℕ) (b : Blob (List Piece)) → blob_of_row (row_of name b) ≡ b }
+    ensures container { (n : ℕ) (name : List ℕ) (b : Blob (List Piece)) (p : Part (List Piece))
+        → blobs_after same_pieces n (act.StoredBlob (row_of name b)) p ≡ with_blob p name b }
 {}

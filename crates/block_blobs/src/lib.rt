@@ -16,4 +16,4 @@ mod whole_lists;
 pub use blob_row::BlobRow;
 pub use block_fault::BlockFault;
 pub use block_lists::entries_from;
-pub use laws::{a_commit_is_its_list, a_container_changes_by_its_blob};
+pub use laws::{a_commit_is_its_list, a_container_changes_by_its_blob, a_row_makes_its_blob_again};

@@ -1,5 +1,5 @@
 //! The uncommitted blocks of a blob.
-ghost use Rattle.std.specs.Prelude.{◌≡◌, ◌==◌, ◌≤◌, ℕ, List, IsSome, false, IsTrue, IfOk, IfErr, OnOk, OnErr, MatchOption, None, length, map};
+ghost use Rattle.std.specs.Prelude.{◌≡◌, ◌==◌, ◌≤◌, ◌++◌, ◌∷◌, [], ℕ, List, IsSome, false, IsTrue, IfOk, IfErr, OnOk, OnErr, MatchOption, None, length, map};
 ghost use Rattle.std.specs.List.{list_all};
 ghost use Rattle.std.specs.Option.{option_copied};
 ghost use Rattle.std.specs.FinMap as finite;
@@ -7,6 +7,7 @@ ghost use Rattle.stamp_values.specs.Limits.{uncommitted_limit};
 ghost use Rattle.stamp_types.specs.Changes.{is_in_one_piece, are_uncommitted, has_ids_of_one_length};
 ghost use Rattle.stamp_types.specs.World.{uncommitted_entry, same_pieces};
 ghost use Rattle.block_blobs.specs.Faults.{IsFault};
+ghost use Rattle.block_blobs.specs.StoredRows.{listed_block, listed_blocks};
 ghost use Rattle.block_blobs.specs.UncommittedBlocks as blocks;
 ghost use Rattle.block_blobs.specs.UncommittedBlocks.{block_count, are_in_one_piece};
 
@@ -71,6 +72,39 @@ fn tree_of(alloc: Global, blocks: Vec<UncommittedBlock>) -> Result<ContentById, 
     Ok(tree)
 }
 
+// Puts a copy of a block after the blocks. The content has one more owner.
+fn push_copy(
+    blocks: &mut Vec<UncommittedBlock>,
+    id: &BlockId,
+    content: &Pieces,
+) -> Result<(), AllocError>
+    ensures { OnOk result (blocks.new.items
+        ≡ blocks.old.items ++ listed_block (id.now, content.now) ∷ []) }
+{
+    let id = id.clone()?;
+    let content = match content.clone() {
+        Ok(content) => content,
+        Err(fault) => {
+            drop(id);
+            return Err(fault);
+        }
+    };
+    blocks.push(UncommittedBlock { id, content })?;
+    Ok(())
+}
+
+// Copies of the blocks in the order of their ids. The content is shared.
+fn copied(alloc: Global, blocks: &ContentById) -> Result<Vec<UncommittedBlock>, AllocError>
+    ensures { IfOk result (λ copies. copies.items ≡ listed_blocks blocks.now) }
+{
+    let mut later = blocks.iter();
+    let mut copies = Vec::with_capacity(alloc, blocks.len())?;
+    while let Some((id, content)) = later.next() {
+        push_copy(&mut copies, id, content)?;
+    }
+    Ok(copies)
+}
+
 impl Uncommitted {
     /// No blocks. Takes no memory.
     pub(crate) fn new(alloc: Global) -> Self
@@ -126,6 +160,19 @@ impl Uncommitted {
         ensures { result ≡ finite.entries self.now }
     {
         self.blocks.iter()
+    }
+
+    /// Copies of the blocks in the order of their ids, as the row of a checkpoint has them. The
+    /// content is shared.
+    ///
+    /// `AllocError` if memory runs out, or if the content of a block can have no further owner.
+    #[tactic(auto, using(crate::proofs::RowLemmas::good_blocks))]
+    pub(crate) fn listed(&self, alloc: Global) -> Result<Items<UncommittedBlock>, AllocError>
+        ensures value { IfOk result (λ blocks. blocks ≡ listed_blocks self.now) }
+        ensures valid { IfOk result (λ blocks. IsTrue (are_uncommitted blocks)) }
+    {
+        let _id_len = self.id_len;
+        Ok(Items::new(copied(alloc, &self.blocks)?))
     }
 
     /// Takes the blocks, in the order of their ids. No block stays. Takes no memory.

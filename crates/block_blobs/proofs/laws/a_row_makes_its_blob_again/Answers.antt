@@ -1,0 +1,8 @@
+use Rattle.block_blobs.proofs.RowLemmas.{blob_again, container_again}
+use Rattle.block_blobs.proofs.laws.a_row_makes_its_blob_again.Goals as goal
+
+pub returns-clause-blob : goal.returns-clause-blob
+returns-clause-blob c = λ name b. blob_again name b
+
+pub returns-clause-container : goal.returns-clause-container
+returns-clause-container c = λ n name b p. container_again n name b p
