@@ -6,13 +6,17 @@ mod connection;
 mod end;
 mod head_end;
 mod input;
+mod link;
 mod output;
 mod service;
 mod stream_laws;
+mod workers;
 
 pub use connection::run;
 pub use end::{End, FrontFault};
+pub use link::{Link, Source, serve_link};
 pub use service::{Clock, Service};
 pub use stream_laws::{
     a_head_ends_with_its_first_empty_line, a_stream_is_read_in_one_way, each_stream_is_read,
 };
+pub use workers::work;

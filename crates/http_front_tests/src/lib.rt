@@ -22,3 +22,5 @@ mod sample_parts;
 mod test_heads;
 #[cfg(test)]
 mod value_tests;
+#[cfg(test)]
+mod worker_tests;
