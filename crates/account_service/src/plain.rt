@@ -90,9 +90,13 @@ impl Plain {
         }
     }
 
-    // The reply to a request, and the change of the request if nothing refuses it. The reply is made
-    // before the change, so nothing is changed if memory runs out for the reply.
-    fn judged(
+    /// The reply of the model to a request whose body was read before, and the change of the model.
+    /// The caller keeps the request, so a caller that shares the service behind a lock reads the body
+    /// before it takes the lock, and drops the request after it.
+    ///
+    /// `AllocError` if memory runs out for the change or the reply. Then nothing is changed: the reply
+    /// is made before the change.
+    pub fn answer_read(
         &mut self,
         alloc: Global,
         request: &Request,
@@ -141,6 +145,6 @@ impl Service for Plain {
         ensures unchanged { OnErr result (self.new ≡ self.old) }
     {
         let reading = Reading::of(alloc, &request)?;
-        self.judged(alloc, &request, reading, moment)
+        self.answer_read(alloc, &request, reading, moment)
     }
 }

@@ -6,7 +6,7 @@ use Rattle.account_service.specs.Decisions.{found_reply}
 use Rattle.account_service.specs.HeldRows.{row_refusal, rows_with}
 use Rattle.account_service.proofs.DecisionLemmas.{allowed_with, refused_by}
 use Rattle.account_service.proofs.PlainLemmas.{answered_refused, answered_allowed, change_fits_rows, change_is_held}
-use Rattle.account_service.proofs.plain.Plain.judged.Goals as goal
+use Rattle.account_service.proofs.plain.Plain.answer_read.Goals as goal
 
 pub returns-in-Refused-clause-answered : goal.returns-in-Refused-clause-answered
 returns-in-Refused-clause-answered c =

@@ -1,0 +1,5 @@
+pub mod Adding
+pub mod ConnectionLemmas
+pub mod Fronts
+pub mod HistoryLemmas
+pub mod WriteLemmas

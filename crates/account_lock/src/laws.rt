@@ -1,0 +1,64 @@
+//! What the connections of one lock read of its history. A law about definitions is the contract of a function that does
+//! nothing.
+ghost use Rattle.std.specs.Prelude.{◌≡◌, ℕ, List, [], ◌∷◌, ◌++◌, Option, None, Result};
+ghost use Rattle.stamp_values.specs.declared.key.Key.{Key};
+ghost use Rattle.stamp_values.specs.declared.op.Op.TheVariants.{GetBlob, PutBlob};
+ghost use Rattle.stamp_types.specs.Requests.{IsAsk};
+ghost use Rattle.stamp_types.specs.World.{part_at};
+ghost use Rattle.stamp_model.specs.Runs.{IsOn, Timed};
+ghost use Rattle.access_rules.specs.declared.keys.Keys.{Keys};
+ghost use Rattle.http_front.specs.declared.end.End.{End};
+ghost use Rattle.http_front.specs.declared.end.FrontFault.{FrontFault};
+ghost use Rattle.http_front.specs.Conversations.{AnswersInput, EndsOutOfMemory};
+ghost use Rattle.account_lock.specs.Histories.{IsServed, IsUnchanged, world_left};
+ghost use Rattle.account_lock.specs.Connections.{AddsOneAtMost, AreOfOneHistory, Call, IsReadAfter, ReadsHistory, calls_of};
+
+use crate::history::Account;
+use crate::lock::Connection;
+use http_front::Clock;
+use std::sync::Wait;
+
+/// The replies of a connection are the model's replies along one history. This history begins with what the connection knew, and
+/// has the connection's own requests in their order, with requests of others between them. `run` ensures the premises.
+///
+/// If memory runs out, the same holds of the requests that were answered in full. After them the history has one more request of
+/// the connection at most: its reply was made, and not written.
+pub fn each_connection_reads_one_history<C: Clock>()
+    ensures answered { (keys : Keys) (clock clock' : C) (seen seen' : List Timed)
+        (held held' : Option (List ℕ)) (result : Result End FrontFault) (turns : ℕ) (input : List ℕ)
+        (talk : AnswersInput C.gives (IsServed keys) clock clock' seen seen' held held' result turns input)
+        → ReadsHistory keys seen (calls_of talk.exchanges) seen' }
+    ensures starved { (keys : Keys) (clock clock' : C) (seen seen' : List Timed)
+        (left left' held held' : Option (List ℕ)) (last : List ℕ)
+        (talk : EndsOutOfMemory C.gives (IsServed keys) IsUnchanged clock clock' seen seen' left left' held held' last)
+        → ReadsHistory keys seen (calls_of talk.exchanges) talk.world_then
+        × AddsOneAtMost keys talk.world_then seen' }
+{}
+
+/// What two connections of one lock know are beginnings of one history.
+pub fn two_connections_agree<A: Account, R: Wait>(
+    one: &Connection<'_, A, R>,
+    other: &Connection<'_, A, R>,
+)
+    ensures { AreOfOneHistory one.now.known other.now.known }
+{
+    let _longer = one.known().longer(other.known());
+}
+
+/// A connection reads its own writes. A later request of the connection is answered at what its earlier request left, after the
+/// entries between the two. So if a Put Blob and a later Get Blob of that blob without a range succeed, and what comes between
+/// them leaves their container as it is, the reply to the Get Blob has the body that was put.
+pub fn a_connection_reads_its_own_writes()
+    ensures later { (keys : Keys) (seen seen' : List Timed) (front : List Call) (earlier : Call)
+        (middle : List Call) (later : Call) (back : List Call)
+        → ReadsHistory keys seen (front ++ earlier ∷ (middle ++ later ∷ back)) seen'
+        → IsReadAfter keys earlier later }
+    ensures put { (keys : Keys) (key : Key) (name : List ℕ) (put get : Call)
+        (reads : IsReadAfter keys put get)
+        → IsAsk put.0.request.ask → IsOn PutBlob key name put.0.request
+        → IsOn GetBlob key name get.0.request → get.0.request.ask.args.range ≡ None
+        → put.1.rule ≡ None → get.1.rule ≡ None
+        → part_at (world_left keys (reads.before ++ put.0 ∷ reads.between)) key
+        ≡ part_at (world_left keys (reads.before ++ put.0 ∷ [])) key
+        → get.1.body ≡ put.0.request.body }
+{}

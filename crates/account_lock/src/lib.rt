@@ -1,0 +1,15 @@
+//! The service of one account for any number of connections: one lock, and one history for all of them.
+#![tactic(auto)]
+
+mod entry;
+mod history;
+mod laws;
+mod lock;
+#[cfg(test)]
+mod lock_tests;
+
+pub use history::{Account, NewHistory};
+pub use laws::{
+    a_connection_reads_its_own_writes, each_connection_reads_one_history, two_connections_agree,
+};
+pub use lock::{AccountLock, Connection};

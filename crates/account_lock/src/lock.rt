@@ -1,0 +1,185 @@
+//! One lock for the rows of an account, and its connections.
+ghost use Rattle.std.specs.Prelude.{◌≡◌, ◌↔◌, IsSome, IsTrue, [], ◌∷◌, ◌++◌, ◌<◌, ◌^◌, ℕ, IfOk, OnErr, OnOk, length};
+ghost use mathlib.Core.List.{IsPrefix};
+ghost use Rattle.stamp_values.specs.Names.{is_account};
+ghost use Rattle.range_rows.specs.Readings.{reading_of};
+ghost use Rattle.stamp_model.specs.Services.{empty_held, held_reply};
+ghost use Rattle.account_service.specs.HeldRows.{held_of};
+ghost use Rattle.account_lock.specs.Histories.{timed, left_after};
+
+use crate::history::{Account, EntryCount, Front, NewHistory};
+use access_rules::Keys;
+use account_service::Plain;
+use http_front::Service;
+use range_rows::Reading;
+use stamp_types::{Moment, Reply, Request};
+use std::alloc::{AllocError, Global};
+use std::marker::Model;
+use std::sync::{Mutex, Wait};
+
+/// The most entries of a history. A server that answers a million requests a second reaches it after 70,000 years.
+const MOST: u64 = 1 << 61;
+
+/// What the lock has: the rows, and how far the history has come. Contracts see it as the history.
+#[derive(Drop)]
+struct Locked<A: Account> {
+    plain: Plain,
+    front: Front<A>,
+}
+
+impl<A: Account> Model for Locked<A> {
+    ghost use Rattle.std.specs.Prelude.{◌≡◌, List};
+    ghost use Rattle.stamp_model.specs.Runs.{Timed};
+    ghost use Rattle.account_service.specs.HeldRows.{held_of};
+    ghost use Rattle.account_lock.specs.Histories.{left_after};
+
+    ghost Value = { List Timed };
+
+    ghost view = { λ l. l.front };
+
+    // The rows hold what the history leaves, from a new stamp.
+    ghost invariant = { λ l. held_of l.plain ≡ left_after A.keys l.front };
+}
+
+impl<A: Account> Locked<A> {
+    fn new(plain: Plain, front: Front<A>) -> Locked<A>
+        requires rows { held_of plain ≡ empty_held A.keys }
+        requires history { front ≡ [] }
+        ensures { result ≡ [] }
+    {
+        Locked { plain, front }
+    }
+
+    // A copy of the whole history, which begins with what the caller knows. `AllocError` if the history has as many entries as
+    // it may have.
+    fn whole(&self, known: &Front<A>) -> Result<Front<A>, AllocError>
+        ensures whole { IfOk result (λ front. (front ≡ self.now) × (length front < 2 ^ 62)) }
+        ensures begun { OnOk result (IsPrefix known.now self.now) }
+    {
+        let front = known.longer(&self.front);
+        // Nobody knows more than the lock does, though no clause says so.
+        if front.len() > self.front.len() || front.len() >= MOST {
+            return Err(AllocError);
+        }
+        Ok(front)
+    }
+
+    // Answers a request whose body was read before. The request is then the next entry of the history, and the caller knows the
+    // whole history. If memory runs out, there is no entry and no change.
+    #[tactic(auto, using(crate::proofs::HistoryLemmas::left_more))]
+    fn answer<R: Wait>(
+        &mut self,
+        rt: &R,
+        alloc: Global,
+        count: &EntryCount<A>,
+        known: &mut Front<A>,
+        request: &Request,
+        reading: Reading,
+        moment: Moment,
+    ) -> Result<Reply, AllocError>
+        requires read { reading ≡ reading_of request.now }
+        ensures answered { IfOk result (λ reply.
+            reply ≡ held_reply (left_after A.keys self.old) request.now moment) }
+        ensures entered { OnOk result (self.new ≡ self.old ++ timed request.now moment ∷ []) }
+        ensures begun { OnOk result (IsPrefix known.old self.old) }
+        ensures known { OnOk result (known.new ≡ self.new) }
+        ensures same { OnErr result ((self.new ≡ self.old) × (known.new ≡ known.old)) }
+    {
+        let mut front = self.whole(known)?;
+        let reply = self.plain.answer_read(alloc, request, reading, moment)?;
+        if !front.add(count, request, moment) {
+            // No other thread adds an entry while the lock is held.
+            for _ in rt.forever() {}
+            unreachable!()
+        }
+        *known = front.again();
+        self.front = front;
+        Ok(reply)
+    }
+}
+
+/// The lock of one account: its rows, and its history of requests.
+#[derive(Drop)]
+pub struct AccountLock<A: Account> {
+    count: EntryCount<A>,
+    locked: Mutex<Locked<A>>,
+}
+
+impl<A: Account> AccountLock<A> {
+    /// The lock of the keys' account, which has no containers, with a history without entries. Takes no memory.
+    ///
+    /// `None` if the name in the keys is not the name of an account.
+    pub fn new(alloc: Global, keys: Keys, history: NewHistory) -> Option<AccountLock<A>>
+        requires keys { keys ≡ A.keys }
+        requires history { history.seen.book ≡ A.history }
+        ensures named { IsSome result ↔ IsTrue (is_account keys.account) }
+    {
+        let plain = Plain::new(alloc, keys)?;
+        let (count, front) = history.of::<A>();
+        Some(AccountLock {
+            count,
+            locked: Mutex::new(Locked::new(plain, front)),
+        })
+    }
+}
+
+/// The service of one connection: the lock, and the beginning of the history that the connection knows.
+#[derive(Drop)]
+pub struct Connection<'a, A: Account, R: Wait> {
+    rt: &'a R,
+    lock: &'a AccountLock<A>,
+    known: Front<A>,
+}
+
+impl<'a, A: Account, R: Wait> Connection<'a, A, R> {
+    /// A connection that knows the history as far as it has come. Waits for the lock.
+    pub fn new(rt: &'a R, lock: &'a AccountLock<A>) -> Self {
+        let known = lock.locked.lock(rt).front.again();
+        Self { rt, lock, known }
+    }
+
+    /// What the connection knows of the history.
+    pub(crate) fn known(&self) -> &Front<A>
+        ensures { result.now ≡ self.now.known }
+    {
+        &self.known
+    }
+}
+
+impl<'a, A: Account, R: Wait> Service for Connection<'a, A, R> {
+    ghost use Rattle.std.specs.Prelude.{List};
+    ghost use Rattle.stamp_model.specs.Runs.{Timed};
+    ghost use Rattle.account_lock.specs.Histories.{IsServed, IsUnchanged};
+
+    ghost World = { List Timed };
+
+    ghost world = { λ s. s.known };
+
+    ghost answers = { λ seen q t reply seen'. IsServed A.keys seen q t reply seen' };
+
+    ghost starves = { λ old new. IsUnchanged old new };
+
+    /// The reply of the model, at the end of the history. The request is then the last entry of it.
+    ///
+    /// The body is read before the lock is taken, and the request is dropped after the lock is given back. `AllocError` if memory
+    /// runs out: then there is no entry and no change.
+    fn answer(
+        &mut self,
+        alloc: Global,
+        request: Request,
+        moment: Moment,
+    ) -> Result<Reply, AllocError> {
+        let reading = Reading::of(alloc, &request)?;
+        let answered = self.lock.locked.lock(self.rt).answer(
+            self.rt,
+            alloc,
+            &self.lock.count,
+            &mut self.known,
+            &request,
+            reading,
+            moment,
+        );
+        drop(request);
+        answered
+    }
+}

@@ -1,0 +1,129 @@
+//! Connections that share one lock. Signatures and sums were made outside of this repository's code.
+ghost use Rattle.std.specs.Prelude.{◌≡◌};
+
+use crate::history::{Account, NewHistory};
+use crate::laws::two_connections_agree;
+use crate::lock::{AccountLock, Connection};
+use access_rules::Keys;
+use hmac_sign::SigningKey;
+use http_front::{Clock, End, run};
+use stamp_types::{Moment, Text};
+use std::alloc::Global;
+use std::marker::Brand;
+use std::process::Abort;
+use std::sync::Wait;
+use std::thread;
+use std::thread::Threads;
+
+// 2012-10-01T12:00:00Z, in steps of 100 ns since 1970.
+const NOON: i64 = 13_490_928_000_000_000;
+
+// A Create Container of `pics`, signed by `key1`.
+const CREATE: &[u8] =
+    b"PUT /devstoreaccount1/pics?restype=container HTTP/1.1\r\nHost: 127.0.0.1:10000\r\nContent-Length: 0\r\nx-ms-date: Mon, 01 Oct 2012 12:00:00 GMT\r\nx-ms-version: 2012-02-12\r\nAuthorization: SharedKey devstoreaccount1:/Zt/M8NwlklmDGB00sttbyo87McxrIOvJXhMqumuXk0=\r\n\r\n";
+
+// A Put Blob of `hello`, signed by `key2`.
+const PUT: &[u8] =
+    b"PUT /devstoreaccount1/pics/a.txt HTTP/1.1\r\nHost: 127.0.0.1:10000\r\nContent-Length: 5\r\nx-ms-blob-type: BlockBlob\r\nx-ms-version: 2012-02-12\r\nx-ms-date: Mon, 01 Oct 2012 12:00:00 GMT\r\nAuthorization: SharedKey devstoreaccount1:O9UZNW452QDPdLw1F6p3ZC4NHU5qWVzYuTPZoHu3yXw=\r\n\r\nhello";
+
+// A Get Blob of it, signed by `key1`.
+const GET: &[u8] =
+    b"GET /devstoreaccount1/pics/a.txt HTTP/1.1\r\nHost: 127.0.0.1:10000\r\nx-ms-date: Mon, 01 Oct 2012 12:00:00 GMT\r\nx-ms-version: 2012-02-12\r\nAuthorization: SharedKey devstoreaccount1:1faO58/enDoA9unDNvD2pMLw3jmfkbnVyTRBzimElkI=\r\n\r\n";
+
+const CREATED: &[u8] = b"HTTP/1.1 201 Created\r\n";
+
+const CONFLICT: &[u8] = b"HTTP/1.1 409 Conflict\r\n";
+
+/// A clock that always gives the same moment.
+#[derive(Drop)]
+struct Still {
+    moment: Moment,
+}
+
+impl Clock for Still {
+    ghost gives = { λ still moment new. (moment ≡ still.moment) × (new ≡ still) };
+
+    fn now(&mut self) -> Moment {
+        self.moment
+    }
+}
+
+// Sends the input on the connection, and returns all that is written.
+fn sent<A: Account, R: Wait + Abort>(
+    rt: &R,
+    alloc: Global,
+    connection: &mut Connection<'_, A, R>,
+    input: &[u8],
+) -> Vec<u8> {
+    let moment = Moment::new(NOON).expect(rt, "a moment");
+    let mut reader = input;
+    let mut out = Vec::new(alloc);
+    let end = run(
+        alloc,
+        &mut reader,
+        &mut out,
+        &mut Still { moment },
+        connection,
+        100,
+    );
+    assert!(rt; end == Ok(End::Clean));
+    out
+}
+
+// The same, on a connection that ends then.
+fn sent_on<A: Account, R: Wait + Abort>(
+    rt: &R,
+    alloc: Global,
+    connection: Connection<'_, A, R>,
+    input: &[u8],
+) -> Vec<u8> {
+    let mut connection = connection;
+    sent(rt, alloc, &mut connection, input)
+}
+
+// Two threads send the same Create Container, each on a connection of its own. Then one connection puts a blob, and another gets
+// it.
+fn two_share<A: Account + Send + Sync, R: Threads + Wait + Abort + Sync>(
+    rt: &R,
+    alloc: Global,
+    keys: Keys,
+    history: NewHistory,
+)
+    requires keys { keys ≡ A.keys }
+    requires history { history.seen.book ≡ A.history }
+{
+    let lock = AccountLock::<A>::new(alloc, keys, history).expect(rt, "an account");
+    let first = Connection::new(rt, &lock);
+    let second = Connection::new(rt, &lock);
+    let (one, two) = thread::join(
+        rt,
+        move || -> Vec<u8> { sent_on(rt, alloc, first, CREATE) },
+        move || -> Vec<u8> { sent_on(rt, alloc, second, CREATE) },
+    );
+    // One thread has created the container, and the other is told that it exists.
+    let created = (one.starts_with(CREATED), two.starts_with(CREATED));
+    assert!(rt; created.0 != created.1);
+    assert!(rt; one.starts_with(CONFLICT) != two.starts_with(CONFLICT));
+    let mut writer = Connection::new(rt, &lock);
+    let mut reader = Connection::new(rt, &lock);
+    assert!(rt; sent(rt, alloc, &mut writer, PUT).starts_with(CREATED));
+    assert!(rt; sent(rt, alloc, &mut reader, GET).ends_with(b"\r\n\r\nhello"));
+    two_connections_agree(&writer, &reader);
+}
+
+// The bytes of a key that signs.
+fn key(rt: &impl Abort, alloc: Global, bytes: &[u8]) -> SigningKey {
+    SigningKey::new(bytes.to_vec(alloc).expect(rt, "memory"))
+}
+
+#[test]
+fn connections_that_share_a_lock_see_one_history(rt: HostRuntime) {
+    let name = String::from_str(rt.alloc(), "devstoreaccount1").expect(&rt, "memory");
+    let keys = Keys {
+        account: Text::new(name).expect(&rt, "a text"),
+        first: key(&rt, rt.alloc(), b"key1"),
+        second: key(&rt, rt.alloc(), b"key2"),
+        epoch: 0,
+    };
+    two_share::<Brand, _>(&rt, rt.alloc(), keys, NewHistory::new());
+}
