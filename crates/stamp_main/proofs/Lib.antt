@@ -1,3 +1,4 @@
 pub mod CommandLemmas
 pub mod ReplayLemmas
 pub mod RunLemmas
+pub mod ServeLemmas

@@ -2,4 +2,5 @@ pub mod Command
 pub mod Ending
 pub mod Replays
 pub mod Runs
+pub mod Serving
 pub mod Signing

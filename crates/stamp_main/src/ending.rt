@@ -17,6 +17,8 @@ pub(crate) enum Ending {
     WriteFault,
     /// All reads that the program may make were made, and the input had not ended.
     TurnsUsedUp,
+    /// The address could not be taken, or its listener failed for good.
+    ListenerFault,
     /// Memory ran out.
     NoMemory,
 }
@@ -29,7 +31,8 @@ impl Ending {
         match self {
             Ending::Done => 0,
             Ending::Usage => 2,
-            Ending::ReadFault | Ending::WriteFault | Ending::TurnsUsedUp => 3,
+            Ending::ReadFault | Ending::WriteFault | Ending::TurnsUsedUp | Ending::ListenerFault =>
+                3,
             Ending::NoMemory => 4,
         }
     }

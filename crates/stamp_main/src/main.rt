@@ -9,21 +9,31 @@ ghost use Rattle.stamp_main.specs.Runs.{Outcome};
 use command::{Command, read_command};
 use ending::Ending;
 use replay::run_replay;
+use serving::run_serve;
 use signing::run_sign;
 use std::alloc::Global;
 use std::io::{Read, Write};
+use std::net::{Net, TcpListener, TcpStream};
 use std::process::ExitCode;
 use std::rt::Env;
+use std::sync::Wait;
+use std::thread::Threads;
+use std::time::Clock;
 use std::{env, io};
 
 mod command;
 mod ending;
+mod gate;
+mod machine;
 #[cfg(test)]
 mod pieces;
 mod replay;
 mod replay_laws;
 #[cfg(test)]
 mod replay_tests;
+mod serving;
+#[cfg(test)]
+mod serving_tests;
 mod signing;
 #[cfg(test)]
 mod signing_tests;
@@ -39,7 +49,13 @@ const USAGE: &str =
 // The ending is not a `Result`: at an `Err` the startup code would write a line of its own.
 fn main(rt: HostRuntime) -> ExitCode {
     let ending = match read_words(&rt) {
-        Ok(words) => run(rt.alloc(), &words, &mut rt.reader(), &mut io::writer(&rt)),
+        Ok(words) => run(
+            &rt,
+            rt.alloc(),
+            &words,
+            &mut rt.reader(),
+            &mut io::writer(&rt),
+        ),
         Err(ending) => ending,
     };
     if ending == Ending::Usage {
@@ -61,10 +77,12 @@ fn read_words(rt: &(impl Env + AllocGlobal)) -> Result<Vec<String>, Ending>
 
 /// Carries out the command that the words give, and returns how it ended. It is known what was written at every ending except a
 /// failed write.
-///
-/// Two commands are built. The words of `serve` are answered like words that are not a command, and nothing is read or written.
-#[tactic(auto, using(crate::proofs::RunLemmas::sign_outcome, crate::proofs::RunLemmas::replay_outcome, crate::proofs::RunLemmas::unasked_serve))]
-fn run<R: Read, W: Write>(alloc: Global, words: &[String], reader: &mut R, writer: &mut W) -> Ending
+#[tactic(auto, using(crate::proofs::RunLemmas::sign_outcome, crate::proofs::RunLemmas::replay_outcome, crate::proofs::RunLemmas::serve_outcome))]
+fn run<
+    R: Read,
+    W: Write,
+    H: Net<Stream = TcpStream, Listener = TcpListener> + Threads + Wait + Clock + Sync,
+>(rt: &H, alloc: Global, words: &[String], reader: &mut R, writer: &mut W) -> Ending
     ensures outcome { Outcome R.remaining W.contents (texts_of words.now)
         reader.old reader.new writer.old writer.new result }
 {
@@ -80,8 +98,17 @@ fn run<R: Read, W: Write>(alloc: Global, words: &[String], reader: &mut R, write
         ) => run_replay(
             alloc, reader, writer, moment, account, first_key, second_key,
         ),
-        // A command that is not built yet is answered like words that are not a command.
-        Some(Command::Serve { .. }) => Ending::Usage,
+        Some(
+            Command::Serve {
+                address,
+                workers,
+                account,
+                first_key,
+                second_key,
+            },
+        ) => run_serve(
+            rt, alloc, writer, address, workers, account, first_key, second_key,
+        ),
         None => Ending::Usage,
     }
 }
@@ -148,7 +175,7 @@ mod tests {
     // What is written for these words if the input has no bytes, and how the program ends.
     #[test]
     fn the_words_are_read_first(rt: HostRuntime) -> Result<(), Fail> {
-        let table: [(&str, Ending, &[u8]); 12] = [
+        let table: [(&str, Ending, &[u8]); 21] = [
             (
                 "sign SmVmZQ==",
                 Ending::Done,
@@ -161,7 +188,52 @@ mod tests {
             ),
             ("replay 2012-10-01 account1  ", Ending::Done, b""),
             (
-                "serve 127.0.0.1:10000 4 account1 a2V5MQ== a2V5Mg==",
+                "serve 127.0.0.1 4 account1 a2V5MQ== a2V5Mg==",
+                Ending::ListenerFault,
+                b"",
+            ),
+            (
+                "serve 127.0.0.1:10000 0 account1 a2V5MQ== a2V5Mg==",
+                Ending::Usage,
+                b"",
+            ),
+            (
+                "serve 127.0.0.1:10000 65 account1 a2V5MQ== a2V5Mg==",
+                Ending::Usage,
+                b"",
+            ),
+            (
+                "serve 127.0.0.1:10000 04 account1 a2V5MQ== a2V5Mg==",
+                Ending::Usage,
+                b"",
+            ),
+            (
+                "serve 127.0.0.1:10000 4x account1 a2V5MQ== a2V5Mg==",
+                Ending::Usage,
+                b"",
+            ),
+            (
+                "serve 127.0.0.1:10000 +4 account1 a2V5MQ== a2V5Mg==",
+                Ending::Usage,
+                b"",
+            ),
+            (
+                "serve 127.0.0.1:10000  account1 a2V5MQ== a2V5Mg==",
+                Ending::Usage,
+                b"",
+            ),
+            (
+                "serve 127.0.0.1:10000 4 Account a2V5MQ== a2V5Mg==",
+                Ending::Usage,
+                b"",
+            ),
+            (
+                "serve 127.0.0.1:10000 4 account1 a2V5MQ a2V5Mg==",
+                Ending::Usage,
+                b"",
+            ),
+            (
+                "serve 127.0.0.1:10000 4 account1 a2V5MQ== a2V5Mg=!",
                 Ending::Usage,
                 b"",
             ),
@@ -197,7 +269,7 @@ mod tests {
         for (line, ending, output) in table {
             let words = words_in(rt.alloc(), line)?;
             let mut out = Vec::new(rt.alloc());
-            let ended = run(rt.alloc(), &words, &mut b"".as_slice(), &mut out);
+            let ended = run(&rt, rt.alloc(), &words, &mut b"".as_slice(), &mut out);
             assert!(rt; ended == ending, "{line}");
             assert!(rt; out.as_slice() == output, "{line}");
         }

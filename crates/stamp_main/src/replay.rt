@@ -1,9 +1,9 @@
 //! `stamp replay`: one connection over a whole input, answered at one moment.
-ghost use Rattle.std.specs.Prelude.{◌≡◌, ◌⊎◌, Err, OnOk, IfSome, IsTrue};
+ghost use Rattle.std.specs.Prelude.{◌≡◌, ◌≢◌, ◌⊎◌, Err, OnOk, IfSome, IsTrue};
 ghost use Rattle.stamp_values.specs.Names.{is_account};
 ghost use Rattle.http_front.specs.Outcomes.{UnlessWriteOrMemoryFailed};
 ghost use Rattle.http_front.specs.declared.end.FrontFault.TheVariants as faults;
-ghost use Rattle.stamp_main.specs.declared.ending.Ending.TheVariants.{Usage, WriteFault, NoMemory};
+ghost use Rattle.stamp_main.specs.declared.ending.Ending.TheVariants.{ListenerFault, Usage, WriteFault, NoMemory};
 ghost use Rattle.stamp_main.specs.Ending.{is_answered};
 ghost use Rattle.stamp_main.specs.Replays.{HasReplayed, HasEndedOutOfMemory, IsReplay, ReplaysReceived, ReplaysInput};
 ghost use Rattle.stamp_main.specs.Replays.{ReplayEndsOutOfMemory, keys_of, replay_line};
@@ -110,6 +110,7 @@ pub(crate) fn run_replay<R: Read, W: Write>(
         ¬ IsReplay (replay_line moment.now account.now first.now second.now) }
     ensures untouched { result ≡ Usage →
         (reader.new ≡ reader.old) × (writer.new ≡ writer.old) }
+    ensures unserved { result ≢ ListenerFault }
 {
     match read_asked(alloc, moment, account, first, second) {
         Ok(

@@ -2,7 +2,7 @@
 ghost use Rattle.std.specs.Prelude.{◌≡◌, ◌≢◌, ◌⊎◌, Err, Ok, IfOk, IfSome, OnOk, IsOkUnless, IsTrue, IsFalse, ◌≤◌, ◌<◌, ◌*◌, length, string_bytes};
 ghost use Rattle.std.specs.Io.KnownBytes.{Appends, IsAtEnd};
 ghost use Rattle.http_front.specs.declared.end.FrontFault.TheVariants.{Write, Turns};
-ghost use Rattle.stamp_main.specs.declared.ending.Ending.TheVariants.{Done, Usage, TurnsUsedUp, NoMemory};
+ghost use Rattle.stamp_main.specs.declared.ending.Ending.TheVariants.{Done, ListenerFault, Usage, TurnsUsedUp, NoMemory};
 ghost use Rattle.stamp_main.specs.Ending.{has_written, is_fault, run_ending};
 ghost use Rattle.stamp_main.specs.Replays.{turn_limit};
 ghost use Rattle.http_front.specs.Inputs.{read_size};
@@ -40,6 +40,7 @@ pub(crate) fn run_sign<R: Read, W: Write>(
         (reader.new ≡ reader.old) ⊎ IsSign (sign_line key.now) }
     ensures refused { result ≡ Usage → ¬ IsSign (sign_line key.now) }
     ensures unread { result ≡ Usage → reader.new ≡ reader.old }
+    ensures unserved { result ≢ ListenerFault }
 {
     match read_secret(alloc, key) {
         Ok(secret) => status_of(&sign_on(alloc, reader, writer, &secret, TURNS)),
@@ -108,7 +109,7 @@ fn write_line(alloc: Global, key: &SigningKey, input: &[u8]) -> Result<String, A
 }
 
 /// Writes all of the bytes, and flushes the writer.
-fn send<W: Write>(writer: &mut W, bytes: &[u8]) -> Result<(), FrontFault>
+pub(crate) fn send<W: Write>(writer: &mut W, bytes: &[u8]) -> Result<(), FrontFault>
     ensures sent { OnOk result (Appends (W.contents writer.old) (W.contents writer.new) bytes.now) }
     ensures failed { IsOkUnless result Write }
 {

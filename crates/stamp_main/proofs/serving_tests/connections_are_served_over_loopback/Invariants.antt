@@ -1,0 +1,5 @@
+use Rattle.stamp_main.proofs.serving_tests.connections_are_served_over_loopback.Given as goal
+
+-- the history that was just begun, and the keys that were given
+abbrev pub ghosts-both_ends : goal.ghosts-both_ends
+ghosts-both_ends g a = record { history = a.history.seen.book; keys = a.keys }

@@ -1,0 +1,173 @@
+//! The connections that come to a listener.
+ghost use Rattle.std.specs.Prelude.{◌≡◌, IsTrue};
+ghost use Rattle.stamp_values.specs.Names.{is_account};
+
+use crate::machine::Machine;
+use access_rules::Keys;
+use account_lock::{Account, AccountLock, Connection, NewHistory};
+use http_front::{End, FrontFault, Link, Source, work};
+use std::alloc::{AllocError, Global};
+use std::io::Read;
+use std::net::{Shutdown, TcpListener, TcpStream};
+use std::sync::Wait;
+use std::sync::atomic::{AtomicU64, Ordering};
+use std::thread::Threads;
+use std::time::{Clock, Duration};
+use std::{io, thread};
+
+/// How many reads are made of one connection at most.
+const TURNS: u64 = 4_294_967_296;
+
+/// How many milliseconds pass until the next connection is asked for after an error that passes.
+const PAUSE: u64 = 10;
+
+/// How many seconds a peer that was told that its connection ends may send nothing.
+const LAST_PATIENCE: u64 = 1;
+
+/// The most bytes that one read takes from a peer that was told that its connection ends.
+const LAST_READ: usize = 65_536;
+
+/// The most reads of this kind: so 64 MiB are read in all, as many as a body of the largest operation has.
+const LAST_READS: u64 = 1024;
+
+/// Errors of Linux after which a listener goes on: the connection was given up, or there is no descriptor or no memory for one more.
+const PASSING: [i32; 6] = [
+    103, // ECONNABORTED
+    71, // EPROTO
+    24, // EMFILE
+    23, // ENFILE
+    105, // ENOBUFS
+    12, // ENOMEM
+];
+
+/// Takes connections from a listener, up to a number of them, for workers that serve them by one lock.
+#[derive(Drop)]
+pub(crate) struct Gate<'a, A: Account, R: Wait, C: Clock> {
+    rt: &'a R,
+    clock: &'a C,
+    lock: &'a AccountLock<A>,
+    listener: &'a TcpListener,
+    left: AtomicU64,
+    patience: Duration,
+}
+
+/// Serves so many connections of a listener, by so many workers at once. The account has no containers at first. A read or a write that
+/// waits for longer than `patience` ends its connection.
+///
+/// It ends before that if the listener fails for good. `AllocError` if memory runs out for the workers.
+pub(crate) fn serve_on<A: Account + Send + Sync, R: Threads + Wait + Sync, C: Clock + Sync>(
+    rt: &R,
+    clock: &C,
+    alloc: Global,
+    history: NewHistory,
+    keys: Keys,
+    listener: &TcpListener,
+    workers: usize,
+    connections: u64,
+    patience: Duration,
+) -> Result<(), AllocError>
+    requires history { history.seen.book ≡ A.history }
+    requires keys { keys ≡ A.keys }
+    requires named { IsTrue (is_account keys.account) }
+{
+    let Some(lock) = AccountLock::<A>::new(alloc, keys, history) else {
+        unreachable!()
+    };
+    let gate = Gate {
+        rt,
+        clock,
+        lock: &lock,
+        listener,
+        left: AtomicU64::new(connections),
+        patience,
+    };
+    work(rt, alloc, workers, &gate)
+}
+
+impl<'a, A: Account + Send + Sync, R: Wait + Sync, C: Clock + Sync> Source for Gate<'a, A, R, C> {
+    type Reader = TcpStream;
+
+    type Writer = TcpStream;
+
+    type Clock = Machine<'a, C>;
+
+    type Service = Connection<'a, A, R>;
+
+    fn next(&self) -> Option<Link<TcpStream, TcpStream, Machine<'a, C>, Connection<'a, A, R>>> {
+        for _ in 0..u64::MAX {
+            if !takes_one(&self.left) {
+                return None;
+            }
+            match self.listener.accept() {
+                Ok((stream, _)) => {
+                    if let Ok((reader, writer)) = halves(stream, self.patience) {
+                        return Some(Link {
+                            reader,
+                            writer,
+                            clock: Machine::new(self.clock),
+                            service: Connection::new(self.rt, self.lock),
+                            turns: TURNS,
+                        });
+                    }
+                }
+                Err(error) if passes(&error) => {
+                    thread::sleep(self.clock, Duration::from_millis(PAUSE))
+                },
+                Err(_) => return None,
+            }
+        }
+        None
+    }
+
+    /// Closes the connection, and first sees to it that the last reply arrives if it said that the connection closes.
+    fn ended(
+        &self,
+        link: Link<TcpStream, TcpStream, Machine<'a, C>, Connection<'a, A, R>>,
+        end: Result<End, FrontFault>,
+    ) {
+        let mut link = link;
+        if matches!(
+            end,
+            Ok(End::Closed) | Err(FrontFault::Turns | FrontFault::NoMemory)
+        ) {
+            let _ = read_on(&mut link.reader);
+        }
+    }
+}
+
+// Takes one of the connections that are left, if one is left. Two workers never take the same one.
+fn takes_one(left: &AtomicU64) -> bool {
+    left.fetch_update(Ordering::SeqCst, Ordering::SeqCst, |n| n.checked_sub(1))
+        .is_ok()
+}
+
+// A stream as its reader and its writer. Small replies are sent at once.
+fn halves(stream: TcpStream, patience: Duration) -> io::Result<(TcpStream, TcpStream)> {
+    stream.set_nodelay(true)?;
+    stream.set_read_timeout(Some(patience))?;
+    stream.set_write_timeout(Some(patience))?;
+    let writer = stream.try_clone()?;
+    Ok((stream, writer))
+}
+
+// Whether a listener goes on after this error.
+fn passes(error: &io::Error) -> bool {
+    match error.raw_os_error() {
+        Some(code) => PASSING.contains(&code),
+        None => false,
+    }
+}
+
+// Tells the peer that nothing more is written, and reads what it still sends. A connection that is closed while bytes are unread is reset,
+// and then the peer may lose the reply.
+fn read_on(stream: &mut TcpStream) -> io::Result<()> {
+    stream.shutdown(Shutdown::Write)?;
+    stream.set_read_timeout(Some(Duration::from_secs(LAST_PATIENCE)))?;
+    let mut room = [0; LAST_READ];
+    for _ in 0..LAST_READS {
+        if stream.read(&mut room)? == 0 {
+            return Ok(());
+        }
+    }
+    Ok(())
+}

@@ -1,0 +1,117 @@
+//! `stamp serve`: the connections that come to an address, served by a fixed number of workers.
+ghost use Rattle.std.specs.Prelude.{◌≡◌, ◌⊎◌, List, ◌++◌, IfOk, IsTrue, string_bytes};
+ghost use Rattle.stamp_values.specs.Names.{is_account};
+ghost use Rattle.stamp_main.specs.declared.ending.Ending.TheVariants.{ListenerFault, NoMemory, Usage, WriteFault};
+ghost use Rattle.stamp_main.specs.Ending.{ends_serving};
+ghost use Rattle.stamp_main.specs.Serving.{HasListened, IsServe, listening_line, serve_line};
+
+use crate::ending::Ending;
+use crate::gate::serve_on;
+use crate::signing::send;
+use crate::words::{Served, read_served};
+use access_rules::Keys;
+use account_lock::NewHistory;
+use std::alloc::{AllocError, Global};
+use std::io::Write;
+use std::marker::Brand;
+use std::net::{Net, TcpListener, TcpStream};
+use std::sync::Wait;
+use std::thread::Threads;
+use std::time::{Clock, Duration};
+
+/// How many seconds a read or a write of a connection may wait.
+const PATIENCE: u64 = 30;
+
+/// Carries out `stamp serve ADDRESS WORKERS ACCOUNT KEY1 KEY2`: takes the address, writes `listening ADDRESS` and LF, and serves.
+///
+/// If a word is bad, the ending is `Usage`, and nothing is written. If the address cannot be taken, the ending is `ListenerFault`,
+/// and nothing is written. What is served is not a matter of these clauses: `account_lock` and `http_front` have the contracts of
+/// connections.
+#[tactic(auto, using(crate::proofs::ServeLemmas::asked, crate::proofs::ServeLemmas::listened))]
+pub(crate) fn run_serve<
+    W: Write,
+    R: Net<Stream = TcpStream, Listener = TcpListener> + Threads + Wait + Clock + Sync,
+>(
+    rt: &R,
+    alloc: Global,
+    writer: &mut W,
+    address: &str,
+    workers: &str,
+    account: &str,
+    first: &str,
+    second: &str,
+) -> Ending
+    ensures refused { result ≡ Usage →
+        ¬ IsServe (serve_line address.now workers.now account.now first.now second.now) }
+    ensures unwritten { result ≡ Usage → writer.new ≡ writer.old }
+    ensures listened { result ≡ ListenerFault →
+        IsServe (serve_line address.now workers.now account.now first.now second.now)
+        × ((writer.new ≡ writer.old)
+        ⊎ HasListened (serve_line address.now workers.now account.now first.now second.now)
+        (W.contents writer.old) (W.contents writer.new)) }
+    ensures starved { result ≡ NoMemory → (writer.new ≡ writer.old)
+        ⊎ HasListened (serve_line address.now workers.now account.now first.now second.now)
+        (W.contents writer.old) (W.contents writer.new) }
+    ensures asked { result ≡ WriteFault →
+        IsServe (serve_line address.now workers.now account.now first.now second.now) }
+    ensures ended { IsTrue (ends_serving result) }
+{
+    let served = match read_served(alloc, address, workers, account, first, second) {
+        Ok(served) => served,
+        Err(ending) => return ending,
+    };
+    let Ok(listener) = TcpListener::bind(rt, served.address) else {
+        return Ending::ListenerFault;
+    };
+    let Ok(line) = listening(alloc, served.address) else {
+        return Ending::NoMemory;
+    };
+    if send(writer, line.as_bytes()).is_err() {
+        return Ending::WriteFault;
+    }
+    serve_all(rt, alloc, &listener, served)
+}
+
+// The line that tells that connections are taken.
+fn listening(alloc: Global, address: &str) -> Result<String, AllocError>
+    ensures { IfOk result (λ line. string_bytes line ≡ listening_line address.now) }
+{
+    let mut line = String::from_str(alloc, "listening ")?;
+    line.push_str(address)?;
+    line.push('\n')?;
+    Ok(line)
+}
+
+// Serves by these workers and keys, until the listener fails for good.
+fn serve_all<R: Threads + Wait + Clock + Sync>(
+    rt: &R,
+    alloc: Global,
+    listener: &TcpListener,
+    served: Served<'_>,
+) -> Ending
+    requires { IsTrue (is_account served.account) }
+    ensures { (result ≡ ListenerFault) ⊎ (result ≡ NoMemory) }
+{
+    let keys = Keys {
+        account: served.account,
+        first: served.first,
+        second: served.second,
+        epoch: 0,
+    };
+    let patience = Duration::from_secs(PATIENCE);
+    let history = NewHistory::new();
+    match serve_on::<Brand, R, R>(
+        rt,
+        rt,
+        alloc,
+        history,
+        keys,
+        listener,
+        served.workers,
+        u64::MAX,
+        patience,
+    ) {
+        Ok(()) => Ending::ListenerFault,
+        Err(_) => Ending::NoMemory,
+    }
+}

@@ -1,0 +1,396 @@
+//! Both ends of connections in one process, on a port that the system gives. A client gives up after ten seconds, so each test ends by itself.
+//! Signatures, sums and replies were made outside of this repository's code.
+ghost use Rattle.std.specs.Prelude.{◌≡◌, IfOk, IsTrue};
+ghost use Rattle.stamp_values.specs.Names.{is_account};
+
+use crate::gate::serve_on;
+use crate::machine::Machine;
+use crate::words::{Served, read_served};
+use access_rules::Keys;
+use account_lock::{Account, NewHistory};
+use http_front::Clock as _;
+use std::alloc::{AllocError, Global};
+use std::io::{Read, Write};
+use std::marker::Brand;
+use std::net::{Net, Shutdown, SocketAddr, TcpListener, TcpStream};
+use std::os::fd::OwnedFd;
+use std::sync::Wait;
+use std::sync::atomic::{AtomicU64, Ordering};
+use std::test::Fail;
+use std::thread::Threads;
+use std::time::{Clock, Duration};
+use std::{io, thread};
+
+// A Create Container of `pics`, signed by `key1`, a Put of `hello` under `a.txt`, signed by `key2`, and a Get of it, signed by `key1`.
+const CREATE: &[u8] =
+    b"PUT /devstoreaccount1/pics?restype=container HTTP/1.1\r\nHost: 127.0.0.1:10000\r\nContent-Length: 0\r\nx-ms-date: Mon, 01 Oct 2012 12:00:00 GMT\r\nx-ms-version: 2012-02-12\r\nAuthorization: SharedKey devstoreaccount1:/Zt/M8NwlklmDGB00sttbyo87McxrIOvJXhMqumuXk0=\r\n\r\n";
+
+const PUT: &[u8] =
+    b"PUT /devstoreaccount1/pics/a.txt HTTP/1.1\r\nHost: 127.0.0.1:10000\r\nContent-Length: 5\r\nx-ms-blob-type: BlockBlob\r\nx-ms-version: 2012-02-12\r\nx-ms-date: Mon, 01 Oct 2012 12:00:00 GMT\r\nAuthorization: SharedKey devstoreaccount1:O9UZNW452QDPdLw1F6p3ZC4NHU5qWVzYuTPZoHu3yXw=\r\n\r\nhello";
+
+const GET: &[u8] =
+    b"GET /devstoreaccount1/pics/a.txt HTTP/1.1\r\nHost: 127.0.0.1:10000\r\nx-ms-date: Mon, 01 Oct 2012 12:00:00 GMT\r\nx-ms-version: 2012-02-12\r\nAuthorization: SharedKey devstoreaccount1:1faO58/enDoA9unDNvD2pMLw3jmfkbnVyTRBzimElkI=\r\n\r\n";
+
+// A head that says a body of one byte too many.
+const TOO_LARGE: &[u8] =
+    b"PUT /devstoreaccount1/pics/a.txt HTTP/1.1\r\nHost: 127.0.0.1:10000\r\nContent-Length: 67108865\r\nx-ms-blob-type: BlockBlob\r\nx-ms-version: 2012-02-12\r\n\r\n";
+
+const CREATED: &[u8] =
+    b"HTTP/1.1 201 Created\r\nDate: Mon, 01 Oct 2012 12:00:00 GMT\r\nx-ms-version: 2012-02-12\r\nETag: \"0x0000000000000001\"\r\nLast-Modified: Mon, 01 Oct 2012 12:00:00 GMT\r\nContent-Length: 0\r\n\r\n";
+
+const WRITTEN: &[u8] =
+    b"HTTP/1.1 201 Created\r\nDate: Mon, 01 Oct 2012 12:00:00 GMT\r\nx-ms-version: 2012-02-12\r\nContent-MD5: XUFAKrxLKna5cZ2REBfFkg==\r\nETag: \"0x0000000000000002\"\r\nLast-Modified: Mon, 01 Oct 2012 12:00:00 GMT\r\nContent-Length: 0\r\n\r\n";
+
+const READ: &[u8] =
+    b"HTTP/1.1 200 OK\r\nDate: Mon, 01 Oct 2012 12:00:00 GMT\r\nx-ms-version: 2012-02-12\r\nContent-Type: application/octet-stream\r\nContent-MD5: XUFAKrxLKna5cZ2REBfFkg==\r\nx-ms-blob-type: BlockBlob\r\nAccept-Ranges: bytes\r\nETag: \"0x0000000000000002\"\r\nLast-Modified: Mon, 01 Oct 2012 12:00:00 GMT\r\nContent-Length: 5\r\n\r\nhello";
+
+const ABSENT: &[u8] =
+    b"HTTP/1.1 404 Not Found\r\nDate: Mon, 01 Oct 2012 12:00:00 GMT\r\nx-ms-version: 2012-02-12\r\nx-stamp-rule: O3\r\nContent-Type: application/xml\r\nContent-Length: 116\r\n\r\n<?xml version=\"1.0\" encoding=\"utf-8\"?><Error><Code>BlobNotFound</Code><Message>Refused by rule O3.</Message></Error>";
+
+const REFUSED: &[u8] =
+    b"HTTP/1.1 413 Payload Too Large\r\nDate: Mon, 01 Oct 2012 12:00:00 GMT\r\nx-ms-version: 2012-02-12\r\nx-stamp-rule: F8\r\nContent-Type: application/xml\r\nConnection: close\r\nContent-Length: 123\r\n\r\n<?xml version=\"1.0\" encoding=\"utf-8\"?><Error><Code>RequestBodyTooLarge</Code><Message>Refused by rule F8.</Message></Error>";
+
+// How many seconds a client waits for bytes, and how many milliseconds the server does.
+const CLIENT_PATIENCE: u64 = 10;
+
+const PATIENCE: u64 = 300;
+
+/// A clock that stays at noon of 1 October 2012. Whoever sleeps by it wakes up at once.
+#[derive(Drop)]
+struct Noon;
+
+impl Clock for Noon {
+    fn monotonic(&self) -> io::Result<Duration> {
+        Err(io::Error::from(io::ErrorKind::Unsupported))
+    }
+
+    fn since_1970(&self) -> io::Result<Duration> {
+        Ok(Duration::from_secs(1_349_092_800))
+    }
+}
+
+/// What a client does next. Connections are numbered from zero, in the order in which they are opened.
+#[derive(Clone, Copy)]
+enum Turn {
+    Opens,
+    Sends(usize, &'static [u8]),
+    /// Sends so many pieces of 65,536 bytes.
+    SendsMore(usize, usize),
+    Gets(usize, &'static [u8]),
+    /// The server has closed the connection.
+    IsClosed(usize),
+    Leaves(usize),
+}
+
+// Reads as many bytes as are wanted, and returns whether they are the wanted ones.
+fn gets(stream: &mut TcpStream, wanted: &[u8]) -> io::Result<bool> {
+    let mut room = [0; 1024];
+    let room = &mut room[..wanted.len().min(1024)];
+    stream.read_exact(room)?;
+    Ok(*room == *wanted)
+}
+
+// Does what a client does next. Returns whether the server did what the client expects.
+fn take_turn<R: Net<Stream = TcpStream>>(
+    rt: &R,
+    address: SocketAddr,
+    streams: &mut [Option<TcpStream>; 3],
+    opened: &mut usize,
+    turn: Turn,
+) -> io::Result<bool> {
+    match turn {
+        Turn::Opens => {
+            let stream = TcpStream::connect(rt, address)?;
+            stream.set_read_timeout(Some(Duration::from_secs(CLIENT_PATIENCE)))?;
+            if *opened < 3 {
+                streams[*opened] = Some(stream);
+                *opened += 1;
+            }
+        }
+        Turn::Sends(at, bytes) => {
+            if let Some(Some(stream)) = streams.get_mut(at) {
+                stream.write_all(bytes)?;
+            }
+        }
+        Turn::SendsMore(at, pieces) => {
+            if let Some(Some(stream)) = streams.get_mut(at) {
+                for _ in 0..pieces {
+                    stream.write_all(&[b'x'; 65_536])?;
+                }
+            }
+        }
+        Turn::Gets(at, bytes) => {
+            if let Some(Some(stream)) = streams.get_mut(at) {
+                return gets(stream, bytes);
+            }
+        }
+        Turn::IsClosed(at) => {
+            if let Some(Some(stream)) = streams.get_mut(at) {
+                return Ok(stream.read(&mut [0; 1])? == 0);
+            }
+        }
+        Turn::Leaves(at) => {
+            if let Some(stream) = streams.get_mut(at) {
+                *stream = None;
+            }
+        }
+    }
+    Ok(true)
+}
+
+// Plays a client. Returns the number of the first turn at which the server did not do what the client expects.
+fn play<R: Net<Stream = TcpStream>>(
+    rt: &R,
+    address: SocketAddr,
+    turns: &[Turn],
+) -> io::Result<Option<usize>> {
+    let (mut streams, mut opened) = ([None, None, None], 0);
+    for (number, turn) in turns.iter().enumerate() {
+        if !take_turn(rt, address, &mut streams, &mut opened, *turn)? {
+            return Ok(Some(number));
+        }
+    }
+    Ok(None)
+}
+
+// The account `devstoreaccount1` with the keys `key1` and `key2`.
+fn keys(alloc: Global) -> Result<Keys, AllocError>
+    ensures { IfOk result (λ keys. IsTrue (is_account keys.account)) }
+{
+    let served = read_served(alloc, "", "1", "devstoreaccount1", "a2V5MQ==", "a2V5Mg==");
+    let Served {
+        account,
+        first,
+        second,
+        ..
+    } = served.map_err(|_| AllocError)?;
+    Ok(Keys {
+        account,
+        first,
+        second,
+        epoch: 0,
+    })
+}
+
+// Serves so many connections by so many workers, and plays a client beside them. Returns whether serving ended well, and the turn at which
+// the server did not do what the client expects.
+fn both_ends<
+    A: Account + Send + Sync,
+    R: Net<Stream = TcpStream, Listener = TcpListener> + Threads + Wait + Sync,
+>(
+    rt: &R,
+    alloc: Global,
+    history: NewHistory,
+    keys: Keys,
+    workers: usize,
+    connections: u64,
+    turns: &[Turn],
+) -> io::Result<(bool, Option<usize>)>
+    requires history { history.seen.book ≡ A.history }
+    requires keys { keys ≡ A.keys }
+    requires named { IsTrue (is_account keys.account) }
+{
+    let listener = TcpListener::bind(rt, "127.0.0.1:0")?;
+    let address = listener.local_addr()?;
+    let (served, played) = thread::join(
+        rt,
+        || -> bool
+            requires { (history.seen.book ≡ A.history) × (keys ≡ A.keys)
+                × IsTrue (is_account keys.account) }
+        {
+            serve_on::<A, R, Noon>(
+                rt,
+                &Noon,
+                alloc,
+                history,
+                keys,
+                &listener,
+                workers,
+                connections,
+                Duration::from_millis(PATIENCE),
+            )
+            .is_ok()
+        },
+        || -> io::Result<Option<usize>> {
+            let played = play(rt, address, turns);
+            // If the client broke off, the server still waits for connections.
+            for _ in 0..connections {
+                let _ = TcpStream::connect(rt, address);
+            }
+            played
+        },
+    );
+    Ok((served, played?))
+}
+
+#[test]
+fn connections_are_served_over_loopback(rt: HostRuntime) -> Result<(), Fail> {
+    use Turn::{Gets, IsClosed, Leaves, Opens, Sends, SendsMore};
+    let table: [(&str, usize, u64, &[Turn]); 6] = [
+        (
+            "two at once",
+            2,
+            2,
+            &[
+                Opens,
+                Opens,
+                Sends(0, CREATE),
+                Gets(0, CREATED),
+                Sends(1, PUT),
+                Gets(1, WRITTEN),
+                Sends(0, GET),
+                Gets(0, READ),
+                Sends(1, GET),
+                Gets(1, READ),
+            ],
+        ),
+        (
+            "a head and a body that are not sent whole",
+            1,
+            3,
+            &[
+                Opens,
+                Sends(0, CREATE),
+                Gets(0, CREATED),
+                Sends(0, b"PUT /devstoreaccount1/pics/a.txt HTTP/1.1\r\nHost"),
+                Leaves(0),
+                Opens,
+                Sends(1, PUT.split_at(PUT.len() - 2).0),
+                Leaves(1),
+                Opens,
+                Sends(2, GET),
+                Gets(2, ABSENT),
+            ],
+        ),
+        (
+            "a sender that goes on after a refusal",
+            1,
+            1,
+            &[
+                Opens,
+                Sends(0, TOO_LARGE),
+                SendsMore(0, 100),
+                Gets(0, REFUSED),
+                IsClosed(0),
+            ],
+        ),
+        (
+            "one after the other",
+            1,
+            3,
+            &[
+                Opens,
+                Opens,
+                Opens,
+                Sends(2, PUT),
+                Sends(1, PUT),
+                Sends(0, CREATE),
+                Gets(0, CREATED),
+                Leaves(0),
+                Gets(1, WRITTEN),
+                Sends(1, GET),
+                Gets(1, READ),
+                Leaves(1),
+                Gets(2, b"HTTP/1.1 201 Created\r\n"),
+            ],
+        ),
+        (
+            "a client that sends nothing",
+            1,
+            2,
+            &[
+                Opens,
+                Opens,
+                Sends(1, CREATE),
+                Gets(1, CREATED),
+                IsClosed(0),
+            ],
+        ),
+        ("a client that leaves at once", 2, 1, &[Opens, Leaves(0)]),
+    ];
+    for (name, workers, connections, turns) in table {
+        let keys = keys(rt.alloc())?;
+        let (served, differs) = both_ends::<Brand, _>(
+            &rt,
+            rt.alloc(),
+            NewHistory::new(),
+            keys,
+            workers,
+            connections,
+            turns,
+        )?;
+        assert!(rt; served, "{name}");
+        assert!(rt; differs.is_none(), "{name}: {differs:?}");
+    }
+    Ok(())
+}
+
+#[test]
+fn a_listener_that_fails_for_good_ends_serving(rt: HostRuntime) -> Result<(), Fail> {
+    let listener = TcpListener::bind(&rt, "127.0.0.1:0")?;
+    // A socket that was shut down takes no connections any more.
+    TcpStream::from(OwnedFd::from(listener.try_clone()?)).shutdown(Shutdown::Both)?;
+    let keys = keys(rt.alloc())?;
+    let served = serve_on::<Brand, _, Noon>(
+        &rt,
+        &Noon,
+        rt.alloc(),
+        NewHistory::new(),
+        keys,
+        &listener,
+        2,
+        10,
+        Duration::from_millis(PATIENCE),
+    );
+    assert!(rt; served.is_ok());
+    Ok(())
+}
+
+/// A clock that tells a list of times one after the other, and fails after them.
+#[derive(Drop)]
+struct Told {
+    calls: AtomicU64,
+    times: [Option<Duration>; 5],
+}
+
+impl Clock for Told {
+    fn monotonic(&self) -> io::Result<Duration> {
+        Err(io::Error::from(io::ErrorKind::Unsupported))
+    }
+
+    fn since_1970(&self) -> io::Result<Duration> {
+        let call = self.calls.fetch_add(1, Ordering::SeqCst);
+        let told = usize::try_from(call)
+            .ok()
+            .and_then(|at| self.times.get(at).copied());
+        told.flatten()
+            .ok_or(io::Error::from(io::ErrorKind::Unsupported))
+    }
+}
+
+#[test]
+fn a_clock_that_fails_tells_its_last_moment(rt: HostRuntime) {
+    let clock = Told {
+        calls: AtomicU64::new(0),
+        times: [
+            None,
+            Some(Duration::new(1_349_092_800, 199)),
+            // The year 10000.
+            Some(Duration::from_secs(253_402_300_800)),
+            // It goes back.
+            Some(Duration::from_secs(1_349_092_799)),
+            None,
+        ],
+    };
+    let mut machine = Machine::new(&clock);
+    for ticks in [
+        0,
+        13_490_928_000_000_001,
+        13_490_928_000_000_001,
+        13_490_927_990_000_000,
+        13_490_927_990_000_000,
+        13_490_927_990_000_000,
+    ] {
+        assert_eq!(rt; machine.now().ticks(), ticks);
+    }
+}
