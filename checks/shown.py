@@ -5,14 +5,21 @@ Each function gives what was tried, what came of it, and what the page says.
 """
 import re
 import shlex
+import socket
 import subprocess
 from pathlib import Path
 
 ROOT = Path(__file__).resolve().parent.parent
-PAGES = ("README.md", "docs/using.md", "docs/formats/tokens.md")
+PAGES = ("docs/using.md", "docs/formats/tokens.md")
 REPLAY = ["replay", "2012-10-01T12:00:00Z", "devstoreaccount1", "a2V5MQ==", "a2V5Mg=="]
 # A command, perhaps a line about it, and perhaps what it prints.
 SHOWN = re.compile(r"^```sh\n(.*?)^```\n(?:\n[^`\n][^\n]*\n)?\n(?:```text\n(.*?)^```\n)?", re.S | re.M)
+# Where the README's server listens, and what stands for curl on a machine that does not have it.
+ADDRESS = "127.0.0.1:10000"
+CURL = """command -v curl > /dev/null || curl() { python3 -c '
+import sys, urllib.request
+sys.stdout.buffer.write(urllib.request.urlopen(sys.argv[1]).read())' "$1"; }
+"""
 SIGNED = "x-ms-date: Mon, 01 Oct 2012 12:00:00 GMT\n"
 
 
@@ -26,6 +33,32 @@ def commands(program):
             ran = subprocess.run(["bash", "-euc", script], cwd=ROOT, stdout=subprocess.PIPE, stderr=subprocess.PIPE, timeout=60)
             yield f"{page}, command {number}", (ran.stdout.decode().replace("\r\n", "\n").rstrip("\n"), ran.stderr), (printed.rstrip("\n"), b"")
             before += command
+
+
+def free_address():
+    """An address of this machine at which nobody listens."""
+    with socket.socket() as it:
+        it.bind(("127.0.0.1", 0))
+        return f"127.0.0.1:{it.getsockname()[1]}"
+
+
+def served(program):
+    """The README's first run: a server at a free address, and what its client gets. The server is ended after that."""
+    serve, client = (command for command, _ in SHOWN.findall((ROOT / "README.md").read_text(encoding="utf-8")))
+    address = free_address()
+    words = shlex.split(serve.replace(ADDRESS, address))
+    yield "README.md: the words of the server", (words[0], words[-1]), ("./stamp", "&")
+    server = subprocess.Popen([program, *words[1:-1]], stdin=subprocess.DEVNULL, stdout=subprocess.PIPE, stderr=subprocess.PIPE)
+    try:
+        yield "README.md: the line of the server", server.stdout.readline(), f"listening {address}\n".encode()
+        how = {"cwd": ROOT, "stdout": subprocess.PIPE, "stderr": subprocess.PIPE, "timeout": 60}
+        ran = subprocess.run(["bash", "-euc", CURL + client.replace(ADDRESS, address).replace("curl $", "curl -s $")], **how)
+        statuses = re.findall(rb"^(\d+) .*$", ran.stderr, re.M)
+        yield "README.md: the first run", (ran.returncode, ran.stdout, statuses), (0, b"hello", [b"201", b"201"])
+    finally:
+        server.kill()
+        said = server.communicate()
+    yield "README.md: what the server says beside that", said, (b"", b"")
 
 
 def rows(heading):
@@ -103,5 +136,5 @@ def records(_program):
 
 
 def all_shown(program):
-    for shown in (commands, refused, ignored, signing, records):
+    for shown in (served, commands, refused, ignored, signing, records):
         yield from shown(program)
