@@ -1,13 +1,14 @@
 -- Blocks that are appended, and extents that are sealed, leave each block at its place.
-use Rattle.std.proofs.Common.{◌≡◌, ◌≤◌, ◌<◌, ◌⊎◌, inl, inr, ◌+◌, ◌∙◌, ℕ, zero, suc, Bool, true, false, Option, Some, None, ◌-◌, Result, Ok, Err, IfOk, List, [], ◌∷◌, ◌++◌, length, map, sym, ap, refl, arith, append-nil, append_assoc, length-append}
+use Rattle.std.proofs.Common.{◌≡◌, ◌≤◌, ◌<◌, ◌⊎◌, inl, inr, ◌+◌, ◌∙◌, ℕ, zero, suc, Bool, true, false, Option, Some, None, ◌-◌, nat_lt, Result, Ok, Err, IfOk, List, [], ◌∷◌, ◌++◌, length, map, sym, ap, refl, arith, append-nil, append_assoc, length-append}
 use Rattle.std.specs.List.{slice_get}
 use Rattle.std.specs.Option.{option_and_then, is_some}
 use Rattle.std.proofs.lemmas.Grind.{flat_map-append}
-use Rattle.std.proofs.lemmas.List.{length-map}
+use Rattle.std.proofs.lemmas.List.{length-map, map-append}
 use Rattle.stamp_values.specs.declared.place.Place.{Place}
 use Rattle.extent_node.specs.Copies.{Block}
 use Rattle.extent_node.specs.Faults.{held}
 use Rattle.extent_seal.specs.Extents.{Open, Closed}
+use Rattle.extent_seal.specs.Seals.{IsCommitted}
 use Rattle.stream_manager.specs.Extents.{closed_blocks, extents}
 use Rattle.stream_manager.specs.Places.{block_at, blocks_of, is_kept, IsLastAt, KeepsSealed, Follows, Decides}
 
@@ -211,3 +212,21 @@ held_here kept n old es mid fs e c k =
 -- the number of the last extent
 pub last_number : (sealed : List Closed) (last : Open) → length (extents sealed last) - 1 ≡ length sealed
 last_number sealed last = grind (arith, length-append, length-map)
+
+-- the blocks of a sealed extent: the block that was tried is there if they are more than the acknowledged ones
+committed_held : (e : Open) (blocks : List Block) (len n : ℕ) → IsCommitted e blocks → len ≡ length e.blocks → n ≡ length blocks
+    → blocks ≡ e.blocks ++ held (nat_lt len n) e.tried
+committed_held e blocks len n (inl same) l m =
+    let shorter : nat_lt len n ≡ false = rw (l, m, same) (grind arith) in
+    rw shorter (same ∙ sym (append-nil e.blocks))
+committed_held e blocks len n (inr p) l m =
+    let longer : nat_lt len n ≡ true = rw (l, m, p.2) (grind (arith, length-append)) in
+    rw (longer, p.1) p.2
+
+-- the sealed extents after a seal
+pub seal_moves : (old new : List Closed) (s : Closed) (e : Open) (len n : ℕ) → new ≡ old ++ s ∷ []
+    → IsCommitted e s.blocks → len ≡ length e.blocks → n ≡ length s.blocks
+    → map closed_blocks new ≡ map closed_blocks old ++ (e.blocks ++ held (nat_lt len n) e.tried) ∷ []
+seal_moves old new s e len n m c l k =
+    let blocks = committed_held e s.blocks len n c l k in
+    rw (m, map-append) (ap (λ b. map closed_blocks old ++ b ∷ []) blocks)

@@ -218,6 +218,7 @@ impl Parts {
         ensures same_last { self.new.last.extent ≡ self.old.last.extent }
         ensures same_limit { self.new.limit ≡ self.old.limit }
         ensures same_bytes { self.new.bytes ≡ self.old.bytes }
+        ensures len { vec_len self.new.sealed ≡ vec_len self.old.sealed }
         ensures room { OnOk result (vec_len self.new.sealed + 2 < vec_capacity self.new.sealed) }
         ensures last_room { OnOk result ((seals ≡ false) → 0 < self.new.last.room) }
         ensures next_room { OnOk result (0 < self.new.spares.next) }
