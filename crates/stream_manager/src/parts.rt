@@ -62,6 +62,7 @@ impl Parts {
         ensures blocks { IfOk result (λ kept. self.new.last.extent.blocks ≡ []) }
         ensures tried { IfOk result (λ kept. self.new.last.extent.tried ≡ None) }
         ensures same_sealed { OnErr result (self.new.sealed.items ≡ self.old.sealed.items) }
+        ensures same_len { OnErr result (vec_len self.new.sealed ≡ vec_len self.old.sealed) }
         ensures same_last { OnErr result (self.new.last.extent ≡ self.old.last.extent) }
         ensures called { CallsEach (W.calls wire.old) (W.calls wire.new) }
         ensures counted { IfOk result (λ kept. Grows (W.faults wire.old) (W.faults wire.new)) }
@@ -107,6 +108,7 @@ impl Parts {
         ensures tried { IfOk result (λ kept. self.new.last.extent.tried ≡ None) }
         ensures same { OnErr result (extents self.new.sealed.items self.new.last.extent ≡ extents self.old.sealed.items self.old.last.extent) }
         ensures same_sealed { OnErr result (self.new.sealed.items ≡ self.old.sealed.items) }
+        ensures same_len { OnErr result (vec_len self.new.sealed ≡ vec_len self.old.sealed) }
         ensures same_last { OnErr result (self.new.last.extent ≡ self.old.last.extent) }
         ensures called { CallsEach (W.calls wire.old) (W.calls wire.new) }
         ensures counted { IfOk result (λ kept. Grows (W.faults wire.old) (W.faults wire.new)) }
@@ -249,6 +251,7 @@ impl Parts {
         ensures tried { IfOk result (λ kept. self.new.last.extent.tried ≡ None) }
         ensures same { OnErr result (extents self.new.sealed.items self.new.last.extent ≡ extents self.old.sealed.items self.old.last.extent) }
         ensures same_sealed { OnErr result (self.new.sealed.items ≡ self.old.sealed.items) }
+        ensures same_len { OnErr result (vec_len self.new.sealed ≡ vec_len self.old.sealed) }
         ensures same_last { OnErr result (self.new.last.extent ≡ self.old.last.extent) }
         ensures called { IfOk result (λ kept. CallsAtMost 0 (vec_len self.old.sealed) (vec_len self.new.sealed) (W.calls wire.old) (W.calls wire.new)) }
         ensures unanswered_calls { OnErr result (CallsEach (W.calls wire.old) (W.calls wire.new)) }
@@ -298,8 +301,14 @@ impl Parts {
         let again = Shares::new(block)?;
         let seals = self.seals_before(block.len());
         self.make_room(seals)?;
-        self.make_ready(seals, wire)?;
-        self.put(first, again, wire)
+        match self.make_ready(seals, wire) {
+            Ok(_) => self.put(first, again, wire),
+            Err(NoReplica) => {
+                drop(first);
+                drop(again);
+                Err(AppendFault::Busy)
+            }
+        }
     }
 
     /// Settles a doubt, if there is one.

@@ -4,21 +4,21 @@ use Rattle.stream_manager.specs.Outcomes.{IsPut}
 use Rattle.stream_manager.proofs.AppendLemmas.{put_after, fails_after}
 use Rattle.stream_manager.proofs.parts.Parts.append.Goals as goal
 
-pub returns-clause-appended : goal.returns-clause-appended
-returns-clause-appended g c =
+pub returns-in-Ok-clause-appended : goal.returns-in-Ok-clause-appended
+returns-in-Ok-clause-appended g c =
     let same : c.in_ok-first.first ≡ c.args.block.now = search rules in
     put_after c.put.result c.args.self.now.sealed.items
     (extents c.make_ready.new.self.sealed.items c.make_ready.new.self.last.extent)
     (extents c.put.new.self.sealed.items c.put.new.self.last.extent)
-    c.args.self.now.last.extent c.put.new.self.last.extent c.in_ok-make_ready.field-0 c.args.block.now
-    (rw (← c.make_room.ensures.same_sealed) (rw (← c.make_room.ensures.same_last) c.in_ok-make_ready.ensures.follows))
-    (rw (← c.make_room.ensures.same_sealed) (rw (← c.make_room.ensures.same_last) c.in_ok-make_ready.ensures.decided))
+    c.args.self.now.last.extent c.put.new.self.last.extent c.in-Ok.field-0 c.args.block.now
+    (rw (← c.make_room.ensures.same_sealed) (rw (← c.make_room.ensures.same_last) c.in-Ok.ensures.follows))
+    (rw (← c.make_room.ensures.same_sealed) (rw (← c.make_room.ensures.same_last) c.in-Ok.ensures.decided))
     (subst (λ b. IsPut c.put.result (extents c.make_ready.new.self.sealed.items c.make_ready.new.self.last.extent) b
     (extents c.put.new.self.sealed.items c.put.new.self.last.extent) c.put.new.self.last.extent) same c.put.ensures.put)
 
-pub returns-clause-counted : goal.returns-clause-counted
-returns-clause-counted g c =
+pub returns-in-Ok-clause-counted : goal.returns-in-Ok-clause-counted
+returns-in-Ok-clause-counted g c =
     fails_after c.put.result (extents c.make_ready.new.self.sealed.items c.make_ready.new.self.last.extent)
     (extents c.put.new.self.sealed.items c.put.new.self.last.extent) c.put.new.self.last.extent c.in_ok-first.first
     (g.W.Wire.faults c.args.wire.now) (g.W.Wire.faults c.make_ready.new.wire) (g.W.Wire.faults c.put.new.wire)
-    c.in_ok-make_ready.ensures.counted c.put.ensures.put c.put.ensures.counted
+    c.in-Ok.ensures.counted c.put.ensures.put c.put.ensures.counted
