@@ -3,3 +3,4 @@ pub mod BlockFits
 pub mod FitLemmas
 pub mod NewRows
 pub mod Parts
+pub mod CheckpointLemmas

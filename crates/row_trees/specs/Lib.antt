@@ -3,3 +3,4 @@ pub mod BlobRows
 pub mod Fits
 pub mod FoundParts
 pub mod ListedBlocks
+pub mod RowRecords

@@ -1,12 +1,12 @@
 //! A container with its blobs.
-ghost use Rattle.std.specs.Prelude.{◌≡◌};
+ghost use Rattle.std.specs.Prelude.{◌≡◌, IfOk};
 ghost use Rattle.std.specs.Option.{option_copied};
 
 use crate::found_blob::FoundBlob;
 use crate::row::Row;
-use stamp_types::{Standing, Text};
+use stamp_types::{ContainerRow, Standing, Text};
 use stamp_values::Named;
-use std::alloc::Global;
+use std::alloc::{AllocError, Global};
 use std::marker::Model;
 
 /// A container that exists or was deleted, and its blobs, seen as the container's part of the
@@ -35,6 +35,7 @@ impl Model for Container {
 
 impl Container {
     ghost use Rattle.stamp_types.specs.World.{blob_in, no_part};
+    ghost use Rattle.row_trees.specs.RowRecords.{container_row_of};
 
     /// A container that never was. Takes no memory.
     pub(crate) fn none(alloc: Global) -> Self
@@ -58,6 +59,16 @@ impl Container {
         ensures { option_copied result ≡ self.now.standing }
     {
         self.standing.as_ref()
+    }
+
+    /// The row of a checkpoint that says the container without its blobs. It has texts of its own.
+    pub(crate) fn row(&self) -> Result<ContainerRow, AllocError>
+        ensures { IfOk result (λ row. row ≡ container_row_of self.now) }
+    {
+        Ok(ContainerRow {
+            count: self.count,
+            standing: self.standing.clone()?,
+        })
     }
 
     /// What the container has of a blob.

@@ -1,13 +1,15 @@
 //! What rows find of one container.
-ghost use Rattle.std.specs.Prelude.{◌≡◌, IsTrue};
+ghost use Rattle.std.specs.Prelude.{◌≡◌, IfOk, IsTrue};
 ghost use Rattle.std.specs.Option.{option_copied};
 ghost use Rattle.stamp_types.specs.Changes.{is_committed};
 ghost use Rattle.stamp_types.specs.World.{blob_in};
 ghost use Rattle.row_trees.specs.Access.{acl_of};
+ghost use Rattle.row_trees.specs.RowRecords.{container_row_of};
 
 use crate::container::Container;
 use crate::found_blob::FoundBlob;
-use stamp_types::{Acl, Committed, Pieces, Standing, Text};
+use stamp_types::{Acl, Committed, ContainerRow, Pieces, Standing, Text};
+use std::alloc::AllocError;
 use std::marker::Model;
 
 /// What rows find of one container, seen as the container's part of the world. A container that
@@ -60,6 +62,23 @@ impl<'a> Found<'a> {
     {
         let standing = self.standing()?;
         Some(&standing.acl)
+    }
+
+    /// The row of a checkpoint that says the container without its blobs: what a container that was
+    /// deleted leaves is its count. A container that never was has the count 0, and is not written
+    /// to a checkpoint.
+    ///
+    /// `AllocError` if memory runs out for the texts of the row.
+    pub fn row(&self) -> Result<ContainerRow, AllocError>
+        ensures { IfOk result (λ row. row ≡ container_row_of self.now) }
+    {
+        match self.container {
+            Some(container) => container.row(),
+            None => Ok(ContainerRow {
+                count: 0,
+                standing: None,
+            }),
+        }
     }
 
     /// What was found of a blob.

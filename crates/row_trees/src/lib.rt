@@ -4,12 +4,14 @@
 mod acts;
 mod block_acts;
 mod change_fits;
+mod checkpoint_laws;
 mod container;
 mod found;
 mod found_blob;
 mod row;
 mod rows;
 
+pub use checkpoint_laws::a_checkpoint_makes_its_container_again;
 pub use found::Found;
 pub use found_blob::FoundBlob;
 pub use rows::Rows;
