@@ -2,7 +2,11 @@
 #![tactic(auto)]
 
 #[cfg(test)]
+mod byte_tests;
+#[cfg(test)]
 mod read_tests;
+#[cfg(test)]
+mod row_tests;
 #[cfg(test)]
 mod sample_acts;
 #[cfg(test)]
@@ -10,5 +14,7 @@ mod sample_fields;
 mod sample_places;
 #[cfg(test)]
 mod sample_records;
+#[cfg(test)]
+mod sample_values;
 #[cfg(test)]
 mod write_tests;
