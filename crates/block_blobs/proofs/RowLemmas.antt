@@ -4,13 +4,17 @@ use Rattle.std.specs.Prelude.{is_some}
 use Rattle.std.specs.Option.{option_map}
 use Rattle.std.specs.List.{list_all}
 use Rattle.std.specs.Ordering.{is_lt}
-use Rattle.std.specs.FinMap.{FinMap, entries, entries_sorted, from_entries, get-entries, get-from_entries, is_sorted, same_map}
+use Rattle.std.specs.declared.cmp.Ordering.{Ordering}
+use Rattle.std.specs.declared.cmp.Ordering.TheVariants.{Less, Equal, Greater}
+use Rattle.std.specs.FinMap.{FinMap, entries, entries-from_sorted, entries_sorted, from_entries, from_sorted, get-entries, get-from_entries, get-from_sorted, is_sorted, same_map}
 use Rattle.std.specs.FinMap.Entries.{below_all}
 use Rattle.std.proofs.lemmas.Bool.{and_parts, le-leb}
 use Rattle.stamp_values.specs.Order.{name_cmp, names_exact, names_total}
 use Rattle.stamp_types.specs.declared.piece.Piece.{Piece}
 use Rattle.stamp_values.specs.Names.{is_blob}
 use Rattle.stamp_types.specs.declared.act.Act.TheVariants as act
+use Rattle.stamp_types.specs.declared.act.StoredBlob.{StoredBlob}
+use Rattle.stamp_types.specs.declared.committed.UncommittedBlock.{UncommittedBlock}
 use Rattle.stamp_types.specs.declared.committed.Block.{Block}
 use Rattle.stamp_types.specs.declared.committed.Committed.{Committed}
 use Rattle.stamp_types.specs.Changes.{are_uncommitted, has_ids_of_one_length, has_rising_ids, is_committed, is_id_before_next, is_in_one_piece, is_stored_blob}
@@ -114,3 +118,55 @@ pub container_again : (n : ℕ) (name : List ℕ) (b : Blob (List Piece)) (p : P
 container_again n name b p =
     ap (λ (o : Option (Committed (List Piece))). with_blob p name (record { committed = o; uncommitted = from_entries (map (uncommitted_entry same_pieces) (listed_blocks b.uncommitted)) })) (same_committed b.committed)
     ∙ ap (λ (c : Blob (List Piece)). with_blob p name c) (blob_again name b)
+
+-- ---- a good row is the row of its blob
+
+both_hold : (a b : Bool) → T a → T b → T (a && b)
+both_hold true b p q = q
+both_hold false b p q = p
+
+less : (r : Ordering) → is_lt r ≡ true → r ≡ Less
+less Less h = refl
+less Equal h = cc
+less Greater h = cc
+
+before_later : (u v : UncommittedBlock) (us : List UncommittedBlock) → is_lt (name_cmp u.id v.id) ≡ true → is_id_before_next v us ≡ true → is_id_before_next u us ≡ true
+before_later u v [] first next = refl
+before_later u v (w ∷ us) first next = ap is_lt (names_total.trans u.id v.id w.id (less (name_cmp u.id v.id) first) (less (name_cmp v.id w.id) next))
+
+-- if the ids rise, each id comes before all later ids
+before_all : (u : UncommittedBlock) (us : List UncommittedBlock) → is_id_before_next u us ≡ true → has_rising_ids us ≡ true → T (below_all name_cmp u.id (map (uncommitted_entry same_pieces) us))
+before_all u [] first up = tt
+before_all u (v ∷ us) first up =
+    let rise = and_parts (is_id_before_next v us) (has_rising_ids us) up in
+    both_hold (is_lt (name_cmp u.id v.id)) (below_all name_cmp u.id (map (uncommitted_entry same_pieces) us)) (subst T (sym first) tt)
+    (before_all u us (before_later u v us first rise.0) rise.1)
+
+sorted_again : (us : List UncommittedBlock) → has_rising_ids us ≡ true → T (is_sorted name_cmp (map (uncommitted_entry same_pieces) us))
+sorted_again [] up = tt
+sorted_again (u ∷ us) up =
+    let rise = and_parts (is_id_before_next u us) (has_rising_ids us) up in
+    both_hold (below_all name_cmp u.id (map (uncommitted_entry same_pieces) us)) (is_sorted name_cmp (map (uncommitted_entry same_pieces) us))
+    (before_all u us rise.0 rise.1) (sorted_again us rise.1)
+
+blocks_again : (us : List UncommittedBlock) → map listed_block (map (uncommitted_entry same_pieces) us) ≡ us
+blocks_again [] = refl
+blocks_again (u ∷ us) = ap (λ (us : List UncommittedBlock). u ∷ us) (blocks_again us)
+
+-- blocks whose ids rise are listed as they were
+listed_as_stored : (us : List UncommittedBlock) → has_rising_ids us ≡ true → listed_blocks (from_entries {R = name_cmp} (map (uncommitted_entry same_pieces) us)) ≡ us
+listed_as_stored us up =
+    let es = map (uncommitted_entry same_pieces) us in
+    let rise = sorted_again us up in
+    let same : from_sorted {R = name_cmp} es ≡ from_entries {R = name_cmp} es =
+    same_map names_total names_exact _ _ (λ q. get-from_sorted name_cmp es q rise ∙ sym (get-from_entries names_total es q)) in
+    ap listed_blocks (sym same) ∙ ap (λ (es : List (List ℕ × List Piece)). map listed_block es) (entries-from_sorted name_cmp es rise) ∙ blocks_again us
+
+-- a good row is the row of the blob that it says
+pub row_again : (r : StoredBlob) → is_stored_blob r ≡ true → row_of r.blob (blob_of_row r) ≡ r
+row_again r good =
+    let us = r.uncommitted in
+    let blocks = (and_parts (is_blob r.blob && (is_some r.committed || nat_lt 0 (length us)) && is_committed r.committed) (are_uncommitted us) good).1 in
+    let limits = and_parts (nat_le (length us) 50000 && list_all (λ u. is_in_one_piece u.content) us && has_rising_ids us) (has_ids_of_one_length us) blocks in
+    let listed = and_parts (nat_le (length us) 50000 && list_all (λ u. is_in_one_piece u.content) us) (has_rising_ids us) limits.0 in
+    ap (λ (us : List UncommittedBlock). record { blob = r.blob; committed = r.committed; uncommitted = us }) (listed_as_stored us listed.1)

@@ -1,5 +1,5 @@
 //! Laws of blobs. Each law is the contract of a function that does nothing.
-ghost use Rattle.std.specs.Prelude.{◌≡◌, ℕ, List, All, None, Some, option_map, length};
+ghost use Rattle.std.specs.Prelude.{◌≡◌, ℕ, List, All, IsTrue, None, Some, option_map, length};
 ghost use Rattle.stamp_values.specs.declared.block.Wanted.{Wanted};
 ghost use Rattle.std.specs.FinMap.{get};
 ghost use Rattle.stamp_types.specs.declared.act.Act.TheVariants as act;
@@ -7,6 +7,8 @@ ghost use Rattle.stamp_types.specs.declared.act.PutBlob.{PutBlob};
 ghost use Rattle.stamp_types.specs.declared.act.PutBlock.{PutBlock};
 ghost use Rattle.stamp_types.specs.declared.act.PutBlockList.{PutBlockList};
 ghost use Rattle.stamp_types.specs.declared.act.SetMetadata.{SetMetadata};
+ghost use Rattle.stamp_types.specs.declared.act.StoredBlob.{StoredBlob};
+ghost use Rattle.stamp_types.specs.Changes.{is_stored_blob};
 ghost use Rattle.stamp_types.specs.declared.piece.Piece.{Piece};
 ghost use Rattle.stamp_types.specs.World.{Blob, Part, blob_in, blobs_after, content_from, same_pieces, with_blob};
 ghost use Rattle.block_blobs.specs.BlobChanges.{blob_of_list, blob_of_put, blob_with_block, blob_with_metadata};
@@ -53,9 +55,11 @@ pub fn a_container_changes_by_its_blob()
 {}
 
 /// The row that a blob gives to a checkpoint makes the blob again, under its name and whatever was
-/// there. No other blob of the container changes. `n` is the count of the container after the row.
+/// there. No other blob of the container changes. `n` is the count of the container after the row. A
+/// good row is the row that the blob gives which it made.
 pub fn a_row_makes_its_blob_again()
     ensures blob { (name : List ℕ) (b : Blob (List Piece)) → blob_of_row (row_of name b) ≡ b }
     ensures container { (n : ℕ) (name : List ℕ) (b : Blob (List Piece)) (p : Part (List Piece))
         → blobs_after same_pieces n (act.StoredBlob (row_of name b)) p ≡ with_blob p name b }
+    ensures row { (r : StoredBlob) → IsTrue (is_stored_blob r) → row_of r.blob (blob_of_row r) ≡ r }
 {}
