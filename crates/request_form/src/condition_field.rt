@@ -8,6 +8,7 @@ ghost use Rattle.request_form.specs.HeadReads.{RefusesValue};
 ghost use Rattle.request_form.specs.HeadRules as heads;
 
 use crate::value_fault::ValueFault;
+use http_header::HeaderName;
 use stamp_types::{Code, Condition, FieldList, Op, read_etag};
 
 fn is_unquoted(text: &[u8]) -> bool
@@ -53,7 +54,7 @@ fn condition_named(value: &[u8]) -> Condition
 pub(crate) fn condition_by(
     op: Op,
     fields: &FieldList,
-    name: &str,
+    name: &HeaderName,
 ) -> Result<Option<Condition>, ValueFault>
     ensures { MatchResult result
         (λ condition. (is_bad fields.now name.now heads.is_condition ≡ false)

@@ -6,6 +6,7 @@ ghost use Rattle.request_form.specs.HeadForms.{is_newer, expects_of, closes_of};
 ghost use Rattle.request_form.specs.HeadForms as head_forms;
 ghost use Rattle.request_form.specs.Targets.{lowered};
 
+use crate::header_names::{CONNECTION, EXPECT};
 use crate::parsed_head::{ParsedHead, Version};
 use stamp_types::{FieldList, FieldRef, trimmed};
 
@@ -34,7 +35,7 @@ fn has_close(value: &[u8]) -> bool
 fn asks_to_close(field: &FieldRef<'_>) -> bool
     ensures { result ≡ head_forms.asks_to_close field.now }
 {
-    field.name == b"connection".as_slice() && has_close(field.value)
+    field.name == CONNECTION.as_bytes() && has_close(field.value)
 }
 
 fn some_asks_to_close(fields: &FieldList) -> bool
@@ -51,7 +52,7 @@ fn some_asks_to_close(fields: &FieldList) -> bool
 fn asks_to_go_on(field: &FieldRef<'_>) -> bool
     ensures { result ≡ head_forms.asks_to_go_on field.now }
 {
-    field.name == b"expect".as_slice() && field.value.eq_ignore_ascii_case(b"100-continue")
+    field.name == EXPECT.as_bytes() && field.value.eq_ignore_ascii_case(b"100-continue")
 }
 
 fn some_asks_to_go_on(fields: &FieldList) -> bool

@@ -4,6 +4,7 @@ ghost use Rattle.std.specs.Str.Parse.{digits_value};
 ghost use Rattle.base64_text.specs.Base64.{standard, decoded_of};
 ghost use Rattle.request_form.specs.HeadFields as heads;
 
+use crate::header_names::{META_PREFIX, OWN_PREFIX};
 use base64_text::decoded_base64;
 use stamp_types::FieldList;
 use std::alloc::{AllocError, Global};
@@ -81,12 +82,12 @@ pub(crate) fn md5_of(alloc: Global, text: &[u8]) -> Result<Option<[u8; 16]>, All
 pub(crate) fn is_own_name(name: &[u8]) -> bool
     ensures { result ≡ heads.is_own_name name.now }
 {
-    name.starts_with(b"x-ms-".as_slice())
+    name.starts_with(OWN_PREFIX)
 }
 
 /// Whether the name is that of a header of metadata.
 pub(crate) fn is_meta(name: &[u8]) -> bool
     ensures { result ≡ heads.is_meta name.now }
 {
-    name.starts_with(b"x-ms-meta-".as_slice())
+    name.starts_with(META_PREFIX)
 }

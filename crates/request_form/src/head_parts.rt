@@ -7,6 +7,7 @@ ghost use Rattle.request_form.specs.HeadFields.{is_authorization, signed_headers
 ghost use Rattle.request_form.specs.Heads.{IsHead, IsNoHead, head_limit, parsed_of, version_of};
 ghost use Rattle.request_form.specs.HeadSpans.{field_at, fields_at, parts_at};
 
+use crate::header_names::AUTHORIZATION;
 use crate::parsed_head::{ParsedHead, Version};
 use httparse::Status;
 use httparse::spans::{EMPTY_HEADER_SPAN, HeaderSpan, RequestSpans, Span, parse_request};
@@ -50,7 +51,10 @@ fn is_authorization(text: &[u8], header: HeaderSpan) -> bool
     requires { IsHeaderWithin (length text.now) header }
     ensures { result ≡ is_authorization (field_at text.now header) }
 {
-    header.name.of(text).eq_ignore_ascii_case(b"authorization")
+    header
+        .name
+        .of(text)
+        .eq_ignore_ascii_case(AUTHORIZATION.as_bytes())
 }
 
 #[tactic(auto, unfolding(crate::specs::HeadFields::signed_headers, crate::specs::HeadFields::authorization_values))]

@@ -5,6 +5,7 @@ ghost use Rattle.stamp_types.specs.declared.rule.Rule.TheVariants.{F4};
 ghost use Rattle.request_form.specs.HeadRules as heads;
 
 use crate::head_fields::number;
+use crate::header_names::{CONTENT_LENGTH, TRANSFER_ENCODING};
 use crate::parsed_head::ParsedHead;
 use stamp_types::{Code, Op, Verb};
 
@@ -14,8 +15,8 @@ fn has_no_length(head: &ParsedHead<'_>, verb: Verb) -> bool
     requires verb { heads.verb_of head.now.method ≡ Some verb }
     ensures { result ≡ heads.has_no_length head.now }
 {
-    matches!(verb, Verb::Put) && !head.fields.is_sent(b"content-length")
-        || head.fields.is_sent(b"transfer-encoding")
+    matches!(verb, Verb::Put) && !head.fields.is_sent(CONTENT_LENGTH.as_bytes())
+        || head.fields.is_sent(TRANSFER_ENCODING.as_bytes())
 }
 
 /// How many bytes the body has, by rule F4 (RFC 9112, section 6).
@@ -31,10 +32,10 @@ pub(crate) fn body_len(head: &ParsedHead<'_>, verb: Verb) -> Result<u64, Code>
     if has_no_length(head, verb) {
         return Err(Code::MissingContentLengthHeader);
     }
-    if head.fields.is_sent_twice(b"content-length") {
+    if head.fields.is_sent_twice(CONTENT_LENGTH.as_bytes()) {
         return Err(Code::InvalidHeaderValue);
     }
-    let Some(digits) = head.fields.first(b"content-length") else {
+    let Some(digits) = head.fields.first(CONTENT_LENGTH.as_bytes()) else {
         return Ok(0);
     };
     match number(digits) {

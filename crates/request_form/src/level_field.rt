@@ -5,6 +5,7 @@ ghost use Rattle.request_form.specs.HeadForms as head_forms;
 ghost use Rattle.request_form.specs.HeadReads.{RefusesValue};
 ghost use Rattle.request_form.specs.HeadRules as heads;
 
+use crate::header_names::BLOB_PUBLIC_ACCESS;
 use crate::value_fault::ValueFault;
 use stamp_types::{Code, FieldList, Level, Op};
 
@@ -35,7 +36,7 @@ pub(crate) fn level_by(op: Op, fields: &FieldList) -> Result<Option<Level>, Valu
     if !op.sets_level() {
         return Ok(None);
     }
-    let Some(value) = fields.first(b"x-ms-blob-public-access") else {
+    let Some(value) = fields.first(BLOB_PUBLIC_ACCESS.as_bytes()) else {
         return Ok(Some(Level::Closed));
     };
     match level_named(value) {

@@ -12,6 +12,7 @@ mod head_fields;
 mod head_laws;
 mod head_parts;
 mod header_lines;
+mod header_names;
 mod length;
 mod level_field;
 mod metadata_fields;

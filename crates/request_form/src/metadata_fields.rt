@@ -10,6 +10,7 @@ ghost use Rattle.request_form.specs.HeadFields as fields_of;
 ghost use Rattle.request_form.specs.HeadMetadata as metadata;
 ghost use Rattle.request_form.specs.HeadReads.{RefusesValue};
 
+use crate::header_names::META_PREFIX;
 use crate::texts::visible;
 use crate::value_fault::ValueFault;
 use stamp_types::{
@@ -22,10 +23,7 @@ fn unprefixed(name: &[u8]) -> Option<&[u8]>
     ensures { MatchOption result (fields_of.is_meta name.now ≡ false)
         (λ rest. (fields_of.is_meta name.now ≡ true) × (rest.now ≡ drop 10 name.now)) }
 {
-    match name.get(..10) {
-        Some(prefix) if prefix == b"x-ms-meta-".as_slice() => Some(&name[10..]),
-        _ => None,
-    }
+    name.strip_prefix(META_PREFIX)
 }
 
 // The index of the first field whose name comes after the name, or else how many fields there are.

@@ -7,6 +7,7 @@ ghost use Rattle.request_form.specs.HeadFields.{are_digits};
 ghost use Rattle.request_form.specs.HeadRanges as ranges;
 
 use crate::head_fields::are_digits;
+use crate::header_names::{IF_RANGE, OWN_RANGE, RANGE};
 use crate::target::position;
 use stamp_types::{ByteRange, FieldList, Op};
 use std::cmp::Ordering;
@@ -119,12 +120,12 @@ fn range_sent(fields: &FieldList) -> Option<&[u8]>
     ensures { MatchOption result (ranges.range_sent fields.now ≡ None)
         (λ text. ranges.range_sent fields.now ≡ Some text.now) }
 {
-    if fields.is_sent(b"if-range") {
+    if fields.is_sent(IF_RANGE.as_bytes()) {
         return None;
     }
-    match fields.first(b"x-ms-range") {
+    match fields.first(OWN_RANGE.as_bytes()) {
         Some(text) => Some(text),
-        None => fields.first(b"range"),
+        None => fields.first(RANGE.as_bytes()),
     }
 }
 

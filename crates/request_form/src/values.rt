@@ -14,6 +14,11 @@ ghost use Rattle.request_form.specs.HeadRules as heads;
 
 use crate::condition_field::condition_by;
 use crate::head_fields::{is_meta, is_own_name, md5_of};
+use crate::header_names::{
+    BLOB_CACHE_CONTROL, BLOB_CONTENT_ENCODING, BLOB_CONTENT_LANGUAGE, BLOB_CONTENT_MD5,
+    BLOB_CONTENT_TYPE, BLOB_TYPE, CACHE_CONTROL, CONTENT_ENCODING, CONTENT_LANGUAGE, CONTENT_MD5,
+    CONTENT_TYPE, IF_MATCH, IF_NONE_MATCH,
+};
 use crate::level_field::level_by;
 use crate::metadata_fields::read_metadata;
 use crate::operation::is_put_blob;
@@ -21,6 +26,7 @@ use crate::parsed_head::ParsedHead;
 use crate::range_field::range_by;
 use crate::texts::visible;
 use crate::value_fault::ValueFault;
+use http_header::HeaderName;
 use stamp_types::{Args, Code, FieldList, Kept, Metadata, Op, STANDARD_NAMES, Visible};
 use std::alloc::Global;
 
@@ -101,7 +107,12 @@ fn md5_under(alloc: Global, fields: &FieldList, name: &str) -> Result<Option<[u8
 // The value of a header that is kept: the value of the service's own header, else the value of the plain header, if that counts,
 // else no bytes.
 #[tactic(auto, unfolding(crate::specs::HeadRules::kept_value))]
-fn kept_value<'a>(fields: &'a FieldList, takes_plain: bool, own: &str, plain: &str) -> &'a [u8]
+fn kept_value<'a>(
+    fields: &'a FieldList,
+    takes_plain: bool,
+    own: &str,
+    plain: &HeaderName,
+) -> &'a [u8]
     ensures { result.now ≡ heads.kept_value takes_plain fields.now own.now plain.now }
 {
     if let Some(value) = fields.first(own.as_bytes()) {
@@ -121,7 +132,7 @@ fn visible_under(
     fields: &FieldList,
     takes_plain: bool,
     own: &str,
-    plain: &str,
+    plain: &HeaderName,
 ) -> Result<Visible, ValueFault>
     ensures { MatchResult result
         (λ v. (is_visible (heads.kept_value takes_plain fields.now own.now plain.now) ≡ true)
@@ -150,33 +161,27 @@ fn kept(
         × (k ≡ kept_of takes_plain fields.now))
         (RefusesValue (heads.has_bad_kept takes_plain fields.now) InvalidHeaderValue) }
 {
-    let content_type = visible_under(
-        alloc,
-        fields,
-        takes_plain,
-        "x-ms-blob-content-type",
-        "content-type",
-    )?;
+    let content_type = visible_under(alloc, fields, takes_plain, BLOB_CONTENT_TYPE, &CONTENT_TYPE)?;
     let encoding = visible_under(
         alloc,
         fields,
         takes_plain,
-        "x-ms-blob-content-encoding",
-        "content-encoding",
+        BLOB_CONTENT_ENCODING,
+        &CONTENT_ENCODING,
     )?;
     let language = visible_under(
         alloc,
         fields,
         takes_plain,
-        "x-ms-blob-content-language",
-        "content-language",
+        BLOB_CONTENT_LANGUAGE,
+        &CONTENT_LANGUAGE,
     )?;
     let cache_control = visible_under(
         alloc,
         fields,
         takes_plain,
-        "x-ms-blob-cache-control",
-        "cache-control",
+        BLOB_CACHE_CONTROL,
+        &CACHE_CONTROL,
     )?;
     Ok(Kept {
         content_type,
@@ -222,10 +227,10 @@ fn good_args(alloc: Global, op: Op, fields: &FieldList) -> Result<Args, ValueFau
     if has_bad_twice(fields) {
         return Err(ValueFault::Refused(Code::InvalidHeaderValue));
     }
-    let if_match = condition_by(op, fields, "if-match")?;
-    let if_none_match = condition_by(op, fields, "if-none-match")?;
-    let content_md5 = md5_by(op, md5_under(alloc, fields, "content-md5")?);
-    let blob_md5 = md5_under(alloc, fields, "x-ms-blob-content-md5")?;
+    let if_match = condition_by(op, fields, &IF_MATCH)?;
+    let if_none_match = condition_by(op, fields, &IF_NONE_MATCH)?;
+    let content_md5 = md5_by(op, md5_under(alloc, fields, CONTENT_MD5)?);
+    let blob_md5 = md5_under(alloc, fields, BLOB_CONTENT_MD5)?;
     let kept = kept_by(alloc, op, fields, blob_md5)?;
     let level = match level_by(op, fields) {
         Ok(level) => level,
@@ -254,7 +259,7 @@ fn has_no_blob_type(head: &ParsedHead<'_>, op: Op) -> bool
     requires op { heads.op_of head.now ≡ Some op }
     ensures { result ≡ heads.has_no_blob_type head.now }
 {
-    is_put_blob(op) && !head.fields.is_sent(b"x-ms-blob-type")
+    is_put_blob(op) && !head.fields.is_sent(BLOB_TYPE.as_bytes())
 }
 
 /// What the header lines say of a request, by rule F7.
