@@ -3,6 +3,11 @@ ghost use Rattle.std.specs.Prelude.{◌≡◌, ◌++◌, OnOk, codes, decimal, f
 ghost use Rattle.base64_text.specs.Base64.{base64_of};
 ghost use Rattle.reply_form.specs.HeaderLines.{line, level_line, sent_range_text, reply_line};
 
+use crate::header_names::{
+    ACCEPT_RANGES, BLOB_LENGTH, BLOB_PUBLIC_ACCESS, BLOB_TYPE, CACHE_CONTROL, CONTENT_DISPOSITION,
+    CONTENT_ENCODING, CONTENT_LANGUAGE, CONTENT_MD5, CONTENT_TYPE, ETAG, LAST_MODIFIED,
+    META_PREFIX,
+};
 use base64_text::write_base64;
 use itoa::Buffer;
 use moment_text::write_http;
@@ -43,7 +48,7 @@ fn append_meta(out: &mut Vec<u8>, meta: &Meta) -> Result<(), AllocError>
         (out.new.items
         ≡ out.old.items ++ line (codes "x-ms-meta-" ++ meta.now.name) meta.now.value) }
 {
-    out.extend_from_slice(b"x-ms-meta-")?;
+    out.extend_from_slice(META_PREFIX)?;
     append_line(out, meta.name.as_str(), meta.value.as_str().as_bytes())
 }
 
@@ -74,8 +79,8 @@ fn append_level(out: &mut Vec<u8>, level: Level) -> Result<(), AllocError>
 {
     match level {
         Level::Closed => Ok(()),
-        Level::Blob => append_line(out, "x-ms-blob-public-access", b"blob"),
-        Level::Container => append_line(out, "x-ms-blob-public-access", b"container"),
+        Level::Blob => append_line(out, BLOB_PUBLIC_ACCESS, b"blob"),
+        Level::Container => append_line(out, BLOB_PUBLIC_ACCESS, b"container"),
     }
 }
 
@@ -85,7 +90,7 @@ fn append_md5(alloc: Global, out: &mut Vec<u8>, md5: &[u8; 16]) -> Result<(), Al
         (out.new.items ≡ out.old.items ++ line (codes "Content-MD5") (base64_of md5.now)) }
 {
     let text = write_base64(alloc, md5)?;
-    append_line(out, "Content-MD5", text.as_bytes())
+    append_line(out, CONTENT_MD5, text.as_bytes())
 }
 
 /// Appends a header's line to `out`. The level of a closed container has no line.
@@ -99,26 +104,26 @@ pub(crate) fn append_header(
     ensures { OnOk result (out.new.items ≡ out.old.items ++ reply_line header.now) }
 {
     match header {
-        Header::ContentType(value) => append_line(out, "Content-Type", value.as_str().as_bytes()),
+        Header::ContentType(value) => append_line(out, CONTENT_TYPE, value.as_str().as_bytes()),
         Header::ContentEncoding(value) => {
-            append_line(out, "Content-Encoding", value.as_str().as_bytes())
+            append_line(out, CONTENT_ENCODING, value.as_str().as_bytes())
         }
         Header::ContentLanguage(value) => {
-            append_line(out, "Content-Language", value.as_str().as_bytes())
+            append_line(out, CONTENT_LANGUAGE, value.as_str().as_bytes())
         }
         Header::ContentMd5(md5) => append_md5(alloc, out, md5),
-        Header::CacheControl(value) => append_line(out, "Cache-Control", value.as_str().as_bytes()),
+        Header::CacheControl(value) => append_line(out, CACHE_CONTROL, value.as_str().as_bytes()),
         Header::ContentDisposition(value) => {
-            append_line(out, "Content-Disposition", value.as_str().as_bytes())
+            append_line(out, CONTENT_DISPOSITION, value.as_str().as_bytes())
         }
         Header::ContentRange(range) => append_range(out, *range),
         Header::Meta(meta) => append_meta(out, meta),
-        Header::BlobType => append_line(out, "x-ms-blob-type", b"BlockBlob"),
-        Header::AcceptRanges => append_line(out, "Accept-Ranges", b"bytes"),
+        Header::BlobType => append_line(out, BLOB_TYPE, b"BlockBlob"),
+        Header::AcceptRanges => append_line(out, ACCEPT_RANGES, b"bytes"),
         Header::PublicAccess(level) => append_level(out, *level),
-        Header::BlobLength(length) => append_number_line(out, "x-ms-blob-content-length", *length),
-        Header::Etag(count) => append_line(out, "ETag", &write_etag(*count)),
-        Header::LastModified(moment) => append_line(out, "Last-Modified", &write_http(*moment)),
+        Header::BlobLength(length) => append_number_line(out, BLOB_LENGTH, *length),
+        Header::Etag(count) => append_line(out, ETAG, &write_etag(*count)),
+        Header::LastModified(moment) => append_line(out, LAST_MODIFIED, &write_http(*moment)),
     }
 }
 

@@ -6,6 +6,7 @@ ghost use Rattle.reply_form.specs.HeaderLines.{line, reply_line};
 ghost use Rattle.reply_form.specs.ReplyBytes.{phrase, status_line, rule_line, connection_line, length_line, is_not_modified, is_head, sends_body, head_bytes, reply_bytes};
 
 use crate::header_line::{append_headers, append_line, append_number_line};
+use crate::header_names::{CONNECTION, CONTENT_LENGTH, DATE, RULE, VERSION};
 use http::StatusCode;
 use itoa::Buffer;
 use moment_text::write_http;
@@ -42,7 +43,7 @@ fn append_rule(out: &mut Vec<u8>, rule: Option<Rule>) -> Result<(), AllocError>
     ensures { OnOk result (out.new.items ≡ out.old.items ++ rule_line rule) }
 {
     match rule {
-        Some(rule) => append_line(out, "x-stamp-rule", rule.label().as_bytes()),
+        Some(rule) => append_line(out, RULE, rule.label().as_bytes()),
         None => Ok(()),
     }
 }
@@ -51,7 +52,7 @@ fn append_connection(out: &mut Vec<u8>, close: bool) -> Result<(), AllocError>
     ensures { OnOk result (out.new.items ≡ out.old.items ++ connection_line close) }
 {
     if close {
-        append_line(out, "Connection", b"close")
+        append_line(out, CONNECTION, b"close")
     } else {
         Ok(())
     }
@@ -65,14 +66,14 @@ fn append_length(out: &mut Vec<u8>, status: Status, length: u64) -> Result<(), A
     if is_not_modified(status) {
         return Ok(());
     }
-    append_number_line(out, "Content-Length", length)
+    append_number_line(out, CONTENT_LENGTH, length)
 }
 
 fn append_date(out: &mut Vec<u8>, moment: Moment) -> Result<(), AllocError>
     ensures { OnOk result
         (out.new.items ≡ out.old.items ++ line (codes "Date") (http_text moment)) }
 {
-    append_line(out, "Date", &write_http(moment))
+    append_line(out, DATE, &write_http(moment))
 }
 
 // The line of the version of the Blob service that the stamp speaks.
@@ -80,7 +81,7 @@ fn append_version(out: &mut Vec<u8>) -> Result<(), AllocError>
     ensures { OnOk result
         (out.new.items ≡ out.old.items ++ line (codes "x-ms-version") (codes "2012-02-12")) }
 {
-    append_line(out, "x-ms-version", b"2012-02-12")
+    append_line(out, VERSION, b"2012-02-12")
 }
 
 // The first lines of each reply: the status line, the date and the version.
