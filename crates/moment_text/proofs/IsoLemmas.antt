@@ -6,7 +6,7 @@ use Rattle.std.specs.Int.{IsInRange}
 use Rattle.httpdate.proofs.OptionLemmas.{and_then_some}
 use Rattle.moment_text.specs.declared.civil.CivilTime.{CivilTime}
 use Rattle.moment_text.specs.Iso.{Shape, to_day, to_minute, to_second, to_fraction, digits_of, day_text, iso_text, FitsDigits, IsZeroBeyond, IsIsoText}
-use Rattle.moment_text.specs.IsoReader.{number_of, number_at, after_byte, date_at, fraction_at, optional_fraction, with_second, with_clock, iso_time}
+use Rattle.moment_text.specs.IsoReader.{number_of, number_at, if_byte_at, date_at, fraction_at, optional_fraction, with_second, with_clock, iso_time}
 use Rattle.moment_text.proofs.NumberLemmas.{passes, number_of_sound, number_of_complete, cut_number, cut_byte}
 
 -- the hour and the minute, and what comes after them
@@ -42,8 +42,8 @@ date_sound : (t : List ℕ) (p : CivilTime) → 10 ≤ length t → date_at t �
 unfolding date_at
 date_sound t p long e =
     and_then_some _ (number_at t 0 4) p e λ year year_read e₁.
-    and_then_some _ (after_byte t 4 45 (number_at t 5 7)) p e₁ λ month month_led e₂.
-    and_then_some _ (after_byte t 7 45 (number_at t 8 10)) p e₂ λ day day_led e₃.
+    and_then_some _ (if_byte_at t 4 45 (number_at t 5 7)) p e₁ λ month month_led e₂.
+    and_then_some _ (if_byte_at t 7 45 (number_at t 8 10)) p e₂ λ day day_led e₃.
     let (dash, month_read) = passes _ (number_at t 5 7) month month_led in
     let (dash₂, day_read) = passes _ (number_at t 8 10) day day_led in
     let (at0, year_fits) = cut_number t 0 4 year (omega arith) year_read in
@@ -142,17 +142,17 @@ module _ (t : List ℕ) (p : CivilTime) (second fraction : ℕ) (begins : Begins
   unfolding optional_fraction
   ended_sound long e = by_test (length t == 20) refl e
     where
-      by_test : (short : Bool) → (length t == 20) ≡ short → cond short (Some 0) (cond (nat_lt (length t) 22) None (after_byte t 19 46 (fraction_at t))) ≡ Some fraction → IsWritten t (at_second p second fraction)
+      by_test : (short : Bool) → (length t == 20) ≡ short → cond short (Some 0) (cond (nat_lt (length t) 22) None (if_byte_at t 19 46 (fraction_at t))) ≡ Some fraction → IsWritten t (at_second p second fraction)
       by_test true test e = (to_second, whole_second (eqb-true _ _ test) (same_Some 0 fraction e))
       by_test false test e =
-          let (test₂, e₂) = fails (nat_lt (length t) 22) (after_byte t 19 46 (fraction_at t)) fraction e in
+          let (test₂, e₂) = fails (nat_lt (length t) 22) (if_byte_at t 19 46 (fraction_at t)) fraction e in
           let (point, e₃) = passes _ (fraction_at t) fraction e₂ in
           (to_fraction (length t - 21), part_of_second (length t - 21) (fraction_sound t fraction (ltb-false _ _ test₂) z point e₃))
 
 with_second_sound : (t : List ℕ) (p q : CivilTime) → 20 ≤ length t → BeginsWithMinute t p → with_second t p ≡ Some q → IsWritten t q
 unfolding with_second
 with_second_sound t p q long begins e =
-    and_then_some _ (after_byte t 16 58 (number_at t 17 19)) q e λ second second_led e₁.
+    and_then_some _ (if_byte_at t 16 58 (number_at t 17 19)) q e λ second second_led e₁.
     and_then_some _ (optional_fraction t) q e₁ λ fraction fraction_read e₂.
     let (colon, second_read) = passes _ (number_at t 17 19) second second_led in
     let (z, same) = passes _ (Some (at_second p second fraction)) q e₂ in
@@ -162,10 +162,10 @@ with_second_sound t p q long begins e =
     subst (IsWritten t) (same_Some _ q same) written
 
 -- after the minute comes the Z, or the second
-minute_sound : (t : List ℕ) (p q : CivilTime) → 17 ≤ length t → BeginsWithMinute t p → cond (length t == 17) (after_byte t 16 90 (Some p)) (cond (nat_lt (length t) 20) None (with_second t p)) ≡ Some q → IsWritten t q
+minute_sound : (t : List ℕ) (p q : CivilTime) → 17 ≤ length t → BeginsWithMinute t p → cond (length t == 17) (if_byte_at t 16 90 (Some p)) (cond (nat_lt (length t) 20) None (with_second t p)) ≡ Some q → IsWritten t q
 minute_sound t p q long begins e = by_test (length t == 17) refl e
   where
-    by_test : (short : Bool) → (length t == 17) ≡ short → cond short (after_byte t 16 90 (Some p)) (cond (nat_lt (length t) 20) None (with_second t p)) ≡ Some q → IsWritten t q
+    by_test : (short : Bool) → (length t == 17) ≡ short → cond short (if_byte_at t 16 90 (Some p)) (cond (nat_lt (length t) 20) None (with_second t p)) ≡ Some q → IsWritten t q
     by_test true test e =
         let size = eqb-true _ _ test in
         let (z, same) = passes _ (Some p) q e in
@@ -180,8 +180,8 @@ minute_sound t p q long begins e = by_test (length t == 17) refl e
 with_clock_sound : (t : List ℕ) (p q : CivilTime) → 17 ≤ length t → BeginsWithDay t p → with_clock t p ≡ Some q → IsWritten t q
 unfolding with_clock
 with_clock_sound t p q long begins e =
-    and_then_some _ (after_byte t 10 84 (number_at t 11 13)) q e λ hour hour_led e₁.
-    and_then_some _ (after_byte t 13 58 (number_at t 14 16)) q e₁ λ minute minute_led e₂.
+    and_then_some _ (if_byte_at t 10 84 (number_at t 11 13)) q e λ hour hour_led e₁.
+    and_then_some _ (if_byte_at t 13 58 (number_at t 14 16)) q e₁ λ minute minute_led e₂.
     let (letter, hour_read) = passes _ (number_at t 11 13) hour hour_led in
     let (colon, minute_read) = passes _ (number_at t 14 16) minute minute_led in
     let at10 = cut_byte t 10 84 (omega arith) letter in

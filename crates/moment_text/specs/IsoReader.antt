@@ -22,8 +22,8 @@ abbrev pub number_at : List ℕ → ℕ → ℕ → Option ℕ
 number_at t i j = number_of (slice_range t i j)
 
 -- the value, if the byte at index i is c
-abbrev pub after_byte : {A : Type 0} → List ℕ → ℕ → ℕ → Option A → Option A
-after_byte t i c value = if slice_index t i == c then value else None
+abbrev pub if_byte_at : {A : Type 0} → List ℕ → ℕ → ℕ → Option A → Option A
+if_byte_at t i c value = if slice_index t i == c then value else None
 
 infixl 10 ◌>>=◌
 abbrev ◌>>=◌ : {A B : Type 0} → Option A → (A → Option B) → Option B
@@ -33,8 +33,8 @@ o >>= f = option_and_then f o
 unfoldable pub date_at : List ℕ → Option CivilTime
 date_at t = do
   year ← number_at t 0 4
-  month ← after_byte t 4 hyphen (number_at t 5 7)
-  day ← after_byte t 7 hyphen (number_at t 8 10)
+  month ← if_byte_at t 4 hyphen (number_at t 5 7)
+  day ← if_byte_at t 7 hyphen (number_at t 8 10)
   Some (record { year = year; month = month; day = day; hour = 0; minute = 0; second = 0; fraction = 0 })
 
 -- the fraction from index 20 up to the last byte, with zeros after it up to seven digits
@@ -47,22 +47,22 @@ fraction_at t =
 unfoldable pub optional_fraction : List ℕ → Option ℕ
 optional_fraction t =
     if length t == 20 then Some 0
-    else (if nat_lt (length t) 22 then None else after_byte t 19 dot (fraction_at t))
+    else (if nat_lt (length t) 22 then None else if_byte_at t 19 dot (fraction_at t))
 
 -- the time with the second, its fraction if there is one, and the Z at the end
 unfoldable pub with_second : List ℕ → CivilTime → Option CivilTime
 with_second t p = do
-  second ← after_byte t 16 colon (number_at t 17 19)
+  second ← if_byte_at t 16 colon (number_at t 17 19)
   fraction ← optional_fraction t
-  after_byte t (length t - 1) upper_z (Some (record p { second = second; fraction = fraction }))
+  if_byte_at t (length t - 1) upper_z (Some (record p { second = second; fraction = fraction }))
 
 -- the day with the time of day after the T
 unfoldable pub with_clock : List ℕ → CivilTime → Option CivilTime
 with_clock t p = do
-  hour ← after_byte t 10 upper_t (number_at t 11 13)
-  minute ← after_byte t 13 colon (number_at t 14 16)
+  hour ← if_byte_at t 10 upper_t (number_at t 11 13)
+  minute ← if_byte_at t 13 colon (number_at t 14 16)
   if length t == 17
-      then after_byte t 16 upper_z (Some (record p { hour = hour; minute = minute }))
+      then if_byte_at t 16 upper_z (Some (record p { hour = hour; minute = minute }))
       else (if nat_lt (length t) 20 then None else with_second t (record p { hour = hour; minute = minute }))
 
 -- what a text of one of the four shapes writes
