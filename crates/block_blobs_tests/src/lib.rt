@@ -6,6 +6,8 @@ mod blob_row_tests;
 #[cfg(test)]
 mod block_list_tests;
 #[cfg(test)]
+mod read_policy_tests;
+#[cfg(test)]
 mod reading_tests;
 #[cfg(test)]
 mod sample_blobs;

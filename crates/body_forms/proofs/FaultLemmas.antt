@@ -13,7 +13,7 @@ use Rattle.body_forms.specs.BlockLists.{Entry}
 use Rattle.body_forms.specs.FrontReading.{body_entries}
 use Rattle.body_forms.specs.Ids.{has_bad_id, if_id, id_of, wanted_of, wanted_list, listed_ids, listed_blocks, block_list_reading}
 use Rattle.body_forms.specs.Outcomes.{FaultOf}
-use Rattle.body_forms.proofs.FrontLemmas.{body_sound, not_a_body}
+use Rattle.body_forms.proofs.BlockListLemmas.{entries_sound, not_a_body}
 
 -- ---- ids
 
@@ -82,7 +82,7 @@ form_fault body h entries is = not_a_body body entries (form_cause (body_entries
 pub id_fault : (body : List ℕ) → block_list_reading body ≡ Err fault.Id → (entries : List Entry) × IsBlockListBody body entries × (list_any has_bad_id entries ≡ true)
 id_fault body h =
     let (es, some, none) = id_cause (body_entries body) (cause (body_entries body) fault.Id h) in
-    (es, body_sound body es some, some_bad_id es none)
+    (es, entries_sound body es some, some_bad_id es none)
 
 pub other_fault : (body : List ℕ) (f : BodyFault) → (f ≡ fault.Form → ⊥) → (f ≡ fault.Id → ⊥) → block_list_reading body ≡ Err f → ⊥
 other_fault body f form id h = other_cause (body_entries body) f form id (cause (body_entries body) f h)

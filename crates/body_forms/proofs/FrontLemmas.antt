@@ -1,5 +1,5 @@
 -- The front of a body, its characters, and the body as a whole.
-use Rattle.std.proofs.Common.{◌≡◌, inl, inr, ℕ, Bool, true, false, not, cond, ◌&&◌, ◌==◌, List, [], ◌∷◌, ◌++◌, take, drop, Some, None, refl, sym, ap, ◌∙◌, subst, arith, append_assoc, eqb-true}
+use Rattle.std.proofs.Common.{◌≡◌, inl, inr, ℕ, Bool, true, false, not, cond, ◌&&◌, ◌==◌, List, [], ◌∷◌, ◌++◌, take, drop, Option, Some, None, refl, sym, ap, ◌∙◌, subst, arith, append_assoc, eqb-true}
 use Rattle.std.specs.Prelude.{codes, bytes_eq, slice_index, option_and_then}
 use Rattle.std.proofs.lemmas.Bool.{and_parts}
 use Rattle.std.proofs.lemmas.Bool.Decides.{nat_tests}
@@ -8,14 +8,13 @@ use Rattle.std.proofs.lemmas.Option.{option_and_then_some, same_Some}
 use Rattle.std.proofs.lemmas.Slice.Eq.{bytes_eq-Decides}
 use Rattle.stamp_values.specs.Ascii.{question_mark}
 use Rattle.body_forms.specs.Markup.{is_white, less_than, greater_than}
-use Rattle.body_forms.specs.Reading.{tag_at, opening_at, name_at}
-use Rattle.body_forms.specs.BlockLists.{Entry}
-use Rattle.body_forms.specs.ElementReading.{elements_of, entries_of}
+use Rattle.body_forms.specs.Reading.{Read, tag_at, opening_at, name_at}
+use Rattle.body_forms.specs.Tokens.{Tag}
+use Rattle.body_forms.specs.ElementReading.{root_of}
 use Rattle.stamp_values.specs.Texts.{is_utf8}
-use Rattle.body_forms.specs.Bodies.{has_clean_parts, byte_order_mark, IsByteOrderMark, has_no_prolog_end, IsProlog, IsBlockListBody}
-use Rattle.body_forms.specs.FrontReading.{after_mark, after_end, prolog_end, after_prolog, body_entries}
+use Rattle.body_forms.specs.Bodies.{has_clean_parts, byte_order_mark, IsByteOrderMark, has_no_prolog_end, IsProlog, IsBody}
+use Rattle.body_forms.specs.FrontReading.{after_mark, after_end, prolog_end, after_prolog, body_of}
 use Rattle.body_forms.proofs.Runs.{if_none}
-use Rattle.body_forms.proofs.Readings.{grammar_read, read_grammar}
 
 -- ---- what is left out at the front is a byte order mark and a prolog
 
@@ -76,13 +75,13 @@ prolog_sound t r e =
       | false ↦ λ _ is. ([], inl refl, same_Some t r is)
     ] refl e
 
--- the entries that are read are those of the grammar
-pub body_sound : (body : List ℕ) (entries : List Entry) → body_entries body ≡ Some entries → IsBlockListBody body entries
-body_sound body entries e =
-    let (good, more) = if_none (is_utf8 body && has_clean_parts body) (option_and_then entries_of (after_prolog (after_mark body))) entries e in
+-- what is read is what the grammar says
+pub body_sound : (A : Type 0) (root : List ℕ → Option A) (IsRootText : A → List ℕ → Type 0) → ((t : List ℕ) (a : A) → root t ≡ Some a → IsRootText a t) → (body : List ℕ) (a : A) → body_of root body ≡ Some a → IsBody (IsRootText a) body
+body_sound A root IsRootText sound body a e =
+    let (good, more) = if_none (is_utf8 body && has_clean_parts body) (option_and_then root (after_prolog (after_mark body))) a e in
     let (utf8, clean) = and_parts (is_utf8 body) (has_clean_parts body) good in
     let (front, is_mark, whole) = mark_sound body in
-    option_and_then_some entries_of (after_prolog (after_mark body)) entries more λ rest found read.
+    option_and_then_some root (after_prolog (after_mark body)) a more λ rest found read.
     let (p, is_prolog, parts) = prolog_sound (after_mark body) rest found in
     record {
       utf8 = utf8;
@@ -92,7 +91,7 @@ body_sound body entries e =
       rest = rest;
       is_mark = is_mark;
       is_prolog = is_prolog;
-      list = read_grammar rest entries read;
+      root = sound rest a read;
       whole = whole ∙ ap (λ l. front ++ l) parts;
     }
 
@@ -132,33 +131,28 @@ mark_read : (front t : List ℕ) → IsByteOrderMark front → bytes_eq (take 3 
 mark_read front t (inl is) other = ap (λ l. after_mark (l ++ t)) is ∙ ap (λ b. cond b (drop 3 t) t) other
 mark_read front t (inr is) other = ap (λ l. after_mark (l ++ t)) is
 
--- no list begins with a prolog or a byte order mark
+-- no root begins with a prolog or a byte order mark
 
-nothing_at_question : (d : List ℕ) → entries_of (less_than ∷ question_mark ∷ d) ≡ None
-unfolding elements_of tag_at opening_at name_at
-nothing_at_question d = refl
+nothing_at_question : (A : Type 0) (one : Tag → List ℕ → Read A) (d : List ℕ) → root_of one (less_than ∷ question_mark ∷ d) ≡ None
+unfolding root_of tag_at opening_at name_at
+nothing_at_question A one d = refl
 
-nothing_at_mark : (d : List ℕ) → entries_of (0xEF ∷ d) ≡ None
-unfolding elements_of tag_at
-nothing_at_mark d = refl
+nothing_at_mark : (A : Type 0) (one : Tag → List ℕ → Read A) (d : List ℕ) → root_of one (0xEF ∷ d) ≡ None
+unfolding root_of tag_at
+nothing_at_mark A one d = refl
 
-no_front : (n : ℕ) (front rest : List ℕ) (entries : List Entry) → ((d : List ℕ) → entries_of (front ++ d) ≡ None) → entries_of rest ≡ Some entries → bytes_eq (take n rest) front ≡ false
-no_front n front rest entries nothing read =
+no_front : (A : Type 0) (one : Tag → List ℕ → Read A) (n : ℕ) (front rest : List ℕ) (a : A) → ((d : List ℕ) → root_of one (front ++ d) ≡ None) → root_of one rest ≡ Some a → bytes_eq (take n rest) front ≡ false
+no_front A one n front rest a nothing read =
     elim (bytes_eq (take n rest) front) as (λ b. bytes_eq (take n rest) front ≡ b → b ≡ false) [
-      | true ↦ λ h. let none = nothing (drop n rest) in let same = ap entries_of (fronted n front rest h) in cc
+      | true ↦ λ h. let none = nothing (drop n rest) in let same = ap (root_of one) (fronted n front rest h) in cc
       | false ↦ λ _. refl
     ] refl
 
-pub body_read : (body : List ℕ) (entries : List Entry) → IsBlockListBody body entries → body_entries body ≡ Some entries
-body_read body entries b =
-    let read = grammar_read b.rest entries b.list in
-    let no_prolog = no_front 5 (codes "<?xml") b.rest entries (λ d. nothing_at_question (codes "xml" ++ d)) read in
-    let unmarked = no_front 3 byte_order_mark b.rest entries (λ d. nothing_at_mark (0xBB ∷ 0xBF ∷ d)) read in
+-- what the grammar says is read
+pub body_read : (A : Type 0) (one : Tag → List ℕ → Read A) (IsRootText : A → List ℕ → Type 0) → ((t : List ℕ) (a : A) → IsRootText a t → root_of one t ≡ Some a) → (body : List ℕ) (a : A) → IsBody (IsRootText a) body → body_of (root_of one) body ≡ Some a
+body_read A one IsRootText complete body a b =
+    let read = complete b.rest a b.root in
+    let no_prolog = no_front A one 5 (codes "<?xml") b.rest a (λ d. nothing_at_question A one (codes "xml" ++ d)) read in
+    let unmarked = no_front A one 3 byte_order_mark b.rest a (λ d. nothing_at_mark A one (0xBB ∷ 0xBF ∷ d)) read in
     let passed : after_mark body ≡ b.prolog ++ b.rest = ap after_mark b.whole ∙ mark_read b.mark (b.prolog ++ b.rest) b.is_mark (no_mark b.prolog b.rest b.is_prolog unmarked) in
     rw (b.utf8, b.clean, passed, prolog_read b.prolog b.rest b.is_prolog no_prolog) read
-
-pub one_body : (body : List ℕ) (one other : List Entry) → IsBlockListBody body one → IsBlockListBody body other → one ≡ other
-one_body body one other is too = same_Some one other (sym (body_read body one is) ∙ body_read body other too)
-
-pub not_a_body : (body : List ℕ) (entries : List Entry) → body_entries body ≡ None → IsBlockListBody body entries → ⊥
-not_a_body body entries none is = let read = body_read body entries is in cc

@@ -10,8 +10,8 @@ use Rattle.stamp_values.specs.Ascii.{ampersand, quote}
 use Rattle.base64_text.specs.Base64.{IsBytes}
 use Rattle.base64_text.proofs.AlphabetLemmas.{decoded_of-other}
 use Rattle.body_forms.specs.Markup.{less_than, greater_than, apostrophe, is_white}
-use Rattle.body_forms.specs.BlockLists.{unindented, trimmed}
-use Rattle.body_forms.specs.ElementReading.{unescaped, reference_value, reference_len}
+use Rattle.body_forms.specs.Elements.{unindented, trimmed}
+use Rattle.body_forms.specs.ElementReading.{unescaped, value_of, reference_value, reference_len}
 use Rattle.body_forms.specs.Ids.{if_id, id_of}
 
 neither : (a b : Bool) → (a || b) ≡ false → (a ≡ false) × (b ≡ false)
@@ -138,10 +138,15 @@ trimmed_bytes : (s : List ℕ) → list_all is_byte s ≡ true → list_all is_b
 trimmed_bytes s h = reverse_bytes (unindented (reverse (unindented s))) (unindented_bytes (reverse (unindented s)) (reverse_bytes (unindented s) (unindented_bytes s h)))
 
 -- a text with a reference is not the text of an id
-pub reference_no_id : (s : List ℕ) → IsBytes s → list_any (λ c. c == ampersand) s ≡ true → id_of (trimmed (unescaped 0 s)) ≡ None
-unfolding id_of
+pub reference_no_id : (s : List ℕ) → IsBytes s → list_any (λ c. c == ampersand) s ≡ true → id_of (value_of s) ≡ None
+unfolding id_of value_of
 reference_no_id s below h =
     let text = trimmed (unescaped 0 s) in
     let bytes = are_bytes text (trimmed_bytes (unescaped 0 s) (unescaped_bytes 0 s (all_bytes s below))) in
     let some = trimmed_referred (unescaped 0 s) ∙ some_referred s h in
     ap (λ o. option_and_then if_id o) (decoded_of-other is_referred text refl refl refl bytes some)
+
+-- a text without references is its own value, without the white space at its ends
+pub plain_value_of : (s : List ℕ) → list_any (λ c. c == ampersand) s ≡ false → value_of s ≡ trimmed s
+unfolding value_of
+plain_value_of s h = ap trimmed (plain_value s h)

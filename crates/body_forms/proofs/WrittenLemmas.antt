@@ -2,7 +2,8 @@
 use Rattle.std.proofs.Common.{◌≡◌, ℕ, List, ◌++◌, append_assoc, refl, ap, ◌∙◌}
 use Rattle.stamp_values.specs.declared.policy.Policy.{Policy}
 use Rattle.body_forms.specs.WrittenLists.{closing_text, opening_text}
-use Rattle.body_forms.specs.WrittenPolicies.{identified_text, policy_name, policy_text}
+use Rattle.body_forms.specs.Policies.{policy_name}
+use Rattle.body_forms.specs.WrittenPolicies.{identified_text, policy_text}
 
 -- three parts that are written after what is there
 three_joined : (out a b c one two three : List ℕ) → one ≡ out ++ a → two ≡ one ++ b → three ≡ two ++ c → three ≡ out ++ (a ++ b ++ c)

@@ -33,8 +33,8 @@ IsProlog s =
     × (is_white white ≡ true) × (has_no_prolog_end (content ++ question_mark ∷ []) ≡ true)
     × (s ≡ codes "<?xml" ++ (white ∷ (content ++ codes "?>"))))
 
--- the body is a block list of these entries
-pub record IsBlockListBody (body : List ℕ) (entries : List Entry) : Type 0 where
+-- the body has this root after a byte order mark and a prolog, if it has them
+pub record IsBody (IsRootText : List ℕ → Type 0) (body : List ℕ) : Type 0 where
   pub utf8 : is_utf8 body ≡ true
   pub clean : has_clean_parts body ≡ true
   pub mark : List ℕ
@@ -42,5 +42,9 @@ pub record IsBlockListBody (body : List ℕ) (entries : List Entry) : Type 0 whe
   pub rest : List ℕ
   pub is_mark : IsByteOrderMark mark
   pub is_prolog : IsProlog prolog
-  pub list : IsBlockListText rest entries
+  pub root : IsRootText rest
   pub whole : body ≡ mark ++ (prolog ++ rest)
+
+-- the body is a block list of these entries
+abbrev pub IsBlockListBody : List ℕ → List Entry → Type 0
+IsBlockListBody body entries = IsBody (λ rest. IsBlockListText rest entries) body

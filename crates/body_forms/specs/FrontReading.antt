@@ -1,4 +1,4 @@
--- The reading of a body as a function: what comes before the root, and then the list.
+-- The reading of a body as a function: what comes before the root, and then the root.
 use Rattle.std.specs.Prelude.{ℕ, ◌&&◌, ◌==◌, if◌then◌else◌, List, [], ◌∷◌, take, drop, slice_index, codes, bytes_eq, Option, Some, None, option_and_then}
 use Rattle.stamp_values.specs.Ascii.{question_mark}
 use Rattle.stamp_values.specs.Texts.{is_utf8}
@@ -28,7 +28,11 @@ prolog_end (c ∷ cs) =
 abbrev pub after_prolog : List ℕ → Option (List ℕ)
 after_prolog t = if bytes_eq (take 5 t) (codes "<?xml") then prolog_end (drop 5 t) else Some t
 
+-- what a body says by this reading of its root
+abbrev pub body_of : {A : Type 0} → (List ℕ → Option A) → List ℕ → Option A
+body_of root body =
+    if is_utf8 body && has_clean_parts body then option_and_then root (after_prolog (after_mark body)) else None
+
 -- the entries of the block list that the body is
 abbrev pub body_entries : List ℕ → Option (List Entry)
-body_entries body =
-    if is_utf8 body && has_clean_parts body then option_and_then entries_of (after_prolog (after_mark body)) else None
+body_entries body = body_of entries_of body

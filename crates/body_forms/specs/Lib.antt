@@ -1,11 +1,15 @@
 pub mod BlockLists
 pub mod Bodies
 pub mod ElementReading
+pub mod Elements
 pub mod Escapes
 pub mod FrontReading
 pub mod Ids
 pub mod Markup
 pub mod Outcomes
+pub mod Policies
+pub mod PolicyReading
+pub mod PolicyValues
 pub mod Reading
 pub mod Texts
 pub mod Tokens

@@ -6,19 +6,8 @@ use Rattle.stamp_values.specs.declared.policy.Policy.{Policy}
 use Rattle.moment_text.specs.Civil.{time_at}
 use Rattle.moment_text.specs.Iso.{to_fraction, iso_text}
 use Rattle.body_forms.specs.Escapes.{escaped}
+use Rattle.body_forms.specs.Policies.{policies_name, policy_name, access_name}
 use Rattle.body_forms.specs.WrittenLists.{opening_text, closing_text, prolog_text}
-
--- the name of the root
-abbrev pub policies_name : List ℕ
-policies_name = codes "SignedIdentifiers"
-
--- the name of a policy's element
-abbrev pub policy_name : List ℕ
-policy_name = codes "SignedIdentifier"
-
--- the name of the element that has a policy's start, expiry and permissions
-abbrev pub access_name : List ℕ
-access_name = codes "AccessPolicy"
 
 -- a moment in UTC with seven decimals of the second
 abbrev pub moment_text : ℕ → List ℕ

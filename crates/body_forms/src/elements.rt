@@ -1,11 +1,13 @@
 //! The elements of a block list, each with its text as it is written.
 ghost use Rattle.std.specs.Prelude.{◌≡◌, ◌≤◌, ◌<◌, ℕ, length, map, Some, None, IfSome, option_map, MatchResult};
 ghost use Rattle.body_forms.specs.Reading as tags;
-ghost use Rattle.body_forms.specs.Outcomes.{OnForm};
+ghost use Rattle.body_forms.specs.BlockLists.{list_name};
+ghost use Rattle.body_forms.specs.Outcomes.{Finds, OnForm};
 ghost use Rattle.body_forms.specs.ElementReading.{entry_view};
 ghost use Rattle.body_forms.specs.ElementReading as reading;
 
 use crate::body_fault::BodyFault;
+use crate::content::{content, is_tag};
 use crate::tokens::{Kind, Tag, Tokens};
 use stamp_values::Lookup;
 use std::alloc::Global;
@@ -35,63 +37,23 @@ fn lookup_of(name: &[u8]) -> Option<Lookup>
     }
 }
 
-fn is_tag(kind: Kind, name: &[u8], tag: Tag<'_>) -> bool
-    ensures { result ≡ reading.is_tag kind name.now (tags.tag_of tag.entry) }
-{
-    tag.kind == kind && tag.name == name
-}
-
-// Takes the closing tag of this name.
-#[tactic(auto, unfolding(crate::specs::ElementReading::closed_at))]
-fn close(text: &mut Tokens<'_>, name: &[u8]) -> Option<()>
-    ensures value { tags.Gives tags.taken result text.new.left.now
-        (reading.closed_at name.now text.old.left.now) }
-    ensures within { IfSome result (λ _. length text.new.left.now ≤ length text.old.left.now) }
-{
-    let tag = text.tag()?;
-    if is_tag(Kind::Closing, name, tag) {
-        Some(())
-    } else {
-        None
-    }
-}
-
-// Takes the rest of an element after its first tag.
-fn content<'a>(text: &mut Tokens<'a>, tag: Tag<'a>, lookup: Lookup) -> Option<Element<'a>>
-    ensures value { tags.Gives reading.element_view result text.new.left.now
-        (reading.content_at tag.entry.kind lookup tag.entry.name.now text.old.left.now) }
-    ensures within { IfSome result (λ _. length text.new.left.now ≤ length text.old.left.now) }
-{
-    match tag.kind {
-        Kind::Opening => {
-            let written = text.text()?;
-            close(text, tag.name)?;
-            Some(Element { lookup, written })
-        }
-        Kind::Empty => Some(Element {
-            lookup,
-            written: &[],
-        }),
-        Kind::Closing => None,
-    }
-}
-
 // Takes the rest of the element that begins with this tag.
-#[tactic(auto, unfolding(crate::specs::ElementReading::element_at))]
+#[tactic(auto, unfolding(crate::specs::ElementReading::entry_at))]
 fn element_from<'a>(text: &mut Tokens<'a>, tag: Tag<'a>) -> Option<Element<'a>>
-    ensures value { tags.Gives reading.element_view result text.new.left.now
-        (reading.element_at (tags.tag_of tag.entry) text.old.left.now) }
+    ensures value { tags.Gives entry_view result text.new.left.now
+        (reading.entry_at (tags.tag_of tag.entry) text.old.left.now) }
     ensures within { IfSome result (λ _. length text.new.left.now ≤ length text.old.left.now) }
 {
     let lookup = lookup_of(tag.name)?;
-    content(text, tag, lookup)
+    let written = content(text, tag)?;
+    Some(Element { lookup, written })
 }
 
 // Takes one element, or the end of the list.
-#[tactic(auto, unfolding(crate::specs::ElementReading::next_element_at))]
+#[tactic(auto, unfolding(crate::specs::ElementReading::next_at))]
 fn next_element<'a>(text: &mut Tokens<'a>) -> Option<Option<Element<'a>>>
-    ensures value { tags.Gives (λ e. option_map reading.element_view e) result text.new.left.now
-        (reading.next_element_at text.old.left.now) }
+    ensures value { tags.Gives (λ e. option_map entry_view e) result text.new.left.now
+        (reading.next_at list_name reading.entry_at text.old.left.now) }
     ensures shorter { IfSome result (λ _. length text.new.left.now < length text.old.left.now) }
 {
     text.skip_white();
@@ -106,9 +68,9 @@ fn next_element<'a>(text: &mut Tokens<'a>) -> Option<Option<Element<'a>>>
 // Takes the elements up to the end of the list.
 fn elements<'a>(alloc: Global, text: &mut Tokens<'a>) -> Result<Vec<Element<'a>>, BodyFault>
     ensures value { (n : ℕ) → length text.old.left.now < n → MatchResult result
-        (λ es. reading.elements_at n text.old.left.now
-        ≡ Some (map reading.element_view es.items, text.new.left.now))
-        (OnForm (reading.elements_at n text.old.left.now ≡ None)) }
+        (λ es. reading.elements_at list_name reading.entry_at n text.old.left.now
+        ≡ Some (map entry_view es.items, text.new.left.now))
+        (OnForm (reading.elements_at list_name reading.entry_at n text.old.left.now ≡ None)) }
 {
     let mut elements = Vec::new(alloc);
     'elements: loop {
@@ -125,15 +87,14 @@ fn elements<'a>(alloc: Global, text: &mut Tokens<'a>) -> Result<Vec<Element<'a>>
 }
 
 // Takes the rest of a root after its first tag.
+#[tactic(auto, unfolding(crate::specs::ElementReading::inner_at))]
 fn root<'a>(
     alloc: Global,
     text: &mut Tokens<'a>,
     tag: Tag<'a>,
 ) -> Result<Vec<Element<'a>>, BodyFault>
-    ensures value { MatchResult result
-        (λ es. reading.root_at (tags.tag_of tag.entry) text.old.left.now
-        ≡ Some (map reading.element_view es.items, text.new.left.now))
-        (OnForm (reading.root_at (tags.tag_of tag.entry) text.old.left.now ≡ None)) }
+    ensures value { Finds (λ es. map entry_view es.items) result text.new.left.now
+        (reading.inner_at list_name reading.entry_at (tags.tag_of tag.entry) text.old.left.now) }
 {
     if is_tag(Kind::Opening, LIST_NAME, tag) {
         elements(alloc, text)
@@ -144,33 +105,25 @@ fn root<'a>(
     }
 }
 
-#[tactic(auto, unfolding(crate::specs::ElementReading::elements_of))]
-fn elements_of(alloc: Global, body: &[u8]) -> Result<Vec<Element<'_>>, BodyFault>
-    ensures value { MatchResult result
-        (λ es. reading.elements_of body.now ≡ Some (map reading.element_view es.items))
-        (OnForm (reading.elements_of body.now ≡ None)) }
-{
-    let mut text = Tokens { left: body };
-    text.skip_white();
-    let Some(tag) = text.tag() else {
-        return Err(BodyFault::Form);
-    };
-    let elements = root(alloc, &mut text, tag)?;
-    text.skip_white();
-    if text.left.is_empty() {
-        Ok(elements)
-    } else {
-        Err(BodyFault::Form)
-    }
-}
-
 /// The elements of a text that is a block list without a byte order mark and a prolog, in their order.
 ///
 /// `Form` if the text is not a block list, and `NoMemory` if memory runs out.
+#[tactic(auto, unfolding(crate::specs::ElementReading::root_of))]
 pub(crate) fn read_elements(alloc: Global, text: &[u8]) -> Result<Vec<Element<'_>>, BodyFault>
     ensures { MatchResult result
         (λ es. reading.entries_of text.now ≡ Some (map entry_view es.items))
         (OnForm (reading.entries_of text.now ≡ None)) }
 {
-    elements_of(alloc, text)
+    let mut left = Tokens { left: text };
+    left.skip_white();
+    let Some(tag) = left.tag() else {
+        return Err(BodyFault::Form);
+    };
+    let elements = root(alloc, &mut left, tag)?;
+    left.skip_white();
+    if left.left.is_empty() {
+        Ok(elements)
+    } else {
+        Err(BodyFault::Form)
+    }
 }

@@ -1,54 +1,19 @@
 //! The ids of a block list.
-ghost use Rattle.std.specs.Prelude.{◌≡◌, ◌==◌, map, reverse, None, Some, IfOk, IfSome, MatchOption, MatchResult};
+ghost use Rattle.std.specs.Prelude.{◌≡◌, ◌==◌, map, None, Some, IfOk, IfSome, MatchOption, MatchResult};
 ghost use Rattle.std.specs.List.{list_any};
 ghost use Rattle.stamp_values.specs.Ascii.{ampersand};
 ghost use Rattle.base64_text.specs.Base64.{standard, encode_of};
-ghost use Rattle.body_forms.specs.BlockLists.{unindented};
-ghost use Rattle.body_forms.specs.BlockLists as lists;
-ghost use Rattle.body_forms.specs.ElementReading.{unescaped, entry_view};
+ghost use Rattle.body_forms.specs.ElementReading.{value_of, entry_view};
 ghost use Rattle.body_forms.specs.Ids.{wanted_entry, wanted_list};
 ghost use Rattle.body_forms.specs.Ids as ids;
 ghost use Rattle.body_forms.specs.Outcomes.{OnId};
 
 use crate::body_fault::BodyFault;
-use crate::bytes::is_white;
 use crate::elements::Element;
+use crate::trimming::trimmed;
 use base64_text::decoded_base64;
 use stamp_values::{BlockId, Bytes, Wanted};
 use std::alloc::{AllocError, Global};
-
-fn without_front(text: &[u8]) -> &[u8]
-    ensures { result.now ≡ unindented text.now }
-{
-    let mut left = text;
-    while let [first, rest @ ..] = left {
-        if !is_white(*first) {
-            return left;
-        }
-        left = rest;
-    }
-    left
-}
-
-fn without_end(text: &[u8]) -> &[u8]
-    ensures { result.now ≡ reverse (unindented (reverse text.now)) }
-{
-    let mut left = text;
-    while let [rest @ .., last] = left {
-        if !is_white(*last) {
-            return left;
-        }
-        left = rest;
-    }
-    left
-}
-
-// The text without the white space at both ends.
-fn trimmed(text: &[u8]) -> &[u8]
-    ensures { result.now ≡ lists.trimmed text.now }
-{
-    without_end(without_front(text))
-}
 
 fn has_reference(written: &[u8]) -> bool
     ensures { result ≡ list_any (λ c. c == ampersand) written.now }
@@ -72,10 +37,10 @@ fn decoded_id(alloc: Global, text: &[u8]) -> Result<Option<BlockId>, AllocError>
 // The id of a text that is written so. A text with a reference is not copied: its value has a byte that Base64 does not have.
 fn id(alloc: Global, written: &[u8]) -> Result<Option<BlockId>, AllocError>
     ensures value { IfOk result (λ o. MatchOption o
-        (ids.id_of (lists.trimmed (unescaped 0 written.now)) ≡ None)
-        (λ id. ids.id_of (lists.trimmed (unescaped 0 written.now)) ≡ Some id)) }
+        (ids.id_of (value_of written.now) ≡ None)
+        (λ id. ids.id_of (value_of written.now) ≡ Some id)) }
     ensures read { IfOk result (λ o. IfSome o
-        (λ id. lists.trimmed (unescaped 0 written.now) ≡ encode_of standard id)) }
+        (λ id. value_of written.now ≡ encode_of standard id)) }
 {
     if has_reference(written) {
         return Ok(None);

@@ -1,7 +1,6 @@
-use Rattle.std.proofs.Common.{◌≡◌, sym, ap, ◌∙◌, arith}
-use Rattle.body_forms.specs.BlockLists.{trimmed}
-use Rattle.body_forms.specs.ElementReading.{unescaped}
-use Rattle.body_forms.proofs.IdLemmas.{plain_value, reference_no_id}
+use Rattle.std.proofs.Common.{◌≡◌, sym, ◌∙◌, arith}
+use Rattle.body_forms.specs.ElementReading.{value_of}
+use Rattle.body_forms.proofs.IdLemmas.{plain_value_of, reference_no_id}
 use Rattle.body_forms.proofs.ids.id.Goals as goal
 
 pub returns-then-has_reference-clause-value : goal.returns-then-has_reference-clause-value
@@ -10,12 +9,12 @@ returns-then-has_reference-clause-value c =
 
 pub returns-clause-value : goal.returns-clause-value
 returns-clause-value c =
-    let same : trimmed (unescaped 0 c.args.written.now) ≡ c.trimmed.result.now =
-    ap trimmed (plain_value c.args.written.now (sym c.has_reference.ensures ∙ c.if-has_reference.false)) ∙ sym c.trimmed.ensures in
+    let same : value_of c.args.written.now ≡ c.trimmed.result.now =
+    plain_value_of c.args.written.now (sym c.has_reference.ensures ∙ c.if-has_reference.false) ∙ sym c.trimmed.ensures in
     rw same c.decoded_id.ensures.value
 
 pub returns-clause-read : goal.returns-clause-read
 returns-clause-read c =
-    let same : trimmed (unescaped 0 c.args.written.now) ≡ c.trimmed.result.now =
-    ap trimmed (plain_value c.args.written.now (sym c.has_reference.ensures ∙ c.if-has_reference.false)) ∙ sym c.trimmed.ensures in
+    let same : value_of c.args.written.now ≡ c.trimmed.result.now =
+    plain_value_of c.args.written.now (sym c.has_reference.ensures ∙ c.if-has_reference.false) ∙ sym c.trimmed.ensures in
     rw same c.decoded_id.ensures.read

@@ -1,0 +1,109 @@
+-- What the texts of stored policies say, and which texts are bad (Blob service REST reference, 2012-02-12, Set Container ACL).
+use Rattle.std.specs.Prelude.{◌≡◌, ◌≢◌, ◌⊎◌, ℕ, Bool, not, ◌&&◌, ◌||◌, ◌==◌, if◌then◌else◌, nat_lt, List, [], ◌∷◌, length, map, bytes_eq, Option, Some, None, is_none, Result, Ok, Err}
+use Rattle.std.specs.List.{list_any}
+use Rattle.stamp_values.specs.declared.policy.Policy.{Policy}
+use Rattle.stamp_values.specs.Ascii.{lower_r, lower_w, lower_d, lower_l}
+use Rattle.stamp_values.specs.Letters.{Permissions, has_permission, letters_text}
+use Rattle.stamp_values.specs.Limits.{policies_limit}
+use Rattle.stamp_values.specs.Names.{is_policy_id}
+use Rattle.stamp_values.specs.Policies.{has_distinct_ids}
+use Rattle.stamp_values.specs.Texts.{is_utf8}
+use Rattle.moment_text.specs.declared.fault.TimeFault.{TimeFault}
+use Rattle.moment_text.specs.IsoReader.{iso_moment}
+use Rattle.body_forms.specs.declared.body_fault.BodyFault.{BodyFault}
+use Rattle.body_forms.specs.declared.body_fault.BodyFault.TheVariants as fault
+use Rattle.body_forms.specs.declared.policies.Values as code
+use Rattle.body_forms.specs.Policies.{is_nil, Sent, ArePoliciesBody}
+use Rattle.body_forms.specs.PolicyReading.{body_policies}
+
+-- the texts of the code, as a policy that was sent
+abbrev pub values_view : code.Values → Sent
+values_view v =
+    record { id_text = v.id.items; given = record { start = v.start.items; expiry = v.expiry.items; permission = v.permission.items } }
+
+-- the text is a good id of a policy
+unfoldable pub is_good_id : List ℕ → Bool
+is_good_id t = is_utf8 t && is_policy_id t
+
+-- the moment, if there is one
+abbrev pub moment_read : Result ℕ TimeFault → Option ℕ
+moment_read (Ok moment) = Some moment
+moment_read (Err e) = None
+
+-- the moment that a text names
+unfoldable pub moment_of : List ℕ → Option ℕ
+moment_of t = moment_read (iso_moment t)
+
+-- the permissions whose letters are in the text
+abbrev pub permissions_in : List ℕ → Permissions
+permissions_in t =
+    record { read = list_any (λ c. c == lower_r) t; write = list_any (λ c. c == lower_w) t; delete = list_any (λ c. c == lower_d) t; list = list_any (λ c. c == lower_l) t }
+
+-- the permissions that the text gives: there is a permission, and the text is the letters of the permissions in their order
+unfoldable pub letters_of : List ℕ → Option Permissions
+letters_of t =
+    if has_permission (permissions_in t) && bytes_eq (letters_text (permissions_in t)) t then Some (permissions_in t) else None
+
+-- the text is given, and names no moment
+unfoldable pub is_bad_time : List ℕ → Bool
+is_bad_time t = not (is_nil t) && is_none (moment_of t)
+
+-- the text is given, and is not letters of permissions in their order
+unfoldable pub are_bad_letters : List ℕ → Bool
+are_bad_letters t = not (is_nil t) && is_none (letters_of t)
+
+-- the policy that the texts say; what is empty is absent
+unfoldable pub policy_of : Sent → Policy
+policy_of s =
+    record { id = s.id_text; start = moment_of s.given.start; expiry = moment_of s.given.expiry; letters = letters_of s.given.permission }
+
+-- the id is bad
+unfoldable pub has_bad_id : Sent → Bool
+has_bad_id s = not (is_good_id s.id_text)
+
+-- the permissions are bad
+unfoldable pub has_bad_letters : Sent → Bool
+has_bad_letters s = are_bad_letters s.given.permission
+
+-- a time is bad
+unfoldable pub has_bad_time : Sent → Bool
+has_bad_time s = is_bad_time s.given.start || is_bad_time s.given.expiry
+
+-- an id is bad, or two ids are equal
+abbrev pub have_bad_ids : List Sent → Bool
+have_bad_ids ss = list_any has_bad_id ss || not (has_distinct_ids (map policy_of ss))
+
+-- there are more policies than a container may have
+abbrev pub are_too_many : List Sent → Bool
+are_too_many ss = nat_lt policies_limit (length ss)
+
+-- the policies that were sent, or the first fault of them: too many, then the ids, the permissions and the times
+unfoldable pub judged : List Sent → Result (List Policy) BodyFault
+judged ss =
+    if are_too_many ss then Err fault.TooMany
+    else if have_bad_ids ss then Err fault.Id
+    else if list_any has_bad_letters ss then Err fault.Letters
+    else if list_any has_bad_time ss then Err fault.Time
+    else Ok (map policy_of ss)
+
+-- the same of what was read, if it has its form
+abbrev pub judged_form : Option (List Sent) → Result (List Policy) BodyFault
+judged_form None = Err fault.Form
+judged_form (Some ss) = judged ss
+
+-- what a body says as stored policies: the policies, or the fault of the body; a body of no bytes is no policies
+abbrev pub policies_reading : List ℕ → Result (List Policy) BodyFault
+policies_reading [] = Ok []
+policies_reading (b ∷ bs) = judged_form (body_policies (b ∷ bs))
+
+-- ---- what the answers of a reader say
+
+-- the body says these policies: it is a list of policies whose texts say them, or it has no bytes and there are no policies
+abbrev pub SaysPolicies : List ℕ → List Policy → Type 0
+SaysPolicies body ps = ((body ≡ []) × (ps ≡ [])) ⊎ ((sent : List Sent) × ArePoliciesBody body sent × (judged sent ≡ Ok ps))
+
+-- the body has the fault: it is not a list of policies, or it is a list of policies that has the fault; any body is read if memory is left
+abbrev pub SaysFault : List ℕ → BodyFault → Type 0
+SaysFault body fault.Form = (body ≢ []) × ((sent : List Sent) → ArePoliciesBody body sent → ⊥)
+SaysFault body fault.NoMemory = Unit {0}
+SaysFault body other = (sent : List Sent) × ArePoliciesBody body sent × (judged sent ≡ Err other)

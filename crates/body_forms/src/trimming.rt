@@ -1,0 +1,39 @@
+//! Texts without the white space at their ends.
+ghost use Rattle.std.specs.Prelude.{◌≡◌, reverse};
+ghost use Rattle.body_forms.specs.Elements.{unindented};
+ghost use Rattle.body_forms.specs.Elements as elements;
+
+use crate::bytes::is_white;
+
+fn without_front(text: &[u8]) -> &[u8]
+    ensures { result.now ≡ unindented text.now }
+{
+    let mut left = text;
+    while let [first, rest @ ..] = left {
+        if !is_white(*first) {
+            return left;
+        }
+        left = rest;
+    }
+    left
+}
+
+fn without_end(text: &[u8]) -> &[u8]
+    ensures { result.now ≡ reverse (unindented (reverse text.now)) }
+{
+    let mut left = text;
+    while let [rest @ .., last] = left {
+        if !is_white(*last) {
+            return left;
+        }
+        left = rest;
+    }
+    left
+}
+
+/// The text without the white space at both ends.
+pub(crate) fn trimmed(text: &[u8]) -> &[u8]
+    ensures { result.now ≡ elements.trimmed text.now }
+{
+    without_end(without_front(text))
+}
