@@ -10,7 +10,7 @@ use Rattle.stamp_values.specs.Ascii.{slash}
 use Rattle.body_forms.specs.Markup.{is_white, is_white_space, less_than, greater_than}
 use Rattle.body_forms.specs.Tokens.{Tag, IsTag, IsTagOf, is_text}
 use Rattle.body_forms.specs.Texts.{Token, text, AreTokens, IsText}
-use Rattle.body_forms.specs.Elements.{opening, empty, closing, trimmed, IsTextElement, AreElements, IsElementOf, IsRoot}
+use Rattle.body_forms.specs.Elements.{opening, empty, closing, without_white_ends, IsTextElement, AreElements, IsElementOf, IsRoot}
 use Rattle.body_forms.specs.Reading.{Read, after_white, tag_at, text_at}
 use Rattle.body_forms.specs.ElementReading.{unescaped, value_of, is_kind, closed_at, content_at, next_at, elements_at, inner_at, made_at, root_of}
 use Rattle.body_forms.proofs.Runs.{Stops}
@@ -68,15 +68,15 @@ ContentIs name v s r =
 full_content : (name x k r : List ℕ) → is_text x ≡ true → IsTag (record { kind = Closing; name = name }) k → content_at Opening name (x ++ (k ++ r)) ≡ Some (value_of x, r)
 full_content name x k r good last = rw (text_before_tag (record { kind = Closing; name = name }) x k r good last, closed_read name k r last) refl
 
-value_is : (t x : List ℕ) → IsText t x → value_of x ≡ trimmed t
+value_is : (t x : List ℕ) → IsText t x → value_of x ≡ without_white_ends t
 unfolding value_of
-value_is t x is = ap trimmed (text_value t x is)
+value_is t x is = ap without_white_ends (text_value t x is)
 
 no_value : value_of [] ≡ []
 unfolding value_of unescaped
 no_value = refl
 
-text_content : (name v t s r : List ℕ) → v ≡ trimmed t → AreTokens (opening name ∷ text t ∷ closing name ∷ []) s → ContentIs name v s r
+text_content : (name v t s r : List ℕ) → v ≡ without_white_ends t → AreTokens (opening name ∷ text t ∷ closing name ∷ []) s → ContentIs name v s r
 text_content name v t s r value (o, b₁, first, (x, b₂, is, (k, b₃, last, none, w₃), w₂), w₁) =
     let tail : b₂ ≡ k = w₃ ∙ ap (λ l. k ++ l) none ∙ append-nil k in
     let shape : b₁ ++ r ≡ x ++ (k ++ r) = ap (λ l. l ++ r) (w₂ ∙ ap (λ l. x ++ l) tail) ∙ append_assoc x k r in

@@ -10,7 +10,7 @@ use Rattle.stamp_values.specs.Ascii.{ampersand, quote}
 use Rattle.base64_text.specs.Base64.{IsBytes}
 use Rattle.base64_text.proofs.AlphabetLemmas.{decoded_of-other}
 use Rattle.body_forms.specs.Markup.{less_than, greater_than, apostrophe, is_white}
-use Rattle.body_forms.specs.Elements.{unindented, trimmed}
+use Rattle.body_forms.specs.Elements.{without_white_front, without_white_ends}
 use Rattle.body_forms.specs.ElementReading.{unescaped, value_of, reference_value, reference_len}
 use Rattle.body_forms.specs.Ids.{if_id, id_of}
 
@@ -58,10 +58,10 @@ some_referred (c ∷ cs) h =
 white_not_referred : (c : ℕ) → is_white c ≡ true → is_referred c ≡ false
 white_not_referred c h = grind (arith, nat_tests)
 
-unindented_referred : (s : List ℕ) → list_any is_referred (unindented s) ≡ list_any is_referred s
+unindented_referred : (s : List ℕ) → list_any is_referred (without_white_front s) ≡ list_any is_referred s
 unindented_referred [] = refl
 unindented_referred (c ∷ cs) =
-    elim (is_white c) as (λ b. is_white c ≡ b → list_any is_referred (cond b (unindented cs) (c ∷ cs)) ≡ (is_referred c || list_any is_referred cs)) [
+    elim (is_white c) as (λ b. is_white c ≡ b → list_any is_referred (cond b (without_white_front cs) (c ∷ cs)) ≡ (is_referred c || list_any is_referred cs)) [
       | true ↦ λ h. unindented_referred cs ∙ ap (λ b. b || list_any is_referred cs) (sym (white_not_referred c h))
       | false ↦ λ _. refl
     ] refl
@@ -76,9 +76,9 @@ list_any-reverse : (p : ℕ → Bool) (s : List ℕ) → list_any p (reverse s) 
 list_any-reverse p [] = refl
 list_any-reverse p (c ∷ cs) = ap (list_any p) (reverse-append (c ∷ []) cs) ∙ list_any-append p (reverse cs) (c ∷ []) ∙ swapped (list_any p (reverse cs)) (p c) (list_any p cs) (list_any-reverse p cs)
 
-trimmed_referred : (s : List ℕ) → list_any is_referred (trimmed s) ≡ list_any is_referred s
+trimmed_referred : (s : List ℕ) → list_any is_referred (without_white_ends s) ≡ list_any is_referred s
 trimmed_referred s =
-    list_any-reverse is_referred (unindented (reverse (unindented s))) ∙ unindented_referred (reverse (unindented s)) ∙ list_any-reverse is_referred (unindented s) ∙ unindented_referred s
+    list_any-reverse is_referred (without_white_front (reverse (without_white_front s))) ∙ unindented_referred (reverse (without_white_front s)) ∙ list_any-reverse is_referred (without_white_front s) ∙ unindented_referred s
 
 -- ---- each number of the text is a byte
 
@@ -117,10 +117,10 @@ unescaped_bytes zero (c ∷ cs) h =
       | false ↦ rw one (unescaped_bytes 0 cs more)
     ]
 
-unindented_bytes : (s : List ℕ) → list_all is_byte s ≡ true → list_all is_byte (unindented s) ≡ true
+unindented_bytes : (s : List ℕ) → list_all is_byte s ≡ true → list_all is_byte (without_white_front s) ≡ true
 unindented_bytes [] h = refl
 unindented_bytes (c ∷ cs) h =
-    elim (is_white c) as (λ b. list_all is_byte (cond b (unindented cs) (c ∷ cs)) ≡ true) [
+    elim (is_white c) as (λ b. list_all is_byte (cond b (without_white_front cs) (c ∷ cs)) ≡ true) [
       | true ↦ unindented_bytes cs (and_parts (is_byte c) (list_all is_byte cs) h).1
       | false ↦ h
     ]
@@ -134,19 +134,19 @@ reverse_bytes (c ∷ cs) h =
     let (one, more) = and_parts (is_byte c) (list_all is_byte cs) h in
     ap (list_all is_byte) (reverse-append (c ∷ []) cs) ∙ list_all-append is_byte (reverse cs) (c ∷ []) ∙ and_last (list_all is_byte (reverse cs)) (is_byte c) (reverse_bytes cs more) one
 
-trimmed_bytes : (s : List ℕ) → list_all is_byte s ≡ true → list_all is_byte (trimmed s) ≡ true
-trimmed_bytes s h = reverse_bytes (unindented (reverse (unindented s))) (unindented_bytes (reverse (unindented s)) (reverse_bytes (unindented s) (unindented_bytes s h)))
+trimmed_bytes : (s : List ℕ) → list_all is_byte s ≡ true → list_all is_byte (without_white_ends s) ≡ true
+trimmed_bytes s h = reverse_bytes (without_white_front (reverse (without_white_front s))) (unindented_bytes (reverse (without_white_front s)) (reverse_bytes (without_white_front s) (unindented_bytes s h)))
 
 -- a text with a reference is not the text of an id
 pub reference_no_id : (s : List ℕ) → IsBytes s → list_any (λ c. c == ampersand) s ≡ true → id_of (value_of s) ≡ None
 unfolding id_of value_of
 reference_no_id s below h =
-    let text = trimmed (unescaped 0 s) in
+    let text = without_white_ends (unescaped 0 s) in
     let bytes = are_bytes text (trimmed_bytes (unescaped 0 s) (unescaped_bytes 0 s (all_bytes s below))) in
     let some = trimmed_referred (unescaped 0 s) ∙ some_referred s h in
     ap (λ o. option_and_then if_id o) (decoded_of-other is_referred text refl refl refl bytes some)
 
 -- a text without references is its own value, without the white space at its ends
-pub plain_value_of : (s : List ℕ) → list_any (λ c. c == ampersand) s ≡ false → value_of s ≡ trimmed s
+pub plain_value_of : (s : List ℕ) → list_any (λ c. c == ampersand) s ≡ false → value_of s ≡ without_white_ends s
 unfolding value_of
-plain_value_of s h = ap trimmed (plain_value s h)
+plain_value_of s h = ap without_white_ends (plain_value s h)

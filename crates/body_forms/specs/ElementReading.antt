@@ -8,7 +8,7 @@ use Rattle.stamp_values.specs.Ascii.{ampersand, quote}
 use Rattle.body_forms.specs.declared.elements.Element as code
 use Rattle.body_forms.specs.Markup.{less_than, greater_than, apostrophe}
 use Rattle.body_forms.specs.Tokens.{Tag}
-use Rattle.body_forms.specs.Elements.{trimmed}
+use Rattle.body_forms.specs.Elements.{without_white_ends}
 use Rattle.body_forms.specs.BlockLists.{Entry, list_name}
 use Rattle.body_forms.specs.Reading.{Read, ◌>>=◌, after_white, tag_at, text_at}
 
@@ -37,7 +37,7 @@ unescaped zero (c ∷ cs) = if c == ampersand then reference_value cs ∷ unesca
 
 -- the value of a text that is written so, without the white space at its ends
 unfoldable pub value_of : List ℕ → List ℕ
-value_of written = trimmed (unescaped 0 written)
+value_of written = without_white_ends (unescaped 0 written)
 
 -- whether two kinds are the same
 abbrev pub is_kind : Kind → Kind → Bool

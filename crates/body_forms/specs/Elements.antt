@@ -17,18 +17,18 @@ abbrev pub closing : List ℕ → Token
 closing name = tag (record { kind = Closing; name = name })
 
 -- the text without the white space at its start
-abbrev pub unindented : List ℕ → List ℕ
-unindented [] = []
-unindented (c ∷ cs) = cond (is_white c) (unindented cs) (c ∷ cs)
+abbrev pub without_white_front : List ℕ → List ℕ
+without_white_front [] = []
+without_white_front (c ∷ cs) = cond (is_white c) (without_white_front cs) (c ∷ cs)
 
 -- the text without the white space at both ends
-abbrev pub trimmed : List ℕ → List ℕ
-trimmed s = reverse (unindented (reverse (unindented s)))
+abbrev pub without_white_ends : List ℕ → List ℕ
+without_white_ends s = reverse (without_white_front (reverse (without_white_front s)))
 
 -- the tokens are an element of this name with a text alone, which is t with white space at its ends; an empty element has the empty text
 abbrev pub IsTextElement : List ℕ → List ℕ → List Token → Type 0
 IsTextElement name t tokens =
-    ((x : List ℕ) × (tokens ≡ opening name ∷ text x ∷ closing name ∷ []) × (t ≡ trimmed x))
+    ((x : List ℕ) × (tokens ≡ opening name ∷ text x ∷ closing name ∷ []) × (t ≡ without_white_ends x))
     ⊎ ((tokens ≡ empty name ∷ []) × (t ≡ []))
 
 -- the tokens are these elements, each of this form, with white space alone after each element

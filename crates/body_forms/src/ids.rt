@@ -10,7 +10,7 @@ ghost use Rattle.body_forms.specs.Outcomes.{OnId};
 
 use crate::body_fault::BodyFault;
 use crate::elements::Element;
-use crate::trimming::trimmed;
+use crate::trimming::without_white_ends;
 use base64_text::decoded_base64;
 use stamp_values::{BlockId, Bytes, Wanted};
 use std::alloc::{AllocError, Global};
@@ -45,7 +45,7 @@ fn id(alloc: Global, written: &[u8]) -> Result<Option<BlockId>, AllocError>
     if has_reference(written) {
         return Ok(None);
     }
-    decoded_id(alloc, trimmed(written))
+    decoded_id(alloc, without_white_ends(written))
 }
 
 // The block that an element wants, if its text is the text of an id.

@@ -1,12 +1,12 @@
 //! Texts without the white space at their ends.
 ghost use Rattle.std.specs.Prelude.{◌≡◌, reverse};
-ghost use Rattle.body_forms.specs.Elements.{unindented};
+ghost use Rattle.body_forms.specs.Elements.{without_white_front};
 ghost use Rattle.body_forms.specs.Elements as elements;
 
 use crate::bytes::is_white;
 
 fn without_front(text: &[u8]) -> &[u8]
-    ensures { result.now ≡ unindented text.now }
+    ensures { result.now ≡ without_white_front text.now }
 {
     let mut left = text;
     while let [first, rest @ ..] = left {
@@ -19,7 +19,7 @@ fn without_front(text: &[u8]) -> &[u8]
 }
 
 fn without_end(text: &[u8]) -> &[u8]
-    ensures { result.now ≡ reverse (unindented (reverse text.now)) }
+    ensures { result.now ≡ reverse (without_white_front (reverse text.now)) }
 {
     let mut left = text;
     while let [rest @ .., last] = left {
@@ -32,8 +32,8 @@ fn without_end(text: &[u8]) -> &[u8]
 }
 
 /// The text without the white space at both ends.
-pub(crate) fn trimmed(text: &[u8]) -> &[u8]
-    ensures { result.now ≡ elements.trimmed text.now }
+pub(crate) fn without_white_ends(text: &[u8]) -> &[u8]
+    ensures { result.now ≡ elements.without_white_ends text.now }
 {
     without_end(without_front(text))
 }

@@ -2,7 +2,7 @@
 ghost use Rattle.std.specs.Prelude.{◌≡◌, ◌++◌, ◌∷◌, IfOk};
 ghost use Rattle.body_forms.specs.ElementReading as reading;
 
-use crate::trimming::trimmed;
+use crate::trimming::without_white_ends;
 use std::alloc::{AllocError, Global};
 
 // The byte that a reference writes, from what follows its `&`.
@@ -79,5 +79,5 @@ pub(crate) fn value_of(alloc: Global, written: &[u8]) -> Result<Vec<u8>, AllocEr
     ensures { IfOk result (λ text. text.items ≡ reading.value_of written.now) }
 {
     let text = unescaped(alloc, written)?;
-    trimmed(&text).to_vec(alloc)
+    without_white_ends(&text).to_vec(alloc)
 }

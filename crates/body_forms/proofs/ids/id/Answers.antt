@@ -9,12 +9,12 @@ returns-then-has_reference-clause-value c =
 
 pub returns-clause-value : goal.returns-clause-value
 returns-clause-value c =
-    let same : value_of c.args.written.now ≡ c.trimmed.result.now =
-    plain_value_of c.args.written.now (sym c.has_reference.ensures ∙ c.if-has_reference.false) ∙ sym c.trimmed.ensures in
+    let same : value_of c.args.written.now ≡ c.without_white_ends.result.now =
+    plain_value_of c.args.written.now (sym c.has_reference.ensures ∙ c.if-has_reference.false) ∙ sym c.without_white_ends.ensures in
     rw same c.decoded_id.ensures.value
 
 pub returns-clause-read : goal.returns-clause-read
 returns-clause-read c =
-    let same : value_of c.args.written.now ≡ c.trimmed.result.now =
-    plain_value_of c.args.written.now (sym c.has_reference.ensures ∙ c.if-has_reference.false) ∙ sym c.trimmed.ensures in
+    let same : value_of c.args.written.now ≡ c.without_white_ends.result.now =
+    plain_value_of c.args.written.now (sym c.has_reference.ensures ∙ c.if-has_reference.false) ∙ sym c.without_white_ends.ensures in
     rw same c.decoded_id.ensures.read
