@@ -1,7 +1,6 @@
 //! What appends and settles of a stream answer.
 ghost use Rattle.std.specs.Prelude.{◌≡◌};
 
-use extent_seal::NoReplica;
 use stamp_values::Place;
 use std::alloc::AllocError;
 
@@ -26,17 +25,6 @@ impl From<AllocError> for AppendFault {
 
     fn from(_error: AllocError) -> Self {
         Self::NoMemory
-    }
-}
-
-impl From<NoReplica> for AppendFault {
-    ghost use Rattle.std.specs.Prelude.{◌≡◌};
-    ghost use Rattle.stream_manager.specs.declared.faults.AppendFault.TheVariants.{Busy};
-
-    ghost from_gives = { λ _ e. e ≡ Busy };
-
-    fn from(_none: NoReplica) -> Self {
-        Self::Busy
     }
 }
 
