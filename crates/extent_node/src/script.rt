@@ -1,10 +1,11 @@
 //! A wire that answers from lists.
 ghost use Rattle.std.specs.Prelude.{◌≡◌, ◌+◌, ◌≤◌, ◌<◌};
 ghost use Rattle.extent_node.specs.Faults.{CountsCall, CountsFault, fault_unless};
-ghost use Rattle.extent_node.specs.Scripts.{counts_of, total};
+ghost use Rattle.extent_node.specs.Scripts.{counts_of, no_counts, total};
 
 use crate::wire::{Delivery, Node, Wire};
 use std::alloc::Global;
+use std::marker::Model;
 
 /// One number for each node.
 #[derive(Drop)]
@@ -17,7 +18,8 @@ pub(crate) struct Tally {
 impl Tally {
     // Nothing was counted yet.
     fn new() -> Self
-        ensures { total result ≡ 0 }
+        ensures counts { counts_of result ≡ no_counts }
+        ensures total { total result ≡ 0 }
     {
         Self {
             zero: 0,
@@ -67,14 +69,40 @@ pub struct Script {
     ask_count: usize,
     called: Vec<Node>,
     calls: Tally,
-    // Only an answer from a list is a fault, so these numbers never overflow.
     faults: Tally,
-    ghost fits: { total faults ≤ put_count + ask_count },
+}
+
+impl Model for Script {
+    ghost use Rattle.std.specs.Prelude.{◌≤◌, ◌+◌, length};
+    ghost use Rattle.extent_node.specs.Scripts.{Scripted, counts_of, total};
+
+    ghost Value = { Scripted };
+
+    ghost view = { λ s. record {
+      puts = s.puts.items;
+      put_count = s.put_count;
+      asks = s.asks.items;
+      ask_count = s.ask_count;
+      called = s.called.items;
+      calls = counts_of s.calls;
+      faults = counts_of s.faults;
+    } };
+
+    // Only an answer from a list is a fault, so these numbers never overflow.
+    ghost invariant = { λ s.
+        (total s.faults ≤ s.put_count + s.ask_count)
+        × ((s.put_count ≤ length s.puts.items) × (s.ask_count ≤ length s.asks.items)) };
 }
 
 impl Script {
+    ghost use Rattle.std.specs.Prelude.{◌≡◌};
+    ghost use Rattle.extent_node.specs.Faults.{CountsCall};
+    ghost use Rattle.extent_node.specs.Scripts.{IsNoted, new_script};
+
     /// A wire that gives these deliveries and these answers in turn.
-    pub fn new(alloc: Global, puts: Vec<Delivery>, asks: Vec<bool>) -> Self {
+    pub fn new(alloc: Global, puts: Vec<Delivery>, asks: Vec<bool>) -> Self
+        ensures { result ≡ new_script puts.items asks.items }
+    {
         Self {
             puts,
             asks,
@@ -87,13 +115,16 @@ impl Script {
     }
 
     /// The nodes that were called, in the order of the calls. A call is missing if memory ran out for it.
-    pub fn called(&self) -> &[Node] {
+    pub fn called(&self) -> &[Node]
+        ensures { result.now ≡ self.now.called }
+    {
         &self.called
     }
 
     // Counts the call, and keeps its node in the list if there is memory for it.
     fn note(&mut self, node: Node)
-        ensures called { CountsCall node (counts_of self.old.calls) (counts_of self.new.calls) }
+        ensures called { CountsCall node self.old.calls self.new.calls }
+        ensures noted { IsNoted node self.old.called self.new.called }
         ensures puts { self.new.puts ≡ self.old.puts }
         ensures asks { self.new.asks ≡ self.old.asks }
         ensures put_count { self.new.put_count ≡ self.old.put_count }
@@ -107,13 +138,23 @@ impl Script {
 
 impl Wire for Script {
     ghost use Rattle.std.specs.Prelude.{◌≡◌};
-    ghost use Rattle.extent_node.specs.Scripts.{counts_of};
+    ghost use Rattle.extent_node.specs.Faults.{CountsCall, CountsFault, is_done};
+    ghost use Rattle.extent_node.specs.Scripts.{IsNoted, given_more, next_put, next_ask};
 
-    ghost calls = { λ s. counts_of s.calls };
+    ghost calls = { λ s. s.calls };
 
-    ghost faults = { λ s. counts_of s.faults };
+    ghost faults = { λ s. s.faults };
 
-    fn put(&mut self, node: Node) -> Delivery {
+    fn put(&mut self, node: Node) -> Delivery
+        ensures called { CountsCall node self.old.calls self.new.calls }
+        ensures counted { CountsFault node (is_done result) self.old.faults self.new.faults }
+        ensures told { result ≡ next_put self.old }
+        ensures given { self.new.put_count ≡ given_more self.old.puts self.old.put_count }
+        ensures ask_count { self.new.ask_count ≡ self.old.ask_count }
+        ensures puts { self.new.puts ≡ self.old.puts }
+        ensures asks { self.new.asks ≡ self.old.asks }
+        ensures noted { IsNoted node self.old.called self.new.called }
+    {
         self.note(node);
         match self.puts.get(self.put_count) {
             Some(delivery) => {
@@ -126,7 +167,16 @@ impl Wire for Script {
         }
     }
 
-    fn ask(&mut self, node: Node) -> bool {
+    fn ask(&mut self, node: Node) -> bool
+        ensures called { CountsCall node self.old.calls self.new.calls }
+        ensures counted { CountsFault node result self.old.faults self.new.faults }
+        ensures told { result ≡ next_ask self.old }
+        ensures given { self.new.ask_count ≡ given_more self.old.asks self.old.ask_count }
+        ensures put_count { self.new.put_count ≡ self.old.put_count }
+        ensures puts { self.new.puts ≡ self.old.puts }
+        ensures asks { self.new.asks ≡ self.old.asks }
+        ensures noted { IsNoted node self.old.called self.new.called }
+    {
         self.note(node);
         match self.asks.get(self.ask_count) {
             Some(answer) => {
