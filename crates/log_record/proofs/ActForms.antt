@@ -67,7 +67,7 @@ delete_blob_form : IsForm FitsDeleteBlob delete_blob_bytes delete_blob_at
 unfolding delete_blob_at
 delete_blob_form = made delete_blob_of (λ a. a.blob) (λ p. refl) (λ a. refl) text_form
 
--- what a change does is found in front of any bytes, by the number of its kind
+-- what a change does is found by the number of its kind, whatever bytes come after it
 pub act_again : (a : Act) (rest : List ℕ) → FitsAct a → act_at (kind_of a) (act_bytes a ++ rest) ≡ Some (a, rest)
 unfolding act_at
 act_again (acts.CreateContainer a) rest fits = rw (create_container_form.again a rest fits) refl
@@ -82,7 +82,7 @@ act_again (acts.PutBlockList a) rest fits = rw (put_block_list_form.again a rest
 act_again (acts.ContainerRow a) rest fits = rw (container_row_form.again a rest fits) refl
 act_again (acts.StoredBlob a) rest fits = rw (stored_blob_form.again a rest fits) refl
 
--- the number is of the kind of this act, and its bytes are in front of these bytes
+-- the number is of the kind of this act, and its bytes come before these bytes
 abbrev pub IsAct : List ℕ → Act → List ℕ → ℕ → Type 0
 IsAct t a rest k = (k ≡ kind_of a) × (t ≡ act_bytes a ++ rest)
 

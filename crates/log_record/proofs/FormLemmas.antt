@@ -11,7 +11,7 @@ pub use Rattle.base64_text.specs.Base64.{IsBytes}
 use Rattle.log_record.specs.Reading.{Read, ◌>>=◌, front_at, number_at, string_at, option_at, each_at, list_at, both_at, tested_at, made_at, parsed_at}
 use Rattle.log_record.specs.Forms.{short_bytes, long_bytes, string_bytes, option_bytes, list_bytes, FitsOption, FitsList}
 
--- a value that fits is found in front of any bytes, and a value is found only in front of bytes that begin with its own
+-- a value that fits is found whatever bytes come after it, and a value is found only in bytes that begin with its own
 pub record IsForm {A : Type 0} (Fits : A → Type 0) (bytes : A → List ℕ) (at : List ℕ → Read A) : Type 0 where
   pub again : (a : A) (rest : List ℕ) → Fits a → at (bytes a ++ rest) ≡ Some (a, rest)
   pub taken : (t : List ℕ) (a : A) (rest : List ℕ) → IsBytes t → at t ≡ Some (a, rest) → t ≡ bytes a ++ rest

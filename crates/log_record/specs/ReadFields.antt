@@ -61,7 +61,7 @@ id_at = tested_at is_id string_at
 abbrev pub id_of : List ℕ → Option (List ℕ)
 id_of t = if is_id t then Some t else None
 
--- the id that a text is, and the empty text is no id
+-- the id that a text is; the empty text is not an id
 abbrev pub optional_id_of : List ℕ → Option (Option (List ℕ))
 optional_id_of [] = Some None
 optional_id_of (b ∷ t) = option_map Some (id_of (b ∷ t))
@@ -78,7 +78,7 @@ meta_at = made_at meta_of (both_at text_at visible_at)
 unfoldable pub metadata_at : List ℕ → Read (List Meta)
 metadata_at = tested_at is_metadata (list_at meta_at)
 
--- the MD5 that 16 bytes are, and no bytes are no MD5
+-- the MD5 that 16 bytes are; nothing if there are no bytes
 abbrev pub sum_of : List ℕ → Option (Option (List ℕ))
 sum_of [] = Some None
 sum_of (b ∷ t) = if length (b ∷ t) == 16 then Some (Some (b ∷ t)) else None

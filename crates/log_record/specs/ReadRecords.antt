@@ -139,7 +139,7 @@ abbrev pub ok_or_form : Option KeyedAct → Result (KeyedAct × ℕ) RecordFault
 ok_or_form (Some c) = Ok (c, 0)
 ok_or_form None = Err fault.Form
 
--- the change and the epoch whose record the bytes are, or why the bytes are no record
+-- the change and the epoch whose record the bytes are, or why the bytes are not a record
 unfoldable pub record_of : List ℕ → Result (KeyedAct × ℕ) RecordFault
 record_of [] = Err fault.Form
 record_of (v ∷ t) = if v == 1 then ok_or_form (change_of t) else Err fault.Version

@@ -81,7 +81,7 @@ fn id_of(alloc: Global, bytes: &[u8]) -> Result<BlockId, RecordFault>
     }
 }
 
-// The id that the bytes are: no bytes are no id.
+// The id that the bytes are, or `None` if there are no bytes.
 fn optional_id_of(alloc: Global, bytes: &[u8]) -> Result<Option<BlockId>, RecordFault>
     ensures { Fills result (reading.optional_id_of bytes.now) }
 {

@@ -37,7 +37,7 @@ fn append_md5(out: &mut Vec<u8>, md5: Option<[u8; 16]>) -> Result<(), AllocError
     }
 }
 
-// The MD5 that the bytes are: no bytes are no MD5.
+// The MD5 that the bytes are, or `None` if there are no bytes.
 fn sum_of(bytes: &[u8]) -> Result<Option<[u8; 16]>, RecordFault>
     ensures { Fills result (reading.sum_of bytes.now) }
 {

@@ -11,7 +11,7 @@ use std::test::*;
 // the account and the container.
 const FIELDS: usize = 30;
 
-// Values that begin or end a range of some field, or that are no text in UTF-8.
+// Values that begin or end a range of some field, or that are not a text in UTF-8.
 const OTHERS: [u8; 7] = [0, 1, 2, 3, 127, 128, 255];
 
 // What the bytes are refused with, or `None` if they are the record of what is read. `NoMemory` for any
