@@ -10,18 +10,18 @@ use Rattle.stamp_types.specs.declared.ask.Ask.{Ask}
 use Rattle.stamp_values.specs.Fields.{fields_len, first_value, is_sent}
 use Rattle.stamp_values.specs.declared.block.BlockKinds.TheVariants.{Committed}
 use Rattle.stamp_values.specs.declared.signing.Field.{Field}
-use Rattle.stamp_values.specs.Operations.{body_limit, checks_md5, has_conditions, keeps_headers, lists_names, names_blob, names_container, sets_level}
+use Rattle.stamp_values.specs.Operations.{body_limit, checks_md5, has_conditions, is_op, keeps_headers, lists_names, names_blob, names_container, sets_level}
 use Rattle.stamp_values.specs.declared.level.Level.TheVariants.{Closed}
 use Rattle.stamp_values.specs.declared.op.Op.{Op}
-use Rattle.stamp_values.specs.declared.op.Op.TheVariants.{GetBlob, PutBlock, GetBlockList}
+use Rattle.stamp_values.specs.declared.op.Op.TheVariants.{GetBlob, PutBlob, PutBlock, GetBlockList}
 use Rattle.stamp_values.specs.declared.verb.Verb.{Verb}
-use Rattle.request_form.specs.HeadBlocks.{id_given, is_get_block_list, is_put_block, kinds_given, kinds_named}
+use Rattle.request_form.specs.HeadBlocks.{id_given, kinds_given, kinds_named}
 use Rattle.request_form.specs.HeadConditions.{condition_named}
 use Rattle.request_form.specs.HeadForms.{args_of, ask_of, blob_name_of, closes_of, expects_of, form_of, header_args_of, kept_of, level_named, line_args_of, md5_under}
 use Rattle.request_form.specs.HeadMetadata.{metadata_by}
-use Rattle.request_form.specs.HeadRanges.{is_get_blob, range_of, range_sent}
+use Rattle.request_form.specs.HeadRanges.{range_of, range_sent}
 use Rattle.request_form.specs.HeadReads.{AreFields, IsLine}
-use Rattle.request_form.specs.HeadRules.{OperationRow, body_len_of, is_put_blob, is_row, op_at, op_of, operations, row_at, verb_of}
+use Rattle.request_form.specs.HeadRules.{OperationRow, body_len_of, is_row, op_at, op_of, operations, row_at, verb_of}
 use Rattle.request_form.specs.Targets.{container_of, path_kind_of, target_of}
 use Rattle.request_form.specs.declared.header_lines.Fields.{Fields}
 use Rattle.request_form.specs.HeadParts.{HeadParts}
@@ -89,17 +89,17 @@ there_only true o some = refl
 there_only false o some = absurd (cc)
 
 -- only one operation takes a range
-get_blob_is : (op : Op) → is_get_blob op ≡ true → op ≡ GetBlob
+get_blob_is : (op : Op) → is_op GetBlob op ≡ true → op ≡ GetBlob
 get_blob_is GetBlob is = refl
 get_blob_is other is = absurd (cc)
 
 -- only one operation puts a block
-put_block_is : (op : Op) → is_put_block op ≡ true → op ≡ PutBlock
+put_block_is : (op : Op) → is_op PutBlock op ≡ true → op ≡ PutBlock
 put_block_is PutBlock is = refl
 put_block_is other is = absurd (cc)
 
 -- only one operation shows a block list
-get_block_list_is : (op : Op) → is_get_block_list op ≡ true → op ≡ GetBlockList
+get_block_list_is : (op : Op) → is_op GetBlockList op ≡ true → op ≡ GetBlockList
 get_block_list_is GetBlockList is = refl
 get_block_list_is other is = absurd (cc)
 
@@ -119,7 +119,7 @@ no_more op verb p = record {
   if_match = there_only (has_conditions op) (option_map condition_named (first_value p.fields (codes "if-match")));
   if_none_match = there_only (has_conditions op) (option_map condition_named (first_value p.fields (codes "if-none-match")));
   content_md5 = there_only (checks_md5 op) (md5_under p.fields (codes "content-md5"));
-  range = λ s. get_blob_is op (there_only (is_get_blob op) (option_and_then range_of (range_sent p.fields)) s);
+  range = λ s. get_blob_is op (there_only (is_op GetBlob op) (option_and_then range_of (range_sent p.fields)) s);
   range_order = range_rising op p.fields;
   metadata = λ none. rw none refl;
 }
@@ -135,11 +135,11 @@ some_kinds query = by_value (first_value query (codes "blocklisttype"))
 own : (op : Op) (verb : Verb) (p : HeadParts) → (op ≡ PutBlock → IsShortId (id_given (target_of p.target).query)) → HasItsOwn (ask_of op verb p)
 unfolding ask_of args_of header_args_of line_args_of
 own op verb p id = record {
-  kept = there (keeps_headers op) (kept_of (is_put_blob (Some op)) p.fields);
+  kept = there (keeps_headers op) (kept_of (is_op PutBlob op) p.fields);
   level = there (sets_level op) (option_map_or level_named (first_value p.fields (codes "x-ms-blob-public-access")) Closed);
-  block = (λ s. put_block_is op (there_only (is_put_block op) (id_given (target_of p.target).query) s), λ e. rw e (id e).given);
+  block = (λ s. put_block_is op (there_only (is_op PutBlock op) (id_given (target_of p.target).query) s), λ e. rw e (id e).given);
   kinds = (
-    λ s. get_block_list_is op (there_only (is_get_block_list op) (option_or (kinds_given (target_of p.target).query) (Some Committed)) s),
+    λ s. get_block_list_is op (there_only (is_op GetBlockList op) (option_or (kinds_given (target_of p.target).query) (Some Committed)) s),
     λ e. rw e (some_kinds (target_of p.target).query),
   );
 }

@@ -12,9 +12,11 @@ use Rattle.std.specs.Str.Parse.{digits_value}
 use Rattle.stamp_values.specs.Ascii.{hyphen}
 use Rattle.stamp_values.specs.declared.condition.ByteRange.{ByteRange}
 use Rattle.stamp_values.specs.declared.op.Op.{Op}
+use Rattle.stamp_values.specs.declared.op.Op.TheVariants.{GetBlob}
+use Rattle.stamp_values.specs.Operations.{is_op}
 use Rattle.stamp_values.specs.declared.signing.Field.{Field}
 use Rattle.request_form.specs.HeadFields.{are_digits}
-use Rattle.request_form.specs.HeadRanges.{HasRange, first_digits, is_falling, is_get_blob, is_hyphen, is_marked, is_range, last_digits, number_within, range_between, range_by, range_of, range_sent, range_text}
+use Rattle.request_form.specs.HeadRanges.{HasRange, first_digits, is_falling, is_hyphen, is_marked, is_range, last_digits, number_within, range_between, range_by, range_of, range_sent, range_text}
 use Rattle.request_form.specs.Targets.{is_nothing}
 use Rattle.request_form.proofs.DigitLemmas.{digit_in}
 
@@ -156,7 +158,7 @@ of_rising v = by_form (is_range v)
 
 -- the range that comes with a request is rising
 pub range_rising : (op : Op) (fields : List Field) → IfSome (range_by op fields) IsRising
-range_rising op fields = by_op (is_get_blob op) (range_sent fields)
+range_rising op fields = by_op (is_op GetBlob op) (range_sent fields)
   where
     by_op : (b : Bool) (sent : Option (List ℕ)) → IfSome (cond b (option_and_then range_of sent) None) IsRising
     by_op true (Some v) = of_rising v

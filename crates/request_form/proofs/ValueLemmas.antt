@@ -7,15 +7,16 @@ use Rattle.stamp_types.specs.Requests.{given_len, kept_len}
 use Rattle.stamp_types.specs.declared.args.Kept.{Kept}
 use Rattle.stamp_values.specs.Fields.{field_len, fields_len, has_name, first_value}
 use Rattle.stamp_values.specs.declared.op.Op.{Op}
+use Rattle.stamp_values.specs.declared.op.Op.TheVariants.{PutBlob}
 use Rattle.stamp_values.specs.declared.signing.Field.{Field}
 use Rattle.stamp_values.specs.MetadataLists.{metadata_len}
-use Rattle.stamp_values.specs.Operations.{keeps_headers, keeps_metadata}
+use Rattle.stamp_values.specs.Operations.{is_op, keeps_headers, keeps_metadata}
 use Rattle.stamp_values.specs.declared.meta.Meta.{Meta}
 use Rattle.request_form.specs.HeadFields.{is_bad, is_md5, is_meta}
 use Rattle.request_form.specs.HeadForms.{md5_under, kept_by, kept_of}
 use Rattle.request_form.specs.HeadMetadata.{metadata_by, metas_of}
 use Rattle.request_form.proofs.MetadataLemmas.{meta_counted, metas_count}
-use Rattle.request_form.specs.HeadRules.{has_bad_condition, has_bad_kept_by, has_bad_level_by, has_bad_line, has_bad_md5, has_own_twice, has_standard_twice, is_condition, is_put_blob, kept_value}
+use Rattle.request_form.specs.HeadRules.{has_bad_condition, has_bad_kept_by, has_bad_level_by, has_bad_line, has_bad_md5, has_own_twice, has_standard_twice, is_condition, kept_value}
 
 -- the value that was sent under a name is counted if the test passes its name
 under_short : (test : List ℕ → Bool) (name : List ℕ) → test name ≡ true → (fields : List Field) → given_len (first_value fields name) ≤ sum_by (λ f. cond (test f.name) (length f.value) 0) fields
@@ -140,7 +141,7 @@ by_short false false k ms n e = omega arith
 pub args_short : (op : Op) (fields : List Field) → kept_len (kept_by op fields) + metadata_len (metadata_by op fields) ≤ fields_len fields
 unfolding metadata_by
 args_short op fields =
-    by_short (keeps_headers op) (keeps_metadata op) (kept_of (is_put_blob (Some op)) fields) (metas_of fields) (fields_len fields) (kept_short (is_put_blob (Some op)) fields)
+    by_short (keeps_headers op) (keeps_metadata op) (kept_of (is_op PutBlob op) fields) (metas_of fields) (fields_len fields) (kept_short (is_op PutBlob op) fields)
 
 -- the lines are not bad if no test of them holds
 pub no_bad_line : (op : Op) (fields : List Field) → (has_standard_twice fields || has_own_twice fields) ≡ false

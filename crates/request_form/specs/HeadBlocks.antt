@@ -3,21 +3,12 @@ use Rattle.std.specs.Prelude.{ℕ, Bool, true, false, if◌then◌else◌, List,
 use Rattle.std.specs.Option.{option_or}
 use Rattle.base64_text.specs.Base64.{standard, decoded_of}
 use Rattle.stamp_values.specs.Fields.{first_value}
+use Rattle.stamp_values.specs.Operations.{is_op}
 use Rattle.stamp_values.specs.declared.block.BlockKinds.{BlockKinds}
 use Rattle.stamp_values.specs.declared.block.BlockKinds.TheVariants.{Committed, Uncommitted, All}
 use Rattle.stamp_values.specs.declared.op.Op.{Op}
 use Rattle.stamp_values.specs.declared.op.Op.TheVariants.{PutBlock, GetBlockList}
 use Rattle.stamp_values.specs.declared.signing.Field.{Field}
-
--- the operation is Put Block
-abbrev pub is_put_block : Op → Bool
-is_put_block PutBlock = true
-is_put_block other = false
-
--- the operation is Get Block List
-abbrev pub is_get_block_list : Op → Bool
-is_get_block_list GetBlockList = true
-is_get_block_list other = false
 
 -- the id of a block that a query gives, decoded
 abbrev pub id_given : List Field → Option (List ℕ)
@@ -25,7 +16,7 @@ id_given query = option_and_then (decoded_of standard) (first_value query (codes
 
 -- the id of the block that a request puts, if the operation is Put Block
 abbrev pub block_by : Op → List Field → Option (List ℕ)
-block_by op query = if is_put_block op then id_given query else None
+block_by op query = if is_op PutBlock op then id_given query else None
 
 -- the kinds of blocks that a value names
 abbrev pub kinds_named : List ℕ → BlockKinds
@@ -37,4 +28,4 @@ kinds_given query = option_map kinds_named (first_value query (codes "blocklistt
 
 -- the kinds of blocks that a request asks for, if the operation is Get Block List; the committed blocks if no kinds are given
 abbrev pub kinds_by : Op → List Field → Option BlockKinds
-kinds_by op query = if is_get_block_list op then option_or (kinds_given query) (Some Committed) else None
+kinds_by op query = if is_op GetBlockList op then option_or (kinds_given query) (Some Committed) else None

@@ -8,13 +8,14 @@ use Rattle.name_rules.specs.BlobNames.{percent_decode}
 use Rattle.stamp_values.specs.declared.key.Key.{Key}
 use Rattle.stamp_values.specs.Fields.{has_name, first_value, is_sent, trimmed}
 use Rattle.stamp_values.specs.declared.op.Op.{Op}
+use Rattle.stamp_values.specs.declared.op.Op.TheVariants.{PutBlob}
 use Rattle.stamp_values.specs.declared.verb.Verb.{Verb}
 use Rattle.stamp_values.specs.declared.verb.Verb.TheVariants.{Put}
 use Rattle.stamp_values.specs.declared.signing.Credential.{Credential}
 use Rattle.stamp_values.specs.declared.signing.Credential.TheVariants.{Shared, Token, Anonymous}
 use Rattle.stamp_values.specs.declared.signing.Field.{Field}
 use Rattle.stamp_values.specs.declared.signing.Signing.{Signing}
-use Rattle.stamp_values.specs.Operations.{checks_md5, keeps_headers, names_blob, sets_level}
+use Rattle.stamp_values.specs.Operations.{checks_md5, is_op, keeps_headers, names_blob, sets_level}
 use Rattle.stamp_values.specs.declared.level.Level.{Level}
 use Rattle.stamp_values.specs.declared.level.Level.TheVariants.{Closed, Blob, Container}
 use Rattle.stamp_types.specs.declared.args.Args.{Args}
@@ -27,7 +28,7 @@ use Rattle.request_form.specs.HeadBlocks.{block_by, kinds_by}
 use Rattle.request_form.specs.HeadConditions.{condition_by}
 use Rattle.request_form.specs.HeadMetadata.{metadata_by}
 use Rattle.request_form.specs.HeadRanges.{range_by}
-use Rattle.request_form.specs.HeadRules.{verb_of, op_of, is_put_blob, kept_value, body_len_of}
+use Rattle.request_form.specs.HeadRules.{verb_of, op_of, kept_value, body_len_of}
 use Rattle.request_form.specs.HeadParts.{HeadParts}
 use Rattle.request_form.specs.declared.parsed_head.Version.{Version}
 use Rattle.request_form.specs.declared.parsed_head.Version.TheVariants.{Http10, Http11}
@@ -60,7 +61,7 @@ key_of path = record { account = account_of path; container = container_of path 
 
 -- the headers that a blob is to keep, if the operation keeps headers; the plain headers count for Put Blob alone
 abbrev pub kept_by : Op → List Field → Option Kept
-kept_by op fields = if keeps_headers op then Some (kept_of (is_put_blob (Some op)) fields) else None
+kept_by op fields = if keeps_headers op then Some (kept_of (is_op PutBlob op) fields) else None
 
 -- the level of public access that a value names
 abbrev pub level_named : List ℕ → Level

@@ -6,6 +6,7 @@ use Rattle.std.specs.Option.{option_or}
 use Rattle.std.specs.Str.Parse.{digits_value}
 use Rattle.stamp_values.specs.Ascii.{hyphen}
 use Rattle.stamp_values.specs.Fields.{first_value, is_sent}
+use Rattle.stamp_values.specs.Operations.{is_op}
 use Rattle.stamp_values.specs.declared.condition.ByteRange.{ByteRange}
 use Rattle.stamp_values.specs.declared.op.Op.{Op}
 use Rattle.stamp_values.specs.declared.op.Op.TheVariants.{GetBlob}
@@ -62,14 +63,9 @@ unfoldable pub range_sent : List Field → Option (List ℕ)
 range_sent fields =
     if is_sent fields (codes "if-range") then None else option_or (first_value fields (codes "x-ms-range")) (first_value fields (codes "range"))
 
--- the operation is Get Blob
-abbrev pub is_get_blob : Op → Bool
-is_get_blob GetBlob = true
-is_get_blob other = false
-
 -- the range that comes with a request, if the operation is Get Blob
 abbrev pub range_by : Op → List Field → Option ByteRange
-range_by op fields = if is_get_blob op then option_and_then range_of (range_sent fields) else None
+range_by op fields = if is_op GetBlob op then option_and_then range_of (range_sent fields) else None
 
 -- the text is that of a range with digits that have this range
 pub record HasRange (text : List ℕ) (r : ByteRange) : Type 0 where

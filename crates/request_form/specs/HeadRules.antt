@@ -11,7 +11,7 @@ use Rattle.stamp_values.specs.declared.verb.Verb.{Verb}
 use Rattle.stamp_values.specs.declared.verb.Verb.TheVariants.{Get, Head, Put, Delete}
 use Rattle.stamp_values.specs.declared.signing.Field.{Field}
 use Rattle.stamp_values.specs.Names.{is_account, is_container}
-use Rattle.stamp_values.specs.Operations.{body_limit, has_conditions, keeps_headers, names_blob, sets_level}
+use Rattle.stamp_values.specs.Operations.{body_limit, has_conditions, is_op, keeps_headers, names_blob, sets_level}
 use Rattle.stamp_values.specs.Texts.{is_clean, is_utf8, is_visible}
 use Rattle.stamp_types.specs.Codes.{code_status}
 use Rattle.stamp_types.specs.declared.code.Code.{Code}
@@ -113,6 +113,10 @@ op_at verb target = option_and_then (if_identified (is_sent target.query (codes 
 unfoldable pub op_of : HeadParts → Option Op
 op_of p = option_and_then (λ verb. op_at verb (target_of p.target)) (verb_of p.method)
 
+-- the head asks for this operation
+abbrev pub asks_for : Op → HeadParts → Bool
+asks_for op p = option_map_or (is_op op) (op_of p) false
+
 -- the parameters that operations have, beside the two parameters of blocks; they are given at most once
 abbrev pub parameter_names : List (List ℕ)
 parameter_names = codes "restype" ∷ codes "comp" ∷ codes "prefix" ∷ codes "delimiter" ∷ codes "marker" ∷ codes "maxresults" ∷ codes "include" ∷ []
@@ -166,11 +170,6 @@ abbrev pub is_write : Option Verb → Bool
 is_write (Some Put) = true
 is_write (Some Delete) = true
 is_write other = false
-
--- the operation is Put Blob
-abbrev pub is_put_blob : Option Op → Bool
-is_put_blob (Some PutBlob) = true
-is_put_blob other = false
 
 -- the name of the account or the container is not good, or the operation names a blob whose name is not good
 unfoldable pub has_bad_name : Op → List ℕ → Bool
@@ -236,7 +235,7 @@ has_bad_md5 fields = is_bad fields (codes "content-md5") is_md5 || is_bad fields
 
 -- the operation keeps headers, and the value of a header that is to be kept is bad; the plain headers count for Put Blob alone
 abbrev pub has_bad_kept_by : Op → List Field → Bool
-has_bad_kept_by op fields = keeps_headers op && has_bad_kept (is_put_blob (Some op)) fields
+has_bad_kept_by op fields = keeps_headers op && has_bad_kept (is_op PutBlob op) fields
 
 -- the value names a level of public access
 abbrev pub is_level : List ℕ → Bool
@@ -286,7 +285,7 @@ asks_the_unserved p =
     || has_unserved p.fields
     || has_unserved_condition p
     || has_date_of_a_write p
-    || is_put_blob (op_of p) && has_bad p.fields (codes "x-ms-blob-type") (λ v. bytes_eq v (codes "BlockBlob"))
+    || asks_for PutBlob p && has_bad p.fields (codes "x-ms-blob-type") (λ v. bytes_eq v (codes "BlockBlob"))
 
 -- F7: a header was sent twice that may not be, or its value is bad
 unfoldable pub has_bad_value : HeadParts → Bool
@@ -298,7 +297,7 @@ has_bad_metadata p = option_map_or (λ op. has_bad_metadata_by op p.fields) (op_
 
 -- F7: Put Blob without the type of blob
 unfoldable pub has_no_blob_type : HeadParts → Bool
-has_no_blob_type p = is_put_blob (op_of p) && not (is_sent p.fields (codes "x-ms-blob-type"))
+has_no_blob_type p = asks_for PutBlob p && not (is_sent p.fields (codes "x-ms-blob-type"))
 
 -- the rule holds of a head
 abbrev pub head_holds : HeadParts → Rule → Bool

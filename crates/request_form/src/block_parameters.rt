@@ -4,6 +4,8 @@ ghost use Rattle.std.specs.Option.{option_or};
 ghost use Rattle.base64_text.specs.Base64.{standard, decoded_of};
 ghost use Rattle.stamp_types.specs.declared.code.Code.TheVariants.{InvalidQueryParameterValue};
 ghost use Rattle.stamp_values.specs.declared.block.BlockKinds.TheVariants.{Committed};
+ghost use Rattle.stamp_values.specs.declared.op.Op.TheVariants.{GetBlockList, PutBlock};
+ghost use Rattle.stamp_values.specs.Operations.{is_op};
 ghost use Rattle.request_form.specs.HeadBlocks as blocks;
 ghost use Rattle.request_form.specs.HeadReads.{RefusesValue};
 ghost use Rattle.request_form.specs.HeadRules as heads;
@@ -104,14 +106,14 @@ pub(crate) fn read_kinds(query: &FieldList) -> Result<Option<BlockKinds>, ValueF
 
 /// The id that was given, if the operation is Put Block.
 pub(crate) fn block_by(op: Op, id: Option<BlockId>) -> Option<BlockId>
-    ensures { result ≡ cond (blocks.is_put_block op) id None }
+    ensures { result ≡ cond (is_op PutBlock op) id None }
 {
     if matches!(op, Op::PutBlock) { id } else { None }
 }
 
 /// The kinds of blocks that were given, if the operation is Get Block List; the committed blocks if no kinds were given.
 pub(crate) fn kinds_by(op: Op, kinds: Option<BlockKinds>) -> Option<BlockKinds>
-    ensures { result ≡ cond (blocks.is_get_block_list op) (option_or kinds (Some Committed)) None }
+    ensures { result ≡ cond (is_op GetBlockList op) (option_or kinds (Some Committed)) None }
 {
     if matches!(op, Op::GetBlockList) {
         Some(kinds.unwrap_or(BlockKinds::Committed))

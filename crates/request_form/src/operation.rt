@@ -1,6 +1,8 @@
 //! Rule F3: the operation that a method and a target ask for.
 ghost use Rattle.std.specs.Prelude.{◌≡◌, ◌||◌, MatchResult, None, Some, codes, is_none, option_map};
 ghost use Rattle.stamp_types.specs.declared.code.Code.TheVariants.{InvalidQueryParameterValue};
+ghost use Rattle.stamp_values.specs.declared.op.Op.TheVariants.{PutBlob};
+ghost use Rattle.stamp_values.specs.Operations.{is_op};
 ghost use Rattle.request_form.specs.HeadReads.{IsOperation, RefusesValue};
 ghost use Rattle.request_form.specs.HeadRules as heads;
 ghost use Rattle.request_form.specs.declared.path_kind.PathKind.TheVariants as path;
@@ -25,7 +27,7 @@ pub struct Operation {
 
 /// Whether the operation is Put Blob.
 pub(crate) fn is_put_blob(op: Op) -> bool
-    ensures { result ≡ heads.is_put_blob (Some op) }
+    ensures { result ≡ is_op PutBlob op }
 {
     matches!(op, Op::PutBlob)
 }

@@ -102,7 +102,13 @@ module _ {R W : Type 0} (remaining : R → Option (List ℕ)) (contents : W → 
   serve_starved : reader' ≡ reader → (writer' ≡ writer) ⊎ HasListened words (contents writer) (contents writer')
       → Outcome remaining contents words reader reader' writer writer' NoMemory
   serve_starved unread (inl unwritten) = inl (unread, unwritten)
-  serve_starved unread (inr listened) = inr (inr (inr listened))
+  serve_starved unread (inr listened) = inr (inr (inr (unread, listened)))
+
+  -- the listener failed before the line of an address was written, or after it
+  serve_unheard : reader' ≡ reader → IsServe words × ((writer' ≡ writer) ⊎ HasListened words (contents writer) (contents writer'))
+      → Outcome remaining contents words reader reader' writer writer' ListenerFault
+  serve_unheard unread (asked, inl unwritten) = inl (asked, (unread, unwritten))
+  serve_unheard unread (asked, inr listened) = inr (unread, listened)
 
   -- the outcome for words of `serve` follows from the clauses of `run_serve`, which reads nothing
   pub serve_outcome : (address workers account first second : List ℕ) (ending : Ending) → words ≡ serve_line address workers account first second
@@ -116,8 +122,9 @@ module _ {R W : Type 0} (remaining : R → Option (List ℕ)) (contents : W → 
       → Outcome remaining contents words reader reader' writer writer' ending
   serve_outcome address workers account first second Usage same unread refused unwritten listened starved asked ended =
       (unasked_serve words address workers account first second same (refused refl), (unread, unwritten refl))
-  serve_outcome address workers account first second ListenerFault same unread refused unwritten listened starved asked ended = listened refl
-  serve_outcome address workers account first second WriteFault same unread refused unwritten listened starved asked ended = inr (inr (asked refl))
+  serve_outcome address workers account first second ListenerFault same unread refused unwritten listened starved asked ended =
+      serve_unheard unread (listened refl)
+  serve_outcome address workers account first second WriteFault same unread refused unwritten listened starved asked ended = inr (inr (asked refl, unread))
   serve_outcome address workers account first second NoMemory same unread refused unwritten listened starved asked ended = serve_starved unread (starved refl)
   serve_outcome address workers account first second Done same unread refused unwritten listened starved asked ended = cc
   serve_outcome address workers account first second ReadFault same unread refused unwritten listened starved asked ended = cc

@@ -22,10 +22,6 @@ use Rattle.http_front.specs.Streams.Item.{Requested, Refused}
 use Rattle.stamp_main.specs.declared.ending.Ending.{Ending}
 use Rattle.stamp_main.specs.Ending.{run_ending}
 
--- the account's keys, which were never replaced
-abbrev pub keys_of : List ℕ → List ℕ → List ℕ → Keys
-keys_of account first second = record { account = account; first = first; second = second; epoch = 0 }
-
 -- what is written for an item that is answered at the moment: the interim reply if a request asks for it, and then the reply
 unfoldable pub answer_of : Held → ℕ → Item → List ℕ
 answer_of h t (Requested form body) =

@@ -24,9 +24,9 @@ module _ {R W : Type 0} (remaining : R → Option (List ℕ)) (contents : W → 
   abbrev pub ReplayAnswered : Ending → Type 0
   ReplayAnswered ending = HasReplayed words ending (remaining reader) (remaining reader') (contents writer) (contents writer')
 
-  -- the words asked to serve, and nothing was written, or the line that tells of the address
-  abbrev pub ServedOrNothingWritten : Type 0
-  ServedOrNothingWritten = IsServe words × ((writer' ≡ writer) ⊎ HasListened words (contents writer) (contents writer'))
+  -- the words asked to serve, nothing was read, and the line that tells of the address was written
+  abbrev pub LineWritten : Type 0
+  LineWritten = (reader' ≡ reader) × HasListened words (contents writer) (contents writer')
 
   -- What was read and written for the words, by how the program ended. What was written is unknown only after a failed write. What connections get is
   -- not a part of it.
@@ -34,9 +34,9 @@ module _ {R W : Type 0} (remaining : R → Option (List ℕ)) (contents : W → 
   Outcome Done = (HasSigned words (remaining reader) (contents writer) (contents writer') × IsAtEnd (remaining reader')) ⊎ ReplayAnswered Done
   Outcome Usage = ¬ IsCommand words × NothingReadOrWritten
   Outcome ReadFault = NothingSigned ⊎ ReplayAnswered ReadFault
-  Outcome WriteFault = (IsSign words × IsAtEnd (remaining reader')) ⊎ IsReplay words ⊎ IsServe words
+  Outcome WriteFault = (IsSign words × IsAtEnd (remaining reader')) ⊎ IsReplay words ⊎ (IsServe words × (reader' ≡ reader))
   Outcome TurnsUsedUp = (NothingSigned × IfSome (remaining reader) (λ input. turn_limit ≤ length input)) ⊎ ReplayAnswered TurnsUsedUp
-  Outcome ListenerFault = ServedOrNothingWritten
+  Outcome ListenerFault = (IsServe words × NothingReadOrWritten) ⊎ LineWritten
   Outcome NoMemory =
       NothingReadOrWritten ⊎ NothingSigned ⊎ HasEndedOutOfMemory words (remaining reader) (remaining reader') (contents writer) (contents writer')
-      ⊎ HasListened words (contents writer) (contents writer')
+      ⊎ LineWritten

@@ -6,16 +6,15 @@ ghost use Rattle.http_front.specs.declared.end.FrontFault.TheVariants as faults;
 ghost use Rattle.stamp_main.specs.declared.ending.Ending.TheVariants.{ListenerFault, Usage, WriteFault, NoMemory};
 ghost use Rattle.stamp_main.specs.Ending.{is_answered};
 ghost use Rattle.stamp_main.specs.Replays.{HasReplayed, HasEndedOutOfMemory, IsReplay, ReplaysReceived, ReplaysInput};
-ghost use Rattle.stamp_main.specs.Replays.{ReplayEndsOutOfMemory, keys_of, replay_line};
+ghost use Rattle.stamp_main.specs.Replays.{ReplayEndsOutOfMemory, replay_line};
 
 use crate::TURNS;
 use crate::ending::{Ending, status_of};
 use crate::words::{Asked, read_asked};
 use access_rules::Keys;
 use account_service::Plain;
-use hmac_sign::SigningKey;
 use http_front::{Clock, End, FrontFault, run};
-use stamp_types::{Moment, Text};
+use stamp_types::Moment;
 use std::alloc::Global;
 use std::io::{Read, Write};
 
@@ -41,33 +40,25 @@ pub(crate) fn replay_on<R: Read, W: Write>(
     reader: &mut R,
     writer: &mut W,
     moment: Moment,
-    account: Text,
-    first: SigningKey,
-    second: SigningKey,
+    keys: Keys,
     turns: u64,
 ) -> Result<End, FrontFault>
-    requires { IsTrue (is_account account) }
+    requires { IsTrue (is_account keys.account) }
     // What is written is a function of the bytes that were read, the moment, the account and the keys.
     ensures replayed { UnlessWriteOrMemoryFailed result (ReplaysReceived
-        (keys_of account first second) moment
+        keys moment
         (R.remaining reader.old) (R.remaining reader.new)
         (W.contents writer.old) (W.contents writer.new) result turns) }
     // These bytes are the whole input, however the input was cut into reads.
     ensures whole { OnOk result (IfSome (R.remaining reader.old) (ReplaysInput
-        (keys_of account first second) moment
+        keys moment
         (W.contents writer.old) (W.contents writer.new) result turns)) }
     // If memory ran out, the items before are answered in full and the last bytes say only that memory ran out.
     ensures starved { result ≡ Err faults.NoMemory →
-        ReplayEndsOutOfMemory (keys_of account first second) moment
+        ReplayEndsOutOfMemory keys moment
         (R.remaining reader.old) (R.remaining reader.new)
         (W.contents writer.old) (W.contents writer.new) }
 {
-    let keys = Keys {
-        account,
-        first,
-        second,
-        epoch: 0,
-    };
     let Some(mut service) = Plain::new(alloc, keys) else {
         unreachable!()
     };
@@ -113,14 +104,9 @@ pub(crate) fn run_replay<R: Read, W: Write>(
     ensures unserved { result ≢ ListenerFault }
 {
     match read_asked(alloc, moment, account, first, second) {
-        Ok(
-            Asked {
-                moment,
-                account,
-                first,
-                second,
-            },
-        ) => status_of(&replay_on(alloc, reader, writer, moment, account, first, second, TURNS)),
+        Ok(Asked { moment, keys }) => status_of(&replay_on(
+            alloc, reader, writer, moment, keys, TURNS,
+        )),
         Err(ending) => ending,
     }
 }

@@ -9,7 +9,6 @@ use crate::ending::Ending;
 use crate::gate::serve_on;
 use crate::signing::send;
 use crate::words::{Served, read_served};
-use access_rules::Keys;
 use account_lock::NewHistory;
 use std::alloc::{AllocError, Global};
 use std::io::Write;
@@ -89,15 +88,9 @@ fn serve_all<R: Threads + Wait + Clock + Sync>(
     listener: &TcpListener,
     served: Served<'_>,
 ) -> Ending
-    requires { IsTrue (is_account served.account) }
+    requires { IsTrue (is_account served.keys.account) }
     ensures { (result ≡ ListenerFault) ⊎ (result ≡ NoMemory) }
 {
-    let keys = Keys {
-        account: served.account,
-        first: served.first,
-        second: served.second,
-        epoch: 0,
-    };
     let patience = Duration::from_secs(PATIENCE);
     let history = NewHistory::new();
     match serve_on::<Brand, R, R>(
@@ -105,7 +98,7 @@ fn serve_all<R: Threads + Wait + Clock + Sync>(
         rt,
         alloc,
         history,
-        keys,
+        served.keys,
         listener,
         served.workers,
         u64::MAX,

@@ -50,10 +50,14 @@ const ABSENT: &[u8] =
 const REFUSED: &[u8] =
     b"HTTP/1.1 413 Payload Too Large\r\nDate: Mon, 01 Oct 2012 12:00:00 GMT\r\nx-ms-version: 2012-02-12\r\nx-stamp-rule: F8\r\nContent-Type: application/xml\r\nConnection: close\r\nContent-Length: 123\r\n\r\n<?xml version=\"1.0\" encoding=\"utf-8\"?><Error><Code>RequestBodyTooLarge</Code><Message>Refused by rule F8.</Message></Error>";
 
-// How many seconds a client waits for bytes, and how many milliseconds the server does.
+// How many seconds a client waits for bytes.
 const CLIENT_PATIENCE: u64 = 10;
 
-const PATIENCE: u64 = 300;
+// How many milliseconds the server waits for bytes.
+const PATIENCE: u64 = 20_000;
+
+// The same for a client that sends nothing, so that its test ends soon.
+const LITTLE_PATIENCE: u64 = 300;
 
 /// A clock that stays at noon of 1 October 2012. Whoever sleeps by it wakes up at once.
 #[derive(Drop)]
@@ -158,18 +162,8 @@ fn keys(alloc: Global) -> Result<Keys, AllocError>
     ensures { IfOk result (λ keys. IsTrue (is_account keys.account)) }
 {
     let served = read_served(alloc, "", "1", "devstoreaccount1", "a2V5MQ==", "a2V5Mg==");
-    let Served {
-        account,
-        first,
-        second,
-        ..
-    } = served.map_err(|_| AllocError)?;
-    Ok(Keys {
-        account,
-        first,
-        second,
-        epoch: 0,
-    })
+    let Served { keys, .. } = served.map_err(|_| AllocError)?;
+    Ok(keys)
 }
 
 // Serves so many connections by so many workers, and plays a client beside them. Returns whether serving ended well, and the turn at which
@@ -184,6 +178,7 @@ fn both_ends<
     keys: Keys,
     workers: usize,
     connections: u64,
+    patience: u64,
     turns: &[Turn],
 ) -> io::Result<(bool, Option<usize>)>
     requires history { history.seen.book ≡ A.history }
@@ -207,7 +202,7 @@ fn both_ends<
                 &listener,
                 workers,
                 connections,
-                Duration::from_millis(PATIENCE),
+                Duration::from_millis(patience),
             )
             .is_ok()
         },
@@ -226,11 +221,12 @@ fn both_ends<
 #[test]
 fn connections_are_served_over_loopback(rt: HostRuntime) -> Result<(), Fail> {
     use Turn::{Gets, IsClosed, Leaves, Opens, Sends, SendsMore};
-    let table: [(&str, usize, u64, &[Turn]); 6] = [
+    let table: [(&str, usize, u64, u64, &[Turn]); 6] = [
         (
             "two at once",
             2,
             2,
+            PATIENCE,
             &[
                 Opens,
                 Opens,
@@ -248,6 +244,7 @@ fn connections_are_served_over_loopback(rt: HostRuntime) -> Result<(), Fail> {
             "a head and a body that are not sent whole",
             1,
             3,
+            PATIENCE,
             &[
                 Opens,
                 Sends(0, CREATE),
@@ -266,6 +263,7 @@ fn connections_are_served_over_loopback(rt: HostRuntime) -> Result<(), Fail> {
             "a sender that goes on after a refusal",
             1,
             1,
+            PATIENCE,
             &[
                 Opens,
                 Sends(0, TOO_LARGE),
@@ -278,6 +276,7 @@ fn connections_are_served_over_loopback(rt: HostRuntime) -> Result<(), Fail> {
             "one after the other",
             1,
             3,
+            PATIENCE,
             &[
                 Opens,
                 Opens,
@@ -298,6 +297,7 @@ fn connections_are_served_over_loopback(rt: HostRuntime) -> Result<(), Fail> {
             "a client that sends nothing",
             1,
             2,
+            LITTLE_PATIENCE,
             &[
                 Opens,
                 Opens,
@@ -306,9 +306,15 @@ fn connections_are_served_over_loopback(rt: HostRuntime) -> Result<(), Fail> {
                 IsClosed(0),
             ],
         ),
-        ("a client that leaves at once", 2, 1, &[Opens, Leaves(0)]),
+        (
+            "a client that leaves at once",
+            2,
+            1,
+            PATIENCE,
+            &[Opens, Leaves(0)],
+        ),
     ];
-    for (name, workers, connections, turns) in table {
+    for (name, workers, connections, patience, turns) in table {
         let keys = keys(rt.alloc())?;
         let (served, differs) = both_ends::<Brand, _>(
             &rt,
@@ -317,6 +323,7 @@ fn connections_are_served_over_loopback(rt: HostRuntime) -> Result<(), Fail> {
             keys,
             workers,
             connections,
+            patience,
             turns,
         )?;
         assert!(rt; served, "{name}");

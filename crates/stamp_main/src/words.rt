@@ -4,7 +4,7 @@ ghost use Rattle.stamp_values.specs.Names as names;
 ghost use Rattle.moment_text.specs.IsoReader.{iso_moment};
 ghost use Rattle.hmac_sign.specs.Signature.{IsBytes, base64_of};
 ghost use Rattle.stamp_main.specs.declared.ending.Ending.TheVariants.{NoMemory, Usage};
-ghost use Rattle.stamp_main.specs.Replays.{AsksForReplay, IsReplay, keys_of, replay_line};
+ghost use Rattle.stamp_main.specs.Replays.{AsksForReplay, IsReplay, replay_line};
 ghost use Rattle.stamp_main.specs.Serving.{AsksToServe, IsServe, most_workers, serve_line};
 
 use crate::ending::Ending;
@@ -21,9 +21,7 @@ const MOST_WORKERS: u8 = 64;
 #[derive(Drop)]
 pub(crate) struct Asked {
     pub(crate) moment: Moment,
-    pub(crate) account: Text,
-    pub(crate) first: SigningKey,
-    pub(crate) second: SigningKey,
+    pub(crate) keys: Keys,
 }
 
 /// Reads the four words after `replay`.
@@ -39,24 +37,14 @@ pub(crate) fn read_asked(
 ) -> Result<Asked, Ending>
     ensures read { IfOk result (λ asked.
         AsksForReplay (replay_line moment.now account.now first.now second.now)
-        asked.moment (keys_of asked.account asked.first asked.second)) }
+        asked.moment asked.keys) }
     ensures refused { IfErr result (λ ending. ending ≡ Usage →
         ¬ IsReplay (replay_line moment.now account.now first.now second.now)) }
     ensures failed { IfErr result (λ ending. (ending ≡ Usage) ⊎ (ending ≡ NoMemory)) }
 {
     let moment = read_moment(moment)?;
-    let Keys {
-        account,
-        first,
-        second,
-        ..
-    } = read_keys(alloc, account, first, second)?;
-    Ok(Asked {
-        moment,
-        account,
-        first,
-        second,
-    })
+    let keys = read_keys(alloc, account, first, second)?;
+    Ok(Asked { moment, keys })
 }
 
 /// The address, how many workers serve it at once, and the account with its pair of keys.
@@ -64,9 +52,7 @@ pub(crate) fn read_asked(
 pub(crate) struct Served<'a> {
     pub(crate) address: &'a str,
     pub(crate) workers: usize,
-    pub(crate) account: Text,
-    pub(crate) first: SigningKey,
-    pub(crate) second: SigningKey,
+    pub(crate) keys: Keys,
 }
 
 /// Reads the five words after `serve`. Which texts are addresses is known when the address is taken.
@@ -83,25 +69,18 @@ pub(crate) fn read_served<'a>(
 ) -> Result<Served<'a>, Ending>
     ensures read { IfOk result (λ served.
         AsksToServe (serve_line address.now workers.now account.now first.now second.now)
-        served.address.now served.workers (keys_of served.account served.first served.second)) }
-    ensures named { IfOk result (λ served. IsTrue (names.is_account served.account)) }
+        served.address.now served.workers served.keys) }
+    ensures named { IfOk result (λ served. IsTrue (names.is_account served.keys.account)) }
     ensures refused { IfErr result (λ ending. ending ≡ Usage →
         ¬ IsServe (serve_line address.now workers.now account.now first.now second.now)) }
     ensures failed { IfErr result (λ ending. (ending ≡ Usage) ⊎ (ending ≡ NoMemory)) }
 {
     let workers = read_workers(alloc, workers)?;
-    let Keys {
-        account,
-        first,
-        second,
-        ..
-    } = read_keys(alloc, account, first, second)?;
+    let keys = read_keys(alloc, account, first, second)?;
     Ok(Served {
         address,
         workers,
-        account,
-        first,
-        second,
+        keys,
     })
 }
 
@@ -149,6 +128,7 @@ fn read_keys(alloc: Global, account: &str, first: &str, second: &str) -> Result<
         (keys.account ≡ account.now) × (names.is_account account.now ≡ true)) }
     ensures first { IfOk result (λ keys. (first.now ≡ base64_of keys.first) × IsBytes keys.first) }
     ensures second { IfOk result (λ keys. (second.now ≡ base64_of keys.second) × IsBytes keys.second) }
+    ensures unreplaced { IfOk result (λ keys. keys.epoch ≡ 0) }
     ensures refused { result ≡ Err Usage → (one two : List ℕ) → names.is_account account.now ≡ true
         → IsBytes one → IsBytes two → first.now ≡ base64_of one → second.now ≢ base64_of two }
     ensures failed { IfErr result (λ ending. (ending ≡ Usage) ⊎ (ending ≡ NoMemory)) }
