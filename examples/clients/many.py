@@ -1,0 +1,246 @@
+#!/usr/bin/env python3
+"""Sends a server what several clients send at once, and checks what only several connections can show.
+
+usage: examples/with-stamp examples/clients/many.py
+
+STAMP_URL, STAMP_ACCOUNT and STAMP_KEY name the server; examples/with-stamp sets them. The server needs at least four workers. The session
+creates a container and deletes it at its end. Each check prints a line, and the last line has two counts. Status 1 if a check failed.
+"""
+import base64
+import email.utils
+import hashlib
+import hmac
+import http.client
+import os
+import socket
+import sys
+import threading
+import time
+from collections import Counter
+from concurrent.futures import ThreadPoolExecutor
+from contextlib import ExitStack
+from urllib.parse import urlsplit
+
+if "STAMP_URL" not in os.environ:
+    sys.exit(__doc__)
+URL = urlsplit(os.environ["STAMP_URL"])
+ACCOUNT, KEY = os.environ["STAMP_ACCOUNT"], base64.b64decode(os.environ["STAMP_KEY"])
+CONTAINER = f"{URL.path}/many-{os.getpid()}-{time.time_ns()}"
+KEPT = f"{CONTAINER}/kept"
+# The standard headers of docs/formats/strings-to-sign.md.
+STANDARD = (
+    "Content-Encoding", "Content-Language", "Content-Length", "Content-MD5", "Content-Type", "Date", "If-Modified-Since", "If-Match",
+    "If-None-Match", "If-Unmodified-Since", "Range",
+)
+BLOCK_BLOB = {"x-ms-blob-type": "BlockBlob"}
+# How long a reply may take, in seconds. The server waits 30 seconds for an idle client, so a check fails if its request waits for that.
+LIMIT = 20
+CALLERS, TRIES, COMMITS, CONNECTIONS = 8, 100, 100, 100
+LARGEST = 67_108_864
+
+
+def string_to_sign(method, target, headers):
+    """By docs/formats/strings-to-sign.md. No parameter of this session is escaped, so none is decoded."""
+    path, _, query = target.partition("?")
+    standard = [headers.get(name, "") for name in STANDARD]
+    own = [f"{name}:{value}" for name, value in sorted(headers.items()) if name.startswith("x-ms-")]
+    parameters = sorted(piece.replace("=", ":", 1) for piece in query.split("&") if piece)
+    return "\n".join([method, *standard, *own, f"/{ACCOUNT}{path}", *parameters])
+
+
+def signed(method, target, headers, length):
+    """The headers of a signed request whose body has this length."""
+    headers = {**headers, "x-ms-version": "2012-02-12", "x-ms-date": email.utils.formatdate(usegmt=True)}
+    if method == "PUT":
+        headers["Content-Length"] = str(length)
+    signature = hmac.new(KEY, string_to_sign(method, target, headers).encode(), hashlib.sha256).digest()
+    return {**headers, "Authorization": f"SharedKey {ACCOUNT}:{base64.b64encode(signature).decode()}"}
+
+
+class Client:
+    """A caller with one connection, which ends with the `with` that made it."""
+
+    def __init__(self):
+        self.connection = http.client.HTTPConnection(URL.netloc, timeout=LIMIT)
+
+    def __enter__(self):
+        return self
+
+    def __exit__(self, *_):
+        self.connection.close()
+
+    def send(self, method, target, body=b"", headers=None):
+        """Sends a signed request, and returns its reply before the body of the reply is read."""
+        headers = signed(method, target, headers or {}, len(body))
+        self.connection.request(method, target, body if method == "PUT" else None, headers)
+        return self.connection.getresponse()
+
+    def ask(self, *request):
+        """Sends a signed request, and returns the status, the ETag and the body of its reply."""
+        reply = self.send(*request)
+        return reply.status, reply.headers.get("ETag", ""), reply.read()
+
+
+def ask(*request):
+    """Sends a signed request on a connection of its own, and returns the same as `Client.ask`."""
+    with Client() as client:
+        return client.ask(*request)
+
+
+def raise_number(target):
+    """Tries again and again to raise the number in a blob by one. Returns the status and the ETag of each Put."""
+    puts = []
+    for _ in range(TRIES):
+        with Client() as client:
+            _, etag, number = client.ask("GET", target)
+            status, new, _ = client.ask("PUT", target, b"%d" % (int(number) + 1), {**BLOCK_BLOB, "If-Match": etag})
+            puts.append((status, new))
+    return puts
+
+
+def a_number():
+    """Callers raise one number at once. A Put is refused if somebody else has raised the number since its Get."""
+    target = f"{CONTAINER}/number"
+    _, first, _ = ask("PUT", target, b"0", BLOCK_BLOB)
+    with ThreadPoolExecutor(CALLERS) as pool:
+        puts = [it for of_caller in pool.map(raise_number, [target] * CALLERS) for it in of_caller]
+    etags = [first, *(etag for status, etag in puts if status == 201)]
+    yield "each Put is accepted, or refused by its condition", {status for status, _ in puts} - {201, 412}, set()
+    yield "the number at the end is the number of accepted Puts", int(ask("GET", target)[2]), len(etags) - 1
+    yield "no ETag comes twice", len(set(etags)), len(etags)
+
+
+def digest(content):
+    return hashlib.sha256(content).hexdigest()
+
+
+def commit(target, block_list):
+    """Commits a block list again and again. Returns the status and the ETag of each commit."""
+    with Client() as client:
+        return [client.ask("PUT", f"{target}?comp=blocklist", block_list)[:2] for _ in range(COMMITS)]
+
+
+def read_until(done, target):
+    """Reads a blob at least once, and until an event is set. Returns the ETag and the digest of each content."""
+    reads = []
+    with Client() as client:
+        while not (reads and done.is_set()):
+            _, etag, content = client.ask("GET", target)
+            reads.append((etag, digest(content)))
+    return reads
+
+
+def commit_and_read(target, lists):
+    """Two callers commit a list each, while two others read the blob. Returns the commits of each list, and all reads."""
+    done = threading.Event()
+    with ThreadPoolExecutor(4) as pool:
+        readers = [pool.submit(read_until, done, target) for _ in range(2)]
+        try:
+            commits = list(pool.map(commit, [target] * 2, lists))
+        finally:
+            done.set()
+    return commits, [it for reader in readers for it in reader.result()]
+
+
+def block_list(ids):
+    latest = "".join(f"<Latest>{it}</Latest>" for it in ids)
+    return f"<BlockList>{latest}</BlockList>".encode()
+
+
+def block_lists():
+    """Two lists of the same blocks, each in its own order, are committed while others read. A reader sees one of them whole."""
+    target = f"{CONTAINER}/blocks"
+    blocks = {base64.b64encode(b"block%d" % it).decode(): bytes([it]) * 65_536 for it in range(8)}
+    statuses = [ask("PUT", f"{target}?comp=block&blockid={it}", content)[0] for it, content in blocks.items()]
+    yield "put the blocks", statuses, [201] * len(blocks)
+    orders = [list(blocks), list(blocks)[::-1]]
+    wholes = [digest(b"".join(blocks[it] for it in order)) for order in orders]
+    lists = [block_list(order) for order in orders]
+    status, first, _ = ask("PUT", f"{target}?comp=blocklist", lists[0])
+    yield "commit a list of them", status, 201
+    commits, reads = commit_and_read(target, lists)
+    yield "commit both lists again and again", {status for of_list in commits for status, _ in of_list}, {201}
+    named = {first: wholes[0]} | {etag: whole for whole, of_list in zip(wholes, commits) for _, etag in of_list}
+    yield "each commit has an ETag of its own", len(named), 1 + 2 * COMMITS
+    wrong = [etag for etag, read in reads if named.get(etag) != read]
+    yield "each read is the whole of the list that its ETag names", wrong[:1], []
+
+
+def a_deletion():
+    """A blob is deleted after a Get has begun and before it ends."""
+    target, content = f"{CONTAINER}/large", os.urandom(LARGEST)
+    yield "put the largest blob that one Put may have", ask("PUT", target, content, BLOCK_BLOB)[0], 201
+    with Client() as reader:
+        reply = reader.send("GET", target)
+        first = reply.read(1)
+        yield "delete it during a Get", ask("DELETE", target)[0], 202
+        yield "get it after that", ask("GET", target)[0], 404
+        yield "the Get that had begun is whole", digest(first + reply.read()), digest(content)
+
+
+def part_of_a_put(end):
+    """Opens a connection, and sends a Put Blob of `late` up to the place `end`, as in `put[:end]`."""
+    headers = signed("PUT", KEPT, BLOCK_BLOB, len(b"late"))
+    head = f"PUT {KEPT} HTTP/1.1\r\n" + "".join(f"{name}: {value}\r\n" for name, value in headers.items())
+    connection = socket.create_connection((URL.hostname, URL.port), LIMIT)
+    connection.sendall((head.encode() + b"\r\nlate")[:end])
+    return connection
+
+
+def without_a_head():
+    """Sends bytes that are not a head. Returns the status line of the reply, after the server has ended the connection."""
+    with socket.create_connection((URL.hostname, URL.port), LIMIT) as connection, connection.makefile("rb") as reply:
+        connection.sendall(b"\x16\x03\x01\x00\xff\r\n\r\n")
+        return reply.read().split(b"\r\n")[0]
+
+
+def bad_clients():
+    """Three clients wait inside a head. During that others leave inside a body or a head, or send what is not a head."""
+    _, etag, _ = ask("PUT", KEPT, b"kept", BLOCK_BLOB)
+    with ExitStack() as waiting:
+        first, *_ = [waiting.enter_context(part_of_a_put(-len(b"\r\nlate"))) for _ in range(3)]
+        for _ in range(20):
+            part_of_a_put(-2).close()
+            part_of_a_put(20).close()
+        yield "bytes that are not a head", {without_a_head() for _ in range(20)}, {b"HTTP/1.1 400 Bad Request"}
+        yield "the blob is as it was", ask("GET", KEPT), (200, etag, b"kept")
+        first.sendall(b"\r\nlate")
+        yield "the rest of a head that waited", first.recv(20, socket.MSG_WAITALL), b"HTTP/1.1 201 Created"
+    yield "the blob after that", ask("GET", KEPT)[2], b"late"
+
+
+def connections():
+    """More connections than any server has workers, one after the other: each worker has to be free again after its connection."""
+    statuses = Counter(ask("GET", KEPT)[0] for _ in range(CONNECTIONS))
+    yield "a hundred connections, one after the other", statuses, Counter({200: CONNECTIONS})
+
+
+def container():
+    yield "create a container", ask("PUT", f"{CONTAINER}?restype=container")[0], 201
+
+
+def no_container():
+    yield "delete the container", ask("DELETE", f"{CONTAINER}?restype=container")[0], 202
+
+
+def answers(check):
+    """What a check tried, what it got and what it wants. If a connection breaks or a reply takes too long, the check ends with that."""
+    try:
+        yield from check()
+    except (OSError, http.client.HTTPException, ValueError) as error:
+        yield check.__name__, repr(error), "an answer"
+
+
+def main():
+    passed = failed = 0
+    for check in (container, a_number, block_lists, a_deletion, bad_clients, connections, no_container):
+        for what, got, wanted in answers(check):
+            is_well = got == wanted
+            passed, failed = passed + is_well, failed + (not is_well)
+            print(f"ok {what}" if is_well else f"FAIL {what}: got {got!r:.300} want {wanted!r:.300}", flush=True)
+    print(f"{passed} ok, {failed} failed")
+    return int(failed > 0)
+
+
+if __name__ == "__main__":
+    sys.exit(main())
