@@ -168,13 +168,15 @@ module _ (keys : Option Keys) (w : World (List ℕ)) (key : Key) (name : List �
     pub part-listed : part_at (world_after_one keys w list) key ≡ changed held (act.PutBlockList list_put) (part_at w key)
     part-listed = part_at-own_act keys w list.request list.moment key (act.PutBlockList list_put) lists.container none list_act
 
-    abbrev list_there : Committed (List ℕ)
+    abbrev pub list_there : Committed (List ℕ)
     list_there = listed_committed_part held ((part_at w key).count + 1) list_put (part_at w key)
 
-    committed-list : (blob_in (part_at (world_after_one keys w list) key) name).committed ≡ Some list_there
+    -- after a Put Block List readers see the blocks that it commits
+    pub committed-list : (blob_in (part_at (world_after_one keys w list) key) name).committed ≡ Some list_there
     committed-list = ap (λ (p : Part (List ℕ)). (blob_in p name).committed) part-listed ∙ blob_in-put_list held list_put (part_at w key)
 
-    content-list : blob_content list_there ≡ wanted_bytes blob_before wanted
+    -- the content of these blocks is that of the wanted blocks
+    pub content-list : blob_content list_there ≡ wanted_bytes blob_before wanted
     content-list =
         ap (λ (b : Blob ℕ). content_of (taken_blocks blob_before (found_entries b wanted))) (blob_in-part_value byte_count (part_at w key) name)
         ∙ ap (λ (ts : List Taken). content_of (taken_blocks blob_before ts)) (found_entries-read byte_count blob_before wanted)

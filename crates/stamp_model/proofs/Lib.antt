@@ -2,12 +2,15 @@ pub mod AccessLemmas
 pub mod AnswerLemmas
 pub mod ArgumentLemmas
 pub mod BlockLemmas
+pub mod CallerLemmas
 pub mod ConditionLemmas
 pub mod ContentLemmas
 pub mod CountLemmas
 pub mod EffectLemmas
 pub mod EtagLemmas
 pub mod HistoryLemmas
+pub mod KeptLemmas
+pub mod LastLemmas
 pub mod MakingLemmas
 pub mod ObjectLemmas
 pub mod PartLemmas

@@ -95,7 +95,8 @@ module _ (keys : Option Keys) (w : World (List ℕ)) (q : Asked) (t : ℕ) (none
   answered : reply keys w q t None ≡ reply_of (part_at (effect keys w q t) q.ask.key) q
   answered = reply-admitted keys w q t None (reply-unrefused keys w q t None none)
 
-  read_before : (o : Op) → q.ask.op ≡ o → writes o ≡ false → reply keys w q t None ≡ reply_of (part_at w q.ask.key) q
+  -- the reply to a request that reads is what the operation answers from the container as it is
+  pub read_before : (o : Op) → q.ask.op ≡ o → writes o ≡ false → reply keys w q t None ≡ reply_of (part_at w q.ask.key) q
   read_before o is reads = answered ∙ ap (λ (v : World (List ℕ)). reply_of (part_at v q.ask.key) q) (effect-read keys w q t (ap writes is ∙ reads))
 
   -- the reply to a request that writes is about the blob as it is after the request

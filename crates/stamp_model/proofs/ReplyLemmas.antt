@@ -57,7 +57,8 @@ none_of_three None None c h = (refl, refl, h)
 none_of_three None (Some r) c h = cc
 none_of_three (Some r) b c h = cc
 
-unmapped : {X Y : Type 0} (f : X → Y) (o : Option X) → option_map f o ≡ None → o ≡ None
+-- an option that is mapped to `None` is `None`
+pub unmapped : {X Y : Type 0} (f : X → Y) (o : Option X) → option_map f o ≡ None → o ≡ None
 unmapped f None h = refl
 unmapped f (Some x) h = cc
 

@@ -64,7 +64,7 @@ module _ (p : Part (List ℕ)) where
   with_block a = record { committed = (blob_in p a.blob).committed; uncommitted = finite.insert (blob_in p a.blob).uncommitted a.id (held a.content) }
 
   -- after a Put Block readers see what they saw before
-  block_unseen : (a : PutBlock) → IsSeenAlike p (changed held (act.PutBlock a) p)
+  pub block_unseen : (a : PutBlock) → IsSeenAlike p (changed held (act.PutBlock a) p)
   block_unseen a = record {
     standing = refl;
     committed = λ name.
@@ -107,7 +107,8 @@ module _ {C : Type 0} (p r : Part C) (alike : IsSeenAlike p r) where
 
 -- ---- requests that read only what is committed
 
-writes_nothing : (o : Op) (k : Option BlockKinds) → reads_committed o k ≡ true → writes o ≡ false
+-- a request that reads only what is committed writes nothing
+pub writes_nothing : (o : Op) (k : Option BlockKinds) → reads_committed o k ≡ true → writes o ≡ false
 writes_nothing op.GetBlob k reads = refl
 writes_nothing op.BlobProperties k reads = refl
 writes_nothing op.GetMetadata k reads = refl
@@ -191,7 +192,7 @@ lists_frame (Some kinds.Uncommitted) b g reads same = cc
 lists_frame (Some kinds.All) b g reads same = cc
 
 module _ (q : Asked) (s u : Standing) (c d : Committed ℕ) (b g : Blob ℕ) (e h : Committed (List ℕ)) (seen : c ≡ d) (listed : b.committed ≡ g.committed) (sent : e ≡ h) where
-  answers_alike : (o : Op) → reads_committed o q.ask.args.kinds ≡ true → with_content (frame_by o q s c b) (bytes_by o q.ask.args.range e) ≡ with_content (frame_by o q u d g) (bytes_by o q.ask.args.range h)
+  pub answers_alike : (o : Op) → reads_committed o q.ask.args.kinds ≡ true → with_content (frame_by o q s c b) (bytes_by o q.ask.args.range e) ≡ with_content (frame_by o q u d g) (bytes_by o q.ask.args.range h)
   answers_alike op.GetBlob reads = λ i. with_content (ranged_frame q.ask.args.range (seen i)) (ranged_bytes q.ask.args.range (blob_content (sent i)))
   answers_alike op.BlobProperties reads = λ i. with_content (get_frame (seen i)) []
   answers_alike op.GetMetadata reads = λ i. with_content (frame_by op.GetMetadata q s (seen i) b) []

@@ -45,7 +45,7 @@ some_of (Some x) there = (x, refl)
 
 module _ (keys : Option Keys) (w : World (List ℕ)) (key : Key) (name : List ℕ) (kept : Kept) (put : Timed)
     (puts : IsOn op.PutBlob key name put.request) (keeps : put.request.ask.args.kept ≡ Some kept) (none : (reply_to_one keys w put).rule ≡ None) where
-  abbrev put_there : Committed (List ℕ)
+  abbrev pub put_there : Committed (List ℕ)
   put_there = put_committed held ((part_at w key).count + 1) (put_blob put.request put.moment name kept)
 
   -- a Put Blob makes this act, whatever the container is
@@ -54,7 +54,8 @@ module _ (keys : Option Keys) (w : World (List ℕ)) (key : Key) (name : List �
       ap (λ (o : Op). act_by o z put.request put.moment) puts.op
       ∙ (λ i. option_and_then (λ name. option_map (λ kept. act.PutBlob (put_blob put.request put.moment name kept)) (keeps i)) (puts.blob i))
 
-  committed-put : (blob_in (part_at (world_after_one keys w put) key) name).committed ≡ Some put_there
+  -- after a Put Blob readers see what it put
+  pub committed-put : (blob_in (part_at (world_after_one keys w put) key) name).committed ≡ Some put_there
   committed-put =
       ap (λ (p : Part (List ℕ)). (blob_in p name).committed)
       (part_at-act keys w put.request put.moment key (act.PutBlob (put_blob put.request put.moment name kept)) puts.container none put_act)
@@ -97,14 +98,15 @@ kept-put q key name fits puts = some_of q.ask.args.kept (fits.own.kept ∙ ap ke
 
 module _ (keys : Option Keys) (w : World (List ℕ)) (key : Key) (name : List ℕ) (set : Timed)
     (sets : IsOn op.SetMetadata key name set.request) (none : (reply_to_one keys w set).rule ≡ None) where
-  blob_before : (c : Committed (List ℕ)) × ((blob_in (part_at w key) name).committed ≡ Some c)
+  -- readers see the blob of an accepted Set Blob Metadata
+  pub blob_before : (c : Committed (List ℕ)) × ((blob_in (part_at w key) name).committed ≡ Some c)
   blob_before =
       some_of (blob_in (part_at w key) name).committed
       (sym (λ i. is_some (option_and_then (λ name. (blob_in (part_at w (sets.container i)) name).committed) (sets.blob i)))
       ∙ blob_needed (part_at w set.request.ask.key) set.request
       (unrefused keys (sizes (part_at w set.request.ask.key)) set.request set.moment (reply-unrefused keys w set.request set.moment None none)).unopposed (ap needs_blob sets.op))
 
-  abbrev set_there : Committed (List ℕ)
+  abbrev pub set_there : Committed (List ℕ)
   set_there = committed_with_metadata ((part_at w key).count + 1) (set_metadata set.request set.moment name) blob_before.0
 
   set_act : (z : Part ℕ) → act_by set.request.ask.op z set.request set.moment ≡ Some (act.SetMetadata (set_metadata set.request set.moment name))
@@ -112,7 +114,8 @@ module _ (keys : Option Keys) (w : World (List ℕ)) (key : Key) (name : List �
       ap (λ (o : Op). act_by o z set.request set.moment) sets.op
       ∙ ap (λ (blob : Option (List ℕ)). option_map (λ name. act.SetMetadata (set_metadata set.request set.moment name)) blob) sets.blob
 
-  committed-set : (blob_in (part_at (world_after_one keys w set) key) name).committed ≡ Some set_there
+  -- after a Set Blob Metadata readers see the blob with the new metadata
+  pub committed-set : (blob_in (part_at (world_after_one keys w set) key) name).committed ≡ Some set_there
   committed-set =
       ap (λ (p : Part (List ℕ)). (blob_in p name).committed)
       (part_at-act keys w set.request set.moment key (act.SetMetadata (set_metadata set.request set.moment name)) sets.container none set_act)
@@ -133,7 +136,7 @@ module _ (keys : Option Keys) (w : World (List ℕ)) (key : Key) (name : List �
 -- ---- what does not exist
 
 -- a request for a blob that readers don't see, in a container that exists, is refused by O3 if permission admits it
-reply-absent_blob : (keys : Option Keys) (v : World (List ℕ)) (key : Key) (read : Timed) → read.request.ask.key ≡ key → needs_blob read.request.ask.op ≡ true → IsAdmitted keys v read
+pub reply-absent_blob : (keys : Option Keys) (v : World (List ℕ)) (key : Key) (read : Timed) → read.request.ask.key ≡ key → needs_blob read.request.ask.op ≡ true → IsAdmitted keys v read
     → is_some (part_at v key).standing ≡ true → named_blob (part_at v key) read.request.ask ≡ None → reply_to_one keys v read ≡ denied (cause_refusal BlobIsAbsent)
 reply-absent_blob keys v key read same needs admits exists unseen =
     reply-refused keys v read.request read.moment (cause_refusal BlobIsAbsent) admits

@@ -3,6 +3,7 @@ pub mod Conditions
 pub mod Effects
 pub mod Etags
 pub mod Histories
+pub mod Kept
 pub mod Ranges
 pub mod Refusals
 pub mod Responses

@@ -1,6 +1,6 @@
 -- Which rule refuses a request, and with which code (Blob service REST reference, 2012-02-12, Status and Error Codes, Blob
 -- Service Error Codes). The rules, their order and the codes of the rules of permission are the stamp's own.
-use Rattle.std.specs.Prelude.{ℕ, Bool, false, not, ◌||◌, List, [], ◌∷◌, ◌++◌, Option, Some, None, if◌then◌else◌}
+use Rattle.std.specs.Prelude.{ℕ, Bool, true, false, not, ◌||◌, List, [], ◌∷◌, ◌++◌, Option, Some, None, if◌then◌else◌}
 use Rattle.std.specs.Option.{option_map, option_or}
 use Rattle.stamp_values.specs.declared.op.Op.{Op}
 use Rattle.stamp_types.specs.declared.code.Code.{Code}
@@ -51,3 +51,24 @@ refuses keys p q t r = holds keys (acl_of p) q.ask t r || (object_holds p q r ||
 -- all rules in their order: the reply names the first rule that holds
 abbrev pub rules_in_order : List Rule
 rules_in_order = access_rules ++ object_rules ++ rule.F3 ∷ []
+
+-- the rule is judged by the keys, the request and the moment alone
+abbrev pub sees_no_container : Rule → Bool
+sees_no_container rule.K1 = true
+sees_no_container rule.K2 = true
+sees_no_container rule.K3 = true
+sees_no_container rule.K4 = true
+sees_no_container rule.K5 = true
+sees_no_container rule.S1 = true
+sees_no_container rule.P1 = true
+sees_no_container _ = false
+
+-- the rule is a rule of the object: it tells what the stamp holds
+abbrev pub is_object_rule : Rule → Bool
+is_object_rule rule.O1 = true
+is_object_rule rule.O2 = true
+is_object_rule rule.O3 = true
+is_object_rule rule.O4 = true
+is_object_rule rule.O5 = true
+is_object_rule rule.O6 = true
+is_object_rule _ = false

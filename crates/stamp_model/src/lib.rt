@@ -3,13 +3,19 @@
 #![tactic(auto)]
 
 mod block_laws;
+mod caller_laws;
 mod condition_laws;
 mod etag_laws;
 mod history_laws;
+mod kept_laws;
 mod laws;
 mod run_laws;
 
 pub use block_laws::{a_commit_is_seen_whole_or_not_at_all, no_block_outlives_its_commit};
+pub use caller_laws::{
+    a_caller_without_a_valid_credential_learns_nothing, a_read_changes_nothing,
+    only_admitted_callers_are_told_of_the_object,
+};
 pub use condition_laws::{
     a_condition_never_lets_more_by, a_conditional_write_changes_what_its_caller_saw,
     a_part_is_a_part_of_the_whole,
@@ -19,6 +25,7 @@ pub use history_laws::{
     a_front_part_of_a_legal_history_is_legal, an_accepted_request_continues_a_legal_history,
     each_entry_is_one_change,
 };
+pub use kept_laws::{a_blob_is_changed_by_its_own_requests, what_was_written_last_is_read};
 pub use laws::{
     a_container_is_changed_by_its_own_operations, a_refused_request_changes_nothing,
     an_answer_is_of_what_exists, an_effect_reaches_its_own_container_alone,

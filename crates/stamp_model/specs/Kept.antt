@@ -1,0 +1,45 @@
+-- What requests leave of a blob (Blob service REST reference, 2012-02-12, the pages of the operations that write).
+use Rattle.std.specs.Prelude.{◌≡◌, Bool, true, false, ◌&&◌, List, ℕ, Some}
+use Rattle.stamp_values.specs.Operations.{names_blob, writes}
+use Rattle.stamp_values.specs.declared.key.Key.{Key}
+use Rattle.stamp_values.specs.declared.op.Op.{Op}
+use Rattle.stamp_values.specs.declared.op.Op.TheVariants as op
+use Rattle.stamp_types.specs.Requests.{Asked}
+use Rattle.stamp_model.specs.Blocks.{takes_blocks}
+use Rattle.stamp_model.specs.Histories.{makes_or_deletes}
+
+-- the operation gives its blob a content that readers see: it puts the blob, or commits blocks
+abbrev pub gives_content : Op → Bool
+gives_content op.PutBlob = true
+gives_content op.PutBlockList = true
+gives_content _ = false
+
+-- the operation alters what readers see of its blob: it puts, commits or deletes the blob, or sets its metadata
+abbrev pub alters_blob : Op → Bool
+alters_blob op.SetMetadata = true
+alters_blob other = takes_blocks other
+
+-- the operation writes the blob that it names
+abbrev pub writes_blob : Op → Bool
+writes_blob o = writes o && names_blob o
+
+-- If the request is on this container, it neither makes nor deletes the container. If it is on the blob of this name in it, its
+-- operation is none of these.
+abbrev pub Leaves : (Op → Bool) → Key → List ℕ → Asked → Type 0
+Leaves alters key name q = q.ask.key ≡ key → (makes_or_deletes q.ask.op ≡ false) × (q.ask.blob ≡ Some name → alters q.ask.op ≡ false)
+
+-- the request leaves the content of the blob of this name in this container
+abbrev pub LeavesContent : Key → List ℕ → Asked → Type 0
+LeavesContent key name q = Leaves takes_blocks key name q
+
+-- the request leaves what readers see of the blob of this name in this container
+abbrev pub LeavesSeen : Key → List ℕ → Asked → Type 0
+LeavesSeen key name q = Leaves alters_blob key name q
+
+-- the request leaves the blob of this name in this container, with its uncommitted blocks
+abbrev pub LeavesBlob : Key → List ℕ → Asked → Type 0
+LeavesBlob key name q = Leaves writes_blob key name q
+
+-- the request gives the blob of this name in this container no content that readers see
+abbrev pub GivesNoContent : Key → List ℕ → Asked → Type 0
+GivesNoContent key name q = q.ask.key ≡ key → q.ask.blob ≡ Some name → gives_content q.ask.op ≡ false
