@@ -46,7 +46,7 @@ use Rattle.range_rows.specs.ObjectRules.Cause.{ContainerIsAbsent, ContainerExist
 use Rattle.range_rows.specs.Readings.{wanted_blocks}
 use Rattle.range_rows.specs.RequestChanges.{act_by, put_blob, put_block, put_block_list}
 use Rattle.range_rows.proofs.AnswerLemmas.{blob_in-put_list, listed_committed_part, put_committed}
-use Rattle.stamp_model.specs.Blocks.{takes_blocks, wanted_bytes, wanted_content, without_uncommitted}
+use Rattle.stamp_model.specs.Blocks.{takes_blocks, wanted_bytes, wanted_content}
 use Rattle.stamp_model.specs.Runs.{Timed, IsAdmitted, IsOn, world_after_one, reply_to_one}
 use Rattle.stamp_model.proofs.ArgumentLemmas.{no_cause}
 use Rattle.stamp_model.proofs.ObjectLemmas.{there_is}
@@ -101,7 +101,8 @@ module _ {C D : Type 0} (f : C → D) (b : Blob C) where
   source_of-read : (w : Wanted) → source_of (blob_value f b) w ≡ source_of b w
   source_of-read w = λ i. find (λ s. there-read s w.id i) (sources_of w.lookup)
 
-  found_entries-read : (ws : List Wanted) → found_entries (blob_value f b) ws ≡ found_entries b ws
+  -- the same entries are found
+  pub found_entries-read : (ws : List Wanted) → found_entries (blob_value f b) ws ≡ found_entries b ws
   found_entries-read ws = λ i. flat_map (λ w. option_to_list (option_map (taken_from w) (source_of-read w i))) ws
 
   first_missing-read : (ws : List Wanted) → first_missing (blob_value f b) ws ≡ first_missing b ws
@@ -246,27 +247,12 @@ module _ (keys : Option Keys) (w : World (List ℕ)) (key : Key) (name : List �
   uncommitted-taken other takes on = cc
 
 -- the reply to a Get Block List has the block lists of the blob in its body
-body-block_list : (keys : Option Keys) (v : World (List ℕ)) (key : Key) (name : List ℕ) (list : Timed) → IsOn op.GetBlockList key name list.request → (reply_to_one keys v list).rule ≡ None
+pub body-block_list : (keys : Option Keys) (v : World (List ℕ)) (key : Key) (name : List ℕ) (list : Timed) → IsOn op.GetBlockList key name list.request → (reply_to_one keys v list).rule ≡ None
     → (reply_to_one keys v list).body ≡ list_text list.request.ask.args.kinds (blob_in (sizes (part_at v key)) name)
 body-block_list keys v key name list lists free =
     ap (λ (r : Reply). r.body) (reply-read_in keys v list.request list.moment free op.GetBlockList key refl (record { op = lists.op; container = lists.container }))
     ∙ append-nil (list_text list.request.ask.args.kinds (target_blob (sizes (part_at v key)) list.request.ask))
     ∙ ap (λ (blob : Option (List ℕ)). list_text list.request.ask.args.kinds (unwrap_or (option_map (blob_in (sizes (part_at v key))) blob) no_blob)) lists.blob
-
--- a blob that has no uncommitted block has none if its content is read as sizes
-no_sizes : (p : Part (List ℕ)) (name : List ℕ) → (blob_in p name).uncommitted ≡ finite.empty → (blob_in (sizes p) name).uncommitted ≡ finite.empty
-no_sizes p name gone =
-    ap (λ (b : Blob ℕ). b.uncommitted) (blob_in-part_value byte_count p name)
-    ∙ ap (map_values byte_count) gone
-    ∙ map_values-empty names_total names_exact byte_count
-
--- if the blob of a Get Block List has no uncommitted block, the reply has the block lists of a blob without uncommitted blocks
-pub body-without_uncommitted : (keys : Option Keys) (v : World (List ℕ)) (key : Key) (name : List ℕ) (list : Timed) → IsOn op.GetBlockList key name list.request → (reply_to_one keys v list).rule ≡ None
-    → (blob_in (part_at v key) name).uncommitted ≡ finite.empty
-    → (reply_to_one keys v list).body ≡ list_text list.request.ask.args.kinds (without_uncommitted (blob_in (sizes (part_at v key)) name))
-body-without_uncommitted keys v key name list lists free gone =
-    body-block_list keys v key name list lists free
-    ∙ (λ i. list_text list.request.ask.args.kinds (record { committed = (blob_in (sizes (part_at v key)) name).committed; uncommitted = no_sizes (part_at v key) name gone i }))
 
 -- ---- Get Block List of a blob that was deleted
 

@@ -2,6 +2,7 @@ pub mod AccessLemmas
 pub mod AnswerLemmas
 pub mod ArgumentLemmas
 pub mod BlockLemmas
+pub mod BlockListLemmas
 pub mod CallerLemmas
 pub mod ConditionLemmas
 pub mod ContentLemmas

@@ -25,20 +25,20 @@ writes_blob o = writes o && names_blob o
 
 -- If the request is on this container, it neither makes nor deletes the container. If it is on the blob of this name in it, its
 -- operation is none of these.
-abbrev pub Leaves : (Op → Bool) → Key → List ℕ → Asked → Type 0
-Leaves alters key name q = q.ask.key ≡ key → (makes_or_deletes q.ask.op ≡ false) × (q.ask.blob ≡ Some name → alters q.ask.op ≡ false)
+abbrev pub LeavesBy : (Op → Bool) → Key → List ℕ → Asked → Type 0
+LeavesBy alters key name q = q.ask.key ≡ key → (makes_or_deletes q.ask.op ≡ false) × (q.ask.blob ≡ Some name → alters q.ask.op ≡ false)
 
 -- the request leaves the content of the blob of this name in this container
 abbrev pub LeavesContent : Key → List ℕ → Asked → Type 0
-LeavesContent key name q = Leaves takes_blocks key name q
+LeavesContent key name q = LeavesBy takes_blocks key name q
 
 -- the request leaves what readers see of the blob of this name in this container
 abbrev pub LeavesSeen : Key → List ℕ → Asked → Type 0
-LeavesSeen key name q = Leaves alters_blob key name q
+LeavesSeen key name q = LeavesBy alters_blob key name q
 
 -- the request leaves the blob of this name in this container, with its uncommitted blocks
 abbrev pub LeavesBlob : Key → List ℕ → Asked → Type 0
-LeavesBlob key name q = Leaves writes_blob key name q
+LeavesBlob key name q = LeavesBy writes_blob key name q
 
 -- the request gives the blob of this name in this container no content that readers see
 abbrev pub GivesNoContent : Key → List ℕ → Asked → Type 0

@@ -1,11 +1,11 @@
 //! Laws of blocks and of block lists. Each law is the contract of a function that does nothing.
-ghost use Rattle.std.specs.Prelude.{◌≡◌, ◌≢◌, ℕ, ◌+◌, IsTrue, All, List, ◌∷◌, ◌++◌, Option, Some, None, length, map};
+ghost use Rattle.std.specs.Prelude.{◌≡◌, ◌≢◌, ℕ, ◌+◌, IsTrue, All, List, [], ◌∷◌, ◌++◌, Option, Some, None, length, map};
 ghost use Rattle.std.specs.FinMap as finite;
 ghost use Rattle.md5.specs.Md5.{md5};
 ghost use Rattle.stamp_values.specs.declared.block.Source.TheVariants as source;
 ghost use Rattle.stamp_values.specs.declared.key.Key.{Key};
 ghost use Rattle.stamp_values.specs.declared.op.Op.{Op};
-ghost use Rattle.stamp_values.specs.declared.op.Op.TheVariants.{BlobProperties, DeleteBlob, GetBlob, GetBlockList, PutBlock, PutBlockList};
+ghost use Rattle.stamp_values.specs.declared.op.Op.TheVariants.{BlobProperties, DeleteBlob, GetBlob, GetBlockList, PutBlob, PutBlock, PutBlockList};
 ghost use Rattle.stamp_types.specs.declared.args.Kept.{Kept};
 ghost use Rattle.stamp_types.specs.declared.code.Code.TheVariants.{BlobNotFound};
 ghost use Rattle.stamp_types.specs.declared.header.Header.TheVariants as header;
@@ -17,9 +17,10 @@ ghost use Rattle.stamp_types.specs.Requests.{IsAsk};
 ghost use Rattle.stamp_types.specs.World.{World, blob_in, content_from, part_at};
 ghost use Rattle.access_rules.specs.declared.keys.Keys.{Keys};
 ghost use Rattle.block_blobs.specs.BlockLists.{first_missing};
-ghost use Rattle.range_rows.specs.ObjectReplies.{date_headers, kept_lines, list_text, sizes};
+ghost use Rattle.body_forms.specs.WrittenLists.{ListedBlock, block_list_text};
+ghost use Rattle.range_rows.specs.ObjectReplies.{date_headers, if_shown, kept_lines, shows_committed, shows_uncommitted};
 ghost use Rattle.range_rows.specs.Readings.{wanted_blocks};
-ghost use Rattle.stamp_model.specs.Blocks.{reads_committed, takes_blocks, wanted_bytes, without_uncommitted};
+ghost use Rattle.stamp_model.specs.Blocks.{ListsUncommitted, reads_committed, takes_blocks, wanted_bytes, wanted_listed};
 ghost use Rattle.stamp_model.specs.Runs.{Timed, IsAdmitted, IsOn, reply_to_one, world_after_all, world_after_one};
 
 /// A commit is seen whole or not at all. A Put Block, accepted or refused, changes no reply to a
@@ -110,10 +111,8 @@ pub fn a_commit_is_seen_whole_or_not_at_all()
 {}
 
 /// No uncommitted block outlives a commit. After an accepted Put Blob, Put Block List or Delete Blob,
-/// the blob has no uncommitted block. If the next request is a Get Block List of this blob, and no
-/// rule refuses it, the body of its reply is the block lists of a blob without uncommitted blocks,
-/// whatever kinds of blocks it asks for. After a Delete Blob, O3 refuses each Get Block List of the
-/// blob that permission admits.
+/// the blob has no uncommitted block. After a Delete Blob, O3 refuses each Get Block List of the blob
+/// that permission admits.
 pub fn no_block_outlives_its_commit()
     ensures gone { (keys : Option Keys) (w : World (List ℕ)) (key : Key) (name : List ℕ) (o : Op)
         (commit : Timed)
@@ -121,14 +120,6 @@ pub fn no_block_outlives_its_commit()
         → (reply_to_one keys w commit).rule ≡ None
         → (blob_in (part_at (world_after_one keys w commit) key) name).uncommitted
         ≡ finite.empty }
-    ensures listed { (keys : Option Keys) (w : World (List ℕ)) (key : Key) (name : List ℕ)
-        (o : Op) (commit list : Timed)
-        → IsAsk commit.request.ask → IsTrue (takes_blocks o) → IsOn o key name commit.request
-        → IsOn GetBlockList key name list.request → (reply_to_one keys w commit).rule ≡ None
-        → (reply_to_one keys (world_after_one keys w commit) list).rule ≡ None
-        → (reply_to_one keys (world_after_one keys w commit) list).body
-        ≡ list_text list.request.ask.args.kinds
-        (without_uncommitted (blob_in (sizes (part_at (world_after_one keys w commit) key)) name)) }
     ensures deleted { (keys : Option Keys) (w : World (List ℕ)) (key : Key) (name : List ℕ)
         (delete list : Timed)
         → IsOn DeleteBlob key name delete.request → IsOn GetBlockList key name list.request
@@ -136,4 +127,39 @@ pub fn no_block_outlives_its_commit()
         → IsAdmitted keys (world_after_one keys w delete) list
         → reply_to_one keys (world_after_one keys w delete) list
         ≡ denied (record { rule = O3; code = BlobNotFound }) }
+{}
+
+/// A block list shows the blocks. If the next request after an accepted Put Block List is a Get Block
+/// List of the blob, and no rule refuses it, it shows the wanted blocks as committed, each with its
+/// number of bytes, in the order of the list, and no uncommitted block. After an accepted Put Blob it
+/// shows no block, since the block of a blob that was put whole has no id. A Get Block List that no
+/// rule refuses shows the uncommitted blocks of the blob, each once, with its number of bytes, in the
+/// order of the ids.
+pub fn a_block_list_shows_the_blocks()
+    ensures committed { (keys : Option Keys) (w : World (List ℕ)) (key : Key) (name : List ℕ)
+        (list read : Timed)
+        → IsAsk list.request.ask → IsOn PutBlockList key name list.request
+        → (reply_to_one keys w list).rule ≡ None → IsOn GetBlockList key name read.request
+        → (reply_to_one keys (world_after_one keys w list) read).rule ≡ None
+        → (reply_to_one keys (world_after_one keys w list) read).body
+        ≡ block_list_text
+        (if_shown (shows_committed read.request.ask.args.kinds)
+        (map (wanted_listed (blob_in (part_at w key) name)) (wanted_blocks list.request)))
+        (if_shown (shows_uncommitted read.request.ask.args.kinds) []) }
+    ensures whole { (keys : Option Keys) (w : World (List ℕ)) (key : Key) (name : List ℕ)
+        (put read : Timed)
+        → IsAsk put.request.ask → IsOn PutBlob key name put.request
+        → (reply_to_one keys w put).rule ≡ None → IsOn GetBlockList key name read.request
+        → (reply_to_one keys (world_after_one keys w put) read).rule ≡ None
+        → (reply_to_one keys (world_after_one keys w put) read).body
+        ≡ block_list_text (if_shown (shows_committed read.request.ask.args.kinds) [])
+        (if_shown (shows_uncommitted read.request.ask.args.kinds) []) }
+    ensures uncommitted { (keys : Option Keys) (w : World (List ℕ)) (key : Key) (name : List ℕ)
+        (read : Timed)
+        → IsOn GetBlockList key name read.request → (reply_to_one keys w read).rule ≡ None
+        → (committed : List ListedBlock) × (us : List ListedBlock)
+        × ListsUncommitted (blob_in (part_at w key) name) us
+        × ((reply_to_one keys w read).body
+        ≡ block_list_text (if_shown (shows_committed read.request.ask.args.kinds) committed)
+        (if_shown (shows_uncommitted read.request.ask.args.kinds) us)) }
 {}

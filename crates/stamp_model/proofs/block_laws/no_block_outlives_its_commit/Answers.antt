@@ -1,13 +1,8 @@
-use Rattle.stamp_model.specs.Runs.{world_after_one}
-use Rattle.stamp_model.proofs.BlockLemmas.{uncommitted-taken, body-without_uncommitted, reply-deleted_list}
+use Rattle.stamp_model.proofs.BlockLemmas.{uncommitted-taken, reply-deleted_list}
 use Rattle.stamp_model.proofs.block_laws.no_block_outlives_its_commit.Goals as goal
 
 pub returns-clause-gone : goal.returns-clause-gone
 returns-clause-gone c = λ keys w key name o commit fits takes on none. uncommitted-taken keys w key name commit fits none o takes on
-
-pub returns-clause-listed : goal.returns-clause-listed
-returns-clause-listed c = λ keys w key name o commit list fits takes on lists none free.
-    body-without_uncommitted keys (world_after_one keys w commit) key name list lists free (uncommitted-taken keys w key name commit fits none o takes on)
 
 pub returns-clause-deleted : goal.returns-clause-deleted
 returns-clause-deleted c = λ keys w key name delete list deletes lists none admits. reply-deleted_list keys w key name delete list deletes none lists admits
