@@ -145,6 +145,25 @@ def kept_program(digest):
     return ROOT / "crates" / PROGRAM / "out" / "by_sources" / digest / PROGRAM
 
 
+def reason_of(error):
+    """What an error says, on one line, with the file that it is about."""
+    if isinstance(error, shutil.Error):
+        # The first of the files that could not be copied, with where it should go, and why not.
+        return error.args[0][0][2]
+    return f"{error.filename}: {error.strerror}" if getattr(error, "filename", None) else str(error)
+
+
+def why_not_kept(digest):
+    """Why a program of this digest could not be kept, or None if it could: a file is made in the folder of such programs, and dropped."""
+    place = kept_program(digest).parent.parent
+    try:
+        place.mkdir(parents=True, exist_ok=True)
+        with tempfile.TemporaryFile(dir=place):
+            return None
+    except OSError as error:
+        return f"{place}: {error.strerror}"
+
+
 def keep_program(copy):
     """Keeps the program that was built in a copy of the tree under the digest of the copy, and drops older ones. Returns where it is."""
     kept = kept_program(digest_of_program(copy))

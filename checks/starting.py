@@ -1,0 +1,120 @@
+"""What `./stamp` does if the program is not built yet. It runs in a small tree that is made for it, with a stub in the place of the
+toolchain, so nothing is built.
+
+Each function gives what was tried, what came of it, and what was wanted: the status, standard output and standard error.
+"""
+import os
+import shutil
+import signal
+import subprocess
+import sys
+import tempfile
+import time
+from pathlib import Path
+
+ROOT = Path(__file__).resolve().parent.parent
+FILES = ("stamp", "HANDLES", "checks/start", "checks/tree.py", "checks/release.py")
+NEEDED = ("python3", "readlink", "dirname")
+SIGN = ["sign", "SmVmZQ=="]
+OUT = "crates/stamp_main/out"
+NOT_BUILT = "stamp: the program was not built: "
+# What stands for the toolchain: it is asked to prove and to build, in a copy of the tree.
+NEVER_CALLED = "echo the toolchain was called"
+FAILS = "echo 'crate: no proof'; echo '0 passed, 1 failed'; exit 1"
+BUILDS = f'mkdir -p {OUT}; cp "$PROGRAM" {OUT}/stamp_main; echo "1 passed, 0 failed"'
+WAITS = 'touch "$TMPDIR/called"; exec sleep 60'
+
+
+def make_tree(root):
+    """A tree with one crate."""
+    for name in FILES:
+        (root / name).parent.mkdir(parents=True, exist_ok=True)
+        shutil.copy(ROOT / name, root / name)
+    (root / "crates" / "stamp_main" / "src").mkdir(parents=True)
+    (root / "crates.txt").write_text("stamp_main: std\n", encoding="utf-8")
+
+
+def make_path(folder):
+    """A folder that has the commands which ./stamp needs, and no other command."""
+    folder.mkdir()
+    for name in NEEDED:
+        (folder / name).symlink_to(sys.executable if name == "python3" else shutil.which(name))
+
+
+def start(root, stub, program, **how):
+    """Starts `./stamp sign` of a tree, with a stub in the place of the toolchain, or without a toolchain if there is no stub."""
+    path = str(root.parent / "path")
+    if stub:
+        toolchain = root.parent / "bin" / "rt"
+        toolchain.write_text(f"#!/bin/sh\n{stub}\n", encoding="utf-8")
+        toolchain.chmod(0o755)
+        path = f"{toolchain.parent}:{os.environ['PATH']}"
+    how = {"stdin": subprocess.DEVNULL, "stdout": subprocess.PIPE, "stderr": subprocess.PIPE, "path": path, **how}
+    environment = {"PATH": how.pop("path"), "PROGRAM": program, "TMPDIR": str(root.parent / "room")}
+    return subprocess.Popen([root / "stamp", *SIGN], env=environment, **how)
+
+
+def ended(process):
+    """The status of a run, its standard output, and its standard error as a text."""
+    wrote, said = process.communicate(timeout=60)
+    return process.returncode, wrote, said.decode()
+
+
+def what_is_missing(root, program):
+    yield "./stamp without python3", ended(start(root, None, program, path="")), (70, b"", "stamp: python3 is not on the path\n")
+    wanted = f"{NOT_BUILT}the toolchain is missing: rt is not on the path\n"
+    yield "./stamp without a toolchain", ended(start(root, None, program)), (70, b"", wanted)
+    (root / "HANDLES").rename(root / "handles")
+    wanted = f"{NOT_BUILT}{root / 'HANDLES'}: No such file or directory\n"
+    yield "./stamp without a file of the sources", ended(start(root, NEVER_CALLED, program)), (70, b"", wanted)
+    (root / "handles").rename(root / "HANDLES")
+
+
+def what_cannot_be_kept(root, program):
+    """A build that would be lost is not begun. Root may write everywhere, but cannot make a folder in a file either."""
+    (root / OUT).touch()
+    wanted = f"{NOT_BUILT}it could not be kept: {root / OUT}/by_sources: Not a directory\n"
+    yield "./stamp if nothing can be kept", ended(start(root, NEVER_CALLED, program)), (70, b"", wanted)
+    (root / OUT).unlink()
+    if os.geteuid():
+        (root / OUT).parent.chmod(0o555)
+        wanted = f"{NOT_BUILT}it could not be kept: {root / OUT}/by_sources: Permission denied\n"
+        yield "./stamp in a tree that is read-only", ended(start(root, NEVER_CALLED, program)), (70, b"", wanted)
+        (root / OUT).parent.chmod(0o755)
+
+
+def builds_that_fail(root, program):
+    status, wrote, said = ended(start(root, FAILS, program))
+    wanted = ["crate: no proof", f"{NOT_BUILT}the lines above say why"]
+    yield "./stamp if the build fails", (status, wrote, said.splitlines()[1:]), (70, b"", wanted)
+    # Ctrl-C signals a group of processes. The group heeds it, also if this run does not.
+    heeds = lambda: signal.signal(signal.SIGINT, signal.SIG_DFL)
+    process = start(root, WAITS, program, start_new_session=True, preexec_fn=heeds)
+    room, limit = root.parent / "room", time.monotonic() + 30
+    while not (room / "called").exists() and time.monotonic() < limit:
+        time.sleep(0.01)
+    os.killpg(process.pid, signal.SIGINT)
+    status, wrote, said = ended(process)
+    yield "./stamp if the build is interrupted", (status, wrote, said.splitlines()[1:]), (70, b"", [f"{NOT_BUILT}it was interrupted"])
+    yield "what an interrupted build leaves", [it.name for it in room.iterdir()], ["called"]
+
+
+def good_builds(root, program):
+    """The program is built once, and gets the streams of each call. Python alone would not start with a folder as its input."""
+    usual = ended(subprocess.Popen([program, *SIGN], stdin=subprocess.DEVNULL, stdout=subprocess.PIPE, stderr=subprocess.PIPE))
+    yield "./stamp that builds", ended(start(root, BUILDS, program))[:2], usual[:2]
+    yield "./stamp after that", ended(start(root, NEVER_CALLED, program)), usual
+    folder = os.open(root, os.O_RDONLY)
+    yield "./stamp with a folder as its input", ended(start(root, None, program, stdin=folder)), (3, b"", "")
+    os.close(folder)
+
+
+def all_starts(program):
+    with tempfile.TemporaryDirectory(prefix="stamp-start-") as folder:
+        root = Path(folder).resolve() / "clone"
+        make_tree(root)
+        make_path(root.parent / "path")
+        for name in ("bin", "room"):
+            (root.parent / name).mkdir()
+        for tried in (what_is_missing, what_cannot_be_kept, builds_that_fail, good_builds):
+            yield from tried(root, program)
