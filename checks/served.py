@@ -1,0 +1,110 @@
+"""A server that a check or a measurement starts, and signed requests to it."""
+import email.utils
+import http.client
+import select
+import socket
+import subprocess
+import sys
+import time
+from pathlib import Path
+
+import shown
+
+ROOT = Path(__file__).resolve().parent.parent
+ACCOUNT = "devstoreaccount1"
+KEYS = ("a2V5MQ==", "a2V5Mg==")
+CONTAINER = f"/{ACCOUNT}/pics"
+# How many seconds a client waits for the server, which is longer than the server waits for a client.
+PATIENCE = 150
+
+
+class Server:
+    """A server at a free address of this machine. It is ended at the end of the block."""
+
+    def __init__(self, program, workers, before="true", tool=()):
+        """`before` is a command of the shell that comes first, for example a limit. `tool` is a command that runs the server."""
+        self.host, port = shown.free_address().split(":")
+        self.port = int(port)
+        words = [*tool, program, "serve", f"{self.host}:{port}", str(workers), ACCOUNT, *KEYS]
+        self.process = subprocess.Popen(["sh", "-c", f'{before} && exec "$@"', "sh", *words], stdin=subprocess.DEVNULL, stdout=subprocess.PIPE)
+        self.pid = self.process.pid
+
+    def __enter__(self):
+        is_read, _, _ = select.select([self.process.stdout], [], [], PATIENCE)
+        line = self.process.stdout.readline() if is_read else b""
+        if line != f"listening {self.host}:{self.port}\n".encode():
+            self.__exit__()
+            raise ConnectionError(f"the server printed {line!r}")
+        return self
+
+    def __exit__(self, *_):
+        self.process.kill()
+        self.process.wait()
+        self.process.stdout.close()
+
+    def connect(self):
+        return socket.create_connection((self.host, self.port), timeout=PATIENCE)
+
+    def descriptors(self):
+        return len([*Path(f"/proc/{self.pid}/fd").iterdir()])
+
+    def memory(self):
+        """The resident size in KiB."""
+        status = Path(f"/proc/{self.pid}/status").read_text()
+        return int(status.partition("VmRSS:")[2].split()[0])
+
+
+def build():
+    """Lets ./stamp build the program, if that is needed. If it cannot, it says why, and this run ends."""
+    ran = subprocess.run([ROOT / "stamp", "sign", KEYS[0]], stdin=subprocess.DEVNULL, stdout=subprocess.DEVNULL)
+    if ran.returncode:
+        sys.exit(ran.returncode)
+
+
+def head(method, target, *headers):
+    """The head of a request, which is signed now and is good for 15 minutes."""
+    date = email.utils.formatdate(usegmt=True)
+    lines = [f"{method} {target} HTTP/1.1", "Host: localhost", *headers, f"x-ms-date: {date}", "x-ms-version: 2012-02-12"]
+    text = "".join(f"{line}\n" for line in lines).encode()
+    signature = subprocess.run([ROOT / "examples" / "signature", KEYS[0]], input=text, stdout=subprocess.PIPE, check=True).stdout
+    return (text + signature + b"\n").replace(b"\n", b"\r\n")
+
+
+def create():
+    """A Create Container."""
+    return head("PUT", f"{CONTAINER}?restype=container", "Content-Length: 0")
+
+
+def put_head(name, size):
+    """The head of a Put Blob of so many bytes."""
+    return head("PUT", f"{CONTAINER}/{name}", f"Content-Length: {size}", "x-ms-blob-type: BlockBlob")
+
+
+def get(name):
+    """A Get Blob."""
+    return head("GET", f"{CONTAINER}/{name}")
+
+
+def reply(connection):
+    """The reply that comes next: its status, the rule that it names or None, and its body."""
+    response = http.client.HTTPResponse(connection)
+    response.begin()
+    return response.status, response.getheader("x-stamp-rule"), response.read()
+
+
+def ask(server, *requests):
+    """The replies to some requests, which are sent one after the other on one connection."""
+    with server.connect() as connection:
+        replies = []
+        for request in requests:
+            connection.sendall(request)
+            replies.append(reply(connection))
+        return replies
+
+
+def wait_until(test, seconds):
+    """Waits until a test holds, for at most so many seconds, and returns whether it holds."""
+    limit = time.monotonic() + seconds
+    while not test() and time.monotonic() < limit:
+        time.sleep(0.01)
+    return test()
