@@ -7,10 +7,10 @@ use access_rules::Keys;
 use account_lock::{Account, AccountLock, Connection, NewHistory};
 use http_front::{End, FrontFault, Link, Source, work};
 use std::alloc::{AllocError, Global};
-use std::io::Read;
+use std::io::{Read, Write};
 use std::net::{Shutdown, TcpListener, TcpStream};
-use std::sync::Wait;
 use std::sync::atomic::{AtomicU64, Ordering};
+use std::sync::{Arc, Wait};
 use std::thread::Threads;
 use std::time::{Clock, Duration};
 use std::{io, thread};
@@ -24,11 +24,14 @@ const PAUSE: u64 = 10;
 /// How many seconds a peer that was told that its connection ends may send nothing.
 const LAST_PATIENCE: u64 = 1;
 
-/// The most bytes that one read takes from a peer that was told that its connection ends.
+/// After how many seconds such a peer is let go, whatever it still sends.
+const LAST_SECONDS: u64 = 60;
+
+/// The most bytes that one read takes from such a peer.
 const LAST_READ: usize = 65_536;
 
-/// The most reads of this kind: so 64 MiB are read in all, as many as a body of the largest operation has.
-const LAST_READS: u64 = 1024;
+/// The most bytes that are read from such a peer: as many as a body of the largest operation has.
+const LAST_BYTES: usize = 67_108_864;
 
 /// Errors of Linux after which a listener goes on: the connection was given up, or there is no descriptor or no memory for one more.
 const PASSING: [i32; 6] = [
@@ -45,6 +48,7 @@ const PASSING: [i32; 6] = [
 pub(crate) struct Gate<'a, A: Account, R: Wait, C: Clock> {
     rt: &'a R,
     clock: &'a C,
+    alloc: Global,
     lock: &'a AccountLock<A>,
     listener: &'a TcpListener,
     left: AtomicU64,
@@ -76,6 +80,7 @@ pub(crate) fn serve_on<A: Account + Send + Sync, R: Threads + Wait + Sync, C: Cl
     let gate = Gate {
         rt,
         clock,
+        alloc,
         lock: &lock,
         listener,
         left: AtomicU64::new(connections),
@@ -84,23 +89,48 @@ pub(crate) fn serve_on<A: Account + Send + Sync, R: Threads + Wait + Sync, C: Cl
     work(rt, alloc, workers, &gate)
 }
 
-impl<'a, A: Account + Send + Sync, R: Wait + Sync, C: Clock + Sync> Source for Gate<'a, A, R, C> {
-    type Reader = TcpStream;
+/// The reader or the writer of a connection. Both have one descriptor, so a server needs one for each connection.
+#[derive(Drop)]
+pub(crate) struct Half {
+    stream: Arc<TcpStream>,
+}
 
-    type Writer = TcpStream;
+impl Read for Half {
+    fn read(&mut self, buf: &mut [u8]) -> io::Result<usize> {
+        let mut stream: &TcpStream = &self.stream;
+        stream.read(buf)
+    }
+}
+
+impl Write for Half {
+    fn write(&mut self, buf: &[u8]) -> io::Result<usize> {
+        let mut stream: &TcpStream = &self.stream;
+        stream.write(buf)
+    }
+
+    // A socket keeps nothing back.
+    fn flush(&mut self) -> io::Result<()> {
+        Ok(())
+    }
+}
+
+impl<'a, A: Account + Send + Sync, R: Wait + Sync, C: Clock + Sync> Source for Gate<'a, A, R, C> {
+    type Reader = Half;
+
+    type Writer = Half;
 
     type Clock = Machine<'a, C>;
 
     type Service = Connection<'a, A, R>;
 
-    fn next(&self) -> Option<Link<TcpStream, TcpStream, Machine<'a, C>, Connection<'a, A, R>>> {
+    fn next(&self) -> Option<Link<Half, Half, Machine<'a, C>, Connection<'a, A, R>>> {
         for _ in 0..u64::MAX {
             if !takes_one(&self.left) {
                 return None;
             }
             match self.listener.accept() {
                 Ok((stream, _)) => {
-                    if let Ok((reader, writer)) = halves(stream, self.patience) {
+                    if let Ok((reader, writer)) = halves(self.alloc, stream, self.patience) {
                         return Some(Link {
                             reader,
                             writer,
@@ -122,15 +152,14 @@ impl<'a, A: Account + Send + Sync, R: Wait + Sync, C: Clock + Sync> Source for G
     /// Closes the connection, and first sees to it that the last reply arrives if it said that the connection closes.
     fn ended(
         &self,
-        link: Link<TcpStream, TcpStream, Machine<'a, C>, Connection<'a, A, R>>,
+        link: Link<Half, Half, Machine<'a, C>, Connection<'a, A, R>>,
         end: Result<End, FrontFault>,
     ) {
-        let mut link = link;
         if matches!(
             end,
             Ok(End::Closed) | Err(FrontFault::Turns | FrontFault::NoMemory)
         ) {
-            let _ = read_on(&mut link.reader);
+            let _ = read_on(self.clock, &link.reader.stream);
         }
     }
 }
@@ -142,12 +171,17 @@ fn takes_one(left: &AtomicU64) -> bool {
 }
 
 // A stream as its reader and its writer. Small replies are sent at once.
-fn halves(stream: TcpStream, patience: Duration) -> io::Result<(TcpStream, TcpStream)> {
+fn halves(alloc: Global, stream: TcpStream, patience: Duration) -> io::Result<(Half, Half)> {
     stream.set_nodelay(true)?;
     stream.set_read_timeout(Some(patience))?;
     stream.set_write_timeout(Some(patience))?;
-    let writer = stream.try_clone()?;
-    Ok((stream, writer))
+    let Ok(stream) = Arc::new(alloc, stream) else {
+        return Err(AllocError.into());
+    };
+    let writer = Half {
+        stream: Arc::try_clone(&stream)?,
+    };
+    Ok((Half { stream }, writer))
 }
 
 // Whether a listener goes on after this error.
@@ -160,14 +194,20 @@ fn passes(error: &io::Error) -> bool {
 
 // Tells the peer that nothing more is written, and reads what it still sends. A connection that is closed while bytes are unread is reset,
 // and then the peer may lose the reply.
-fn read_on(stream: &mut TcpStream) -> io::Result<()> {
+fn read_on<C: Clock>(clock: &C, stream: &TcpStream) -> io::Result<()> {
     stream.shutdown(Shutdown::Write)?;
     stream.set_read_timeout(Some(Duration::from_secs(LAST_PATIENCE)))?;
+    let start = clock.monotonic()?;
+    let mut stream = stream;
     let mut room = [0; LAST_READ];
-    for _ in 0..LAST_READS {
-        if stream.read(&mut room)? == 0 {
+    let mut left = LAST_BYTES;
+    while left > 0 {
+        let count = stream.read(&mut room)?;
+        let passed = clock.monotonic()?.saturating_sub(start);
+        if count == 0 || passed >= Duration::from_secs(LAST_SECONDS) {
             return Ok(());
         }
+        left = left.saturating_sub(count);
     }
     Ok(())
 }

@@ -65,7 +65,7 @@ struct Noon;
 
 impl Clock for Noon {
     fn monotonic(&self) -> io::Result<Duration> {
-        Err(io::Error::from(io::ErrorKind::Unsupported))
+        Ok(Duration::ZERO)
     }
 
     fn since_1970(&self) -> io::Result<Duration> {
