@@ -1,10 +1,13 @@
 //! What the connections of one lock read of its history. A law about definitions is the contract of a function that does
 //! nothing.
-ghost use Rattle.std.specs.Prelude.{◌≡◌, ℕ, List, [], ◌∷◌, ◌++◌, Option, None, Result};
+ghost use Rattle.std.specs.Prelude.{◌≡◌, ℕ, All, List, ◌∷◌, ◌++◌, Option, None, Result};
 ghost use Rattle.stamp_values.specs.declared.key.Key.{Key};
-ghost use Rattle.stamp_values.specs.declared.op.Op.TheVariants.{GetBlob, PutBlob};
+ghost use Rattle.stamp_values.specs.declared.op.Op.TheVariants.{GetBlob, PutBlob, PutBlockList};
 ghost use Rattle.stamp_types.specs.Requests.{IsAsk};
-ghost use Rattle.stamp_types.specs.World.{part_at};
+ghost use Rattle.stamp_types.specs.World.{blob_in, part_at};
+ghost use Rattle.range_rows.specs.Readings.{wanted_blocks};
+ghost use Rattle.stamp_model.specs.Blocks.{wanted_bytes};
+ghost use Rattle.stamp_model.specs.Kept.{LeavesContent};
 ghost use Rattle.stamp_model.specs.Runs.{IsOn, Timed};
 ghost use Rattle.access_rules.specs.declared.keys.Keys.{Keys};
 ghost use Rattle.http_front.specs.declared.end.End.{End};
@@ -46,8 +49,9 @@ pub fn two_connections_agree<A: Account, R: Wait>(
 }
 
 /// A connection reads its own writes. A later request of the connection is answered at what its earlier request left, after the
-/// entries between the two. So if a Put Blob and a later Get Blob of that blob without a range succeed, and what comes between
-/// them leaves their container as it is, the reply to the Get Blob has the body that was put.
+/// entries between the two. So if a Put Blob and a later Get Blob of that blob without a range succeed, and no entry between them
+/// puts, commits or deletes the blob, or makes or deletes its container, the reply to the Get Blob has the body that was put. If
+/// the earlier request is a Put Block List, the reply has the content of the wanted blocks, as the blob had it before the list.
 pub fn a_connection_reads_its_own_writes()
     ensures later { (keys : Keys) (seen seen' : List Timed) (front : List Call) (earlier : Call)
         (middle : List Call) (later : Call) (back : List Call)
@@ -55,10 +59,17 @@ pub fn a_connection_reads_its_own_writes()
         → IsReadAfter keys earlier later }
     ensures put { (keys : Keys) (key : Key) (name : List ℕ) (put get : Call)
         (reads : IsReadAfter keys put get)
+        → All (λ r. LeavesContent key name r.request) reads.between
         → IsAsk put.0.request.ask → IsOn PutBlob key name put.0.request
         → IsOn GetBlob key name get.0.request → get.0.request.ask.args.range ≡ None
-        → put.1.rule ≡ None → get.1.rule ≡ None
-        → part_at (world_left keys (reads.before ++ put.0 ∷ reads.between)) key
-        ≡ part_at (world_left keys (reads.before ++ put.0 ∷ [])) key
-        → get.1.body ≡ put.0.request.body }
+        → put.1.rule ≡ None → get.1.rule ≡ None → get.1.body ≡ put.0.request.body }
+    ensures commit { (keys : Keys) (key : Key) (name : List ℕ) (list get : Call)
+        (reads : IsReadAfter keys list get)
+        → All (λ r. LeavesContent key name r.request) reads.between
+        → IsAsk list.0.request.ask → IsOn PutBlockList key name list.0.request
+        → IsOn GetBlob key name get.0.request → get.0.request.ask.args.range ≡ None
+        → list.1.rule ≡ None → get.1.rule ≡ None
+        → get.1.body
+        ≡ wanted_bytes (blob_in (part_at (world_left keys reads.before) key) name)
+        (wanted_blocks list.0.request) }
 {}
