@@ -7,9 +7,8 @@ use Rattle.std.specs.FinMap.{FinMap, len-empty, len-entries}
 use Rattle.std.specs.List.{flat_map}
 use Rattle.std.specs.Option.{option_map, option_and_then, option_to_list}
 use Rattle.md5.specs.Md5.{md5}
-use Rattle.stamp_values.specs.Maps.{map_values}
 use Rattle.stamp_values.specs.Operations.{is_op, keeps_headers}
-use Rattle.stamp_values.specs.Order.{name_cmp, names_total, names_exact}
+use Rattle.stamp_values.specs.Order.{name_cmp}
 use Rattle.stamp_values.specs.declared.block.BlockKinds.{BlockKinds}
 use Rattle.stamp_values.specs.declared.block.BlockKinds.TheVariants as kinds
 use Rattle.stamp_values.specs.declared.block.Source.{Source}
@@ -19,7 +18,6 @@ use Rattle.stamp_values.specs.declared.condition.ByteRange.{ByteRange}
 use Rattle.stamp_values.specs.declared.key.Key.{Key}
 use Rattle.stamp_values.specs.declared.op.Op.{Op}
 use Rattle.stamp_values.specs.declared.op.Op.TheVariants as op
-use Rattle.stamp_values.proofs.MapsLemmas.{map_values-empty}
 use Rattle.stamp_types.specs.declared.act.Act.TheVariants as act
 use Rattle.stamp_types.specs.declared.act.PutBlob.{PutBlob}
 use Rattle.stamp_types.specs.declared.act.PutBlock.{PutBlock}

@@ -1,5 +1,5 @@
 -- Block lists and the blocks that they show.
-use Rattle.std.proofs.Common.{◌≡◌, ℕ, ◌+◌, Bool, true, false, cond, ◌&&◌, T, List, [], ◌∷◌, ◌++◌, length, Option, Some, None, IfSome, refl, sym, ap, ◌∙◌, subst, map, unwrap_or}
+use Rattle.std.proofs.Common.{◌≡◌, ℕ, ◌+◌, Bool, true, false, cond, T, List, [], ◌∷◌, ◌++◌, length, Option, Some, None, IfSome, refl, sym, ap, ◌∙◌, map, unwrap_or}
 use Rattle.std.proofs.lemmas.Bool.{and_parts}
 use Rattle.std.proofs.lemmas.Iterator.Adapters.{position_from-zero}
 use Rattle.std.specs.Prelude.{find, is_none, is_some}
@@ -7,7 +7,7 @@ use Rattle.std.specs.Cmp.{eq_by_cmp_equiv}
 use Rattle.std.specs.FinMap as finite
 use Rattle.std.specs.FinMap.{FinMap, entries, entries_sorted, get-entries, is_sorted, len-empty, len-entries}
 use Rattle.std.specs.FinMap.Entries as by_key
-use Rattle.std.specs.List.{AllByRecursion, flat_map, position_from}
+use Rattle.std.specs.List.{AllByRecursion, position_from}
 use Rattle.std.specs.Option.{option_map, option_and_then, option_to_list}
 use Rattle.std.specs.Ordering.{eq_by_cmp, is_eq, is_lt}
 use Rattle.std.specs.declared.cmp.Ordering.{Ordering}
@@ -16,24 +16,22 @@ use Rattle.stamp_values.specs.Maps.{map_values}
 use Rattle.stamp_values.specs.Order.{name_cmp, names_total, names_exact}
 use Rattle.stamp_values.specs.declared.block.BlockKinds.{BlockKinds}
 use Rattle.stamp_values.specs.declared.block.Source.{Source}
-use Rattle.stamp_values.specs.declared.block.Source.TheVariants as source
 use Rattle.stamp_values.specs.declared.block.Taken.{Taken}
 use Rattle.stamp_values.specs.declared.block.Wanted.{Wanted}
 use Rattle.stamp_values.specs.declared.key.Key.{Key}
 use Rattle.stamp_values.specs.declared.op.Op.TheVariants as op
 use Rattle.stamp_values.proofs.MapsLemmas.{get-map_values, map_values-empty}
-use Rattle.stamp_types.specs.declared.args.Kept.{Kept}
 use Rattle.stamp_types.specs.declared.committed.Block.{Block}
 use Rattle.stamp_types.specs.declared.committed.Committed.{Committed}
 use Rattle.stamp_types.specs.Requests.{IsAsk}
 use Rattle.stamp_types.specs.World.{Blob, World, blob_in, block_of, block_value, blob_value, committed_value, content_from, part_at, taken_blocks}
 use Rattle.stamp_types.proofs.WorldLemmas.{blob_in-part_value, equal_if_is_eq}
 use Rattle.access_rules.specs.declared.keys.Keys.{Keys}
-use Rattle.block_blobs.specs.BlockLists.{first_missing, found_entries, source_of, sources_of, taken_from}
+use Rattle.block_blobs.specs.BlockLists.{found_entries, source_of, sources_of, taken_from}
 use Rattle.body_forms.specs.WrittenLists.{ListedBlock, block_list_text}
-use Rattle.range_rows.specs.ObjectReplies.{byte_count, if_shown, list_text, listed_committed, listed_entry, listed_uncommitted, shown_blocks, shows_committed, shows_uncommitted, sizes}
+use Rattle.range_rows.specs.ObjectReplies.{byte_count, if_shown, list_text, listed_committed, listed_entry, listed_uncommitted, shown_blocks, shows_committed, shows_uncommitted}
 use Rattle.range_rows.specs.Readings.{wanted_blocks}
-use Rattle.stamp_model.specs.Blocks.{IsListed, ListsUncommitted, rises_by_id, wanted_content, wanted_listed}
+use Rattle.stamp_model.specs.Blocks.{IsListed, ListsUncommitted, wanted_listed}
 use Rattle.stamp_model.specs.Runs.{Timed, IsOn, reply_to_one, world_after_one}
 use Rattle.stamp_model.proofs.BlockLemmas.{body-block_list, committed-list, first_missing-accepted, found_entries-read, kept-list, list_there, uncommitted-taken}
 use Rattle.stamp_model.proofs.WrittenLemmas.{committed-put, kept-put, put_there}

@@ -1,5 +1,5 @@
 -- What a reply tells a caller whom permission refuses.
-use Rattle.std.proofs.Common.{◌≡◌, ℕ, Bool, true, false, cond, not, ◌&&◌, List, [], ◌∷◌, ◌++◌, Option, Some, None, refl, sym, ap, ◌∙◌}
+use Rattle.std.proofs.Common.{◌≡◌, ℕ, Bool, true, false, cond, not, ◌&&◌, List, [], ◌∷◌, Option, Some, None, refl, sym, ap, ◌∙◌}
 use Rattle.std.proofs.lemmas.Bool.{and_parts}
 use Rattle.std.proofs.lemmas.List.Folds.{find-append}
 use Rattle.std.specs.Prelude.{find, nat_le}
@@ -26,7 +26,7 @@ use Rattle.row_trees.specs.Access.{acl_of}
 use Rattle.range_rows.specs.ObjectReplies.{is_served, sizes}
 use Rattle.range_rows.specs.ObjectRules.{object_holds, object_refusal, object_rules}
 use Rattle.stamp_model.specs.Effects.{change}
-use Rattle.stamp_model.specs.Refusals.{access_refusal, is_object_rule, refusal, sees_no_container, unserved_refusal}
+use Rattle.stamp_model.specs.Refusals.{access_refusal, is_object_rule, sees_no_container, unserved_refusal}
 use Rattle.stamp_model.specs.Responses.{reply, response}
 use Rattle.stamp_model.proofs.ReplyLemmas.{rule-reply}
 use Rattle.stamp_model.proofs.RuleLemmas.{object_rule-first}

@@ -12,7 +12,8 @@ mod laws;
 mod run_laws;
 
 pub use block_laws::{
-    a_block_list_shows_the_blocks, a_commit_is_seen_whole_or_not_at_all, no_block_outlives_its_commit,
+    a_block_list_shows_the_blocks, a_commit_is_seen_whole_or_not_at_all,
+    no_block_outlives_its_commit,
 };
 pub use caller_laws::{
     a_caller_without_a_valid_credential_learns_nothing, a_read_changes_nothing,
