@@ -1,7 +1,6 @@
 -- The id of a block in a query that no rule refuses.
 use Rattle.std.proofs.Common.{◌≡◌, ℕ, ◌+◌, ◌≤◌, Bool, true, false, true≢false, not, ◌||◌, cond, List, [], ◌∷◌, find, length, nat_le, Option, Some, None, option_and_then, option_map, codes, refl, sym, ◌∙◌, arith, leb-true}
 use Rattle.std.proofs.lemmas.Bool.{and_parts, or_parts, not-false}
-use Rattle.std.specs.List.{list_any}
 use Rattle.std.specs.Prelude.{IsSome, is_some}
 use Rattle.std.specs.Option.{option_map_or}
 use Rattle.base64_text.specs.Base64.{standard, decoded_of, is_base64_within}

@@ -1,5 +1,5 @@
 -- What a query says of blocks (Blob service REST reference, 2012-02-12, Put Block, Get Block List; RFC 4648, section 4).
-use Rattle.std.specs.Prelude.{ℕ, Bool, true, false, if◌then◌else◌, List, Option, Some, None, option_and_then, option_map, bytes_eq, codes}
+use Rattle.std.specs.Prelude.{ℕ, if◌then◌else◌, List, Option, Some, None, option_and_then, option_map, bytes_eq, codes}
 use Rattle.std.specs.Option.{option_or}
 use Rattle.base64_text.specs.Base64.{standard, decoded_of}
 use Rattle.stamp_values.specs.Fields.{first_value}
