@@ -1,5 +1,5 @@
 -- What the program's words ask for, and what was done for these words.
-use Rattle.std.proofs.Common.{◌≡◌, ◌≢◌, ◌⊎◌, ◌≤◌, ℕ, List, [], ◌∷◌, length, Option, IfSome, IsTrue, IsFalse, inl, inr, codes, decimal, refl, sym, ◌∙◌}
+use Rattle.std.proofs.Common.{◌≡◌, ◌≢◌, ◌⊎◌, ◌≤◌, ℕ, List, length, Option, IfSome, IsTrue, IsFalse, inl, inr, decimal, refl, sym, ◌∙◌}
 use Rattle.std.specs.Io.KnownBytes.{IsAtEnd}
 use Rattle.hmac_sign.specs.Signature.{base64_of}
 use Rattle.stamp_main.specs.declared.ending.Ending.{Ending}

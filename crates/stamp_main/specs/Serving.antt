@@ -1,5 +1,5 @@
 -- What the words of `stamp serve` ask for, and what is written before the first connection is taken (this product's own choice).
-use Rattle.std.specs.Prelude.{◌≡◌, ◌≤◌, ◌⊎◌, ℕ, List, [], ◌∷◌, ◌++◌, Option, true, codes, decimal}
+use Rattle.std.specs.Prelude.{◌≡◌, ◌≤◌, ℕ, List, [], ◌∷◌, ◌++◌, Option, true, codes, decimal}
 use Rattle.std.specs.Io.KnownBytes.{Appends}
 use Rattle.stamp_values.specs.Ascii.{line_feed}
 use Rattle.stamp_values.specs.Names.{is_account}
