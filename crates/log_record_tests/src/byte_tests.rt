@@ -1,7 +1,9 @@
 //! Records of the samples with one byte changed: which of them are records is from outside.
 
+use crate::read_tests::fault;
+use crate::write_tests::is_written;
 use crate::{sample_records as records, sample_values as values};
-use log_record::{RecordFault, read_change, write_change};
+use log_record::{RecordFault, read_change};
 use std::alloc::Global;
 use std::ops::Range;
 use std::process::Abort;
@@ -10,22 +12,6 @@ use std::test::*;
 // The place at which the lists of blocks begin in the record of the row of a blob. That record is the longest:
 // two tests share its places, so that neither test is slow.
 const BLOCKS: usize = 144;
-
-// What the bytes are refused with, or `None` if they are the record of what is read. `NoMemory` for any
-// other bytes that are read, since the table never has it.
-fn judged(rt: &impl Abort, alloc: Global, bytes: &[u8]) -> Option<RecordFault> {
-    match read_change(alloc, bytes) {
-        Ok((change, _epoch)) => {
-            let written = write_change(alloc, &change, 0).expect(rt, "memory");
-            if written.as_slice() == bytes {
-                None
-            } else {
-                Some(RecordFault::NoMemory)
-            }
-        }
-        Err(fault) => Some(fault),
-    }
-}
 
 // Whether a row of the table has this value at this place.
 fn has_value(rows: &[[u8; 4]], at: usize, value: u8) -> bool {
@@ -40,16 +26,35 @@ fn has_value(rows: &[[u8; 4]], at: usize, value: u8) -> bool {
     false
 }
 
-// What the table says of the record with this value at this place.
-fn expected(rows: &[[u8; 4]], at: usize, value: u8) -> Option<RecordFault> {
-    if has_value(rows, at, value) {
-        return None;
-    }
-    Some(if at == 0 {
+// What a record with another value at this place is refused with, if no row of the table has the value.
+fn fault_at(at: usize) -> RecordFault {
+    if at == 0 {
         RecordFault::Version
     } else {
         RecordFault::Form
-    })
+    }
+}
+
+// Whether a record is the record of the change that is read of it.
+fn is_written_again(rt: &impl Abort, alloc: Global, record: &[u8]) -> bool {
+    let (change, _epoch) = read_change(alloc, record).expect(rt, "a record");
+    is_written(rt, alloc, &change, record)
+}
+
+// Whether the bytes, which have this value at this place, are judged as the table says.
+fn is_value_judged(
+    rt: &impl Abort,
+    alloc: Global,
+    bytes: &[u8],
+    rows: &[[u8; 4]],
+    at: usize,
+    value: u8,
+) -> bool {
+    if has_value(rows, at, value) {
+        is_written_again(rt, alloc, bytes)
+    } else {
+        fault(alloc, bytes) == Some(fault_at(at))
+    }
 }
 
 // Whether the record with each value at one place is judged as the table says.
@@ -65,7 +70,7 @@ fn is_byte_judged(
         if let Some(byte) = changed.get_mut(at) {
             *byte = value;
         }
-        if judged(rt, alloc, &changed) != expected(rows, at, value) {
+        if !is_value_judged(rt, alloc, &changed, rows, at, value) {
             return false;
         }
     }

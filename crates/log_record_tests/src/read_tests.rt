@@ -8,7 +8,7 @@ use log_record::{RecordFault, read_change};
 use std::alloc::Global;
 use std::test::*;
 
-fn fault(alloc: Global, bytes: &[u8]) -> Option<RecordFault> {
+pub(crate) fn fault(alloc: Global, bytes: &[u8]) -> Option<RecordFault> {
     read_change(alloc, bytes).err()
 }
 

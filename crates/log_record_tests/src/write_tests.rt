@@ -13,7 +13,7 @@ fn change(rt: &impl Abort, alloc: Global, act: Act) -> Change {
     Change::new(key(rt, alloc), act).expect(rt, "a good change")
 }
 
-fn is_written(rt: &impl Abort, alloc: Global, change: &Change, record: &[u8]) -> bool {
+pub(crate) fn is_written(rt: &impl Abort, alloc: Global, change: &Change, record: &[u8]) -> bool {
     let written = write_change(alloc, change, 0).expect(rt, "memory");
     written.as_slice() == record
 }
