@@ -50,8 +50,8 @@ pub fn two_connections_agree<A: Account, R: Wait>(
 
 /// A connection reads its own writes. A later request of the connection is answered at what its earlier request left, after the
 /// entries between the two. So if a Put Blob and a later Get Blob of that blob without a range succeed, and no entry between them
-/// puts, commits or deletes the blob, or makes or deletes its container, the reply to the Get Blob has the body that was put. If
-/// the earlier request is a Put Block List, the reply has the content of the wanted blocks, as the blob had it before the list.
+/// asks to put, commit or delete the blob, or to make or delete its container, the reply to the Get Blob has the body that was put.
+/// If the earlier request is a Put Block List, the reply has the content of the wanted blocks, as the blob had it before the list.
 pub fn a_connection_reads_its_own_writes()
     ensures later { (keys : Keys) (seen seen' : List Timed) (front : List Call) (earlier : Call)
         (middle : List Call) (later : Call) (back : List Call)

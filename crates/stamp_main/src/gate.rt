@@ -21,10 +21,10 @@ const TURNS: u64 = 4_294_967_296;
 /// How many milliseconds pass until the next connection is asked for after an error that passes.
 const PAUSE: u64 = 10;
 
-/// How many seconds a peer that was told that its connection ends may send nothing.
+/// How many seconds a read waits for a peer that was told that its connection ends.
 const LAST_PATIENCE: u64 = 1;
 
-/// After how many seconds such a peer is let go, whatever it still sends.
+/// After how many seconds the connection of such a peer is closed, even if it still sends.
 const LAST_SECONDS: u64 = 60;
 
 /// The most bytes that one read takes from such a peer.
@@ -89,7 +89,7 @@ pub(crate) fn serve_on<A: Account + Send + Sync, R: Threads + Wait + Sync, C: Cl
     work(rt, alloc, workers, &gate)
 }
 
-/// The reader or the writer of a connection. Both have one descriptor, so a server needs one for each connection.
+/// The reader or the writer of a connection. Both share one descriptor.
 #[derive(Drop)]
 pub(crate) struct Half {
     stream: Arc<TcpStream>,

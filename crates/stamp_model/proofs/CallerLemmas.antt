@@ -165,6 +165,16 @@ module _ (keys : Option Keys) (w v : World (List ℕ)) (q : Asked) (t : ℕ) (bo
       reply-denied keys v q t bound rule (first_rule-blind keys (acl_of (part_at w q.ask.key)) (acl_of (part_at v q.ask.key)) q.ask t rule blind first)
       ∙ sym (reply-denied keys w q t bound rule first)
 
+  abbrev is_level_rule : Rule → Bool
+  is_level_rule P2 = true
+  is_level_rule _ = false
+
+  -- P2 gives a request one reply
+  pub reply-closed : (reply keys w q t bound).rule ≡ Some P2 → (reply keys v q t bound).rule ≡ Some P2 → reply keys v q t bound ≡ reply keys w q t bound
+  reply-closed told other =
+      reply-denied keys v q t bound P2 (permission-named keys v q t bound is_level_rule refl refl P2 refl other)
+      ∙ sym (reply-denied keys w q t bound P2 (permission-named keys w q t bound is_level_rule refl refl P2 refl told))
+
   -- a request that P2 refuses has this reply in each world in which the container has the same level
   pub reply-level : (reply keys w q t bound).rule ≡ Some P2
       → option_map (λ (a : Acl). a.level) (acl_of (part_at v q.ask.key)) ≡ option_map (λ (a : Acl). a.level) (acl_of (part_at w q.ask.key)) → reply keys v q t bound ≡ reply keys w q t bound
@@ -172,7 +182,3 @@ module _ (keys : Option Keys) (w v : World (List ℕ)) (q : Asked) (t : ℕ) (bo
       let first = permission-named keys w q t bound is_level_rule refl refl P2 refl told in
       reply-denied keys v q t bound P2 (first_rule-level keys (acl_of (part_at v q.ask.key)) (acl_of (part_at w q.ask.key)) q.ask t same ∙ first)
       ∙ sym (reply-denied keys w q t bound P2 first)
-    where
-      is_level_rule : Rule → Bool
-      is_level_rule P2 = true
-      is_level_rule _ = false

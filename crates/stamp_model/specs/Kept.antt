@@ -1,4 +1,4 @@
--- What requests leave of a blob (Blob service REST reference, 2012-02-12, the pages of the operations that write).
+-- What stays of a blob after a request (Blob service REST reference, 2012-02-12, the pages of the operations that write).
 use Rattle.std.specs.Prelude.{◌≡◌, Bool, true, false, ◌&&◌, List, ℕ, Some}
 use Rattle.stamp_values.specs.Operations.{names_blob, writes}
 use Rattle.stamp_values.specs.declared.key.Key.{Key}
@@ -23,8 +23,8 @@ alters_blob other = takes_blocks other
 abbrev pub writes_blob : Op → Bool
 writes_blob o = writes o && names_blob o
 
--- If the request is on this container, it neither makes nor deletes the container. If it is on the blob of this name in it, its
--- operation is none of these.
+-- If the request is on this container, its operation neither makes nor deletes the container. If it is on the blob of this name
+-- there, `alters` is false of its operation. The request counts by what it asks for, also if it is refused.
 abbrev pub LeavesBy : (Op → Bool) → Key → List ℕ → Asked → Type 0
 LeavesBy alters key name q = q.ask.key ≡ key → (makes_or_deletes q.ask.op ≡ false) × (q.ask.blob ≡ Some name → alters q.ask.op ≡ false)
 

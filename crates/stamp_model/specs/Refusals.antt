@@ -52,7 +52,7 @@ refuses keys p q t r = holds keys (acl_of p) q.ask t r || (object_holds p q r ||
 abbrev pub rules_in_order : List Rule
 rules_in_order = access_rules ++ object_rules ++ rule.F3 ∷ []
 
--- the rule is judged by the keys, the request and the moment alone
+-- the rule is a rule of permission that is judged by the keys, the request and the moment alone
 abbrev pub sees_no_container : Rule → Bool
 sees_no_container rule.K1 = true
 sees_no_container rule.K2 = true
@@ -63,7 +63,7 @@ sees_no_container rule.S1 = true
 sees_no_container rule.P1 = true
 sees_no_container _ = false
 
--- the rule is a rule of the object: it tells what the stamp holds
+-- the rule is one of the rules of the object, O1 to O6
 abbrev pub is_object_rule : Rule → Bool
 is_object_rule rule.O1 = true
 is_object_rule rule.O2 = true

@@ -129,12 +129,12 @@ pub fn no_block_outlives_its_commit()
         ≡ denied (record { rule = O3; code = BlobNotFound }) }
 {}
 
-/// A block list shows the blocks. If the next request after an accepted Put Block List is a Get Block
-/// List of the blob, and no rule refuses it, it shows the wanted blocks as committed, each with its
-/// number of bytes, in the order of the list, and no uncommitted block. After an accepted Put Blob it
-/// shows no block, since the block of a blob that was put whole has no id. A Get Block List that no
-/// rule refuses shows the uncommitted blocks of the blob, each once, with its number of bytes, in the
-/// order of the ids.
+/// A block list shows the blocks of the kinds that are asked for. If the next request after an
+/// accepted Put Block List is a Get Block List of the blob, and no rule refuses it, the committed
+/// blocks are the wanted blocks, each with its number of bytes, in the order of the list, and there is
+/// no uncommitted block. After an accepted Put Blob it shows no block, since the block of a blob that
+/// was put whole has no id. If a Get Block List that no rule refuses asks for the uncommitted blocks,
+/// it shows those of the blob, each once, with its number of bytes, in the order of the ids.
 pub fn a_block_list_shows_the_blocks()
     ensures committed { (keys : Option Keys) (w : World (List ℕ)) (key : Key) (name : List ℕ)
         (list read : Timed)

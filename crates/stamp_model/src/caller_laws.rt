@@ -20,13 +20,18 @@ pub fn a_read_changes_nothing()
         → writes q.ask.op ≡ false → effect keys w q t ≡ w }
 {}
 
-/// A caller without a valid credential learns nothing. If a rule K, S or P1 refuses a request, the
-/// reply is the same whatever the stamp holds. If P2 refuses it, the reply is the same in each world
-/// in which the container has the same level, so it tells that the level is not enough, and no more.
+/// A caller without a valid credential learns nothing of containers. If K1 to K5, S1 or P1 refuses a
+/// request, the reply is the same whatever containers the stamp has: the keys, the request and the
+/// moment decide it. P2 gives a request one reply, whatever the container is, so this reply tells that
+/// P2 refuses and no more. Whether P2 refuses is decided by the level of the container, if it exists.
 pub fn a_caller_without_a_valid_credential_learns_nothing()
     ensures same { (keys : Option Keys) (w v : World (List ℕ)) (q : Asked) (t : ℕ)
         (bound : Option Key) (rule : Rule)
         → IsTrue (sees_no_container rule) → (reply keys w q t bound).rule ≡ Some rule
+        → reply keys v q t bound ≡ reply keys w q t bound }
+    ensures closed { (keys : Option Keys) (w v : World (List ℕ)) (q : Asked) (t : ℕ)
+        (bound : Option Key)
+        → (reply keys w q t bound).rule ≡ Some P2 → (reply keys v q t bound).rule ≡ Some P2
         → reply keys v q t bound ≡ reply keys w q t bound }
     ensures level { (keys : Option Keys) (w v : World (List ℕ)) (q : Asked) (t : ℕ)
         (bound : Option Key)

@@ -45,11 +45,13 @@ pub fn a_blob_is_changed_by_its_own_requests()
         ≡ option_map blocks_and_props (blob_in (part_at w key) name).committed }
 {}
 
-/// What was written last is read, whatever came between that did not write it again. If a Put Blob
+/// What was written last is read, whatever came between that did not ask to write it again. A request
+/// counts by what it asks for, also if it is refused. If a Put Blob
 /// or a Put Block List is accepted, and each request after it leaves the content of the blob, a Get
 /// Blob without a range that no rule refuses has that content and the headers that were kept with
 /// it. If a Set Blob Metadata is accepted, and each request after it leaves what readers see of the
-/// blob, a Get Blob Metadata that no rule refuses has these metadata, with their ETag and moment. A
+/// blob, a Get Blob Metadata that no rule refuses has these metadata, and the ETag and the moment that
+/// the reply to the Set Blob Metadata gave. A
 /// request that reads only what is committed of a blob has the reply that it would have had before
 /// requests that leave what readers see of the blob, if no rule refuses it before or after them.
 /// After an accepted Delete Blob, and requests that give the blob no content, O1 or O3 refuses each
