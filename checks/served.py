@@ -1,6 +1,7 @@
 """A server that a check or a measurement starts, and signed requests to it."""
 import email.utils
 import http.client
+import os
 import select
 import socket
 import subprocess
@@ -18,6 +19,17 @@ CONTAINER = f"/{ACCOUNT}/pics"
 PATIENCE = 150
 
 
+def first_line(stream):
+    """The line that a server prints, or what has come of it if the server takes too long or ends."""
+    line, limit = b"", time.monotonic() + PATIENCE
+    while not line.endswith(b"\n") and select.select([stream], [], [], max(0, limit - time.monotonic()))[0]:
+        more = os.read(stream.fileno(), 1000)
+        if not more:
+            break
+        line += more
+    return line
+
+
 class Server:
     """A server at a free address of this machine. It is ended at the end of the block."""
 
@@ -30,8 +42,7 @@ class Server:
         self.pid = self.process.pid
 
     def __enter__(self):
-        is_read, _, _ = select.select([self.process.stdout], [], [], PATIENCE)
-        line = self.process.stdout.readline() if is_read else b""
+        line = first_line(self.process.stdout)
         if line != f"listening {self.host}:{self.port}\n".encode():
             self.__exit__()
             raise ConnectionError(f"the server printed {line!r}")

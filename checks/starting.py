@@ -18,7 +18,7 @@ NEEDED = ("python3", "readlink", "dirname")
 SIGN = ["sign", "SmVmZQ=="]
 OUT = "crates/stamp_main/out"
 NOT_BUILT = "stamp: the program was not built: "
-# What stands for the toolchain: it is asked to prove and to build, in a copy of the tree.
+# Scripts that run in the place of the toolchain: it is asked to prove and to build, in a copy of the tree.
 NEVER_CALLED = "echo the toolchain was called"
 FAILS = "echo 'crate: no proof'; echo '0 passed, 1 failed'; exit 1"
 BUILDS = f'mkdir -p {OUT}; cp "$PROGRAM" {OUT}/stamp_main; echo "1 passed, 0 failed"'
@@ -56,7 +56,11 @@ def start(root, stub, program, **how):
 
 def ended(process):
     """The status of a run, its standard output, and its standard error as a text."""
-    wrote, said = process.communicate(timeout=60)
+    try:
+        wrote, said = process.communicate(timeout=60)
+    except subprocess.TimeoutExpired:
+        process.kill()
+        wrote, said = process.communicate()
     return process.returncode, wrote, said.decode()
 
 

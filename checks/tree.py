@@ -1,4 +1,4 @@
-"""The crates of this repository: what they stand on, digests of their files, and copies of the tree that `rt ci` proves."""
+"""The crates of this repository: what they depend on, digests of their files, and copies of the tree that `rt ci` proves."""
 import hashlib
 import os
 import re
@@ -24,7 +24,7 @@ def lines_of_crates(root=ROOT):
 
 
 def with_crates_below(names):
-    """These crates and all crates of the repository that they stand on, in the order of crates.txt."""
+    """These crates and all crates of the repository that they depend on, in the order of crates.txt."""
     lines, wanted, left = lines_of_crates(), set(), [*names]
     while left:
         name = left.pop()

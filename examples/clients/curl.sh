@@ -3,8 +3,8 @@
 #
 # usage: examples/with-stamp examples/clients/curl.sh
 #
-# STAMP_URL, STAMP_ACCOUNT and STAMP_KEY name the server; examples/with-stamp sets them. The session creates three containers and deletes
-# them at its end. Each check prints a line, and the last line has two counts. Status 1 if a check failed.
+# STAMP_URL, STAMP_ACCOUNT, STAMP_KEY and STAMP_KEY2 name the server; examples/with-stamp sets them. The session creates three containers and deletes
+# them at its end. Each check prints a line, and the last line has two counts. The status is 1 if a check failed.
 #
 # The answers that are wanted are those of docs/formats. openssl makes the signatures and the MD5s.
 set -u
@@ -276,6 +276,8 @@ levels() {
 }
 
 denials() {
+    key=$STAMP_KEY2 get "$blob"
+    expect_reply "the second key" 200
     key=$(openssl base64 -A <<< "another key") get "$blob"
     expect_reply "a wrong key" "403 K5"
     expect "the code in the body" "$(grep -o '<Code>.*</Code>' "$work/body")" "<Code>AuthenticationFailed</Code>"

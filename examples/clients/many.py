@@ -4,7 +4,7 @@
 usage: examples/with-stamp examples/clients/many.py
 
 STAMP_URL, STAMP_ACCOUNT and STAMP_KEY name the server; examples/with-stamp sets them. The server needs at least four workers. The session
-creates a container and deletes it at its end. Each check prints a line, and the last line has two counts. Status 1 if a check failed.
+creates a container and deletes it at its end. Each check prints a line, and the last line has two counts. The status is 1 if a check failed.
 """
 import base64
 import email.utils
