@@ -1,6 +1,6 @@
 //! What the connections of one lock read of its history. A law about definitions is the contract of a function that does
 //! nothing.
-ghost use Rattle.std.specs.Prelude.{◌≡◌, ℕ, All, List, ◌∷◌, ◌++◌, Option, None, Result};
+ghost use Rattle.std.specs.Prelude.{◌≡◌, ℕ, All, List, ◌∷◌, ◌++◌, None, Result};
 ghost use Rattle.stamp_values.specs.declared.key.Key.{Key};
 ghost use Rattle.stamp_values.specs.declared.op.Op.TheVariants.{GetBlob, PutBlob, PutBlockList};
 ghost use Rattle.stamp_types.specs.Requests.{IsAsk};
@@ -12,7 +12,8 @@ ghost use Rattle.stamp_model.specs.Runs.{IsOn, Timed};
 ghost use Rattle.access_rules.specs.declared.keys.Keys.{Keys};
 ghost use Rattle.http_front.specs.declared.end.End.{End};
 ghost use Rattle.http_front.specs.declared.end.FrontFault.{FrontFault};
-ghost use Rattle.http_front.specs.Conversations.{AnswersInput, EndsOutOfMemory};
+ghost use Rattle.http_front.specs.Connections.{ConnectionState};
+ghost use Rattle.http_front.specs.Conversations.{AnswersInput, BreaksOff, EndsOutOfMemory};
 ghost use Rattle.account_lock.specs.Histories.{IsServed, IsUnchanged, world_left};
 ghost use Rattle.account_lock.specs.Connections.{AddsOneAtMost, AreOfOneHistory, Call, IsReadAfter, ReadsHistory, calls_of};
 
@@ -25,17 +26,22 @@ use std::sync::Wait;
 /// has the connection's own requests in their order, with requests of others between them. `run` ensures the premises.
 ///
 /// If memory runs out, the same holds of the requests that were answered in full. After them the history has one more request of
-/// the connection at most: its reply was made, and not written.
+/// the connection at most: its reply was made, and not written. If a write fails, the same holds of the requests to which the
+/// service replied.
 pub fn each_connection_reads_one_history<C: Clock>()
     ensures answered { (keys : Keys) (clock clock' : C) (seen seen' : List Timed)
-        (held held' : Option (List ℕ)) (result : Result End FrontFault) (turns : ℕ) (input : List ℕ)
-        (talk : AnswersInput C.gives (IsServed keys) clock clock' seen seen' held held' result turns input)
+        (from to : ConnectionState) (result : Result End FrontFault) (input : List ℕ)
+        (talk : AnswersInput C.gives (IsServed keys) clock clock' seen seen' from to result input)
         → ReadsHistory keys seen (calls_of talk.exchanges) seen' }
     ensures starved { (keys : Keys) (clock clock' : C) (seen seen' : List Timed)
-        (left left' held held' : Option (List ℕ)) (last : List ℕ)
-        (talk : EndsOutOfMemory C.gives (IsServed keys) IsUnchanged clock clock' seen seen' left left' held held' last)
+        (from to : ConnectionState) (last : List ℕ)
+        (talk : EndsOutOfMemory C.gives (IsServed keys) IsUnchanged clock clock' seen seen' from to last)
         → ReadsHistory keys seen (calls_of talk.exchanges) talk.world_then
         × AddsOneAtMost keys talk.world_then seen' }
+    ensures broken { (keys : Keys) (clock clock' : C) (seen seen' : List Timed)
+        (from to : ConnectionState)
+        (talk : BreaksOff C.gives (IsServed keys) clock clock' seen seen' from to)
+        → ReadsHistory keys seen (calls_of talk.exchanges) seen' }
 {}
 
 /// What two connections of one lock know are beginnings of one history.

@@ -56,17 +56,10 @@ fn sent<A: Account, R: Wait + Abort>(
     input: &[u8],
 ) -> Vec<u8> {
     let moment = Moment::new(NOON).expect(rt, "a moment");
-    let mut reader = input;
-    let mut out = Vec::new(alloc);
-    let end = run(
-        alloc,
-        &mut reader,
-        &mut out,
-        &mut Still { moment },
-        connection,
-        100,
-    );
+    let mut http = http_front::Connection::new(alloc, input, Vec::new(alloc), 100);
+    let end = run(alloc, &mut http, &mut Still { moment }, connection);
     assert!(rt; end == Ok(End::Clean));
+    let (_, out) = http.into_parts();
     out
 }
 

@@ -1,4 +1,6 @@
 pub mod BufferLemmas
+pub mod ConnectionLemmas
+pub mod Endings
 pub mod Ends
 pub mod Fronts
 pub mod HeadLines
@@ -7,4 +9,3 @@ pub mod LineLemmas
 pub mod Readings
 pub mod StreamLemmas
 pub mod Talks
-pub mod Transfers

@@ -1,19 +1,23 @@
 -- What is read and written over a connection.
-use Rattle.std.specs.Prelude.{◌≡◌, ◌≢◌, ◌⊎◌, ℕ, ◌*◌, ◌≤◌, List, [], ◌∷◌, ◌++◌, map, flat_map, length, true, Option, Some, Result, Ok, Err}
-use Rattle.std.specs.Io.KnownBytes.{Consumes, Appends}
+use Rattle.std.specs.Prelude.{◌≡◌, ◌≢◌, ◌⊎◌, ℕ, ◌≤◌, List, [], ◌∷◌, ◌++◌, map, flat_map, length, true, Some, Result, Ok, Err}
+use Rattle.std.specs.Io.KnownBytes.{Appends}
 use Rattle.stamp_types.specs.Requests.{Asked}
 use Rattle.stamp_types.specs.Replies.{denied}
 use Rattle.stamp_types.specs.declared.reply.Reply.{Reply}
 use Rattle.request_form.specs.declared.denial.Denial.{Denial}
+use Rattle.http_front.specs.declared.counted.Input.{Input}
+use Rattle.http_front.specs.declared.counted.Input.TheVariants as inputs
 use Rattle.http_front.specs.declared.end.End.{End}
 use Rattle.http_front.specs.declared.end.End.TheVariants.{Clean, Closed}
 use Rattle.http_front.specs.declared.end.FrontFault.{FrontFault}
-use Rattle.http_front.specs.declared.end.FrontFault.TheVariants.{Turns}
+use Rattle.http_front.specs.declared.end.FrontFault.TheVariants.{Read, Write, Turns, NoMemory}
 use Rattle.request_form.specs.HeadForms.{Form, with_body}
+use Rattle.reply_form.specs.FixedReplies.{out_of_memory_bytes}
 use Rattle.reply_form.specs.ReplyBytes.{reply_bytes}
 use Rattle.http_front.specs.Answers.{LeavesRequestUnanswered}
-use Rattle.http_front.specs.Inputs.{read_size}
-use Rattle.http_front.specs.Streams.{Item, Tail, HasHead, BeginsWith, Reads, ReadsFront, interim, first_bytes, tail_bytes, refusal_of}
+use Rattle.http_front.specs.Connections.{ConnectionState, Receives, Sends, IsOpen, IsEnded, IsLeftBy}
+use Rattle.http_front.specs.Inputs.{IsInterimOrNothing, IsCutAt}
+use Rattle.http_front.specs.Streams.{Item, Tail, BeginsWith, Reads, ReadsFront, interim, first_bytes, tail_bytes, refusal_of}
 use Rattle.http_front.specs.Streams.Item.{Requested, Refused}
 use Rattle.http_front.specs.Streams.Tail.{AtStart, Closing}
 
@@ -56,36 +60,34 @@ abbrev pub ServiceReplies : {S : Type 0} → (S → Asked → ℕ → Reply → 
 ServiceReplies answers old [] new = new ≡ old
 ServiceReplies {S} answers old (exchange ∷ exchanges) new = (mid : S) × ServiceRepliesTo answers old exchange mid × ServiceReplies answers mid exchanges new
 
--- how a run ends, by where its stream stops; if the run ends by `Turns`, it took at least as many bytes as it had turns
-abbrev pub EndsAs : Result End FrontFault → Tail → ℕ → ℕ → Type 0
-EndsAs (Ok Clean) tail turns count = tail ≡ AtStart
-EndsAs (Ok Closed) tail turns count = tail ≡ Closing
-EndsAs (Err Turns) tail turns count = (tail ≢ Closing) × (turns ≤ count)
-EndsAs (Err fault) tail turns count = tail ≢ Closing
+-- How a run ends, by how far the input has come, by where its stream stops, and by how many bytes came. The reader failed or the
+-- input ended inside a request; or as many reads were made as the run had turns, each gave a byte, and the input had not ended.
+abbrev pub EndsAs : Result End FrontFault → Input → Tail → ℕ → ℕ → Type 0
+EndsAs (Ok Clean) input tail turns count = (tail ≡ AtStart) × (input ≡ inputs.Ended)
+EndsAs (Ok Closed) input tail turns count = tail ≡ Closing
+EndsAs (Err Read) input tail turns count = (tail ≢ Closing) × (input ≢ inputs.Open) × IsCutAt input tail
+EndsAs (Err Write) input tail turns count = ⊥
+EndsAs (Err Turns) input tail turns count = (tail ≢ Closing) × (input ≡ inputs.Open) × (turns ≤ count)
+EndsAs (Err NoMemory) input tail turns count = ⊥
 
 -- The written bytes are the output of the service's replies to the items of the input, each item at its moment. The run ends as
 -- the input stops.
 pub record AnswersInput {C S : Type 0} (gives : C → ℕ → C → Type 0) (answers : S → Asked → ℕ → Reply → S → Type 0)
-    (clock clock' : C) (world world' : S) (held held' : Option (List ℕ)) (result : Result End FrontFault) (turns : ℕ) (input : List ℕ) : Type 0 where
+    (clock clock' : C) (world world' : S) (from to : ConnectionState) (result : Result End FrontFault) (input : List ℕ) : Type 0 where
   pub exchanges : List Exchange
   pub tail : Tail
   pub items : Reads input (map item_of exchanges) tail
   pub moments : ClockGives gives clock (map moment_of exchanges) clock'
   pub replies : ServiceReplies answers world exchanges world'
-  pub output : Appends held held' (flat_map bytes_of exchanges ++ tail_bytes tail)
-  pub ends : EndsAs result tail turns (length input)
+  pub output : Appends from.writer.held to.writer.held (flat_map bytes_of exchanges ++ tail_bytes tail)
+  pub ends : EndsAs result to.reader.input tail from.reader.turns (length input)
 
--- `AnswersInput` holds of the bytes that a run took, and they are at most 8,192 for each turn.
+-- `AnswersInput` holds of the bytes that a run took.
 pub record AnswersReceived {C S : Type 0} (gives : C → ℕ → C → Type 0) (answers : S → Asked → ℕ → Reply → S → Type 0)
-    (clock clock' : C) (world world' : S) (left left' held held' : Option (List ℕ)) (result : Result End FrontFault) (turns : ℕ) : Type 0 where
+    (clock clock' : C) (world world' : S) (from to : ConnectionState) (result : Result End FrontFault) : Type 0 where
   pub received : List ℕ
-  pub consumed : Consumes left left' received
-  pub within : length received ≤ turns * read_size
-  pub converses : AnswersInput gives answers clock clock' world world' held held' result turns received
-
--- what was written before the answer to the item at the front: nothing, or the interim reply to the head at the front
-abbrev pub IsInterimOrNothing : List ℕ → List ℕ → Type 0
-IsInterimOrNothing bytes written = (written ≡ []) ⊎ ((form : Form) × (count : ℕ) × HasHead bytes count form × (written ≡ interim form))
+  pub came : Receives from.reader to.reader received
+  pub converses : AnswersInput gives answers clock clock' world world' from to result received
 
 -- an item wasn't answered at this moment; the service gets no refused head
 abbrev pub IsUnansweredAt : {S : Type 0} → (S → Asked → ℕ → Reply → S → Type 0) → (S → S → Type 0) → S → S → Item → ℕ → Type 0
@@ -113,9 +115,9 @@ StopsBeforeOrAtItem gives answers starves clock clock' world world' bytes writte
 -- Memory ran out. The bytes that were taken begin with items that were answered in full. After the output for these items come
 -- the bytes that were written before the answer to the next item, and then the bytes that end the run.
 pub record EndsOutOfMemory {C S : Type 0} (gives : C → ℕ → C → Type 0) (answers : S → Asked → ℕ → Reply → S → Type 0) (starves : S → S → Type 0)
-    (clock clock' : C) (world world' : S) (left left' held held' : Option (List ℕ)) (last : List ℕ) : Type 0 where
+    (clock clock' : C) (world world' : S) (from to : ConnectionState) (last : List ℕ) : Type 0 where
   pub received : List ℕ
-  pub consumed : Consumes left left' received
+  pub came : Receives from.reader to.reader received
   pub exchanges : List Exchange
   pub clock_then : C
   pub moments : ClockGives gives clock (map moment_of exchanges) clock_then
@@ -126,4 +128,37 @@ pub record EndsOutOfMemory {C S : Type 0} (gives : C → ℕ → C → Type 0) (
   pub begun : List ℕ
   pub begun_is : IsInterimOrNothing rest begun
   pub stops : StopsBeforeOrAtItem gives answers starves clock_then clock' world_then world' rest begun
-  pub output : Appends held held' ((flat_map bytes_of exchanges ++ begun) ++ last)
+  pub output : Sends from.writer to.writer ((flat_map bytes_of exchanges ++ begun) ++ last)
+
+-- what is written before the answer to the first of these items, or before the stream stops if there is no item
+abbrev pub next_bytes : List Item → Tail → List ℕ
+next_bytes [] tail = tail_bytes tail
+next_bytes (item ∷ items) tail = first_bytes item
+
+-- A write failed. The items of the bytes that were taken begin with items to which the service replied. What went out is a
+-- beginning of the output for these items, and of what comes before the answer to the next item.
+pub record BreaksOff {C S : Type 0} (gives : C → ℕ → C → Type 0) (answers : S → Asked → ℕ → Reply → S → Type 0)
+    (clock clock' : C) (world world' : S) (from to : ConnectionState) : Type 0 where
+  pub received : List ℕ
+  pub came : Receives from.reader to.reader received
+  pub exchanges : List Exchange
+  pub moments : ClockGives gives clock (map moment_of exchanges) clock'
+  pub replies : ServiceReplies answers world exchanges world'
+  pub others : List Item
+  pub tail : Tail
+  pub items : Reads received (map item_of exchanges ++ others) tail
+  pub begun : List ℕ
+  pub begun_is : (begun ≡ []) ⊎ (begun ≡ next_bytes others tail)
+  pub output : Sends from.writer to.writer (flat_map bytes_of exchanges ++ begun)
+
+-- A write failed: it broke off the output for the items, or the last bytes of a run for which memory ran out.
+abbrev pub EndsByWrite : {C S : Type 0} → (C → ℕ → C → Type 0) → (S → Asked → ℕ → Reply → S → Type 0) → (S → S → Type 0)
+    → C → C → S → S → ConnectionState → ConnectionState → Type 0
+EndsByWrite gives answers starves clock clock' world world' from to =
+    BreaksOff gives answers clock clock' world world' from to ⊎ EndsOutOfMemory gives answers starves clock clock' world world' from to out_of_memory_bytes
+
+-- how a run leaves the connection: at the end of the input, open after a reply that closes, or as its fault leaves it
+abbrev pub LeavesRun : Result End FrontFault → ConnectionState → Type 0
+LeavesRun (Ok Clean) connection = IsEnded connection
+LeavesRun (Ok Closed) connection = IsOpen connection
+LeavesRun (Err fault) connection = IsLeftBy fault connection

@@ -1,10 +1,11 @@
 //! Bytes that came and are not taken yet.
-ghost use Rattle.std.specs.Prelude.{◌≡◌, ◌≢◌, ◌↔◌, ◌+◌, ◌-◌, ◌≤◌, [], IsTrue, Ok, Err, IfOk, OnOk, IfErr, OnErr, IsOkUnless, length, take, drop};
+ghost use Rattle.std.specs.Prelude.{◌≡◌, ◌≢◌, ◌↔◌, ◌+◌, ◌-◌, ◌≤◌, [], IsTrue, Ok, Err, IfOk, OnOk, OnErr, IsOkUnless, length, take, drop};
 ghost use Rattle.std.specs.Io.KnownBytes.{Consumes, IsAtEnd};
-ghost use Rattle.http_front.specs.Inputs.{ReadsSoMany, read_size};
-ghost use Rattle.http_front.specs.declared.end.FrontFault.{FrontFault};
+ghost use Rattle.stamp_values.specs.Gatherings.{ReadsAfter};
+ghost use Rattle.stamp_values.specs.declared.gathering.GatherFault.{GatherFault};
+ghost use Rattle.http_front.specs.Connections.{read_size};
 
-use crate::end::FrontFault;
+use stamp_types::GatherFault;
 use std::alloc::{AllocError, Global};
 use std::io::Read;
 use std::marker::Model;
@@ -62,7 +63,7 @@ fn grow(room: &mut Vec<u8>, len: usize) -> Result<(), AllocError>
 }
 
 // One read into the room from an index on.
-fn read_at<R: Read>(reader: &mut R, room: &mut Vec<u8>, at: usize) -> Result<usize, FrontFault>
+fn read_at<R: Read>(reader: &mut R, room: &mut Vec<u8>, at: usize) -> Result<usize, GatherFault>
     requires { at + read_size ≤ length room.old.items }
     ensures kept { take at room.new.items ≡ take at room.old.items }
     ensures len { length room.new.items ≡ length room.old.items }
@@ -71,11 +72,11 @@ fn read_at<R: Read>(reader: &mut R, room: &mut Vec<u8>, at: usize) -> Result<usi
         (take n (drop at room.new.items))) }
     ensures failed { OnErr result (Consumes (R.remaining reader.old) (R.remaining reader.new) []) }
     ensures end { result ≡ Ok 0 → IsAtEnd (R.remaining reader.new) }
-    ensures fault { IsOkUnless result FrontFault.Read }
+    ensures fault { IsOkUnless result GatherFault.Read }
 {
     reader
         .read(&mut room[at..at + READ_SIZE])
-        .map_err(|_| FrontFault::Read)
+        .map_err(|_| GatherFault::Read)
 }
 
 impl Buffer {
@@ -113,26 +114,21 @@ impl Buffer {
 
     /// Reads at most 8,192 bytes and puts them after the bytes. Says how many came.
     ///
-    /// `FrontFault::NoMemory` if memory runs out before the read, and `FrontFault::Read` if the reader fails. The bytes are
+    /// `GatherFault::NoMemory` if memory runs out before the read, and `GatherFault::Read` if the reader fails. The bytes are
     /// as they were after either fault.
     #[tactic(auto, using(crate::proofs::BufferLemmas::range_kept, crate::proofs::BufferLemmas::none_came))]
-    pub(crate) fn read_from<R: Read>(&mut self, reader: &mut R) -> Result<usize, FrontFault>
-        ensures read { IfOk result (ReadsSoMany (R.remaining reader.old) (R.remaining reader.new)
-            self.old self.new) }
-        ensures len { IfOk result (λ n. (n ≤ read_size)
-            × (length self.new ≡ length self.old + n)) }
-        ensures end { result ≡ Ok 0 →
-            IsAtEnd (R.remaining reader.new) × (self.new ≡ self.old) }
-        ensures failed { OnErr result (Consumes (R.remaining reader.old) (R.remaining reader.new) []
-            × (self.new ≡ self.old)) }
-        ensures fault { IfErr result (λ fault. (fault ≢ FrontFault.Write)
-            × (fault ≢ FrontFault.Turns)) }
+    pub(crate) fn read_from<R: Read>(&mut self, reader: &mut R) -> Result<usize, GatherFault>
+        ensures read { IfOk result
+            (ReadsAfter (R.remaining reader.old) (R.remaining reader.new) self.old self.new read_size) }
+        ensures end { result ≡ Ok 0 → IsAtEnd (R.remaining reader.new) }
+        ensures failed { OnErr result ((self.new ≡ self.old)
+            × Consumes (R.remaining reader.old) (R.remaining reader.new) []) }
     {
         let left = self.end - self.start;
         self.start = move_to_front(&mut self.room, self.start, self.end);
         self.end = self.start + left;
         if grow(&mut self.room, self.end + READ_SIZE).is_err() {
-            return Err(FrontFault::NoMemory);
+            return Err(GatherFault::NoMemory);
         }
         match read_at(reader, &mut self.room, self.end) {
             Ok(n) => {

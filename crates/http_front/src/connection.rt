@@ -1,220 +1,374 @@
-//! One connection.
-ghost use Rattle.std.specs.Prelude.{◌≡◌, [], Ok, Err, IfOk, OnOk, OnErr, IfErr, IfSome};
-ghost use Rattle.std.specs.Io.KnownBytes.{Appends};
-ghost use Rattle.reply_form.specs.FixedReplies.{out_of_memory_bytes};
-ghost use Rattle.http_front.specs.Outcomes.{UnlessWriteOrMemoryFailed, IsWriteOrMemoryFault};
-ghost use Rattle.http_front.specs.Conversations.{AnswersReceived, AnswersInput, EndsOutOfMemory};
-ghost use Rattle.http_front.specs.Answers.{AnswersCall, AnswersItem, LeavesItemUnanswered};
-ghost use Rattle.http_front.specs.Answers.{LeavesRequestUnanswered, WritesRefusal};
-ghost use Rattle.reply_form.specs.ReplyBytes.{reply_bytes};
-ghost use Rattle.http_front.specs.declared.end.End.{End};
+//! One connection: what was read of it, and what was written to it.
+ghost use Rattle.std.specs.Prelude.{◌≡◌, ◌≢◌, true, None, Some, ◌+◌, ◌<◌, ◌≤◌, [], ◌++◌, Ok, Err, IfOk, OnOk, IfErr, OnErr, IsOkUnless, length, take, drop};
+ghost use Rattle.request_form.specs.HeadForms.{with_body};
+ghost use Rattle.http_front.specs.Answers.{AnswersItem, LeavesItemUnanswered, found_closes};
+ghost use Rattle.http_front.specs.Connections.{fresh_connection, GivesByte, IsOpen, Leaves, LeavesRead, LeavesWriter, ReadsOn, Sends};
+ghost use Rattle.http_front.specs.Inputs.{IsCallOfBody, IsFoundInBuffer, LeavesAwaited, LeavesItem, ReadsBody, ReadsItem};
+ghost use Rattle.http_front.specs.Outcomes.{UnlessMemoryFailed};
+ghost use Rattle.http_front.specs.Streams.{HasHead, interim};
+ghost use Rattle.http_front.specs.declared.counted.Input.{Input};
+ghost use Rattle.http_front.specs.declared.counted.Output.{Output};
 ghost use Rattle.http_front.specs.declared.end.FrontFault.{FrontFault};
-ghost use Rattle.stamp_types.specs.Replies.{denied};
 
-use crate::buffer::Buffer;
-use crate::end::{End, FrontFault};
-use crate::input::{Call, NextItem, next_item};
-use crate::output::send;
+use crate::answers::answer_item;
+use crate::buffer::{Buffer, READ_SIZE};
+use crate::counted::{CountedReader, CountedWriter};
+use crate::end::FrontFault;
+use crate::head_end::Search;
+use crate::item::{Awaited, Call, NextItem};
 use crate::service::{Clock, Service};
-use reply_form::{out_of_memory_reply, sends_body, write_head, write_reply};
-use request_form::Denial;
-use stamp_types::{Moment, Refusal, Reply, Verb};
-use std::alloc::Global;
+use reply_form::interim_reply;
+use request_form::{HEAD_LIMIT, Head, HeadFault, no_head, read_head};
+use stamp_types::{Gathering, Request};
+use std::alloc::{AllocError, Global};
 use std::io::{Read, Write};
+use std::marker::Model;
 
-/// The most bytes of a body that is written with its head, in one write.
-const SMALL_BODY: usize = 4096;
-
-// Writes the head of a reply, and then the shares of its body if the body is sent. No share is copied.
-#[tactic(auto, unfolding(reply_form::specs::ReplyBytes::reply_bytes))]
-fn send_in_shares<W: Write>(
-    alloc: Global,
-    writer: &mut W,
-    reply: &Reply,
-    moment: Moment,
-    verb: Option<Verb>,
-    close: bool,
-) -> Result<(), FrontFault>
-    ensures sent { OnOk result (Appends (W.contents writer.old) (W.contents writer.new)
-        (reply_bytes reply.now moment verb close)) }
-    ensures starved { result ≡ Err FrontFault.NoMemory → writer.new ≡ writer.old }
-    ensures fault { IfErr result IsWriteOrMemoryFault }
-{
-    let head = write_head(alloc, reply, moment, close)?;
-    send(writer, &head)?;
-    if !sends_body(reply.status, verb) {
-        return Ok(());
-    }
-    reply.body.write_to(writer).map_err(|_| FrontFault::Write)
+/// One connection: its reader, its writer, and the bytes that came and are not taken yet.
+///
+/// Reads and writes are made by this type alone. So it knows why one of them was the last.
+#[derive(Drop)]
+pub struct Connection<R: Read, W: Write> {
+    reader: CountedReader<R>,
+    writer: CountedWriter<W>,
+    buffer: Buffer,
 }
 
-// Writes a reply. A small reply is written in one write.
-fn send_reply<W: Write>(
-    alloc: Global,
-    writer: &mut W,
-    reply: &Reply,
-    moment: Moment,
-    verb: Option<Verb>,
-    close: bool,
-) -> Result<(), FrontFault>
-    ensures sent { OnOk result (Appends (W.contents writer.old) (W.contents writer.new)
-        (reply_bytes reply.now moment verb close)) }
-    ensures starved { result ≡ Err FrontFault.NoMemory → writer.new ≡ writer.old }
-    ensures fault { IfErr result IsWriteOrMemoryFault }
-{
-    if reply.body.len() > SMALL_BODY {
-        return send_in_shares(alloc, writer, reply, moment, verb, close);
-    }
-    let bytes = write_reply(alloc, reply, moment, verb, close)?;
-    send(writer, &bytes)
+impl<R: Read, W: Write> Model for Connection<R, W> {
+    ghost use Rattle.http_front.specs.Connections.{ConnectionState};
+
+    ghost Value = { ConnectionState };
+
+    ghost view = { λ c. record { reader = c.reader; writer = c.writer; bytes = c.buffer } };
 }
 
-// Answers a request at a moment.
-fn answer_call<W: Write, S: Service>(
-    alloc: Global,
-    writer: &mut W,
-    service: &mut S,
-    call: Call,
-    moment: Moment,
-) -> Result<(), FrontFault>
-    ensures answered { OnOk result (AnswersCall S.answers
-        (S.world service.old) (S.world service.new)
-        (W.contents writer.old) (W.contents writer.new) call moment) }
-    ensures left { OnErr result (LeavesRequestUnanswered S.answers S.starves
-        (S.world service.old) (S.world service.new) call.request moment) }
-    ensures starved { result ≡ Err FrontFault.NoMemory → writer.new ≡ writer.old }
-    ensures fault { IfErr result IsWriteOrMemoryFault }
+// Moves bytes from the front of the buffer to a body: as many as the body misses, or all.
+fn deal(body: &mut Gathering, buffer: &mut Buffer, missing: u64) -> Result<(), AllocError>
+    ensures body { OnOk result (body.new ≡ body.old ++ take missing buffer.old) }
+    ensures rest { OnOk result (buffer.new ≡ drop missing buffer.old) }
+    ensures refused { OnErr result ((body.new ≡ body.old) × (buffer.new ≡ buffer.old)) }
 {
-    let Call {
+    let here = missing.min(buffer.len() as u64) as usize;
+    body.push(&buffer.as_slice()[..here])?;
+    buffer.skip(here);
+    Ok(())
+}
+
+// The request that a head and its body make.
+fn request_of(alloc: Global, head: Head, body: Gathering) -> Result<Request, FrontFault>
+    requires { length body ≡ head.body_len }
+    ensures request { IfOk result (λ request. request ≡ with_body head body) }
+    ensures fault { IsOkUnless result FrontFault.NoMemory }
+{
+    match body.finish(alloc) {
+        Ok(body) => head
+            .with_body(alloc, body)
+            .map_err(|_| FrontFault::NoMemory),
+        Err(_) => {
+            drop(head);
+            Err(FrontFault::NoMemory)
+        }
+    }
+}
+
+// The request that a head and its body make, as an item, or the fault that ended the body.
+fn join(
+    alloc: Global,
+    head: Head,
+    body: Result<Gathering, FrontFault>,
+) -> Result<Option<NextItem>, FrontFault>
+    requires { IfOk body (λ body. length body ≡ head.body_len) }
+    ensures { IsCallOfBody head body result }
+{
+    let verb = head.verb();
+    let closes = head.closes();
+    let body = match body {
+        Ok(body) => body,
+        Err(fault) => {
+            drop(head);
+            return Err(fault);
+        }
+    };
+    let request = request_of(alloc, head, body)?;
+    Ok(Some(NextItem::Called(Call {
         request,
         verb,
         closes,
-    } = call;
-    let reply = service.answer(alloc, request, moment)?;
-    send_reply(alloc, writer, &reply, moment, Some(verb), closes)
+    })))
 }
 
-// Writes the reply to a refused head at a moment.
-fn answer_denial<W: Write>(
-    alloc: Global,
-    writer: &mut W,
-    denial: Denial,
-    moment: Moment,
-) -> Result<(), FrontFault>
-    ensures answered { OnOk result (WritesRefusal
-        (W.contents writer.old) (W.contents writer.new) denial moment) }
-    ensures starved { result ≡ Err FrontFault.NoMemory → writer.new ≡ writer.old }
-    ensures fault { IfErr result IsWriteOrMemoryFault }
-{
-    let refusal = Refusal {
-        rule: denial.rule,
-        code: denial.code,
-    };
-    let reply = Reply::denied(alloc, refusal)?;
-    send_reply(alloc, writer, &reply, moment, denial.verb, true)
-}
-
-// Answers an item at the one moment that the clock gives for it, and returns whether the item ends the connection.
-fn answer_item<W: Write, C: Clock, S: Service>(
-    alloc: Global,
-    writer: &mut W,
-    clock: &mut C,
-    service: &mut S,
-    found: NextItem,
-) -> Result<bool, FrontFault>
-    ensures answered { IfOk result (λ closes. AnswersItem C.gives S.answers
-        clock.old clock.new (S.world service.old) (S.world service.new)
-        (W.contents writer.old) (W.contents writer.new) found closes) }
-    ensures left { OnErr result (LeavesItemUnanswered C.gives S.answers S.starves
-        clock.old clock.new (S.world service.old) (S.world service.new) found) }
-    ensures starved { result ≡ Err FrontFault.NoMemory → writer.new ≡ writer.old }
-    ensures fault { IfErr result IsWriteOrMemoryFault }
-{
-    let moment = clock.now();
-    match found {
-        NextItem::Called(call) => {
-            let closes = call.closes;
-            answer_call(alloc, writer, service, call, moment)?;
-            Ok(closes)
-        }
-        NextItem::Refused(denial) => {
-            answer_denial(alloc, writer, denial, moment)?;
-            Ok(true)
+impl<R: Read, W: Write> Connection<R, W> {
+    /// A connection on which nothing was read or written. At most `turns` reads are made on it, and one read asks for at most 8,192
+    /// bytes. The call takes no memory.
+    pub fn new(alloc: Global, reader: R, writer: W, turns: u64) -> Self
+        ensures { result ≡ fresh_connection (R.remaining reader) turns (W.contents writer) }
+    {
+        Self {
+            reader: CountedReader::new(reader, turns),
+            writer: CountedWriter::new(writer),
+            buffer: Buffer::new(alloc),
         }
     }
-}
 
-// Reads, answers and writes until the connection ends.
-fn converse<R: Read, W: Write, C: Clock, S: Service>(
-    alloc: Global,
-    reader: &mut R,
-    writer: &mut W,
-    clock: &mut C,
-    service: &mut S,
-    turns: u64,
-) -> Result<End, FrontFault>
-    ensures conversed { UnlessWriteOrMemoryFailed result (AnswersReceived C.gives S.answers
-        clock.old clock.new (S.world service.old) (S.world service.new)
-        (R.remaining reader.old) (R.remaining reader.new)
-        (W.contents writer.old) (W.contents writer.new) result turns) }
-    ensures whole { OnOk result (IfSome (R.remaining reader.old) (AnswersInput C.gives S.answers
-        clock.old clock.new (S.world service.old) (S.world service.new)
-        (W.contents writer.old) (W.contents writer.new) result turns)) }
-    ensures starved { result ≡ Err FrontFault.NoMemory → EndsOutOfMemory C.gives S.answers S.starves
-        clock.old clock.new (S.world service.old) (S.world service.new)
-        (R.remaining reader.old) (R.remaining reader.new)
-        (W.contents writer.old) (W.contents writer.new) [] }
-{
-    let mut buffer = Buffer::new(alloc);
-    let mut left = turns;
-    loop {
-        match next_item(alloc, reader, writer, &mut buffer, &mut left)? {
-            None => return Ok(End::Clean),
-            Some(found) => {
-                if answer_item(alloc, writer, clock, service, found)? {
-                    return Ok(End::Closed);
-                }
+    /// Gives the reader and the writer back. Bytes that came and were not taken are lost.
+    pub fn into_parts(self) -> (R, W)
+        ensures { (R.remaining result.0 ≡ self.reader.left) × (W.contents result.1 ≡ self.writer.held) }
+    {
+        (self.reader.into_inner(), self.writer.into_inner())
+    }
+
+    /// The bytes that came and are not taken yet.
+    pub fn unread(&self) -> &[u8]
+        ensures { result.now ≡ self.now.bytes }
+    {
+        self.buffer.as_slice()
+    }
+
+    /// Writes all of the bytes.
+    ///
+    /// `Write` if a write fails; then no more is written.
+    pub fn send(&mut self, bytes: &[u8]) -> Result<(), FrontFault>
+        requires { self.old.writer.output ≢ Output.Failed }
+        ensures sent { Sends self.old.writer self.new.writer bytes.now }
+        ensures unread { (self.new.reader ≡ self.old.reader) × (self.new.bytes ≡ self.old.bytes) }
+        ensures ok { OnOk result (self.new.writer.output ≢ Output.Failed) }
+        ensures failed { OnErr result (self.new.writer.output ≡ Output.Failed) }
+        ensures fault { IsOkUnless result FrontFault.Write }
+    {
+        self.writer.send(bytes)
+    }
+
+    /// Flushes what was written.
+    ///
+    /// `Write` if the flush fails.
+    pub fn flush(&mut self) -> Result<(), FrontFault>
+        requires { self.old.writer.output ≢ Output.Failed }
+        ensures unwritten { Sends self.old.writer self.new.writer [] }
+        ensures unread { (self.new.reader ≡ self.old.reader) × (self.new.bytes ≡ self.old.bytes) }
+        ensures flushed { OnOk result (self.new.writer.output ≡ Output.Flushed) }
+        ensures still { self.old.writer.output ≡ Output.Flushed → self.new ≡ self.old }
+        ensures failed { OnErr result (self.new.writer.output ≡ Output.Failed) }
+        ensures fault { IsOkUnless result FrontFault.Write }
+    {
+        self.writer.flush()
+    }
+
+    // Sees to it that a read may be made. The writer is flushed before the read, since the client may wait for what was written.
+    fn take_turn(&mut self) -> Result<(), FrontFault>
+        requires { IsOpen self.old }
+        ensures unread { (self.new.reader ≡ self.old.reader) × (self.new.bytes ≡ self.old.bytes) }
+        ensures unwritten { Sends self.old.writer self.new.writer [] }
+        ensures flushed { OnOk result (self.new.writer.output ≡ Output.Flushed) }
+        ensures still { self.old.writer.output ≡ Output.Flushed → self.new ≡ self.old }
+        ensures some { OnOk result (0 < self.new.reader.turns) }
+        ensures left { Leaves result self.new }
+    {
+        if !self.reader.has_turns() {
+            return Err(FrontFault::Turns);
+        }
+        self.flush()
+    }
+
+    /// Reads once, and returns whether a byte came. It came after the bytes that are not taken yet.
+    ///
+    /// `Turns` if all reads that are allowed were made, `Write` if a flush before the read fails, `Read` if the read fails, and
+    /// `NoMemory` if memory runs out before the read.
+    pub fn fill(&mut self) -> Result<bool, FrontFault>
+        requires { IsOpen self.old }
+        ensures read { ReadsOn self.old self.new self.old.bytes self.new.bytes }
+        ensures came { GivesByte result self.old.bytes self.new.bytes }
+        ensures still { self.old.writer.output ≡ Output.Flushed → self.new.writer ≡ self.old.writer }
+        ensures failed { result ≡ Err FrontFault.Read → self.new.reader.input ≡ Input.Failed }
+        ensures left { LeavesRead result self.new }
+    {
+        self.take_turn()?;
+        self.reader.read_to_buffer(&self.writer, &mut self.buffer)
+    }
+
+    // Reads until a head is whole, or until no head can come. No byte is searched twice, however the bytes are cut into reads.
+    fn await_head(&mut self) -> Result<Awaited, FrontFault>
+        requires { IsOpen self.old }
+        ensures read { ReadsOn self.old self.new self.old.bytes self.new.bytes }
+        ensures head { IsFoundInBuffer result self.new.bytes }
+        ensures cut { result ≡ Err FrontFault.Read → self.new.reader.input ≡ Input.Ended →
+            self.new.bytes ≢ [] }
+        ensures left { LeavesAwaited result self.new }
+    {
+        let mut search = Search::new();
+        loop {
+            if let Some(n) = search.look(self.buffer.as_slice()) {
+                return Ok(Awaited::Head(n));
+            }
+            if self.buffer.len() > HEAD_LIMIT {
+                return Ok(Awaited::TooLong);
+            }
+            if !self.fill()? {
+                return if self.buffer.is_empty() {
+                    Ok(Awaited::End)
+                } else {
+                    Err(FrontFault::Read)
+                };
             }
         }
     }
-}
 
-/// Serves one connection: reads, answers and writes until it ends. One read asks for at most 8,192 bytes. At most `turns`
-/// reads are made, and the read that finds the end is one of them.
-///
-/// The clock is read once for each item, after the item is whole. If memory runs out, no part of the answer to the item is
-/// written: the fixed bytes that say that memory ran out are written in its place, and the run ends with `NoMemory`. If those
-/// bytes cannot be written, it ends with `Write`. The interim reply of the item may have been written before.
-pub fn run<R: Read, W: Write, C: Clock, S: Service>(
-    alloc: Global,
-    reader: &mut R,
-    writer: &mut W,
-    clock: &mut C,
-    service: &mut S,
-    turns: u64,
-) -> Result<End, FrontFault>
-    // What is written is the output of the service's replies to the items of the bytes that were read, each at its moment.
-    ensures conversed { UnlessWriteOrMemoryFailed result (AnswersReceived C.gives S.answers
-        clock.old clock.new (S.world service.old) (S.world service.new)
-        (R.remaining reader.old) (R.remaining reader.new)
-        (W.contents writer.old) (W.contents writer.new) result turns) }
-    // What is written is the output for the whole input, however the input was cut into reads.
-    ensures whole { OnOk result (IfSome (R.remaining reader.old) (AnswersInput C.gives S.answers
-        clock.old clock.new (S.world service.old) (S.world service.new)
-        (W.contents writer.old) (W.contents writer.new) result turns)) }
-    // If memory ran out, the items before are answered in full, and the last bytes say only that memory ran out. The clock and
-    // the service are as the last of these items left them, or as the item whose answer was not written left them.
-    ensures starved { result ≡ Err FrontFault.NoMemory → EndsOutOfMemory C.gives S.answers S.starves
-        clock.old clock.new (S.world service.old) (S.world service.new)
-        (R.remaining reader.old) (R.remaining reader.new)
-        (W.contents writer.old) (W.contents writer.new) out_of_memory_bytes }
-{
-    let ended = converse(alloc, reader, writer, clock, service, turns);
-    if ended == Err(FrontFault::NoMemory) {
-        send(writer, out_of_memory_reply())?;
+    // Reads once for the last bytes of a body, and returns whether a byte came. The bytes after the body stay in the buffer.
+    fn gather_last(&mut self, body: &mut Gathering, missing: u64) -> Result<bool, FrontFault>
+        requires open { IsOpen self.old }
+        requires missing { 0 < missing }
+        requires none { self.old.bytes ≡ [] }
+        ensures read { ReadsOn self.old self.new (body.old ++ self.old.bytes) (body.new ++ self.new.bytes) }
+        ensures still { result ≢ Ok true → result ≢ Err FrontFault.NoMemory →
+            (body.new ≡ body.old) × (self.new.bytes ≡ []) }
+        ensures grown { result ≡ Ok true → length body.old < length body.new }
+        ensures size { OnOk result (length body.new ≤ length body.old + missing) }
+        ensures waiting { OnOk result
+            (length body.new < length body.old + missing → self.new.bytes ≡ []) }
+        ensures left { LeavesRead result self.new }
+    {
+        let came = self.fill()?;
+        deal(body, &mut self.buffer, missing)?;
+        Ok(came)
     }
-    if ended != Err(FrontFault::Write) && writer.flush().is_err() {
-        return Err(FrontFault::Write);
+
+    // Reads once for the body, and returns whether a byte came. The bytes go straight into the room of the body, unless bytes
+    // after the body can come with them.
+    fn gather(&mut self, body: &mut Gathering, missing: u64) -> Result<bool, FrontFault>
+        requires open { IsOpen self.old }
+        requires missing { 0 < missing }
+        requires none { self.old.bytes ≡ [] }
+        ensures read { ReadsOn self.old self.new (body.old ++ self.old.bytes) (body.new ++ self.new.bytes) }
+        ensures still { result ≢ Ok true → result ≢ Err FrontFault.NoMemory →
+            (body.new ≡ body.old) × (self.new.bytes ≡ []) }
+        ensures grown { result ≡ Ok true → length body.old < length body.new }
+        ensures size { OnOk result (length body.new ≤ length body.old + missing) }
+        ensures waiting { OnOk result
+            (length body.new < length body.old + missing → self.new.bytes ≡ []) }
+        ensures left { LeavesRead result self.new }
+    {
+        if missing < READ_SIZE as u64 {
+            return self.gather_last(body, missing);
+        }
+        self.take_turn()?;
+        self.reader.read_to_body(&self.writer, body)
     }
-    ended
+
+    // Reads until the body is whole, and makes no read after that.
+    fn await_body(&mut self, body: &mut Gathering, body_len: u64) -> Result<(), FrontFault>
+        requires open { IsOpen self.old }
+        requires short { length body.old ≤ body_len }
+        requires waiting { length body.old < body_len → self.old.bytes ≡ [] }
+        ensures read { ReadsOn self.old self.new (body.old ++ self.old.bytes) (body.new ++ self.new.bytes) }
+        ensures whole { OnOk result (length body.new ≡ body_len) }
+        ensures cut { IfErr result (λ fault. fault ≢ FrontFault.NoMemory →
+            length (body.new ++ self.new.bytes) < body_len) }
+        ensures left { Leaves result self.new }
+    {
+        loop {
+            let missing = body_len - body.len() as u64;
+            if missing == 0 {
+                return Ok(());
+            }
+            if !self.gather(body, missing)? {
+                return Err(FrontFault::Read);
+            }
+        }
+    }
+
+    // Takes the head and what came of its body off the front. The body gets its whole room here, so its bytes are never moved.
+    fn take_start(
+        &mut self,
+        alloc: Global,
+        count: usize,
+        body_len: u64,
+    ) -> Result<Gathering, FrontFault>
+        requires { count ≤ length self.old.bytes }
+        ensures body { IfOk result (λ body. body ≡ take body_len (drop count self.old.bytes)) }
+        ensures rest { OnOk result (self.new.bytes ≡ drop body_len (drop count self.old.bytes)) }
+        ensures unread { (self.new.reader ≡ self.old.reader) × (self.new.writer ≡ self.old.writer) }
+        ensures fault { IsOkUnless result FrontFault.NoMemory }
+    {
+        let here = body_len.min((self.buffer.len() - count) as u64) as usize;
+        let mut body = Gathering::with_room(alloc, body_len as usize)?;
+        body.push(&self.buffer.as_slice()[count..count + here])?;
+        self.buffer.skip(count + here);
+        Ok(body)
+    }
+
+    // Writes the interim reply if the head asks for it (RFC 9110, section 10.1.1).
+    #[tactic(auto, unfolding(crate::specs::Streams::interim))]
+    fn send_interim(&mut self, head: &Head) -> Result<(), FrontFault>
+        requires { IsOpen self.old }
+        ensures sent { Sends self.old.writer self.new.writer (interim head.now) }
+        ensures unread { (self.new.reader ≡ self.old.reader) × (self.new.bytes ≡ self.old.bytes) }
+        ensures left { Leaves result self.new }
+        ensures fault { IsOkUnless result FrontFault.Write }
+    {
+        if head.expects() {
+            self.send(interim_reply())
+        } else {
+            self.send(b"")
+        }
+    }
+
+    // Reads the body of a head that is at the front, and takes the head and the body off the buffer.
+    fn read_body(
+        &mut self,
+        alloc: Global,
+        head: &Head,
+        count: usize,
+    ) -> Result<Gathering, FrontFault>
+        requires open { IsOpen self.old }
+        requires head { HasHead self.old.bytes count head.now }
+        ensures read { ReadsBody result head.now count self.old self.new }
+        ensures left { Leaves result self.new }
+    {
+        self.send_interim(head)?;
+        let body_len = head.body_len();
+        let mut body = self.take_start(alloc, count, body_len)?;
+        self.await_body(&mut body, body_len)?;
+        Ok(body)
+    }
+
+    /// Reads the next item, and takes a request off the buffer. `None` if the stream ended before an item.
+    pub(crate) fn next_item(&mut self, alloc: Global) -> Result<Option<NextItem>, FrontFault>
+        requires { IsOpen self.old }
+        ensures read { ReadsItem result self.old self.new }
+        ensures left { LeavesItem result self.new }
+    {
+        let count = match self.await_head()? {
+            Awaited::Head(count) => count,
+            Awaited::TooLong => return Ok(Some(NextItem::Refused(no_head()))),
+            Awaited::End => return Ok(None),
+        };
+        let head = match read_head(alloc, &self.buffer.as_slice()[..count]) {
+            Ok(head) => head,
+            Err(HeadFault::Denied(denial)) => return Ok(Some(NextItem::Refused(denial))),
+            Err(HeadFault::NoMemory) => return Err(FrontFault::NoMemory),
+        };
+        let body = self.read_body(alloc, &head, count);
+        join(alloc, head, body)
+    }
+    /// Answers an item at the one moment that the clock gives for it, and returns whether the item ends the connection.
+    pub(crate) fn answer<C: Clock, S: Service>(
+        &mut self,
+        alloc: Global,
+        clock: &mut C,
+        service: &mut S,
+        found: NextItem,
+    ) -> Result<bool, FrontFault>
+        requires { self.old.writer.output ≢ Output.Failed }
+        ensures answered { UnlessMemoryFailed result (AnswersItem C.gives S.answers
+            clock.old clock.new (S.world service.old) (S.world service.new)
+            self.old.writer self.new.writer found) }
+        ensures closes { IfOk result (λ closes. closes ≡ found_closes found) }
+        ensures unanswered { result ≡ Err FrontFault.NoMemory →
+            LeavesItemUnanswered C.gives S.answers S.starves
+            clock.old clock.new (S.world service.old) (S.world service.new) found
+            × (self.new.writer ≡ self.old.writer) }
+        ensures unread { (self.new.reader ≡ self.old.reader) × (self.new.bytes ≡ self.old.bytes) }
+        ensures left { LeavesWriter result self.new.writer }
+    {
+        answer_item(alloc, &mut self.writer, clock, service, found)
+    }
 }

@@ -1,18 +1,22 @@
 //! Connections: bytes in, bytes out, over any reader, writer, clock and service.
 #![tactic(auto)]
 
+mod answers;
 mod buffer;
 mod connection;
+mod conversation;
+mod counted;
 mod end;
 mod head_end;
-mod input;
+mod item;
 mod link;
-mod output;
 mod service;
 mod stream_laws;
 mod workers;
 
-pub use connection::run;
+pub use connection::Connection;
+pub use conversation::run;
+pub use counted::{Input, Output};
 pub use end::{End, FrontFault};
 pub use link::{Link, Source, serve_link};
 pub use service::{Clock, Service};

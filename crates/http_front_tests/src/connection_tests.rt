@@ -2,7 +2,7 @@
 //! awaited.
 ghost use Rattle.std.specs.Prelude.{⊤};
 
-use http_front::{Clock, End, FrontFault, Service, run};
+use http_front::{Clock, Connection, End, FrontFault, Service, run};
 use reply_form::out_of_memory_reply;
 use stamp_types::{Code, Moment, Refusal, Reply, Request, Rule};
 use std::alloc::{AllocError, Global};
@@ -15,6 +15,10 @@ const GET: &[u8] = b"GET /acct/box/b HTTP/1.1\r\n\r\n";
 // The head of a Put Blob that waits for the interim reply, and its body.
 const PUT_HEAD: &[u8] =
     b"PUT /acct/box/b HTTP/1.1\r\nx-ms-blob-type: BlockBlob\r\nExpect: 100-continue\r\nContent-Length: 5\r\n\r\n";
+
+// The head of a Put Blob that does not wait.
+const PLAIN_HEAD: &[u8] =
+    b"PUT /acct/box/b HTTP/1.1\r\nx-ms-blob-type: BlockBlob\r\nContent-Length: 5\r\n\r\n";
 
 const BODY: &[u8] = b"hello";
 
@@ -46,9 +50,11 @@ impl Read for Pieces<'_> {
     }
 }
 
-/// The first `calls` calls succeed. After them, each further call fails.
+/// Takes at most `most` bytes at each write, and keeps them. After `calls` calls, each further call fails.
 #[derive(Drop)]
 struct Few {
+    kept: Vec<u8>,
+    most: usize,
     calls: usize,
 }
 
@@ -65,7 +71,9 @@ impl Few {
 impl Write for Few {
     fn write(&mut self, buf: &[u8]) -> io::Result<usize> {
         self.pass()?;
-        Ok(buf.len())
+        let n = self.most.min(buf.len());
+        self.kept.extend_from_slice(&buf[..n])?;
+        Ok(n)
     }
 
     fn flush(&mut self) -> io::Result<()> {
@@ -160,99 +168,181 @@ impl Service for Closed {
     }
 }
 
-// How a connection to the service ends over a reader and a writer.
-fn end<R: Read, W: Write>(
+// How a connection to the service ends over a reader and a writer, and the writer.
+fn serve<R: Read + Drop, W: Write + Drop>(
     alloc: Global,
-    reader: &mut R,
-    writer: &mut W,
+    reader: R,
+    writer: W,
     starved: bool,
     turns: u64,
-) -> Result<End, FrontFault> {
+) -> (Result<End, FrontFault>, W) {
+    let mut connection = Connection::new(alloc, reader, writer, turns);
     let mut service = Closed { starved };
-    run(alloc, reader, writer, &mut Start, &mut service, turns)
+    let ended = run(alloc, &mut connection, &mut Start, &mut service);
+    let (_, writer) = connection.into_parts();
+    (ended, writer)
 }
 
-fn joined(alloc: Global, parts: &[&[u8]]) -> Result<Vec<u8>, AllocError> {
+// The heads and the bodies of five requests, and what is written before a body comes.
+const STREAM: [(&[u8], &[u8], &[u8]); 5] = [
+    (GET, b"", b""),
+    (PUT_HEAD, BODY, CONTINUE),
+    (GET, b"", b""),
+    (PLAIN_HEAD, BODY, b""),
+    (PUT_HEAD, BODY, CONTINUE),
+];
+
+fn whole_stream(alloc: Global) -> Result<Vec<u8>, AllocError> {
     let mut all = Vec::new(alloc);
-    for part in parts {
-        all.extend_from_slice(part)?;
+    for (head, body, _) in STREAM {
+        all.extend_from_slice(head)?;
+        all.extend_from_slice(body)?;
     }
     Ok(all)
 }
 
-// Each front part of a Get and a Put is tried as a whole stream.
+// What is written if so many bytes of the stream come.
+fn output_of(alloc: Global, count: usize) -> Result<Vec<u8>, AllocError> {
+    let mut output = Vec::new(alloc);
+    let mut left = count;
+    for (head, body, interim) in STREAM {
+        if left < head.len() {
+            break;
+        }
+        output.extend_from_slice(interim)?;
+        left -= head.len();
+        if left < body.len() {
+            break;
+        }
+        output.extend_from_slice(P2)?;
+        left -= body.len();
+    }
+    Ok(output)
+}
+
+// Whether so many bytes of the stream end between two requests.
+fn is_between(count: usize) -> bool {
+    let mut left = count;
+    for (head, body, _) in STREAM {
+        let len = head.len().saturating_add(body.len());
+        if left < len {
+            break;
+        }
+        left -= len;
+    }
+    left == 0
+}
+
+// An input that ends after any byte has one output, however it is cut into reads.
 #[test]
-fn a_stream_ends_clean_only_between_requests(rt: HostRuntime) {
-    let input = joined(rt.alloc(), &[GET, PUT_HEAD, BODY]).expect(&rt, "memory");
+fn an_input_has_one_output_wherever_it_ends(rt: HostRuntime) {
+    let input = whole_stream(rt.alloc()).expect(&rt, "memory");
     for n in 0..=input.len() {
-        let mut out = Vec::new(rt.alloc());
-        let mut reader = Pieces {
-            rest: &input[..n],
-            most: 8192,
-            reads: 9,
-        };
-        let result = end(rt.alloc(), &mut reader, &mut out, false, 9);
-        let between = n == 0 || n == GET.len() || n == input.len();
-        let ended = if between {
+        let wanted = output_of(rt.alloc(), n).expect(&rt, "memory");
+        let end = if is_between(n) {
             Ok(End::Clean)
         } else {
             Err(FrontFault::Read)
         };
-        assert!(rt; result == ended, "{n} bytes");
+        for most in [1, 7, 40, 8192] {
+            let reader = Pieces {
+                rest: &input[..n],
+                most,
+                reads: 1000,
+            };
+            let (ended, out) = serve(rt.alloc(), reader, Vec::new(rt.alloc()), false, 1000);
+            assert!(rt; ended == end, "{n} bytes by {most}");
+            assert!(rt; out.as_slice() == wanted.as_slice(), "{n} bytes by {most}");
+        }
     }
 }
 
-// How a connection ends if its input is read in pieces of 40 bytes, and at most so many reads and writes succeed.
-fn end_after(alloc: Global, input: &[u8], reads: usize, writes: usize) -> Result<End, FrontFault> {
-    let mut reader = Pieces {
-        rest: input,
-        most: 40,
-        reads,
-    };
-    let mut writer = Few { calls: writes };
-    end(alloc, &mut reader, &mut writer, false, 1000)
-}
-
+// After a read that failed, and after the last read that is allowed, what was written is the output of what came.
 #[test]
-fn a_fault_at_each_call_is_told(rt: HostRuntime) {
-    let input = joined(rt.alloc(), &[PUT_HEAD, BODY, GET]).expect(&rt, "memory");
-    // The last read finds the end.
-    let reads = input.len().div_ceil(40).saturating_add(1);
-    for calls in 0..reads {
-        let result = end_after(rt.alloc(), &input, calls, 1000);
-        assert!(rt; result == Err(FrontFault::Read), "{calls} reads");
+fn each_read_that_is_the_last_is_told(rt: HostRuntime) {
+    let input = whole_stream(rt.alloc()).expect(&rt, "memory");
+    for most in 1..=40 {
+        // The last read finds the end.
+        let whole = input.len().div_ceil(most).saturating_add(1);
+        for reads in 0..=whole {
+            let came = reads.saturating_mul(most).min(input.len());
+            let wanted = output_of(rt.alloc(), came).expect(&rt, "memory");
+            for (allowed, turns, fault) in [
+                (reads, 1000, FrontFault::Read),
+                (1000, reads, FrontFault::Turns),
+            ] {
+                let reader = Pieces {
+                    rest: &input,
+                    most,
+                    reads: allowed,
+                };
+                let (ended, out) =
+                    serve(rt.alloc(), reader, Vec::new(rt.alloc()), false, turns as u64);
+                let end = if reads == whole {
+                    Ok(End::Clean)
+                } else {
+                    Err(fault)
+                };
+                assert!(rt; ended == end, "{reads} reads of {most} bytes");
+                assert!(rt; out.as_slice() == wanted.as_slice(), "{reads} reads of {most} bytes");
+            }
+        }
     }
-    // The calls are a flush before each read, a flush at the end, the interim reply, and two replies.
-    let writes = reads.saturating_add(4);
-    for calls in 0..writes {
-        let result = end_after(rt.alloc(), &input, 1000, calls);
-        assert!(rt; result == Err(FrontFault::Write), "{calls} writes");
+}
+
+// A writer that fails has a beginning of the output. Each call that it takes brings it further.
+#[test]
+fn each_write_that_is_the_last_is_told(rt: HostRuntime) {
+    let input = whole_stream(rt.alloc()).expect(&rt, "memory");
+    let wanted = output_of(rt.alloc(), input.len()).expect(&rt, "memory");
+    for most in [1, 20, 100, 8192] {
+        let mut before = 0;
+        for calls in 0..1000 {
+            let reader = Pieces {
+                rest: &input,
+                most: 40,
+                reads: 1000,
+            };
+            let writer = Few {
+                kept: Vec::new(rt.alloc()),
+                most,
+                calls,
+            };
+            let (ended, writer) = serve(rt.alloc(), reader, writer, false, 1000);
+            assert!(rt; wanted.starts_with(&writer.kept), "{calls} calls of {most} bytes");
+            assert!(rt; before <= writer.kept.len(), "{calls} calls of {most} bytes");
+            before = writer.kept.len();
+            if ended == Ok(End::Clean) {
+                break;
+            }
+            assert!(rt; ended == Err(FrontFault::Write), "{calls} calls of {most} bytes");
+        }
+        // The whole output is written if the calls are enough.
+        assert!(rt; before == wanted.len() || most == 1, "{most} bytes");
     }
-    assert!(rt; end_after(rt.alloc(), &input, reads, writes) == Ok(End::Clean));
 }
 
 #[test]
 fn out_of_memory_is_told(rt: HostRuntime) {
-    let mut out = Vec::new(rt.alloc());
-    let result = end(rt.alloc(), &mut GET, &mut out, true, 9);
-    assert!(rt; result == Err(FrontFault::NoMemory));
+    let (ended, out) = serve(rt.alloc(), GET, Vec::new(rt.alloc()), true, 9);
+    assert!(rt; ended == Err(FrontFault::NoMemory));
     assert!(rt; out.as_slice() == out_of_memory_reply());
 }
 
 #[test]
 fn the_interim_reply_is_passed_on_before_the_body_is_awaited(rt: HostRuntime) {
     let told = Cell::new(false);
-    let mut reader = Waiting {
+    let reader = Waiting {
         head: PUT_HEAD,
         body: BODY,
         told: &told,
     };
-    let mut writer = Passing {
+    let writer = Passing {
         kept: Vec::new(rt.alloc()),
         told: &told,
     };
-    let result = end(rt.alloc(), &mut reader, &mut writer, false, 9);
-    assert!(rt; result == Ok(End::Clean));
-    let output = joined(rt.alloc(), &[CONTINUE, P2]).expect(&rt, "memory");
-    assert!(rt; writer.kept.as_slice() == output.as_slice());
+    let (ended, writer) = serve(rt.alloc(), reader, writer, false, 9);
+    assert!(rt; ended == Ok(End::Clean));
+    assert!(rt; writer.kept.starts_with(CONTINUE));
+    assert!(rt; &writer.kept[CONTINUE.len()..] == P2);
 }

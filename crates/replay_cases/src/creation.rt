@@ -6,7 +6,7 @@ use crate::case::Case;
 use crate::clock::Moments;
 use access_rules::Keys;
 use account_service::Plain;
-use http_front::{End, run};
+use http_front::{Connection, End, run};
 use moment_text::write_http;
 use stamp_types::Moment;
 use std::alloc::{AllocError, Global};
@@ -82,19 +82,13 @@ fn make_container(
     moment: Moment,
 ) -> Result<bool, AllocError> {
     let request = creation(alloc, keys, moment)?;
-    let mut written = Vec::new(alloc);
+    let mut connection = Connection::new(alloc, request.as_slice(), Vec::new(alloc), READS);
     let mut clock = Moments {
         left: &[],
         last: moment,
     };
-    let ended = run(
-        alloc,
-        &mut request.as_slice(),
-        &mut written,
-        &mut clock,
-        service,
-        READS,
-    );
+    let ended = run(alloc, &mut connection, &mut clock, service);
+    let (_, written) = connection.into_parts();
     Ok(ended == Ok(End::Clean) && written.starts_with(CREATED))
 }
 

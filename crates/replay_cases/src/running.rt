@@ -4,7 +4,7 @@ ghost use Rattle.std.specs.Prelude.{◌≡◌, ◌↔◌, IsTrue};
 use crate::case::Case;
 use crate::clock::Moments;
 use crate::creation::{ServiceFault, make_service};
-use http_front::{End, FrontFault, run};
+use http_front::{Connection, End, FrontFault, run};
 use stamp_types::Moment;
 use std::alloc::Global;
 use std::io;
@@ -54,23 +54,18 @@ fn run_once(
     piece: usize,
 ) -> Result<Outcome, ServiceFault> {
     let mut service = make_service(alloc, case, first)?;
-    let mut written = Vec::with_capacity(alloc, case.wanted.len())?;
-    let mut reader = Pieces {
+    let written = Vec::with_capacity(alloc, case.wanted.len())?;
+    let reader = Pieces {
         rest: &case.sent,
         most: piece,
     };
+    let mut connection = Connection::new(alloc, reader, written, case.reads);
     let mut clock = Moments {
         left: &case.moments,
         last: first,
     };
-    let ended = run(
-        alloc,
-        &mut reader,
-        &mut written,
-        &mut clock,
-        &mut service,
-        case.reads,
-    );
+    let ended = run(alloc, &mut connection, &mut clock, &mut service);
+    let (_, written) = connection.into_parts();
     Ok(Outcome { written, ended })
 }
 

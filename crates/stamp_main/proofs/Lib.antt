@@ -2,3 +2,4 @@ pub mod CommandLemmas
 pub mod ReplayLemmas
 pub mod RunLemmas
 pub mod ServeLemmas
+pub mod SignLemmas

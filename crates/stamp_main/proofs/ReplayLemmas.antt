@@ -1,5 +1,5 @@
 -- What a replay writes, and the account's name among its words.
-use Rattle.std.proofs.Common.{◌≡◌, ℕ, List, [], ◌∷◌, ◌++◌, true, map, flat_map, Option, Some, None, IfSome, OnOk, Result, Ok, Err, refl, sym, ap, ◌∙◌, subst}
+use Rattle.std.proofs.Common.{◌≡◌, ℕ, List, [], ◌∷◌, ◌++◌, true, map, flat_map, Option, Some, None, IfSome, Result, Ok, Err, inl, inr, refl, sym, ap, ◌∙◌, subst}
 use Rattle.std.specs.FinMap as finite
 use Rattle.std.specs.Io.KnownBytes.{Appends}
 use Rattle.stamp_values.specs.Names.{is_account}
@@ -9,7 +9,8 @@ use Rattle.stamp_model.specs.Runs.{replies_to}
 use Rattle.http_front.specs.declared.end.End.{End}
 use Rattle.http_front.specs.declared.end.FrontFault.{FrontFault}
 use Rattle.http_front.specs.declared.end.FrontFault.TheVariants.{Read, Write, Turns, NoMemory}
-use Rattle.http_front.specs.Conversations.{Exchange, item_of, moment_of, bytes_of, ClockGives, ServiceRepliesTo, ServiceReplies, AnswersInput, AnswersReceived, EndsOutOfMemory}
+use Rattle.http_front.specs.Connections.{ConnectionState, Sends}
+use Rattle.http_front.specs.Conversations.{Exchange, item_of, moment_of, bytes_of, ClockGives, ServiceRepliesTo, ServiceReplies, AnswersInput, AnswersReceived, BreaksOff, EndsByWrite, EndsOutOfMemory}
 use Rattle.http_front.specs.Conversations.Exchange.{Answered, RefusedAt}
 use Rattle.reply_form.specs.FixedReplies.{out_of_memory_bytes}
 use Rattle.request_form.specs.HeadForms.{with_body}
@@ -22,7 +23,7 @@ use Rattle.http_front.proofs.Readings.{reading_of}
 use Rattle.http_front.proofs.StreamLemmas.{reads_one}
 use Rattle.request_form.proofs.TextLemmas.{account_visible, visible_clean}
 use Rattle.stamp_main.specs.declared.replay.Still.{Still}
-use Rattle.stamp_main.specs.Replays.{answer_of, held_after_item, output_of, replay_output, requests_of, written_for, IsOutput, ReplaysInput, ReplaysReceived, ReplayEndsOutOfMemory}
+use Rattle.stamp_main.specs.Replays.{answer_of, held_after_item, output_of, replay_output, requests_of, written_for, IsOutput, ReplaysInput, ReplaysReceived, ReplayBreaksOff, ReplayEndsByWrite, ReplayEndsOutOfMemory}
 
 -- an account's name has no control characters
 pub account_clean : (t : List ℕ) → is_account t ≡ true → is_clean t ≡ true
@@ -56,28 +57,27 @@ output_is h h' c c' (e ∷ es) told replies =
     rest ∙ ap (λ (s : Still). output_of replies.0 s.moment (map item_of es)) told.1.1 ∙ ap (λ g. output_of g c.moment (map item_of es)) step.1 in
     ap (λ l. l ++ flat_map bytes_of es) step.0 ∙ ap (λ l. answer_of h c.moment (item_of e) ++ l) moved
 
-module _ (keys : Keys) (t : ℕ) (c' : Still) (h' : Held) where
+module _ (keys : Keys) (t : ℕ) (c' : Still) (h' : Held) (from to : ConnectionState) where
   -- the output of a connection is the output of the replay
-  replays_of : (held held' : Option (List ℕ)) (result : Result End FrontFault) (turns : ℕ) (input : List ℕ)
-      → AnswersInput GivesSameMoment AnswersAsModel (record { moment = t }) c' (empty_held keys) h' held held' result turns input
-      → ReplaysInput keys t held held' result turns input
+  replays_of : (result : Result End FrontFault) (input : List ℕ)
+      → AnswersInput GivesSameMoment AnswersAsModel (record { moment = t }) c' (empty_held keys) h' from to result input
+      → ReplaysInput keys t from to result input
   unfolding replay_output
-  replays_of held held' result turns input c = record {
+  replays_of result input c = record {
     items = map item_of c.exchanges;
     tail = c.tail;
     reads = c.items;
-    output = subst (λ l. Appends held held' (l ++ tail_bytes c.tail)) (output_is (empty_held keys) h' (record { moment = t }) c' c.exchanges c.moments c.replies) c.output;
+    output = subst (λ l. Appends from.writer.held to.writer.held (l ++ tail_bytes c.tail)) (output_is (empty_held keys) h' (record { moment = t }) c' c.exchanges c.moments c.replies) c.output;
     ends = c.ends;
   }
 
-  replayed_of : (left left' held held' : Option (List ℕ)) (result : Result End FrontFault) (turns : ℕ)
-      → AnswersReceived GivesSameMoment AnswersAsModel (record { moment = t }) c' (empty_held keys) h' left left' held held' result turns
-      → ReplaysReceived keys t left left' held held' result turns
-  replayed_of left left' held held' result turns c = record {
+  replayed_of : (result : Result End FrontFault)
+      → AnswersReceived GivesSameMoment AnswersAsModel (record { moment = t }) c' (empty_held keys) h' from to result
+      → ReplaysReceived keys t from to result
+  replayed_of result c = record {
     received = c.received;
-    consumed = c.consumed;
-    within = c.within;
-    replays = replays_of held held' result turns c.received c.converses;
+    came = c.came;
+    replays = replays_of result c.received c.converses;
   }
 
   served_map : {T : Type 0} (r : Result T FrontFault) (P Q : Type 0) → (P → Q) → UnlessWriteOrMemoryFailed r P → UnlessWriteOrMemoryFailed r Q
@@ -87,64 +87,78 @@ module _ (keys : Keys) (t : ℕ) (c' : Still) (h' : Held) where
   served_map (Err Write) P Q f p = p
   served_map (Err NoMemory) P Q f p = p
 
-  replayed_served : (left left' held held' : Option (List ℕ)) (result : Result End FrontFault) (turns : ℕ)
-      → UnlessWriteOrMemoryFailed result (AnswersReceived GivesSameMoment AnswersAsModel (record { moment = t }) c' (empty_held keys) h' left left' held held' result turns)
-      → UnlessWriteOrMemoryFailed result (ReplaysReceived keys t left left' held held' result turns)
-  replayed_served left left' held held' result turns =
-      served_map result _ _ (replayed_of left left' held held' result turns)
-
   if_some : (left : Option (List ℕ)) (P Q : List ℕ → Type 0) → ((l : List ℕ) → P l → Q l) → IfSome left P → IfSome left Q
   if_some (Some l) P Q f p = f l p
   if_some None P Q f p = p
 
-  on_ok : {T : Type 0} (r : Result T FrontFault) (P Q : Type 0) → (P → Q) → OnOk r P → OnOk r Q
-  on_ok (Ok x) P Q f p = f p
-  on_ok (Err e) P Q f p = p
-
-  replays_whole : (left held held' : Option (List ℕ)) (result : Result End FrontFault) (turns : ℕ)
-      → OnOk result (IfSome left (AnswersInput GivesSameMoment AnswersAsModel (record { moment = t }) c' (empty_held keys) h' held held' result turns))
-      → OnOk result (IfSome left (ReplaysInput keys t held held' result turns))
-  replays_whole left held held' result turns =
-      on_ok result _ _ (if_some left _ _ (replays_of held held' result turns))
-
 -- the output of a run for which memory ran out
-starves_of : (starves : Held → Held → Type 0) (keys : Keys) (t : ℕ) (c' : Still) (h' : Held) (left left' held held' : Option (List ℕ))
-    → EndsOutOfMemory GivesSameMoment AnswersAsModel starves (record { moment = t }) c' (empty_held keys) h' left left' held held' out_of_memory_bytes
-    → ReplayEndsOutOfMemory keys t left left' held held'
-starves_of starves keys t c' h' left left' held held' s = record {
+starves_of : (starves : Held → Held → Type 0) (keys : Keys) (t : ℕ) (c' : Still) (h' : Held) (from to : ConnectionState)
+    → EndsOutOfMemory GivesSameMoment AnswersAsModel starves (record { moment = t }) c' (empty_held keys) h' from to out_of_memory_bytes
+    → ReplayEndsOutOfMemory keys t from to
+starves_of starves keys t c' h' from to s = record {
   received = s.received;
-  consumed = s.consumed;
+  came = s.came;
   items = map item_of s.exchanges;
   rest = s.rest;
   reads = s.items;
   begun = s.begun;
   begun_is = s.begun_is;
-  output = subst (λ l. Appends held held' ((l ++ s.begun) ++ out_of_memory_bytes))
+  output = subst (λ l. Sends from.writer to.writer ((l ++ s.begun) ++ out_of_memory_bytes))
       (output_is (empty_held keys) s.world_then (record { moment = t }) s.clock_then s.exchanges s.moments s.replies) s.output;
 }
 
--- ---- the three clauses of a run that begins with the service and the clock of the replay
+-- the output that a failed write broke off
+breaks_of : (keys : Keys) (t : ℕ) (c' : Still) (h' : Held) (from to : ConnectionState)
+    → BreaksOff GivesSameMoment AnswersAsModel (record { moment = t }) c' (empty_held keys) h' from to
+    → ReplayBreaksOff keys t from to
+breaks_of keys t c' h' from to b = record {
+  received = b.received;
+  came = b.came;
+  items = map item_of b.exchanges;
+  others = b.others;
+  tail = b.tail;
+  reads = b.items;
+  begun = b.begun;
+  begun_is = b.begun_is;
+  output = subst (λ l. Sends from.writer to.writer (l ++ b.begun))
+      (output_is (empty_held keys) h' (record { moment = t }) c' b.exchanges b.moments b.replies) b.output;
+}
 
-pub replayed_by : (keys : Keys) (t : ℕ) (c c' : Still) (h h' : Held) (left left' held held' : Option (List ℕ)) (result : Result End FrontFault) (turns : ℕ)
-    → h ≡ empty_held keys → c ≡ record { moment = t }
-    → UnlessWriteOrMemoryFailed result (AnswersReceived GivesSameMoment AnswersAsModel c c' h h' left left' held held' result turns)
-    → UnlessWriteOrMemoryFailed result (ReplaysReceived keys t left left' held held' result turns)
-replayed_by keys t c c' h h' left left' held held' result turns first is conversed =
-    replayed_served keys t c' h' left left' held held' result turns (rw (first, is) at conversed)
+written_of : (starves : Held → Held → Type 0) (keys : Keys) (t : ℕ) (c' : Still) (h' : Held) (from to : ConnectionState)
+    → EndsByWrite GivesSameMoment AnswersAsModel starves (record { moment = t }) c' (empty_held keys) h' from to
+    → ReplayEndsByWrite keys t from to
+written_of starves keys t c' h' from to (inl broken) = inl (breaks_of keys t c' h' from to broken)
+written_of starves keys t c' h' from to (inr starved) = inr (starves_of starves keys t c' h' from to starved)
 
-pub whole_by : (keys : Keys) (t : ℕ) (c c' : Still) (h h' : Held) (left held held' : Option (List ℕ)) (result : Result End FrontFault) (turns : ℕ)
-    → h ≡ empty_held keys → c ≡ record { moment = t }
-    → OnOk result (IfSome left (AnswersInput GivesSameMoment AnswersAsModel c c' h h' held held' result turns))
-    → OnOk result (IfSome left (ReplaysInput keys t held held' result turns))
-whole_by keys t c c' h h' left held held' result turns first is whole =
-    replays_whole keys t c' h' left held held' result turns (rw (first, is) at whole)
+-- ---- the clauses of a run that begins with the service and the clock of the replay
 
-pub starved_by : (starves : Held → Held → Type 0) (keys : Keys) (t : ℕ) (c c' : Still) (h h' : Held) (left left' held held' : Option (List ℕ))
+pub replayed_by : (keys : Keys) (t : ℕ) (c c' : Still) (h h' : Held) (from to : ConnectionState) (result : Result End FrontFault)
     → h ≡ empty_held keys → c ≡ record { moment = t }
-    → EndsOutOfMemory GivesSameMoment AnswersAsModel starves c c' h h' left left' held held' out_of_memory_bytes
-    → ReplayEndsOutOfMemory keys t left left' held held'
-starved_by starves keys t c c' h h' left left' held held' first is starved =
-    starves_of starves keys t c' h' left left' held held' (rw (first, is) at starved)
+    → UnlessWriteOrMemoryFailed result (AnswersReceived GivesSameMoment AnswersAsModel c c' h h' from to result)
+    → UnlessWriteOrMemoryFailed result (ReplaysReceived keys t from to result)
+replayed_by keys t c c' h h' from to result first is conversed =
+    served_map keys t c' h' from to result _ _ (replayed_of keys t c' h' from to result) (rw (first, is) at conversed)
+
+pub whole_by : (keys : Keys) (t : ℕ) (c c' : Still) (h h' : Held) (from to : ConnectionState) (result : Result End FrontFault)
+    → h ≡ empty_held keys → c ≡ record { moment = t }
+    → IfSome from.reader.left (AnswersInput GivesSameMoment AnswersAsModel c c' h h' from to result)
+    → IfSome from.reader.left (ReplaysInput keys t from to result)
+whole_by keys t c c' h h' from to result first is whole =
+    if_some keys t c' h' from to from.reader.left _ _ (replays_of keys t c' h' from to result) (rw (first, is) at whole)
+
+pub starved_by : (starves : Held → Held → Type 0) (keys : Keys) (t : ℕ) (c c' : Still) (h h' : Held) (from to : ConnectionState)
+    → h ≡ empty_held keys → c ≡ record { moment = t }
+    → EndsOutOfMemory GivesSameMoment AnswersAsModel starves c c' h h' from to out_of_memory_bytes
+    → ReplayEndsOutOfMemory keys t from to
+starved_by starves keys t c c' h h' from to first is starved =
+    starves_of starves keys t c' h' from to (rw (first, is) at starved)
+
+pub broken_by : (starves : Held → Held → Type 0) (keys : Keys) (t : ℕ) (c c' : Still) (h h' : Held) (from to : ConnectionState)
+    → h ≡ empty_held keys → c ≡ record { moment = t }
+    → EndsByWrite GivesSameMoment AnswersAsModel starves c c' h h' from to
+    → ReplayEndsByWrite keys t from to
+broken_by starves keys t c c' h h' from to first is broken =
+    written_of starves keys t c' h' from to (rw (first, is) at broken)
 
 -- ---- a replay has one output for each input
 

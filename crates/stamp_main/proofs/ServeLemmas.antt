@@ -1,8 +1,8 @@
 -- How the words of `serve` are read, and what is written for them.
-use Rattle.std.proofs.Common.{◌≡◌, ◌≤◌, ℕ, List, Option, Result, Ok, arith, decimal}
+use Rattle.std.proofs.Common.{◌≡◌, ◌≤◌, ℕ, List, Result, Ok, arith, decimal}
 use Rattle.std.specs.Str.Parse.{ParsesUnsigned}
 use Rattle.std.proofs.lemmas.Fmt.{parse-decimal}
-use Rattle.std.specs.Io.KnownBytes.{Appends}
+use Rattle.http_front.specs.Connections.{WriterState, Sends}
 use Rattle.access_rules.specs.declared.keys.Keys.{Keys}
 use Rattle.stamp_main.specs.Serving.{AsksToServe, HasListened, IsServe, listening_line, most_workers}
 
@@ -16,6 +16,6 @@ pub asked : (words : List (List ℕ)) (address : List ℕ) (workers : ℕ) (keys
 asked words address workers keys asks = (address, workers, keys, asks)
 
 -- the line tells of the address that the words ask for
-pub listened : (words : List (List ℕ)) (address : List ℕ) (workers : ℕ) (keys : Keys) (held held' : Option (List ℕ))
-    → AsksToServe words address workers keys → Appends held held' (listening_line address) → HasListened words held held'
-listened words address workers keys held held' asks appends = (address, workers, keys, asks, appends)
+pub listened : (words : List (List ℕ)) (address : List ℕ) (workers : ℕ) (keys : Keys) (from to : WriterState)
+    → AsksToServe words address workers keys → Sends from to (listening_line address) → HasListened words from to
+listened words address workers keys from to asks sent = (address, workers, keys, asks, sent)

@@ -1,7 +1,7 @@
 -- What `stamp replay` writes: the answers to its input in order, as the model says, by a clock that always gives the same moment
 -- (Blob service REST reference, 2012-02-12; RFC 9112, section 9.3).
-use Rattle.std.specs.Prelude.{◌≡◌, ℕ, ◌*◌, ◌≤◌, List, [], ◌∷◌, ◌++◌, length, true, Option, Some, IfSome, OnOk, Result, Ok, codes}
-use Rattle.std.specs.Io.KnownBytes.{Consumes, Appends}
+use Rattle.std.specs.Prelude.{◌≡◌, ◌⊎◌, ℕ, List, [], ◌∷◌, ◌++◌, length, true, Some, IfSome, Result, Ok, codes}
+use Rattle.std.specs.Io.KnownBytes.{Appends}
 use Rattle.stamp_values.specs.Names.{is_account}
 use Rattle.stamp_types.specs.declared.reply.Reply.{Reply}
 use Rattle.stamp_types.specs.Replies.{denied}
@@ -11,8 +11,11 @@ use Rattle.access_rules.specs.declared.keys.Keys.{Keys}
 use Rattle.stamp_model.specs.Runs.{Timed}
 use Rattle.http_front.specs.declared.end.End.{End}
 use Rattle.http_front.specs.declared.end.FrontFault.{FrontFault}
-use Rattle.http_front.specs.Conversations.{IsInterimOrNothing, EndsAs}
-use Rattle.http_front.specs.Inputs.{read_size}
+use Rattle.http_front.specs.declared.counted.Output.TheVariants as outputs
+use Rattle.http_front.specs.Connections.{ConnectionState, Receives, Sends}
+use Rattle.http_front.specs.Conversations.{EndsAs, LeavesRun, next_bytes}
+use Rattle.http_front.specs.Inputs.{IsInterimOrNothing}
+use Rattle.http_front.specs.Outcomes.{IsOfWholeInput}
 use Rattle.reply_form.specs.FixedReplies.{out_of_memory_bytes}
 use Rattle.request_form.specs.HeadForms.{with_body}
 use Rattle.stamp_model.specs.Services.{Held, empty_held, held_reply, held_after}
@@ -61,31 +64,47 @@ abbrev pub IsOutput : Keys → ℕ → List ℕ → List ℕ → Type 0
 IsOutput keys t input output = (items : List Item) × (tail : Tail) × Reads input items tail × (output ≡ replay_output keys t items tail)
 
 -- What was written is the output for the input, and the run ended as the input stops.
-pub record ReplaysInput (keys : Keys) (moment : ℕ) (held held' : Option (List ℕ)) (result : Result End FrontFault) (turns : ℕ) (input : List ℕ) : Type 0 where
+pub record ReplaysInput (keys : Keys) (moment : ℕ) (from to : ConnectionState) (result : Result End FrontFault) (input : List ℕ) : Type 0 where
   pub items : List Item
   pub tail : Tail
   pub reads : Reads input items tail
-  pub output : Appends held held' (replay_output keys moment items tail)
-  pub ends : EndsAs result tail turns (length input)
+  pub output : Appends from.writer.held to.writer.held (replay_output keys moment items tail)
+  pub ends : EndsAs result to.reader.input tail from.reader.turns (length input)
 
--- `ReplaysInput` holds of the bytes that the run took, and these bytes are at most 8,192 for each turn.
-pub record ReplaysReceived (keys : Keys) (moment : ℕ) (left left' held held' : Option (List ℕ)) (result : Result End FrontFault) (turns : ℕ) : Type 0 where
+-- `ReplaysInput` holds of the bytes that the run took.
+pub record ReplaysReceived (keys : Keys) (moment : ℕ) (from to : ConnectionState) (result : Result End FrontFault) : Type 0 where
   pub received : List ℕ
-  pub consumed : Consumes left left' received
-  pub within : length received ≤ turns * read_size
-  pub replays : ReplaysInput keys moment held held' result turns received
+  pub came : Receives from.reader to.reader received
+  pub replays : ReplaysInput keys moment from to result received
 
 -- Memory ran out. The bytes that were taken begin with items that were answered in full. After the output for these items come
 -- the bytes that were written before the answer to the next item, and then the bytes that say that memory ran out.
-pub record ReplayEndsOutOfMemory (keys : Keys) (moment : ℕ) (left left' held held' : Option (List ℕ)) : Type 0 where
+pub record ReplayEndsOutOfMemory (keys : Keys) (moment : ℕ) (from to : ConnectionState) : Type 0 where
   pub received : List ℕ
-  pub consumed : Consumes left left' received
+  pub came : Receives from.reader to.reader received
   pub items : List Item
   pub rest : List ℕ
   pub reads : ReadsFront received items rest
   pub begun : List ℕ
   pub begun_is : IsInterimOrNothing rest begun
-  pub output : Appends held held' ((output_of (empty_held keys) moment items ++ begun) ++ out_of_memory_bytes)
+  pub output : Sends from.writer to.writer ((output_of (empty_held keys) moment items ++ begun) ++ out_of_memory_bytes)
+
+-- A write failed. What went out is a beginning of the output for items that are first in the bytes that were taken, and of what
+-- comes before the answer to the next item.
+pub record ReplayBreaksOff (keys : Keys) (moment : ℕ) (from to : ConnectionState) : Type 0 where
+  pub received : List ℕ
+  pub came : Receives from.reader to.reader received
+  pub items : List Item
+  pub others : List Item
+  pub tail : Tail
+  pub reads : Reads received (items ++ others) tail
+  pub begun : List ℕ
+  pub begun_is : (begun ≡ []) ⊎ (begun ≡ next_bytes others tail)
+  pub output : Sends from.writer to.writer (output_of (empty_held keys) moment items ++ begun)
+
+-- A write failed: it broke off the output for the items, or the last bytes of a replay for which memory ran out.
+abbrev pub ReplayEndsByWrite : Keys → ℕ → ConnectionState → ConnectionState → Type 0
+ReplayEndsByWrite keys moment from to = ReplayBreaksOff keys moment from to ⊎ ReplayEndsOutOfMemory keys moment from to
 
 -- the words of a replay
 abbrev pub replay_line : List ℕ → List ℕ → List ℕ → List ℕ → List (List ℕ)
@@ -109,13 +128,18 @@ IsReplay words = (time : ℕ) × (keys : Keys) × AsksForReplay words time keys
 abbrev pub turn_limit : ℕ
 turn_limit = 4294967296
 
--- the words asked for a replay, which ended in this way: what was read is answered, and it is the whole input if the replay ended
--- well
-abbrev pub HasReplayed : List (List ℕ) → Ending → Option (List ℕ) → Option (List ℕ) → Option (List ℕ) → Option (List ℕ) → Type 0
-HasReplayed words ending left left' held held' =
+-- the words asked for a replay, which ended in this way: what was read is answered, and it is the whole input if the input ended
+abbrev pub HasReplayed : List (List ℕ) → Ending → ConnectionState → ConnectionState → Type 0
+HasReplayed words ending from to =
     (time : ℕ) × (keys : Keys) × AsksForReplay words time keys × (result : Result End FrontFault) × (ending ≡ run_ending result)
-    × ReplaysReceived keys time left left' held held' result turn_limit × OnOk result (IfSome left (ReplaysInput keys time held held' result turn_limit))
+    × ReplaysReceived keys time from to result × LeavesRun result to
+    × (IsOfWholeInput result to.reader.input → IfSome from.reader.left (ReplaysInput keys time from to result))
 
 -- the words asked for a replay, and memory ran out while it was made
-abbrev pub HasEndedOutOfMemory : List (List ℕ) → Option (List ℕ) → Option (List ℕ) → Option (List ℕ) → Option (List ℕ) → Type 0
-HasEndedOutOfMemory words left left' held held' = (time : ℕ) × (keys : Keys) × AsksForReplay words time keys × ReplayEndsOutOfMemory keys time left left' held held'
+abbrev pub HasEndedOutOfMemory : List (List ℕ) → ConnectionState → ConnectionState → Type 0
+HasEndedOutOfMemory words from to = (time : ℕ) × (keys : Keys) × AsksForReplay words time keys × ReplayEndsOutOfMemory keys time from to
+
+-- the words asked for a replay, and a write failed while it was made
+abbrev pub HasEndedByWrite : List (List ℕ) → ConnectionState → ConnectionState → Type 0
+HasEndedByWrite words from to =
+    (time : ℕ) × (keys : Keys) × AsksForReplay words time keys × ReplayEndsByWrite keys time from to × (to.writer.output ≡ outputs.Failed)

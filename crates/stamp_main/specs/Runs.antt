@@ -1,9 +1,11 @@
 -- What the program does for its words (this product's own choice).
-use Rattle.std.specs.Prelude.{◌≡◌, ◌⊎◌, ◌≤◌, ℕ, List, length, Option, IfSome}
-use Rattle.std.specs.Io.KnownBytes.{IsAtEnd}
+use Rattle.std.specs.Prelude.{◌≡◌, ◌⊎◌, ◌≤◌, ℕ, List, length, IfSome}
+use Rattle.http_front.specs.Connections.{ConnectionState}
+use Rattle.http_front.specs.declared.counted.Input.TheVariants as inputs
+use Rattle.http_front.specs.declared.counted.Output.TheVariants as outputs
 use Rattle.stamp_main.specs.declared.ending.Ending.{Ending}
 use Rattle.stamp_main.specs.declared.ending.Ending.TheVariants.{Done, Usage, ReadFault, WriteFault, TurnsUsedUp, ListenerFault, NoMemory}
-use Rattle.stamp_main.specs.Replays.{IsReplay, HasReplayed, HasEndedOutOfMemory, turn_limit}
+use Rattle.stamp_main.specs.Replays.{IsReplay, HasReplayed, HasEndedByWrite, HasEndedOutOfMemory}
 use Rattle.stamp_main.specs.Serving.{IsServe, HasListened}
 use Rattle.stamp_main.specs.Signing.{IsSign, HasSigned}
 
@@ -11,32 +13,23 @@ use Rattle.stamp_main.specs.Signing.{IsSign, HasSigned}
 abbrev pub IsCommand : List (List ℕ) → Type 0
 IsCommand words = IsSign words ⊎ IsReplay words ⊎ IsServe words
 
-module _ {R W : Type 0} (remaining : R → Option (List ℕ)) (contents : W → Option (List ℕ)) (words : List (List ℕ)) (reader reader' : R) (writer writer' : W) where
-  -- nothing was read or written
-  abbrev pub NothingReadOrWritten : Type 0
-  NothingReadOrWritten = (reader' ≡ reader) × (writer' ≡ writer)
-
+module _ (words : List (List ℕ)) (from to : ConnectionState) where
   -- the words asked for a signature, and nothing was written
   abbrev pub NothingSigned : Type 0
-  NothingSigned = IsSign words × (writer' ≡ writer)
+  NothingSigned = IsSign words × (to.writer ≡ from.writer)
 
-  -- the words asked for a replay, which ended in this way, and what was read is answered
-  abbrev pub ReplayAnswered : Ending → Type 0
-  ReplayAnswered ending = HasReplayed words ending (remaining reader) (remaining reader') (contents writer) (contents writer')
-
-  -- the words asked to serve, nothing was read, and the line that tells of the address was written
+  -- the words asked to serve, nothing was read, and the line that tells of the address was given to the writer
   abbrev pub LineWritten : Type 0
-  LineWritten = (reader' ≡ reader) × HasListened words (contents writer) (contents writer')
+  LineWritten = (to.reader ≡ from.reader) × HasListened words from.writer to.writer
 
-  -- What was read and written for the words, by how the program ended. What was written is unknown only after a failed write. What connections get is
-  -- not a part of it.
+  -- What was read and written for the words, by how the program ended, and why it ended so. What connections get is not a part of
+  -- it.
   abbrev pub Outcome : Ending → Type 0
-  Outcome Done = (HasSigned words (remaining reader) (contents writer) (contents writer') × IsAtEnd (remaining reader')) ⊎ ReplayAnswered Done
-  Outcome Usage = ¬ IsCommand words × NothingReadOrWritten
-  Outcome ReadFault = NothingSigned ⊎ ReplayAnswered ReadFault
-  Outcome WriteFault = (IsSign words × IsAtEnd (remaining reader')) ⊎ IsReplay words ⊎ (IsServe words × (reader' ≡ reader))
-  Outcome TurnsUsedUp = (NothingSigned × IfSome (remaining reader) (λ input. turn_limit ≤ length input)) ⊎ ReplayAnswered TurnsUsedUp
-  Outcome ListenerFault = (IsServe words × NothingReadOrWritten) ⊎ LineWritten
-  Outcome NoMemory =
-      NothingReadOrWritten ⊎ NothingSigned ⊎ HasEndedOutOfMemory words (remaining reader) (remaining reader') (contents writer) (contents writer')
-      ⊎ LineWritten
+  Outcome Done = (to.writer.output ≡ outputs.Flushed) × (HasSigned words from to ⊎ HasReplayed words Done from to)
+  Outcome Usage = ¬ IsCommand words × (to ≡ from)
+  Outcome ReadFault = (NothingSigned × (to.reader.input ≡ inputs.Failed)) ⊎ HasReplayed words ReadFault from to
+  Outcome WriteFault = (to.writer.output ≡ outputs.Failed) × (HasSigned words from to ⊎ HasEndedByWrite words from to ⊎ LineWritten)
+  Outcome TurnsUsedUp =
+      (to.reader.turns ≡ 0) × ((NothingSigned × IfSome from.reader.left (λ input. from.reader.turns ≤ length input)) ⊎ HasReplayed words TurnsUsedUp from to)
+  Outcome ListenerFault = IsServe words × ((to ≡ from) ⊎ LineWritten)
+  Outcome NoMemory = (to ≡ from) ⊎ NothingSigned ⊎ HasEndedOutOfMemory words from to ⊎ LineWritten

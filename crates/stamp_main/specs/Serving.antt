@@ -1,9 +1,9 @@
 -- What the words of `stamp serve` ask for, and what is written before the first connection is taken (this product's own choice).
-use Rattle.std.specs.Prelude.{◌≡◌, ◌≤◌, ℕ, List, [], ◌∷◌, ◌++◌, Option, true, codes, decimal}
-use Rattle.std.specs.Io.KnownBytes.{Appends}
+use Rattle.std.specs.Prelude.{◌≡◌, ◌≤◌, ℕ, List, [], ◌∷◌, ◌++◌, true, codes, decimal}
 use Rattle.stamp_values.specs.Ascii.{line_feed}
 use Rattle.stamp_values.specs.Names.{is_account}
 use Rattle.hmac_sign.specs.Signature.{IsBytes, base64_of}
+use Rattle.http_front.specs.Connections.{WriterState, Sends}
 use Rattle.access_rules.specs.declared.keys.Keys.{Keys}
 
 -- the words of `serve` with these texts
@@ -32,7 +32,7 @@ IsServe words = (address : List ℕ) × (workers : ℕ) × (keys : Keys) × Asks
 abbrev pub listening_line : List ℕ → List ℕ
 listening_line address = codes "listening " ++ address ++ line_feed ∷ []
 
--- the words ask to serve an address, and the line that tells of this address was written
-abbrev pub HasListened : List (List ℕ) → Option (List ℕ) → Option (List ℕ) → Type 0
-HasListened words held held' =
-    (address : List ℕ) × (workers : ℕ) × (keys : Keys) × AsksToServe words address workers keys × Appends held held' (listening_line address)
+-- the words ask to serve an address, and the line that tells of this address was given to the writer
+abbrev pub HasListened : List (List ℕ) → WriterState → WriterState → Type 0
+HasListened words from to =
+    (address : List ℕ) × (workers : ℕ) × (keys : Keys) × AsksToServe words address workers keys × Sends from to (listening_line address)

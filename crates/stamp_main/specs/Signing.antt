@@ -1,7 +1,8 @@
 -- What `stamp sign` writes, and when (this product's own choice).
-use Rattle.std.specs.Prelude.{◌≡◌, ℕ, List, [], ◌∷◌, ◌++◌, Option, IfSome, codes}
-use Rattle.std.specs.Io.KnownBytes.{Appends}
+use Rattle.std.specs.Prelude.{◌≡◌, ℕ, List, [], ◌∷◌, ◌++◌, IfSome, codes}
 use Rattle.hmac_sign.specs.Signature.{IsBytes, signature_of, base64_of}
+use Rattle.http_front.specs.Connections.{ConnectionState, Sends}
+use Rattle.http_front.specs.declared.counted.Input.TheVariants as inputs
 use Rattle.stamp_values.specs.Ascii.{line_feed}
 
 -- the words of `sign` with this text as the key
@@ -20,10 +21,11 @@ IsSign words = (key : List ℕ) × AsksForSignature words key
 abbrev pub signature_line : List ℕ → List ℕ → List ℕ
 signature_line key input = signature_of key input ++ line_feed ∷ []
 
--- the signature line of the whole input was written, if that input is known
-abbrev pub WritesSignature : List ℕ → Option (List ℕ) → Option (List ℕ) → Option (List ℕ) → Type 0
-WritesSignature key left held held' = IfSome left (λ input. Appends held held' (signature_line key input))
+-- the signature line of the whole input was given to the writer, if that input is known
+abbrev pub SendsSignature : List ℕ → ConnectionState → ConnectionState → Type 0
+SendsSignature key from to = IfSome from.reader.left (λ input. Sends from.writer to.writer (signature_line key input))
 
--- the words asked for a signature, and the signature of the whole input was written, if that input is known
-abbrev pub HasSigned : List (List ℕ) → Option (List ℕ) → Option (List ℕ) → Option (List ℕ) → Type 0
-HasSigned words left held held' = (key : List ℕ) × AsksForSignature words key × WritesSignature key left held held'
+-- The words asked for a signature, and the signature of the whole input was given to the writer, if that input is known. The input
+-- has ended.
+abbrev pub HasSigned : List (List ℕ) → ConnectionState → ConnectionState → Type 0
+HasSigned words from to = (key : List ℕ) × AsksForSignature words key × SendsSignature key from to × (to.reader.input ≡ inputs.Ended)

@@ -2,12 +2,14 @@
 #![tactic(auto)]
 
 ghost use Rattle.std.specs.Prelude.{◌≡◌, ◌⊎◌, IfErr};
+ghost use Rattle.http_front.specs.Connections.{IsFresh};
 ghost use Rattle.stamp_main.specs.declared.ending.Ending.TheVariants.{NoMemory, Usage};
 ghost use Rattle.stamp_main.specs.Command.{texts_of};
 ghost use Rattle.stamp_main.specs.Runs.{Outcome};
 
 use command::{Command, read_command};
 use ending::Ending;
+use http_front::Connection;
 use replay::run_replay;
 use serving::run_serve;
 use signing::run_sign;
@@ -49,13 +51,11 @@ const USAGE: &str =
 // The ending is not a `Result`: at an `Err` the startup code would write a line of its own.
 fn main(rt: HostRuntime) -> ExitCode {
     let ending = match read_words(&rt) {
-        Ok(words) => run(
-            &rt,
-            rt.alloc(),
-            &words,
-            &mut rt.reader(),
-            &mut io::writer(&rt),
-        ),
+        Ok(words) => {
+            let mut connection =
+                Connection::new(rt.alloc(), rt.reader(), io::writer(&rt), TURNS);
+            run(&rt, rt.alloc(), &words, &mut connection)
+        }
         Err(ending) => ending,
     };
     if ending == Ending::Usage {
@@ -75,19 +75,19 @@ fn read_words(rt: &(impl Env + AllocGlobal)) -> Result<Vec<String>, Ending>
     words.collect(rt.alloc()).map_err(|_| Ending::NoMemory)
 }
 
-/// Carries out the command that the words give, and returns how it ended. It is known what was written at every ending except a
-/// failed write.
+/// Carries out the command that the words give, and returns how it ended. It is known at every ending what was written, and why it
+/// is the ending.
 #[tactic(auto, using(crate::proofs::RunLemmas::sign_outcome, crate::proofs::RunLemmas::replay_outcome, crate::proofs::RunLemmas::serve_outcome))]
 fn run<
     R: Read,
     W: Write,
     H: Net<Stream = TcpStream, Listener = TcpListener> + Threads + Wait + Clock + Sync,
->(rt: &H, alloc: Global, words: &[String], reader: &mut R, writer: &mut W) -> Ending
-    ensures outcome { Outcome R.remaining W.contents (texts_of words.now)
-        reader.old reader.new writer.old writer.new result }
+>(rt: &H, alloc: Global, words: &[String], connection: &mut Connection<R, W>) -> Ending
+    requires { IsFresh connection.old }
+    ensures outcome { Outcome (texts_of words.now) connection.old connection.new result }
 {
     match read_command(words) {
-        Some(Command::Sign { key }) => run_sign(alloc, reader, writer, key),
+        Some(Command::Sign { key }) => run_sign(alloc, connection, key),
         Some(
             Command::Replay {
                 moment,
@@ -96,7 +96,7 @@ fn run<
                 second_key,
             },
         ) => run_replay(
-            alloc, reader, writer, moment, account, first_key, second_key,
+            alloc, connection, moment, account, first_key, second_key,
         ),
         Some(
             Command::Serve {
@@ -107,7 +107,7 @@ fn run<
                 second_key,
             },
         ) => run_serve(
-            rt, alloc, writer, address, workers, account, first_key, second_key,
+            rt, alloc, connection, address, workers, account, first_key, second_key,
         ),
         None => Ending::Usage,
     }
@@ -122,6 +122,7 @@ fn show_usage(rt: &impl Eprint) {
 mod tests {
     use super::{read_words, run, show_usage};
     use crate::ending::Ending;
+    use http_front::Connection;
     use std::alloc::{AllocError, Global};
     use std::cell::Cell;
     use std::env::FillError;
@@ -268,8 +269,10 @@ mod tests {
         ];
         for (line, ending, output) in table {
             let words = words_in(rt.alloc(), line)?;
-            let mut out = Vec::new(rt.alloc());
-            let ended = run(&rt, rt.alloc(), &words, &mut b"".as_slice(), &mut out);
+            let mut connection =
+                Connection::new(rt.alloc(), b"".as_slice(), Vec::new(rt.alloc()), 9);
+            let ended = run(&rt, rt.alloc(), &words, &mut connection);
+            let (_, out) = connection.into_parts();
             assert!(rt; ended == ending, "{line}");
             assert!(rt; out.as_slice() == output, "{line}");
         }

@@ -1,8 +1,10 @@
 //! `stamp replay` over inputs in memory. Signatures, sums and replies were made outside of this repository's code; more
 //! replies, byte for byte, are cases of `replay_cases`.
+use crate::TURNS;
 use crate::ending::Ending;
 use crate::pieces::{Pieces, Stuck};
 use crate::replay::run_replay;
+use http_front::Connection;
 
 const MOMENT: &str = "2012-10-01T12:00:00Z";
 
@@ -31,21 +33,15 @@ fn pieces_do_not_matter(rt: HostRuntime) {
         (8192, 1, Ending::ReadFault, OUTPUT),
     ];
     for (most, reads, ending, output) in table {
-        let mut reader = Pieces {
+        let reader = Pieces {
             rest: INPUT,
             most,
             reads,
         };
-        let mut out = Vec::new(rt.alloc());
-        let ended = run_replay(
-            rt.alloc(),
-            &mut reader,
-            &mut out,
-            MOMENT,
-            ACCOUNT,
-            KEY1,
-            KEY2,
-        );
+        let mut connection =
+            Connection::new(rt.alloc(), reader, Vec::new(rt.alloc()), TURNS);
+        let ended = run_replay(rt.alloc(), &mut connection, MOMENT, ACCOUNT, KEY1, KEY2);
+        let (_, out) = connection.into_parts();
         assert!(rt; ended == ending, "{most} {reads}");
         assert!(rt; out.as_slice() == output, "{most} {reads}");
     }
@@ -54,17 +50,8 @@ fn pieces_do_not_matter(rt: HostRuntime) {
 #[test]
 fn a_writer_that_fails_is_told(rt: HostRuntime) {
     for takes in [false, true] {
-        let mut input = INPUT;
-        let mut writer = Stuck { takes };
-        let ended = run_replay(
-            rt.alloc(),
-            &mut input,
-            &mut writer,
-            MOMENT,
-            ACCOUNT,
-            KEY1,
-            KEY2,
-        );
+        let mut connection = Connection::new(rt.alloc(), INPUT, Stuck { takes }, TURNS);
+        let ended = run_replay(rt.alloc(), &mut connection, MOMENT, ACCOUNT, KEY1, KEY2);
         assert!(rt; ended == Ending::WriteFault, "{takes}");
     }
 }

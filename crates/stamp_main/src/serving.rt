@@ -1,6 +1,8 @@
 //! `stamp serve`: the connections that come to an address, served by a fixed number of workers.
 ghost use Rattle.std.specs.Prelude.{◌≡◌, ◌⊎◌, List, ◌++◌, IfOk, IsTrue, string_bytes};
 ghost use Rattle.stamp_values.specs.Names.{is_account};
+ghost use Rattle.http_front.specs.Connections.{IsFresh};
+ghost use Rattle.http_front.specs.declared.counted.Output.TheVariants as outputs;
 ghost use Rattle.stamp_main.specs.declared.ending.Ending.TheVariants.{ListenerFault, NoMemory, Usage, WriteFault};
 ghost use Rattle.stamp_main.specs.Ending.{ends_serving};
 ghost use Rattle.stamp_main.specs.Serving.{HasListened, IsServe, listening_line, serve_line};
@@ -10,8 +12,9 @@ use crate::gate::serve_on;
 use crate::signing::send;
 use crate::words::{Served, read_served};
 use account_lock::NewHistory;
+use http_front::Connection;
 use std::alloc::{AllocError, Global};
-use std::io::Write;
+use std::io::{Read, Write};
 use std::marker::Brand;
 use std::net::{Net, TcpListener, TcpStream};
 use std::sync::Wait;
@@ -28,31 +31,36 @@ const PATIENCE: u64 = 30;
 /// connections.
 #[tactic(auto, using(crate::proofs::ServeLemmas::asked, crate::proofs::ServeLemmas::listened))]
 pub(crate) fn run_serve<
+    I: Read,
     W: Write,
     R: Net<Stream = TcpStream, Listener = TcpListener> + Threads + Wait + Clock + Sync,
 >(
     rt: &R,
     alloc: Global,
-    writer: &mut W,
+    connection: &mut Connection<I, W>,
     address: &str,
     workers: &str,
     account: &str,
     first: &str,
     second: &str,
 ) -> Ending
+    requires { IsFresh connection.old }
     ensures refused { result ≡ Usage →
         ¬ IsServe (serve_line address.now workers.now account.now first.now second.now) }
-    ensures unwritten { result ≡ Usage → writer.new ≡ writer.old }
+    ensures untouched { result ≡ Usage → connection.new ≡ connection.old }
+    ensures unread { connection.new.reader ≡ connection.old.reader }
     ensures listened { result ≡ ListenerFault →
         IsServe (serve_line address.now workers.now account.now first.now second.now)
-        × ((writer.new ≡ writer.old)
+        × ((connection.new ≡ connection.old)
         ⊎ HasListened (serve_line address.now workers.now account.now first.now second.now)
-        (W.contents writer.old) (W.contents writer.new)) }
-    ensures starved { result ≡ NoMemory → (writer.new ≡ writer.old)
+        connection.old.writer connection.new.writer) }
+    ensures starved { result ≡ NoMemory → (connection.new ≡ connection.old)
         ⊎ HasListened (serve_line address.now workers.now account.now first.now second.now)
-        (W.contents writer.old) (W.contents writer.new) }
-    ensures asked { result ≡ WriteFault →
-        IsServe (serve_line address.now workers.now account.now first.now second.now) }
+        connection.old.writer connection.new.writer }
+    ensures broken { result ≡ WriteFault →
+        HasListened (serve_line address.now workers.now account.now first.now second.now)
+        connection.old.writer connection.new.writer
+        × (connection.new.writer.output ≡ outputs.Failed) }
     ensures ended { IsTrue (ends_serving result) }
 {
     let served = match read_served(alloc, address, workers, account, first, second) {
@@ -65,7 +73,7 @@ pub(crate) fn run_serve<
     let Ok(line) = listening(alloc, served.address) else {
         return Ending::NoMemory;
     };
-    if send(writer, line.as_bytes()).is_err() {
+    if send(connection, line.as_bytes()).is_err() {
         return Ending::WriteFault;
     }
     serve_all(rt, alloc, &listener, served)

@@ -2,7 +2,7 @@
 use crate::pieces::{Pieces, Stuck};
 use crate::signing::sign_on;
 use hmac_sign::SigningKey;
-use http_front::FrontFault;
+use http_front::{Connection, FrontFault};
 use std::alloc::Global;
 use std::process::Abort;
 use std::test::Fail;
@@ -29,13 +29,15 @@ fn pieces_do_not_matter_and_reads_are_counted(rt: HostRuntime) {
     ];
     let key = key(&rt, rt.alloc());
     for (most, reads, turns, answer) in table {
-        let mut reader = Pieces {
+        let reader = Pieces {
             rest: INPUT,
             most,
             reads,
         };
-        let mut out = Vec::new(rt.alloc());
-        let result = sign_on(rt.alloc(), &mut reader, &mut out, &key, turns);
+        let mut connection =
+            Connection::new(rt.alloc(), reader, Vec::new(rt.alloc()), turns);
+        let result = sign_on(rt.alloc(), &mut connection, &key);
+        let (_, out) = connection.into_parts();
         let line: &[u8] = if answer.is_ok() { LINE } else { b"" };
         assert_eq!(rt; result, answer, "{most} {reads} {turns}");
         assert_eq!(rt; out.as_slice(), line, "{most} {reads} {turns}");
@@ -46,8 +48,10 @@ fn pieces_do_not_matter_and_reads_are_counted(rt: HostRuntime) {
 fn an_input_of_many_reads_is_signed_whole(rt: HostRuntime) -> Result<(), Fail> {
     let input = vec![in rt.alloc(); b'a'; 100_000]?;
     let key = key(&rt, rt.alloc());
-    let mut out = Vec::new(rt.alloc());
-    let result = sign_on(rt.alloc(), &mut input.as_slice(), &mut out, &key, 14);
+    let mut connection =
+        Connection::new(rt.alloc(), input.as_slice(), Vec::new(rt.alloc()), 14);
+    let result = sign_on(rt.alloc(), &mut connection, &key);
+    let (_, out) = connection.into_parts();
     assert_eq!(rt; result, Ok(()));
     assert_eq!(rt;
         out.as_slice(),
@@ -60,8 +64,9 @@ fn an_input_of_many_reads_is_signed_whole(rt: HostRuntime) -> Result<(), Fail> {
 fn a_writer_that_fails_is_told(rt: HostRuntime) {
     let key = key(&rt, rt.alloc());
     for takes in [false, true] {
-        let mut writer = Stuck { takes };
-        let result = sign_on(rt.alloc(), &mut b"".as_slice(), &mut writer, &key, 1);
+        let mut connection =
+            Connection::new(rt.alloc(), b"".as_slice(), Stuck { takes }, 1);
+        let result = sign_on(rt.alloc(), &mut connection, &key);
         assert_eq!(rt; result, Err(FrontFault::Write), "{takes}");
     }
 }

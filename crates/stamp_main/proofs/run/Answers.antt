@@ -13,6 +13,6 @@ returns-in-None g c = record {
         (λ address workers account first second. c.in-None.ensures.refused (Serve (record { ref_ptr = c.args.words.ref_ptr; now = address })
         (record { ref_ptr = c.args.words.ref_ptr; now = workers }) (record { ref_ptr = c.args.words.ref_ptr; now = account })
         (record { ref_ptr = c.args.words.ref_ptr; now = first }) (record { ref_ptr = c.args.words.ref_ptr; now = second }))),
-    (refl, refl),
+    refl,
   );
 }

@@ -2,10 +2,13 @@ use Rattle.account_lock.proofs.ConnectionLemmas.{replies_are_along, stops_with_o
 use Rattle.account_lock.proofs.laws.each_connection_reads_one_history.Goals as goal
 
 pub returns-clause-answered : goal.returns-clause-answered
-returns-clause-answered g c = λ keys clock clock' seen seen' held held' result turns input talk. replies_are_along keys seen talk.exchanges seen' talk.replies
+returns-clause-answered g c = λ keys clock clock' seen seen' from to result input talk. replies_are_along keys seen talk.exchanges seen' talk.replies
 
 pub returns-clause-starved : goal.returns-clause-starved
-returns-clause-starved g c = λ keys clock clock' seen seen' left left' held held' last talk. (
+returns-clause-starved g c = λ keys clock clock' seen seen' from to last talk. (
   replies_are_along keys seen talk.exchanges talk.world_then talk.replies,
   stops_with_one keys _ talk.clock_then clock' talk.world_then seen' talk.rest talk.begun talk.stops,
 )
+
+pub returns-clause-broken : goal.returns-clause-broken
+returns-clause-broken g c = λ keys clock clock' seen seen' from to talk. replies_are_along keys seen talk.exchanges seen' talk.replies

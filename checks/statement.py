@@ -1,0 +1,101 @@
+"""The definitions that a statement rests on, found by their names: those that it names, those that these name, and so on."""
+import re
+from collections import defaultdict
+from typing import NamedTuple
+
+import definitions
+import tree
+
+# The statement: what a replay writes, and how it ends.
+STATEMENT = definitions.Word("stamp_main", "Replays", "ReplaysReceived")
+DEFINED = re.compile(r" *(?:pub (?:record|data)|(?:abbrev |unfoldable )?(?:pub )?(?=\S+ : )) *(\S+)")
+USED = re.compile(r"(pub )?use Rattle\.(\w+)\.specs\.(\w+)(?:\.\w+)?(?:\.\{([^}]*)\}| as (\w+))?")
+NAME = re.compile(r"[^\s(){}\[\],;]+")
+
+
+class File(NamedTuple):
+    """A file of definitions: for each word the names in its text and how many lines it has, and the words that the file takes from others."""
+
+    names: dict
+    lines: dict
+    taken: dict
+    passed: list
+
+
+def read(crate, file):
+    names, lines, taken, passed, word = defaultdict(set), defaultdict(int), {}, [], None
+    for line in file.read_text(encoding="utf-8").splitlines():
+        used, defined = USED.match(line), DEFINED.match(line)
+        if used:
+            target = (used[2], used[3])
+            passed += [target] * bool(used[1])
+            taken |= {name.strip(): (*target, name.strip()) for name in (used[4] or "").split(",") if name.strip()}
+            continue
+        if defined and not line.startswith("  pub "):
+            word = defined[1]
+        if word and line.strip() and not line.lstrip().startswith("--"):
+            lines[word] += 1
+            names[word] |= {part for name in NAME.findall(line) for part in (name, name.split(".")[0])}
+    return File(names, lines, taken, passed)
+
+
+def files():
+    return {
+        (crate, file.stem): read(crate, file)
+        for crate in tree.lines_of_crates()
+        for file in sorted((tree.ROOT / "crates" / crate / "specs").glob("*.antt"))
+    }
+
+
+def home(found, crate, module, name):
+    """Where a name of a file is defined: in the file, or where the file takes it from."""
+    seen = set()
+    while (crate, module) in found and (crate, module) not in seen:
+        seen.add((crate, module))
+        file = found[crate, module]
+        if name in file.lines:
+            return definitions.Word(crate, module, name)
+        if name not in file.taken:
+            for target in file.passed:
+                at = home(found, *target, name)
+                if at:
+                    return at
+            return None
+        crate, module, name = file.taken[name]
+    return None
+
+
+def rests_on():
+    """The definitions that the statement rests on, and how many lines each has."""
+    found = files()
+    todo, reached = [STATEMENT], {}
+    while todo:
+        word = todo.pop()
+        if word in reached:
+            continue
+        file = found[word.crate, word.module]
+        reached[word] = file.lines[word.name]
+        todo += [at for name in file.names[word.name] if (at := home(found, word.crate, word.module, name))]
+    return reached
+
+
+# The parts of the statement, and the crates whose definitions each part has.
+PARTS = {
+    "The replay": ("stamp_main",),
+    "From bytes to requests": ("http_front", "request_form", "name_rules"),
+    "Who may": ("access_rules", "shared_key", "hmac_sign", "base64_text", "sas_token", "container_acl"),
+    "The object, what changes it, and what is answered": ("stamp_model", "range_rows", "row_trees", "block_blobs", "body_forms", "stamp_types", "stamp_values", "moment_text"),
+    "From replies to bytes": ("reply_form",),
+}
+
+
+def modules():
+    """For each part of the statement, its files of definitions, each with the number of its definitions and of their lines."""
+    count, lines = defaultdict(int), defaultdict(int)
+    for word, length in rests_on().items():
+        count[word.crate, word.module] += 1
+        lines[word.crate, word.module] += length
+    unknown = {crate for crate, _ in count} - {crate for crates in PARTS.values() for crate in crates}
+    if unknown:
+        raise ValueError(f"crates that are in no part of the statement: {', '.join(sorted(unknown))}")
+    return {part: [(at, count[at], lines[at]) for at in sorted(count, key=lambda it: (crates.index(it[0]), it[1]) if it[0] in crates else (99, "")) if at[0] in crates] for part, crates in PARTS.items()}

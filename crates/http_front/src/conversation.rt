@@ -1,0 +1,117 @@
+//! What is read, answered and written on one connection.
+ghost use Rattle.std.specs.Prelude.{◌≡◌, ◌≢◌, [], Err, IfSome};
+ghost use Rattle.reply_form.specs.FixedReplies.{out_of_memory_bytes};
+ghost use Rattle.http_front.specs.Connections.{IsFresh, Sends};
+ghost use Rattle.http_front.specs.Conversations.{AnswersInput, AnswersReceived, EndsByWrite, EndsOutOfMemory};
+ghost use Rattle.http_front.specs.Conversations.{BreaksOff, LeavesRun};
+ghost use Rattle.http_front.specs.Outcomes.{IsOfWholeInput, UnlessWriteFailed, UnlessWriteOrMemoryFailed};
+ghost use Rattle.http_front.specs.declared.counted.Output.{Output};
+ghost use Rattle.http_front.specs.declared.end.FrontFault.{FrontFault};
+
+use crate::connection::Connection;
+use crate::end::{End, FrontFault};
+use crate::service::{Clock, Service};
+use reply_form::out_of_memory_reply;
+use std::alloc::Global;
+use std::io::{Read, Write};
+
+// Reads, answers and writes until the connection ends.
+fn converse<R: Read, W: Write, C: Clock, S: Service>(
+    alloc: Global,
+    connection: &mut Connection<R, W>,
+    clock: &mut C,
+    service: &mut S,
+) -> Result<End, FrontFault>
+    requires { IsFresh connection.old }
+    ensures conversed { UnlessWriteOrMemoryFailed result (AnswersReceived C.gives S.answers
+        clock.old clock.new (S.world service.old) (S.world service.new)
+        connection.old connection.new result) }
+    ensures whole { IsOfWholeInput result connection.new.reader.input →
+        IfSome connection.old.reader.left (AnswersInput C.gives S.answers
+        clock.old clock.new (S.world service.old) (S.world service.new)
+        connection.old connection.new result) }
+    ensures starved { result ≡ Err FrontFault.NoMemory → EndsOutOfMemory C.gives S.answers S.starves
+        clock.old clock.new (S.world service.old) (S.world service.new)
+        connection.old connection.new [] }
+    ensures broken { result ≡ Err FrontFault.Write → BreaksOff C.gives S.answers
+        clock.old clock.new (S.world service.old) (S.world service.new)
+        connection.old connection.new }
+    ensures left { LeavesRun result connection.new }
+{
+    loop {
+        match connection.next_item(alloc)? {
+            None => return Ok(End::Clean),
+            Some(found) => {
+                if connection.answer(alloc, clock, service, found)? {
+                    return Ok(End::Closed);
+                }
+            }
+        }
+    }
+}
+
+// Says that memory ran out, and returns how the run ends.
+fn end_out_of_memory<R: Read, W: Write>(connection: &mut Connection<R, W>) -> FrontFault
+    requires { connection.old.writer.output ≢ Output.Failed }
+    ensures sent { Sends connection.old.writer connection.new.writer out_of_memory_bytes }
+    ensures unread { (connection.new.reader ≡ connection.old.reader)
+        × (connection.new.bytes ≡ connection.old.bytes) }
+    ensures flushed { result ≡ FrontFault.NoMemory → connection.new.writer.output ≡ Output.Flushed }
+    ensures failed { result ≢ FrontFault.NoMemory →
+        (result ≡ FrontFault.Write) × (connection.new.writer.output ≡ Output.Failed) }
+{
+    if connection.send(out_of_memory_reply()).is_err() {
+        return FrontFault::Write;
+    }
+    if connection.flush().is_err() {
+        return FrontFault::Write;
+    }
+    FrontFault::NoMemory
+}
+
+/// Serves one connection, on which nothing was read or written yet: reads, answers and writes until it ends.
+///
+/// The clock is read once for each item, after the item is whole. If memory runs out, no part of the answer to the item is
+/// written: the fixed bytes that say that memory ran out are written in its place, and the run ends with `NoMemory`. If those
+/// bytes cannot be written, it ends with `Write`. The interim reply of the item may have been written before.
+pub fn run<R: Read, W: Write, C: Clock, S: Service>(
+    alloc: Global,
+    connection: &mut Connection<R, W>,
+    clock: &mut C,
+    service: &mut S,
+) -> Result<End, FrontFault>
+    requires { IsFresh connection.old }
+    // What is written is the output of the service's replies to the items of the bytes that were read, each at its moment.
+    ensures conversed { UnlessWriteOrMemoryFailed result (AnswersReceived C.gives S.answers
+        clock.old clock.new (S.world service.old) (S.world service.new)
+        connection.old connection.new result) }
+    // If the input ended, between two requests or inside one, or if a reply closed the connection, what is written is the output
+    // for the whole input, however the input was cut into reads.
+    ensures whole { IsOfWholeInput result connection.new.reader.input →
+        IfSome connection.old.reader.left (AnswersInput C.gives S.answers
+        clock.old clock.new (S.world service.old) (S.world service.new)
+        connection.old connection.new result) }
+    // If memory ran out, the items before are answered in full, and the last bytes say only that memory ran out. The clock and
+    // the service are as the last of these items left them, or as the item whose answer was not written left them.
+    ensures starved { result ≡ Err FrontFault.NoMemory → EndsOutOfMemory C.gives S.answers S.starves
+        clock.old clock.new (S.world service.old) (S.world service.new)
+        connection.old connection.new out_of_memory_bytes }
+    // If a write failed, what went out is a beginning of what would have gone out.
+    ensures broken { result ≡ Err FrontFault.Write → EndsByWrite C.gives S.answers S.starves
+        clock.old clock.new (S.world service.old) (S.world service.new)
+        connection.old connection.new }
+    // Each end has its cause.
+    ensures left { LeavesRun result connection.new }
+    // What was written is flushed.
+    ensures flushed { UnlessWriteFailed result (connection.new.writer.output ≡ Output.Flushed) }
+{
+    let ended = converse(alloc, connection, clock, service);
+    if ended == Err(FrontFault::Write) {
+        return ended;
+    }
+    if ended == Err(FrontFault::NoMemory) {
+        return Err(end_out_of_memory(connection));
+    }
+    connection.flush()?;
+    ended
+}
