@@ -1,5 +1,5 @@
 -- What is absent from a policy.
-use Rattle.std.proofs.Common.{◌≡◌, ℕ, ◌<◌, List, [], ◌∷◌, length, map, Some, refl, ap, ◌∙◌, arith}
+use Rattle.std.proofs.Common.{◌≡◌, ◌<◌, List, [], ◌∷◌, length, map, Some, ap, ◌∙◌, arith}
 use Rattle.body_forms.specs.declared.access_policy.Field.{Field}
 use Rattle.body_forms.specs.declared.access_policy.Given as code_given
 use Rattle.body_forms.specs.declared.sent_policies.Part as code_part

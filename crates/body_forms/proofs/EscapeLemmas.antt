@@ -1,5 +1,5 @@
 -- Texts that are written with references are read back.
-use Rattle.std.proofs.Common.{◌≡◌, ℕ, Bool, true, false, not, ◌&&◌, ◌==◌, cond, List, [], ◌∷◌, ◌++◌, map, refl, sym, ap, ◌∙◌, eqb-true}
+use Rattle.std.proofs.Common.{◌≡◌, ℕ, Bool, true, false, not, ◌==◌, cond, List, [], ◌∷◌, ◌++◌, map, refl, sym, ap, ◌∙◌, eqb-true}
 use Rattle.std.specs.List.{list_all, flat_map}
 use Rattle.std.proofs.lemmas.List.Folds.{list_all-append}
 use Rattle.stamp_values.specs.Ascii.{ampersand}
@@ -12,7 +12,7 @@ abbrev no_greater : List ℕ → Bool
 no_greater s = list_all (λ c. not (c == greater_than)) s
 
 -- the piece of a byte, by the three tests of the byte
-abbrev chosen : ℕ → Bool → Bool → Bool → Piece
+abbrev pub chosen : ℕ → Bool → Bool → Bool → Piece
 chosen c a l g = cond a amp (cond l lt (cond g gt (plain c)))
 
 chosen_is_piece : (c : ℕ) (a l g : Bool) → (c == ampersand) ≡ a → (c == less_than) ≡ l → is_piece (chosen c a l g) ≡ true

@@ -12,7 +12,7 @@ use Rattle.body_forms.specs.Reading.{Read, tag_at, opening_at, name_at}
 use Rattle.body_forms.specs.Tokens.{Tag}
 use Rattle.body_forms.specs.ElementReading.{root_of}
 use Rattle.stamp_values.specs.Texts.{is_utf8}
-use Rattle.body_forms.specs.Bodies.{has_clean_parts, byte_order_mark, IsByteOrderMark, has_no_prolog_end, IsProlog, IsBody}
+use Rattle.body_forms.specs.Bodies.{are_controls_white, byte_order_mark, IsByteOrderMark, has_no_prolog_end, IsProlog, IsBody}
 use Rattle.body_forms.specs.FrontReading.{after_mark, after_end, prolog_end, after_prolog, body_of}
 use Rattle.body_forms.proofs.Runs.{if_none}
 
@@ -78,8 +78,8 @@ prolog_sound t r e =
 -- what is read is what the grammar says
 pub body_sound : (A : Type 0) (root : List ℕ → Option A) (IsRootText : A → List ℕ → Type 0) → ((t : List ℕ) (a : A) → root t ≡ Some a → IsRootText a t) → (body : List ℕ) (a : A) → body_of root body ≡ Some a → IsBody (IsRootText a) body
 body_sound A root IsRootText sound body a e =
-    let (good, more) = if_none (is_utf8 body && has_clean_parts body) (option_and_then root (after_prolog (after_mark body))) a e in
-    let (utf8, clean) = and_parts (is_utf8 body) (has_clean_parts body) good in
+    let (good, more) = if_none (is_utf8 body && are_controls_white body) (option_and_then root (after_prolog (after_mark body))) a e in
+    let (utf8, clean) = and_parts (is_utf8 body) (are_controls_white body) good in
     let (front, is_mark, whole) = mark_sound body in
     option_and_then_some root (after_prolog (after_mark body)) a more λ rest found read.
     let (p, is_prolog, parts) = prolog_sound (after_mark body) rest found in

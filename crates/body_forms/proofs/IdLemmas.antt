@@ -82,16 +82,16 @@ trimmed_referred s =
 
 -- ---- each number of the text is a byte
 
-abbrev is_byte : ℕ → Bool
+abbrev pub is_byte : ℕ → Bool
 is_byte c = nat_lt c 256
 
-all_bytes : (s : List ℕ) → IsBytes s → list_all is_byte s ≡ true
+pub all_bytes : (s : List ℕ) → IsBytes s → list_all is_byte s ≡ true
 all_bytes [] h = refl
 all_bytes (c ∷ cs) h =
     let one : is_byte c ≡ true = let below = h 0 in grind (arith, nat_tests) in
     rw (one, all_bytes cs (λ i. h (suc i))) refl
 
-are_bytes : (s : List ℕ) → list_all is_byte s ≡ true → IsBytes s
+pub are_bytes : (s : List ℕ) → list_all is_byte s ≡ true → IsBytes s
 are_bytes [] h i = omega arith
 are_bytes (c ∷ cs) h zero = let one = (and_parts (is_byte c) (list_all is_byte cs) h).0 in grind (arith, nat_tests)
 are_bytes (c ∷ cs) h (suc i) = are_bytes cs (and_parts (is_byte c) (list_all is_byte cs) h).1 i
@@ -134,7 +134,7 @@ reverse_bytes (c ∷ cs) h =
     let (one, more) = and_parts (is_byte c) (list_all is_byte cs) h in
     ap (list_all is_byte) (reverse-append (c ∷ []) cs) ∙ list_all-append is_byte (reverse cs) (c ∷ []) ∙ and_last (list_all is_byte (reverse cs)) (is_byte c) (reverse_bytes cs more) one
 
-trimmed_bytes : (s : List ℕ) → list_all is_byte s ≡ true → list_all is_byte (without_white_ends s) ≡ true
+pub trimmed_bytes : (s : List ℕ) → list_all is_byte s ≡ true → list_all is_byte (without_white_ends s) ≡ true
 trimmed_bytes s h = reverse_bytes (without_white_front (reverse (without_white_front s))) (unindented_bytes (reverse (without_white_front s)) (reverse_bytes (without_white_front s) (unindented_bytes s h)))
 
 -- a text with a reference is not the text of an id

@@ -1,16 +1,15 @@
 -- Stored policies are read as they were written, and what is read as stored policies is a list of these policies.
-use Rattle.std.proofs.Common.{◌≡◌, ◌++◌, ℕ, Bool, true, false, cond, List, Option, Some, None, refl, sym, ap, ◌∙◌, subst}
+use Rattle.std.proofs.Common.{◌≡◌, ◌++◌, ℕ, Bool, true, false, cond, List, Some, None, refl, sym, ap, ◌∙◌, subst}
 use Rattle.std.specs.Prelude.{codes, bytes_eq, option_map}
 use Rattle.std.proofs.lemmas.Option.{option_and_then_some, same_Some}
 use Rattle.std.proofs.lemmas.Slice.Eq.{bytes_eq-Decides}
 use Rattle.body_forms.specs.declared.access_policy.Field.{Field}
 use Rattle.body_forms.specs.declared.access_policy.Field.TheVariants.{Start, Expiry, Permission}
-use Rattle.body_forms.specs.declared.tokens.Kind.TheVariants.{Closing}
 use Rattle.body_forms.specs.Tokens.{Tag, IsTag}
 use Rattle.body_forms.specs.Texts.{Token, AreTokens}
-use Rattle.body_forms.specs.Elements.{IsElementOf, IsTextElement}
+use Rattle.body_forms.specs.Elements.{IsElementOf}
 use Rattle.body_forms.specs.Policies.{ArePoliciesBody, policies_name, policy_name, id_name, access_name, field_name, Given, IsGiven, Access, access_of, IsAccess, Part, id, access, IsPart, Sent, sent_of, IsSent, AreSent, AreSentText}
-use Rattle.body_forms.specs.ElementReading.{is_kind, content_at, inner_at}
+use Rattle.body_forms.specs.ElementReading.{content_at, inner_at}
 use Rattle.body_forms.specs.PolicyReading.{field_of, given_at, access_at, part_at, sent_at, policies_of}
 use Rattle.body_forms.specs.PolicyReading.{body_policies}
 use Rattle.body_forms.proofs.Sound.{mapped_some}

@@ -1,12 +1,11 @@
 -- What the ids of policies decide.
-use Rattle.std.proofs.Common.{◌≡◌, ℕ, Bool, true, false, not, cond, ◌&&◌, ◌||◌, nat_le, nat_lt, List, [], ◌∷◌, length, map, Result, Ok, Err, refl, sym, ap, ◌∙◌, arith}
+use Rattle.std.proofs.Common.{◌≡◌, Bool, true, false, not, ◌&&◌, ◌||◌, nat_le, List, [], ◌∷◌, length, map, Err, refl, arith}
 use Rattle.std.specs.List.{list_any, list_all}
 use Rattle.std.proofs.lemmas.Bool.{and_parts}
 use Rattle.std.proofs.lemmas.Bool.Decides.{nat_tests}
-use Rattle.stamp_values.specs.declared.policy.Policy.{Policy}
 use Rattle.stamp_values.specs.Limits.{policies_limit}
 use Rattle.stamp_values.specs.Names.{is_policy_id}
-use Rattle.stamp_values.specs.Policies.{has_distinct_ids, is_policies}
+use Rattle.stamp_values.specs.Policies.{is_policies}
 use Rattle.stamp_values.specs.Texts.{is_utf8}
 use Rattle.body_forms.specs.declared.body_fault.BodyFault.{BodyFault}
 use Rattle.body_forms.specs.declared.body_fault.BodyFault.TheVariants as fault
@@ -22,7 +21,7 @@ neither : (a b : Bool) → (a || b) ≡ false → (a ≡ false) × (b ≡ false)
 neither true b h = (cc, cc)
 neither false b h = (refl, h)
 
-not_false : (a : Bool) → not a ≡ false → a ≡ true
+pub not_false : (a : Bool) → not a ≡ false → a ≡ true
 not_false true h = refl
 not_false false h = cc
 

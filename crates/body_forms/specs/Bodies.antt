@@ -1,16 +1,15 @@
 -- Bodies in XML: the characters of a body, and what comes before the root (Extensible Markup Language 1.0, sections 2.2, 2.8
 -- and 4.3.3; RFC 3629, section 6).
-use Rattle.std.specs.Prelude.{◌≡◌, ◌⊎◌, ℕ, Bool, true, not, ◌&&◌, ◌==◌, List, [], ◌∷◌, ◌++◌, slice_index, codes}
-use Rattle.std.specs.List.{list_all, slice_split}
+use Rattle.std.specs.Prelude.{◌≡◌, ◌⊎◌, ℕ, Bool, true, not, ◌&&◌, ◌||◌, ◌==◌, List, [], ◌∷◌, ◌++◌, slice_index, codes}
 use Rattle.stamp_values.specs.Ascii.{question_mark}
-use Rattle.stamp_values.specs.Texts.{is_utf8, is_clean}
+use Rattle.stamp_values.specs.Texts.{is_utf8, begins_with_control}
 use Rattle.body_forms.specs.Markup.{greater_than, is_white}
 use Rattle.body_forms.specs.BlockLists.{Entry, IsBlockListText}
 
--- the body has no control character but tab, line feed and carriage return: the parts between white space have no control
--- character
-unfoldable pub has_clean_parts : List ℕ → Bool
-has_clean_parts body = list_all is_clean (slice_split is_white body)
+-- no character but tab, line feed and carriage return is a control character
+abbrev pub are_controls_white : List ℕ → Bool
+are_controls_white [] = true
+are_controls_white (b ∷ t) = (is_white b || not (begins_with_control (b ∷ t))) && are_controls_white t
 
 -- U+FEFF in UTF-8
 abbrev pub byte_order_mark : List ℕ
@@ -36,7 +35,7 @@ IsProlog s =
 -- the body has this root after a byte order mark and a prolog, if it has them
 pub record IsBody (IsRootText : List ℕ → Type 0) (body : List ℕ) : Type 0 where
   pub utf8 : is_utf8 body ≡ true
-  pub clean : has_clean_parts body ≡ true
+  pub clean : are_controls_white body ≡ true
   pub mark : List ℕ
   pub prolog : List ℕ
   pub rest : List ℕ

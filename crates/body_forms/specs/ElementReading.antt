@@ -1,5 +1,5 @@
 -- The reading of elements as a function, for any name and any inner form, and of a block list.
-use Rattle.std.specs.Prelude.{ℕ, zero, suc, Bool, true, false, ◌&&◌, ◌==◌, if◌then◌else◌, List, [], ◌∷◌, length, take, codes, bytes_eq, Option, Some, None, option_map, option_and_then}
+use Rattle.std.specs.Prelude.{ℕ, zero, suc, Bool, true, false, ◌&&◌, ◌==◌, if◌then◌else◌, List, [], ◌∷◌, length, take, codes, bytes_eq, Option, Some, None, option_map}
 use Rattle.body_forms.specs.declared.tokens.Kind.{Kind}
 use Rattle.body_forms.specs.declared.tokens.Kind.TheVariants.{Opening, Empty, Closing}
 use Rattle.stamp_values.specs.declared.block.Lookup.{Lookup}

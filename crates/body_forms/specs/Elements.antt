@@ -25,6 +25,10 @@ without_white_front (c ∷ cs) = cond (is_white c) (without_white_front cs) (c �
 abbrev pub without_white_ends : List ℕ → List ℕ
 without_white_ends s = reverse (without_white_front (reverse (without_white_front s)))
 
+-- the text has no white space at its ends
+abbrev pub HasNoWhiteEnds : List ℕ → Type 0
+HasNoWhiteEnds t = without_white_ends t ≡ t
+
 -- the tokens are an element of this name with a text alone, which is t with white space at its ends; an empty element has the empty text
 abbrev pub IsTextElement : List ℕ → List ℕ → List Token → Type 0
 IsTextElement name t tokens =

@@ -3,7 +3,7 @@ use Rattle.std.specs.Prelude.{ℕ, ◌&&◌, ◌==◌, if◌then◌else◌, List
 use Rattle.stamp_values.specs.Ascii.{question_mark}
 use Rattle.stamp_values.specs.Texts.{is_utf8}
 use Rattle.body_forms.specs.Markup.{greater_than, is_white}
-use Rattle.body_forms.specs.Bodies.{has_clean_parts, byte_order_mark}
+use Rattle.body_forms.specs.Bodies.{are_controls_white, byte_order_mark}
 use Rattle.body_forms.specs.BlockLists.{Entry}
 use Rattle.body_forms.specs.ElementReading.{entries_of}
 
@@ -31,7 +31,7 @@ after_prolog t = if bytes_eq (take 5 t) (codes "<?xml") then prolog_end (drop 5 
 -- what a body says by this reading of its root
 abbrev pub body_of : {A : Type 0} → (List ℕ → Option A) → List ℕ → Option A
 body_of root body =
-    if is_utf8 body && has_clean_parts body then option_and_then root (after_prolog (after_mark body)) else None
+    if is_utf8 body && are_controls_white body then option_and_then root (after_prolog (after_mark body)) else None
 
 -- the entries of the block list that the body is
 abbrev pub body_entries : List ℕ → Option (List Entry)

@@ -1,8 +1,8 @@
 -- The ids of a block list (Blob service REST reference, 2012-02-12, Put Block and Put Block List; RFC 4648, section 4).
-use Rattle.std.specs.Prelude.{ℕ, Bool, not, if◌then◌else◌, List, [], ◌∷◌, length, Option, Some, None, option_map, option_and_then, Result, Ok, Err}
+use Rattle.std.specs.Prelude.{◌≡◌, ℕ, Bool, true, not, if◌then◌else◌, List, [], ◌∷◌, All, length, Option, Some, None, option_map, option_and_then, Result, Ok, Err}
 use Rattle.stamp_values.specs.Names.{is_within}
 use Rattle.stamp_values.specs.declared.block.Wanted.{Wanted}
-use Rattle.base64_text.specs.Base64.{standard, encode_of, decoded_of, is_base64_within}
+use Rattle.base64_text.specs.Base64.{standard, encode_of, decoded_of, is_base64_within, IsBytes}
 use Rattle.body_forms.specs.declared.body_fault.BodyFault.{BodyFault}
 use Rattle.body_forms.specs.declared.body_fault.BodyFault.TheVariants as fault
 use Rattle.body_forms.specs.BlockLists.{Entry}
@@ -15,6 +15,14 @@ has_bad_id e = not (is_base64_within 1 64 e.id_text)
 -- a block that is wanted, as an entry: the text is the Base64 of the id
 abbrev pub wanted_entry : Wanted → Entry
 wanted_entry w = record { lookup = w.lookup; id_text = encode_of standard w.id }
+
+-- the id of a block: 1 to 64 bytes
+abbrev pub IsBlockId : List ℕ → Type 0
+IsBlockId id = IsBytes id × (is_within 1 64 (length id) ≡ true)
+
+-- each block that is wanted has such an id
+abbrev pub HaveBlockIds : List Wanted → Type 0
+HaveBlockIds ws = All (λ w. IsBlockId w.id) ws
 
 -- ---- the reading as a function
 

@@ -5,6 +5,7 @@ pub mod Elements
 pub mod Escapes
 pub mod FrontReading
 pub mod Ids
+pub mod KeptPolicies
 pub mod Markup
 pub mod Outcomes
 pub mod Policies

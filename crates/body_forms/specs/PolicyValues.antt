@@ -1,5 +1,5 @@
 -- What the texts of stored policies say, and which texts are bad (Blob service REST reference, 2012-02-12, Set Container ACL).
-use Rattle.std.specs.Prelude.{◌≡◌, ◌≢◌, ◌⊎◌, ℕ, Bool, not, ◌&&◌, ◌||◌, ◌==◌, if◌then◌else◌, nat_lt, List, [], ◌∷◌, length, map, bytes_eq, Option, Some, None, is_none, Result, Ok, Err}
+use Rattle.std.specs.Prelude.{◌≡◌, ◌≢◌, ◌⊎◌, ℕ, Bool, true, false, not, ◌&&◌, ◌||◌, ◌==◌, if◌then◌else◌, nat_lt, List, [], ◌∷◌, length, map, bytes_eq, Option, Some, None, is_none, Result, Ok, Err}
 use Rattle.std.specs.List.{list_any}
 use Rattle.stamp_values.specs.declared.policy.Policy.{Policy}
 use Rattle.stamp_values.specs.Ascii.{lower_r, lower_w, lower_d, lower_l}
@@ -98,12 +98,27 @@ policies_reading (b ∷ bs) = judged_form (body_policies (b ∷ bs))
 
 -- ---- what the answers of a reader say
 
--- the body says these policies: it is a list of policies whose texts say them, or it has no bytes and there are no policies
-abbrev pub SaysPolicies : List ℕ → List Policy → Type 0
-SaysPolicies body ps = ((body ≡ []) × (ps ≡ [])) ⊎ ((sent : List Sent) × ArePoliciesBody body sent × (judged sent ≡ Ok ps))
+-- no fault has a cause in the list of policies
+abbrev pub HasNoFault : List Sent → Type 0
+HasNoFault ss = (are_too_many ss ≡ false) × (have_bad_ids ss ≡ false) × (list_any has_bad_letters ss ≡ false) × (list_any has_bad_time ss ≡ false)
 
--- the body has the fault: it is not a list of policies, or it is a list of policies that has the fault; any body is read if memory is left
+-- the fault has a cause in the list of policies, and no fault before it has one
+abbrev pub IsFirstFault : BodyFault → List Sent → Type 0
+IsFirstFault fault.TooMany ss = are_too_many ss ≡ true
+IsFirstFault fault.Id ss = (are_too_many ss ≡ false) × (have_bad_ids ss ≡ true)
+IsFirstFault fault.Letters ss = (are_too_many ss ≡ false) × (have_bad_ids ss ≡ false) × (list_any has_bad_letters ss ≡ true)
+IsFirstFault fault.Time ss =
+    (are_too_many ss ≡ false) × (have_bad_ids ss ≡ false) × (list_any has_bad_letters ss ≡ false) × (list_any has_bad_time ss ≡ true)
+IsFirstFault other ss = ⊥
+
+-- the body says these policies: it is a list of policies without a fault whose texts say them, or it has no bytes and there are no policies
+abbrev pub SaysPolicies : List ℕ → List Policy → Type 0
+SaysPolicies body ps =
+    ((body ≡ []) × (ps ≡ []))
+    ⊎ ((sent : List Sent) × ArePoliciesBody body sent × HasNoFault sent × (ps ≡ map policy_of sent))
+
+-- the body has the fault: it is not a list of policies, or it is a list of policies whose first fault this is; any body is read if memory is left
 abbrev pub SaysFault : List ℕ → BodyFault → Type 0
 SaysFault body fault.Form = (body ≢ []) × ((sent : List Sent) → ArePoliciesBody body sent → ⊥)
 SaysFault body fault.NoMemory = Unit {0}
-SaysFault body other = (sent : List Sent) × ArePoliciesBody body sent × (judged sent ≡ Err other)
+SaysFault body other = (sent : List Sent) × ArePoliciesBody body sent × IsFirstFault other sent

@@ -13,10 +13,10 @@ const BYTE_ORDER_MARK: &[u8] = b"\xef\xbb\xbf";
 /// What a prolog begins with (Extensible Markup Language 1.0, section 2.8).
 const PROLOG_START: &[u8] = b"<?xml";
 
-// Whether the body has no control character but tab, line feed and carriage return.
-#[tactic(auto, unfolding(crate::specs::Bodies::has_clean_parts))]
-fn has_clean_parts(body: &[u8]) -> bool
-    ensures { result ≡ bodies.has_clean_parts body.now }
+// Whether no character but tab, line feed and carriage return is a control character. No control character has a byte of white
+// space inside, so the parts between white space are tested alone.
+fn are_controls_white(body: &[u8]) -> bool
+    ensures { result ≡ bodies.are_controls_white body.now }
 {
     body.split(|byte| is_white(*byte))
         .all(|part| is_clean(part))
@@ -24,9 +24,9 @@ fn has_clean_parts(body: &[u8]) -> bool
 
 /// Whether the body is UTF-8 and has no control character but white space.
 pub(crate) fn is_clean_text(body: &[u8]) -> bool
-    ensures { result ≡ (is_utf8 body.now && bodies.has_clean_parts body.now) }
+    ensures { result ≡ (is_utf8 body.now && bodies.are_controls_white body.now) }
 {
-    is_utf8(body) && has_clean_parts(body)
+    is_utf8(body) && are_controls_white(body)
 }
 
 /// The text after the byte order mark, if the text begins with it.

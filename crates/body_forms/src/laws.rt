@@ -1,11 +1,21 @@
 //! Laws of the grammar. Each law is the contract of a function that does nothing.
-ghost use Rattle.std.specs.Prelude.{◌≡◌, ◌↔◌, List, ℕ, Some};
+ghost use Rattle.std.specs.Prelude.{◌≡◌, ◌≢◌, ◌↔◌, List, ℕ, map, true, Some, Ok, Err, All};
+ghost use Rattle.std.specs.List.{list_any};
+ghost use Rattle.stamp_values.specs.declared.block.Wanted.{Wanted};
+ghost use Rattle.stamp_values.specs.declared.policy.Policy.{Policy};
 ghost use Rattle.body_forms.specs.Bodies.{IsBlockListBody};
 ghost use Rattle.body_forms.specs.BlockLists.{Entry};
+ghost use Rattle.body_forms.specs.Elements.{HasNoWhiteEnds};
 ghost use Rattle.body_forms.specs.Escapes.{escaped, IsReadBack};
 ghost use Rattle.body_forms.specs.FrontReading.{body_entries};
+ghost use Rattle.body_forms.specs.Ids.{block_list_reading, has_bad_id, wanted_entry, HaveBlockIds};
+ghost use Rattle.body_forms.specs.declared.body_fault.BodyFault.{BodyFault};
+ghost use Rattle.body_forms.specs.declared.body_fault.BodyFault.TheVariants as fault;
 ghost use Rattle.body_forms.specs.PolicyReading.{body_policies};
 ghost use Rattle.body_forms.specs.Policies.{Sent, ArePoliciesBody};
+ghost use Rattle.body_forms.specs.PolicyValues.{policies_reading, SaysPolicies, SaysFault};
+ghost use Rattle.body_forms.specs.KeptPolicies.{ArePolicies};
+ghost use Rattle.body_forms.specs.WrittenPolicies.{policies_text};
 
 /// A body is a block list in one way at most: it has one list of entries.
 pub fn a_body_is_read_in_one_way()
@@ -17,6 +27,21 @@ pub fn a_body_is_read_in_one_way()
 pub fn the_reading_is_the_grammar()
     ensures { (body : List ℕ) (entries : List Entry)
         → IsBlockListBody body entries ↔ (body_entries body ≡ Some entries) }
+{}
+
+/// A body is read as these blocks if and only if it is the block list of these blocks. The fault is `Form` if and only if the body is
+/// not a block list, and `Id` if and only if it is a block list with an id that is not the strict Base64 of 1 to 64 bytes. There is
+/// no other fault.
+pub fn block_lists_are_read_as_the_grammar_says()
+    ensures read { (body : List ℕ) (wanted : List Wanted) → HaveBlockIds wanted
+        → (block_list_reading body ≡ Ok wanted) ↔ IsBlockListBody body (map wanted_entry wanted) }
+    ensures form { (body : List ℕ) → (block_list_reading body ≡ Err fault.Form)
+        ↔ ((entries : List Entry) → IsBlockListBody body entries → ⊥) }
+    ensures id { (body : List ℕ) → (block_list_reading body ≡ Err fault.Id)
+        ↔ ((entries : List Entry) × IsBlockListBody body entries
+        × (list_any has_bad_id entries ≡ true)) }
+    ensures no_other { (body : List ℕ) (f : BodyFault) → f ≢ fault.Form → f ≢ fault.Id
+        → block_list_reading body ≢ Err f }
 {}
 
 /// A body is a list of stored policies in one way at most.
@@ -31,7 +56,26 @@ pub fn the_reading_of_policies_is_the_grammar()
         → ArePoliciesBody body policies ↔ (body_policies body ≡ Some policies) }
 {}
 
+/// A body is read as these policies if and only if it says these policies, and a fault is answered if and only if it is the first fault
+/// of the body.
+pub fn policies_are_read_as_the_grammar_says()
+    ensures read { (body : List ℕ) (policies : List Policy)
+        → (policies_reading body ≡ Ok policies) ↔ SaysPolicies body policies }
+    ensures fault { (body : List ℕ) (f : BodyFault) → f ≢ fault.NoMemory
+        → (policies_reading body ≡ Err f) ↔ SaysFault body f }
+{}
+
 /// A text that is written with references is read back as itself, and as no other text.
 pub fn what_is_escaped_is_read_back()
     ensures { (text : List ℕ) → IsReadBack text (escaped text) }
+{}
+
+/// Stored policies that were written are read as these policies: policies that were read before, and any policies that a container may
+/// have, if no id has white space at its ends.
+pub fn policies_are_read_as_they_were_written()
+    ensures read { (body : List ℕ) (policies : List Policy) → policies_reading body ≡ Ok policies
+        → policies_reading (policies_text policies) ≡ Ok policies }
+    ensures any { (policies : List Policy) → ArePolicies policies
+        → All (λ p. HasNoWhiteEnds p.id) policies
+        → policies_reading (policies_text policies) ≡ Ok policies }
 {}

@@ -22,7 +22,9 @@ mod written_policies;
 pub use block_list::read_block_list;
 pub use body_fault::BodyFault;
 pub use laws::{
-    a_body_is_read_in_one_way, policies_are_read_in_one_way, the_reading_is_the_grammar,
+    a_body_is_read_in_one_way, block_lists_are_read_as_the_grammar_says,
+    policies_are_read_as_the_grammar_says, policies_are_read_as_they_were_written,
+    policies_are_read_in_one_way, the_reading_is_the_grammar,
     the_reading_of_policies_is_the_grammar, what_is_escaped_is_read_back,
 };
 pub use policies::read_policies;
