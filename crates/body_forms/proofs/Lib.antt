@@ -12,6 +12,7 @@ pub mod FrontLemmas
 pub mod GrammarLaws
 pub mod IdLemmas
 pub mod IdTurns
+pub mod KeptLemmas
 pub mod LetterLemmas
 pub mod PolicyFaults
 pub mod PolicyLemmas

@@ -1,8 +1,9 @@
 -- Stored policies are read as they were written.
-use Rattle.std.proofs.Common.{◌≡◌, inl, inr, ℕ, ◌+◌, ◌*◌, ◌<◌, ◌≤◌, Bool, true, false, not, ◌&&◌, ◌||◌, nat_le, nat_lt, List, [], ◌∷◌, length, map, Option, Some, None, IfSome, IfOk, Result, Ok, Err, All, refl, sym, ap, ◌∙◌, subst, arith}
+use Rattle.std.proofs.Common.{◌≡◌, inl, inr, ℕ, ◌+◌, ◌*◌, ◌<◌, ◌≤◌, Bool, true, false, not, ◌&&◌, ◌||◌, nat_le, nat_lt, List, [], ◌∷◌, length, map, Option, Some, None, IfSome, IfOk, IsTrue, Result, Ok, Err, All, refl, sym, ap, ◌∙◌, subst, arith}
 use Rattle.std.specs.Prelude.{option_map, is_none}
 use Rattle.std.specs.List.{list_any, list_all}
 use Rattle.std.specs.Int.{IsInRange}
+use Rattle.std.proofs.lemmas.Bool.{and_parts}
 use Rattle.std.proofs.lemmas.Bool.Decides.{nat_tests}
 use Rattle.std.proofs.lemmas.List.Elements.{All-nil, All-cons, All-head, All-tail}
 use Rattle.std.proofs.lemmas.Option.{option_and_then_some, same_Some}
@@ -13,6 +14,7 @@ use Rattle.stamp_values.specs.Letters.{Permissions, has_permission, letters_text
 use Rattle.stamp_values.specs.Limits.{policies_limit}
 use Rattle.stamp_values.specs.Names.{is_policy_id}
 use Rattle.stamp_values.specs.Policies.{has_distinct_ids, is_policies}
+use Rattle.stamp_values.specs.Texts.{is_utf8}
 use Rattle.moment_text.specs.declared.fault.TimeFault.{TimeFault}
 use Rattle.moment_text.specs.IsoReader.{iso_time, iso_moment}
 use Rattle.moment_text.proofs.IsoMoment.{iso_moment_is}
@@ -29,7 +31,7 @@ use Rattle.body_forms.proofs.PolicyFaults.{says_policies, reading_is, good_judge
 use Rattle.body_forms.proofs.PolicyValueLemmas.{mapped_length, not_false, ids_decide}
 use Rattle.body_forms.proofs.Sound.{mapped_some}
 use Rattle.body_forms.proofs.TrimmedTexts.{ends_cut_once}
-use Rattle.body_forms.proofs.WrittenPolicyLemmas.{text_if, sent_by, Trimmed, policies_written}
+use Rattle.body_forms.proofs.WrittenPolicyLemmas.{text_if, sent_by, HasGoodId, Trimmed, policies_written}
 
 and_false : (a b : Bool) → b ≡ false → (a && b) ≡ false
 and_false true b h = h
@@ -59,7 +61,7 @@ letters_again (Some l) h = letters_of-letters_text l h
 
 policy_again : (p : Policy) → IsPolicy p → policy_of (sent_by p) ≡ p
 unfolding policy_of
-policy_again p is = λ i. record { id = p.id; start = moment_again p.start is.start i; expiry = moment_again p.expiry is.expiry i; letters = letters_again p.letters is.letters i }
+policy_again p is = λ i. record { id = p.id; start = moment_again p.start is.fields.start i; expiry = moment_again p.expiry is.fields.expiry i; letters = letters_again p.letters is.fields.letters i }
 
 all_again : (ps : List Policy) → All IsPolicy ps → map policy_of (map sent_by ps) ≡ ps
 all_again [] are = refl
@@ -77,7 +79,7 @@ good_time (Some m) h = and_false (not (is_nil (moment_text m))) (is_none (moment
 
 good_times : (p : Policy) → IsPolicy p → has_bad_time (sent_by p) ≡ false
 unfolding has_bad_time
-good_times p is = rw (good_time p.start is.start, good_time p.expiry is.expiry) refl
+good_times p is = rw (good_time p.start is.fields.start, good_time p.expiry is.fields.expiry) refl
 
 good_permissions : (o : Option Permissions) → IfSome o (λ l. has_permission l ≡ true) → are_bad_letters (text_if (option_map letters_text o)) ≡ false
 unfolding are_bad_letters
@@ -86,15 +88,15 @@ good_permissions (Some l) h = and_false (not (is_nil (letters_text l))) (is_none
 
 good_letters : (p : Policy) → IsPolicy p → has_bad_letters (sent_by p) ≡ false
 unfolding has_bad_letters
-good_letters p is = good_permissions p.letters is.letters
+good_letters p is = good_permissions p.letters is.fields.letters
 
-good_id : (p : Policy) → IsPolicy p → has_bad_id (sent_by p) ≡ false
+good_id : (p : Policy) → HasGoodId p → has_bad_id (sent_by p) ≡ false
 unfolding has_bad_id
-good_id p is = ap not is.id
+good_id p is = ap not is
 
-none_bad : (is_bad : Sent → Bool) → ((p : Policy) → IsPolicy p → is_bad (sent_by p) ≡ false) → (ps : List Policy) → All IsPolicy ps → list_any is_bad (map sent_by ps) ≡ false
-none_bad is_bad good [] are = refl
-none_bad is_bad good (p ∷ ps) are = rw (good p (All-head IsPolicy p ps are), none_bad is_bad good ps (All-tail IsPolicy p ps are)) refl
+none_bad : (P : Policy → Type 0) (is_bad : Sent → Bool) → ((p : Policy) → P p → is_bad (sent_by p) ≡ false) → (ps : List Policy) → All P ps → list_any is_bad (map sent_by ps) ≡ false
+none_bad P is_bad good [] are = refl
+none_bad P is_bad good (p ∷ ps) are = rw (good p (All-head P p ps are), none_bad P is_bad good ps (All-tail P p ps are)) refl
 
 last_of : (a b c : Bool) → (a && b && c) ≡ true → c ≡ true
 last_of true true c h = h
@@ -114,16 +116,35 @@ number ps h =
     let same = mapped_length sent_by ps in
     grind (arith, nat_tests)
 
+middle_of : (a b c : Bool) → (a && b && c) ≡ true → b ≡ true
+middle_of true true c h = refl
+middle_of true false c h = cc
+middle_of false b c h = cc
+
+both : (a b : Bool) → a ≡ true → b ≡ true → (a && b) ≡ true
+both a b h k = rw (h, k) refl
+
+all_good : (ps : List Policy) → list_all (λ p. is_policy_id p.id) ps ≡ true → All IsPolicy ps → All HasGoodId ps
+unfolding is_good_id
+all_good [] good are = All-nil HasGoodId
+all_good (p ∷ ps) good are =
+    let (one, more) = and_parts (is_policy_id p.id) (list_all (λ p. is_policy_id p.id) ps) good in
+    All-cons HasGoodId p ps (both (is_utf8 p.id) (is_policy_id p.id) (All-head IsPolicy p ps are).utf8 one) (all_good ps more (All-tail IsPolicy p ps are))
+
+-- the ids are good
+ids_are_good : (ps : List Policy) → is_policies ps ≡ true → All IsPolicy ps → All HasGoodId ps
+ids_are_good ps few are = all_good ps (middle_of (nat_le (length ps) policies_limit) (list_all (λ p. is_policy_id p.id) ps) (has_distinct_ids ps) few) are
+
 ids_good : (ps : List Policy) → is_policies ps ≡ true → All IsPolicy ps → have_bad_ids (map sent_by ps) ≡ false
-ids_good ps few are = rw (none_bad has_bad_id good_id ps are, all_again ps are, distinct ps few) refl
+ids_good ps few are = rw (none_bad HasGoodId has_bad_id good_id ps (ids_are_good ps few are), all_again ps are, distinct ps few) refl
 
 no_fault : (ps : List Policy) → is_policies ps ≡ true → All IsPolicy ps → HasNoFault (map sent_by ps)
-no_fault ps few are = (number ps few, ids_good ps few are, none_bad has_bad_letters good_letters ps are, none_bad has_bad_time good_times ps are)
+no_fault ps few are = (number ps few, ids_good ps few are, none_bad IsPolicy has_bad_letters good_letters ps are, none_bad IsPolicy has_bad_time good_times ps are)
 
 -- any policies, if no id has white space at its ends
 pub any_read_again : (ps : List Policy) → ArePolicies ps → All Trimmed ps → policies_reading (policies_text ps) ≡ Ok ps
 any_read_again ps (few, are) trimmed =
-    reading_is (policies_text ps) (map sent_by ps) (policies_read (policies_text ps) (map sent_by ps) (policies_written ps are trimmed)) ∙ good_judged (map sent_by ps) (no_fault ps few are) ∙ ap Ok (all_again ps are)
+    reading_is (policies_text ps) (map sent_by ps) (policies_read (policies_text ps) (map sent_by ps) (policies_written ps (ids_are_good ps few are) trimmed)) ∙ good_judged (map sent_by ps) (no_fault ps few are) ∙ ap Ok (all_again ps are)
 
 -- ---- policies that were read are policies
 
@@ -156,12 +177,14 @@ letters_in_of t None h = tt
 letters_in_of t (Some l) h = (letters_taken t l h).1
 
 kept_policy : (s : Sent) → has_bad_id s ≡ false → IsPolicy (policy_of s)
-unfolding policy_of has_bad_id
+unfolding policy_of has_bad_id is_good_id
 kept_policy s good = record {
-  id = not_false (is_good_id s.id_text) good;
-  start = moment_in s.given.start;
-  expiry = moment_in s.given.expiry;
-  letters = letters_in_of s.given.permission (letters_of s.given.permission) refl;
+  utf8 = (and_parts (is_utf8 s.id_text) (is_policy_id s.id_text) (not_false (is_utf8 s.id_text && is_policy_id s.id_text) good)).0;
+  fields = record {
+    start = moment_in s.given.start;
+    expiry = moment_in s.given.expiry;
+    letters = letters_in_of s.given.permission (letters_of s.given.permission) refl;
+  };
 }
 
 neither : (a b : Bool) → (a || b) ≡ false → (a ≡ false) × (b ≡ false)
@@ -246,3 +269,9 @@ read_again body ps h = elim (says_policies body ps h) [
   | inr (sent, is, good, same) ↦
       subst (λ qs. policies_reading (policies_text qs) ≡ Ok qs) (sym same) (any_read_again (map policy_of sent) (good_policies sent good) (policies_trimmed sent (body_trimmed body sent is)))
 ]
+
+-- what was written of policies of the code
+pub again_if_ok : {V E : Type 0} (items : V → List ℕ) (ps qs : List Policy) (r : Result V E) → qs ≡ ps → IsTrue (is_policies ps) → IfOk r (λ v. items v ≡ policies_text qs) → IfOk r (λ v. All IsPolicy qs)
+    → IfOk r (λ v. All Trimmed ps → policies_reading (items v) ≡ Ok ps)
+again_if_ok items ps qs (Ok v) same few written kept = λ trimmed. ap policies_reading (written ∙ ap policies_text same) ∙ any_read_again ps (few, subst (All IsPolicy) same kept) trimmed
+again_if_ok items ps qs (Err e) same few written kept = tt

@@ -20,7 +20,6 @@ use Rattle.body_forms.specs.Elements.{HasNoWhiteEnds}
 use Rattle.body_forms.specs.Escapes.{escaped}
 use Rattle.body_forms.specs.Policies.{ArePoliciesBody, policies_name, policy_name, id_name, access_name, field_name, Given, IsGiven, values, Access, access_of, IsAccess, Part, id, access, IsPart, ids, accesses, Sent, sent_of, IsSent, AreSent}
 use Rattle.body_forms.specs.PolicyValues.{is_good_id}
-use Rattle.body_forms.specs.KeptPolicies.{IsPolicy}
 use Rattle.body_forms.specs.WrittenLists.{opening_text, closing_text, prolog_text}
 use Rattle.body_forms.specs.WrittenPolicies.{moment_text, element_text, given_text, fields_text, access_text, identified_text, policy_text, policies_text}
 use Rattle.body_forms.proofs.Utf8Texts.{passes_text}
@@ -143,6 +142,10 @@ all_written (p ∷ ps) trimmed =
 
 -- ---- characters
 
+-- the id of the policy is good
+abbrev pub HasGoodId : Policy → Type 0
+HasGoodId p = is_good_id p.id ≡ true
+
 -- the text is UTF-8 and begins with a byte below 128, and its control characters are white space, whatever text of this kind follows
 record IsSound (s : List ℕ) : Type 0 where
   utf8 : IsUtf8 s
@@ -261,9 +264,9 @@ policy_sound : (p : Policy) → is_good_id p.id ≡ true → IsSound (policy_tex
 unfolding policy_text
 policy_sound p good = inner_sound policy_name (identified_text p) policy_shown (identified_sound p good)
 
-all_sound : (ps : List Policy) → All IsPolicy ps → IsSound (flat_map policy_text ps)
+all_sound : (ps : List Policy) → All HasGoodId ps → IsSound (flat_map policy_text ps)
 all_sound [] are = sound-nil
-all_sound (p ∷ ps) are = sound-append (policy_text p) (flat_map policy_text ps) (policy_sound p (All-head IsPolicy p ps are).id) (all_sound ps (All-tail IsPolicy p ps are))
+all_sound (p ∷ ps) are = sound-append (policy_text p) (flat_map policy_text ps) (policy_sound p (All-head HasGoodId p ps are)) (all_sound ps (All-tail HasGoodId p ps are))
 
 prolog_shown : list_all is_visible_byte prolog_text ≡ true
 unfolding prolog_text
@@ -293,7 +296,7 @@ policies_whole : (ps : List Policy) → policies_text ps ≡ prolog_text ++ root
 unfolding policies_text
 policies_whole ps = whole prolog_text (opening_text policies_name) (flat_map policy_text ps) (closing_text policies_name)
 
-body_sound : (ps : List Policy) → All IsPolicy ps → IsSound (policies_text ps)
+body_sound : (ps : List Policy) → All HasGoodId ps → IsSound (policies_text ps)
 body_sound ps are =
     subst IsSound (sym (policies_whole ps)) (sound-append prolog_text (root_text ps) prolog_sound (inner_sound policies_name (flat_map policy_text ps) policies_shown (all_sound ps are)))
 
@@ -302,7 +305,7 @@ unfolding prolog_text
 is_prolog = refl
 
 -- policies are written as a list of these policies, if no id has white space at its ends
-pub policies_written : (ps : List Policy) → All IsPolicy ps → All Trimmed ps → ArePoliciesBody (policies_text ps) (map sent_by ps)
+pub policies_written : (ps : List Policy) → All HasGoodId ps → All Trimmed ps → ArePoliciesBody (policies_text ps) (map sent_by ps)
 policies_written ps are trimmed =
     let sound = body_sound ps are in
     let root = element_written Sent policies_name IsSent (map sent_by ps) (flat_map policy_text ps) refl (all_written ps trimmed) in

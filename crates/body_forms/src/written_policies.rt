@@ -1,6 +1,10 @@
 //! Writing stored policies.
-ghost use Rattle.std.specs.Prelude.{◌≡◌, ◌++◌, IfOk, OnOk, codes, flat_map, option_map};
-ghost use Rattle.stamp_values.specs.Letters.{letters_text};
+ghost use Rattle.std.specs.Prelude.{◌≡◌, ◌++◌, All, IfOk, IfSome, IsOk, OnOk, Ok, codes, flat_map, option_map, true};
+ghost use Rattle.stamp_values.specs.Letters.{has_permission, letters_text};
+ghost use Rattle.stamp_values.specs.Texts.{is_utf8};
+ghost use Rattle.body_forms.specs.Elements.{HasNoWhiteEnds};
+ghost use Rattle.body_forms.specs.KeptPolicies.{IsMoment, HasKeptFields, IsPolicy};
+ghost use Rattle.body_forms.specs.PolicyValues.{policies_reading};
 ghost use Rattle.body_forms.specs.WrittenLists as lists;
 ghost use Rattle.body_forms.specs.WrittenPolicies as written;
 
@@ -50,11 +54,14 @@ fn append_moment(
     name: &str,
     moment: Option<Moment>,
 ) -> Result<(), AllocError>
-    ensures { OnOk result (out.new.items
+    ensures written { OnOk result (out.new.items
         ≡ out.old.items ++ written.given_text name.now (option_map written.moment_text moment)) }
+    ensures kept { IsOk result → IfSome moment IsMoment }
 {
     match moment {
         Some(moment) => {
+            // a moment is at most the last one of the year 9999
+            let _within = moment.ticks();
             let text = write_iso(alloc, moment)?;
             append_element(out, name, text.as_bytes())
         }
@@ -64,8 +71,9 @@ fn append_moment(
 
 // Nothing is written for permissions that are absent.
 fn append_letters(out: &mut Vec<u8>, letters: Option<Letters>) -> Result<(), AllocError>
-    ensures { OnOk result (out.new.items
+    ensures written { OnOk result (out.new.items
         ≡ out.old.items ++ written.given_text (codes "Permission") (option_map letters_text letters)) }
+    ensures kept { IsOk result → IfSome letters (λ l. has_permission l ≡ true) }
 {
     match letters {
         Some(letters) => append_element(out, "Permission", letters.as_str().as_bytes()),
@@ -73,9 +81,10 @@ fn append_letters(out: &mut Vec<u8>, letters: Option<Letters>) -> Result<(), All
     }
 }
 
-#[tactic(auto, unfolding(crate::specs::WrittenPolicies::fields_text))]
+#[tactic(auto, unfolding(crate::specs::WrittenPolicies::fields_text), using(crate::proofs::KeptLemmas::kept_fields))]
 fn append_fields(alloc: Global, out: &mut Vec<u8>, policy: &Policy) -> Result<(), AllocError>
-    ensures { OnOk result (out.new.items ≡ out.old.items ++ written.fields_text policy.now) }
+    ensures written { OnOk result (out.new.items ≡ out.old.items ++ written.fields_text policy.now) }
+    ensures kept { IsOk result → HasKeptFields policy.now }
 {
     append_moment(alloc, out, "Start", policy.start)?;
     append_moment(alloc, out, "Expiry", policy.expiry)?;
@@ -85,7 +94,8 @@ fn append_fields(alloc: Global, out: &mut Vec<u8>, policy: &Policy) -> Result<()
 
 #[tactic(auto, unfolding(crate::specs::WrittenPolicies::access_text))]
 fn append_access(alloc: Global, out: &mut Vec<u8>, policy: &Policy) -> Result<(), AllocError>
-    ensures { OnOk result (out.new.items ≡ out.old.items ++ written.access_text policy.now) }
+    ensures written { OnOk result (out.new.items ≡ out.old.items ++ written.access_text policy.now) }
+    ensures kept { IsOk result → HasKeptFields policy.now }
 {
     append_opening(out, "AccessPolicy")?;
     append_fields(alloc, out, policy)?;
@@ -94,15 +104,17 @@ fn append_access(alloc: Global, out: &mut Vec<u8>, policy: &Policy) -> Result<()
 }
 
 fn append_id(out: &mut Vec<u8>, id: &Text) -> Result<(), AllocError>
-    ensures { OnOk result (out.new.items
+    ensures written { OnOk result (out.new.items
         ≡ out.old.items ++ written.element_text (codes "Id") id.now) }
+    ensures kept { IsOk result → is_utf8 id.now ≡ true }
 {
     append_element(out, "Id", id.as_str().as_bytes())
 }
 
-#[tactic(auto, unfolding(crate::specs::WrittenPolicies::identified_text))]
+#[tactic(auto, unfolding(crate::specs::WrittenPolicies::identified_text), using(crate::proofs::KeptLemmas::kept_policy))]
 fn append_identified(alloc: Global, out: &mut Vec<u8>, policy: &Policy) -> Result<(), AllocError>
-    ensures { OnOk result (out.new.items ≡ out.old.items ++ written.identified_text policy.now) }
+    ensures written { OnOk result (out.new.items ≡ out.old.items ++ written.identified_text policy.now) }
+    ensures kept { IsOk result → IsPolicy policy.now }
 {
     append_id(out, &policy.id)?;
     append_access(alloc, out, policy)?;
@@ -111,7 +123,8 @@ fn append_identified(alloc: Global, out: &mut Vec<u8>, policy: &Policy) -> Resul
 
 #[tactic(auto, unfolding(crate::specs::WrittenPolicies::policy_text))]
 fn append_policy(alloc: Global, out: &mut Vec<u8>, policy: &Policy) -> Result<(), AllocError>
-    ensures { OnOk result (out.new.items ≡ out.old.items ++ written.policy_text policy.now) }
+    ensures written { OnOk result (out.new.items ≡ out.old.items ++ written.policy_text policy.now) }
+    ensures kept { IsOk result → IsPolicy policy.now }
 {
     append_opening(out, "SignedIdentifier")?;
     append_identified(alloc, out, policy)?;
@@ -120,8 +133,9 @@ fn append_policy(alloc: Global, out: &mut Vec<u8>, policy: &Policy) -> Result<()
 }
 
 fn append_policies(alloc: Global, out: &mut Vec<u8>, policies: &[Policy]) -> Result<(), AllocError>
-    ensures { OnOk result
+    ensures written { OnOk result
         (out.new.items ≡ out.old.items ++ flat_map written.policy_text policies.now) }
+    ensures kept { IsOk result → All IsPolicy policies.now }
 {
     for policy in policies {
         append_policy(alloc, out, policy)?;
@@ -136,20 +150,31 @@ fn append_prolog(out: &mut Vec<u8>) -> Result<(), AllocError>
     out.extend_from_slice(b"<?xml version=\"1.0\" encoding=\"utf-8\"?>")
 }
 
+// The body with these policies.
+#[tactic(auto, unfolding(crate::specs::WrittenPolicies::policies_text))]
+fn written_policies(alloc: Global, policies: &[Policy]) -> Result<Vec<u8>, AllocError>
+    ensures written { IfOk result (λ text. text.items ≡ written.policies_text policies.now) }
+    ensures kept { IfOk result (λ text. All IsPolicy policies.now) }
+{
+    let mut out = Vec::with_capacity(alloc, BODY_ROOM)?;
+    append_prolog(&mut out)?;
+    append_opening(&mut out, "SignedIdentifiers")?;
+    append_policies(alloc, &mut out, policies)?;
+    append_closing(&mut out, "SignedIdentifiers")?;
+    Ok(out)
+}
+
 /// Writes the body of a reply to Get Container ACL: the stored policies in their order. A field that a policy leaves out is left out,
 /// and the element `AccessPolicy` is always written. `&`, `<` and `>` of an id are written as references.
 ///
 /// `AllocError` if memory runs out.
 ///
 /// Blob service REST reference, 2012-02-12, Get Container ACL.
-#[tactic(auto, unfolding(crate::specs::WrittenPolicies::policies_text))]
 pub fn write_policies(alloc: Global, policies: &Policies) -> Result<Vec<u8>, AllocError>
-    ensures { IfOk result (λ text. text.items ≡ written.policies_text policies.now) }
+    ensures written { IfOk result (λ text. text.items ≡ written.policies_text policies.now) }
+    // A reader of the text reads the same policies.
+    ensures read_again { IfOk result (λ text. All (λ p. HasNoWhiteEnds p.id) policies.now
+        → policies_reading text.items ≡ Ok policies.now) }
 {
-    let mut out = Vec::with_capacity(alloc, BODY_ROOM)?;
-    append_prolog(&mut out)?;
-    append_opening(&mut out, "SignedIdentifiers")?;
-    append_policies(alloc, &mut out, policies.as_slice())?;
-    append_closing(&mut out, "SignedIdentifiers")?;
-    Ok(out)
+    written_policies(alloc, policies.as_slice())
 }
