@@ -1,13 +1,13 @@
 -- What a tree by keys does, said of the map by keys that it holds. In each lemma t is the tree before, m the map that it holds, and u
 -- the tree after.
-use Rattle.std.proofs.Common.{◌≡◌, List, map, Option, Some, None, BTreeMap, ◌∙◌, ap, sym}
+use Rattle.std.proofs.Common.{◌≡◌, ◌&&◌, true, filter, List, map, Option, Some, None, BTreeMap, ◌∙◌, ap, sym}
 use Rattle.std.specs.BTreeMap.{get_by, IsOrdered, IsUnchanged, Updates}
 use Rattle.std.specs.BTreeMap.Range.{entries_below, entries_from}
 use Rattle.std.specs.FinMap.{FinMap, from_entries, insert, remove, get, entries, retain_keys}
 use Rattle.stamp_values.specs.Order.{key_cmp, keys_total, keys_exact}
 use Rattle.stamp_values.specs.Trees.{entry_key, is_below, is_from, keyed_map, own_key}
 use Rattle.stamp_values.specs.declared.key.Key.{Key}
-use Rattle.stamp_values.proofs.TreeMaps.{get-held, tree_map-insert, tree_map-remove, tree_map-where, entries-tree_map}
+use Rattle.stamp_values.proofs.TreeMaps.{get-held, tree_map-insert, tree_map-remove, tree_map-where, entries-from, entries-tree_map}
 
 module _ {X : Type 0} (m : FinMap key_cmp X) (t : BTreeMap Key X) where
   -- a look-up by a key
@@ -29,6 +29,11 @@ module _ {X : Type 0} (m : FinMap key_cmp X) (t : BTreeMap Key X) where
   -- the entries in their order
   pub listed_keyed : (es : List (Key × X)) → keyed_map t ≡ m → IsOrdered key_cmp t → es ≡ t.entries → map (entry_key own_key) es ≡ entries m
   listed_keyed es holds up is = ap (λ es. map (entry_key own_key) es) is ∙ entries-tree_map keys_total own_key keys_exact m t holds up
+
+  -- the entries from a bound on
+  pub keyed_from : (es : List (Key × X)) (bound : Key) → keyed_map t ≡ m → IsOrdered key_cmp t
+      → es ≡ filter (λ e. is_from bound e.0 && true) t.entries → map (entry_key own_key) es ≡ filter (λ e. is_from bound e.0) (entries m)
+  keyed_from es bound = entries-from keys_total own_key keys_exact m t es (is_from bound)
 
   -- the entries whose keys come before a key
   pub kept_below : (u : BTreeMap Key X) (key : Key) → keyed_map t ≡ m → u.entries ≡ entries_below (key_cmp key) t.entries → keyed_map u ≡ retain_keys m (is_below key)

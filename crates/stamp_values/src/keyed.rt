@@ -1,5 +1,6 @@
 //! Values by key.
 ghost use Rattle.std.specs.Prelude.{◌≡◌, IfOk, OnOk, OnErr, None, map};
+ghost use Rattle.std.specs.List.{filter};
 ghost use Rattle.std.specs.Option.{option_copied, option_copied_mut};
 ghost use Rattle.std.specs.Borrow.{sem};
 ghost use Rattle.std.specs.FinMap as finite;
@@ -9,7 +10,7 @@ ghost use Rattle.stamp_values.specs.Trees.{entry_key, is_below, is_from, own_key
 use crate::key::Key;
 use std::alloc::{AllocError, Global};
 use std::collections::BTreeMap;
-use std::collections::btree_map::Iter;
+use std::collections::btree_map::{Iter, Range};
 use std::marker::Model;
 
 /// Values by key in a tree, seen as the map from the keys to the values. A call takes time with the
@@ -63,6 +64,15 @@ impl<V> Keyed<V> {
         ensures { map (entry_key own_key) result ≡ finite.entries self.now }
     {
         self.tree.iter()
+    }
+
+    /// The keys from a bound on with their values, in the order of the keys. The bound need not be a
+    /// key that has a value. What is given outlives the bound.
+    pub fn range_from<'a>(&'a self, bound: &Key) -> Range<'a, Key, V>
+        ensures { map (entry_key own_key) result
+            ≡ filter (λ e. is_from bound.now e.0) (finite.entries self.now) }
+    {
+        self.tree.range(bound..)
     }
 
     /// Takes the values of `middle` and of each key after it out of the map, and gives them. The
