@@ -45,7 +45,7 @@ module _ {C D : Type 0} (f : C → D) where
   is_sorted-read (e ∷ es) = λ i. below_all-read e.0 es i && is_sorted-read es i
 
   -- the entries are those of the map, each with its value read
-  entries-map_values : (m : FinMap name_cmp C) → entries (map_values f m) ≡ map (entry_value f) (entries m)
+  pub entries-map_values : (m : FinMap name_cmp C) → entries (map_values f m) ≡ map (entry_value f) (entries m)
   entries-map_values m =
       let es = map (entry_value f) (entries m) in
       let rise : T (is_sorted name_cmp es) = subst T (sym (is_sorted-read (entries m))) (entries_sorted m) in

@@ -1,5 +1,5 @@
 -- A blob of a name that was never used.
-use Rattle.std.proofs.Common.{◌≡◌, ℕ, false, ◌&&◌, List, length, nat_lt, Option, Some, None, ap}
+use Rattle.std.proofs.Common.{◌≡◌, ℕ, false, ◌&&◌, List, length, nat_lt, Some, None, ap}
 use Rattle.std.specs.Prelude.{is_none, nat_le, not, if◌then◌else◌, ◌==◌}
 use Rattle.std.specs.List.{list_any}
 use Rattle.std.specs.FinMap.{get-empty}

@@ -4,3 +4,4 @@ pub mod Fits
 pub mod FoundParts
 pub mod ListedBlocks
 pub mod RowRecords
+pub mod Walks

@@ -10,8 +10,10 @@ mod found;
 mod found_blob;
 mod row;
 mod rows;
+mod walks;
 
 pub use checkpoint_laws::a_checkpoint_makes_its_container_again;
 pub use found::Found;
 pub use found_blob::FoundBlob;
 pub use rows::Rows;
+pub use walks::{BlobWalk, ContainerWalk};

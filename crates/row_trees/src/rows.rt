@@ -15,7 +15,7 @@ use std::marker::Model;
 /// Content is shared with the requests that brought it, and never copied.
 #[derive(Drop)]
 pub struct Rows {
-    containers: Keyed<Container>,
+    pub(crate) containers: Keyed<Container>,
 }
 
 impl Model for Rows {
