@@ -1,0 +1,16 @@
+pub mod Bounds
+pub mod Cuts
+pub mod Depends
+pub mod Ends
+pub mod Followed
+pub mod Following
+pub mod Groups
+pub mod Keys
+pub mod Lists
+pub mod Orders
+pub mod Over
+pub mod Rising
+pub mod Shown
+pub mod Steps
+pub mod Under
+pub mod Walk

@@ -1,0 +1,9 @@
+pub mod Containers
+pub mod Laws
+pub mod Lists
+pub mod Names
+pub mod Pages
+pub mod Ranges
+pub mod Rising
+pub mod Seeks
+pub mod WorkedPages

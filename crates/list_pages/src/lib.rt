@@ -1,0 +1,13 @@
+//! Pages of the lists of blobs and of containers.
+#![tactic(auto)]
+
+mod laws;
+mod names;
+mod worked_pages;
+
+pub use laws::{
+    a_page_is_in_order_and_in_bounds, a_page_of_containers_depends_on_its_range,
+    each_blob_is_under_one_entry, following_the_markers_gives_each_entry_once,
+    lists_of_ranges_are_one, uncommitted_blocks_change_no_page,
+};
+pub use worked_pages::worked_pages_are_as_written;
