@@ -69,9 +69,9 @@ module _ {X Y : Type 0} (has : X → Option Y) (account prefix marker : List ℕ
       let same : e.0.account ≡ account = (bytes_decides e.0.account account).0 is in
       if_seen has prefix [] marker (λ (o : Option (Entry Y)). o ≡ None) (e.0.container, e.1) refl
       (λ item is_seen.
-        let name_from : is_name_from marker e.0.container ≡ true = from_from marker item.0 e.0.container is_seen.at is_seen.under in
-        let key_from : is_from (key_of account marker) e.0 ≡ true = ap is_le (same_account (key_of account marker) e.0 (sym same)) ∙ name_from in
-        not_both (both_true (is_from (key_of account marker) e.0) (is_before bound e.0) key_from (is_before_bound account marker bound e.0 past same at)) out)
+      let name_from : is_name_from marker e.0.container ≡ true = from_from marker item.0 e.0.container is_seen.at is_seen.under in
+      let key_from : is_from (key_of account marker) e.0 ≡ true = ap is_le (same_account (key_of account marker) e.0 (sym same)) ∙ name_from in
+      not_both (both_true (is_from (key_of account marker) e.0) (is_before bound e.0) key_from (is_before_bound account marker bound e.0 past same at)) out)
 
   row_out : (e : Key × X) → in_range e.0 ≡ false → listed_row e ≡ None
   row_out e out = row_by e (pointwise nat_eq e.0.account account) (is_ended (end_of account bound) e.0.container) refl refl out
@@ -102,11 +102,11 @@ module _ {C : Type 0} (start : Key) (bound : Option Key) (w v : World C) (same :
       same_entries key_cmp keys_total keys_exact (filter (λ e. within e.0) (entries w)) (filter (λ e. within e.0) (entries v))
       (is_sorted-where_key key_cmp within (entries w) (entries_sorted w)) (is_sorted-where_key key_cmp within (entries v) (entries_sorted v))
       (λ key.
-        find-where_key key_cmp within key (λ other e. ap within (sym (keys_exact key other e))) (entries w)
-        ∙ ap (λ o. cond (within key) o None) (sym (get-entries w key))
-        ∙ get_by key (within key) refl
-        ∙ ap (λ o. cond (within key) o None) (get-entries v key)
-        ∙ sym (find-where_key key_cmp within key (λ other e. ap within (sym (keys_exact key other e))) (entries v)))
+      find-where_key key_cmp within key (λ other e. ap within (sym (keys_exact key other e))) (entries w)
+      ∙ ap (λ o. cond (within key) o None) (sym (get-entries w key))
+      ∙ get_by key (within key) refl
+      ∙ ap (λ o. cond (within key) o None) (get-entries v key)
+      ∙ sym (find-where_key key_cmp within key (λ other e. ap within (sym (keys_exact key other e))) (entries v)))
 
 pub page_of_range : {C : Type 0} (account : List ℕ) (q : Page) (bound : Option Key) (w v : World C) → IfSome bound (λ end. key_cmp (key_of account (given q.marker)) end ≡ Less)
     → AreSameInRange (key_of account (given q.marker)) bound w v → page_of_containers account q bound w ≡ page_of_containers account q bound v
