@@ -1,5 +1,5 @@
 -- A page is in order and within its bounds.
-use Rattle.std.proofs.Common.{◌≡◌, ℕ, zero, suc, ◌≤◌, Bool, true, false, cond, not, List, [], ◌∷◌, ◌++◌, drop, length, take, IsTrue, Option, Some, None, refl, sym, ap, ◌∙◌, subst, arith}
+use Rattle.std.proofs.Common.{◌≡◌, ℕ, zero, suc, Bool, true, false, cond, not, List, [], ◌∷◌, ◌++◌, drop, length, take, IsTrue, Option, Some, None, refl, sym, ap, ◌∙◌, subst, arith}
 use Rattle.std.proofs.lemmas.List.{length-take}
 use Rattle.std.specs.Prelude.{IfSome}
 use Rattle.std.specs.FinMap.{entries}
@@ -15,7 +15,7 @@ use Rattle.list_pages.specs.Containers.{before_end, end_of, of_account, or_else}
 use Rattle.list_pages.specs.Laws.{IsInBounds}
 use Rattle.list_pages.specs.Lists.{ShownContainer, blob_list, container_list, given, page_of_blobs, page_of_containers, shown_blob, shown_container}
 use Rattle.list_pages.specs.Names.{begins_with, cut_after, group_of}
-use Rattle.list_pages.specs.Pages.{Entry, PageOf, each_once, entry_by, entry_of, from_marker, is_other, listed, page, with_value}
+use Rattle.list_pages.specs.Pages.{Entry, each_once, entry_by, entry_of, from_marker, is_other, listed, page, with_value}
 use Rattle.list_pages.specs.Rising.{IsBeforeAll, Rises}
 use Rattle.list_pages.proofs.Following.{above_at, cut_at, none_at}
 use Rattle.list_pages.proofs.Groups.{no_some, same_some}

@@ -1,15 +1,14 @@
 -- How long what is cut is, and the raised group.
-use Rattle.std.proofs.Common.{◌≡◌, ◌≢◌, ℕ, ◌+◌, ◌<◌, ◌≤◌, Bool, true, false, cond, ◌&&◌, not, IsTrue, List, [], ◌∷◌, ◌++◌, length, take, drop, Option, Some, None, refl, sym, ap, ◌∙◌, subst, arith, nat_eq, nat_lt, length-append, length-drop, ◌-◌, suc, slice_index_or, get_or}
+use Rattle.std.proofs.Common.{◌≡◌, ◌≢◌, ℕ, ◌+◌, ◌<◌, ◌≤◌, Bool, true, false, cond, IsTrue, List, [], ◌∷◌, ◌++◌, length, take, drop, Option, Some, None, refl, sym, ap, ◌∙◌, arith, length-append, length-drop, ◌-◌, suc, slice_index_or, get_or}
 use Rattle.std.specs.Option.{option_map}
-use Rattle.std.specs.Cmp.Lexicographic.{pointwise, bytes_decides}
+use Rattle.std.specs.Cmp.Lexicographic.{bytes_decides}
 use Rattle.std.proofs.lemmas.List.{drop_more, take_all}
-use mathlib.Core.Bool.{true≢false}
 use borrow.Author.Tests.{ltb-true}
 use Rattle.std.proofs.Math.Seq.{take-add}
 use Rattle.list_pages.specs.Names.{begins_with, cut_after, group_of}
 use Rattle.list_pages.specs.Seeks.{cut_from, raised, can_be_raised}
 use Rattle.list_pages.proofs.Orders.{begins_split}
-use Rattle.list_pages.proofs.Groups.{IsCut, cut_is, no_some, same_some}
+use Rattle.list_pages.proofs.Groups.{cut_is, no_some, same_some}
 
 -- what begins with a text is as long as it
 pub begins_long : (d left : List ℕ) → begins_with left d ≡ true → length d ≤ length left

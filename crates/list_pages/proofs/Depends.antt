@@ -1,11 +1,11 @@
 -- A page of containers depends on the containers of its range alone.
-use Rattle.std.proofs.Common.{◌≡◌, ◌≢◌, ℕ, Bool, true, false, cond, ◌&&◌, not, T, List, [], ◌∷◌, Option, Some, None, refl, sym, ap, ◌∙◌, subst, nat_eq}
+use Rattle.std.proofs.Common.{◌≡◌, ◌≢◌, ℕ, Bool, true, false, cond, ◌&&◌, List, [], Option, Some, None, refl, sym, ap, ◌∙◌, nat_eq}
 use Rattle.std.specs.Prelude.{IfSome}
 use Rattle.std.specs.Cmp.Lexicographic.{pointwise, bytes_decides}
-use Rattle.std.specs.FinMap.{FinMap, entries, entries_sorted, get, get-entries}
+use Rattle.std.specs.FinMap.{entries, entries_sorted, get, get-entries}
 use Rattle.std.specs.FinMap.Entries.{find-where_key, is_sorted-where_key, same_entries}
 use Rattle.std.specs.List.{filter, filter_map}
-use Rattle.std.specs.Option.{option_and_then, option_map}
+use Rattle.std.specs.Option.{option_and_then}
 use Rattle.std.specs.Ordering.{is_le, is_lt, ordering_then}
 use Rattle.std.specs.declared.cmp.Ordering.{Ordering}
 use Rattle.std.specs.declared.cmp.Ordering.TheVariants.{Less, Equal, Greater}
@@ -16,14 +16,13 @@ use Rattle.stamp_types.specs.declared.args.Page.{Page}
 use Rattle.stamp_types.specs.World.{World}
 use Rattle.list_pages.specs.Containers.{before_end, end_of, is_ended, of_account, or_else}
 use Rattle.list_pages.specs.Lists.{given, page_of_containers, shown_container}
-use Rattle.list_pages.specs.Pages.{Entry, PageOf, each_once, from_marker, listed, page, with_value}
+use Rattle.list_pages.specs.Pages.{Entry, each_once, from_marker, listed, page, with_value}
 use Rattle.list_pages.specs.Ranges.{AreSameInRange, key_of}
 use Rattle.list_pages.proofs.Keys.{same_account, shown, shown_by, shown_is}
 use Rattle.list_pages.proofs.Lists.{filter_map-filter_map, only_kept}
 use Rattle.list_pages.proofs.Orders.{before, both_true, first_true, from_from, not_both, second_true}
 use Rattle.list_pages.proofs.Over.{is_less}
-use Rattle.list_pages.proofs.Walk.{IsSeen, if_seen, seen, walked_is}
-use mathlib.Core.Bool.{true≢false}
+use Rattle.list_pages.proofs.Walk.{if_seen, seen, walked_is}
 
 -- the key is before the bound, if there is a bound
 abbrev is_before : Option Key → Key → Bool

@@ -1,12 +1,11 @@
 -- The last byte of a text in UTF-8 can be raised.
-use Rattle.std.proofs.Common.{◌≡◌, ℕ, ◌+◌, ◌<◌, ◌≤◌, ◌/◌, ◌%◌, Bool, true, false, cond, List, [], ◌∷◌, ◌++◌, length, IsTrue, IsUtf8, nat_lt, refl, sym, ap, ◌∙◌, subst, arith}
+use Rattle.std.proofs.Common.{◌≡◌, ℕ, ◌+◌, ◌<◌, ◌/◌, Bool, true, false, cond, List, [], ◌∷◌, ◌++◌, length, IsTrue, IsUtf8, refl, sym, ap, ◌∙◌, arith}
 use lib.Utf8.{encode, encodes, next}
 use lib.Dec.{ltb}
 use Rattle.std.proofs.lemmas.List.{append-nil}
 use borrow.Author.Tests.{lt-ltb, ltb-true}
 use Rattle.list_pages.specs.Seeks.{can_be_raised}
 use Rattle.list_pages.proofs.Cuts.{can_append}
-use Rattle.list_pages.proofs.Orders.{first_true, second_true}
 
 one : (b : ℕ) → b < 255 → can_be_raised (b ∷ []) ≡ true
 one b small = lt-ltb b 255 small

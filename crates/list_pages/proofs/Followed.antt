@@ -1,9 +1,9 @@
 -- Following the markers over the blobs of a container.
-use Rattle.std.proofs.Common.{◌≡◌, ℕ, ◌<◌, List, [], length, Option, Some, None, refl, ◌∙◌}
+use Rattle.std.proofs.Common.{ℕ, [], length, None, refl, ◌∙◌}
 use Rattle.stamp_types.specs.declared.args.Page.{Page}
 use Rattle.stamp_types.specs.World.{Part}
 use Rattle.list_pages.specs.Laws.{FollowingGivesAll}
-use Rattle.list_pages.specs.Lists.{ShownBlob, blob_list, given, page_of_blobs, shown_blob}
+use Rattle.list_pages.specs.Lists.{blob_list, given, page_of_blobs, shown_blob}
 use Rattle.list_pages.proofs.Following.{follow, followed_alike}
 use Rattle.list_pages.proofs.Rising.{all_at, list_rises}
 

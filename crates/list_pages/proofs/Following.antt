@@ -1,19 +1,16 @@
 -- Following the markers.
-use Rattle.std.proofs.Common.{◌≡◌, ◌≢◌, ℕ, zero, suc, ◌+◌, ◌<◌, ◌≤◌, Bool, true, false, cond, List, [], ◌∷◌, ◌++◌, length, take, Option, Some, None, refl, sym, ap, ◌∙◌, subst, arith, append_assoc}
-use Rattle.std.specs.List.{filter, slice_get}
+use Rattle.std.proofs.Common.{◌≡◌, ℕ, zero, suc, ◌+◌, ◌<◌, ◌≤◌, cond, List, [], ◌∷◌, ◌++◌, length, take, Option, Some, None, refl, sym, ap, ◌∙◌, subst, arith, append_assoc}
+use Rattle.std.specs.List.{slice_get}
 use Rattle.std.specs.Option.{option_map}
-use Rattle.std.specs.FinMap.{FinMap, entries}
 use Rattle.stamp_values.specs.Order.{name_cmp}
-use Rattle.stamp_values.specs.Trees.{is_name_from}
-use Rattle.list_pages.specs.Pages.{Entry, PageOf, listed, from_marker, page, with_value, page_of_names}
+use Rattle.list_pages.specs.Pages.{Entry, PageOf, from_marker, page}
 use Rattle.std.specs.declared.cmp.Ordering.TheVariants.{Less}
-use Rattle.std.proofs.lemmas.List.{take_all, length-take}
+use Rattle.std.proofs.lemmas.List.{take_all}
 use Rattle.list_pages.proofs.Orders.{not_from, past_from, from_itself}
 use Rattle.list_pages.specs.Rising.{IsBeforeAll, Rises}
 use Rattle.stamp_types.specs.declared.args.Page.{Page}
 use Rattle.list_pages.specs.Laws.{AreSome, asked, followed, joined}
 use Rattle.list_pages.specs.Lists.{given}
-use Rattle.list_pages.proofs.Rising.{list_rises, all_at}
 
 -- the pages of a list from a marker on, joined: each is asked with the NextMarker of the page before it and with the next largest number
 abbrev pub followed_list : {X : Type 0} → List ℕ → List ℕ → List (Entry X) → Option (List (Entry X))

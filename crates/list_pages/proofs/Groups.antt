@@ -1,9 +1,8 @@
 -- The group of a name.
-use Rattle.std.proofs.Common.{◌≡◌, ◌≢◌, ℕ, ◌+◌, ◌<◌, ◌≤◌, Bool, true, false, cond, ◌&&◌, not, List, [], ◌∷◌, ◌++◌, length, take, drop, Option, Some, None, refl, sym, ap, ◌∙◌, subst, arith, nat_eq, append_assoc, length-append}
+use Rattle.std.proofs.Common.{◌≡◌, ℕ, ◌<◌, ◌≤◌, Bool, true, false, cond, List, [], ◌∷◌, ◌++◌, length, drop, Option, Some, None, refl, sym, ap, ◌∙◌, subst, arith, nat_eq, append_assoc, length-append}
 use Rattle.std.specs.Option.{option_map, unwrap_or}
 use Rattle.std.specs.Prelude.{is_some}
-use Rattle.std.specs.Cmp.Lexicographic.{pointwise, bytes_decides}
-use Rattle.std.proofs.lemmas.List.{drop-append-le}
+use Rattle.std.specs.Cmp.Lexicographic.{bytes_decides}
 use mathlib.Core.Bool.{true≢false}
 use borrow.Author.Tests.{eqb-true}
 use Rattle.list_pages.specs.Names.{begins_with, cut_after, group_of}

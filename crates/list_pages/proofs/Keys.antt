@@ -1,8 +1,7 @@
 -- The walk over the containers of an account.
-use Rattle.std.proofs.Common.{◌≡◌, ◌≢◌, ℕ, Bool, true, false, cond, ◌&&◌, not, T, List, [], ◌∷◌, ◌++◌, length, Option, Some, None, refl, sym, ap, ◌∙◌, subst, nat_eq}
+use Rattle.std.proofs.Common.{◌≡◌, ℕ, Bool, true, false, cond, ◌&&◌, not, T, List, [], ◌∷◌, Option, Some, None, refl, sym, ap, ◌∙◌, subst, nat_eq}
 use Rattle.std.specs.List.{filter, filter_map, cons_option}
-use Rattle.std.specs.Option.{option_map}
-use Rattle.std.specs.Ordering.{is_le, is_lt, is_eq, is_gt, ordering_then, ordering_reverse}
+use Rattle.std.specs.Ordering.{is_le, is_lt, ordering_then}
 use Rattle.std.specs.declared.cmp.Ordering.{Ordering}
 use Rattle.std.specs.declared.cmp.Ordering.TheVariants.{Less, Equal, Greater}
 use Rattle.std.specs.FinMap.{FinMap, entries, is_sorted, entries_sorted}
@@ -14,10 +13,10 @@ use mathlib.Core.Bool.{true≢false}
 use Rattle.stamp_values.specs.Order.{key_cmp, name_cmp}
 use Rattle.stamp_values.specs.Trees.{is_name_from}
 use Rattle.stamp_values.specs.declared.key.Key.{Key}
-use Rattle.list_pages.specs.Containers.{of_account, before_end, is_ended, is_out, end_of, or_else, page_of_rows}
+use Rattle.list_pages.specs.Containers.{of_account, before_end, is_ended, is_out, or_else, page_of_account}
 use Rattle.list_pages.specs.Ranges.{key_of}
-use Rattle.list_pages.specs.Pages.{Entry, PageOf, page_of_names}
-use Rattle.list_pages.proofs.Orders.{not_both, from_from, first_true, second_true}
+use Rattle.list_pages.specs.Pages.{PageOf, page_of_names}
+use Rattle.list_pages.proofs.Orders.{not_both, from_from}
 use Rattle.list_pages.specs.Rising.{IsBeforeAll, Rises}
 use Rattle.list_pages.proofs.Lists.{kept_if, filter-filter_map, less, T_first, T_second}
 
@@ -244,12 +243,11 @@ module _ {X Y : Type 0} (has : X → Option Y) (account : List ℕ) (end : Optio
   start_order start raw is = subst InKeyOrder (sym is) (kept_in (λ e. is_le (key_cmp start e.0)) (entries rows) (in_key_order (entries rows) (entries_sorted rows)))
 
   -- a page of the list, with the end
-  pub to_page : (r q : PageOf Y) (max : ℕ) (bound : Option Key) → end ≡ end_of account bound → q ≡ page_of_names has p [] m max listed_rows → r.entries ≡ q.entries → r.next ≡ or_else q.next end
-      → r ≡ page_of_rows has account p m max bound (entries rows)
-  to_page r q max bound ends is shown_entries shown_next =
-      let whole : q ≡ page_of_names has p [] m max (before_end (end_of account bound) (of_account account (entries rows))) =
-      is ∙ ap (λ es. page_of_names has p [] m max es) (sym (shown_is account end (entries rows)) ∙ ap (λ end. before_end end (of_account account (entries rows))) ends) in
+  pub to_page : (r q : PageOf Y) (max : ℕ) → q ≡ page_of_names has p [] m max listed_rows → r.entries ≡ q.entries → r.next ≡ or_else q.next end → r ≡ page_of_account has account p m max end (entries rows)
+  to_page r q max is shown_entries shown_next =
+      let whole : q ≡ page_of_names has p [] m max (before_end end (of_account account (entries rows))) =
+      is ∙ ap (λ es. page_of_names has p [] m max es) (sym (shown_is account end (entries rows))) in
       λ i. record {
         entries = (shown_entries ∙ ap (λ (q : PageOf Y). q.entries) whole) i;
-        next = (shown_next ∙ (λ j. or_else (whole j).next (ends j))) i;
+        next = (shown_next ∙ ap (λ (q : PageOf Y). or_else q.next end) whole) i;
       }

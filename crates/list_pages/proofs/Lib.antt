@@ -11,6 +11,7 @@ pub mod Orders
 pub mod Over
 pub mod Rising
 pub mod Shown
+pub mod Sizes
 pub mod Steps
 pub mod Under
 pub mod Walk

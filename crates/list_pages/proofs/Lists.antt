@@ -1,7 +1,7 @@
 -- Lists that are filtered, and lists of each text once.
-use Rattle.std.proofs.Common.{◌≡◌, ◌≢◌, ℕ, Bool, true, false, cond, ◌&&◌, not, T, List, [], ◌∷◌, ◌++◌, Option, Some, None, refl, sym, ap, ◌∙◌, subst, nat_eq, length, ◌≤◌, ◌+◌, suc, arith}
+use Rattle.std.proofs.Common.{◌≡◌, ℕ, Bool, true, false, cond, ◌&&◌, not, T, List, [], ◌∷◌, ◌++◌, Option, Some, None, refl, sym, ap, ◌∙◌, nat_eq, length, ◌≤◌, suc, arith}
 use Rattle.std.specs.List.{filter, filter_map, cons_option}
-use Rattle.std.specs.Option.{option_map, option_and_then}
+use Rattle.std.specs.Option.{option_and_then}
 use Rattle.std.specs.Ordering.{is_lt}
 use Rattle.std.specs.declared.cmp.Ordering.{Ordering}
 use Rattle.std.specs.declared.cmp.Ordering.TheVariants.{Less, Equal, Greater}
@@ -13,7 +13,7 @@ use Rattle.stamp_values.specs.Order.{name_cmp}
 use Rattle.stamp_values.specs.Trees.{is_name_from}
 use Rattle.list_pages.specs.Rising.{IsBeforeAll, Rises}
 use Rattle.list_pages.specs.Pages.{Entry, is_other, each_once}
-use Rattle.list_pages.proofs.Orders.{not_both, first_true, second_true, before, not_from, chain_less, past_from, from_less}
+use Rattle.list_pages.proofs.Orders.{not_both, before, not_from, chain_less, past_from, from_less}
 
 -- ---- filter
 

@@ -1,10 +1,9 @@
 -- The order of names, and what begins with a text.
-use Rattle.std.proofs.Common.{◌≡◌, ◌≢◌, ℕ, ◌+◌, ◌<◌, ◌≤◌, Bool, true, false, cond, ◌&&◌, not, List, [], ◌∷◌, ◌++◌, length, take, drop, refl, sym, ap, ◌∙◌, subst, arith, nat_eq}
-use Rattle.std.specs.Ordering.{nat_cmp, is_le, is_lt, is_gt, is_eq, ordering_then, ordering_reverse, eq_by_cmp, MatchOrdering}
+use Rattle.std.proofs.Common.{◌≡◌, ◌≢◌, ℕ, ◌+◌, ◌<◌, ◌≤◌, Bool, true, false, ◌&&◌, not, List, [], ◌∷◌, ◌++◌, length, take, drop, refl, sym, ap, ◌∙◌, arith, nat_eq}
+use Rattle.std.specs.Ordering.{nat_cmp, is_le, is_lt, is_eq, ordering_then, ordering_reverse, MatchOrdering}
 use Rattle.std.specs.declared.cmp.Ordering.{Ordering}
 use Rattle.std.specs.declared.cmp.Ordering.TheVariants.{Less, Equal, Greater}
-use Rattle.std.specs.Cmp.{IsTotalOrder}
-use Rattle.std.specs.Cmp.Lexicographic.{slice_cmp, pointwise, nat_list_cmp_total, texts_ties, bytes_decides}
+use Rattle.std.specs.Cmp.Lexicographic.{pointwise, nat_list_cmp_total, bytes_decides}
 use Rattle.std.proofs.lemmas.Cmp.{ranked, alike_right, tied_itself}
 use Rattle.std.proofs.lemmas.List.{take-append-le, take-append-drop, take_all}
 use borrow.Author.Tests.{eqb-true}

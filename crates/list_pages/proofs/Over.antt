@@ -1,5 +1,5 @@
 -- Following the markers over several ranges.
-use Rattle.std.proofs.Common.{◌≡◌, ◌≢◌, ℕ, zero, suc, ◌+◌, ◌<◌, ◌≤◌, Bool, true, false, not, cond, List, [], ◌∷◌, ◌++◌, length, take, nat_eq, Option, Some, None, refl, sym, ap, ◌∙◌, subst, arith, append_assoc, length-append}
+use Rattle.std.proofs.Common.{◌≡◌, ℕ, suc, ◌+◌, ◌<◌, ◌≤◌, Bool, true, false, not, cond, List, [], ◌∷◌, ◌++◌, length, take, nat_eq, Option, Some, None, refl, sym, ap, ◌∙◌, subst, arith, append_assoc, length-append}
 use Rattle.std.specs.List.{filter, filter_map, slice_get, cons_option}
 use Rattle.std.specs.Option.{option_map}
 use Rattle.std.specs.Ordering.{is_le, is_lt}
@@ -20,15 +20,15 @@ use Rattle.list_pages.specs.Names.{begins_with}
 use Rattle.list_pages.specs.Pages.{Entry, PageOf, listed, entry_of, each_once, from_marker, page, with_value}
 use Rattle.list_pages.specs.Containers.{before_end, end_of, of_account, or_else}
 use Rattle.list_pages.specs.Lists.{ShownContainer, container_list, given, page_of_containers, shown_container}
-use Rattle.list_pages.proofs.Orders.{not_both, not_from, past_from, from_from, chain_less, less_from, from_less, not_itself}
+use Rattle.list_pages.proofs.Orders.{not_both, past_from, from_from, from_less}
 use Rattle.list_pages.specs.Rising.{IsBeforeAll, Rises}
-use Rattle.list_pages.proofs.Lists.{filter-each_once, filter-filter_map, filter-swap, filter-absorb, length_filter, kept_if, less}
+use Rattle.list_pages.proofs.Lists.{filter-each_once, filter-filter_map, filter-swap, filter-absorb, length_filter, kept_if}
 use Rattle.list_pages.specs.Laws.{AreSome, FollowingGivesAll, followed, joined}
 use Rattle.list_pages.specs.Ranges.{bound_of, key_of}
 use Rattle.list_pages.proofs.Rising.{all_at, names_rise}
 use Rattle.list_pages.proofs.Groups.{no_some, same_some}
 use Rattle.list_pages.proofs.Keys.{rises_shown, same_account, shown_is}
-use Rattle.list_pages.proofs.Following.{cut_at, none_at, from_place, all_past}
+use Rattle.list_pages.proofs.Following.{cut_at, none_at, from_place}
 
 -- ---- a test of the names is a test of the entries, without a delimiter
 

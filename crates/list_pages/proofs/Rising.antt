@@ -1,5 +1,5 @@
 -- The list of a container rises.
-use Rattle.std.proofs.Common.{◌≡◌, ◌≢◌, ℕ, Bool, true, false, cond, ◌&&◌, not, List, [], ◌∷◌, Option, Some, None, refl, sym, ap, ◌∙◌, subst, ◌⊎◌, inl, inr, nat_eq}
+use Rattle.std.proofs.Common.{◌≡◌, ℕ, Bool, true, false, cond, not, List, [], ◌∷◌, Option, Some, None, refl, sym, ap, ◌∙◌, subst, ◌⊎◌, inl, inr, nat_eq}
 use Rattle.std.specs.List.{filter, filter_map, cons_option}
 use Rattle.std.specs.FinMap.{FinMap, entries, entries_sorted}
 use Rattle.std.specs.Cmp.Lexicographic.{pointwise, bytes_decides}
@@ -10,11 +10,11 @@ use Rattle.stamp_values.specs.Order.{name_cmp}
 use Rattle.stamp_values.specs.Trees.{is_name_from}
 use Rattle.list_pages.specs.Names.{begins_with, group_of}
 use Rattle.list_pages.specs.Pages.{Entry, is_other, each_once, listed, from_marker, with_value}
-use Rattle.list_pages.proofs.Orders.{not_both, before, past_from, from_less, from_from, begins_between, is_le_by, from_itself}
+use Rattle.list_pages.proofs.Orders.{not_both, before, past_from, from_less, begins_between, is_le_by, from_itself}
 use Rattle.list_pages.proofs.Groups.{group_is, no_some, same_some}
 use Rattle.list_pages.specs.Rising.{IsBeforeAll, Rises}
 use Rattle.list_pages.proofs.Lists.{rises}
-use Rattle.list_pages.proofs.Walk.{IsSeen, seen, walked, walked_is, if_seen}
+use Rattle.list_pages.proofs.Walk.{IsSeen, seen, walked_is, if_seen}
 
 less_by : (a b : List ℕ) (r : Ordering) → name_cmp a b ≡ r → is_name_from a b ≡ true → (a ≡ b → ⊥) → name_cmp a b ≡ Less
 less_by a b Less is from apart = is

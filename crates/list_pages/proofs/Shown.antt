@@ -1,25 +1,23 @@
 -- Lists depend on what is shown of names alone.
-use Rattle.std.proofs.Common.{◌≡◌, ℕ, Bool, true, false, cond, ◌&&◌, T, List, [], ◌∷◌, Option, Some, None, refl, sym, ap, ◌∙◌, subst, nat_eq, unwrap_or}
-use Rattle.std.specs.Cmp.{IsTotalOrder, Equal-is}
+use Rattle.std.proofs.Common.{◌≡◌, ℕ, Bool, true, false, cond, ◌&&◌, T, List, [], ◌∷◌, Option, Some, None, refl, sym, ap, ◌∙◌, nat_eq, unwrap_or}
+use Rattle.std.specs.Cmp.{IsTotalOrder}
 use Rattle.std.specs.Cmp.Lexicographic.{pointwise}
 use Rattle.std.specs.FinMap.{FinMap, IsAntisymmetric, entries, entries_sorted, find, get, get-entries, get-insert, insert, is_sorted}
 use Rattle.std.specs.FinMap.Entries.{below_all, same_entries}
-use Rattle.std.specs.List.{cons_option, filter, filter_map}
+use Rattle.std.specs.List.{cons_option}
 use Rattle.std.specs.Option.{option_and_then, option_map}
 use Rattle.std.specs.Ordering.{eq_by_cmp, is_eq, is_lt}
 use Rattle.std.specs.declared.cmp.Ordering.{Ordering}
 use Rattle.std.specs.declared.cmp.Ordering.TheVariants.{Less, Equal, Greater}
 use Rattle.stamp_values.specs.Order.{key_cmp, keys_exact, keys_total, name_cmp, names_exact, names_total}
-use Rattle.stamp_values.specs.Trees.{is_name_from}
 use Rattle.stamp_values.specs.declared.key.Key.{Key}
 use Rattle.stamp_types.specs.declared.act.Act.TheVariants as act
 use Rattle.stamp_types.specs.declared.act.PutBlock.{PutBlock}
 use Rattle.stamp_types.specs.declared.args.Page.{Page}
 use Rattle.stamp_types.specs.declared.piece.Piece.{Piece}
-use Rattle.stamp_types.specs.Changes.{KeyedAct}
 use Rattle.stamp_types.specs.World.{Blob, Part, World, blob_in, changed, changed_in, no_blob, no_part, part_at}
 use Rattle.list_pages.specs.Containers.{before_end, end_of, of_account, page_to}
-use Rattle.list_pages.specs.Lists.{ShownBlob, ShownContainer, blob_list, given, page_of_blobs, page_of_containers, shown_blob, shown_container, shown_part, shown_standing}
+use Rattle.list_pages.specs.Lists.{given, page_of_blobs, page_of_containers, shown_blob, shown_container, shown_part, shown_standing}
 use Rattle.list_pages.specs.Pages.{from_marker, listed, page, with_value}
 use Rattle.list_pages.proofs.Lists.{T_first, T_second, less}
 use Rattle.list_pages.proofs.Over.{with_value-before_end}

@@ -1,16 +1,14 @@
 -- The steps of the walk over the tree, one for each way through the loop.
-use Rattle.std.proofs.Common.{◌≡◌, ◌≢◌, ℕ, zero, suc, ◌+◌, ◌<◌, ◌≤◌, Bool, true, false, cond, not, List, [], ◌∷◌, ◌++◌, length, take, map, Option, Some, None, refl, sym, ap, ◌∙◌, subst, arith, append_assoc, T}
+use Rattle.std.proofs.Common.{◌≡◌, ℕ, zero, suc, ◌<◌, ◌≤◌, Bool, true, false, cond, List, [], ◌∷◌, ◌++◌, length, take, Option, Some, None, refl, sym, ap, ◌∙◌, subst, arith, append_assoc}
 use Rattle.std.specs.List.{filter, slice_get}
 use Rattle.std.specs.Option.{option_map}
-use Rattle.std.proofs.lemmas.List.{take_all, take_at, append-nil, length-map}
-use Rattle.stamp_values.specs.Order.{name_cmp}
+use Rattle.std.proofs.lemmas.List.{take_all, take_at, append-nil}
 use Rattle.stamp_values.specs.Trees.{is_name_from}
 use Rattle.list_pages.specs.Names.{begins_with, group_of}
 use Rattle.list_pages.specs.Seeks.{raised, later_of}
 use Rattle.list_pages.specs.Pages.{Entry, PageOf, listed, from_marker, page, with_value, page_of_names}
-use Rattle.list_pages.proofs.Orders.{not_both}
-use Rattle.list_pages.specs.Rising.{IsBeforeAll, Rises}
-use Rattle.list_pages.proofs.Lists.{IsEndOf, rises, rest_above, end_of_all, length_filter}
+use Rattle.list_pages.specs.Rising.{Rises}
+use Rattle.list_pages.proofs.Lists.{IsEndOf, rest_above, end_of_all, length_filter}
 use Rattle.list_pages.proofs.Walk.{seen, seen_by, walked, walked_is, pass_by, end, name_step, group_step, group_passed, rest_after, walk_from}
 
 -- ---- a page of a list that is known so far

@@ -1,10 +1,9 @@
 -- Each name is under one entry of its list.
-use Rattle.std.proofs.Common.{◌≡◌, ◌≢◌, ℕ, ◌≤◌, Bool, true, false, cond, not, T, List, [], ◌∷◌, ◌++◌, length, map, Option, Some, None, refl, sym, ap, ◌∙◌, subst, nat_eq, arith, append_assoc, unwrap_or}
+use Rattle.std.proofs.Common.{◌≡◌, ◌≢◌, ℕ, Bool, true, false, cond, not, List, [], ◌∷◌, ◌++◌, length, map, Option, Some, None, refl, sym, ap, ◌∙◌, subst, nat_eq, append_assoc, unwrap_or}
 use Rattle.std.specs.Prelude.{IsSome}
 use Rattle.std.specs.Cmp.Lexicographic.{pointwise, bytes_decides, nat_list_cmp_total}
-use Rattle.std.specs.FinMap.{entries, entries_sorted, find, get}
+use Rattle.std.specs.FinMap.{entries, entries_sorted, find}
 use Rattle.std.specs.List.{AllByRecursion, cons_option, filter, filter_map}
-use Rattle.std.specs.Option.{option_and_then, option_map}
 use Rattle.std.specs.Ordering.{eq_by_cmp, is_eq, ordering_reverse}
 use Rattle.std.specs.declared.cmp.Ordering.{Ordering}
 use Rattle.std.specs.declared.cmp.Ordering.TheVariants.{Less, Equal, Greater}
@@ -17,8 +16,7 @@ use Rattle.list_pages.specs.Lists.{ShownBlob, blob_list, given, shown_blob}
 use Rattle.list_pages.specs.Names.{begins_with, group_of}
 use Rattle.list_pages.specs.Pages.{Entry, each_once, entry_by, entry_of, is_other, listed, with_value}
 use Rattle.list_pages.specs.Rising.{IsBeforeAll, Rises}
-use Rattle.list_pages.proofs.Bounds.{all_filter, all_once, passed}
-use Rattle.list_pages.proofs.Following.{above_at}
+use Rattle.list_pages.proofs.Bounds.{all_once, passed}
 use Rattle.list_pages.proofs.Lists.{filter-each_once, rises}
 use Rattle.list_pages.proofs.Orders.{not_itself}
 use Rattle.list_pages.proofs.Over.{rises_with_value}

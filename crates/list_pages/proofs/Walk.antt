@@ -1,18 +1,15 @@
 -- The walk over the names in their order, that goes on after a group at the group's raised text.
-use Rattle.std.proofs.Common.{◌≡◌, ◌≢◌, ℕ, ◌<◌, ◌≤◌, Bool, true, false, cond, ◌&&◌, not, T, List, [], ◌∷◌, ◌++◌, length, take, Option, Some, None, refl, sym, ap, ◌∙◌, subst, nat_eq, arith, ◌⊎◌, inl, inr}
-use Rattle.std.specs.List.{filter, filter_map, cons_option, slice_get}
+use Rattle.std.proofs.Common.{◌≡◌, ℕ, Bool, true, false, cond, ◌&&◌, not, List, [], ◌∷◌, ◌++◌, Option, Some, None, refl, sym, ap, ◌∙◌, nat_eq, ◌⊎◌, inl, inr}
+use Rattle.std.specs.List.{filter, filter_map, cons_option}
 use Rattle.std.specs.Option.{option_map, option_and_then}
-use Rattle.std.specs.Ordering.{is_lt}
-use Rattle.std.specs.declared.cmp.Ordering.{Ordering}
-use Rattle.std.specs.declared.cmp.Ordering.TheVariants.{Less, Equal, Greater}
+use Rattle.std.specs.declared.cmp.Ordering.TheVariants.{Less}
 use Rattle.std.specs.Cmp.Lexicographic.{pointwise, bytes_decides}
-use mathlib.Core.Bool.{true≢false}
 use Rattle.stamp_values.specs.Order.{name_cmp}
 use Rattle.stamp_values.specs.Trees.{is_name_from}
 use Rattle.list_pages.specs.Names.{begins_with, group_of}
 use Rattle.list_pages.specs.Seeks.{raised}
-use Rattle.list_pages.specs.Pages.{Entry, PageOf, entry_by, entry_of, is_other, each_once, listed, from_marker, page, with_value, page_of_names}
-use Rattle.list_pages.proofs.Orders.{not_both, is_false, before, not_from, chain_less, past_from, from_less, from_from, less_from, not_itself, from_raised, begins_from, begins_between, begins_itself, from_itself}
+use Rattle.list_pages.specs.Pages.{Entry, entry_by, entry_of, is_other, each_once, listed, from_marker, with_value}
+use Rattle.list_pages.proofs.Orders.{not_both, past_from, from_less, from_from, not_itself, from_raised, begins_from, begins_between, begins_itself, from_itself}
 use Rattle.list_pages.proofs.Groups.{IsGroupOf, group_is, no_some, same_some}
 use Rattle.list_pages.specs.Rising.{IsBeforeAll, Rises}
 use Rattle.list_pages.proofs.Lists.{Passes, filter-each_once, filter-filter_map, filter_map-filter_map, kept_if, rest_above, only_rest, nothing_later, all_pass, tested_before, only_kept}

@@ -34,10 +34,13 @@ page_to end prefix marker max names =
       next = or_else (page max (from_marker marker (listed prefix [] names))).next end;
     }
 
--- a page of the containers of an account of which something is shown, in rows that end before the bound
+-- a page of the containers of an account of which something is shown, before an end
+abbrev pub page_of_account : {X Y : Type 0} → (X → Option Y) → List ℕ → List ℕ → List ℕ → ℕ → Option (List ℕ) → List (Key × X) → PageOf Y
+page_of_account has account prefix marker max end rows = page_to end prefix marker max (with_value has (before_end end (of_account account rows)))
+
+-- the same in rows that end before a bound
 abbrev pub page_of_rows : {X Y : Type 0} → (X → Option Y) → List ℕ → List ℕ → List ℕ → ℕ → Option Key → List (Key × X) → PageOf Y
-page_of_rows has account prefix marker max bound rows =
-    page_to (end_of account bound) prefix marker max (with_value has (before_end (end_of account bound) (of_account account rows)))
+page_of_rows has account prefix marker max bound rows = page_of_account has account prefix marker max (end_of account bound) rows
 
 -- a name is at the end or past it
 abbrev pub is_ended : Option (List ℕ) → List ℕ → Bool

@@ -9,7 +9,7 @@ use Rattle.stamp_values.specs.Order.{name_cmp}
 use Rattle.stamp_values.specs.Trees.{is_name_from}
 use Rattle.stamp_types.specs.declared.args.Page.{Page}
 use Rattle.stamp_types.specs.World.{Part}
-use Rattle.list_pages.specs.Lists.{ShownBlob, given, shown_blob}
+use Rattle.list_pages.specs.Lists.{ShownBlob, shown_blob}
 use Rattle.list_pages.specs.Names.{begins_with, group_of}
 use Rattle.list_pages.specs.Pages.{Entry, PageOf, entry_of}
 use Rattle.list_pages.specs.Rising.{Rises}

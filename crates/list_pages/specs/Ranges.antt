@@ -1,5 +1,5 @@
 -- Ranges of keys (Calder et al., SOSP 2011, section 5.5: each partition has a range of keys).
-use Rattle.std.specs.Prelude.{◌≡◌, ℕ, List, Option, IfSome, true, false, Bool, ◌&&◌}
+use Rattle.std.specs.Prelude.{◌≡◌, ℕ, List, Option, IfSome, true}
 use Rattle.std.specs.FinMap.{get}
 use Rattle.std.specs.List.{filter, slice_get}
 use Rattle.std.specs.Ordering.{is_lt}

@@ -1,5 +1,5 @@
 -- Worked lists of names.
-use Rattle.std.specs.Prelude.{ℕ, List, [], ◌∷◌, Option, Some, codes}
+use Rattle.std.specs.Prelude.{ℕ, List, [], ◌∷◌, Some, codes}
 use Rattle.stamp_values.specs.declared.key.Key.{Key}
 use Rattle.list_pages.specs.Containers.{page_of_rows}
 use Rattle.list_pages.specs.Pages.{PageOf, page_of_names}

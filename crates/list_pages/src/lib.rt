@@ -1,10 +1,16 @@
 //! Pages of the lists of blobs and of containers.
 #![tactic(auto)]
 
+mod blobs;
+mod containers;
+mod entries;
 mod laws;
 mod names;
 mod worked_pages;
 
+pub use blobs::blob_page;
+pub use containers::container_page;
+pub use entries::{BlobEntry, BlobPage, ContainerEntry, ContainerPage, ListedBlob};
 pub use laws::{
     a_page_is_in_order_and_in_bounds, a_page_of_containers_depends_on_its_range,
     each_blob_is_under_one_entry, following_the_markers_gives_each_entry_once,

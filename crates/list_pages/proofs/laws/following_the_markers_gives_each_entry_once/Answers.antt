@@ -1,5 +1,4 @@
-use Rattle.stamp_values.specs.Order.{name_cmp}
-use Rattle.list_pages.specs.Lists.{blob_list, given, shown_blob}
+use Rattle.list_pages.specs.Lists.{given, shown_blob}
 use Rattle.list_pages.proofs.Followed.{blobs_follow}
 use Rattle.list_pages.proofs.Over.{containers_follow, containers_rise}
 use Rattle.list_pages.proofs.Rising.{list_rises}

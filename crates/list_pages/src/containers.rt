@@ -1,0 +1,173 @@
+//! Pages of the containers of an account.
+ghost use Rattle.std.specs.Prelude.{◌≡◌, IfOk};
+ghost use Rattle.std.specs.FinMap as finite;
+ghost use Rattle.std.specs.Option.{option_copied, option_map};
+ghost use Rattle.list_pages.specs.Containers as containers;
+ghost use Rattle.list_pages.specs.Lists as lists;
+ghost use Rattle.list_pages.specs.Containers.{page_of_account};
+ghost use Rattle.list_pages.specs.Lists.{page_of_containers, shown_container};
+ghost use Rattle.list_pages.specs.Seeks.{later_of};
+
+use crate::entries::{ContainerEntry, ContainerPage};
+use crate::names::{begins_with, given, is_from};
+use row_trees::Rows;
+use stamp_types::{Key, Page, Text};
+use std::alloc::{AllocError, Global};
+
+// The name at which the bound ends the containers of the account.
+fn end_of<'a>(account: &Text, bound: Option<&'a Key>) -> Option<&'a [u8]>
+    ensures { option_map (λ t. t.now) result
+        ≡ containers.end_of account.now (option_copied bound.entry) }
+{
+    match bound {
+        Some(bound) => {
+            if bound.account == *account {
+                Some(bound.container.as_str().as_bytes())
+            } else {
+                None
+            }
+        }
+        None => None,
+    }
+}
+
+// Whether a name is at the end or past it.
+fn is_ended(end: Option<&[u8]>, name: &[u8]) -> bool
+    ensures { result ≡ containers.is_ended (option_map (λ t. t.now) end.entry) name.now }
+{
+    match end {
+        Some(end) => is_from(end, name),
+        None => false,
+    }
+}
+
+// Whether the container is not one of the account before the end.
+fn is_out(account: &Text, end: Option<&[u8]>, key: &Key) -> bool
+    ensures { result
+        ≡ containers.is_out account.now (option_map (λ t. t.now) end.entry) key.now }
+{
+    !(key.account == *account && !is_ended(end, key.container.as_str().as_bytes()))
+}
+
+// A copy of a text that is given, or otherwise the empty text.
+fn copy_of(alloc: Global, text: &Option<Text>) -> Result<Text, AllocError>
+    ensures { IfOk result (λ copy. copy ≡ lists.given text.now) }
+{
+    match text {
+        Some(text) => text.clone(),
+        None => Ok(Text::empty(alloc)),
+    }
+}
+
+// The later of prefix and marker.
+fn first_name(alloc: Global, page: &Page) -> Result<Text, AllocError>
+    ensures { IfOk result (λ name. name
+        ≡ later_of (lists.given page.now.prefix) (lists.given page.now.marker)) }
+{
+    if is_from(given(&page.prefix), given(&page.marker)) {
+        copy_of(alloc, &page.marker)
+    } else {
+        copy_of(alloc, &page.prefix)
+    }
+}
+
+// Where a page may begin.
+fn start_of(alloc: Global, account: &Text, page: &Page) -> Result<Key, AllocError>
+    ensures account { IfOk result (λ start. start.account ≡ account.now) }
+    ensures container { IfOk result (λ start. start.container
+        ≡ later_of (lists.given page.now.prefix) (lists.given page.now.marker)) }
+{
+    let container = first_name(alloc, page)?;
+    match account.clone() {
+        Ok(account) => Ok(Key { account, container }),
+        Err(fault) => {
+            drop(container);
+            Err(fault)
+        }
+    }
+}
+
+// The name of a container.
+fn name_of(key: &Key) -> &[u8]
+    ensures { result.now ≡ key.now.container }
+{
+    key.container.as_str().as_bytes()
+}
+
+// A page of the containers of the account before the end, from a key on at which it may begin.
+fn page_from<'a>(
+    alloc: Global,
+    rows: &'a Rows,
+    account: &Text,
+    start: &Key,
+    prefix: &[u8],
+    marker: &[u8],
+    max: usize,
+    end: Option<&'a [u8]>,
+) -> Result<ContainerPage<'a>, AllocError>
+    requires account { start.now.account ≡ account.now }
+    requires container { start.now.container ≡ later_of prefix.now marker.now }
+    ensures { IfOk result (λ page. page ≡ page_of_account shown_container account.now prefix.now
+        marker.now max (option_map (λ t. t.now) end.entry) (finite.entries rows.now)) }
+{
+    let mut entries = Vec::new(alloc);
+    let mut left = rows.containers_from(start);
+    while let Some((key, found)) = left.next() {
+        if is_out(account, end, key) {
+            return Ok(ContainerPage::new(entries, end));
+        }
+        let name = name_of(key);
+        if !begins_with(name, prefix) {
+            // The walk begins at the prefix, so each name after this one is past the prefix too.
+            if is_from(prefix, name) {
+                return Ok(ContainerPage::new(entries, end));
+            }
+            continue;
+        }
+        let Some(standing) = found.standing() else {
+            continue;
+        };
+        if is_from(marker, name) {
+            if entries.len() >= max {
+                return Ok(ContainerPage::new(entries, Some(name)));
+            }
+            entries.push(ContainerEntry::of(name, standing))?;
+        }
+    }
+    Ok(ContainerPage::new(entries, end))
+}
+
+/// A page of the containers of an account that exist: the first names with the prefix that are at
+/// the marker or past it and, if the bound has this account, before the bound's container. If no
+/// name is left out and the bound has this account, the next page begins at the bound's container.
+/// "List Containers".
+///
+/// `bound` is the key at which the rows end, if keys after them are elsewhere. Takes time with the
+/// number of entries and of deleted containers that it passes by, and once with the logarithm of
+/// the number of containers. `AllocError` if memory runs out for the list of entries, or for the
+/// key at which the page begins.
+pub fn container_page<'a>(
+    alloc: Global,
+    rows: &'a Rows,
+    account: &Text,
+    page: &Page,
+    bound: Option<&'a Key>,
+) -> Result<ContainerPage<'a>, AllocError>
+    ensures { IfOk result (λ containers. containers
+        ≡ page_of_containers account.now page.now (option_copied bound.entry) rows.now) }
+{
+    let start = start_of(alloc, account, page)?;
+    let end = end_of(account, bound);
+    let prefix = given(&page.prefix);
+    let marker = given(&page.marker);
+    page_from(
+        alloc,
+        rows,
+        account,
+        &start,
+        prefix,
+        marker,
+        page.max as usize,
+        end,
+    )
+}
