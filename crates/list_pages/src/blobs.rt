@@ -9,7 +9,7 @@ ghost use Rattle.row_trees.specs.FoundParts.{sizes_found};
 ghost use Rattle.stamp_values.specs.Trees.{is_name_from};
 
 use crate::entries::{BlobEntry, BlobPage, ListedBlob};
-use crate::names::{begins_with, given, given_text, group_of, is_from, later_of, raised};
+use crate::names::{begins_with, given, group_of, is_from, later_of, raised};
 use row_trees::{BlobWalk, Found};
 use stamp_types::Page;
 use std::alloc::{AllocError, Global};
@@ -96,7 +96,7 @@ pub fn blob_page<'a>(
     ensures { IfOk result (λ blobs. blobs ≡ page_of_blobs page.now (sizes_found found.now)) }
 {
     let prefix = given(&page.prefix);
-    let delimiter = given_text(&page.delimiter);
+    let delimiter = given(&page.delimiter);
     let marker = given(&page.marker);
     page_under(alloc, found, prefix, delimiter, marker, page.max as usize)
 }

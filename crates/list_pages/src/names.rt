@@ -9,19 +9,10 @@ ghost use Rattle.stamp_values.specs.Trees.{is_name_from};
 use stamp_types::Text;
 use std::alloc::{AllocError, Global};
 
-/// The bytes of a text. They are empty if the text is not given.
-pub(crate) fn given(text: &Option<Text>) -> &[u8]
-    ensures { result.now ≡ lists.given text.now }
-{
-    match text {
-        Some(text) => text.as_str().as_bytes(),
-        None => &[],
-    }
-}
-
-/// The bytes of a text, and that the last byte can be raised: no text in UTF-8 has the byte 255.
+/// The bytes of a text, which are empty if the text is not given. The last byte can be raised: no
+/// text in UTF-8 has the byte 255.
 #[tactic(auto, using(crate::proofs::Ends::text_ends))]
-pub(crate) fn given_text(text: &Option<Text>) -> &[u8]
+pub(crate) fn given(text: &Option<Text>) -> &[u8]
     ensures value { result.now ≡ lists.given text.now }
     ensures end { IsTrue (seeks.can_be_raised result.now) }
 {
