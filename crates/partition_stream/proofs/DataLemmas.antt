@@ -1,0 +1,66 @@
+-- Content that is put piece by piece.
+use Rattle.std.proofs.Common.{◌≡◌, ◌∙◌, ◌≤◌, ◌<◌, ◌+◌, ◌&&◌, ℕ, zero, suc, Bool, true, List, [], ◌∷◌, ◌++◌, IsTrue, nat_le, length, map, take, get_or, ap, sym, refl, arith, leb-true}
+use Rattle.std.specs.List.{list_all}
+use Rattle.std.proofs.lemmas.Bool.{and_parts}
+use Rattle.std.proofs.lemmas.List.{length-map, map-append, flat_map_more, take_more}
+use Rattle.std.proofs.lemmas.List.Elements.{All-nil, All-push}
+use Rattle.extent_node.specs.Copies.{Block}
+use Rattle.stamp_types.specs.Pieces.{piece_len, piece_bytes, held, is_held, is_held_piece, is_piece, is_pieces}
+use Rattle.stamp_types.specs.declared.piece.Piece.{Piece}
+use Rattle.stream_manager.specs.Places.{KeepsPlaces}
+use Rattle.partition_stream.specs.Contents.{ArePlaced, IsPlaced, IsStored, bytes_at}
+use Rattle.partition_stream.proofs.ContentLemmas.{content_stays, content_reads}
+
+-- no piece is placed yet
+pub none_placed : (es : List (List Block)) → ArePlaced es [] []
+none_placed es = record { lengths = refl; stored = All-nil (IsStored es); bytes = refl }
+
+-- one more piece is placed
+placed_one : (es fs : List (List Block)) (content ps : List Piece) (piece p : Piece) → KeepsPlaces es fs → ArePlaced es content ps → IsPlaced fs piece p
+    → ArePlaced fs (content ++ piece ∷ []) (ps ++ p ∷ [])
+placed_one es fs content ps piece p keeps old new = record {
+  lengths =
+      map-append piece_len ps (p ∷ []) ∙ ap (λ l. l ++ piece_len p ∷ []) old.lengths ∙ ap (λ n. map piece_len content ++ n ∷ []) new.len
+      ∙ sym (map-append piece_len content (piece ∷ []));
+  stored = All-push (IsStored fs) ps p (content_stays es fs keeps ps old.stored) new.stored;
+  bytes =
+      sym (flat_map_more (bytes_at fs) [] ps p) ∙ ap (λ l. l ++ bytes_at fs p) (content_reads es fs keeps ps old.stored ∙ old.bytes)
+      ∙ ap (λ l. held content ++ l) new.bytes ∙ flat_map_more piece_bytes [] content piece;
+}
+
+-- the next piece of the content is placed
+pub placed_more : (es fs : List (List Block)) (content ps all : List Piece) (i : ℕ) (piece p : Piece) → i < length content → piece ≡ get_or content i piece
+    → KeepsPlaces es fs → ArePlaced es (take i content) ps → IsPlaced fs piece p → all ≡ ps ++ p ∷ [] → ArePlaced fs (take (i + 1) content) all
+placed_more es fs content ps all i piece p within is keeps old new more =
+    let next : take (i + 1) content ≡ take i content ++ piece ∷ [] = take_more content i piece within ∙ ap (λ x. take i content ++ x ∷ []) (sym is) in
+    rw (next, more) (placed_one es fs (take i content) ps piece p keeps old new)
+
+-- what a test says of each piece
+pub passes_at : (test : Piece → Bool) (ps : List Piece) (i : ℕ) (d : Piece) → list_all test ps ≡ true → i < length ps → test (get_or ps i d) ≡ true
+passes_at test [] i d all within = absurd (omega arith)
+passes_at test (p ∷ ps) zero d all within = (and_parts (test p) (list_all test ps) all).0
+passes_at test (p ∷ ps) (suc i) d all within = passes_at test ps i d (and_parts (test p) (list_all test ps) all).1 (omega arith)
+
+pub held_at : (ps : List Piece) (i : ℕ) (p : Piece) → IsTrue (is_held ps) → i < length ps → p ≡ get_or ps i p → IsTrue (is_held_piece p)
+held_at ps i p all within is = ap is_held_piece is ∙ passes_at is_held_piece ps i p all within
+
+pub short_at : (ps : List Piece) (i : ℕ) (p : Piece) → IsTrue (is_pieces ps) → i < length ps → p ≡ get_or ps i p → piece_len p ≤ 4194304
+short_at ps i p are within is =
+    let all = (and_parts (nat_le (length ps) 16) (list_all is_piece ps) are).1 in
+    let own : is_piece p ≡ true = ap is_piece is ∙ passes_at is_piece ps i p all within in
+    leb-true (piece_len p) 4194304 (and_parts (nat_le 1 (piece_len p)) (nat_le (piece_len p) 4194304) own).1
+
+-- whether pieces are the pieces of content depends on their lengths alone
+abbrev is_piece_len : ℕ → Bool
+is_piece_len n = nat_le 1 n && nat_le n 4194304
+
+all_by_len : (ps : List Piece) → list_all is_piece ps ≡ list_all is_piece_len (map piece_len ps)
+all_by_len [] = refl
+all_by_len (p ∷ ps) = ap (λ b. is_piece p && b) (all_by_len ps)
+
+are_by_len : (ps : List Piece) → is_pieces ps ≡ (nat_le (length (map piece_len ps)) 16 && list_all is_piece_len (map piece_len ps))
+are_by_len ps = ap (λ b. nat_le (length ps) 16 && b) (all_by_len ps) ∙ ap (λ n. nat_le n 16 && list_all is_piece_len (map piece_len ps)) (sym (length-map ps piece_len))
+
+pub placed_are_pieces : (es : List (List Block)) (content ps : List Piece) → ArePlaced es content ps → IsTrue (is_pieces content) → IsTrue (is_pieces ps)
+placed_are_pieces es content ps placed are =
+    are_by_len ps ∙ ap (λ l. nat_le (length l) 16 && list_all is_piece_len l) placed.lengths ∙ sym (are_by_len content) ∙ are

@@ -1,0 +1,13 @@
+use Rattle.std.proofs.Common.{take}
+use Rattle.stream_manager.specs.Counting.{Grows}
+use Rattle.stream_manager.specs.Places.{KeepsPlaces}
+use Rattle.stream_manager.specs.Streams.{laid}
+use Rattle.partition_stream.specs.Contents.{ArePlaced}
+use Rattle.partition_stream.proofs.data.put_pieces.Given as goal
+
+abbrev pub invariant-loop-piece : goal.invariant-loop-piece
+invariant-loop-piece g l = record {
+  placed : ArePlaced (laid l.blobs) (take l.piece-index l.pieces) l.placed.items;
+  kept : KeepsPlaces (laid l.initial.blobs) (laid l.blobs);
+  counted : Grows (g.W.Wire.faults l.initial.wire) (g.W.Wire.faults l.wire);
+}

@@ -1,0 +1,17 @@
+use Rattle.std.proofs.Common.{subst}
+use Rattle.partition_stream.specs.Outcomes.{IsLogSealed}
+use Rattle.partition_stream.specs.Streams.{ThreeStreams}
+use Rattle.partition_stream.proofs.KeptLemmas.{kept_log_sealed}
+use Rattle.partition_stream.proofs.LogLemmas.{is_log_sealed}
+use Rattle.partition_stream.proofs.streams.Streams.seal_log.Goals as goal
+
+pub invariant_of-self : goal.invariant_of-self
+invariant_of-self g c =
+    kept_log_sealed c.seal.result (record { log = c.self.inside.log; blobs = c.self.inside.blobs; rows = c.self.inside.rows })
+    c.seal.new.self c.self.invariant c.seal.ensures.sealed
+
+pub returns-clause-log : goal.returns-clause-log
+returns-clause-log g c =
+    let old : ThreeStreams = record { log = c.self.inside.log; blobs = c.self.inside.blobs; rows = c.self.inside.rows } in
+    let new : ThreeStreams = record { log = c.seal.new.self; blobs = c.self.inside.blobs; rows = c.self.inside.rows } in
+    subst (λ s. IsLogSealed c.seal.result s new) c.self.view_is (is_log_sealed c.seal.result old new c.seal.ensures.sealed)

@@ -1,0 +1,9 @@
+pub mod Changes
+pub mod Contents
+pub mod Counting
+pub mod Logging
+pub mod Meanings
+pub mod Outcomes
+pub mod Positions
+pub mod Storing
+pub mod Streams

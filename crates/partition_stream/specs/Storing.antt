@@ -1,0 +1,35 @@
+-- What is true of the streams of every partition (SOSP 2011, section 5).
+use Rattle.std.specs.Prelude.{◌≡◌, List, None, All, IfSome}
+use Rattle.extent_node.specs.Copies.{Block}
+use Rattle.stamp_types.specs.Changes.{KeyedAct}
+use Rattle.stamp_types.specs.Contents.{EachActContent}
+use Rattle.stream_manager.specs.Places.{blocks_of}
+use Rattle.stream_manager.specs.Streams.{laid}
+use Rattle.log_record.specs.Fits.{IsRecorded}
+use Rattle.log_record.specs.Records.{record_bytes}
+use Rattle.partition_stream.specs.Contents.{AreStored}
+use Rattle.partition_stream.specs.Streams.{ThreeStreams}
+
+-- each content that the change brings is stored in this data
+abbrev pub IsStoredChange : List (List Block) → KeyedAct → Type 0
+IsStoredChange es c = EachActContent (AreStored es) c.act
+
+-- the block is the record of a change
+pub record IsRecord (block : Block) : Type 0 where
+  pub change : KeyedAct
+  pub fits : IsRecorded change
+  pub bytes : block ≡ record_bytes change
+
+-- the block is the record of a change whose contents are stored in this data
+pub record IsStoredRecord (es : List (List Block)) (block : Block) : Type 0 where
+  pub change : KeyedAct
+  pub fits : IsRecorded change
+  pub bytes : block ≡ record_bytes change
+  pub stored : IsStoredChange es change
+
+-- each block of the rows and of the log is such a record, and so is the block that is in doubt in the log; the rows have no doubt
+pub record AreKept (s : ThreeStreams) : Type 0 where
+  pub rows : All (IsStoredRecord (laid s.blobs)) (blocks_of (laid s.rows))
+  pub whole : s.rows.last.tried ≡ None
+  pub log : All (IsStoredRecord (laid s.blobs)) (blocks_of (laid s.log))
+  pub doubt : IfSome s.log.last.tried (IsStoredRecord (laid s.blobs))

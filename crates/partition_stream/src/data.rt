@@ -1,0 +1,90 @@
+//! Content that is put into a stream of data, piece by piece.
+ghost use Rattle.std.specs.Prelude.{◌≡◌, ◌≤◌, IfOk, IsTrue, Some, length};
+ghost use Rattle.stamp_types.specs.Pieces.{is_held, is_held_piece, is_pieces, piece_len};
+ghost use Rattle.stream_manager.specs.Places.{KeepsPlaces, block_at};
+ghost use Rattle.stream_manager.specs.Streams.{laid};
+ghost use Rattle.partition_stream.specs.Contents.{ArePlaced, IsPlaced};
+ghost use Rattle.partition_stream.specs.Counting.{FailsPut};
+
+use crate::faults::PutFault;
+use extent_node::Wire;
+use stamp_types::{Piece, Pieces};
+use stamp_values::{Place, Share};
+use std::alloc::Global;
+use stream_manager::{AppendFault, Stream};
+
+// Puts bytes into the data, as one block.
+fn put_bytes<W: Wire>(blobs: &mut Stream, bytes: &Share, wire: &mut W) -> Result<Place, PutFault>
+    requires { length bytes.now ≤ 4_194_304 }
+    ensures placed { IfOk result (λ p. block_at (laid blobs.new) p ≡ Some bytes.now) }
+    ensures kept { KeepsPlaces (laid blobs.old) (laid blobs.new) }
+    ensures counted { FailsPut result (W.faults wire.old) (W.faults wire.new) }
+{
+    match blobs.append(bytes, wire) {
+        Ok(place) => Ok(place),
+        Err(AppendFault::Busy) => Err(PutFault::Busy),
+        Err(AppendFault::Doubt) => Err(PutFault::Busy),
+        Err(AppendFault::NoMemory) => Err(PutFault::NoMemory),
+        Err(AppendFault::TooLarge) => unreachable!(),
+    }
+}
+
+// Puts a piece into the data, and answers the piece that says where its bytes are.
+fn put_piece<W: Wire>(blobs: &mut Stream, piece: &Piece, wire: &mut W) -> Result<Piece, PutFault>
+    requires held { IsTrue (is_held_piece piece.now) }
+    requires short { piece_len piece.now ≤ 4_194_304 }
+    ensures placed { IfOk result (λ p. IsPlaced (laid blobs.new) piece.now p) }
+    ensures kept { KeepsPlaces (laid blobs.old) (laid blobs.new) }
+    ensures counted { FailsPut result (W.faults wire.old) (W.faults wire.new) }
+{
+    match piece {
+        Piece::Bytes(bytes) => {
+            let place = put_bytes(blobs, bytes, wire)?;
+            Ok(Piece::At {
+                place,
+                length: bytes.len() as u32,
+            })
+        }
+        Piece::At { .. } => unreachable!(),
+    }
+}
+
+// Puts pieces into the data, one after the other.
+fn put_pieces<W: Wire>(
+    alloc: Global,
+    blobs: &mut Stream,
+    pieces: &[Piece],
+    wire: &mut W,
+) -> Result<Vec<Piece>, PutFault>
+    requires held { IsTrue (is_held pieces.now) }
+    requires short { IsTrue (is_pieces pieces.now) }
+    ensures placed { IfOk result (λ ps. ArePlaced (laid blobs.new) pieces.now ps.items) }
+    ensures kept { KeepsPlaces (laid blobs.old) (laid blobs.new) }
+    ensures counted { FailsPut result (W.faults wire.old) (W.faults wire.new) }
+{
+    let mut placed = Vec::with_capacity(alloc, pieces.len())?;
+    for piece in pieces {
+        let at = put_piece(blobs, piece, wire)?;
+        placed.push(at)?;
+    }
+    Ok(placed)
+}
+
+/// Puts content into the data, and answers the pieces that say where its bytes are.
+pub(crate) fn put_content<W: Wire>(
+    alloc: Global,
+    blobs: &mut Stream,
+    content: &Pieces,
+    wire: &mut W,
+) -> Result<Pieces, PutFault>
+    requires { IsTrue (is_held content.now) }
+    ensures placed { IfOk result (λ ps. ArePlaced (laid blobs.new) content.now ps) }
+    ensures kept { KeepsPlaces (laid blobs.old) (laid blobs.new) }
+    ensures counted { FailsPut result (W.faults wire.old) (W.faults wire.new) }
+{
+    let placed = put_pieces(alloc, blobs, content.as_slice(), wire)?;
+    match Pieces::new(placed) {
+        Some(pieces) => Ok(pieces),
+        None => unreachable!(),
+    }
+}

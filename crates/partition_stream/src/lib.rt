@@ -1,0 +1,18 @@
+//! The three streams of a partition: the log of its changes, their data, and the rows of its last checkpoint.
+#![tactic(auto)]
+
+mod changes;
+mod data;
+mod faults;
+mod laws;
+mod logging;
+mod position;
+mod streams;
+
+pub use faults::{LogFault, PutFault};
+pub use laws::{
+    a_doubt_is_one_change_or_none, a_shared_log_means_the_same, an_acknowledged_change_is_one_more,
+    another_container_is_left, reading_first_or_last_is_the_same, stored_content_stays,
+};
+pub use position::Position;
+pub use streams::Streams;

@@ -1,0 +1,52 @@
+//! Records that are appended to a log.
+ghost use Rattle.std.specs.Prelude.{◌≡◌, ◌≤◌, Err, IfOk, length};
+ghost use Rattle.std.specs.Result.{IsOkUnless};
+ghost use Rattle.log_record.specs.Fits.{IsRecorded};
+ghost use Rattle.log_record.specs.Records.{record_bytes};
+ghost use Rattle.log_record.specs.Sizes.{IsPlacedChange};
+ghost use Rattle.stream_manager.specs.Streams.{laid};
+ghost use Rattle.partition_stream.specs.Counting.{FailsLog};
+ghost use Rattle.partition_stream.specs.Logging.{IsRecordAppended};
+ghost use Rattle.partition_stream.specs.declared.faults.LogFault.TheVariants.{NoMemory};
+
+use crate::faults::LogFault;
+use extent_node::Wire;
+use log_record::write_change;
+use stamp_types::Change;
+use stamp_values::Share;
+use std::alloc::Global;
+use stream_manager::{AppendFault, Stream};
+
+/// The record of a change.
+pub(crate) fn record_of(alloc: Global, change: &Change, epoch: u64) -> Result<Share, LogFault>
+    requires epoch { epoch ≡ 0 }
+    requires placed { IsPlacedChange change.now }
+    ensures written { IfOk result (λ b. b ≡ record_bytes change.now) }
+    ensures fits { IfOk result (λ b. IsRecorded change.now) }
+    ensures short { IfOk result (λ b. length b ≤ 16_777_216) }
+    ensures refused { IsOkUnless result NoMemory }
+{
+    let bytes = write_change(alloc, change, epoch)?;
+    let record = Share::new(alloc, bytes)?;
+    Ok(record)
+}
+
+/// Appends a record to the log.
+pub(crate) fn append_record<W: Wire>(
+    log: &mut Stream,
+    block: &Share,
+    wire: &mut W,
+) -> Result<(), LogFault>
+    requires { length block.now ≤ 16_777_216 }
+    ensures appended { IsRecordAppended result log.old block.now log.new }
+    ensures counted { FailsLog result (W.faults wire.old) (W.faults wire.new) }
+    ensures unheard { (result ≡ Err NoMemory) → wire.new ≡ wire.old }
+{
+    match log.append(block, wire) {
+        Ok(_place) => Ok(()),
+        Err(AppendFault::Busy) => Err(LogFault::Busy),
+        Err(AppendFault::Doubt) => Err(LogFault::Doubt),
+        Err(AppendFault::NoMemory) => Err(LogFault::NoMemory),
+        Err(AppendFault::TooLarge) => unreachable!(),
+    }
+}

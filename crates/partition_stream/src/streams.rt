@@ -1,0 +1,295 @@
+//! The three streams of a partition.
+ghost use Rattle.std.specs.Prelude.{◌≡◌};
+
+use crate::changes::next_in;
+use crate::data::put_content;
+use crate::faults::{LogFault, PutFault};
+use crate::logging::{append_record, record_of};
+use crate::position::Position;
+use extent_node::Wire;
+use extent_seal::ReadFault;
+use stamp_types::{Change, Piece, Pieces};
+use stamp_values::Share;
+use std::alloc::{AllocError, Global};
+use std::marker::Model;
+use stream_manager::{SettleFault, Settled, Stream};
+
+/// The log of a partition, its data, and the rows of its last checkpoint (SOSP 2011, section 5).
+///
+/// Each block of the log and of the rows is the record of a change, and each content that such a change brings is in the data.
+#[derive(Drop)]
+pub struct Streams {
+    alloc: Global,
+    log: Stream,
+    blobs: Stream,
+    rows: Stream,
+}
+
+impl Model for Streams {
+    ghost use Rattle.partition_stream.specs.Streams.{ThreeStreams};
+    ghost use Rattle.partition_stream.specs.Storing.{AreKept};
+
+    ghost Value = { ThreeStreams };
+
+    ghost view = { λ s. record { log = s.log; blobs = s.blobs; rows = s.rows } };
+
+    ghost invariant = { λ s. AreKept (record { log = s.log; blobs = s.blobs; rows = s.rows }) };
+}
+
+impl Streams {
+    ghost use Rattle.std.specs.Prelude.{◌≡◌, ◌≤◌, ◌<◌, ◌++◌, ◌∷◌, ⊤, [], true, false, None, Err, IfOk, OnOk, OnErr, IsTrue, MatchOption, slice_range};
+    ghost use Rattle.extent_seal.specs.Counting.{all_faults};
+    ghost use Rattle.extent_seal.specs.declared.sealed.ReadFault.TheVariants.{Unreachable};
+    ghost use Rattle.stamp_types.specs.Pieces.{is_held, piece_len};
+    ghost use Rattle.stream_manager.specs.Counting.{CallsSettle, FailsSettle};
+    ghost use Rattle.stream_manager.specs.Places.{KeepsPlaces};
+    ghost use Rattle.stream_manager.specs.Streams.{laid};
+    ghost use Rattle.partition_stream.specs.Contents.{ArePlaced, IsStored, bytes_at};
+    ghost use Rattle.partition_stream.specs.Counting.{FailsLog, FailsPut, FailsSeals};
+    ghost use Rattle.partition_stream.specs.Outcomes.{IsLogged, IsLogSettled, IsLogSealed};
+    ghost use Rattle.partition_stream.specs.Positions.{all_changes, changes_before};
+    ghost use Rattle.partition_stream.specs.Storing.{AreKept, IsStoredChange};
+    ghost use Rattle.partition_stream.specs.Streams.{AreSealed, IsEmptyLast, logged};
+    ghost use Rattle.partition_stream.specs.declared.faults.LogFault.TheVariants.{NoMemory};
+
+    /// Streams without a change and without data, whose extents of two or more blocks have at most `extent_bytes` bytes. Takes no memory.
+    pub fn new(alloc: Global, extent_bytes: u32) -> Self
+        ensures rows { (logged result).rows ≡ [] }
+        ensures log { (logged result).log ≡ [] }
+        ensures doubt { (logged result).doubt ≡ None }
+        ensures data { laid result.blobs ≡ [] ∷ [] }
+        ensures sealed { AreSealed result }
+    {
+        Self {
+            alloc,
+            log: Stream::new(alloc, extent_bytes),
+            blobs: Stream::new(alloc, extent_bytes),
+            rows: Stream::new(alloc, extent_bytes),
+        }
+    }
+
+    /// Puts content into the data, a block for each piece, and answers the pieces that say where these blocks are. No byte is copied.
+    ///
+    /// After a fault blocks may be left in the data to which nothing refers.
+    pub fn put_data<W: Wire>(&mut self, content: &Pieces, wire: &mut W) -> Result<Pieces, PutFault>
+        requires { IsTrue (is_held content.now) }
+        ensures placed { IfOk result (λ ps. ArePlaced (laid self.new.blobs) content.now ps) }
+        ensures kept { KeepsPlaces (laid self.old.blobs) (laid self.new.blobs) }
+        ensures log { self.new.log ≡ self.old.log }
+        ensures rows { self.new.rows ≡ self.old.rows }
+        ensures counted { FailsPut result (W.faults wire.old) (W.faults wire.new) }
+    {
+        put_content(self.alloc, &mut self.blobs, content, wire)
+    }
+
+    /// Appends the record of a change to the log. An older doubt is settled first.
+    ///
+    /// NoMemory: no node was called, and the streams are as they were.
+    pub fn log_change<W: Wire>(
+        &mut self,
+        change: &Change,
+        epoch: u64,
+        wire: &mut W,
+    ) -> Result<(), LogFault>
+        requires epoch { epoch ≡ 0 }
+        requires stored { IsStoredChange (laid self.old.blobs) change.now }
+        ensures logged { IsLogged result self.old (change.now, epoch) self.new }
+        ensures blobs { self.new.blobs ≡ self.old.blobs }
+        ensures rows { self.new.rows ≡ self.old.rows }
+        ensures counted { FailsLog result (W.faults wire.old) (W.faults wire.new) }
+        ensures unheard { result ≡ Err NoMemory → wire.new ≡ wire.old }
+    {
+        let block = record_of(self.alloc, change, epoch)?;
+        append_record(&mut self.log, &block, wire)
+    }
+
+    /// Settles a doubt of the log, if there is one: the change that is in doubt is kept or dropped.
+    pub fn settle<W: Wire>(&mut self, wire: &mut W) -> Result<Settled, SettleFault>
+        ensures settled { IsLogSettled result self.old self.new }
+        ensures blobs { self.new.blobs ≡ self.old.blobs }
+        ensures rows { self.new.rows ≡ self.old.rows }
+        ensures called { CallsSettle result (W.calls wire.old) (W.calls wire.new) }
+        ensures counted { FailsSettle result (W.faults wire.old) (W.faults wire.new) }
+    {
+        self.log.settle(wire)
+    }
+
+    // Seals the log.
+    fn seal_log<W: Wire>(&mut self, wire: &mut W) -> Result<(), SettleFault>
+        ensures log { IsLogSealed result self.old self.new }
+        ensures sealed { OnOk result (IsEmptyLast self.new.log) }
+        ensures blobs { self.new.blobs ≡ self.old.blobs }
+        ensures rows { self.new.rows ≡ self.old.rows }
+        ensures counted { FailsSeals result (W.faults wire.old) (W.faults wire.new) }
+    {
+        self.log.seal(wire)
+    }
+
+    // Seals the data.
+    fn seal_blobs<W: Wire>(&mut self, wire: &mut W) -> Result<(), SettleFault>
+        ensures kept { KeepsPlaces (laid self.old.blobs) (laid self.new.blobs) }
+        ensures sealed { OnOk result (IsEmptyLast self.new.blobs) }
+        ensures log { self.new.log ≡ self.old.log }
+        ensures rows { self.new.rows ≡ self.old.rows }
+        ensures counted { FailsSeals result (W.faults wire.old) (W.faults wire.new) }
+    {
+        self.blobs.seal(wire)
+    }
+
+    // Seals the rows.
+    fn seal_rows<W: Wire>(&mut self, wire: &mut W) -> Result<(), SettleFault>
+        ensures same { (logged self.new).rows ≡ (logged self.old).rows }
+        ensures sealed { OnOk result (IsEmptyLast self.new.rows) }
+        ensures log { self.new.log ≡ self.old.log }
+        ensures blobs { self.new.blobs ≡ self.old.blobs }
+        ensures counted { FailsSeals result (W.faults wire.old) (W.faults wire.new) }
+    {
+        self.rows.seal(wire)
+    }
+
+    /// Seals the log, then the data, and then the rows, and settles their doubts. A stream whose last extent is empty is left as it is.
+    ///
+    /// After a fault the streams before the one that failed are sealed.
+    pub fn seal<W: Wire>(&mut self, wire: &mut W) -> Result<(), SettleFault>
+        ensures sealed { OnOk result (AreSealed self.new) }
+        ensures log { IsLogSealed result self.old self.new }
+        ensures rows { (logged self.new).rows ≡ (logged self.old).rows }
+        ensures kept { KeepsPlaces (laid self.old.blobs) (laid self.new.blobs) }
+        ensures counted { FailsSeals result (W.faults wire.old) (W.faults wire.new) }
+    {
+        self.seal_log(wire)?;
+        self.seal_blobs(wire)?;
+        self.seal_rows(wire)?;
+        Ok(())
+    }
+
+    /// Streams with the same changes and the same data, which share the sealed extents. No block is copied.
+    ///
+    /// `AllocError`: the streams are as they were.
+    pub fn share(&mut self) -> Result<Self, AllocError>
+        requires { AreSealed self.old }
+        ensures same { self.new ≡ self.old }
+        ensures log { IfOk result (λ s. laid s.log ≡ laid self.old.log) }
+        ensures blobs { IfOk result (λ s. laid s.blobs ≡ laid self.old.blobs) }
+        ensures rows { IfOk result (λ s. laid s.rows ≡ laid self.old.rows) }
+        ensures sealed { IfOk result (λ s. AreSealed s) }
+    {
+        let log = self.log.share()?;
+        let blobs = self.blobs.share()?;
+        let rows = self.rows.share()?;
+        Ok(Self {
+            alloc: self.alloc,
+            log,
+            blobs,
+            rows,
+        })
+    }
+
+    /// The bytes of a piece from `start` up to but not including `end`. No byte is copied.
+    ///
+    /// Unreachable: every node with a copy was asked, and answered no.
+    pub fn read_part<W: Wire>(
+        &self,
+        piece: &Piece,
+        start: usize,
+        end: usize,
+        wire: &mut W,
+    ) -> Result<Share, ReadFault>
+        requires stored { IsStored (laid self.now.blobs) piece.now }
+        requires order { start ≤ end }
+        requires within { end ≤ piece_len piece.now }
+        ensures read { IfOk result (λ s. s ≡ slice_range (bytes_at (laid self.now.blobs) piece.now) start end) }
+        ensures unreachable { result ≡ Err Unreachable → all_faults (W.faults wire.old) < all_faults (W.faults wire.new) }
+    {
+        match piece {
+            Piece::At { place, .. } => {
+                let block = self.blobs.read(*place, wire)?;
+                match block.slice(start, end) {
+                    Ok(part) => Ok(part),
+                    Err(AllocError) => Err(ReadFault::NoMemory),
+                }
+            }
+            Piece::Bytes(_) => unreachable!(),
+        }
+    }
+
+    // The next change of the rows. If there is none, the position is then before the first change of the log.
+    fn next_row<W: Wire>(
+        &self,
+        position: &mut Position,
+        wire: &mut W,
+    ) -> Result<Option<(Change, u64)>, ReadFault>
+        requires { position.old.in_log ≡ false }
+        ensures next { IfOk result (λ o. MatchOption o (changes_before self.now position.new ≡ changes_before self.now position.old)
+            (λ c. changes_before self.now position.new ≡ changes_before self.now position.old ++ c ∷ [])) }
+        ensures over { IfOk result (λ o. MatchOption o (position.new.in_log ≡ true) (λ c. ⊤)) }
+        ensures unheard { IfOk result (λ o. MatchOption o (wire.new ≡ wire.old) (λ c. ⊤)) }
+        ensures refused { OnErr result (position.new ≡ position.old) }
+        ensures unreachable { result ≡ Err Unreachable → all_faults (W.faults wire.old) < all_faults (W.faults wire.new) }
+    {
+        match next_in(
+            &self.rows,
+            self.alloc,
+            position.extent,
+            position.index,
+            wire,
+        )? {
+            Some(next) => {
+                position.extent = next.extent;
+                position.index = next.index;
+                Ok(Some((next.change, next.epoch)))
+            }
+            None => {
+                position.in_log = true;
+                position.extent = 0;
+                position.index = 0;
+                Ok(None)
+            }
+        }
+    }
+
+    // The next change of the log.
+    fn next_logged<W: Wire>(
+        &self,
+        position: &mut Position,
+        wire: &mut W,
+    ) -> Result<Option<(Change, u64)>, ReadFault>
+        requires { position.old.in_log ≡ true }
+        ensures next { IfOk result (λ o. MatchOption o (changes_before self.now position.old ≡ all_changes self.now)
+            (λ c. changes_before self.now position.new ≡ changes_before self.now position.old ++ c ∷ [])) }
+        ensures refused { OnErr result (position.new ≡ position.old) }
+        ensures unreachable { result ≡ Err Unreachable → all_faults (W.faults wire.old) < all_faults (W.faults wire.new) }
+    {
+        match next_in(&self.log, self.alloc, position.extent, position.index, wire)? {
+            Some(next) => {
+                position.extent = next.extent;
+                position.index = next.index;
+                Ok(Some((next.change, next.epoch)))
+            }
+            None => Ok(None),
+        }
+    }
+
+    /// The change after a position, with its epoch, or `None` if there is no change after it. The position is then after this change.
+    ///
+    /// The changes of the rows come first, and then those of the log, each in the order in which they were made. A change that is in
+    /// doubt is not among them. After a fault no change was passed.
+    pub fn next_change<W: Wire>(
+        &self,
+        position: &mut Position,
+        wire: &mut W,
+    ) -> Result<Option<(Change, u64)>, ReadFault>
+        ensures next { IfOk result (λ o. MatchOption o (changes_before self.now position.old ≡ all_changes self.now)
+            (λ c. changes_before self.now position.new ≡ changes_before self.now position.old ++ c ∷ [])) }
+        ensures refused { OnErr result (changes_before self.now position.new ≡ changes_before self.now position.old) }
+        ensures unreachable { result ≡ Err Unreachable → all_faults (W.faults wire.old) < all_faults (W.faults wire.new) }
+    {
+        if position.in_log {
+            return self.next_logged(position, wire);
+        }
+        match self.next_row(position, wire)? {
+            Some(change) => Ok(Some(change)),
+            None => self.next_logged(position, wire),
+        }
+    }
+}

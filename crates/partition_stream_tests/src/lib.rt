@@ -1,0 +1,11 @@
+//! Tests of the three streams of a partition, over written deliveries.
+#![tactic(auto)]
+
+#[cfg(test)]
+mod data_tests;
+#[cfg(test)]
+mod log_tests;
+#[cfg(test)]
+mod samples;
+#[cfg(test)]
+mod share_tests;

@@ -1,0 +1,98 @@
+//! Wires, changes and answers for tests.
+use extent_node::{Delivery, Script};
+use partition_stream::{LogFault, Position, Streams};
+use stamp_types::{Act, Change, Key, Text};
+use std::alloc::Global;
+use std::process::Abort;
+use stream_manager::{SettleFault, Settled};
+
+pub(crate) const D: Delivery = Delivery::Done;
+
+pub(crate) const R: Delivery = Delivery::Refused;
+
+pub(crate) const YES: [bool; 3] = [true, true, true];
+
+/// What a call answered.
+#[derive(Clone, Copy, Debug, PartialEq, Eq)]
+pub(crate) enum Told {
+    Done,
+    Busy,
+    Doubt,
+    NoMemory,
+    Clean,
+    Kept,
+    Dropped,
+}
+
+/// A wire that gives these deliveries and answers in turn.
+pub(crate) fn script(rt: &impl Abort, alloc: Global, puts: &[Delivery], asks: &[bool]) -> Script {
+    Script::new(
+        alloc,
+        puts.to_vec(alloc).expect(rt, "memory"),
+        asks.to_vec(alloc).expect(rt, "memory"),
+    )
+}
+
+fn text(rt: &impl Abort, alloc: Global, text: &str) -> Text {
+    let text = String::from_str(alloc, text).expect(rt, "memory");
+    Text::new(text).expect(rt, "a clean text")
+}
+
+/// The change that deletes the container of this name.
+pub(crate) fn change(rt: &impl Abort, alloc: Global, name: &str) -> Change {
+    let key = Key {
+        account: text(rt, alloc, "devstoreaccount1"),
+        container: text(rt, alloc, name),
+    };
+    Change::new(key, Act::DeleteContainer).expect(rt, "a good change")
+}
+
+/// Logs the change that deletes the container of this name.
+pub(crate) fn log(
+    rt: &impl Abort,
+    alloc: Global,
+    streams: &mut Streams,
+    name: &str,
+    wire: &mut Script,
+) -> Told {
+    let change = change(rt, alloc, name);
+    match streams.log_change(&change, 0, wire) {
+        Ok(()) => Told::Done,
+        Err(LogFault::Busy) => Told::Busy,
+        Err(LogFault::Doubt) => Told::Doubt,
+        Err(LogFault::NoMemory) => Told::NoMemory,
+    }
+}
+
+/// Settles the doubt of the log.
+pub(crate) fn settle(streams: &mut Streams, wire: &mut Script) -> Told {
+    match streams.settle(wire) {
+        Ok(Settled::Clean) => Told::Clean,
+        Ok(Settled::Kept(_)) => Told::Kept,
+        Ok(Settled::Dropped) => Told::Dropped,
+        Err(SettleFault::Busy) => Told::Busy,
+        Err(SettleFault::NoMemory) => Told::NoMemory,
+    }
+}
+
+// Whether the change is the one that deletes the container of this name.
+fn is_named(change: &Change, name: &str) -> bool {
+    change.key().container.as_str() == name && matches!(change.act(), Act::DeleteContainer)
+}
+
+/// Whether the streams keep the changes that delete these containers, in this order, and no other change.
+pub(crate) fn keeps(rt: &impl Abort, alloc: Global, streams: &Streams, names: &[&str]) -> bool {
+    let mut wire = script(rt, alloc, &[], &[]);
+    let mut position = Position::first();
+    for name in names {
+        match streams.next_change(&mut position, &mut wire) {
+            Ok(Some((change, epoch))) => {
+                if epoch != 0 || !is_named(&change, name) {
+                    return false;
+                }
+            }
+            _ => return false,
+        }
+    }
+    matches!(streams.next_change(&mut position, &mut wire), Ok(None))
+}
