@@ -1,10 +1,12 @@
 -- Content that is stored stays stored, and reads the same.
-use Rattle.std.proofs.Common.{◌≡◌, ◌∙◌, IsTrue, List, [], ◌∷◌, ap, refl, sym}
+use Rattle.std.proofs.Common.{◌≡◌, ◌∙◌, IsTrue, List, [], ◌∷◌, ap, refl, sym, IsSome}
 use Rattle.std.proofs.lemmas.List.Elements.{All-weaker, All-head, All-tail}
 use Rattle.std.proofs.lemmas.List.Concat.{flat_map-cons}
 use Rattle.std.specs.Prelude.{unwrap_or}
 use Rattle.extent_node.specs.Copies.{Block}
-use Rattle.stamp_types.specs.Changes.{KeyedAct}
+use Rattle.stamp_types.specs.Changes.{KeyedAct, act_with, change_with, content_of}
+use Rattle.stamp_types.specs.declared.act.Act.{Act}
+use Rattle.stamp_types.specs.declared.act.Act.TheVariants as acts
 use Rattle.stamp_types.specs.Contents.{EachContent, EachActContent}
 use Rattle.stamp_types.specs.Pieces.{is_placed}
 use Rattle.stamp_types.specs.World.{Part, part_value}
@@ -45,6 +47,15 @@ stored_placed es (At place n ∷ ps) stored = stored_placed es ps (All-tail (IsS
 
 pub change_placed : (es : List (List Block)) (c : KeyedAct) → EachActContent (AreStored es) c.act → IsPlacedChange c
 change_placed es c stored = EachActContent-then (AreStored es) (λ ps. IsTrue (is_placed ps)) (stored_placed es) c.act stored
+
+-- a change with content that is stored
+pub changed_content : (es : List (List Block)) (c : KeyedAct) (ps : List Piece) → IsSome (content_of c.act) → AreStored es ps → EachActContent (AreStored es) (change_with c ps).act
+changed_content es c ps some stored = of_act c.act some
+  where
+    of_act : (a : Act) → IsSome (content_of a) → EachActContent (AreStored es) (act_with a ps)
+    of_act (acts.PutBlob a) own = stored
+    of_act (acts.PutBlock a) own = stored
+    of_act other own = absurd cc
 
 pub part_stays : (es fs : List (List Block)) → KeepsPlaces es fs → (p : Part (List Piece)) → EachContent (AreStored es) p → EachContent (AreStored fs) p
 part_stays es fs keeps p stored = EachContent-then (AreStored es) (AreStored fs) (content_stays es fs keeps) p stored

@@ -1,11 +1,11 @@
 -- Content that is put piece by piece.
-use Rattle.std.proofs.Common.{◌≡◌, ◌∙◌, ◌≤◌, ◌<◌, ◌+◌, ◌&&◌, ℕ, zero, suc, Bool, true, List, [], ◌∷◌, ◌++◌, IsTrue, nat_le, length, map, take, get_or, ap, sym, refl, arith, leb-true}
+use Rattle.std.proofs.Common.{◌≡◌, ◌∙◌, ◌≤◌, ◌<◌, ◌+◌, ◌&&◌, ℕ, zero, suc, Bool, true, List, [], ◌∷◌, ◌++◌, IsTrue, nat_le, length, map, take, drop, get_or, ap, sym, refl, arith, leb-true}
 use Rattle.std.specs.List.{list_all}
 use Rattle.std.proofs.lemmas.Bool.{and_parts}
 use Rattle.std.proofs.lemmas.List.{length-map, map-append, flat_map_more, take_more}
 use Rattle.std.proofs.lemmas.List.Elements.{All-nil, All-push}
 use Rattle.extent_node.specs.Copies.{Block}
-use Rattle.stamp_types.specs.Pieces.{piece_len, piece_bytes, held, is_held, is_held_piece, is_piece, is_pieces}
+use Rattle.stamp_types.specs.Pieces.{cut, cut_at_most, piece_len, piece_bytes, held, is_held, is_held_piece, is_piece, is_pieces}
 use Rattle.stamp_types.specs.declared.piece.Piece.{Piece}
 use Rattle.stream_manager.specs.Places.{KeepsPlaces}
 use Rattle.partition_stream.specs.Contents.{ArePlaced, IsPlaced, IsStored, bytes_at}
@@ -64,3 +64,14 @@ are_by_len ps = ap (λ b. nat_le (length ps) 16 && b) (all_by_len ps) ∙ ap (λ
 pub placed_are_pieces : (es : List (List Block)) (content ps : List Piece) → ArePlaced es content ps → IsTrue (is_pieces content) → IsTrue (is_pieces ps)
 placed_are_pieces es content ps placed are =
     are_by_len ps ∙ ap (λ l. nat_le (length l) 16 && list_all is_piece_len l) placed.lengths ∙ sym (are_by_len content) ∙ are
+
+-- ---- content that was cut
+
+cut_held_at_most : (n : ℕ) (bs : List ℕ) → IsTrue (is_held (cut_at_most n bs))
+cut_held_at_most zero bs = refl
+cut_held_at_most (suc n) [] = refl
+cut_held_at_most (suc n) (b ∷ bs) = cut_held_at_most n (drop 4194304 (b ∷ bs))
+
+-- pieces that bytes are cut into hold their bytes
+pub cut_held : (bs : List ℕ) → IsTrue (is_held (cut bs))
+cut_held bs = cut_held_at_most (length bs) bs

@@ -1,8 +1,10 @@
 pub mod ChangeLemmas
 pub mod ContentLemmas
 pub mod DataLemmas
+pub mod FirstPartLemmas
 pub mod KeptLemmas
 pub mod LogLemmas
 pub mod MeaningLemmas
+pub mod OneMoreLemmas
 pub mod PositionLemmas
 pub mod StreamLemmas

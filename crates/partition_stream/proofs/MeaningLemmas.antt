@@ -23,7 +23,7 @@ use Rattle.partition_stream.specs.Changes.{Recorded, change_in, changes_of}
 use Rattle.partition_stream.specs.Contents.{AreStored, content_at}
 use Rattle.partition_stream.specs.Meanings.{is_on, acts_on, after_acts, held_of, meaning, IsOneMore, IsWithDoubt}
 use Rattle.partition_stream.specs.Storing.{IsStoredChange, IsStoredRecord, AreKept}
-use Rattle.partition_stream.specs.Streams.{Logged, ThreeStreams, logged}
+use Rattle.partition_stream.specs.Streams.{HaveSameBlocks, Logged, ThreeStreams, logged}
 use Rattle.partition_stream.proofs.ChangeLemmas.{change_in-block}
 use Rattle.partition_stream.proofs.ContentLemmas.{part_reads}
 
@@ -150,9 +150,9 @@ held_of-stored s key kept =
 
 -- ---- a log that is shared
 
-pub held_of-shared : (s t : ThreeStreams) (key : Key) → laid t.log ≡ laid s.log → laid t.rows ≡ laid s.rows → held_of (logged t) key ≡ held_of (logged s) key
-held_of-shared s t key log rows = held_of-same (logged s) (logged t) key (ap (λ es. changes_of (blocks_of es)) rows) (ap (λ es. changes_of (blocks_of es)) log)
+pub held_of-shared : (s t : ThreeStreams) (key : Key) → HaveSameBlocks s t → held_of (logged t) key ≡ held_of (logged s) key
+held_of-shared s t key same = held_of-same (logged s) (logged t) key (ap (λ es. changes_of (blocks_of es)) same.rows) (ap (λ es. changes_of (blocks_of es)) same.log)
 
-pub meaning-shared : (s t : ThreeStreams) (key : Key) → laid t.log ≡ laid s.log → laid t.blobs ≡ laid s.blobs → laid t.rows ≡ laid s.rows → meaning (logged t) key ≡ meaning (logged s) key
-meaning-shared s t key log blobs rows =
-    ap (part_value (content_at (laid t.blobs))) (held_of-shared s t key log rows) ∙ ap (λ es. part_value (content_at es) (held_of (logged s) key)) blobs
+pub meaning-shared : (s t : ThreeStreams) (key : Key) → HaveSameBlocks s t → meaning (logged t) key ≡ meaning (logged s) key
+meaning-shared s t key same =
+    ap (part_value (content_at (laid t.blobs))) (held_of-shared s t key same) ∙ ap (λ es. part_value (content_at es) (held_of (logged s) key)) same.blobs

@@ -16,9 +16,13 @@ use Rattle.partition_stream.specs.declared.faults.LogFault.TheVariants as fault
 abbrev pub kept_doubt : ThreeStreams → ThreeStreams → List Recorded
 kept_doubt s t = held (is_kept (laid s.log) s.log.last (laid t.log)) (logged s).doubt
 
+-- the change that was in doubt, if it was kept, comes before those that were added
+abbrev pub with_kept : List Recorded → List Recorded → List Recorded
+with_kept kept added = kept ++ added
+
 -- the log has the change that was in doubt, if it was kept, and then these changes, and this doubt
 pub record Logs (s : ThreeStreams) (added : List Recorded) (doubt : Option Recorded) (t : ThreeStreams) : Type 0 where
-  pub changes : (logged t).log ≡ (logged s).log ++ (kept_doubt s t ++ added)
+  pub changes : (logged t).log ≡ (logged s).log ++ with_kept (kept_doubt s t) added
   pub left : (logged t).doubt ≡ doubt
 
 -- what logging a change does: an older doubt is kept or dropped first, or it stays

@@ -18,6 +18,10 @@ abbrev pub changes_before : ThreeStreams → Position → List Recorded
 changes_before s p =
     cond p.in_log ((logged s).rows ++ changes_of (before (laid s.log) p.extent p.index)) (changes_of (before (laid s.rows) p.extent p.index))
 
+-- the first changes are those at the front of all
+abbrev pub IsFirstPart : List Recorded → List Recorded → Type 0
+IsFirstPart first all = (rest : List Recorded) × (all ≡ first ++ rest)
+
 -- there is a block at the place, and the blocks before it are those before this index of this extent
 pub record IsNextAt (es : List (List Block)) (extent index : ℕ) (p : Place) : Type 0 where
   pub here : IsSome (block_at es p)

@@ -41,3 +41,15 @@ pub record AreSealed (s : ThreeStreams) : Type 0 where
   pub log : IsEmptyLast s.log
   pub blobs : IsEmptyLast s.blobs
   pub rows : IsEmptyLast s.rows
+
+-- the streams have the same blocks at the same places
+pub record HaveSameBlocks (s t : ThreeStreams) : Type 0 where
+  pub log : laid t.log ≡ laid s.log
+  pub blobs : laid t.blobs ≡ laid s.blobs
+  pub rows : laid t.rows ≡ laid s.rows
+
+-- extents of two or more blocks may have as many bytes as before
+pub record HaveSameLimits (s t : ThreeStreams) : Type 0 where
+  pub log : t.log.limit ≡ s.log.limit
+  pub blobs : t.blobs.limit ≡ s.blobs.limit
+  pub rows : t.rows.limit ≡ s.rows.limit

@@ -18,6 +18,7 @@ fn put_bytes<W: Wire>(blobs: &mut Stream, bytes: &Share, wire: &mut W) -> Result
     requires { length bytes.now ≤ 4_194_304 }
     ensures placed { IfOk result (λ p. block_at (laid blobs.new) p ≡ Some bytes.now) }
     ensures kept { KeepsPlaces (laid blobs.old) (laid blobs.new) }
+    ensures limit { blobs.new.limit ≡ blobs.old.limit }
     ensures counted { FailsPut result (W.faults wire.old) (W.faults wire.new) }
 {
     match blobs.append(bytes, wire) {
@@ -35,6 +36,7 @@ fn put_piece<W: Wire>(blobs: &mut Stream, piece: &Piece, wire: &mut W) -> Result
     requires short { piece_len piece.now ≤ 4_194_304 }
     ensures placed { IfOk result (λ p. IsPlaced (laid blobs.new) piece.now p) }
     ensures kept { KeepsPlaces (laid blobs.old) (laid blobs.new) }
+    ensures limit { blobs.new.limit ≡ blobs.old.limit }
     ensures counted { FailsPut result (W.faults wire.old) (W.faults wire.new) }
 {
     match piece {
@@ -60,6 +62,7 @@ fn put_pieces<W: Wire>(
     requires short { IsTrue (is_pieces pieces.now) }
     ensures placed { IfOk result (λ ps. ArePlaced (laid blobs.new) pieces.now ps.items) }
     ensures kept { KeepsPlaces (laid blobs.old) (laid blobs.new) }
+    ensures limit { blobs.new.limit ≡ blobs.old.limit }
     ensures counted { FailsPut result (W.faults wire.old) (W.faults wire.new) }
 {
     let mut placed = Vec::with_capacity(alloc, pieces.len())?;
@@ -80,6 +83,7 @@ pub(crate) fn put_content<W: Wire>(
     requires { IsTrue (is_held content.now) }
     ensures placed { IfOk result (λ ps. ArePlaced (laid blobs.new) content.now ps) }
     ensures kept { KeepsPlaces (laid blobs.old) (laid blobs.new) }
+    ensures limit { blobs.new.limit ≡ blobs.old.limit }
     ensures counted { FailsPut result (W.faults wire.old) (W.faults wire.new) }
 {
     let placed = put_pieces(alloc, blobs, content.as_slice(), wire)?;

@@ -1,8 +1,10 @@
 //! Laws of what a log means. Each law is the contract of a function that does nothing.
-ghost use Rattle.std.specs.Prelude.{◌≡◌, ◌≢◌, Bool, List, Option, ◌++◌};
+ghost use Rattle.std.specs.Prelude.{◌≡◌, ◌≢◌, ℕ, Bool, IsSome, IsTrue, List, Option, None, [], ◌∷◌, ◌++◌};
 ghost use Rattle.extent_node.specs.Copies.{Block};
 ghost use Rattle.extent_node.specs.Faults.{held};
+ghost use Rattle.stamp_types.specs.Changes.{KeyedAct, change_with, content_of};
 ghost use Rattle.stamp_types.specs.Contents.{EachContent};
+ghost use Rattle.stamp_types.specs.Pieces.{cut, is_held};
 ghost use Rattle.stamp_types.specs.World.{Part, changed, no_part, part_value, same_pieces};
 ghost use Rattle.stamp_types.specs.declared.piece.Piece.{Piece};
 ghost use Rattle.stamp_values.specs.declared.key.Key.{Key};
@@ -11,26 +13,34 @@ ghost use Rattle.stream_manager.specs.Streams.{laid};
 ghost use Rattle.partition_stream.specs.Changes.{Recorded};
 ghost use Rattle.partition_stream.specs.Contents.{AreStored, content_at};
 ghost use Rattle.partition_stream.specs.Meanings.{acts_on, after_acts, held_of, meaning, IsOneMore, IsWithDoubt};
-ghost use Rattle.partition_stream.specs.Storing.{AreKept};
-ghost use Rattle.partition_stream.specs.Streams.{Logged, ThreeStreams, logged};
+ghost use Rattle.partition_stream.specs.Outcomes.{Logs};
+ghost use Rattle.partition_stream.specs.Positions.{IsFirstPart, all_changes, changes_before};
+ghost use Rattle.partition_stream.specs.Storing.{AreKept, IsStoredChange};
+ghost use Rattle.partition_stream.specs.Streams.{HaveSameBlocks, Logged, ThreeStreams, logged};
+ghost use Rattle.partition_stream.specs.declared.position.Position.{Position};
 
-/// Content that is stored stays stored and reads the same, if the blocks of the data stay at their places. Each content of a container
-/// is stored, for as long as what every partition keeps is so.
+/// Content that is stored stays stored and reads the same, if the blocks of the data stay at their places. A change that gets content
+/// which is stored brings content that is stored. Each content of a container is stored, since every partition keeps `AreKept`.
 pub fn stored_content_stays()
     ensures pieces { (es fs : List (List Block)) (ps : List Piece) → KeepsPlaces es fs → AreStored es ps
         → AreStored fs ps × (content_at fs ps ≡ content_at es ps) }
     ensures part { (es fs : List (List Block)) (p : Part (List Piece)) → KeepsPlaces es fs → EachContent (AreStored es) p
         → EachContent (AreStored fs) p × (part_value (content_at fs) p ≡ part_value (content_at es) p) }
+    ensures brought { (es : List (List Block)) (c : KeyedAct) (ps : List Piece) → IsSome (content_of c.act) → AreStored es ps
+        → IsStoredChange es (change_with c ps) }
     ensures each { (s : ThreeStreams) (key : Key) → AreKept s → EachContent (AreStored (laid s.blobs)) (held_of (logged s) key) }
 {}
 
-/// A change more in the log is one more change of its container, in pieces and in bytes.
+/// A change more in the log is one more change of its container, in pieces and in bytes. A change that is logged without an older
+/// doubt is a change more.
 pub fn an_acknowledged_change_is_one_more()
     ensures pieces { (s t : Logged) (c : Recorded) → IsOneMore s c t
         → held_of t c.0.key ≡ changed same_pieces c.0.act (held_of s c.0.key) }
     ensures bytes { (s t : Logged) (c : Recorded) → IsOneMore s c t → KeepsPlaces s.blobs t.blobs
         → EachContent (AreStored s.blobs) (held_of s c.0.key)
         → meaning t c.0.key ≡ changed (content_at t.blobs) c.0.act (meaning s c.0.key) }
+    ensures logged { (s t : ThreeStreams) (c : Recorded) → (logged s).doubt ≡ None → Logs s (c ∷ []) None t → t.rows ≡ s.rows
+        → IsOneMore (logged s) c (logged t) }
 {}
 
 /// If a doubt is kept or dropped, each container is as it was, or as the one change that was in doubt leaves it.
@@ -52,10 +62,20 @@ pub fn another_container_is_left()
         → EachContent (AreStored s.blobs) (held_of s key) → meaning t key ≡ meaning s key }
 {}
 
-/// Streams that have the same blocks at the same places mean the same, as the streams that `share` gives.
+/// Streams that have the same blocks at the same places mean the same. What `share` gives has the same blocks.
 pub fn a_shared_log_means_the_same()
-    ensures pieces { (s t : ThreeStreams) (key : Key) → laid t.log ≡ laid s.log → laid t.rows ≡ laid s.rows
+    ensures pieces { (s t : ThreeStreams) (key : Key) → HaveSameBlocks s t
         → held_of (logged t) key ≡ held_of (logged s) key }
-    ensures bytes { (s t : ThreeStreams) (key : Key) → laid t.log ≡ laid s.log → laid t.blobs ≡ laid s.blobs → laid t.rows ≡ laid s.rows
+    ensures bytes { (s t : ThreeStreams) (key : Key) → HaveSameBlocks s t
         → meaning (logged t) key ≡ meaning (logged s) key }
+{}
+
+/// The pieces that a body is cut into hold their bytes, so they may be put into the data.
+pub fn a_body_that_is_cut_may_be_put()
+    ensures { (body : List ℕ) → IsTrue (is_held (cut body)) }
+{}
+
+/// The changes before a position are the first of all changes. So a walk with `next_change` ends, and it has then met each change once.
+pub fn a_walk_meets_all_changes_in_order()
+    ensures { (s : ThreeStreams) (p : Position) → IsFirstPart (changes_before s p) (all_changes s) }
 {}

@@ -39,6 +39,7 @@ pub(crate) fn append_record<W: Wire>(
 ) -> Result<(), LogFault>
     requires { length block.now ≤ 16_777_216 }
     ensures appended { IsRecordAppended result log.old block.now log.new }
+    ensures limit { log.new.limit ≡ log.old.limit }
     ensures counted { FailsLog result (W.faults wire.old) (W.faults wire.new) }
     ensures unheard { (result ≡ Err NoMemory) → wire.new ≡ wire.old }
 {

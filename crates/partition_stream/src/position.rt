@@ -1,5 +1,7 @@
 //! Positions in a walk over changes.
-ghost use Rattle.std.specs.Prelude.{◌≡◌, false};
+ghost use Rattle.std.specs.Prelude.{◌≡◌, []};
+ghost use Rattle.partition_stream.specs.Positions.{changes_before};
+ghost use Rattle.partition_stream.specs.Streams.{ThreeStreams};
 
 /// How far a walk over the changes of streams has come: first over the rows of the last checkpoint, then over the log.
 #[derive(Clone, Copy)]
@@ -14,9 +16,7 @@ pub struct Position {
 impl Position {
     /// The position before the first change.
     pub fn first() -> Self
-        ensures in_log { result.in_log ≡ false }
-        ensures extent { result.extent ≡ 0 }
-        ensures index { result.index ≡ 0 }
+        ensures { (s : ThreeStreams) → changes_before s result ≡ [] }
     {
         Self {
             in_log: false,

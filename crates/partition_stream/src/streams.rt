@@ -48,8 +48,8 @@ impl Streams {
     ghost use Rattle.partition_stream.specs.Counting.{FailsLog, FailsPut, FailsSeals};
     ghost use Rattle.partition_stream.specs.Outcomes.{IsLogged, IsLogSettled, IsLogSealed};
     ghost use Rattle.partition_stream.specs.Positions.{all_changes, changes_before};
-    ghost use Rattle.partition_stream.specs.Storing.{AreKept, IsStoredChange};
-    ghost use Rattle.partition_stream.specs.Streams.{AreSealed, IsEmptyLast, logged};
+    ghost use Rattle.partition_stream.specs.Storing.{IsStoredChange};
+    ghost use Rattle.partition_stream.specs.Streams.{AreSealed, HaveSameBlocks, HaveSameLimits, IsEmptyLast, logged};
     ghost use Rattle.partition_stream.specs.declared.faults.LogFault.TheVariants.{NoMemory};
 
     /// Streams without a change and without data, whose extents of two or more blocks have at most `extent_bytes` bytes. Takes no memory.
@@ -59,6 +59,9 @@ impl Streams {
         ensures doubt { (logged result).doubt ≡ None }
         ensures data { laid result.blobs ≡ [] ∷ [] }
         ensures sealed { AreSealed result }
+        ensures log_limit { result.log.limit ≡ extent_bytes }
+        ensures blobs_limit { result.blobs.limit ≡ extent_bytes }
+        ensures rows_limit { result.rows.limit ≡ extent_bytes }
     {
         Self {
             alloc,
@@ -77,6 +80,7 @@ impl Streams {
         ensures kept { KeepsPlaces (laid self.old.blobs) (laid self.new.blobs) }
         ensures log { self.new.log ≡ self.old.log }
         ensures rows { self.new.rows ≡ self.old.rows }
+        ensures limit { self.new.blobs.limit ≡ self.old.blobs.limit }
         ensures counted { FailsPut result (W.faults wire.old) (W.faults wire.new) }
     {
         put_content(self.alloc, &mut self.blobs, content, wire)
@@ -96,6 +100,7 @@ impl Streams {
         ensures logged { IsLogged result self.old (change.now, epoch) self.new }
         ensures blobs { self.new.blobs ≡ self.old.blobs }
         ensures rows { self.new.rows ≡ self.old.rows }
+        ensures limit { self.new.log.limit ≡ self.old.log.limit }
         ensures counted { FailsLog result (W.faults wire.old) (W.faults wire.new) }
         ensures unheard { result ≡ Err NoMemory → wire.new ≡ wire.old }
     {
@@ -108,6 +113,7 @@ impl Streams {
         ensures settled { IsLogSettled result self.old self.new }
         ensures blobs { self.new.blobs ≡ self.old.blobs }
         ensures rows { self.new.rows ≡ self.old.rows }
+        ensures limit { self.new.log.limit ≡ self.old.log.limit }
         ensures called { CallsSettle result (W.calls wire.old) (W.calls wire.new) }
         ensures counted { FailsSettle result (W.faults wire.old) (W.faults wire.new) }
     {
@@ -120,6 +126,7 @@ impl Streams {
         ensures sealed { OnOk result (IsEmptyLast self.new.log) }
         ensures blobs { self.new.blobs ≡ self.old.blobs }
         ensures rows { self.new.rows ≡ self.old.rows }
+        ensures limit { self.new.log.limit ≡ self.old.log.limit }
         ensures counted { FailsSeals result (W.faults wire.old) (W.faults wire.new) }
     {
         self.log.seal(wire)
@@ -131,6 +138,7 @@ impl Streams {
         ensures sealed { OnOk result (IsEmptyLast self.new.blobs) }
         ensures log { self.new.log ≡ self.old.log }
         ensures rows { self.new.rows ≡ self.old.rows }
+        ensures limit { self.new.blobs.limit ≡ self.old.blobs.limit }
         ensures counted { FailsSeals result (W.faults wire.old) (W.faults wire.new) }
     {
         self.blobs.seal(wire)
@@ -142,6 +150,7 @@ impl Streams {
         ensures sealed { OnOk result (IsEmptyLast self.new.rows) }
         ensures log { self.new.log ≡ self.old.log }
         ensures blobs { self.new.blobs ≡ self.old.blobs }
+        ensures limit { self.new.rows.limit ≡ self.old.rows.limit }
         ensures counted { FailsSeals result (W.faults wire.old) (W.faults wire.new) }
     {
         self.rows.seal(wire)
@@ -155,6 +164,7 @@ impl Streams {
         ensures log { IsLogSealed result self.old self.new }
         ensures rows { (logged self.new).rows ≡ (logged self.old).rows }
         ensures kept { KeepsPlaces (laid self.old.blobs) (laid self.new.blobs) }
+        ensures limits { HaveSameLimits self.old self.new }
         ensures counted { FailsSeals result (W.faults wire.old) (W.faults wire.new) }
     {
         self.seal_log(wire)?;
@@ -169,10 +179,9 @@ impl Streams {
     pub fn share(&mut self) -> Result<Self, AllocError>
         requires { AreSealed self.old }
         ensures same { self.new ≡ self.old }
-        ensures log { IfOk result (λ s. laid s.log ≡ laid self.old.log) }
-        ensures blobs { IfOk result (λ s. laid s.blobs ≡ laid self.old.blobs) }
-        ensures rows { IfOk result (λ s. laid s.rows ≡ laid self.old.rows) }
+        ensures shared { IfOk result (λ s. HaveSameBlocks self.old s) }
         ensures sealed { IfOk result (λ s. AreSealed s) }
+        ensures limits { IfOk result (λ s. HaveSameLimits self.old s) }
     {
         let log = self.log.share()?;
         let blobs = self.blobs.share()?;

@@ -1,4 +1,4 @@
-use Rattle.std.proofs.Common.{take}
+use Rattle.std.proofs.Common.{take, ◌≡◌}
 use Rattle.stream_manager.specs.Counting.{Grows}
 use Rattle.stream_manager.specs.Places.{KeepsPlaces}
 use Rattle.stream_manager.specs.Streams.{laid}
@@ -9,5 +9,6 @@ abbrev pub invariant-loop-piece : goal.invariant-loop-piece
 invariant-loop-piece g l = record {
   placed : ArePlaced (laid l.blobs) (take l.piece-index l.pieces) l.placed.items;
   kept : KeepsPlaces (laid l.initial.blobs) (laid l.blobs);
+  limit : l.blobs.limit ≡ l.initial.blobs.limit;
   counted : Grows (g.W.Wire.faults l.initial.wire) (g.W.Wire.faults l.wire);
 }

@@ -1,4 +1,4 @@
-use Rattle.partition_stream.proofs.ContentLemmas.{content_stays, content_reads, part_stays, part_reads}
+use Rattle.partition_stream.proofs.ContentLemmas.{changed_content, content_stays, content_reads, part_stays, part_reads}
 use Rattle.partition_stream.proofs.MeaningLemmas.{held_of-stored}
 use Rattle.partition_stream.proofs.laws.stored_content_stays.Goals as goal
 
@@ -10,3 +10,6 @@ returns-clause-part c = λ es fs p keeps stored. (part_stays es fs keeps p store
 
 pub returns-clause-each : goal.returns-clause-each
 returns-clause-each c = λ s key kept. held_of-stored s key kept
+
+pub returns-clause-brought : goal.returns-clause-brought
+returns-clause-brought c = λ es change ps some stored. changed_content es change ps some stored
