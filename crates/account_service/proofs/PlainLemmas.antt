@@ -35,7 +35,7 @@ use Rattle.stamp_model.specs.Refusals.{refusal}
 use Rattle.stamp_model.specs.Responses.{response, reply}
 use Rattle.stamp_model.proofs.ContentLemmas.{sizes-read, world_value-effect}
 use Rattle.stamp_model.proofs.EffectLemmas.{on_key, effect-refused}
-use Rattle.stamp_model.proofs.ReplyLemmas.{unrefused}
+use Rattle.stamp_model.proofs.ReplyLemmas.{reply-own, unrefused}
 use Rattle.account_service.specs.Decisions.{found_reply}
 use Rattle.stamp_model.specs.Services.{empty_held, AnswersAsModel, held_reply, held_after}
 use Rattle.account_service.specs.HeldRows.{HeldRows, empty_rows, AreHeld, bytes_held, held_of, row_refusal, rows_after, rows_with}
@@ -156,11 +156,12 @@ module _ (h : HeldRows) (q : Asked) (t : ℕ) (all : AreHeld h.rows) where
   sized = EachContent-then (λ ps. is_held ps ≡ true) (λ ps. byte_count (held ps) ≡ pieces_len ps) (λ ps h. length-read piece_bytes ps (held_whole ps h)) part (all q.ask.key)
 
   abbrev reply_by : Part (List ℕ) → Part ℕ → Reply
-  reply_by p z = response (refusal (Some h.keys) z q t) (part_after held (unless_refused (refusal (Some h.keys) z q t) (change_of z q t)) p) q
+  reply_by p z = response (refusal (Some h.keys) z q t) (reply_of (part_after held (unless_refused (refusal (Some h.keys) z q t) (change_of z q t)) p) q)
 
   reply_by_rows : held_reply (held_of h) q t ≡ reply_by (part_value held part) row_sizes
   reply_by_rows =
-      ap (λ (p : Part (List ℕ)). reply_by p (sizes p)) (part_at-world_value held h.rows q.ask.key)
+      reply-own (Some h.keys) (world_value held h.rows) q t None
+      ∙ ap (λ (p : Part (List ℕ)). reply_by p (sizes p)) (part_at-world_value held h.rows q.ask.key)
       ∙ ap (reply_by (part_value held part)) (sizes-read held pieces_len byte_count part sized)
 
   same_refusal : refusal (Some h.keys) (sizes (part_at (world_value held h.rows) q.ask.key)) q t ≡ row_refusal h q t
@@ -185,12 +186,12 @@ module _ (h : HeldRows) (q : Asked) (t : ℕ) (all : AreHeld h.rows) where
       ap (λ (z : Part ℕ). with_content (frame z q) (bytes_held (spans after q))) (sym (part_value-after pieces_len change))
       ∙ reply_of-read piece_bytes after q whole
       ∙ ap (λ (p : Part (List ℕ)). reply_of p q) (part_value-after held change)
-      ∙ sym (reply_by_rows ∙ ap (λ (o : Option Refusal). response o (part_after held (unless_refused o change) (part_value held part)) q) free)
+      ∙ sym (reply_by_rows ∙ ap (λ (o : Option Refusal). response o (reply_of (part_after held (unless_refused o change) (part_value held part)) q)) free)
 
   -- the reply to a refused request
   pub reply_refused : (r : Refusal) → row_refusal h q t ≡ Some r → denied r ≡ held_reply (held_of h) q t
   reply_refused r e =
-      sym (reply_by_rows ∙ ap (λ (o : Option Refusal). response o (part_after held (unless_refused o change) (part_value held part)) q) e)
+      sym (reply_by_rows ∙ ap (λ (o : Option Refusal). response o (reply_of (part_after held (unless_refused o change) (part_value held part)) q)) e)
 
   -- a refused request changes nothing
   held_refused : (r : Refusal) → row_refusal h q t ≡ Some r → held_of h ≡ held_after (held_of h) q t

@@ -33,7 +33,7 @@ use Rattle.range_rows.proofs.BlockLemmas.{target_blob-part_value}
 use Rattle.range_rows.proofs.ListLemmas.{entries-map_values}
 use Rattle.stamp_model.specs.Refusals.{refusal}
 use Rattle.stamp_model.specs.Effects.{unless_refused, change, effect}
-use Rattle.stamp_model.specs.Responses.{tells_container, tells_blob}
+use Rattle.stamp_model.specs.Responses.{tells_container, tells_blob, tells_nothing}
 use Rattle.stamp_model.proofs.ArgumentLemmas.{no_cause}
 use Rattle.stamp_model.proofs.EffectLemmas.{on_key}
 use Rattle.stamp_model.proofs.ObjectLemmas.{is_some-mapped, container_needed, blob_needed}
@@ -143,22 +143,14 @@ module _ (keys : Option Keys) (w : World (List ℕ)) (q : Asked) (t : ℕ) (free
       ap (λ (v : World (List ℕ)). listed_in (part_at v q.ask.key)) (effect-read keys w q t (reads_by q.ask.op tells)) ∙ listed_by q.ask.op refl tells
 
 module _ (q : Asked) (s r : Standing) (c d : Committed ℕ) (b g : Blob ℕ) (e h : Committed (List ℕ)) where
-  neither_told : (o : Op) → tells_container o ≡ false → tells_blob o ≡ false → is_op op.GetBlockList o ≡ false
-      → with_content (frame_by o q s c b) (bytes_by o q.ask.args.range e) ≡ with_content (frame_by o q r d g) (bytes_by o q.ask.args.range h)
-  neither_told op.CreateContainer container blob blocks = cc
-  neither_told op.ContainerProperties container blob blocks = cc
-  neither_told op.SetContainerMetadata container blob blocks = cc
-  neither_told op.PutBlob container blob blocks = cc
-  neither_told op.GetBlob container blob blocks = cc
-  neither_told op.BlobProperties container blob blocks = cc
-  neither_told op.GetMetadata container blob blocks = cc
-  neither_told op.SetMetadata container blob blocks = cc
-  neither_told op.PutBlockList container blob blocks = cc
-  neither_told op.GetBlockList container blob blocks = cc
-  neither_told other container blob blocks = refl
+  nothing_told : (o : Op) → tells_nothing o ≡ true → with_content (frame_by o q s c b) (bytes_by o q.ask.args.range e) ≡ with_content (frame_by o q r d g) (bytes_by o q.ask.args.range h)
+  nothing_told op.DeleteContainer tells = refl
+  nothing_told op.DeleteBlob tells = refl
+  nothing_told op.PutBlock tells = refl
+  nothing_told other tells = cc
 
--- an answer that tells neither of the container nor of the blob is the same whatever the container is
-pub reply_of-neither : (p r : Part (List ℕ)) (q : Asked) → tells_container q.ask.op ≡ false → tells_blob q.ask.op ≡ false → is_op op.GetBlockList q.ask.op ≡ false → reply_of p q ≡ reply_of r q
-reply_of-neither p r q container blob blocks =
-    neither_told q (standing_read (sizes p)) (standing_read (sizes r)) (blob_read (sizes p) q.ask) (blob_read (sizes r) q.ask)
-    (target_blob (sizes p) q.ask) (target_blob (sizes r) q.ask) (blob_read p q.ask) (blob_read r q.ask) q.ask.op container blob blocks
+-- an answer that tells nothing is the same whatever the container is
+pub reply_of-nothing : (p r : Part (List ℕ)) (q : Asked) → tells_nothing q.ask.op ≡ true → reply_of p q ≡ reply_of r q
+reply_of-nothing p r q tells =
+    nothing_told q (standing_read (sizes p)) (standing_read (sizes r)) (blob_read (sizes p) q.ask) (blob_read (sizes r) q.ask)
+    (target_blob (sizes p) q.ask) (target_blob (sizes r) q.ask) (blob_read p q.ask) (blob_read r q.ask) q.ask.op tells

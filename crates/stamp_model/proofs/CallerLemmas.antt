@@ -25,9 +25,9 @@ use Rattle.access_rules.proofs.RouteLaw.{by_route}
 use Rattle.row_trees.specs.Access.{acl_of}
 use Rattle.range_rows.specs.ObjectReplies.{is_served, sizes}
 use Rattle.range_rows.specs.ObjectRules.{object_holds, object_refusal, object_rules}
-use Rattle.stamp_model.specs.Effects.{change}
+use Rattle.stamp_model.specs.Effects.{effect}
 use Rattle.stamp_model.specs.Refusals.{access_refusal, is_object_rule, sees_no_container, unserved_refusal}
-use Rattle.stamp_model.specs.Responses.{reply, response}
+use Rattle.stamp_model.specs.Responses.{answer_of, reply, response}
 use Rattle.stamp_model.proofs.ReplyLemmas.{rule-reply}
 use Rattle.stamp_model.proofs.RuleLemmas.{object_rule-first}
 
@@ -108,6 +108,15 @@ module _ (keys : Option Keys) (a b : Option Acl) (q : Ask) (t : ℕ) where
       public_level : level_of a ≡ level_of b → holds keys a q t P2 ≡ holds keys b q t P2
       public_level h = ap (λ (x : Bool). on_public q.credential && x) (passes (need_of q.op q.args.kinds).level h)
 
+  -- if no level allows the operation, the first rule is the same for each container
+  pub first_rule-unlevelled : (need_of q.op q.args.kinds).level ≡ None → first_rule keys a q t ≡ first_rule keys b q t
+  first_rule-unlevelled none =
+      in_parts a
+      ∙ ap (λ (x : Bool). option_or (find (holds keys a q t) blind_rules) (cond x (Some P2) None))
+      (ap (λ (need : Option Level). on_public q.credential && some_passes (allows_less a) need) none
+      ∙ sym (ap (λ (need : Option Level). on_public q.credential && some_passes (allows_less b) need) none))
+      ∙ sym (in_parts b)
+
 -- ---- what a reply tells
 
 module _ (keys : Option Keys) (w : World (List ℕ)) (q : Asked) (t : ℕ) (bound : Option Key) where
@@ -120,7 +129,7 @@ module _ (keys : Option Keys) (w : World (List ℕ)) (q : Asked) (t : ℕ) (boun
   -- the reply to a request that a rule of permission refuses
   pub reply-denied : (r : Rule) → permission ≡ Some r → reply keys w q t bound ≡ denied (access_refusal r)
   reply-denied r h =
-      ap (λ (o : Option Rule). response (option_or (option_map access_refusal o) (option_or (object_refusal (sizes own) q) (unserved_refusal q.ask.op))) (change keys own q t) q) h
+      ap (λ (o : Option Rule). response (option_or (option_map access_refusal o) (option_or (object_refusal (sizes own) q) (unserved_refusal q.ask.op))) (answer_of (effect keys w q t) q bound)) h
 
   named : (rule : Rule) → (reply keys w q t bound).rule ≡ Some rule
       → option_map (λ (r : Refusal). r.rule) (option_or (option_map access_refusal permission) (option_or (object_refusal (sizes own) q) (unserved_refusal q.ask.op))) ≡ Some rule

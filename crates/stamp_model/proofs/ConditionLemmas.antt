@@ -17,24 +17,26 @@ use Rattle.stamp_types.specs.declared.past.Past.{Past}
 use Rattle.stamp_types.specs.declared.refusal.Refusal.{Refusal}
 use Rattle.stamp_types.specs.declared.reply.Reply.{Reply}
 use Rattle.stamp_types.specs.declared.standing.Standing.{Standing}
+use Rattle.stamp_types.specs.EffectKinds.{EtagsAtMost}
 use Rattle.stamp_types.specs.Pieces.{held}
 use Rattle.stamp_types.specs.Requests.{Asked, IsAsk}
 use Rattle.stamp_types.specs.World.{Blob, Part, World, blob_in, committed_value, part_at}
 use Rattle.access_rules.specs.declared.keys.Keys.{Keys}
-use Rattle.range_rows.specs.ObjectReplies.{byte_count, sizes, standing_read, blob_read, bytes_by, frame_by, with_content}
+use Rattle.range_rows.specs.ObjectReplies.{byte_count, sizes, standing_read, blob_read, bytes_by, frame_by, reply_of, with_content}
 use Rattle.range_rows.specs.NamedBlobs.{target_blob}
-use Rattle.range_rows.specs.ObjectRules.{Cause, cause_holds, fails_if_none_match, is_any, matches, meets, misses, named_blob}
+use Rattle.range_rows.specs.ObjectRules.{Cause, cause_holds, fails_if_match, fails_if_none_match, is_any, matches, meets, misses, named_blob}
 use Rattle.range_rows.specs.ObjectRules.Cause.{BlobExists, IsNotModified, MatchFails, NoneMatchFails}
-use Rattle.range_rows.specs.RequestChanges.{act_by, change_of, part_after}
+use Rattle.range_rows.specs.RequestChanges.{act_by, change_of}
 use Rattle.range_rows.proofs.AnswerLemmas.{named_blob-part_value}
-use Rattle.stamp_model.specs.Conditions.{MeetsConditions, without_conditions}
-use Rattle.stamp_model.specs.Effects.{change, effect, unless_refused, world_after}
+use Rattle.stamp_model.specs.Conditions.{MeetsConditions, MeetsIfMatch, MeetsIfNoneMatch, without_conditions}
+use Rattle.stamp_model.specs.Effects.{effect, unless_refused, world_after}
 use Rattle.stamp_model.specs.Histories.{IsAccepted, pair_of, replay}
+use Rattle.stamp_model.specs.JudgedRequests.{Judged, reply_to_judged, world_after_run}
 use Rattle.stamp_model.specs.Refusals.{refusal}
-use Rattle.stamp_model.specs.Responses.{reply, response}
+use Rattle.stamp_model.specs.Responses.{answer_of, reply, response}
 use Rattle.stamp_model.proofs.ArgumentLemmas.{free-with_args, no_cause, refusal-with_args}
 use Rattle.stamp_model.proofs.EffectLemmas.{effect-refused, on_key}
-use Rattle.stamp_model.proofs.EtagLemmas.{one_state-replayed}
+use Rattle.stamp_model.proofs.EtagLemmas.{one_state-replayed, one_state-run}
 use Rattle.stamp_model.proofs.ReplyLemmas.{reply-unrefused}
 
 -- ---- what a condition says of a blob
@@ -109,33 +111,45 @@ none_of_three false any fails reads some other = reads
 none_of_three true true fails reads some other = some
 none_of_three true false fails reads some other = other
 
-module _ (p : Part (List ℕ)) (q : Asked) (fits : IsAsk q.ask) (unopposed : (c : Cause) → cause_holds (sizes p) q c ≡ false) where
+module _ (p : Part (List ℕ)) (q : Asked) (fits : IsAsk q.ask) where
   abbrev named : Option (Committed (List ℕ))
   named = named_blob p q.ask
 
   as_read : (wanted : Condition) → matches (named_blob (sizes p) q.ask) wanted ≡ matches named wanted
   as_read wanted = ap (λ (o : Option (Committed ℕ)). matches o wanted) (named_blob-part_value byte_count p q.ask) ∙ matches-read byte_count named wanted
 
-  matched : (wanted : Condition) → q.ask.args.if_match ≡ Some wanted → matches named wanted ≡ true
-  matched wanted is =
+  matched : fails_if_match (sizes p) q.ask ≡ false → (wanted : Condition) → q.ask.args.if_match ≡ Some wanted → matches named wanted ≡ true
+  matched met wanted is =
       sym (as_read wanted)
       ∙ sent_and_failed (has_conditions q.ask.op) (matches (named_blob (sizes p) q.ask) wanted) (fits.no_more.if_match (ap (λ (o : Option Condition). is_some o) is))
-      (sym (ap (λ (o : Option Condition). has_conditions q.ask.op && misses (named_blob (sizes p) q.ask) o) is) ∙ unopposed MatchFails)
+      (sym (ap (λ (o : Option Condition). has_conditions q.ask.op && misses (named_blob (sizes p) q.ask) o) is) ∙ met)
 
-  unmatched : (wanted : Condition) → q.ask.args.if_none_match ≡ Some wanted → matches named wanted ≡ false
-  unmatched wanted is =
+  unmatched : fails_if_none_match (sizes p) q.ask ≡ false → (wanted : Condition) → q.ask.args.if_none_match ≡ Some wanted → matches named wanted ≡ false
+  unmatched met wanted is =
       sym (as_read wanted)
       ∙ sent_and_held (has_conditions q.ask.op) (matches (named_blob (sizes p) q.ask) wanted) (fits.no_more.if_none_match (ap (λ (o : Option Condition). is_some o) is))
-      (sym (ap (λ (o : Option Condition). has_conditions q.ask.op && meets (named_blob (sizes p) q.ask) o) is)
-      ∙ none_of_three (writes q.ask.op) (is_any q.ask.args.if_none_match) (fails_if_none_match (sizes p) q.ask) (unopposed IsNotModified) (unopposed BlobExists) (unopposed NoneMatchFails))
+      (sym (ap (λ (o : Option Condition). has_conditions q.ask.op && meets (named_blob (sizes p) q.ask) o) is) ∙ met)
 
-  pub meets_conditions : MeetsConditions p q.ask
-  meets_conditions = record {
-    has_etag = λ etag is. etag_matched named etag (matched (condition.Count etag) is);
-    is_seen = λ is. any_matched named (matched condition.Any is);
-    may_match = λ is. never_matched named (matched condition.Never is);
-    is_unseen = λ is. any_unmatched named (unmatched condition.Any is);
-    has_another_etag = λ etag is. etag_unmatched named etag (unmatched (condition.Count etag) is);
+  -- if If-Match does not fail, it is true
+  pub meets_if_match : fails_if_match (sizes p) q.ask ≡ false → MeetsIfMatch p q.ask
+  meets_if_match met = record {
+    has_etag = λ etag is. etag_matched named etag (matched met (condition.Count etag) is);
+    is_seen = λ is. any_matched named (matched met condition.Any is);
+    may_match = λ is. never_matched named (matched met condition.Never is);
+  }
+
+  -- if If-None-Match does not fail, it is true
+  pub meets_if_none_match : fails_if_none_match (sizes p) q.ask ≡ false → MeetsIfNoneMatch p q.ask
+  meets_if_none_match met = record {
+    is_unseen = λ is. any_unmatched named (unmatched met condition.Any is);
+    has_another_etag = λ etag is. etag_unmatched named etag (unmatched met (condition.Count etag) is);
+  }
+
+  pub meets_conditions : ((c : Cause) → cause_holds (sizes p) q c ≡ false) → MeetsConditions p q.ask
+  meets_conditions unopposed = record {
+    if_match = meets_if_match (unopposed MatchFails);
+    if_none_match = meets_if_none_match
+        (none_of_three (writes q.ask.op) (is_any q.ask.args.if_none_match) (fails_if_none_match (sizes p) q.ask) (unopposed IsNotModified) (unopposed BlobExists) (unopposed NoneMatchFails));
   }
 
 module _ (keys : Option Keys) (w : World (List ℕ)) (q : Asked) (t : ℕ) (fits : IsAsk q.ask) where
@@ -158,6 +172,24 @@ module _ (keys : Option Keys) (w : World (List ℕ)) (q : Asked) (t : ℕ) (fits
   pub met-changed : effect keys w q t ≢ w → MeetsConditions (part_at w q.ask.key) q.ask
   met-changed changes = by_refusal (refusal keys own_sizes q t) refl changes
 
+-- ---- what is judged if a condition is true
+
+module _ (p : Part (List ℕ)) (q : Asked) where
+  found : (wanted : Condition) → matches (named_blob (sizes p) q.ask) wanted ≡ matches (named_blob p q.ask) wanted
+  found wanted = ap (λ (o : Option (Committed ℕ)). matches o wanted) (named_blob-part_value byte_count p q.ask) ∙ matches-read byte_count (named_blob p q.ask) wanted
+
+  pub not_missed : MeetsIfMatch p q.ask → (o : Option Condition) → q.ask.args.if_match ≡ o → misses (named_blob (sizes p) q.ask) o ≡ false
+  not_missed met None is = refl
+  not_missed met (Some condition.Any) is = ap (λ (b : Bool). not b) (found condition.Any ∙ matched_any (named_blob p q.ask) (met.is_seen is))
+  not_missed met (Some (condition.Count etag)) is = ap (λ (b : Bool). not b) (found (condition.Count etag) ∙ matched_etag (named_blob p q.ask) etag (met.has_etag etag is))
+  not_missed met (Some condition.Never) is = absurd (met.may_match is)
+
+  not_met : MeetsIfNoneMatch p q.ask → (o : Option Condition) → q.ask.args.if_none_match ≡ o → meets (named_blob (sizes p) q.ask) o ≡ false
+  not_met met None is = refl
+  not_met met (Some condition.Any) is = found condition.Any ∙ unmatched_any (named_blob p q.ask) (met.is_unseen is)
+  not_met met (Some (condition.Count etag)) is = found (condition.Count etag) ∙ unmatched_etag (named_blob p q.ask) etag (met.has_another_etag etag is)
+  not_met met (Some condition.Never) is = found condition.Never ∙ unmatched_never (named_blob p q.ask)
+
 -- ---- a caller that has seen the blob
 
 some_with : {C : Type 0} (o : Option (Committed C)) (etag : ℕ) → IsSomeAnd o (λ c. c.etag ≡ etag) → (c : Committed C) × (o ≡ Some c) × (c.etag ≡ etag)
@@ -171,15 +203,29 @@ pub seen-accepted : (pairs : List Keys) (key : Key) (front middle : List Past) (
 seen-accepted pairs key front middle e name seen fits on asks at_first new =
     let p : Part (List ℕ) = replay pairs (front ++ middle) in
     let found = some_with (named_blob p e.request.ask) seen.etag
-    ((meets_conditions p e.request fits (no_cause (pair_of pairs e.epoch) (sizes p) e.request e.moment new.allowed)).has_etag seen.etag asks) in
+    ((meets_conditions p e.request fits (no_cause (pair_of pairs e.epoch) (sizes p) e.request e.moment new.allowed)).if_match.has_etag seen.etag asks) in
     let at_last : (blob_in p name).committed ≡ Some found.0 =
     sym (ap (λ (blob : Option (List ℕ)). option_and_then (λ name. (blob_in p name).committed) blob) on) ∙ found.1 in
     one_state-replayed pairs front middle [] name seen found.0 at_first
     (ap (λ (history : List Past). (blob_in (replay pairs history) name).committed) (append-nil (front ++ middle)) ∙ at_last) (sym found.2)
 
+-- the same of a request that is answered after requests in turn
+pub seen-answered : (w : World (List ℕ)) (front middle : List Judged) (r : Judged) (name : List ℕ) (seen : Committed (List ℕ))
+    → EtagsAtMost (part_at w r.request.ask.key).count (part_at w r.request.ask.key) → IsAsk r.request.ask → r.request.ask.blob ≡ Some name
+    → r.request.ask.args.if_match ≡ Some (condition.Count seen.etag) → (blob_in (part_at (world_after_run w front) r.request.ask.key) name).committed ≡ Some seen
+    → (reply_to_judged (world_after_run w (front ++ middle)) r).rule ≡ None → (blob_in (part_at (world_after_run w (front ++ middle)) r.request.ask.key) name).committed ≡ Some seen
+seen-answered w front middle r name seen within fits on asks at_first none =
+    let key : Key = r.request.ask.key in
+    let v : World (List ℕ) = world_after_run w (front ++ middle) in
+    let found = some_with (named_blob (part_at v key) r.request.ask) seen.etag ((met-answered r.keys v r.request r.moment fits r.bound none).if_match.has_etag seen.etag asks) in
+    let at_last : (blob_in (part_at v key) name).committed ≡ Some found.0 =
+    sym (ap (λ (blob : Option (List ℕ)). option_and_then (λ name. (blob_in (part_at v key) name).committed) blob) on) ∙ found.1 in
+    one_state-run w key within front middle [] name seen found.0 at_first
+    (ap (λ (rs : List Judged). (blob_in (part_at (world_after_run w rs) key) name).committed) (append-nil (front ++ middle)) ∙ at_last) (sym found.2)
+
 -- ---- a request without its conditions
 
-and_false : (b : Bool) → (b && false) ≡ false
+pub and_false : (b : Bool) → (b && false) ≡ false
 and_false true = refl
 and_false false = refl
 
@@ -205,30 +251,15 @@ module _ (q : Asked) where
 
   -- if the conditions are true, the causes to refuse a request are the same without them
   module _ (p : Part (List ℕ)) (met : MeetsConditions p q.ask) where
-    found : (wanted : Condition) → matches (named_blob (sizes p) q.ask) wanted ≡ matches (named_blob p q.ask) wanted
-    found wanted = ap (λ (o : Option (Committed ℕ)). matches o wanted) (named_blob-part_value byte_count p q.ask) ∙ matches-read byte_count (named_blob p q.ask) wanted
-
-    not_missed : (o : Option Condition) → q.ask.args.if_match ≡ o → misses (named_blob (sizes p) q.ask) o ≡ false
-    not_missed None is = refl
-    not_missed (Some condition.Any) is = ap (λ (b : Bool). not b) (found condition.Any ∙ matched_any (named_blob p q.ask) (met.is_seen is))
-    not_missed (Some (condition.Count etag)) is = ap (λ (b : Bool). not b) (found (condition.Count etag) ∙ matched_etag (named_blob p q.ask) etag (met.has_etag etag is))
-    not_missed (Some condition.Never) is = absurd (met.may_match is)
-
-    not_met : (o : Option Condition) → q.ask.args.if_none_match ≡ o → meets (named_blob (sizes p) q.ask) o ≡ false
-    not_met None is = refl
-    not_met (Some condition.Any) is = found condition.Any ∙ unmatched_any (named_blob p q.ask) (met.is_unseen is)
-    not_met (Some (condition.Count etag)) is = found (condition.Count etag) ∙ unmatched_etag (named_blob p q.ask) etag (met.has_another_etag etag is)
-    not_met (Some condition.Never) is = found condition.Never ∙ unmatched_never (named_blob p q.ask)
-
     same_causes : (c : Cause) → cause_holds (sizes p) bare c ≡ cause_holds (sizes p) q c
-    same_causes MatchFails = ap (λ (b : Bool). has_conditions q.ask.op && b) (sym (not_missed q.ask.args.if_match refl))
-    same_causes IsNotModified = ap (λ (b : Bool). not (writes q.ask.op) && (has_conditions q.ask.op && b)) (sym (not_met q.ask.args.if_none_match refl))
+    same_causes MatchFails = ap (λ (b : Bool). has_conditions q.ask.op && b) (sym (not_missed p q met.if_match q.ask.args.if_match refl))
+    same_causes IsNotModified = ap (λ (b : Bool). not (writes q.ask.op) && (has_conditions q.ask.op && b)) (sym (not_met p q met.if_none_match q.ask.args.if_none_match refl))
     same_causes BlobExists =
         alike_if_any (writes q.ask.op) (is_any q.ask.args.if_none_match) (has_conditions q.ask.op)
-        ∙ ap (λ (b : Bool). writes q.ask.op && (is_any q.ask.args.if_none_match && (has_conditions q.ask.op && b))) (sym (not_met q.ask.args.if_none_match refl))
+        ∙ ap (λ (b : Bool). writes q.ask.op && (is_any q.ask.args.if_none_match && (has_conditions q.ask.op && b))) (sym (not_met p q met.if_none_match q.ask.args.if_none_match refl))
     same_causes NoneMatchFails =
         alike_if_other (writes q.ask.op) (not (is_any q.ask.args.if_none_match)) (has_conditions q.ask.op)
-        ∙ ap (λ (b : Bool). writes q.ask.op && (not (is_any q.ask.args.if_none_match) && (has_conditions q.ask.op && b))) (sym (not_met q.ask.args.if_none_match refl))
+        ∙ ap (λ (b : Bool). writes q.ask.op && (not (is_any q.ask.args.if_none_match) && (has_conditions q.ask.op && b))) (sym (not_met p q met.if_none_match q.ask.args.if_none_match refl))
     same_causes other = refl
 
   act_by-bare : (o : Op) (z : Part ℕ) (t : ℕ) → act_by o z bare t ≡ act_by o z q t
@@ -242,11 +273,10 @@ module _ (q : Asked) where
   frame_by-bare op.CreateContainer s c b = refl
   frame_by-bare other s c b = refl
 
-  response-bare : (r : Option Refusal) (p : Part (List ℕ)) → response r p bare ≡ response r p q
-  response-bare None p =
+  reply_of-bare : (p : Part (List ℕ)) → reply_of p bare ≡ reply_of p q
+  reply_of-bare p =
       ap (λ (r : Reply). with_content r (bytes_by q.ask.op q.ask.args.range (blob_read p q.ask)))
       (frame_by-bare q.ask.op (standing_read (sizes p)) (blob_read (sizes p) q.ask) (target_blob (sizes p) q.ask))
-  response-bare (Some r) p = refl
 
   module _ (keys : Option Keys) (w : World (List ℕ)) (t : ℕ) (bound : Option Key) where
     abbrev own : Part (List ℕ)
@@ -255,8 +285,8 @@ module _ (q : Asked) where
     -- a request that is refused by the same rule as without its conditions, or by no rule either, is answered in the same way
     reply-alike : refusal keys (sizes own) bare t ≡ refusal keys (sizes own) q t → reply keys w bare t bound ≡ reply keys w q t bound
     reply-alike alike =
-        (λ i. response (alike i) (part_after held (unless_refused (alike i) (change_of-bare (sizes own) t i)) own) bare)
-        ∙ response-bare (refusal keys (sizes own) q t) (change keys own q t)
+        (λ i. response (alike i) (answer_of (world_after held (unless_refused (alike i) (change_of-bare (sizes own) t i)) w) bare bound))
+        ∙ ap (response (refusal keys (sizes own) q t)) (reply_of-bare (part_at (effect keys w q t) q.ask.key))
 
     effect-alike : refusal keys (sizes own) bare t ≡ refusal keys (sizes own) q t → effect keys w bare t ≡ effect keys w q t
     effect-alike alike = λ i. world_after held (unless_refused (alike i) (change_of-bare (sizes own) t i)) w

@@ -35,9 +35,11 @@ use Rattle.range_rows.specs.Readings.{wanted_blocks}
 use Rattle.range_rows.specs.RequestChanges.{put_props}
 use Rattle.stamp_model.specs.Blocks.{reads_committed, wanted_bytes}
 use Rattle.stamp_model.specs.Kept.{GivesNoContent, LeavesContent, LeavesSeen}
+use Rattle.stamp_model.specs.JudgedRequests.{Judged, reply_to_judged, world_after_run}
+use Rattle.stamp_model.specs.Responses.{reply}
 use Rattle.stamp_model.specs.Runs.{Timed, IsAdmitted, IsOn, reply_to_one, world_after_all, world_after_one}
 use Rattle.stamp_model.proofs.BlockLemmas.{committed-list, content-list, list_there}
-use Rattle.stamp_model.proofs.KeptLemmas.{committed-left, content-left, unseen-left, left-in_turn, so-in_turn}
+use Rattle.stamp_model.proofs.KeptLemmas.{committed-left, content-left, unseen-left, left-in_run, left-in_turn, so-in_run, so-in_turn}
 use Rattle.stamp_model.proofs.ObjectLemmas.{object_refusal-container}
 use Rattle.stamp_model.proofs.ReadLemmas.{read_before, reply-read, reply-refused}
 use Rattle.stamp_model.proofs.SeenLemmas.{answers_alike, writes_nothing}
@@ -54,29 +56,22 @@ joined blocks = flat_map (λ b. b.content) blocks
 
 -- ---- a blob whose content stayed
 
--- In the world w readers see `c` of the blob, and each later request leaves its content.
-module _ (keys : Option Keys) (w : World (List ℕ)) (key : Key) (name : List ℕ) (c : Committed (List ℕ)) (seen : (blob_in (part_at w key) name).committed ≡ Some c)
-    (middle : List Timed) (all : All (λ r. LeavesContent key name r.request) middle) where
-  abbrev later : World (List ℕ)
-  later = world_after_all keys w middle
-
+-- In a later world readers see a blob with the content and the kept headers of `c`.
+module _ (later : World (List ℕ)) (key : Key) (name : List ℕ) (c : Committed (List ℕ))
+    (left : option_map blocks_and_props (blob_in (part_at later key) name).committed ≡ Some (blocks_and_props c)) where
   still : (d : Committed (List ℕ)) × ((blob_in (part_at later key) name).committed ≡ Some d) × (blocks_and_props d ≡ blocks_and_props c)
-  still =
-      from_mapped blocks_and_props (blob_in (part_at later key) name).committed (blocks_and_props c)
-      (left-in_turn keys key (λ q. LeavesContent key name q) (λ p. option_map blocks_and_props (blob_in p name).committed)
-      (λ v r leaves. content-left keys v r.request r.moment key name leaves) w middle all
-      ∙ ap (option_map blocks_and_props) seen)
+  still = from_mapped blocks_and_props (blob_in (part_at later key) name).committed (blocks_and_props c) left
 
-  module _ (get : Timed) (gets : IsOn op.GetBlob key name get.request) (whole : get.request.ask.args.range ≡ None) (free : (reply_to_one keys later get).rule ≡ None) where
-    read : reply_to_one keys later get ≡ with_content (ranged_frame None (committed_value byte_count still.0)) (ranged_bytes None (blob_content still.0))
+  module _ (keys : Option Keys) (get : Asked) (t : ℕ) (gets : IsOn op.GetBlob key name get) (whole : get.ask.args.range ≡ None) (free : (reply keys later get t None).rule ≡ None) where
+    read : reply keys later get t None ≡ with_content (ranged_frame None (committed_value byte_count still.0)) (ranged_bytes None (blob_content still.0))
     read =
-        reply-read keys later get.request get.moment free op.GetBlob key name still.0 refl gets still.1
+        reply-read keys later get t free op.GetBlob key name still.0 refl gets still.1
         ∙ ap (λ (r : Option ByteRange). with_content (ranged_frame r (committed_value byte_count still.0)) (ranged_bytes r (blob_content still.0))) whole
 
-    pub body-later : (reply_to_one keys later get).body ≡ joined c.blocks
+    pub body-later : (reply keys later get t None).body ≡ joined c.blocks
     body-later = ap (λ (r : Reply). r.body) read ∙ ap (λ (kept : List (Block (List ℕ)) × Props). joined kept.0) still.2
 
-    pub headers-later : (metadata : List Meta) × (etag : ℕ) × (made : ℕ) × ((reply_to_one keys later get).headers
+    pub headers-later : (metadata : List Meta) × (etag : ℕ) × (made : ℕ) × ((reply keys later get t None).headers
         ≡ kept_lines c.props ++ map header.Meta metadata ++ header.BlobType ∷ header.AcceptRanges ∷ date_headers etag made)
     headers-later = (
       still.0.metadata,
@@ -86,37 +81,88 @@ module _ (keys : Option Keys) (w : World (List ℕ)) (key : Key) (name : List �
           ∙ ap (λ (kept : List (Block (List ℕ)) × Props). kept_lines kept.1 ++ map header.Meta still.0.metadata ++ header.BlobType ∷ header.AcceptRanges ∷ date_headers still.0.etag still.0.made) still.2,
     )
 
+module _ (w : World (List ℕ)) (key : Key) (name : List ℕ) (c : Committed (List ℕ)) (seen : (blob_in (part_at w key) name).committed ≡ Some c) where
+  -- requests in turn leave the content, if each of them leaves it
+  content_after : (keys : Option Keys) (middle : List Timed) → All (λ r. LeavesContent key name r.request) middle
+      → option_map blocks_and_props (blob_in (part_at (world_after_all keys w middle) key) name).committed ≡ Some (blocks_and_props c)
+  content_after keys middle all =
+      left-in_turn keys key (λ q. LeavesContent key name q) (λ p. option_map blocks_and_props (blob_in p name).committed)
+      (λ v r leaves. content-left keys v r.request r.moment key name leaves) w middle all
+      ∙ ap (option_map blocks_and_props) seen
+
+  -- the same of requests that are judged each by its own key pair
+  content_after_run : (middle : List Judged) → All (λ r. LeavesContent key name r.request) middle
+      → option_map blocks_and_props (blob_in (part_at (world_after_run w middle) key) name).committed ≡ Some (blocks_and_props c)
+  content_after_run middle all =
+      left-in_run key (λ q. LeavesContent key name q) (λ p. option_map blocks_and_props (blob_in p name).committed)
+      (λ v r leaves. content-left r.keys v r.request r.moment key name leaves) w middle all
+      ∙ ap (option_map blocks_and_props) seen
+
 -- ---- Put Blob, Put Block List and Set Blob Metadata
 
-module _ (keys : Option Keys) (w : World (List ℕ)) (key : Key) (name : List ℕ) (kept : Kept) (put : Timed)
-    (puts : IsOn op.PutBlob key name put.request) (keeps : put.request.ask.args.kept ≡ Some kept) (none : (reply_to_one keys w put).rule ≡ None)
-    (middle : List Timed) (all : All (λ r. LeavesContent key name r.request) middle)
-    (get : Timed) (gets : IsOn op.GetBlob key name get.request) (whole : get.request.ask.args.range ≡ None)
-    (free : (reply_to_one keys (world_after_all keys w (put ∷ middle)) get).rule ≡ None) where
-  pub body-put_last : (reply_to_one keys (world_after_all keys w (put ∷ middle)) get).body ≡ put.request.body
-  body-put_last =
-      body-later keys (world_after_one keys w put) key name (put_there keys w key name kept put puts keeps none) (committed-put keys w key name kept put puts keeps none) middle all get gets whole free
-      ∙ append-nil (held (cut put.request.body)) ∙ held-cut put.request.body
+-- a request by its own key pair, as a request at its moment
+abbrev pub at_moment : Judged → Timed
+at_moment r = record { request = r.request; moment = r.moment }
 
-  pub headers-put_last : (metadata : List Meta) × (etag : ℕ) × (made : ℕ) × ((reply_to_one keys (world_after_all keys w (put ∷ middle)) get).headers
-      ≡ kept_lines (put_props put.request kept) ++ map header.Meta metadata ++ header.BlobType ∷ header.AcceptRanges ∷ date_headers etag made)
-  headers-put_last =
-      headers-later keys (world_after_one keys w put) key name (put_there keys w key name kept put puts keeps none) (committed-put keys w key name kept put puts keeps none) middle all get gets whole free
+module _ (keys : Option Keys) (w : World (List ℕ)) (key : Key) (name : List ℕ) (kept : Kept) (put : Timed)
+    (puts : IsOn op.PutBlob key name put.request) (keeps : put.request.ask.args.kept ≡ Some kept) (none : (reply_to_one keys w put).rule ≡ None) where
+  abbrev stored : Committed (List ℕ)
+  stored = put_there keys w key name kept put puts keeps none
+
+  abbrev stored_seen : (blob_in (part_at (world_after_one keys w put) key) name).committed ≡ Some stored
+  stored_seen = committed-put keys w key name kept put puts keeps none
+
+  module _ (middle : List Timed) (all : All (λ r. LeavesContent key name r.request) middle)
+      (get : Timed) (gets : IsOn op.GetBlob key name get.request) (whole : get.request.ask.args.range ≡ None)
+      (free : (reply_to_one keys (world_after_all keys w (put ∷ middle)) get).rule ≡ None) where
+    pub body-put_last : (reply_to_one keys (world_after_all keys w (put ∷ middle)) get).body ≡ put.request.body
+    body-put_last =
+        body-later (world_after_all keys w (put ∷ middle)) key name stored (content_after (world_after_one keys w put) key name stored stored_seen keys middle all) keys get.request get.moment gets whole free
+        ∙ append-nil (held (cut put.request.body)) ∙ held-cut put.request.body
+
+    pub headers-put_last : (metadata : List Meta) × (etag : ℕ) × (made : ℕ) × ((reply_to_one keys (world_after_all keys w (put ∷ middle)) get).headers
+        ≡ kept_lines (put_props put.request kept) ++ map header.Meta metadata ++ header.BlobType ∷ header.AcceptRanges ∷ date_headers etag made)
+    headers-put_last =
+        headers-later (world_after_all keys w (put ∷ middle)) key name stored (content_after (world_after_one keys w put) key name stored stored_seen keys middle all) keys get.request get.moment gets whole free
+
+  module _ (middle : List Judged) (all : All (λ r. LeavesContent key name r.request) middle)
+      (get : Judged) (gets : IsOn op.GetBlob key name get.request) (whole : get.request.ask.args.range ≡ None)
+      (free : (reply_to_judged (world_after_run (world_after_one keys w put) middle) get).rule ≡ None) where
+    pub body-put_run : (reply_to_judged (world_after_run (world_after_one keys w put) middle) get).body ≡ put.request.body
+    body-put_run =
+        body-later (world_after_run (world_after_one keys w put) middle) key name stored (content_after_run (world_after_one keys w put) key name stored stored_seen middle all)
+        get.keys get.request get.moment gets whole free
+        ∙ append-nil (held (cut put.request.body)) ∙ held-cut put.request.body
 
 module _ (keys : Option Keys) (w : World (List ℕ)) (key : Key) (name : List ℕ) (list : Timed)
-    (lists : IsOn op.PutBlockList key name list.request) (none : (reply_to_one keys w list).rule ≡ None) (kept : Kept) (keeps : list.request.ask.args.kept ≡ Some kept)
-    (middle : List Timed) (all : All (λ r. LeavesContent key name r.request) middle)
-    (get : Timed) (gets : IsOn op.GetBlob key name get.request) (whole : get.request.ask.args.range ≡ None)
-    (free : (reply_to_one keys (world_after_all keys w (list ∷ middle)) get).rule ≡ None) where
-  pub body-list_last : (reply_to_one keys (world_after_all keys w (list ∷ middle)) get).body ≡ wanted_bytes (blob_in (part_at w key) name) (wanted_blocks list.request)
-  body-list_last =
-      body-later keys (world_after_one keys w list) key name (list_there keys w key name list lists none kept keeps) (committed-list keys w key name list lists none kept keeps) middle all get gets whole free
-      ∙ content-list keys w key name list lists none kept keeps
+    (lists : IsOn op.PutBlockList key name list.request) (none : (reply_to_one keys w list).rule ≡ None) (kept : Kept) (keeps : list.request.ask.args.kept ≡ Some kept) where
+  abbrev listed : Committed (List ℕ)
+  listed = list_there keys w key name list lists none kept keeps
 
-  pub headers-list_last : (metadata : List Meta) × (etag : ℕ) × (made : ℕ) × ((reply_to_one keys (world_after_all keys w (list ∷ middle)) get).headers
-      ≡ kept_lines (kept_fields kept None) ++ map header.Meta metadata ++ header.BlobType ∷ header.AcceptRanges ∷ date_headers etag made)
-  headers-list_last =
-      headers-later keys (world_after_one keys w list) key name (list_there keys w key name list lists none kept keeps) (committed-list keys w key name list lists none kept keeps) middle all get gets whole free
+  abbrev listed_seen : (blob_in (part_at (world_after_one keys w list) key) name).committed ≡ Some listed
+  listed_seen = committed-list keys w key name list lists none kept keeps
+
+  module _ (middle : List Timed) (all : All (λ r. LeavesContent key name r.request) middle)
+      (get : Timed) (gets : IsOn op.GetBlob key name get.request) (whole : get.request.ask.args.range ≡ None)
+      (free : (reply_to_one keys (world_after_all keys w (list ∷ middle)) get).rule ≡ None) where
+    pub body-list_last : (reply_to_one keys (world_after_all keys w (list ∷ middle)) get).body ≡ wanted_bytes (blob_in (part_at w key) name) (wanted_blocks list.request)
+    body-list_last =
+        body-later (world_after_all keys w (list ∷ middle)) key name listed (content_after (world_after_one keys w list) key name listed listed_seen keys middle all) keys get.request get.moment gets whole free
+        ∙ content-list keys w key name list lists none kept keeps
+
+    pub headers-list_last : (metadata : List Meta) × (etag : ℕ) × (made : ℕ) × ((reply_to_one keys (world_after_all keys w (list ∷ middle)) get).headers
+        ≡ kept_lines (kept_fields kept None) ++ map header.Meta metadata ++ header.BlobType ∷ header.AcceptRanges ∷ date_headers etag made)
+    headers-list_last =
+        headers-later (world_after_all keys w (list ∷ middle)) key name listed (content_after (world_after_one keys w list) key name listed listed_seen keys middle all) keys get.request get.moment gets whole free
+
+  module _ (middle : List Judged) (all : All (λ r. LeavesContent key name r.request) middle)
+      (get : Judged) (gets : IsOn op.GetBlob key name get.request) (whole : get.request.ask.args.range ≡ None)
+      (free : (reply_to_judged (world_after_run (world_after_one keys w list) middle) get).rule ≡ None) where
+    pub body-list_run : (reply_to_judged (world_after_run (world_after_one keys w list) middle) get).body ≡ wanted_bytes (blob_in (part_at w key) name) (wanted_blocks list.request)
+    body-list_run =
+        body-later (world_after_run (world_after_one keys w list) middle) key name listed (content_after_run (world_after_one keys w list) key name listed listed_seen middle all)
+        get.keys get.request get.moment gets whole free
+        ∙ content-list keys w key name list lists none kept keeps
 
 -- each later request leaves what readers see of the blob
 seen_later : (keys : Option Keys) (w : World (List ℕ)) (key : Key) (name : List ℕ) (middle : List Timed) → All (λ r. LeavesSeen key name r.request) middle
@@ -180,23 +226,12 @@ container_if op.ListContainers needs = cc
 container_if op.CreateContainer needs = cc
 container_if other needs = refl
 
-module _ (keys : Option Keys) (w : World (List ℕ)) (key : Key) (name : List ℕ) (delete : Timed)
-    (deletes : IsOn op.DeleteBlob key name delete.request) (none : (reply_to_one keys w delete).rule ≡ None)
-    (middle : List Timed) (all : All (λ r. GivesNoContent key name r.request) middle) where
-  abbrev after : World (List ℕ)
-  after = world_after_all keys w (delete ∷ middle)
-
-  unseen_later : (blob_in (part_at after key) name).committed ≡ None
-  unseen_later =
-      so-in_turn keys key (λ q. GivesNoContent key name q) (λ p. (blob_in p name).committed ≡ None) (λ v r gives before. unseen-left keys v r.request r.moment key name gives before)
-      (world_after_one keys w delete) middle all
-      (ap (λ (p : Part (List ℕ)). (blob_in p name).committed) (part-deleted keys w key name delete deletes none)
-      ∙ ap (λ (o : Option (Blob (List ℕ))). (unwrap_or o no_blob).committed) (get-remove_same (part_at w key).blobs name))
-
+-- In a later world readers see no blob of this name.
+module _ (after : World (List ℕ)) (key : Key) (name : List ℕ) (unseen : (blob_in (part_at after key) name).committed ≡ None) (keys : Option Keys) (read : Timed)
+    (at : read.request.ask.key ≡ key) (on : read.request.ask.blob ≡ Some name) (needs : needs_blob read.request.ask.op ≡ true) (admits : IsAdmitted keys after read) where
   -- a request that needs the blob, and that permission admits, is refused by O1 or O3
-  pub reply-deleted_last : (read : Timed) → read.request.ask.key ≡ key → read.request.ask.blob ≡ Some name → needs_blob read.request.ask.op ≡ true → IsAdmitted keys after read
-      → (reply_to_one keys after read ≡ denied (cause_refusal ContainerIsAbsent)) ⊎ (reply_to_one keys after read ≡ denied (cause_refusal BlobIsAbsent))
-  reply-deleted_last read at on needs admits = by_standing (part_at after key).standing refl
+  reply-unseen : (reply_to_one keys after read ≡ denied (cause_refusal ContainerIsAbsent)) ⊎ (reply_to_one keys after read ≡ denied (cause_refusal BlobIsAbsent))
+  reply-unseen = by_standing (part_at after key).standing refl
     where
       by_standing : (s : Option Standing) → (part_at after key).standing ≡ s
           → (reply_to_one keys after read ≡ denied (cause_refusal ContainerIsAbsent)) ⊎ (reply_to_one keys after read ≡ denied (cause_refusal BlobIsAbsent))
@@ -205,4 +240,37 @@ module _ (keys : Option Keys) (w : World (List ℕ)) (key : Key) (name : List �
           (object_refusal-container (part_at after read.request.ask.key) read.request (container_if read.request.ask.op needs) (ap (λ (k : Key). (part_at after k).standing) at ∙ is)))
       by_standing (Some s) is =
           inr (reply-absent_blob keys after key read at needs admits (ap (λ (o : Option Standing). is_some o) is)
-          (ap (λ (o : Option (List ℕ)). option_and_then (λ n. (blob_in (part_at after key) n).committed) o) on ∙ unseen_later))
+          (ap (λ (o : Option (List ℕ)). option_and_then (λ n. (blob_in (part_at after key) n).committed) o) on ∙ unseen))
+
+module _ (keys : Option Keys) (w : World (List ℕ)) (key : Key) (name : List ℕ) (delete : Timed)
+    (deletes : IsOn op.DeleteBlob key name delete.request) (none : (reply_to_one keys w delete).rule ≡ None) where
+  unseen_at_once : (blob_in (part_at (world_after_one keys w delete) key) name).committed ≡ None
+  unseen_at_once =
+      ap (λ (p : Part (List ℕ)). (blob_in p name).committed) (part-deleted keys w key name delete deletes none)
+      ∙ ap (λ (o : Option (Blob (List ℕ))). (unwrap_or o no_blob).committed) (get-remove_same (part_at w key).blobs name)
+
+  module _ (middle : List Timed) (all : All (λ r. GivesNoContent key name r.request) middle) where
+    abbrev after_all : World (List ℕ)
+    after_all = world_after_all keys w (delete ∷ middle)
+
+    unseen_later : (blob_in (part_at after_all key) name).committed ≡ None
+    unseen_later =
+        so-in_turn keys key (λ q. GivesNoContent key name q) (λ p. (blob_in p name).committed ≡ None) (λ v r gives before. unseen-left keys v r.request r.moment key name gives before)
+        (world_after_one keys w delete) middle all unseen_at_once
+
+    pub reply-deleted_last : (read : Timed) → read.request.ask.key ≡ key → read.request.ask.blob ≡ Some name → needs_blob read.request.ask.op ≡ true → IsAdmitted keys after_all read
+        → (reply_to_one keys after_all read ≡ denied (cause_refusal ContainerIsAbsent)) ⊎ (reply_to_one keys after_all read ≡ denied (cause_refusal BlobIsAbsent))
+    reply-deleted_last read at on needs admits = reply-unseen after_all key name unseen_later keys read at on needs admits
+
+  module _ (middle : List Judged) (all : All (λ r. GivesNoContent key name r.request) middle) where
+    abbrev after_run : World (List ℕ)
+    after_run = world_after_run (world_after_one keys w delete) middle
+
+    unseen_after_run : (blob_in (part_at after_run key) name).committed ≡ None
+    unseen_after_run =
+        so-in_run key (λ q. GivesNoContent key name q) (λ p. (blob_in p name).committed ≡ None) (λ v r gives before. unseen-left r.keys v r.request r.moment key name gives before)
+        (world_after_one keys w delete) middle all unseen_at_once
+
+    pub reply-deleted_run : (read : Judged) → read.request.ask.key ≡ key → read.request.ask.blob ≡ Some name → needs_blob read.request.ask.op ≡ true → IsAdmitted read.keys after_run (at_moment read)
+        → (reply_to_judged after_run read ≡ denied (cause_refusal ContainerIsAbsent)) ⊎ (reply_to_judged after_run read ≡ denied (cause_refusal BlobIsAbsent))
+    reply-deleted_run read at on needs admits = reply-unseen after_run key name unseen_after_run read.keys (at_moment read) at on needs admits

@@ -37,16 +37,16 @@ use Rattle.range_rows.specs.ObjectRules.{object_refusal}
 use Rattle.row_trees.specs.Access.{acl_of}
 use Rattle.range_rows.specs.RequestChanges.{act_by}
 use Rattle.stamp_model.specs.Refusals.{access_code, access_refusal, unserved_refusal, refusal}
-use Rattle.stamp_model.specs.Effects.{unless_refused, world_after, change, effect}
-use Rattle.stamp_model.specs.Responses.{response, reply}
+use Rattle.stamp_model.specs.Effects.{unless_refused, world_after, effect}
+use Rattle.stamp_model.specs.Responses.{answer_of, response, reply}
 use Rattle.stamp_model.proofs.EffectLemmas.{on_key, effect-refused}
 use Rattle.stamp_model.proofs.ReplyLemmas.{reply-unrefused, unrefused}
 
 -- the rule of the public route
-abbrev public_rule : Option Acl → Option Level → Option Rule
+abbrev pub public_rule : Option Acl → Option Level → Option Rule
 public_rule access need = cond (is_none need) (Some P1) (cond (some_passes (allows_less access) need) (Some P2) None)
 
-first_public : (keys : Option Keys) (access : Option Acl) (q : Ask) (t : ℕ) (c : Credential) → c ≡ Anonymous → first_rule keys access (asking q c) t ≡ public_rule access (need_of q.op q.args.kinds).level
+pub first_public : (keys : Option Keys) (access : Option Acl) (q : Ask) (t : ℕ) (c : Credential) → c ≡ Anonymous → first_rule keys access (asking q c) t ≡ public_rule access (need_of q.op q.args.kinds).level
 first_public keys access q t c is =
     subst (λ (c : Credential). first_rule keys access (asking q c) t ≡ public_rule access (need_of q.op q.args.kinds).level) (sym is) refl
 
@@ -75,7 +75,7 @@ module _ (keys : Option Keys) (w : World (List ℕ)) (q : Asked) (t : ℕ) (boun
   -- a rule of permission decides the reply
   told : (rule : Rule) → first_rule keys (acl_of own_part) q.ask t ≡ Some rule → reply keys w q t bound ≡ denied (access_refusal rule)
   told rule is =
-      ap (λ (o : Option Rule). response (option_or (option_map access_refusal o) (option_or (object_refusal (sizes own_part) q) (unserved_refusal q.ask.op))) (change keys own_part q t) q) is
+      ap (λ (o : Option Rule). response (option_or (option_map access_refusal o) (option_or (object_refusal (sizes own_part) q) (unserved_refusal q.ask.op))) (answer_of (effect keys w q t) q bound)) is
 
   abbrev the_need : Option Level
   the_need = (need_of q.ask.op q.ask.args.kinds).level

@@ -23,8 +23,8 @@ use Rattle.range_rows.specs.ObjectRules.{object_refusal}
 use Rattle.range_rows.specs.RequestChanges.{act_by, change_of, part_after}
 use Rattle.range_rows.proofs.AnswerLemmas.{named_blob-part_value}
 use Rattle.stamp_model.specs.Refusals.{access_refusal, unserved_refusal, refusal}
-use Rattle.stamp_model.specs.Effects.{unless_refused, world_after, change, effect}
-use Rattle.stamp_model.specs.Responses.{response, reply}
+use Rattle.stamp_model.specs.Effects.{unless_refused, world_after, effect}
+use Rattle.stamp_model.specs.Responses.{answer_of, response, reply}
 use Rattle.stamp_model.specs.Runs.{IsIn, IsOn}
 use Rattle.stamp_model.proofs.EffectLemmas.{on_key, part_at-effect}
 use Rattle.stamp_model.proofs.ReplyLemmas.{reply-unrefused, reply-admitted}
@@ -122,4 +122,4 @@ pub reply-refused : (keys : Option Keys) (w : World (List ℕ)) (q : Asked) (t :
     → object_refusal (sizes (part_at w q.ask.key)) q ≡ Some r → reply keys w q t None ≡ denied r
 reply-refused keys w q t r admits refused =
     λ i. response (option_or (option_map access_refusal ((by_route keys (acl_of (part_at w q.ask.key)) q.ask t q.ask.credential).1 admits i))
-    (option_or (refused i) (unserved_refusal q.ask.op))) (change keys (part_at w q.ask.key) q t) q
+    (option_or (refused i) (unserved_refusal q.ask.op))) (answer_of (effect keys w q t) q None)

@@ -27,7 +27,7 @@ use Rattle.range_rows.specs.ObjectRules.{object_refusal}
 use Rattle.row_trees.specs.Access.{acl_of}
 use Rattle.stamp_model.specs.Refusals.{access_refusal, unserved_refusal, refusal, refusing_rule}
 use Rattle.stamp_model.specs.Effects.{change, effect}
-use Rattle.stamp_model.specs.Responses.{response, reply}
+use Rattle.stamp_model.specs.Responses.{answer_of, response, reply}
 use Rattle.stamp_model.proofs.EffectLemmas.{part_at-effect, effect-refused}
 
 either_names : (b : Bool) (x y : Reply) (rule : Option Rule) → x.rule ≡ rule → y.rule ≡ rule → (if b then x else y).rule ≡ rule
@@ -47,7 +47,7 @@ frame_names_none op.CreateContainer q s c b = refl
 frame_names_none op.GetBlob q s c b = ranged_names_none q.ask.args.range c
 frame_names_none other q s c b = refl
 
-names : (r : Option Refusal) (p : Part (List ℕ)) (q : Asked) → (response r p q).rule ≡ option_map (λ r. r.rule) r
+names : (r : Option Refusal) (p : Part (List ℕ)) (q : Asked) → (response r (reply_of p q)).rule ≡ option_map (λ r. r.rule) r
 names None p q = frame_names_none q.ask.op q (standing_read (sizes p)) (blob_read (sizes p) q.ask) (target_blob (sizes p) q.ask)
 names (Some r) p q = denied-names r
 
@@ -99,7 +99,11 @@ module _ (keys : Option Keys) (w : World (List ℕ)) (q : Asked) (t : ℕ) (boun
 
   -- a reply names the rule that refuses the request
   pub rule-reply : (reply keys w q t bound).rule ≡ refusing_rule keys (sizes own_part) q t
-  rule-reply = names (refusal keys (sizes own_part) q t) _ q
+  rule-reply = names (refusal keys (sizes own_part) q t) (part_at (effect keys w q t) q.ask.key) q
+
+  -- the own container decides the reply
+  pub reply-own : reply keys w q t bound ≡ response (refusal keys (sizes own_part) q t) (reply_of (change keys own_part q t) q)
+  reply-own = ap (λ (p : Part (List ℕ)). response (refusal keys (sizes own_part) q t) (reply_of p q)) (part_at-effect byte_count held keys w q t)
 
   -- if the reply names no rule, nothing refuses the request
   pub reply-unrefused : (reply keys w q t bound).rule ≡ None → refusal keys (sizes own_part) q t ≡ None
@@ -114,10 +118,8 @@ module _ (keys : Option Keys) (w : World (List ℕ)) (q : Asked) (t : ℕ) (boun
       ∙ unserved_none (is_served q.ask.op) served
 
   -- if nothing refuses the request, the reply is what the operation answers from the container after the effect
-  pub reply-admitted : refusal keys (sizes own_part) q t ≡ None → reply keys w q t bound ≡ reply_of (part_at (effect keys w q t) q.ask.key) q
-  reply-admitted free =
-      ap (λ (o : Option Refusal). response o (change keys own_part q t) q) free
-      ∙ ap (λ (p : Part (List ℕ)). reply_of p q) (sym (part_at-effect byte_count held keys w q t))
+  pub reply-admitted : refusal keys (sizes own_part) q t ≡ None → reply keys w q t bound ≡ answer_of (effect keys w q t) q bound
+  reply-admitted free = ap (λ (o : Option Refusal). response o (answer_of (effect keys w q t) q bound)) free
 
   -- if the reply names a rule, all containers stay as they are
   pub effect-named : (rule : Rule) → (reply keys w q t bound).rule ≡ Some rule → effect keys w q t ≡ w

@@ -32,7 +32,7 @@ use Rattle.block_blobs.specs.BlockLists.{first_missing, found_entries}
 use Rattle.block_blobs.specs.UncommittedBlocks.{has_other_length, is_one_too_many}
 use Rattle.row_trees.specs.ListedBlocks.{listed_size}
 use Rattle.range_rows.specs.NamedBlobs.{has_listed, target_blob}
-use Rattle.range_rows.specs.ObjectReplies.{blob_content, blob_read, byte_count, bytes_by, empty_blob, frame_by, get_frame, list_frame, ranged_bytes, ranged_frame, reply_of, shows_uncommitted, sizes, standing_read, with_content}
+use Rattle.range_rows.specs.ObjectReplies.{blob_content, blob_read, byte_count, bytes_by, empty_blob, empty_standing, frame_by, get_frame, list_frame, ranged_bytes, ranged_frame, reply_of, shows_uncommitted, sizes, standing_read, with_content}
 use Rattle.row_trees.specs.Fits.{count_limit}
 use Rattle.range_rows.specs.ObjectRules.{Cause, cause_holds, cause_refusal, causes, is_any, meets, misses, named_blob, needs_blob, needs_container, starts_past}
 use Rattle.range_rows.specs.ObjectRules.Cause.{ContainerIsAbsent, ContainerExists, BlobIsAbsent, MatchFails, IsNotModified, BlobExists, NoneMatchFails, BodyIsDamaged, BodyIsMalformed, IdIsBad, BlockIsMissing, ListIsTooLong, IdHasOtherLength, BlocksAreFull, ListIsTooLarge, RangeIsPastTheEnd, CountIsFull}
@@ -41,9 +41,9 @@ use Rattle.range_rows.specs.RequestChanges.{act_by, change_of, part_after}
 use Rattle.stamp_model.specs.Blocks.{reads_committed}
 use Rattle.stamp_model.specs.Effects.{effect}
 use Rattle.stamp_model.specs.Refusals.{access_refusal, refusal, unserved_refusal}
-use Rattle.stamp_model.specs.Responses.{response, reply}
+use Rattle.stamp_model.specs.Responses.{answer_of, response, reply}
 use Rattle.stamp_model.specs.Runs.{Timed, world_after_all, world_after_one, reply_to_one}
-use Rattle.stamp_model.proofs.EffectLemmas.{part_at-effect, related-after_act, related-effect, said_of_block}
+use Rattle.stamp_model.proofs.EffectLemmas.{related-after_act, related-effect, said_of_block}
 use Rattle.stamp_model.proofs.ReadLemmas.{effect-read}
 
 -- ---- containers in which readers see the same
@@ -115,28 +115,53 @@ writes_nothing op.GetMetadata k reads = refl
 writes_nothing op.GetBlockList k reads = refl
 writes_nothing other k reads = cc
 
-wants_nothing : (o : Op) (k : Option BlockKinds) (body : List ℕ) → reads_committed o k ≡ true → listed_in (reading_by o body) ≡ []
+-- the operation, with these kinds of blocks, writes nothing and lists no uncommitted blocks
+abbrev pub reads_seen : Op → Option BlockKinds → Bool
+reads_seen op.GetBlockList k = not (shows_uncommitted k)
+reads_seen other k = not (writes other)
+
+-- what is committed is seen by readers
+seen_if_committed : (o : Op) (k : Option BlockKinds) → reads_committed o k ≡ true → reads_seen o k ≡ true
+seen_if_committed op.GetBlob k reads = refl
+seen_if_committed op.BlobProperties k reads = refl
+seen_if_committed op.GetMetadata k reads = refl
+seen_if_committed op.GetBlockList k reads = reads
+seen_if_committed other k reads = cc
+
+writes_unseen : (o : Op) (k : Option BlockKinds) → reads_seen o k ≡ true → writes o ≡ false
+writes_unseen op.CreateContainer k reads = cc
+writes_unseen op.SetContainerMetadata k reads = cc
+writes_unseen op.SetAcl k reads = cc
+writes_unseen op.DeleteContainer k reads = cc
+writes_unseen op.PutBlob k reads = cc
+writes_unseen op.SetMetadata k reads = cc
+writes_unseen op.DeleteBlob k reads = cc
+writes_unseen op.PutBlock k reads = cc
+writes_unseen op.PutBlockList k reads = cc
+writes_unseen other k reads = refl
+
+pub wants_nothing : (o : Op) (k : Option BlockKinds) (body : List ℕ) → reads_seen o k ≡ true → listed_in (reading_by o body) ≡ []
 unfolding reading_by
 wants_nothing op.PutBlockList k body reads = cc
 wants_nothing other k body reads = refl
 
-is_not_put_block : (o : Op) (k : Option BlockKinds) → reads_committed o k ≡ true → o ≡ op.PutBlock → ⊥
-is_not_put_block o k reads is = let wrong : false ≡ true = sym (ap (λ (o : Op). reads_committed o k) is) ∙ reads in cc
+pub is_not_put_block : (o : Op) (k : Option BlockKinds) → reads_seen o k ≡ true → o ≡ op.PutBlock → ⊥
+is_not_put_block o k reads is = let wrong : false ≡ true = sym (ap (λ (o : Op). reads_seen o k) is) ∙ reads in cc
 
-none_unless : {X : Type 0} (o : Option X) → (is_some o ≡ true → ⊥) → o ≡ None
+pub none_unless : {X : Type 0} (o : Option X) → (is_some o ≡ true → ⊥) → o ≡ None
 none_unless None h = refl
 none_unless (Some x) h = absurd (h refl)
 
-lists_alike : (o : Op) (k : Option BlockKinds) (b d : Blob ℕ) → reads_committed o k ≡ true → b.committed ≡ d.committed → (is_op op.GetBlockList o && not (has_listed k b)) ≡ (is_op op.GetBlockList o && not (has_listed k d))
+lists_alike : (o : Op) (k : Option BlockKinds) (b d : Blob ℕ) → reads_seen o k ≡ true → b.committed ≡ d.committed → (is_op op.GetBlockList o && not (has_listed k b)) ≡ (is_op op.GetBlockList o && not (has_listed k d))
 lists_alike op.GetBlockList None b d reads same = ap (λ (c : Option (Committed ℕ)). not (is_some c)) same
 lists_alike op.GetBlockList (Some kinds.Committed) b d reads same = ap (λ (c : Option (Committed ℕ)). not (is_some c)) same
 lists_alike op.GetBlockList (Some kinds.Uncommitted) b d reads same = cc
 lists_alike op.GetBlockList (Some kinds.All) b d reads same = cc
 lists_alike other k b d reads same = refl
 
--- ---- rules of a request that reads only what is committed
+-- ---- rules of a request that reads only what readers see
 
-module _ (p r : Part ℕ) (alike : IsSeenAlike p r) (q : Asked) (fits : IsAsk q.ask) (reads : reads_committed q.ask.op q.ask.args.kinds ≡ true) where
+module _ (p r : Part ℕ) (alike : IsSeenAlike p r) (q : Asked) (fits : IsAsk q.ask) (reads : reads_seen q.ask.op q.ask.args.kinds ≡ true) where
   abbrev named : named_blob p q.ask ≡ named_blob r q.ask
   named = named_alike p r alike q.ask
 
@@ -147,7 +172,7 @@ module _ (p r : Part ℕ) (alike : IsSeenAlike p r) (q : Asked) (fits : IsAsk q.
   no_block = none_unless q.ask.args.block (λ there. is_not_put_block q.ask.op q.ask.args.kinds reads (fits.own.block.0 there))
 
   no_write : writes q.ask.op ≡ false
-  no_write = writes_nothing q.ask.op q.ask.args.kinds reads
+  no_write = writes_unseen q.ask.op q.ask.args.kinds reads
 
   alike_cause : (c : Cause) → cause_holds p q c ≡ cause_holds r q c
   alike_cause ContainerIsAbsent = ap (λ (s : Option Standing). needs_container q.ask.op && is_none s) alike.standing
@@ -199,43 +224,56 @@ module _ (q : Asked) (s u : Standing) (c d : Committed ℕ) (b g : Blob ℕ) (e 
   answers_alike op.GetBlockList reads = ap (λ (f : Reply). with_content f []) (lists_frame q.ask.args.kinds b g reads listed)
   answers_alike other reads = cc
 
-response_alike : (o : Option Refusal) (p r : Part (List ℕ)) (q : Asked) → reply_of p q ≡ reply_of r q → response o p q ≡ response o r q
-response_alike None p r q same = same
-response_alike (Some refused) p r q same = refl
+  -- the same of a request that reads only what readers see, if the containers have the same beside their blobs
+  answers_seen : s ≡ u → (o : Op) → reads_seen o q.ask.args.kinds ≡ true → with_content (frame_by o q s c b) (bytes_by o q.ask.args.range e) ≡ with_content (frame_by o q u d g) (bytes_by o q.ask.args.range h)
+  answers_seen same op.CreateContainer reads = cc
+  answers_seen same op.ContainerProperties reads = λ i. with_content (frame_by op.ContainerProperties q (same i) c b) []
+  answers_seen same op.SetContainerMetadata reads = cc
+  answers_seen same op.DeleteContainer reads = cc
+  answers_seen same op.PutBlob reads = cc
+  answers_seen same op.GetBlob reads = answers_alike op.GetBlob refl
+  answers_seen same op.BlobProperties reads = answers_alike op.BlobProperties refl
+  answers_seen same op.GetMetadata reads = answers_alike op.GetMetadata refl
+  answers_seen same op.SetMetadata reads = cc
+  answers_seen same op.DeleteBlob reads = cc
+  answers_seen same op.PutBlock reads = cc
+  answers_seen same op.PutBlockList reads = cc
+  answers_seen same op.GetBlockList reads = answers_alike op.GetBlockList reads
+  answers_seen same other reads = refl
 
-module _ (p r : Part (List ℕ)) (alike : IsSeenAlike p r) (q : Asked) (reads : reads_committed q.ask.op q.ask.args.kinds ≡ true) where
+module _ (p r : Part (List ℕ)) (alike : IsSeenAlike p r) (q : Asked) (reads : reads_seen q.ask.op q.ask.args.kinds ≡ true) where
   reply_of_alike : reply_of p q ≡ reply_of r q
   reply_of_alike =
       let by_size = alike-read byte_count p r alike in
-      answers_alike q (standing_read (sizes p)) (standing_read (sizes r)) (blob_read (sizes p) q.ask) (blob_read (sizes r) q.ask)
+      answers_seen q (standing_read (sizes p)) (standing_read (sizes r)) (blob_read (sizes p) q.ask) (blob_read (sizes r) q.ask)
       (target_blob (sizes p) q.ask) (target_blob (sizes r) q.ask) (blob_read p q.ask) (blob_read r q.ask)
       (ap (λ (c : Option (Committed ℕ)). unwrap_or c empty_blob) (named_alike (sizes p) (sizes r) by_size q.ask))
       (target_alike (sizes p) (sizes r) by_size q.ask)
       (ap (λ (c : Option (Committed (List ℕ))). unwrap_or c empty_blob) (named_alike p r alike q.ask))
+      (ap (λ (s : Option Standing). unwrap_or s empty_standing) alike.standing)
       q.ask.op reads
 
-module _ (keys : Option Keys) (q : Asked) (t : ℕ) (fits : IsAsk q.ask) (reads : reads_committed q.ask.op q.ask.args.kinds ≡ true) where
+module _ (keys : Option Keys) (q : Asked) (t : ℕ) (fits : IsAsk q.ask) (reads : reads_seen q.ask.op q.ask.args.kinds ≡ true) where
   -- a request that reads is answered from the container as it is
-  from_unchanged : (w : World (List ℕ)) → reply keys w q t None ≡ response (refusal keys (sizes (part_at w q.ask.key)) q t) (part_at w q.ask.key) q
+  from_unchanged : (w : World (List ℕ)) → reply keys w q t None ≡ response (refusal keys (sizes (part_at w q.ask.key)) q t) (answer_of w q None)
   from_unchanged w =
-      ap (λ (p : Part (List ℕ)). response (refusal keys (sizes (part_at w q.ask.key)) q t) p q)
-      (sym (part_at-effect byte_count held keys w q t)
-      ∙ ap (λ (v : World (List ℕ)). part_at v q.ask.key) (effect-read keys w q t (writes_nothing q.ask.op q.ask.args.kinds reads)))
+      ap (λ (v : World (List ℕ)). response (refusal keys (sizes (part_at w q.ask.key)) q t) (answer_of v q None))
+      (effect-read keys w q t (writes_unseen q.ask.op q.ask.args.kinds reads))
 
-  -- if readers see the same in the containers of two worlds, the reply to a request that reads only what is committed is the same in both
-  reply_alike : (w v : World (List ℕ)) → IsSeenAlike (part_at w q.ask.key) (part_at v q.ask.key) → reply keys w q t None ≡ reply keys v q t None
+  -- if readers see the same in the containers of two worlds, the reply to a request that reads only what readers see is the same in both
+  pub reply_alike : (w v : World (List ℕ)) → IsSeenAlike (part_at w q.ask.key) (part_at v q.ask.key) → reply keys w q t None ≡ reply keys v q t None
   reply_alike w v alike =
       from_unchanged w
-      ∙ ap (λ (o : Option Refusal). response o (part_at w q.ask.key) q)
+      ∙ ap (λ (o : Option Refusal). response o (answer_of w q None))
       (refusal_alike (sizes (part_at w q.ask.key)) (sizes (part_at v q.ask.key)) (alike-read byte_count (part_at w q.ask.key) (part_at v q.ask.key) alike) q fits reads keys t)
-      ∙ response_alike (refusal keys (sizes (part_at v q.ask.key)) q t) (part_at w q.ask.key) (part_at v q.ask.key) q (reply_of_alike (part_at w q.ask.key) (part_at v q.ask.key) alike q reads)
+      ∙ ap (response (refusal keys (sizes (part_at v q.ask.key)) q t)) (reply_of_alike (part_at w q.ask.key) (part_at v q.ask.key) alike q reads)
       ∙ sym (from_unchanged v)
 
 -- a request that reads only what is committed has the reply after a Put Block that it would have had before
 pub reply-put_block : (keys : Option Keys) (w : World (List ℕ)) (put read : Timed) → put.request.ask.op ≡ op.PutBlock → IsAsk read.request.ask
     → reads_committed read.request.ask.op read.request.ask.args.kinds ≡ true → reply_to_one keys (world_after_one keys w put) read ≡ reply_to_one keys w read
 reply-put_block keys w put read puts fits reads =
-    sym (reply_alike keys read.request read.moment fits reads w (world_after_one keys w put)
+    sym (reply_alike keys read.request read.moment fits (seen_if_committed read.request.ask.op read.request.ask.args.kinds reads) w (world_after_one keys w put)
     (alike-put_block keys w put.request put.moment puts read.request.ask.key))
 
 -- it has this reply after any number of Put Blocks

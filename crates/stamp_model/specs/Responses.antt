@@ -7,11 +7,11 @@ use Rattle.stamp_types.specs.declared.refusal.Refusal.{Refusal}
 use Rattle.stamp_types.specs.declared.reply.Reply.{Reply}
 use Rattle.stamp_types.specs.Replies.{denied}
 use Rattle.stamp_types.specs.Requests.{Asked}
-use Rattle.stamp_types.specs.World.{Part, World, part_at}
+use Rattle.stamp_types.specs.World.{World, part_at}
 use Rattle.access_rules.specs.declared.keys.Keys.{Keys}
 use Rattle.range_rows.specs.ObjectReplies.{reply_of, sizes}
 use Rattle.stamp_model.specs.Refusals.{refusal}
-use Rattle.stamp_model.specs.Effects.{change}
+use Rattle.stamp_model.specs.Effects.{effect}
 
 -- the answer of the operation tells what the container has beside its blobs: its ETag and its moment at least
 abbrev pub tells_container : Op → Bool
@@ -30,16 +30,23 @@ tells_blob op.SetMetadata = true
 tells_blob op.PutBlockList = true
 tells_blob _ = false
 
--- the reply to a refused request, or else what the operation answers from this container
-abbrev pub response : Option Refusal → Part (List ℕ) → Asked → Reply
-response None p q = reply_of p q
-response (Some r) p q = denied r
+-- the operation's answer tells nothing of the container, nor of its blobs
+abbrev pub tells_nothing : Op → Bool
+tells_nothing op.DeleteContainer = true
+tells_nothing op.DeleteBlob = true
+tells_nothing op.PutBlock = true
+tells_nothing _ = false
 
--- the reply to a request on a container: if nothing refuses the request, the reply is made from the container after the request
-abbrev pub reply_in : Option Keys → Part (List ℕ) → Asked → ℕ → Reply
-reply_in keys p q t = response (refusal keys (sizes p) q t) (change keys p q t) q
-
--- The reply to a request follows from the container of its key. The bound is the last key up to which containers are listed. Only
+-- What an allowed request is answered, from the containers after its change. The bound is the first key that is not listed. Only
 -- List Containers will look at the bound, and that operation is not served yet.
+abbrev pub answer_of : World (List ℕ) → Asked → Option Key → Reply
+answer_of w q bound = reply_of (part_at w q.ask.key) q
+
+-- the reply to a refused request, or else this answer
+abbrev pub response : Option Refusal → Reply → Reply
+response None answer = answer
+response (Some r) answer = denied r
+
+-- the reply to a request: if nothing refuses the request, it is answered from the containers after the request
 abbrev pub reply : Option Keys → World (List ℕ) → Asked → ℕ → Option Key → Reply
-reply keys w q t bound = reply_in keys (part_at w q.ask.key) q t
+reply keys w q t bound = response (refusal keys (sizes (part_at w q.ask.key)) q t) (answer_of (effect keys w q t) q bound)

@@ -6,6 +6,7 @@ ghost use Rattle.stamp_values.specs.declared.block.Source.TheVariants as source;
 ghost use Rattle.stamp_values.specs.declared.key.Key.{Key};
 ghost use Rattle.stamp_values.specs.declared.op.Op.{Op};
 ghost use Rattle.stamp_values.specs.declared.op.Op.TheVariants.{BlobProperties, DeleteBlob, GetBlob, GetBlockList, PutBlob, PutBlock, PutBlockList};
+ghost use Rattle.stamp_values.specs.declared.signing.Credential.TheVariants.{Anonymous};
 ghost use Rattle.stamp_types.specs.declared.args.Kept.{Kept};
 ghost use Rattle.stamp_types.specs.declared.code.Code.TheVariants.{BlobNotFound};
 ghost use Rattle.stamp_types.specs.declared.header.Header.TheVariants as header;
@@ -25,10 +26,10 @@ ghost use Rattle.stamp_model.specs.Runs.{Timed, IsAdmitted, IsOn, reply_to_one, 
 
 /// A commit is seen whole or not at all. A Put Block, accepted or refused, changes no reply to a
 /// request that reads only what is committed: such a request has the reply that it would have had
-/// without the Put Block. The same is so of any number of Put Blocks in turn. After a Put Block each
-/// blob has the ETag that it had. An accepted Put Block is one change of its container. It leaves its
-/// body as the uncommitted block of its id, and leaves each uncommitted block of another id as it
-/// was.
+/// without the Put Block. The same is so of any number of Put Blocks in turn, and of each request
+/// without a credential, whatever it asks for. After a Put Block each blob has the ETag that it had.
+/// An accepted Put Block is one change of its container. It leaves its body as the uncommitted block
+/// of its id, and leaves each uncommitted block of another id as it was.
 ///
 /// If a Put Block List is accepted, each block that it wants is found in the blob as it was before.
 /// The reply to a Get Blob without a range that comes next has the content of these blocks, as the
@@ -45,6 +46,10 @@ pub fn a_commit_is_seen_whole_or_not_at_all()
         → All (λ put. put.request.ask.op ≡ PutBlock) puts → IsAsk read.request.ask
         → IsTrue (reads_committed read.request.ask.op read.request.ask.args.kinds)
         → reply_to_one keys (world_after_all keys w puts) read ≡ reply_to_one keys w read }
+    ensures public { (keys : Option Keys) (w : World (List ℕ)) (put read : Timed)
+        → put.request.ask.op ≡ PutBlock → IsAsk read.request.ask
+        → read.request.ask.credential ≡ Anonymous
+        → reply_to_one keys (world_after_one keys w put) read ≡ reply_to_one keys w read }
     ensures committed { (keys : Option Keys) (w : World (List ℕ)) (put : Timed) (key : Key)
         (name : List ℕ)
         → put.request.ask.op ≡ PutBlock

@@ -15,6 +15,8 @@ ghost use Rattle.stamp_types.specs.Replies.{denied};
 ghost use Rattle.stamp_types.specs.Requests.{Asked, IsAsk};
 ghost use Rattle.stamp_types.specs.World.{World, blob_in, part_at};
 ghost use Rattle.access_rules.specs.declared.keys.Keys.{Keys};
+ghost use Rattle.access_rules.specs.Routes.{Admits};
+ghost use Rattle.row_trees.specs.Access.{acl_of};
 ghost use Rattle.range_rows.specs.ObjectReplies.{date_headers, kept_lines};
 ghost use Rattle.range_rows.specs.ObjectRules.{needs_blob};
 ghost use Rattle.range_rows.specs.Readings.{wanted_blocks};
@@ -22,6 +24,7 @@ ghost use Rattle.range_rows.specs.RequestChanges.{put_props};
 ghost use Rattle.stamp_model.specs.Blocks.{reads_committed, wanted_bytes};
 ghost use Rattle.stamp_model.specs.Effects.{effect};
 ghost use Rattle.stamp_model.specs.Kept.{GivesNoContent, LeavesBlob, LeavesContent, LeavesSeen};
+ghost use Rattle.stamp_model.specs.JudgedRequests.{Judged, reply_to_judged, world_after_run};
 ghost use Rattle.stamp_model.specs.Runs.{Timed, IsAdmitted, IsOn, reply_to_one, world_after_all};
 
 /// A blob is changed by its own requests. A request leaves a blob as it was, with its uncommitted
@@ -55,7 +58,8 @@ pub fn a_blob_is_changed_by_its_own_requests()
 /// request that reads only what is committed of a blob has the reply that it would have had before
 /// requests that leave what readers see of the blob, if no rule refuses it before or after them.
 /// After an accepted Delete Blob, and requests that give the blob no content, O1 or O3 refuses each
-/// request that needs the blob and that permission admits.
+/// request that needs the blob and that permission admits. Content, commits and deletions are so along
+/// requests that are judged each by its own key pair too.
 pub fn what_was_written_last_is_read()
     ensures body { (keys : Option Keys) (w : World (List ℕ)) (key : Key) (name : List ℕ)
         (put : Timed) (middle : List Timed) (get : Timed)
@@ -121,5 +125,34 @@ pub fn what_was_written_last_is_read()
         → (reply_to_one keys (world_after_all keys w (delete ∷ middle)) read
         ≡ denied (record { rule = O1; code = ContainerNotFound }))
         ⊎ (reply_to_one keys (world_after_all keys w (delete ∷ middle)) read
+        ≡ denied (record { rule = O3; code = BlobNotFound })) }
+    ensures body_run { (w : World (List ℕ)) (key : Key) (name : List ℕ) (put : Judged)
+        (middle : List Judged) (get : Judged)
+        → IsAsk put.request.ask → IsOn PutBlob key name put.request
+        → (reply_to_judged w put).rule ≡ None
+        → All (λ r. LeavesContent key name r.request) middle → IsOn GetBlob key name get.request
+        → get.request.ask.args.range ≡ None
+        → (reply_to_judged (world_after_run w (put ∷ middle)) get).rule ≡ None
+        → (reply_to_judged (world_after_run w (put ∷ middle)) get).body ≡ put.request.body }
+    ensures list_run { (w : World (List ℕ)) (key : Key) (name : List ℕ) (list : Judged)
+        (middle : List Judged) (get : Judged)
+        → IsAsk list.request.ask → IsOn PutBlockList key name list.request
+        → (reply_to_judged w list).rule ≡ None
+        → All (λ r. LeavesContent key name r.request) middle → IsOn GetBlob key name get.request
+        → get.request.ask.args.range ≡ None
+        → (reply_to_judged (world_after_run w (list ∷ middle)) get).rule ≡ None
+        → (reply_to_judged (world_after_run w (list ∷ middle)) get).body
+        ≡ wanted_bytes (blob_in (part_at w key) name) (wanted_blocks list.request) }
+    ensures deleted_run { (w : World (List ℕ)) (key : Key) (name : List ℕ) (delete : Judged)
+        (middle : List Judged) (read : Judged)
+        → IsOn DeleteBlob key name delete.request → (reply_to_judged w delete).rule ≡ None
+        → All (λ r. GivesNoContent key name r.request) middle → read.request.ask.key ≡ key
+        → read.request.ask.blob ≡ Some name → IsTrue (needs_blob read.request.ask.op)
+        → Admits read.keys
+        (acl_of (part_at (world_after_run w (delete ∷ middle)) read.request.ask.key))
+        read.request.ask.credential read.request.ask read.moment
+        → (reply_to_judged (world_after_run w (delete ∷ middle)) read
+        ≡ denied (record { rule = O1; code = ContainerNotFound }))
+        ⊎ (reply_to_judged (world_after_run w (delete ∷ middle)) read
         ≡ denied (record { rule = O3; code = BlobNotFound })) }
 {}

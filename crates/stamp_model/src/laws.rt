@@ -20,11 +20,12 @@ ghost use Rattle.access_rules.specs.Needs.{need_of};
 ghost use Rattle.access_rules.specs.Routes.{Admits};
 ghost use Rattle.range_rows.specs.NamedBlobs.{has_listed, target_blob};
 ghost use Rattle.range_rows.specs.ObjectRules.{named_blob, object_refusal};
-ghost use Rattle.range_rows.specs.ObjectReplies.{is_served, reply_of, sizes};
+ghost use Rattle.range_rows.specs.ObjectReplies.{is_served, sizes};
 ghost use Rattle.row_trees.specs.Access.{acl_of};
 ghost use Rattle.stamp_model.specs.Refusals.{refusing_rule, refuses, rules_in_order};
 ghost use Rattle.stamp_model.specs.Effects.{alters_access, alters_container, change, effect, effect_as};
-ghost use Rattle.stamp_model.specs.Responses.{reply, tells_blob, tells_container};
+ghost use Rattle.stamp_model.specs.SeenContainers.{is_seen};
+ghost use Rattle.stamp_model.specs.Responses.{answer_of, reply, tells_blob, tells_container, tells_nothing};
 
 /// The container of a request's key decides what that container is after the request. If the
 /// operation names a container, the container also decides the reply to the request.
@@ -36,6 +37,18 @@ pub fn an_own_container_decides_effect_and_reply()
     ensures effect { (keys : Option Keys) (w v : World (List ℕ)) (q : Asked) (t : ℕ)
         → part_at w q.ask.key ≡ part_at v q.ask.key
         → part_at (effect keys w q t) q.ask.key ≡ part_at (effect keys v q t) q.ask.key }
+{}
+
+/// A reply depends on the containers that its request sees, and on no other container. A request that
+/// names a container sees this container. A List Containers sees the containers of its account from
+/// its marker on, up to the bound, which is the first key that is not listed; so it has one reply in
+/// all worlds that agree on these.
+pub fn a_reply_depends_on_what_its_request_sees()
+    ensures { (keys : Option Keys) (w v : World (List ℕ)) (q : Asked) (t : ℕ)
+        (bound : Option Key)
+        → IsAsk q.ask
+        → ((key : Key) → IsTrue (is_seen q bound key) → part_at w key ≡ part_at v key)
+        → reply keys w q t bound ≡ reply keys v q t bound }
 {}
 
 /// An effect changes the container that the request names, and leaves every other container as it
@@ -66,7 +79,7 @@ pub fn a_refused_request_changes_nothing()
 
 /// A reply names no rule if and only if three things are so: the request's own route admits the
 /// request, as that route is defined; the object does not refuse the request; and the operation is
-/// served. A reply that names no rule is what the operation answers from the container as it is
+/// served. A reply that names no rule is what the operation answers from the containers as they are
 /// after the effect.
 pub fn success_is_what_the_own_route_admits()
     ensures admitted { (keys : Option Keys) (w : World (List ℕ)) (q : Asked) (t : ℕ)
@@ -88,7 +101,7 @@ pub fn success_is_what_the_own_route_admits()
     ensures answered { (keys : Option Keys) (w : World (List ℕ)) (q : Asked) (t : ℕ)
         (bound : Option Key)
         → (reply keys w q t bound).rule ≡ None
-        → reply keys w q t bound ≡ reply_of (part_at (effect keys w q t) q.ask.key) q }
+        → reply keys w q t bound ≡ answer_of (effect keys w q t) q bound }
 {}
 
 /// A request without a credential gets a reply that names no rule only if the container exists and
@@ -120,7 +133,8 @@ pub fn public_access_is_what_the_container_gives()
 /// If nothing refuses a request, what its answer tells of exists after the request. An answer that
 /// tells of a container is of a container that exists. An answer that tells of a blob is of a blob
 /// that readers see, if the request fits its operation. An answer that tells of blocks is of a blob
-/// that has what is listed. Any other answer is the same whatever the container is.
+/// that has what is listed. The answer to a Delete Container, a Delete Blob or a Put Block is the same
+/// whatever containers the stamp has.
 pub fn an_answer_is_of_what_exists()
     ensures container { (keys : Option Keys) (w : World (List ℕ)) (q : Asked) (t : ℕ)
         (bound : Option Key)
@@ -135,9 +149,8 @@ pub fn an_answer_is_of_what_exists()
         → (reply keys w q t bound).rule ≡ None → IsTrue (is_op op.GetBlockList q.ask.op)
         → IsTrue (has_listed q.ask.args.kinds
         (target_blob (part_at (effect keys w q t) q.ask.key) q.ask)) }
-    ensures neither { (p r : Part (List ℕ)) (q : Asked) → tells_container q.ask.op ≡ false
-        → tells_blob q.ask.op ≡ false → is_op op.GetBlockList q.ask.op ≡ false
-        → reply_of p q ≡ reply_of r q }
+    ensures nothing { (w v : World (List ℕ)) (q : Asked) (bound : Option Key)
+        → IsTrue (tells_nothing q.ask.op) → answer_of w q bound ≡ answer_of v q bound }
 {}
 
 /// Content may be read before a request or after it, by any function that keeps the size of each

@@ -7,6 +7,7 @@ mod caller_laws;
 mod condition_laws;
 mod etag_laws;
 mod history_laws;
+mod judged_laws;
 mod kept_laws;
 mod laws;
 mod run_laws;
@@ -21,21 +22,22 @@ pub use caller_laws::{
 };
 pub use condition_laws::{
     a_condition_never_lets_more_by, a_conditional_write_changes_what_its_caller_saw,
-    a_part_is_a_part_of_the_whole,
+    a_failed_condition_is_told, a_part_is_a_part_of_the_whole,
 };
 pub use etag_laws::an_etag_names_one_state;
 pub use history_laws::{
     a_front_part_of_a_legal_history_is_legal, an_accepted_request_continues_a_legal_history,
     each_entry_is_one_change,
 };
+pub use judged_laws::a_run_is_the_replay_of_its_accepted_requests;
 pub use kept_laws::{a_blob_is_changed_by_its_own_requests, what_was_written_last_is_read};
 pub use laws::{
     a_container_is_changed_by_its_own_operations, a_refused_request_changes_nothing,
-    an_answer_is_of_what_exists, an_effect_reaches_its_own_container_alone,
-    an_own_container_decides_effect_and_reply, content_is_read_before_or_after_a_request,
-    counts_only_rise, nobody_writes_without_a_credential,
-    public_access_is_what_the_container_gives, success_is_what_the_own_route_admits,
-    the_refusal_is_the_first_rule_of_all,
+    a_reply_depends_on_what_its_request_sees, an_answer_is_of_what_exists,
+    an_effect_reaches_its_own_container_alone, an_own_container_decides_effect_and_reply,
+    content_is_read_before_or_after_a_request, counts_only_rise,
+    nobody_writes_without_a_credential, public_access_is_what_the_container_gives,
+    success_is_what_the_own_route_admits, the_refusal_is_the_first_rule_of_all,
 };
 pub use run_laws::{
     a_refused_request_changes_no_other_reply, each_request_has_the_reply_of_its_position,

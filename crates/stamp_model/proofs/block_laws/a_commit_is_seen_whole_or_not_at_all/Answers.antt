@@ -5,6 +5,7 @@ use Rattle.std.specs.FinMap.{FinMap}
 use Rattle.stamp_values.specs.Order.{name_cmp}
 use Rattle.stamp_types.specs.World.{blob_in, part_at}
 use Rattle.stamp_model.proofs.BlockLemmas.{committed-put_block, count-put_block, uncommitted-put_block, first_missing-accepted, kept-list, body-list, length-list, headers-list, headers-get_list}
+use Rattle.stamp_model.proofs.PublicReadLemmas.{reply-public_put_block}
 use Rattle.stamp_model.proofs.ReplyLemmas.{effect-named}
 use Rattle.stamp_model.proofs.SeenLemmas.{reply-put_block, reply-put_blocks}
 use Rattle.stamp_model.proofs.block_laws.a_commit_is_seen_whole_or_not_at_all.Goals as goal
@@ -14,6 +15,9 @@ returns-clause-unseen c = λ keys w put read puts fits reads. reply-put_block ke
 
 pub returns-clause-unseen_all : goal.returns-clause-unseen_all
 returns-clause-unseen_all c = λ keys w puts read all fits reads. reply-put_blocks keys w puts read all fits reads
+
+pub returns-clause-public : goal.returns-clause-public
+returns-clause-public c = λ keys w put read puts fits anonymous. reply-public_put_block keys w put read puts fits anonymous
 
 pub returns-clause-committed : goal.returns-clause-committed
 returns-clause-committed c = λ keys w put key name puts. committed-put_block keys w put key name puts

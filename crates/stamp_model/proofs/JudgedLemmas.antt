@@ -1,0 +1,183 @@
+-- Requests in turn, each judged by its own key pair, one container at a time.
+use Rattle.std.proofs.Common.{◌≡◌, ℕ, Bool, true, false, cond, ◌&&◌, List, [], ◌∷◌, ◌++◌, Option, Some, None, map, is_some, refl, sym, ap, ◌∙◌, subst}
+use Rattle.std.proofs.lemmas.Bool.{and_parts}
+use Rattle.std.specs.Cmp.{eq_by_cmp_equiv}
+use Rattle.std.specs.Ordering.{eq_by_cmp}
+use Rattle.stamp_values.specs.Order.{key_cmp, keys_total, keys_exact}
+use Rattle.stamp_values.specs.declared.key.Key.{Key}
+use Rattle.stamp_types.specs.declared.past.Past.{Past}
+use Rattle.stamp_types.specs.declared.refusal.Refusal.{Refusal}
+use Rattle.stamp_types.specs.declared.reply.Reply.{Reply}
+use Rattle.stamp_types.specs.Changes.{KeyedAct}
+use Rattle.stamp_types.specs.Pieces.{held}
+use Rattle.stamp_types.specs.World.{Part, World, part_at}
+use Rattle.stamp_types.proofs.WorldLemmas.{equal_if_is_eq}
+use Rattle.access_rules.specs.declared.keys.Keys.{Keys}
+use Rattle.range_rows.specs.ObjectReplies.{byte_count, sizes}
+use Rattle.range_rows.specs.RequestChanges.{change_of, part_after}
+use Rattle.stamp_model.specs.Effects.{accepted, unless_refused}
+use Rattle.stamp_model.specs.Histories.{IsAccepted, IsLegalFrom, after_entry, replay_from}
+use Rattle.stamp_model.specs.JudgedRequests.{IsChange, Judged, accepted_at, changes_at, is_on, judged_entry, judged_with, part_after_judged, part_after_run, replies_to_run, world_after_judged, world_after_run}
+use Rattle.stamp_model.specs.Runs.{Timed, replies_to, reply_to_one, world_after_all, world_after_one}
+use Rattle.stamp_model.proofs.CountLemmas.{IsLegalFrom-rest}
+use Rattle.stamp_model.proofs.EffectLemmas.{part_at-effect, part_at-effect_others}
+
+-- ---- one request
+
+-- a key is the key of another value if it ties with it
+tied : (k j : Key) → eq_by_cmp key_cmp k j ≡ true → k ≡ j
+tied k j e = keys_exact k j (equal_if_is_eq (key_cmp k j) e)
+
+untied : (k j : Key) → eq_by_cmp key_cmp k j ≡ false → k ≡ j → ⊥
+untied k j e same = let never : true ≡ false = sym ((eq_by_cmp_equiv keys_total).refl j) ∙ ap (λ (x : Key). eq_by_cmp key_cmp x j) (sym same) ∙ e in cc
+
+by_accepted : (o : Option KeyedAct) (p : Part (List ℕ)) → part_after held o p ≡ cond (is_some o) (part_after held o p) p
+by_accepted None p = refl
+by_accepted (Some c) p = refl
+
+module _ (w : World (List ℕ)) (r : Judged) (key : Key) where
+  abbrev own : Key
+  own = r.request.ask.key
+
+  abbrev found : Option KeyedAct
+  found = accepted r.keys (sizes (part_at w own)) r.request r.moment
+
+  abbrev After : Key → Bool → Type 0
+  After k b = part_at (world_after_judged w r) k ≡ cond (b && is_some found) (part_after_judged (part_at w k) r) (part_at w k)
+
+  at_own : After own true
+  at_own = part_at-effect byte_count held r.keys w r.request r.moment ∙ by_accepted found (part_at w own)
+
+  by_key : (b : Bool) → is_on key r.request ≡ b → After key b
+  by_key true e = subst (λ (k : Key). After k true) (sym (tied key own e)) at_own
+  by_key false e = part_at-effect_others byte_count held r.keys w r.request r.moment key (untied key own e)
+
+  -- a container after a request: changed, if the request changes it, or else as it was
+  pub part_at-judged : part_at (world_after_judged w r) key ≡ cond (changes_at key w r) (part_after_judged (part_at w key) r) (part_at w key)
+  part_at-judged = by_key (is_on key r.request) refl
+
+  -- a request that changes the container is on it, and is accepted there
+  pub IsChange-changes : changes_at key w r ≡ true → IsChange key (part_at w key) r
+  IsChange-changes changes =
+      let both = and_parts (is_on key r.request) (is_some found) changes in
+      let same = tied key own both.0 in
+      record {
+        own = sym same;
+        changes = ap (λ (k : Key). is_some (accepted r.keys (sizes (part_at w k)) r.request r.moment)) same ∙ both.1;
+      }
+
+  -- a request that is on the container, and is accepted there, changes it
+  pub changes-IsChange : IsChange key (part_at w key) r → changes_at key w r ≡ true
+  changes-IsChange c =
+      ap (λ (k : Key). eq_by_cmp key_cmp k own && is_some found) (sym c.own)
+      ∙ ap (λ (b : Bool). b && is_some found) ((eq_by_cmp_equiv keys_total).refl own)
+      ∙ ap (λ (k : Key). is_some (accepted r.keys (sizes (part_at w k)) r.request r.moment)) c.own ∙ c.changes
+
+-- ---- requests in turn
+
+next_by : (b : Bool) (p : Part (List ℕ)) (r : Judged) (rs : List Judged) → part_after_run (cond b (part_after_judged p r) p) rs ≡ part_after_run p (cond b (r ∷ rs) rs)
+next_by true p r rs = refl
+next_by false p r rs = refl
+
+-- a container after requests in turn is what those that change it make of it
+pub part_at-run : (key : Key) (rs : List Judged) (w : World (List ℕ)) → part_at (world_after_run w rs) key ≡ part_after_run (part_at w key) (accepted_at key w rs)
+part_at-run key [] w = refl
+part_at-run key (r ∷ rs) w =
+    part_at-run key rs (world_after_judged w r)
+    ∙ ap (λ (p : Part (List ℕ)). part_after_run p (accepted_at key (world_after_judged w r) rs)) (part_at-judged w r key)
+    ∙ next_by (changes_at key w r) (part_at w key) r (accepted_at key (world_after_judged w r) rs)
+
+none_there : {X : Type 0} (front : List X) (x : X) (rest : List X) → [] ≡ front ++ x ∷ rest → ⊥
+none_there [] x rest h = cc
+none_there (y ∷ front) x rest h = cc
+
+-- each of the requests that change a container changes it as those before it left it
+pub each-accepted : (key : Key) (rs : List Judged) (w : World (List ℕ)) (front : List Judged) (r : Judged) (rest : List Judged) → accepted_at key w rs ≡ front ++ r ∷ rest
+    → IsChange key (part_after_run (part_at w key) front) r
+each-accepted key [] w front r rest h = absurd (none_there front r rest h)
+each-accepted key (x ∷ rs) w front r rest h = by_change (λ f is. each-accepted key rs (world_after_judged w x) f r rest is) (changes_at key w x) refl h
+  where
+    next : World (List ℕ)
+    next = world_after_judged w x
+
+    Later : Type 0
+    Later = (front : List Judged) → accepted_at key next rs ≡ front ++ r ∷ rest → IsChange key (part_after_run (part_at next key) front) r
+
+    first_or_later : Later → changes_at key w x ≡ true → (front : List Judged) → x ∷ accepted_at key next rs ≡ front ++ r ∷ rest → IsChange key (part_after_run (part_at w key) front) r
+    first_or_later later changes [] h = let same : x ≡ r = cc in subst (λ (y : Judged). IsChange key (part_at w key) y) same (IsChange-changes w x key changes)
+    first_or_later later changes (y ∷ front) h =
+        let same : x ≡ y = cc in
+        let more : accepted_at key next rs ≡ front ++ r ∷ rest = cc in
+        subst (λ (p : Part (List ℕ)). IsChange key (part_after_run p front) r)
+        (part_at-judged w x key ∙ ap (λ (b : Bool). cond b (part_after_judged (part_at w key) x) (part_at w key)) changes ∙ ap (part_after_judged (part_at w key)) same)
+        (later front more)
+
+    by_change : Later → (b : Bool) → changes_at key w x ≡ b → cond b (x ∷ accepted_at key next rs) (accepted_at key next rs) ≡ front ++ r ∷ rest → IsChange key (part_after_run (part_at w key) front) r
+    by_change later true changes h = first_or_later later changes front h
+    by_change later false stays h =
+        subst (λ (p : Part (List ℕ)). IsChange key (part_after_run p front) r)
+        (part_at-judged w x key ∙ ap (λ (b : Bool). cond b (part_after_judged (part_at w key) x) (part_at w key)) stays)
+        (later front h)
+
+-- the requests of two lists that change a container: those of the first list, and then those of the second list
+pub accepted_at-append : (key : Key) (front rest : List Judged) (w : World (List ℕ)) → accepted_at key w (front ++ rest) ≡ accepted_at key w front ++ accepted_at key (world_after_run w front) rest
+accepted_at-append key [] rest w = refl
+accepted_at-append key (r ∷ front) rest w =
+    ap (λ (l : List Judged). cond (changes_at key w r) (r ∷ l) l) (accepted_at-append key front rest (world_after_judged w r))
+    ∙ by_change (changes_at key w r)
+  where
+    early : List Judged
+    early = accepted_at key (world_after_judged w r) front
+
+    late : List Judged
+    late = accepted_at key (world_after_run (world_after_judged w r) front) rest
+
+    by_change : (b : Bool) → cond b (r ∷ (early ++ late)) (early ++ late) ≡ cond b (r ∷ early) early ++ late
+    by_change true = refl
+    by_change false = refl
+
+-- ---- histories
+
+-- a history replays as its entries do, each judged by the pair of its epoch
+pub replay_from-judged : (pairs : List Keys) (history : List Past) (start : Part (List ℕ)) → replay_from pairs start history ≡ part_after_run start (map (judged_entry pairs) history)
+replay_from-judged pairs [] start = refl
+replay_from-judged pairs (e ∷ rest) start = replay_from-judged pairs rest (after_entry pairs start e)
+
+-- an accepted entry is a change
+pub IsChange-entry : (pairs : List Keys) (key : Key) (p : Part (List ℕ)) (e : Past) → IsAccepted pairs key p e → IsChange key p (judged_entry pairs e)
+IsChange-entry pairs key p e new = record {
+  own = new.own;
+  changes = ap (λ (o : Option Refusal). is_some (unless_refused o (change_of (sizes p) e.request e.moment))) new.allowed ∙ new.writes;
+}
+
+-- each entry of a legal history changes its container
+pub accepted_at-legal : (pairs : List Keys) (key : Key) (history : List Past) (w : World (List ℕ)) → IsLegalFrom pairs key (part_at w key) history
+    → accepted_at key w (map (judged_entry pairs) history) ≡ map (judged_entry pairs) history
+accepted_at-legal pairs key [] w legal = refl
+accepted_at-legal pairs key (e ∷ rest) w legal =
+    ap (λ (b : Bool). cond b (first ∷ accepted_at key next (map (judged_entry pairs) rest)) (accepted_at key next (map (judged_entry pairs) rest))) changes
+    ∙ ap (λ (l : List Judged). first ∷ l)
+    (accepted_at-legal pairs key rest next
+    (subst (λ (p : Part (List ℕ)). IsLegalFrom pairs key p rest) (sym after) (IsLegalFrom-rest pairs key (part_at w key) e rest legal)))
+  where
+    first : Judged
+    first = judged_entry pairs e
+
+    next : World (List ℕ)
+    next = world_after_judged w first
+
+    changes : changes_at key w first ≡ true
+    changes = changes-IsChange w first key (IsChange-entry pairs key (part_at w key) e (legal.accepted [] e (rest, refl)))
+
+    after : part_at next key ≡ after_entry pairs (part_at w key) e
+    after = part_at-judged w first key ∙ ap (λ (b : Bool). cond b (part_after_judged (part_at w key) first) (part_at w key)) changes
+
+-- ---- one key pair
+
+pub world_after_all-judged : (keys : Option Keys) (rs : List Timed) (w : World (List ℕ)) → world_after_all keys w rs ≡ world_after_run w (map (judged_with keys) rs)
+world_after_all-judged keys [] w = refl
+world_after_all-judged keys (r ∷ rs) w = world_after_all-judged keys rs (world_after_one keys w r)
+
+pub replies_to-judged : (keys : Option Keys) (rs : List Timed) (w : World (List ℕ)) → replies_to keys w rs ≡ replies_to_run w (map (judged_with keys) rs)
+replies_to-judged keys [] w = refl
+replies_to-judged keys (r ∷ rs) w = ap (λ (l : List Reply). reply_to_one keys w r ∷ l) (replies_to-judged keys rs (world_after_one keys w r))

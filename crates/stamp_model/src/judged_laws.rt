@@ -1,0 +1,34 @@
+//! Laws of requests that are judged each by the key pair of its moment. Each law is the contract of
+//! a function that does nothing.
+ghost use Rattle.std.specs.Prelude.{◌≡◌, ℕ, List, ◌∷◌, ◌++◌, Option, map};
+ghost use Rattle.stamp_values.specs.declared.key.Key.{Key};
+ghost use Rattle.stamp_types.specs.declared.past.Past.{Past};
+ghost use Rattle.stamp_types.specs.World.{Part, World, part_at};
+ghost use Rattle.access_rules.specs.declared.keys.Keys.{Keys};
+ghost use Rattle.stamp_model.specs.Histories.{IsLegalFrom, replay_from};
+ghost use Rattle.stamp_model.specs.JudgedRequests.{IsChange, Judged, accepted_at, judged_entry, judged_with, part_after_run, replies_to_run, world_after_run};
+ghost use Rattle.stamp_model.specs.Runs.{Timed, replies_to, world_after_all};
+
+/// A run is the replay of its accepted requests. After requests in turn, each judged by its own key
+/// pair, a container is what those of them that change it make of it, one after the other; and each
+/// of them is on this container, and changes it as those before it left it. A history replays as its
+/// entries do, each judged by the pair of its epoch. If a history is legal, and the container is as
+/// it was before the first entry, each entry is among the requests that change the container. A run
+/// by one key pair is a run in which each request is judged by that pair.
+pub fn a_run_is_the_replay_of_its_accepted_requests()
+    ensures run { (w : World (List ℕ)) (key : Key) (rs : List Judged)
+        → part_at (world_after_run w rs) key ≡ part_after_run (part_at w key) (accepted_at key w rs) }
+    ensures each { (w : World (List ℕ)) (key : Key) (rs front : List Judged) (r : Judged)
+        (rest : List Judged)
+        → accepted_at key w rs ≡ front ++ r ∷ rest
+        → IsChange key (part_after_run (part_at w key) front) r }
+    ensures history { (pairs : List Keys) (start : Part (List ℕ)) (history : List Past)
+        → replay_from pairs start history ≡ part_after_run start (map (judged_entry pairs) history) }
+    ensures legal { (pairs : List Keys) (key : Key) (w : World (List ℕ)) (history : List Past)
+        → IsLegalFrom pairs key (part_at w key) history
+        → accepted_at key w (map (judged_entry pairs) history) ≡ map (judged_entry pairs) history }
+    ensures world { (keys : Option Keys) (w : World (List ℕ)) (rs : List Timed)
+        → world_after_all keys w rs ≡ world_after_run w (map (judged_with keys) rs) }
+    ensures replies { (keys : Option Keys) (w : World (List ℕ)) (rs : List Timed)
+        → replies_to keys w rs ≡ replies_to_run w (map (judged_with keys) rs) }
+{}
