@@ -1,17 +1,20 @@
 -- What a Put Block and a commit leave of blocks.
-use Rattle.std.proofs.Common.{◌≡◌, ℕ, ◌+◌, true, false, cond, not, ◌&&◌, ◌||◌, List, [], ◌∷◌, ◌++◌, drop, length, Option, Some, None, refl, sym, ap, ◌∙◌, map, unwrap_or}
+use Rattle.std.proofs.Common.{◌≡◌, ℕ, ◌+◌, Bool, true, false, cond, not, ◌&&◌, ◌||◌, List, [], ◌∷◌, ◌++◌, drop, length, Option, Some, None, refl, sym, ap, ◌∙◌, map, unwrap_or}
 use Rattle.std.proofs.lemmas.List.{append-nil}
 use Rattle.std.specs.Prelude.{find, is_none, is_some, nat_lt, position}
 use Rattle.std.specs.FinMap as finite
 use Rattle.std.specs.FinMap.{FinMap, len-empty, len-entries}
 use Rattle.std.specs.List.{flat_map}
-use Rattle.std.specs.Option.{option_map, option_and_then, option_to_list}
+use Rattle.std.specs.Option.{option_map, option_and_then, option_or, option_to_list}
 use Rattle.md5.specs.Md5.{md5}
 use Rattle.stamp_values.specs.Operations.{is_op, keeps_headers}
 use Rattle.stamp_values.specs.Order.{name_cmp}
 use Rattle.stamp_values.specs.declared.block.BlockKinds.{BlockKinds}
 use Rattle.stamp_values.specs.declared.block.BlockKinds.TheVariants as kinds
+use Rattle.stamp_values.specs.declared.block.Lookup.{Lookup}
+use Rattle.stamp_values.specs.declared.block.Lookup.TheVariants as lookup
 use Rattle.stamp_values.specs.declared.block.Source.{Source}
+use Rattle.stamp_values.specs.declared.block.Source.TheVariants as source
 use Rattle.stamp_values.specs.declared.block.Taken.{Taken}
 use Rattle.stamp_values.specs.declared.block.Wanted.{Wanted}
 use Rattle.stamp_values.specs.declared.condition.ByteRange.{ByteRange}
@@ -44,7 +47,7 @@ use Rattle.range_rows.specs.ObjectRules.Cause.{ContainerIsAbsent, ContainerExist
 use Rattle.range_rows.specs.Readings.{wanted_blocks}
 use Rattle.range_rows.specs.RequestChanges.{act_by, put_blob, put_block, put_block_list}
 use Rattle.range_rows.proofs.AnswerLemmas.{blob_in-put_list, listed_committed_part, put_committed}
-use Rattle.stamp_model.specs.Blocks.{takes_blocks, wanted_bytes, wanted_content}
+use Rattle.stamp_model.specs.Blocks.{content_by, takes_blocks, wanted_bytes, wanted_content}
 use Rattle.stamp_model.specs.Runs.{Timed, IsAdmitted, IsOn, world_after_one, reply_to_one}
 use Rattle.stamp_model.proofs.ArgumentLemmas.{no_cause}
 use Rattle.stamp_model.proofs.ObjectLemmas.{there_is}
@@ -108,6 +111,33 @@ module _ {C D : Type 0} (f : C → D) (b : Blob C) where
 
 -- ---- the content of wanted blocks
 
+module _ {C : Type 0} (content : Source → Option C) where
+  abbrev there : Source → Bool
+  there s = is_some (content s)
+
+  at_last_source : (s : Source) (o : Option C) → content s ≡ o → option_and_then content (cond (is_some o) (Some s) None) ≡ o
+  at_last_source s None is = refl
+  at_last_source s (Some c) is = is
+
+  at_source : (s : Source) (more : List Source) (rest o : Option C) → content s ≡ o → option_and_then content (find there more) ≡ rest
+      → option_and_then content (cond (is_some o) (Some s) (find there more)) ≡ option_or o rest
+  at_source s more rest None is later = later
+  at_source s more rest (Some c) is later = is
+
+-- the content of a wanted block is the content in the source in which it is found
+pub content-source : {C : Type 0} (b : Blob C) (w : Wanted) → option_and_then (λ s. content_from s w.id b) (source_of b w) ≡ wanted_content b w
+content-source {C} b w = by_lookup w.lookup
+  where
+    content : Source → Option C
+    content s = content_from s w.id b
+
+    by_lookup : (l : Lookup) → option_and_then content (find (λ s. is_some (content s)) (sources_of l)) ≡ content_by l w.id b
+    by_lookup lookup.Latest =
+        at_source content source.Uncommitted (source.Committed ∷ []) (content source.Committed) (content source.Uncommitted) refl
+        (at_last_source content source.Committed (content source.Committed) refl)
+    by_lookup lookup.Committed = at_last_source content source.Committed (content source.Committed) refl
+    by_lookup lookup.Uncommitted = at_last_source content source.Uncommitted (content source.Uncommitted) refl
+
 -- the content of blocks, joined
 abbrev content_of : List (Block (List ℕ)) → List ℕ
 content_of blocks = flat_map (λ block. block.content) blocks
@@ -125,7 +155,7 @@ module _ (b : Blob (List ℕ)) where
   -- the content of the blocks that are taken is the content of the wanted blocks
   content-taken : (ws : List Wanted) → content_of (taken_blocks b (found_entries b ws)) ≡ wanted_bytes b ws
   content-taken [] = refl
-  content-taken (w ∷ ws) = one_taken w (source_of b w) (found_entries b ws) ∙ ap (λ (bytes : List ℕ). unwrap_or (wanted_content b w) [] ++ bytes) (content-taken ws)
+  content-taken (w ∷ ws) = one_taken w (source_of b w) (found_entries b ws) ∙ (λ i. unwrap_or (content-source b w i) [] ++ content-taken ws i)
 
 -- ---- Put Block List
 

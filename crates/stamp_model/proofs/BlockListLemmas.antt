@@ -33,7 +33,7 @@ use Rattle.range_rows.specs.ObjectReplies.{byte_count, if_shown, list_text, list
 use Rattle.range_rows.specs.Readings.{wanted_blocks}
 use Rattle.stamp_model.specs.Blocks.{IsListed, ListsUncommitted, wanted_listed}
 use Rattle.stamp_model.specs.Runs.{Timed, IsOn, reply_to_one, world_after_one}
-use Rattle.stamp_model.proofs.BlockLemmas.{body-block_list, committed-list, first_missing-accepted, found_entries-read, kept-list, list_there, uncommitted-taken}
+use Rattle.stamp_model.proofs.BlockLemmas.{body-block_list, committed-list, content-source, first_missing-accepted, found_entries-read, kept-list, list_there, uncommitted-taken}
 use Rattle.stamp_model.proofs.WrittenLemmas.{committed-put, kept-put, put_there}
 
 -- ---- the blocks that a Put Block List commits
@@ -75,7 +75,7 @@ module _ (b : Blob (List ℕ)) where
   shown-taken [] found = refl
   shown-taken (w ∷ ws) found =
       one_shown w (source_of b w) (found_entries b ws) found.0 (find_passes (λ s. is_some (content_from s w.id b)) (sources_of w.lookup))
-      ∙ ap (λ (us : List ListedBlock). wanted_listed b w ∷ us) (shown-taken ws found.1)
+      ∙ (λ i. record { id = w.id; len = length (unwrap_or (content-source b w i) []) } ∷ shown-taken ws found.1 i)
 
 -- the block lists that a Get Block List shows, from the committed part and the uncommitted blocks of the blob
 text_of_parts : (k : Option BlockKinds) (b : Blob (List ℕ)) (c : Option (Committed (List ℕ))) (m : FinMap name_cmp (List ℕ)) → b.committed ≡ c → b.uncommitted ≡ m

@@ -17,7 +17,7 @@ no_more [] x rest h = cc
 no_more (y ∷ front) x rest h = cc
 
 -- an element of a list that has one more element at its end is that last element, or is an element of the shorter list
-last_or_before : {X : Type 0} (xs : List X) (e x : X) (front rest : List X) → xs ++ e ∷ [] ≡ front ++ x ∷ rest → ((front ≡ xs) × (x ≡ e)) ⊎ ((left : List X) × (xs ≡ front ++ x ∷ left))
+pub last_or_before : {X : Type 0} (xs : List X) (e x : X) (front rest : List X) → xs ++ e ∷ [] ≡ front ++ x ∷ rest → ((front ≡ xs) × (x ≡ e)) ⊎ ((left : List X) × (xs ≡ front ++ x ∷ left))
 last_or_before [] e x [] rest h = inl (refl, cc)
 last_or_before [] e x (y ∷ front) rest h = absurd (no_more front x rest cc)
 last_or_before (y ∷ xs) e x [] rest h = let same : y ≡ x = cc in inr (xs, ap (λ z. z ∷ xs) same)

@@ -1,6 +1,7 @@
 -- Requests in turn, each judged by its own key pair, one container at a time.
-use Rattle.std.proofs.Common.{◌≡◌, ℕ, Bool, true, false, cond, ◌&&◌, List, [], ◌∷◌, ◌++◌, Option, Some, None, map, is_some, refl, sym, ap, ◌∙◌, subst}
+use Rattle.std.proofs.Common.{◌≡◌, ◌≤◌, ◌⊎◌, inl, inr, ℕ, Bool, true, false, cond, ◌&&◌, List, [], ◌∷◌, ◌++◌, Option, Some, None, map, is_some, refl, sym, ap, ◌∙◌, subst}
 use Rattle.std.proofs.lemmas.Bool.{and_parts}
+use Rattle.std.proofs.lemmas.List.{append-nil, append_assoc}
 use Rattle.std.specs.Cmp.{eq_by_cmp_equiv}
 use Rattle.std.specs.Ordering.{eq_by_cmp}
 use Rattle.stamp_values.specs.Order.{key_cmp, keys_total, keys_exact}
@@ -16,11 +17,13 @@ use Rattle.access_rules.specs.declared.keys.Keys.{Keys}
 use Rattle.range_rows.specs.ObjectReplies.{byte_count, sizes}
 use Rattle.range_rows.specs.RequestChanges.{change_of, part_after}
 use Rattle.stamp_model.specs.Effects.{accepted, unless_refused}
-use Rattle.stamp_model.specs.Histories.{IsAccepted, IsLegalFrom, after_entry, replay_from}
-use Rattle.stamp_model.specs.JudgedRequests.{IsChange, Judged, accepted_at, changes_at, is_on, judged_entry, judged_with, part_after_judged, part_after_run, replies_to_run, world_after_judged, world_after_run}
+use Rattle.stamp_model.specs.Histories.{IsAccepted, IsEntryAfter, IsLegalFrom, after_entry, pair_of, replay_from}
+use Rattle.stamp_model.specs.JudgedRequests.{EpochsRise, IsChange, Judged, accepted_at, changes_at, is_on, judged_entry, judged_with, part_after_judged, part_after_run, replies_to_run, world_after_judged, world_after_run}
+use Rattle.stamp_model.specs.Refusals.{refusal}
 use Rattle.stamp_model.specs.Runs.{Timed, replies_to, reply_to_one, world_after_all, world_after_one}
 use Rattle.stamp_model.proofs.CountLemmas.{IsLegalFrom-rest}
 use Rattle.stamp_model.proofs.EffectLemmas.{part_at-effect, part_at-effect_others}
+use Rattle.stamp_model.proofs.HistoryLemmas.{IsLegalFrom-append, IsLegalFrom-nil, last_or_before, replay_from-append}
 
 -- ---- one request
 
@@ -171,6 +174,112 @@ accepted_at-legal pairs key (e ∷ rest) w legal =
 
     after : part_at next key ≡ after_entry pairs (part_at w key) e
     after = part_at-judged w first key ∙ ap (λ (b : Bool). cond b (part_after_judged (part_at w key) first) (part_at w key)) changes
+
+-- a change is an accepted entry
+IsAccepted-change : (pairs : List Keys) (key : Key) (p : Part (List ℕ)) (e : Past) → IsChange key p (judged_entry pairs e) → IsAccepted pairs key p e
+IsAccepted-change pairs key p e c =
+    let both = by_refusal (refusal (pair_of pairs e.epoch) (sizes p) e.request e.moment) (change_of (sizes p) e.request e.moment) c.changes in
+    record { own = c.own; writes = both.1; allowed = both.0 }
+  where
+    by_refusal : (r : Option Refusal) (o : Option KeyedAct) → is_some (unless_refused r o) ≡ true → (r ≡ None) × (is_some o ≡ true)
+    by_refusal None o h = (refl, h)
+    by_refusal (Some r) o h = cc
+
+-- no entry of the history has a higher epoch than a later entry
+abbrev NoneIsAbove : List Past → List Past → Type 0
+NoneIsAbove history entries = (front : List Past) (x : Past) → IsEntryAfter front x history → (before : List Past) (y : Past) → IsEntryAfter before y entries → x.epoch ≤ y.epoch
+
+module _ (history rest : List Past) (e : Past) where
+  NoneIsAbove-rest : NoneIsAbove history (e ∷ rest) → NoneIsAbove history rest
+  NoneIsAbove-rest none front x comes before y after = none front x comes (e ∷ before) y (after.0, ap (λ (ys : List Past). e ∷ ys) after.1)
+
+  EpochsRise-rest : EpochsRise (e ∷ rest) → EpochsRise rest
+  EpochsRise-rest rise front between x later comes = rise (e ∷ front) between x later (comes.0, ap (λ (ys : List Past). e ∷ ys) comes.1)
+
+  NoneIsAbove-longer : NoneIsAbove history (e ∷ rest) → EpochsRise (e ∷ rest) → NoneIsAbove (history ++ e ∷ []) rest
+  NoneIsAbove-longer none rise front x comes before y after = by_place (last_or_before history e x front comes.0 comes.1)
+    where
+      by_place : ((front ≡ history) × (x ≡ e)) ⊎ IsEntryAfter front x history → x.epoch ≤ y.epoch
+      by_place (inl p) =
+          subst (λ (z : Past). z.epoch ≤ y.epoch) (sym p.1) (rise [] before e y (after.0, ap (λ (ys : List Past). e ∷ ys) after.1))
+      by_place (inr came) = NoneIsAbove-rest none front x came before y after
+
+module _ (pairs : List Keys) (key : Key) (start : Part (List ℕ)) where
+  abbrev entry : Past → Judged
+  entry = judged_entry pairs
+
+  -- entries continue a legal history by those of them that change the container
+  abbrev Continued : World (List ℕ) → List Past → List Past → Type 0
+  Continued w history entries = (more : List Past) × IsLegalFrom pairs key start (history ++ more) × (map entry more ≡ accepted_at key w (map entry entries))
+
+  -- the container is what the history replays to, and no entry of the history has a higher epoch than a later entry
+  record IsUpTo (w : World (List ℕ)) (history entries : List Past) : Type 0 where
+    pub legal : IsLegalFrom pairs key start history
+    pub there : part_at w key ≡ replay_from pairs start history
+    pub none : NoneIsAbove history entries
+    pub rise : EpochsRise entries
+
+  module _ (w : World (List ℕ)) (history rest : List Past) (e : Past) (up : IsUpTo w history (e ∷ rest)) where
+    abbrev next : World (List ℕ)
+    next = world_after_judged w (entry e)
+
+    after_by : (b : Bool) → changes_at key w (entry e) ≡ b → part_at next key ≡ cond b (after_entry pairs (part_at w key) e) (part_at w key)
+    after_by b is = part_at-judged w (entry e) key ∙ ap (λ (b : Bool). cond b (after_entry pairs (part_at w key) e) (part_at w key)) is
+
+    IsUpTo-stays : changes_at key w (entry e) ≡ false → IsUpTo next history rest
+    IsUpTo-stays stays = record {
+      legal = up.legal;
+      there = after_by false stays ∙ up.there;
+      none = NoneIsAbove-rest history rest e up.none;
+      rise = EpochsRise-rest history rest e up.rise;
+    }
+
+    IsUpTo-changes : changes_at key w (entry e) ≡ true → IsUpTo next (history ++ e ∷ []) rest
+    IsUpTo-changes changes = record {
+      legal = IsLegalFrom-append pairs key start history e up.legal (λ front x comes. up.none front x comes [] e (rest, refl))
+          (subst (λ (p : Part (List ℕ)). IsAccepted pairs key p e) up.there (IsAccepted-change pairs key (part_at w key) e (IsChange-changes w (entry e) key changes)));
+      there = after_by true changes ∙ ap (λ (p : Part (List ℕ)). after_entry pairs p e) up.there ∙ sym (replay_from-append pairs start history e);
+      none = NoneIsAbove-longer history rest e up.none up.rise;
+      rise = EpochsRise-rest history rest e up.rise;
+    }
+
+    Continued-by : (b : Bool) → changes_at key w (entry e) ≡ b → (changes_at key w (entry e) ≡ true → Continued next (history ++ e ∷ []) rest)
+        → (changes_at key w (entry e) ≡ false → Continued next history rest) → Continued w history (e ∷ rest)
+    Continued-by true is changed stayed =
+        let more = changed is in (
+          e ∷ more.0,
+          subst (λ (h : List Past). IsLegalFrom pairs key start h) (append_assoc history (e ∷ []) more.0) more.1,
+          ap (λ (l : List Judged). entry e ∷ l) more.2
+              ∙ sym (ap (λ (b : Bool). cond b (entry e ∷ accepted_at key next (map entry rest)) (accepted_at key next (map entry rest))) is),
+        )
+    Continued-by false is changed stayed =
+        let more = stayed is in (
+          more.0,
+          more.1,
+          more.2 ∙ sym (ap (λ (b : Bool). cond b (entry e ∷ accepted_at key next (map entry rest)) (accepted_at key next (map entry rest))) is),
+        )
+
+  continued : (entries : List Past) (w : World (List ℕ)) (history : List Past) → IsUpTo w history entries → Continued w history entries
+  continued [] w history up = ([], subst (λ (h : List Past). IsLegalFrom pairs key start h) (sym (append-nil history)) up.legal, refl)
+  continued (e ∷ rest) w history up =
+      Continued-by w history rest e up (changes_at key w (entry e)) refl
+      (λ changes. continued rest (world_after_judged w (entry e)) (history ++ e ∷ []) (IsUpTo-changes w history rest e up changes))
+      (λ stays. continued rest (world_after_judged w (entry e)) history (IsUpTo-stays w history rest e up stays))
+
+no_entry_before : (front : List Past) (x : Past) → IsEntryAfter front x [] → ⊥
+no_entry_before front x comes = none_there front x comes.0 comes.1
+
+-- of entries whose epochs do not fall, those that change the container are a legal history
+pub history-accepted : (pairs : List Keys) (key : Key) (w : World (List ℕ)) (entries : List Past) → EpochsRise entries
+    → (history : List Past) × IsLegalFrom pairs key (part_at w key) history × (map (judged_entry pairs) history ≡ accepted_at key w (map (judged_entry pairs) entries))
+history-accepted pairs key w entries rise =
+    continued pairs key (part_at w key) entries w []
+    (record {
+      legal = IsLegalFrom-nil pairs key (part_at w key);
+      there = refl;
+      none = λ front x comes before y after. absurd (no_entry_before front x comes);
+      rise = rise;
+    })
 
 -- ---- one key pair
 

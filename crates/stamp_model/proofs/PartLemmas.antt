@@ -1,30 +1,34 @@
 -- The bytes of a range are part of the bytes of the blob.
-use Rattle.std.proofs.Common.{◌≡◌, ◌<◌, ◌≤◌, ℕ, ◌+◌, ◌-◌, min, Bool, true, false, ◌&&◌, List, [], ◌∷◌, ◌++◌, drop, is_none, length, map, Option, Some, None, IfSome, arith, nat_le, nat_lt, refl, sym, ap, ◌∙◌, subst, unwrap_or, if◌then◌else◌}
+use Rattle.std.proofs.Common.{◌≡◌, ◌<◌, ◌≤◌, ℕ, ◌+◌, ◌-◌, min, Bool, true, false, ◌&&◌, ◌||◌, List, [], ◌∷◌, ◌++◌, drop, is_none, length, map, Option, Some, None, IfSome, arith, nat_le, nat_lt, refl, sym, ap, ◌∙◌, subst, unwrap_or, if◌then◌else◌}
 use Rattle.std.proofs.lemmas.Bool.{leb-false, ltb-false, ltb-true}
 use Rattle.std.proofs.lemmas.List.{length-append, length-drop, length-take-le}
 use Rattle.std.proofs.lemmas.List.Elements.{Contains-append_left, Contains-append_right}
+use Rattle.std.proofs.lemmas.List.Folds.{list_any-append}
 use Rattle.std.proofs.lemmas.List.Sums.{sum_by-cons}
 use Rattle.std.specs.Prelude.{Contains, is_some, sum_by}
-use Rattle.std.specs.List.{flat_map, slice_range}
+use Rattle.std.specs.List.{flat_map, list_any, slice_range}
 use Rattle.std.specs.Option.{option_map, option_map_or}
 use Rattle.stamp_values.specs.Operations.{is_op, writes}
 use Rattle.stamp_values.specs.declared.condition.ByteRange.{ByteRange}
 use Rattle.stamp_values.specs.declared.key.Key.{Key}
+use Rattle.stamp_values.specs.declared.meta.Meta.{Meta}
 use Rattle.stamp_values.specs.declared.op.Op.TheVariants as op
 use Rattle.stamp_types.specs.declared.committed.Block.{Block}
 use Rattle.stamp_types.specs.declared.committed.Committed.{Committed}
+use Rattle.stamp_types.specs.declared.header.Header.{Header}
 use Rattle.stamp_types.specs.declared.header.Header.TheVariants as header
 use Rattle.stamp_types.specs.declared.reply.Reply.{Reply}
 use Rattle.stamp_types.specs.declared.sent_range.SentRange.{SentRange}
+use Rattle.stamp_types.specs.PropsFields.{PropsFields}
 use Rattle.stamp_types.specs.Requests.{Asked, IsAsk}
 use Rattle.stamp_types.specs.World.{Part, World, block_value, committed_value, part_at}
 use Rattle.access_rules.specs.declared.keys.Keys.{Keys}
-use Rattle.range_rows.specs.ObjectReplies.{blob_content, byte_count, bytes_by, date_headers, empty_blob, frame_by, get_frame, kept_lines, part_frame, part_headers, range_end, ranged_bytes, ranged_frame, reply_of, sent_range, sizes, standing_read, with_content, without_md5}
+use Rattle.range_rows.specs.ObjectReplies.{blob_content, byte_count, bytes_by, date_headers, empty_blob, frame_by, get_frame, kept_lines, line_of, part_frame, part_headers, range_end, ranged_bytes, ranged_frame, reply_of, sent_range, sizes, standing_read, with_content, without_md5}
 use Rattle.range_rows.specs.NamedBlobs.{target_blob}
 use Rattle.range_rows.specs.ObjectRules.{Cause, blob_size, cause_holds, named_blob, needs_blob, starts_past}
 use Rattle.range_rows.specs.ObjectRules.Cause.{BlobIsAbsent, RangeIsPastTheEnd}
 use Rattle.range_rows.proofs.AnswerLemmas.{named_blob-part_value}
-use Rattle.stamp_model.specs.Ranges.{IsPartOf, without_range}
+use Rattle.stamp_model.specs.Ranges.{IsPartOf, is_md5, without_range}
 use Rattle.stamp_model.specs.Refusals.{refusal}
 use Rattle.stamp_model.specs.Responses.{reply}
 use Rattle.stamp_model.proofs.ObjectLemmas.{left_false}
@@ -74,6 +78,33 @@ range_said sent c =
     Contains-append_left (kept_lines (without_md5 c.props) ++ header.ContentRange sent ∷ map header.Meta c.metadata) (header.BlobType ∷ header.AcceptRanges ∷ date_headers c.etag c.made) (header.ContentRange sent)
     (Contains-append_right (kept_lines (without_md5 c.props)) (header.ContentRange sent ∷ map header.Meta c.metadata) (header.ContentRange sent) (0, omega arith, refl))
 
+-- ---- a part has no Content-MD5
+
+no_md5_line : (make : List ℕ → Header) → ((text : List ℕ) → is_md5 (make text) ≡ false) → (text : List ℕ) → list_any is_md5 (line_of make text) ≡ false
+no_md5_line make none [] = refl
+no_md5_line make none (b ∷ bs) = ap (λ (x : Bool). x || false) (none (b ∷ bs))
+
+no_md5_metadata : (metadata : List Meta) → list_any is_md5 (map header.Meta metadata) ≡ false
+no_md5_metadata [] = refl
+no_md5_metadata (m ∷ ms) = no_md5_metadata ms
+
+no_md5_both : (xs ys : List Header) → list_any is_md5 xs ≡ false → list_any is_md5 ys ≡ false → list_any is_md5 (xs ++ ys) ≡ false
+no_md5_both xs ys first second = list_any-append is_md5 xs ys ∙ (λ i. first i || second i)
+
+no_md5_kept : (k : PropsFields) → list_any is_md5 (kept_lines (without_md5 k)) ≡ false
+no_md5_kept k =
+    let type : List Header = header.ContentType k.content_type ∷ line_of header.ContentEncoding k.encoding in
+    let language : List Header = line_of header.ContentLanguage k.language in
+    no_md5_both (type ++ language ++ []) (line_of header.CacheControl k.cache_control)
+    (no_md5_both (type ++ language) []
+    (no_md5_both type language (no_md5_line header.ContentEncoding (λ text. refl) k.encoding) (no_md5_line header.ContentLanguage (λ text. refl) k.language)) refl)
+    (no_md5_line header.CacheControl (λ text. refl) k.cache_control)
+
+no_md5_part : (sent : SentRange) (c : Committed ℕ) → list_any is_md5 (part_headers sent c) ≡ false
+no_md5_part sent c =
+    no_md5_both (kept_lines (without_md5 c.props) ++ header.ContentRange sent ∷ map header.Meta c.metadata) (header.BlobType ∷ header.AcceptRanges ∷ date_headers c.etag c.made)
+    (no_md5_both (kept_lines (without_md5 c.props)) (header.ContentRange sent ∷ map header.Meta c.metadata) (no_md5_kept c.props) (no_md5_metadata c.metadata)) refl
+
 module _ (r : ByteRange) (d : Committed (List ℕ)) (start : r.first < length (blob_content d)) (order : IfSome r.last (λ last. r.first ≤ last)) where
   abbrev bytes : List ℕ
   bytes = blob_content d
@@ -107,6 +138,7 @@ module _ (r : ByteRange) (d : Committed (List ℕ)) (start : r.first < length (b
         within = subst (λ n. n ≤ length bytes) (sym last_byte) within;
         body = ap (λ n. slice_range bytes r.first n) (sym last_byte);
         said = subst (λ n. Contains (part_headers (sent_range r n) sized) (header.ContentRange (sent_range r (length bytes)))) (sym (sizes_of_bytes d.blocks)) (range_said (sent_range r (length bytes)) sized);
+        no_md5 = no_md5_part (sent_range r (blob_size sized)) sized;
         counted = ap (λ n. range_end r n - r.first) (sizes_of_bytes d.blocks) ∙ sym (length-slice bytes r.first end within);
       }
 

@@ -2,16 +2,17 @@
 -- "Get Block List").
 use Rattle.std.specs.Prelude.{◌≡◌, ℕ, Bool, true, false, not, List, [], ◌∷◌, ◌++◌, length, map, Option, Some, unwrap_or}
 use Rattle.std.specs.List.{flat_map}
-use Rattle.std.specs.Option.{option_and_then}
+use Rattle.std.specs.Option.{option_or}
 use Rattle.std.specs.FinMap.{is_sorted}
 use Rattle.stamp_values.specs.declared.block.BlockKinds.{BlockKinds}
+use Rattle.stamp_values.specs.declared.block.Lookup.{Lookup}
+use Rattle.stamp_values.specs.declared.block.Lookup.TheVariants as lookup
 use Rattle.stamp_values.specs.declared.block.Wanted.{Wanted}
 use Rattle.stamp_values.specs.declared.op.Op.{Op}
 use Rattle.stamp_values.specs.declared.op.Op.TheVariants as op
 use Rattle.stamp_values.specs.Order.{name_cmp}
 use Rattle.stamp_values.specs.declared.block.Source.TheVariants as source
 use Rattle.stamp_types.specs.World.{Blob, content_from}
-use Rattle.block_blobs.specs.BlockLists.{source_of}
 use Rattle.body_forms.specs.WrittenLists.{ListedBlock}
 use Rattle.range_rows.specs.ObjectReplies.{shows_uncommitted}
 
@@ -24,9 +25,16 @@ reads_committed op.GetMetadata kinds = true
 reads_committed op.GetBlockList kinds = not (shows_uncommitted kinds)
 reads_committed _ kinds = false
 
--- the content of a wanted block, from the first of its sources in which the blob has the block
+-- the content of the block of this id, where a list looks for it: among the uncommitted blocks or among the committed ones; `Latest`
+-- is the uncommitted block, or else the committed one
+abbrev pub content_by : {C : Type 0} → Lookup → List ℕ → Blob C → Option C
+content_by lookup.Uncommitted id b = content_from source.Uncommitted id b
+content_by lookup.Committed id b = content_from source.Committed id b
+content_by lookup.Latest id b = option_or (content_from source.Uncommitted id b) (content_from source.Committed id b)
+
+-- the content of a wanted block
 abbrev pub wanted_content : {C : Type 0} → Blob C → Wanted → Option C
-wanted_content b w = option_and_then (λ s. content_from s w.id b) (source_of b w)
+wanted_content b w = content_by w.lookup w.id b
 
 -- the content of all wanted blocks, in their order; a block that is not found adds no bytes
 abbrev pub wanted_bytes : Blob (List ℕ) → List Wanted → List ℕ

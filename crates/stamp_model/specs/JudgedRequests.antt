@@ -1,6 +1,6 @@
 -- Requests that are answered in turn, each judged by the key pair that is in force at its moment, and those of them that change a
 -- container (Calder et al., SOSP 2011, section 5: the changes of a partition are made one after the other; its commit log).
-use Rattle.std.specs.Prelude.{◌≡◌, ℕ, Bool, ◌&&◌, if◌then◌else◌, List, [], ◌∷◌, Option, None, IsSome, is_some}
+use Rattle.std.specs.Prelude.{◌≡◌, ◌≤◌, ℕ, Bool, ◌&&◌, if◌then◌else◌, List, [], ◌∷◌, ◌++◌, Option, None, IsSome, is_some}
 use Rattle.std.specs.List.{fold}
 use Rattle.std.specs.Ordering.{eq_by_cmp}
 use Rattle.stamp_values.specs.Order.{key_cmp}
@@ -12,7 +12,7 @@ use Rattle.stamp_types.specs.World.{Part, World, part_at}
 use Rattle.access_rules.specs.declared.keys.Keys.{Keys}
 use Rattle.range_rows.specs.ObjectReplies.{sizes}
 use Rattle.stamp_model.specs.Effects.{accepted, change, effect}
-use Rattle.stamp_model.specs.Histories.{pair_of}
+use Rattle.stamp_model.specs.Histories.{IsEntryAfter, pair_of}
 use Rattle.stamp_model.specs.Responses.{reply}
 use Rattle.stamp_model.specs.Runs.{Timed}
 
@@ -71,6 +71,10 @@ pub record IsChange (key : Key) (p : Part (List ℕ)) (r : Judged) : Type 0 wher
 -- an entry of a history, judged by the pair of its epoch
 abbrev pub judged_entry : List Keys → Past → Judged
 judged_entry pairs e = record { request = e.request; moment = e.moment; keys = pair_of pairs e.epoch; bound = None }
+
+-- no entry has a lower epoch than an entry before it
+abbrev pub EpochsRise : List Past → Type 0
+EpochsRise entries = (front between : List Past) (e later : Past) → IsEntryAfter (front ++ e ∷ between) later entries → e.epoch ≤ later.epoch
 
 -- a request, judged by this pair
 abbrev pub judged_with : Option Keys → Timed → Judged

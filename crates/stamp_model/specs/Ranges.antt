@@ -1,8 +1,10 @@
 -- Part of a blob as a reply (Blob service REST reference, 2012-02-12, "Get Blob", "Specifying the Range Header for Blob Service
 -- Operations"; RFC 9110, sections 14.4 and 15.3.7).
-use Rattle.std.specs.Prelude.{◌≡◌, ◌≤◌, ◌+◌, ◌-◌, min, None, IfSome, Contains, length, slice_range}
+use Rattle.std.specs.Prelude.{◌≡◌, ◌≤◌, ◌+◌, ◌-◌, min, Bool, true, false, None, IfSome, Contains, length, slice_range}
+use Rattle.std.specs.List.{list_any}
 use Rattle.stamp_values.specs.declared.condition.ByteRange.{ByteRange}
-use Rattle.stamp_types.specs.declared.header.Header.TheVariants.{ContentRange}
+use Rattle.stamp_types.specs.declared.header.Header.{Header}
+use Rattle.stamp_types.specs.declared.header.Header.TheVariants.{ContentMd5, ContentRange}
 use Rattle.stamp_types.specs.declared.reply.Reply.{Reply}
 use Rattle.stamp_types.specs.declared.sent_range.SentRange.{SentRange}
 use Rattle.stamp_types.specs.declared.status.Status.TheVariants.{Partial, Success}
@@ -11,6 +13,11 @@ use Rattle.stamp_types.specs.Requests.{Asked}
 -- the same request without a range; what was signed stays as it was
 abbrev pub without_range : Asked → Asked
 without_range q = record q { ask = record q.ask { args = record q.ask.args { range = None } } }
+
+-- the header is Content-MD5
+abbrev pub is_md5 : Header → Bool
+is_md5 (ContentMd5 sum) = true
+is_md5 _ = false
 
 -- one reply has the bytes of another reply from a first byte to a last byte, and says which bytes they are
 pub record IsPartOf (range : ByteRange) (part whole : Reply) : Type 0 where
@@ -38,5 +45,7 @@ pub record IsPartOf (range : ByteRange) (part whole : Reply) : Type 0 where
   pub body : part.body ≡ slice_range whole.body sent.first (sent.last + 1)
   -- Content-Range says the first byte, the last byte and how many bytes there are in all
   pub said : Contains part.headers (ContentRange sent)
+  -- the reply has no Content-MD5, since the MD5 that is kept with a blob is the MD5 of all its bytes
+  pub no_md5 : list_any is_md5 part.headers ≡ false
   -- the length that the reply says is the number of its bytes
   pub counted : part.length ≡ length part.body

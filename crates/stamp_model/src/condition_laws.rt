@@ -116,8 +116,8 @@ pub fn a_condition_never_lets_more_by()
 
 /// A part is a part of the whole. If no rule refuses a request with a range, no rule refuses the
 /// same request without its range, and the bytes of the first reply are the bytes of the second
-/// reply from the range's first byte to its last byte. The first reply has status 206, and says in
-/// Content-Range which bytes it has.
+/// reply from the range's first byte to its last byte. The first reply has status 206, says in
+/// Content-Range which bytes it has, and has no Content-MD5.
 pub fn a_part_is_a_part_of_the_whole()
     ensures { (keys : Option Keys) (w : World (List ℕ)) (q : Asked) (t : ℕ) (bound : Option Key)
         (range : ByteRange)

@@ -6,15 +6,16 @@ ghost use Rattle.stamp_types.specs.declared.past.Past.{Past};
 ghost use Rattle.stamp_types.specs.World.{Part, World, part_at};
 ghost use Rattle.access_rules.specs.declared.keys.Keys.{Keys};
 ghost use Rattle.stamp_model.specs.Histories.{IsLegalFrom, replay_from};
-ghost use Rattle.stamp_model.specs.JudgedRequests.{IsChange, Judged, accepted_at, judged_entry, judged_with, part_after_run, replies_to_run, world_after_run};
+ghost use Rattle.stamp_model.specs.JudgedRequests.{EpochsRise, IsChange, Judged, accepted_at, judged_entry, judged_with, part_after_run, replies_to_run, world_after_run};
 ghost use Rattle.stamp_model.specs.Runs.{Timed, replies_to, world_after_all};
 
 /// A run is the replay of its accepted requests. After requests in turn, each judged by its own key
 /// pair, a container is what those of them that change it make of it, one after the other; and each
 /// of them is on this container, and changes it as those before it left it. A history replays as its
 /// entries do, each judged by the pair of its epoch. If a history is legal, and the container is as
-/// it was before the first entry, each entry is among the requests that change the container. A run
-/// by one key pair is a run in which each request is judged by that pair.
+/// it was before the first entry, each entry is among the requests that change the container. Of
+/// entries on any containers whose epochs do not fall, those that change the container are a legal
+/// history. A run by one key pair is a run in which each request is judged by that pair.
 pub fn a_run_is_the_replay_of_its_accepted_requests()
     ensures run { (w : World (List ℕ)) (key : Key) (rs : List Judged)
         → part_at (world_after_run w rs) key ≡ part_after_run (part_at w key) (accepted_at key w rs) }
@@ -27,6 +28,11 @@ pub fn a_run_is_the_replay_of_its_accepted_requests()
     ensures legal { (pairs : List Keys) (key : Key) (w : World (List ℕ)) (history : List Past)
         → IsLegalFrom pairs key (part_at w key) history
         → accepted_at key w (map (judged_entry pairs) history) ≡ map (judged_entry pairs) history }
+    ensures entries { (pairs : List Keys) (key : Key) (w : World (List ℕ)) (entries : List Past)
+        → EpochsRise entries
+        → (history : List Past) × IsLegalFrom pairs key (part_at w key) history
+        × (map (judged_entry pairs) history
+        ≡ accepted_at key w (map (judged_entry pairs) entries)) }
     ensures world { (keys : Option Keys) (w : World (List ℕ)) (rs : List Timed)
         → world_after_all keys w rs ≡ world_after_run w (map (judged_with keys) rs) }
     ensures replies { (keys : Option Keys) (w : World (List ℕ)) (rs : List Timed)

@@ -1,4 +1,4 @@
-use Rattle.stamp_model.proofs.JudgedLemmas.{accepted_at-legal, each-accepted, part_at-run, replay_from-judged, replies_to-judged, world_after_all-judged}
+use Rattle.stamp_model.proofs.JudgedLemmas.{accepted_at-legal, each-accepted, history-accepted, part_at-run, replay_from-judged, replies_to-judged, world_after_all-judged}
 use Rattle.stamp_model.proofs.judged_laws.a_run_is_the_replay_of_its_accepted_requests.Goals as goal
 
 pub returns-clause-run : goal.returns-clause-run
@@ -12,6 +12,9 @@ returns-clause-history c = λ pairs start history. replay_from-judged pairs hist
 
 pub returns-clause-legal : goal.returns-clause-legal
 returns-clause-legal c = λ pairs key w history legal. accepted_at-legal pairs key history w legal
+
+pub returns-clause-entries : goal.returns-clause-entries
+returns-clause-entries c = λ pairs key w entries rise. history-accepted pairs key w entries rise
 
 pub returns-clause-world : goal.returns-clause-world
 returns-clause-world c = λ keys w rs. world_after_all-judged keys rs w
