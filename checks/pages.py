@@ -15,7 +15,7 @@ SENTENCE = 40
 LIMITS = {"README.md": 1200, "docs/architecture.md": 2500, "docs/gate.md": 1300}
 # It was 62,000 before the program was a server, and 67,000 before the statement had a page of its files; a part that is added brings its own
 # pages.
-ALL = 70_000
+ALL = 74_000
 
 
 def all_pages():
