@@ -5,6 +5,7 @@
 mod data_tests;
 #[cfg(test)]
 mod log_tests;
+mod put_first;
 #[cfg(test)]
 mod samples;
 #[cfg(test)]

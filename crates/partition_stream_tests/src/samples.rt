@@ -1,7 +1,15 @@
 //! Wires, changes and answers for tests.
+ghost use Rattle.std.specs.Prelude.{◌≡◌, ◌≤◌, IsSomeAnd, length, map};
+ghost use Rattle.stamp_types.specs.Changes.{content_of};
+ghost use Rattle.stamp_types.specs.Pieces.{cut, piece_len};
+ghost use Rattle.stamp_types.specs.declared.act.Act.TheVariants as act;
+ghost use Rattle.stamp_values.specs.Limits.{put_blob_limit};
+ghost use Rattle.stream_manager.specs.Streams.{laid};
+ghost use Rattle.partition_stream.specs.Contents.{AreStored};
+
 use extent_node::{Delivery, Script};
 use partition_stream::{LogFault, Position, Streams};
-use stamp_types::{Act, Change, Key, Text};
+use stamp_types::{Act, BlockId, Bytes, Change, Key, Pieces, PutBlock, Share, Text};
 use std::alloc::Global;
 use std::process::Abort;
 use stream_manager::{SettleFault, Settled};
@@ -39,7 +47,9 @@ fn text(rt: &impl Abort, alloc: Global, text: &str) -> Text {
 }
 
 /// The change that deletes the container of this name.
-pub(crate) fn change(rt: &impl Abort, alloc: Global, name: &str) -> Change {
+pub(crate) fn change(rt: &impl Abort, alloc: Global, name: &str) -> Change
+    ensures { result.act ≡ act.DeleteContainer }
+{
     let key = Key {
         account: text(rt, alloc, "devstoreaccount1"),
         container: text(rt, alloc, name),
@@ -95,4 +105,63 @@ pub(crate) fn keeps(rt: &impl Abort, alloc: Global, streams: &Streams, names: &[
         }
     }
     matches!(streams.next_change(&mut position, &mut wire), Ok(None))
+}
+
+// The change that puts the block of this content.
+#[tactic(auto, using(partition_stream::proofs::DataLemmas::cut_held))]
+pub(crate) fn block(rt: &impl Abort, alloc: Global, body: &Share) -> Change
+    requires { length body.now ≤ put_blob_limit }
+    ensures { IsSomeAnd (content_of result.act) (λ ps. map piece_len ps ≡ map piece_len (cut body.now)) }
+{
+    let key = Key {
+        account: text(rt, alloc, "devstoreaccount1"),
+        container: text(rt, alloc, "one"),
+    };
+    let bytes = b"id".to_vec(alloc).expect(rt, "memory");
+    let id = BlockId::new(Bytes::new(bytes)).expect(rt, "an id");
+    let blob = text(rt, alloc, "a.txt");
+    let content = Pieces::cut(alloc, body).expect(rt, "memory");
+    let act = Act::PutBlock(PutBlock { blob, id, content });
+    Change::new(key, act).expect(rt, "a good change")
+}
+
+/// Puts a body into the data.
+#[tactic(auto, using(partition_stream::proofs::DataLemmas::cut_held))]
+pub(crate) fn put(
+    rt: &impl Abort,
+    alloc: Global,
+    streams: &mut Streams,
+    body: &Share,
+    wire: &mut Script,
+) -> Pieces
+    requires { length body.now ≤ put_blob_limit }
+    ensures { AreStored (laid streams.new.blobs) result }
+{
+    let content = Pieces::cut(alloc, body).expect(rt, "memory");
+    match streams.put_data(&content, wire) {
+        Ok(placed) => placed,
+        Err(_) => panic!(rt; "no fault"),
+    }
+}
+
+/// The bytes of a piece from `start` up to `end`, or no bytes if they are not reached.
+pub(crate) fn part(
+    rt: &impl Abort,
+    streams: &Streams,
+    placed: &Pieces,
+    index: usize,
+    start: usize,
+    end: usize,
+    wire: &mut Script,
+) -> Share
+    requires { AreStored (laid streams.now.blobs) placed.now }
+{
+    let pieces = placed.as_slice();
+    assert!(rt; index < pieces.len());
+    let piece = &pieces[index];
+    assert!(rt; start <= end && end as u64 <= piece.len());
+    match streams.read_part(piece, start, end, wire) {
+        Ok(part) => part,
+        Err(_) => Share::empty(),
+    }
 }

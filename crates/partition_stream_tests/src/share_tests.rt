@@ -1,7 +1,7 @@
 //! Streams that are sealed and shared.
-use crate::samples::{D, R, Told, keeps, log, script};
+use crate::samples::{D, R, Told, keeps, log, part, put, script};
 use partition_stream::Streams;
-use stamp_types::{Pieces, Share};
+use stamp_types::Share;
 
 #[test]
 fn both_halves_keep_the_changes_and_go_on(rt: HostRuntime) {
@@ -22,28 +22,23 @@ fn both_halves_keep_the_changes_and_go_on(rt: HostRuntime) {
 }
 
 #[test]
+#[tactic(auto, using(partition_stream::proofs::ContentLemmas::content_stays))]
 fn a_half_reads_the_data_of_before(rt: HostRuntime) {
     let alloc = rt.alloc();
     let mut streams = Streams::new(alloc, 1_000_000);
     let mut wire = script(&rt, alloc, &[], &[]);
     let bytes = vec![in alloc; 7u8, 8, 9].expect(&rt, "memory");
-    let body = Share::new(alloc, bytes).ok().expect(&rt, "memory");
-    let content = Pieces::cut(alloc, &body).expect(&rt, "memory");
-    let placed = streams
-        .put_data(&content, &mut wire)
-        .ok()
-        .expect(&rt, "places");
-    assert!(rt; streams.seal(&mut wire).is_ok());
-    let half = streams.share().ok().expect(&rt, "memory");
-    match placed.as_slice() {
-        [piece] => {
-            let part = half
-                .read_part(piece, 1, 2, &mut wire)
-                .ok()
-                .expect(&rt, "the bytes");
-            assert!(rt; part.as_slice() == &[8u8][..]);
-        }
-        _ => assert!(rt; false),
+    let body = Share::new(alloc, bytes).expect(&rt, "memory");
+    let placed = put(&rt, alloc, &mut streams, &body, &mut wire);
+    match streams.seal(&mut wire) {
+        Ok(()) => match streams.share() {
+            Ok(half) => {
+                let eight = part(&rt, &half, &placed, 0, 1, 2, &mut wire);
+                assert!(rt; eight.as_slice() == &[8u8][..]);
+            }
+            Err(_) => assert!(rt; false),
+        },
+        Err(_) => assert!(rt; false),
     }
 }
 
