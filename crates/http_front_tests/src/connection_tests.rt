@@ -276,15 +276,23 @@ fn each_read_that_is_the_last_is_told(rt: HostRuntime) {
                     most,
                     reads: allowed,
                 };
-                let (ended, out) =
-                    serve(rt.alloc(), reader, Vec::new(rt.alloc()), false, turns as u64);
+                let (ended, out) = serve(
+                    rt.alloc(),
+                    reader,
+                    Vec::new(rt.alloc()),
+                    false,
+                    turns as u64,
+                );
                 let end = if reads == whole {
                     Ok(End::Clean)
                 } else {
                     Err(fault)
                 };
                 assert!(rt; ended == end, "{reads} reads of {most} bytes");
-                assert!(rt; out.as_slice() == wanted.as_slice(), "{reads} reads of {most} bytes");
+                assert!(rt;
+                    out.as_slice() == wanted.as_slice(),
+                    "{reads} reads of {most} bytes"
+                );
             }
         }
     }
@@ -309,13 +317,22 @@ fn each_write_that_is_the_last_is_told(rt: HostRuntime) {
                 calls,
             };
             let (ended, writer) = serve(rt.alloc(), reader, writer, false, 1000);
-            assert!(rt; wanted.starts_with(&writer.kept), "{calls} calls of {most} bytes");
-            assert!(rt; before <= writer.kept.len(), "{calls} calls of {most} bytes");
+            assert!(rt;
+                wanted.starts_with(&writer.kept),
+                "{calls} calls of {most} bytes"
+            );
+            assert!(rt;
+                before <= writer.kept.len(),
+                "{calls} calls of {most} bytes"
+            );
             before = writer.kept.len();
             if ended == Ok(End::Clean) {
                 break;
             }
-            assert!(rt; ended == Err(FrontFault::Write), "{calls} calls of {most} bytes");
+            assert!(rt;
+                ended == Err(FrontFault::Write),
+                "{calls} calls of {most} bytes"
+            );
         }
         // The whole output is written if the calls are enough.
         assert!(rt; before == wanted.len() || most == 1, "{most} bytes");

@@ -8,6 +8,8 @@ mod change_tests;
 #[cfg(test)]
 mod operation_tests;
 #[cfg(test)]
+mod page_tests;
+#[cfg(test)]
 mod rows_tests;
 mod sample_parts;
 #[cfg(test)]

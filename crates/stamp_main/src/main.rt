@@ -52,8 +52,7 @@ const USAGE: &str =
 fn main(rt: HostRuntime) -> ExitCode {
     let ending = match read_words(&rt) {
         Ok(words) => {
-            let mut connection =
-                Connection::new(rt.alloc(), rt.reader(), io::writer(&rt), TURNS);
+            let mut connection = Connection::new(rt.alloc(), rt.reader(), io::writer(&rt), TURNS);
             run(&rt, rt.alloc(), &words, &mut connection)
         }
         Err(ending) => ending,
@@ -95,9 +94,7 @@ fn run<
                 first_key,
                 second_key,
             },
-        ) => run_replay(
-            alloc, connection, moment, account, first_key, second_key,
-        ),
+        ) => run_replay(alloc, connection, moment, account, first_key, second_key),
         Some(
             Command::Serve {
                 address,
@@ -269,8 +266,12 @@ mod tests {
         ];
         for (line, ending, output) in table {
             let words = words_in(rt.alloc(), line)?;
-            let mut connection =
-                Connection::new(rt.alloc(), b"".as_slice(), Vec::new(rt.alloc()), 9);
+            let mut connection = Connection::new(
+                rt.alloc(),
+                b"".as_slice(),
+                Vec::new(rt.alloc()),
+                9,
+            );
             let ended = run(&rt, rt.alloc(), &words, &mut connection);
             let (_, out) = connection.into_parts();
             assert!(rt; ended == ending, "{line}");

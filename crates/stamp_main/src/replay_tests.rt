@@ -38,8 +38,7 @@ fn pieces_do_not_matter(rt: HostRuntime) {
             most,
             reads,
         };
-        let mut connection =
-            Connection::new(rt.alloc(), reader, Vec::new(rt.alloc()), TURNS);
+        let mut connection = Connection::new(rt.alloc(), reader, Vec::new(rt.alloc()), TURNS);
         let ended = run_replay(rt.alloc(), &mut connection, MOMENT, ACCOUNT, KEY1, KEY2);
         let (_, out) = connection.into_parts();
         assert!(rt; ended == ending, "{most} {reads}");

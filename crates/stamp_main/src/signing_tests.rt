@@ -34,8 +34,7 @@ fn pieces_do_not_matter_and_reads_are_counted(rt: HostRuntime) {
             most,
             reads,
         };
-        let mut connection =
-            Connection::new(rt.alloc(), reader, Vec::new(rt.alloc()), turns);
+        let mut connection = Connection::new(rt.alloc(), reader, Vec::new(rt.alloc()), turns);
         let result = sign_on(rt.alloc(), &mut connection, &key);
         let (_, out) = connection.into_parts();
         let line: &[u8] = if answer.is_ok() { LINE } else { b"" };
@@ -48,8 +47,7 @@ fn pieces_do_not_matter_and_reads_are_counted(rt: HostRuntime) {
 fn an_input_of_many_reads_is_signed_whole(rt: HostRuntime) -> Result<(), Fail> {
     let input = vec![in rt.alloc(); b'a'; 100_000]?;
     let key = key(&rt, rt.alloc());
-    let mut connection =
-        Connection::new(rt.alloc(), input.as_slice(), Vec::new(rt.alloc()), 14);
+    let mut connection = Connection::new(rt.alloc(), input.as_slice(), Vec::new(rt.alloc()), 14);
     let result = sign_on(rt.alloc(), &mut connection, &key);
     let (_, out) = connection.into_parts();
     assert_eq!(rt; result, Ok(()));
@@ -64,8 +62,7 @@ fn an_input_of_many_reads_is_signed_whole(rt: HostRuntime) -> Result<(), Fail> {
 fn a_writer_that_fails_is_told(rt: HostRuntime) {
     let key = key(&rt, rt.alloc());
     for takes in [false, true] {
-        let mut connection =
-            Connection::new(rt.alloc(), b"".as_slice(), Stuck { takes }, 1);
+        let mut connection = Connection::new(rt.alloc(), b"".as_slice(), Stuck { takes }, 1);
         let result = sign_on(rt.alloc(), &mut connection, &key);
         assert_eq!(rt; result, Err(FrontFault::Write), "{takes}");
     }

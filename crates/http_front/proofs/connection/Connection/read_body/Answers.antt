@@ -25,7 +25,7 @@ returns-in_err-await_body-clause-read g c =
     let p = err_from_is_err_and c.from_residual-in_err-await_body.result c.from_residual-in_err-await_body.ensures.1 in
     let k = c.body_len-body_len.result in
     let at = starts c.args.count k c.args.self.now.bytes c.send_interim.new.self.bytes c.in_ok-body.body c.take_start.new.self.bytes
-        c.in_ok-send_interim.ensures.unread.1 c.in_ok-body.ensures.body c.in_ok-body.ensures.rest in
+    c.in_ok-send_interim.ensures.unread.1 c.in_ok-body.ensures.body c.in_ok-body.ensures.rest in
     rw (p.1, p.2) (bodies_cut c.args.head.now c.args.count k c.args.self.now c.send_interim.new.self c.take_start.new.self c.await_body.new.self
     (c.in_ok-body.body ++ c.take_start.new.self.bytes) c.requires.head c.body_len-body_len.ensures at
     c.in_ok-send_interim.ensures.unread.0 c.in_ok-body.ensures.unread c.in_ok-send_interim.ensures.sent c.in_ok-send_interim.ensures.left.1
@@ -35,7 +35,7 @@ pub returns-clause-read : goal.returns-clause-read
 returns-clause-read g c =
     let k = c.body_len-body_len.result in
     let at = starts c.args.count k c.args.self.now.bytes c.send_interim.new.self.bytes c.in_ok-body.body c.take_start.new.self.bytes
-        c.in_ok-send_interim.ensures.unread.1 c.in_ok-body.ensures.body c.in_ok-body.ensures.rest in
+    c.in_ok-send_interim.ensures.unread.1 c.in_ok-body.ensures.body c.in_ok-body.ensures.rest in
     bodies_whole c.args.head.now c.args.count k c.args.self.now c.send_interim.new.self c.take_start.new.self c.await_body.new.self
     (c.in_ok-body.body ++ c.take_start.new.self.bytes) c.requires.head c.body_len-body_len.ensures at
     c.in_ok-send_interim.ensures.unread.0 c.in_ok-body.ensures.unread c.in_ok-send_interim.ensures.sent c.in_ok-send_interim.ensures.left.1
