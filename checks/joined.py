@@ -7,6 +7,8 @@ import tree
 JOINED = "joined_tests"
 # How long one test may take, in seconds: five times what the toolchain gives it, since proofs run beside the tests.
 LONGEST = 300
+# What an attribute says to the prover, by paths of the crate that it is in.
+TACTIC = re.compile(r"^ *#\[tactic\(.*\)\]\n", re.M)
 PASSED = re.compile(r"^test result: ok\. (\d+) passed; 0 failed", re.M)
 
 
@@ -16,7 +18,7 @@ def write_joined(copy, names):
     for name in names:
         source = copy / "crates" / name / "src"
         for file in source.rglob("*.rt"):
-            text = file.read_text(encoding="utf-8").replace("crate::", f"crate::{name}::")
+            text = TACTIC.sub("", file.read_text(encoding="utf-8")).replace("crate::", f"crate::{name}::")
             is_root = file == source / "lib.rt"
             to = folder / f"{name}.rt" if is_root else folder / name / file.relative_to(source)
             to.parent.mkdir(parents=True, exist_ok=True)
