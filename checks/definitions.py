@@ -8,8 +8,7 @@ import tree
 DEFINED = re.compile(r" *(?:pub (?:record|data)|(?:abbrev|unfoldable) pub) (\S+)")
 FUNCTION = re.compile(r"( *)(pub |pub\(crate\) )?(?:const )?fn (\w+)")
 IMPLEMENTED = re.compile(r"impl(?:<[^{]*?>)? (?:.* for )?(\w+)")
-IMPORTED = re.compile(r"ghost use Rattle\.(\w+)\.specs\.(\w+)(?:\.\{([^}]*)\}| as (\w+));")
-PASSED_ON = re.compile(r"pub use Rattle\.(\w+)\.specs\.(\w+)(?:\.\{([^}]*)\})?")
+USE = re.compile(r"^\s*(pub |ghost |)use Rattle\.(\w+)\.specs\.(\w+)(?:\.\w+)*(?:\.\{([^}]*)\}| as (\w+))?;?$", re.M)
 CITED = re.compile(r"[^\W\d][\w']*(?:\.[^\W\d][\w']*)?")
 
 
@@ -19,12 +18,31 @@ class Word(NamedTuple):
     name: str
 
 
+class Use(NamedTuple):
+    """What a file takes from a file of definitions: how (`pub `, `ghost ` or nothing), from where, the words, and the short name of the file."""
+
+    how: str
+    crate: str
+    module: str
+    names: list
+    short: str
+
+    def words(self):
+        """For each word that is taken by its name, what it is."""
+        return {name: Word(self.crate, self.module, name) for name in self.names}
+
+
 class Module(NamedTuple):
     """A file of definitions: what its head says, and what is said above each of its words (nothing, if nothing is)."""
 
     file: object
     head: str
     words: dict
+
+
+def uses_of(text):
+    """What a text takes from files of definitions."""
+    return [Use(how, crate, module, [it.strip() for it in names.split(",") if it.strip()], short) for how, crate, module, names, short in USE.findall(text)]
 
 
 def comment_lines(lines, end):
@@ -62,11 +80,11 @@ def passed_on():
     """Which words, or which whole files, a file of definitions passes on from another file."""
     for crate in tree.lines_of_crates():
         for file in (tree.ROOT / "crates" / crate / "specs").glob("*.antt"):
-            for lower, module, names in PASSED_ON.findall(file.read_text(encoding="utf-8")):
-                if names:
-                    yield from ((Word(crate, file.stem, name.strip()), Word(lower, module, name.strip())) for name in names.split(","))
-                else:
-                    yield (crate, module), (lower, module)
+            for use in uses_of(file.read_text(encoding="utf-8")):
+                if use.how == "pub " and use.names:
+                    yield from ((Word(crate, file.stem, name), word) for name, word in use.words().items())
+                elif use.how == "pub ":
+                    yield (crate, file.stem), (use.crate, use.module)
 
 
 def origin(word, given):
@@ -81,10 +99,10 @@ def origin(word, given):
 def imports_of(text):
     """The words that a source file imports, and its short names of files of definitions."""
     words, files = {}, {}
-    for crate, module, names, short in IMPORTED.findall(text):
-        if short:
-            files[short] = (crate, module)
-        words.update({name.strip(): Word(crate, module, name.strip()) for name in names.split(",") if name.strip()})
+    for use in uses_of(text):
+        if use.how == "ghost ":
+            words.update(use.words())
+            files.update({use.short: (use.crate, use.module)} if use.short else {})
     return words, files
 
 

@@ -9,7 +9,6 @@ import tree
 # The statement: what a replay writes, and how it ends.
 STATEMENT = definitions.Word("stamp_main", "Replays", "ReplaysReceived")
 DEFINED = re.compile(r" *(?:pub (?:record|data)|(?:abbrev |unfoldable )?(?:pub )?(?=\S+ : )) *(\S+)")
-USED = re.compile(r"(pub )?use Rattle\.(\w+)\.specs\.(\w+)(?:\.\w+)?(?:\.\{([^}]*)\}| as (\w+))?")
 NAME = re.compile(r"[^\s(){}\[\],;]+")
 
 
@@ -22,26 +21,26 @@ class File(NamedTuple):
     passed: list
 
 
-def read(crate, file):
-    names, lines, taken, passed, word = defaultdict(set), defaultdict(int), {}, [], None
-    for line in file.read_text(encoding="utf-8").splitlines():
-        used, defined = USED.match(line), DEFINED.match(line)
-        if used:
-            target = (used[2], used[3])
-            passed += [target] * bool(used[1])
-            taken |= {name.strip(): (*target, name.strip()) for name in (used[4] or "").split(",") if name.strip()}
+def read(file):
+    text = file.read_text(encoding="utf-8")
+    names, lines, word = defaultdict(set), defaultdict(int), None
+    for line in text.splitlines():
+        defined = DEFINED.match(line)
+        if definitions.USE.match(line):
             continue
         if defined and not line.startswith("  pub "):
             word = defined[1]
         if word and line.strip() and not line.lstrip().startswith("--"):
             lines[word] += 1
             names[word] |= {part for name in NAME.findall(line) for part in (name, name.split(".")[0])}
-    return File(names, lines, taken, passed)
+    uses = definitions.uses_of(text)
+    taken = {name: word for use in uses for name, word in use.words().items()}
+    return File(names, lines, taken, [(use.crate, use.module) for use in uses if use.how == "pub "])
 
 
 def files():
     return {
-        (crate, file.stem): read(crate, file)
+        (crate, file.stem): read(file)
         for crate in tree.lines_of_crates()
         for file in sorted((tree.ROOT / "crates" / crate / "specs").glob("*.antt"))
     }

@@ -45,7 +45,7 @@ pub fn each_blob_is_under_one_entry()
 {}
 
 /// The entries of a page strictly rise, are at the marker or past it, begin with the prefix, and are
-/// no more than were asked for. NextMarker is past each entry.
+/// at most as many as were asked for. NextMarker is past each entry.
 pub fn a_page_is_in_order_and_in_bounds()
     ensures blobs { (q : Page) (p : Part ℕ)
         → IsInBounds (given q.prefix) (given q.marker) q.max (page_of_blobs q p) }
