@@ -1,2 +1,3 @@
 pub mod ClaimLemmas
+pub mod JudgeLemmas
 pub mod RouteLaw

@@ -46,6 +46,15 @@ abbrev pub allows_less : Option Acl → Level → Bool
 allows_less None need = true
 allows_less (Some acl) need = not (permits acl need)
 
+-- The request asks by the key of an account, its claim can be read, the stamp has the keys of the path's account, and neither key
+-- gives the signature. Keys and request alone decide this: neither the container nor the moment matters.
+abbrev pub has_false_signature : Option Keys → Ask → Bool
+has_false_signature keys q =
+    on_key q.credential
+    && some_passes
+    (λ claim. some_passes (λ pair. not (is_signed pair (string_of q) claim.signature)) (keys_for keys q.key.account))
+    (claim_of q.credential)
+
 -- the rule holds; a rule about a part that is missing does not hold
 abbrev pub holds : Option Keys → Option Acl → Ask → ℕ → Rule → Bool
 holds keys acl q t K1 = on_key q.credential && is_none (claim_of q.credential)
@@ -56,11 +65,7 @@ holds keys acl q t K2 =
     (claim_of q.credential)
 holds keys acl q t K3 = on_key q.credential && is_none (date_in q.signing.headers)
 holds keys acl q t K4 = on_key q.credential && some_passes (is_far t) (date_in q.signing.headers)
-holds keys acl q t K5 =
-    on_key q.credential
-    && some_passes
-    (λ claim. some_passes (λ pair. not (is_signed pair (string_of q) claim.signature)) (keys_for keys q.key.account))
-    (claim_of q.credential)
+holds keys acl q t K5 = has_false_signature keys q
 holds keys acl q t S1 = on_token q.credential
 holds keys acl q t P1 = on_public q.credential && is_none (need_of q.op q.args.kinds).level
 holds keys acl q t P2 = on_public q.credential && some_passes (allows_less acl) (need_of q.op q.args.kinds).level
@@ -78,9 +83,13 @@ first_rule keys acl q t = find (holds keys acl q t) access_rules
 abbrev pub rules_before_signature : List Rule
 rules_before_signature = K1 ∷ K2 ∷ K3 ∷ K4 ∷ []
 
+-- the first of these rules that holds; none of them looks at the container
+abbrev pub rule_before_signature : Option Keys → Ask → ℕ → Option Rule
+rule_before_signature keys q t = find (holds keys None q t) rules_before_signature
+
 -- the signature has to be computed: the request asks by a key, and no rule of K1 to K4 holds
-abbrev pub needs_signature : Option Keys → Option Acl → Ask → ℕ → Bool
-needs_signature keys acl q t = on_key q.credential && is_none (find (holds keys acl q t) rules_before_signature)
+abbrev pub needs_signature : Option Keys → Ask → ℕ → Bool
+needs_signature keys q t = on_key q.credential && is_none (rule_before_signature keys q t)
 
 -- the route by which a request asks
 abbrev pub way_of : Credential → Way

@@ -1,9 +1,11 @@
 //! The verdict on a request.
-ghost use Rattle.std.specs.Prelude.{◌≡◌, ℕ, IfOk, IsErr, IsTrue, Option, option_copied};
+ghost use Rattle.std.specs.Prelude.{◌≡◌, ℕ, IfOk, IsErr, IsTrue, if◌then◌else◌, Option, Some, None, option_copied};
 ghost use Rattle.stamp_values.specs.declared.acl.Acl.{Acl};
 ghost use Rattle.stamp_values.specs.declared.signing.Credential.TheVariants as credential;
+ghost use Rattle.stamp_types.specs.declared.rule.Rule.TheVariants.{K5};
+ghost use Rattle.access_rules.specs.declared.judgement.Way.TheVariants as way;
 ghost use Rattle.access_rules.specs.declared.keys.Keys.{Keys};
-ghost use Rattle.access_rules.specs.Rules.{verdict_of, needs_signature};
+ghost use Rattle.access_rules.specs.Rules.{has_false_signature, needs_signature, on_key, rule_before_signature, verdict_by, verdict_of};
 
 use crate::judgement::{Verdict, Way};
 use crate::keys::Keys;
@@ -13,7 +15,88 @@ use container_acl::{Acl, permits};
 use stamp_types::{Ask, Bytes, Credential, Moment, Request, Rule};
 use std::alloc::{AllocError, Global};
 
-// Each exit names the first rule that holds: the rules before it were judged and do not hold.
+// The first rule of K1 to K4 that holds: each exit names it, since the rules before it were judged and do not hold.
+fn rule_before_signature(
+    keys: Option<&Keys>,
+    ask: &Ask,
+    values: &[Bytes],
+    now: Moment,
+) -> Option<Rule>
+    requires { ask.now.credential ≡ credential.Shared values.now }
+    ensures { result ≡ rule_before_signature (option_copied keys.entry) ask.now now }
+{
+    let Some(claim) = claim_in(values) else {
+        return Some(Rule::K1);
+    };
+    if keys_for(keys, &ask.key.account).is_none() {
+        return Some(Rule::K2);
+    }
+    if claim.account != ask.key.account.as_str().as_bytes() {
+        return Some(Rule::K2);
+    }
+    let Some(date) = date_in(&ask.signing.headers) else {
+        return Some(Rule::K3);
+    };
+    if is_far(now, date) {
+        return Some(Rule::K4);
+    }
+    None
+}
+
+// Whether neither key of the path's account gives the signature that the values of Authorization claim.
+fn is_false(
+    alloc: Global,
+    keys: Option<&Keys>,
+    ask: &Ask,
+    values: &[Bytes],
+) -> Result<bool, AllocError>
+    requires { ask.now.credential ≡ credential.Shared values.now }
+    ensures { IfOk result (λ it. it ≡ has_false_signature (option_copied keys.entry) ask.now) }
+{
+    let Some(claim) = claim_in(values) else {
+        return Ok(false);
+    };
+    let Some(pair) = keys_for(keys, &ask.key.account) else {
+        return Ok(false);
+    };
+    let signed = is_signed(alloc, pair, ask, claim.signature)?;
+    Ok(!signed)
+}
+
+/// Whether the request asks by the key of an account and its signature is false: rule K5 by itself.
+///
+/// The claim has to be in its form, and `keys` have to be the keys of the path's account; else the answer is no, and a rule before
+/// K5 refuses the request. Keys and request alone decide: the answer is the same for any container and at any moment, so it can be
+/// asked for before a lock is taken.
+///
+/// `AllocError` if memory runs out for the string to sign or for a signature.
+pub fn has_false_signature(
+    alloc: Global,
+    keys: Option<&Keys>,
+    request: &Request,
+) -> Result<bool, AllocError>
+    ensures value { IfOk result (λ it.
+        it ≡ has_false_signature (option_copied keys.entry) request.now.ask) }
+    ensures memory { IsErr result → IsTrue (on_key request.now.ask.credential) }
+{
+    let ask = request.ask();
+    match &ask.credential {
+        Credential::Shared(values) => is_false(alloc, keys, ask, values.as_slice()),
+        _ => Ok(false),
+    }
+}
+
+// The verdict after the signature was computed.
+fn after_signature(is_false: bool) -> Verdict
+    ensures { result ≡ verdict_by (if is_false then Some K5 else None) way.Shared }
+{
+    if is_false {
+        Verdict::Deny(Rule::K5)
+    } else {
+        Verdict::Allow(Way::Shared)
+    }
+}
+
 fn by_key(
     alloc: Global,
     keys: Option<&Keys>,
@@ -24,29 +107,13 @@ fn by_key(
     requires { ask.now.credential ≡ credential.Shared values.now }
     ensures value { (acl : Option Acl) → IfOk result (λ v.
         v ≡ verdict_of (option_copied keys.entry) acl ask.now now) }
-    ensures memory { (acl : Option Acl) → IsErr result
-        → IsTrue (needs_signature (option_copied keys.entry) acl ask.now now) }
+    ensures memory { IsErr result → IsTrue (needs_signature (option_copied keys.entry) ask.now now) }
 {
-    let Some(claim) = claim_in(values) else {
-        return Ok(Verdict::Deny(Rule::K1));
-    };
-    let Some(pair) = keys_for(keys, &ask.key.account) else {
-        return Ok(Verdict::Deny(Rule::K2));
-    };
-    if claim.account != ask.key.account.as_str().as_bytes() {
-        return Ok(Verdict::Deny(Rule::K2));
+    if let Some(rule) = rule_before_signature(keys, ask, values, now) {
+        return Ok(Verdict::Deny(rule));
     }
-    let Some(date) = date_in(&ask.signing.headers) else {
-        return Ok(Verdict::Deny(Rule::K3));
-    };
-    if is_far(now, date) {
-        return Ok(Verdict::Deny(Rule::K4));
-    }
-    if is_signed(alloc, pair, ask, claim.signature)? {
-        Ok(Verdict::Allow(Way::Shared))
-    } else {
-        Ok(Verdict::Deny(Rule::K5))
-    }
+    let is_false = is_false(alloc, keys, ask, values)?;
+    Ok(after_signature(is_false))
 }
 
 // A container that does not exist is refused like a closed container, so that nobody can tell the two apart.
@@ -85,8 +152,7 @@ pub fn verdict(
     ensures value { IfOk result (λ v.
         v ≡ verdict_of (option_copied keys.entry) (option_copied acl.entry) request.now.ask now) }
     ensures memory { IsErr result
-        → IsTrue (needs_signature (option_copied keys.entry) (option_copied acl.entry)
-        request.now.ask now) }
+        → IsTrue (needs_signature (option_copied keys.entry) request.now.ask now) }
 {
     let ask = request.ask();
     match &ask.credential {

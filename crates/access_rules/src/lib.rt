@@ -8,7 +8,7 @@ mod laws;
 mod needs;
 mod parts;
 
-pub use judge::verdict;
+pub use judge::{has_false_signature, verdict};
 pub use judgement::{Verdict, Way};
 pub use keys::Keys;
 pub use laws::{

@@ -3,6 +3,3 @@ use Rattle.access_rules.proofs.judge.verdict.Goals as goal
 
 pub returns-in-Shared-clause-value : goal.returns-in-Shared-clause-value
 returns-in-Shared-clause-value c = let value = c.by_key.ensures.value (option_copied c.args.acl) in search rules
-
-pub returns-in-Shared-clause-memory : goal.returns-in-Shared-clause-memory
-returns-in-Shared-clause-memory c = let memory = c.by_key.ensures.memory (option_copied c.args.acl) in search rules
