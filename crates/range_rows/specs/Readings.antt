@@ -1,5 +1,5 @@
 -- What the body of a request says (Blob service REST reference, 2012-02-12, "Put Block List").
-use Rattle.std.specs.Prelude.{ℕ, List, [], Result, Ok, Err, Bool, true, false}
+use Rattle.std.specs.Prelude.{ℕ, List, [], Result, Ok, Err, Bool, not, true, false}
 use Rattle.stamp_values.specs.declared.block.Wanted.{Wanted}
 use Rattle.stamp_values.specs.declared.op.Op.{Op}
 use Rattle.stamp_values.specs.declared.op.Op.TheVariants as op
@@ -33,12 +33,17 @@ listed_in other = []
 abbrev pub wanted_blocks : Asked → List Wanted
 wanted_blocks q = listed_in (reading_of q)
 
--- the body does not have its form
-abbrev pub is_malformed : Reading → Bool
-is_malformed (reading.Fault fault.Form) = true
-is_malformed other = false
+-- the fault is one of a list of blocks: a bad id on Put Block List; each other fault is one of a document
+abbrev pub is_list_fault : Op → BodyFault → Bool
+is_list_fault op.PutBlockList fault.Id = true
+is_list_fault other fault = false
 
--- the body has its form, and an id in it is not an id of a block
-abbrev pub tells_bad_id : Reading → Bool
-tells_bad_id (reading.Fault fault.Id) = true
-tells_bad_id other = false
+-- the body of the operation has a fault of its document
+abbrev pub is_malformed : Op → Reading → Bool
+is_malformed o (reading.Fault f) = not (is_list_fault o f)
+is_malformed o other = false
+
+-- the body of the operation has its form, and an id in it is not an id of a block
+abbrev pub tells_bad_id : Op → Reading → Bool
+tells_bad_id o (reading.Fault f) = is_list_fault o f
+tells_bad_id o other = false

@@ -1,9 +1,10 @@
 //! The rules of the object on the body of a request.
-ghost use Rattle.std.specs.Prelude.{◌≡◌, ℕ};
+ghost use Rattle.std.specs.Prelude.{◌≡◌, ℕ, if◌then◌else◌};
+ghost use Rattle.stamp_types.specs.declared.code.Code.TheVariants.{InvalidBlockList, InvalidXmlDocument};
 ghost use Rattle.stamp_types.specs.World.{Part};
 ghost use Rattle.range_rows.specs.CauseGroups as groups;
 ghost use Rattle.range_rows.specs.ObjectRules as rules;
-ghost use Rattle.range_rows.specs.Readings.{reading_of};
+ghost use Rattle.range_rows.specs.Readings.{is_list_fault, reading_of};
 
 use crate::object_rules::refused;
 use crate::reading::Reading;
@@ -41,6 +42,16 @@ fn is_damaged(request: &Request) -> bool
         || (ask.op == Op::PutBlob && has_other_md5(body, kept_md5(ask)))
 }
 
+// The code of a fault of a body: a bad id on Put Block List is a bad list, and each other fault is a bad document.
+fn fault_code(op: Op, fault: BodyFault) -> Code
+    ensures { result ≡ (if is_list_fault op fault then InvalidBlockList else InvalidXmlDocument) }
+{
+    match (op, fault) {
+        (Op::PutBlockList, BodyFault::Id) => Code::InvalidBlockList,
+        _ => Code::InvalidXmlDocument,
+    }
+}
+
 /// The refusal because of the body alone: its MD5, its form or an id in it.
 #[tactic(auto, unfolding(crate::specs::CauseGroups::group_refusal))]
 pub(crate) fn body_refusal(request: &Request, reading: &Reading) -> Option<Refusal>
@@ -52,8 +63,7 @@ pub(crate) fn body_refusal(request: &Request, reading: &Reading) -> Option<Refus
         return Some(refused(Rule::O5, Code::Md5Mismatch));
     }
     match reading {
-        Reading::Fault(BodyFault::Form) => Some(refused(Rule::O5, Code::InvalidXmlDocument)),
-        Reading::Fault(BodyFault::Id) => Some(refused(Rule::O5, Code::InvalidBlockList)),
+        Reading::Fault(fault) => Some(refused(Rule::O5, fault_code(request.ask().op, *fault))),
         _ => None,
     }
 }
