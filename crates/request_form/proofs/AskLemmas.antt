@@ -17,6 +17,7 @@ use Rattle.stamp_values.specs.declared.op.Op.TheVariants.{GetBlob, PutBlob, PutB
 use Rattle.stamp_values.specs.declared.verb.Verb.{Verb}
 use Rattle.request_form.specs.HeadBlocks.{id_given, kinds_given, kinds_named}
 use Rattle.request_form.specs.HeadConditions.{condition_named}
+use Rattle.stamp_values.specs.Names.{is_container}
 use Rattle.request_form.specs.HeadForms.{args_of, ask_of, blob_name_of, closes_of, expects_of, form_of, header_args_of, kept_of, level_named, line_args_of, md5_under}
 use Rattle.request_form.specs.HeadMetadata.{metadata_by}
 use Rattle.request_form.specs.HeadRanges.{range_of, range_sent}
@@ -107,8 +108,9 @@ named : (op : Op) (verb : Verb) (p : HeadParts) → IsPlain op → HasGoodNames 
 unfolding ask_of
 named op verb p plain good = record {
   account = good.account;
-  container = not_nothing (container_of (target_of p.target).path) (container_some (container_of (target_of p.target).path) good.container) ∙ sym plain.container;
-  container_name = λ t. good.container;
+  container = ap (λ (b : Bool). not (length (cond b (container_of (target_of p.target).path) []) == 0)) plain.container
+      ∙ not_nothing (container_of (target_of p.target).path) (container_some (container_of (target_of p.target).path) (good.container plain.container)) ∙ sym plain.container;
+  container_name = λ t. ap (λ (b : Bool). is_container (cond b (container_of (target_of p.target).path) [])) t ∙ good.container t;
   blob = there (names_blob op) (blob_name_of (target_of p.target).path);
   blob_name = good.blob;
 }

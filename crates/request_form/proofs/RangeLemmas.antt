@@ -10,6 +10,7 @@ use Rattle.std.specs.List.{position_or_len}
 use Rattle.std.specs.Prelude.{IfSome}
 use Rattle.std.specs.Str.Parse.{digits_value}
 use Rattle.stamp_values.specs.Ascii.{hyphen}
+use Rattle.stamp_values.specs.Fields.{first_value, is_sent}
 use Rattle.stamp_values.specs.declared.condition.ByteRange.{ByteRange}
 use Rattle.stamp_values.specs.declared.op.Op.{Op}
 use Rattle.stamp_values.specs.declared.op.Op.TheVariants.{GetBlob}
@@ -164,3 +165,26 @@ range_rising op fields = by_op (is_op GetBlob op) (range_sent fields)
     by_op true (Some v) = of_rising v
     by_op true None = tt
     by_op false sent = tt
+
+-- ---- the header that counts
+
+pub range_sent-own : (fields : List Field) (value : List ℕ) → is_sent fields (codes "if-range") ≡ false → first_value fields (codes "x-ms-range") ≡ Some value
+    → range_sent fields ≡ Some value
+unfolding range_sent
+range_sent-own fields value unconditional own = rw (unconditional, own) refl
+
+pub range_sent-plain : (fields : List Field) (value : List ℕ) → is_sent fields (codes "if-range") ≡ false → first_value fields (codes "x-ms-range") ≡ None
+    → first_value fields (codes "range") ≡ Some value → range_sent fields ≡ Some value
+unfolding range_sent
+range_sent-plain fields value unconditional none plain = rw (unconditional, none, plain) refl
+
+pub range_sent-conditional : (fields : List Field) → is_sent fields (codes "if-range") ≡ true → range_sent fields ≡ None
+unfolding range_sent
+range_sent-conditional fields conditional = rw conditional refl
+
+pub range_by-none : (op : Op) (fields : List Field) → range_sent fields ≡ None → range_by op fields ≡ None
+range_by-none op fields none = by_op (is_op GetBlob op)
+  where
+    by_op : (b : Bool) → cond b (option_and_then range_of (range_sent fields)) None ≡ None
+    by_op true = ap (option_and_then range_of) none
+    by_op false = refl

@@ -1,16 +1,16 @@
 -- Bytes that are texts: names in ASCII, and values that are visible.
-use Rattle.std.proofs.Common.{◌≡◌, inl, inr, ap, cond, not, IsTrue, Some, None, IsUtf8, ℕ, zero, suc, ◌≤◌, ◌<◌, Bool, true, false, ◌&&◌, ◌==◌, nat_lt, nat_le, List, [], ◌∷◌, length, slice_index, Ok, refl, arith, leb-true}
+use Rattle.std.proofs.Common.{◌≡◌, inl, inr, ap, cond, not, IsTrue, Some, None, IsUtf8, ℕ, zero, suc, ◌≤◌, ◌<◌, Bool, true, false, ◌&&◌, ◌==◌, nat_lt, nat_le, List, [], ◌∷◌, length, slice_index, Ok, refl, ◌∙◌, arith, leb-true}
 use Rattle.std.proofs.lemmas.Bool.{and_parts, and_from, cases_Bool, or_parts, not-false}
 use Rattle.std.proofs.lemmas.Bool.Decides.{nat_tests}
 use Rattle.std.proofs.lemmas.Str.{IsUtf8-from_ascii}
 use Rattle.std.specs.Prelude.{IfSome, is_ok}
 use Rattle.std.specs.List.{list_all}
-use Rattle.stamp_values.specs.Operations.{names_blob}
+use Rattle.stamp_values.specs.Operations.{names_blob, names_container}
 use Rattle.stamp_values.specs.declared.op.Op.{Op}
 use Rattle.name_rules.specs.BlobNames.{name_of, percent_decode}
 use Rattle.name_rules.proofs.NameLemmas.{good_blob, name_is}
-use Rattle.request_form.specs.HeadForms.{blob_by, blob_name_of}
-use Rattle.request_form.specs.HeadRules.{has_bad_name}
+use Rattle.request_form.specs.HeadForms.{blob_by, blob_name_of, container_by}
+use Rattle.request_form.specs.HeadRules.{has_bad_key, has_bad_name}
 use Rattle.request_form.specs.Targets.{account_of, container_of, blob_of}
 use Rattle.stamp_values.specs.Names.{is_lower_or_digit, is_container_byte, is_account, is_container, is_blob, is_within, is_metadata_name, begins_metadata_name, goes_on_metadata_name}
 use Rattle.stamp_values.specs.Texts.{is_visible, is_visible_byte, is_clean}
@@ -97,7 +97,7 @@ not_clean t s same none = elim (cases_Bool (is_visible t)) [
 -- what the names of a path are if no name is bad
 pub record HasGoodNames (op : Op) (path : List ℕ) : Type 0 where
   pub account : is_account (account_of path) ≡ true
-  pub container : is_container (container_of path) ≡ true
+  pub container : names_container op ≡ true → is_container (container_of path) ≡ true
   pub blob : IfSome (blob_by op path) (λ t. IsTrue (is_blob t))
 
 pub good_names : (op : Op) (path : List ℕ) → has_bad_name op path ≡ false → HasGoodNames op path
@@ -105,17 +105,21 @@ unfolding has_bad_name blob_name_of
 good_names op path e =
     let parts = or_parts _ _ e in
     let places = or_parts _ _ parts.0 in
-    record { account = not-false _ places.0; container = not-false _ places.1; blob = by_op (names_blob op) parts.1 }
+    record { account = not-false _ places.0; container = by_container (names_container op) (is_container (container_of path)) places.1; blob = by_op (names_blob op) parts.1 }
   where
     by_op : (b : Bool) → (b && not (is_ok (name_of (blob_of path)))) ≡ false → IfSome (cond b (Some (percent_decode (blob_of path))) None) (λ t. IsTrue (is_blob t))
     by_op true good = good_blob _ (not-false _ good)
     by_op false good = tt
 
+    by_container : (b x : Bool) → (b && not x) ≡ false → b ≡ true → x ≡ true
+    by_container true x good named = not-false x good
+    by_container false x good named = cc
+
 -- a path whose names were read has no bad name
-pub no_bad_name : (op : Op) (path : List ℕ) → (is_account (account_of path) && is_container (container_of path)) ≡ true
+pub no_bad_name : (op : Op) (path : List ℕ) → has_bad_key op path ≡ false
     → (names_blob op && not (is_ok (name_of (blob_of path)))) ≡ false → has_bad_name op path ≡ false
 unfolding has_bad_name
-no_bad_name op path places blob = let both = and_parts (is_account (account_of path)) (is_container (container_of path)) places in rw (both.0, both.1, blob) refl
+no_bad_name op path key blob = rw (key, blob) refl
 
 -- the name of a blob that was read is good
 pub blob_named : (op : Op) (path blob : List ℕ) → names_blob op ≡ true → name_of (blob_of path) ≡ Ok blob
@@ -128,6 +132,12 @@ pub blob_not_asked : (op : Op) (path : List ℕ) → names_blob op ≡ false
     → ((names_blob op && not (is_ok (name_of (blob_of path)))) ≡ false) × (None ≡ blob_by op path)
 blob_not_asked op path none = rw none (refl, refl)
 
--- two good names are visible
-pub key_visible : (account container : List ℕ) → is_account account ≡ true → is_container container ≡ true → (is_visible account && is_visible container) ≡ true
-key_visible account container a c = and_from _ _ (account_visible account a) (container_visible container c)
+-- the names of a good key are visible
+pub key_visible : (op : Op) (path account container : List ℕ) → is_account account ≡ true → (names_container op && not (is_container (container_of path))) ≡ false
+    → container ≡ container_by op path → (is_visible account && is_visible container) ≡ true
+key_visible op path account container a good same =
+    and_from _ _ (account_visible account a) (ap is_visible same ∙ by_op (names_container op) good)
+  where
+    by_op : (b : Bool) → (b && not (is_container (container_of path))) ≡ false → is_visible (cond b (container_of path) []) ≡ true
+    by_op true good = container_visible (container_of path) (not-false _ good)
+    by_op false good = refl

@@ -15,7 +15,7 @@ use Rattle.stamp_values.specs.declared.signing.Credential.{Credential}
 use Rattle.stamp_values.specs.declared.signing.Credential.TheVariants.{Shared, Token, Anonymous}
 use Rattle.stamp_values.specs.declared.signing.Field.{Field}
 use Rattle.stamp_values.specs.declared.signing.Signing.{Signing}
-use Rattle.stamp_values.specs.Operations.{checks_md5, is_op, keeps_headers, names_blob, sets_level}
+use Rattle.stamp_values.specs.Operations.{checks_md5, is_op, keeps_headers, names_blob, names_container, sets_level}
 use Rattle.stamp_values.specs.declared.level.Level.{Level}
 use Rattle.stamp_values.specs.declared.level.Level.TheVariants.{Closed, Blob, Container}
 use Rattle.stamp_types.specs.declared.args.Args.{Args}
@@ -55,9 +55,13 @@ kept_of takes_plain fields = record {
   md5 = md5_under fields (codes "x-ms-blob-content-md5");
 }
 
--- the key of a path
-abbrev pub key_of : List ℕ → Key
-key_of path = record { account = account_of path; container = container_of path }
+-- the name of the container of a path, or no bytes if the operation names no container
+abbrev pub container_by : Op → List ℕ → List ℕ
+container_by op path = if names_container op then container_of path else []
+
+-- the key that the operation names by a path
+abbrev pub key_by : Op → List ℕ → Key
+key_by op path = record { account = account_of path; container = container_by op path }
 
 -- the headers that a blob is to keep, if the operation keeps headers; the plain headers count for Put Blob alone
 abbrev pub kept_by : Op → List Field → Option Kept
@@ -125,7 +129,7 @@ blob_by op path = if names_blob op then Some (blob_name_of path) else None
 unfoldable pub ask_of : Op → Verb → HeadParts → Ask
 ask_of op verb p = record {
   op = op;
-  key = key_of (target_of p.target).path;
+  key = key_by op (target_of p.target).path;
   blob = blob_by op (target_of p.target).path;
   args = args_of op p.fields (target_of p.target).query;
   signing = signing_of verb p;

@@ -10,7 +10,7 @@ use Rattle.stamp_types.specs.declared.rule.Rule.TheVariants.{F1, F2, F3, F4, F5,
 use Rattle.request_form.specs.Targets.{blob_of, target_of}
 use Rattle.request_form.specs.HeadBlocks.{block_by, kinds_by}
 use Rattle.request_form.specs.HeadRules.{verb_of, op_at, op_of, has_bad_name, has_bad_parameter, body_len_of, denial_among}
-use Rattle.request_form.specs.HeadForms.{header_args_of, key_of, blob_by}
+use Rattle.request_form.specs.HeadForms.{header_args_of, key_by, blob_by}
 use Rattle.request_form.specs.declared.denial.HeadFault.{HeadFault}
 use Rattle.request_form.specs.declared.denial.HeadFault.TheVariants as fault
 use Rattle.request_form.specs.declared.header_lines.Fields.{Fields}
@@ -55,7 +55,7 @@ IsBlobName op path blob_name.Bad = (names_blob op ≡ true) × (is_ok (name_of (
 -- the names of a path that the operation needs, which are good
 pub record AreNames (op : Op) (path : List ℕ) (n : Names) : Type 0 where
   pub good : has_bad_name op path ≡ false
-  pub key : n.key ≡ key_of path
+  pub key : n.key ≡ key_by op path
   pub blob : n.blob ≡ blob_by op path
 
 -- what a method and a target ask for

@@ -11,7 +11,7 @@ use Rattle.stamp_values.specs.declared.verb.Verb.{Verb}
 use Rattle.stamp_values.specs.declared.verb.Verb.TheVariants.{Get, Head, Put, Delete}
 use Rattle.stamp_values.specs.declared.signing.Field.{Field}
 use Rattle.stamp_values.specs.Names.{is_account, is_container}
-use Rattle.stamp_values.specs.Operations.{body_limit, has_conditions, is_op, keeps_headers, names_blob, sets_level}
+use Rattle.stamp_values.specs.Operations.{body_limit, has_conditions, is_op, keeps_headers, names_blob, names_container, sets_level}
 use Rattle.stamp_values.specs.Texts.{is_clean, is_utf8, is_visible}
 use Rattle.stamp_types.specs.Codes.{code_status}
 use Rattle.stamp_types.specs.declared.code.Code.{Code}
@@ -171,10 +171,13 @@ is_write (Some Put) = true
 is_write (Some Delete) = true
 is_write other = false
 
--- the name of the account or the container is not good, or the operation names a blob whose name is not good
+-- the name of the account is not good, or the operation names a container whose name is not good
+abbrev pub has_bad_key : Op → List ℕ → Bool
+has_bad_key op path = not (is_account (account_of path)) || names_container op && not (is_container (container_of path))
+
+-- the key is bad, or the operation names a blob whose name is not good
 unfoldable pub has_bad_name : Op → List ℕ → Bool
-has_bad_name op path =
-    not (is_account (account_of path)) || not (is_container (container_of path)) || names_blob op && not (is_ok (name_of (blob_of path)))
+has_bad_name op path = has_bad_key op path || names_blob op && not (is_ok (name_of (blob_of path)))
 
 -- headers that ask for what the stamp does not serve
 abbrev pub unserved_names : List (List ℕ)

@@ -39,4 +39,4 @@ pub use head_laws::{
     metadata_are_in_the_order_of_their_names,
 };
 pub use head_parts::HEAD_LIMIT;
-pub use range_laws::a_range_is_what_its_text_prints;
+pub use range_laws::{a_head_asks_for_one_range, a_range_is_what_its_text_prints};

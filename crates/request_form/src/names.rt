@@ -1,11 +1,12 @@
 //! Rule F5: the good names of a path.
-ghost use Rattle.std.specs.Prelude.{◌≡◌, ◌&&◌, IfOk, MatchOption, false, true};
-ghost use Rattle.stamp_values.specs.Names.{is_account, is_container};
+ghost use Rattle.std.specs.Prelude.{◌≡◌, ◌&&◌, IfOk, MatchOption, not, false, true};
+ghost use Rattle.stamp_values.specs.Names.{is_container};
+ghost use Rattle.stamp_values.specs.Operations.{names_container};
 ghost use Rattle.stamp_values.specs.Texts.{is_visible};
-ghost use Rattle.request_form.specs.HeadForms.{key_of};
+ghost use Rattle.request_form.specs.HeadForms.{container_by, key_by};
 ghost use Rattle.request_form.specs.HeadReads.{AreNames, IsBlobName};
-ghost use Rattle.request_form.specs.HeadRules.{has_bad_name};
-ghost use Rattle.request_form.specs.Targets.{account_of, container_of};
+ghost use Rattle.request_form.specs.HeadRules.{has_bad_key, has_bad_name};
+ghost use Rattle.request_form.specs.Targets.{container_of};
 
 use crate::target;
 use crate::texts::visible;
@@ -49,18 +50,37 @@ fn key(alloc: Global, account: &[u8], container: &[u8]) -> Result<Option<Key>, A
     }))
 }
 
-// The key that a path names, if both of its names are good.
-fn good_key(alloc: Global, path: &[u8]) -> Result<Option<Key>, AllocError>
-    ensures { IfOk result (λ o. MatchOption o
-        ((is_account (account_of path.now) && is_container (container_of path.now)) ≡ false)
-        (λ k. ((is_account (account_of path.now) && is_container (container_of path.now)) ≡ true)
-        × (k ≡ key_of path.now))) }
+// The name of the container of a path, or no bytes if the operation names no container. `None` if the operation names a container
+// whose name is not good.
+fn container_name(op: Op, path: &[u8]) -> Option<&[u8]>
+    ensures { MatchOption result
+        ((names_container op && not (is_container (container_of path.now))) ≡ true)
+        (λ name. ((names_container op && not (is_container (container_of path.now))) ≡ false)
+        × (name.now ≡ container_by op path.now)) }
+{
+    if !op.names_container() {
+        return Some(b"");
+    }
+    let container = target::container(path);
+    if container_ok(container) {
+        Some(container)
+    } else {
+        None
+    }
+}
+
+// The key that the operation names by a path, if it is good.
+fn good_key(alloc: Global, op: Op, path: &[u8]) -> Result<Option<Key>, AllocError>
+    ensures { IfOk result (λ o. MatchOption o (has_bad_key op path.now ≡ true)
+        (λ k. (has_bad_key op path.now ≡ false) × (k ≡ key_by op path.now))) }
 {
     let account = target::account(path);
-    let container = target::container(path);
-    if !account_ok(account) || !container_ok(container) {
+    if !account_ok(account) {
         return Ok(None);
     }
+    let Some(container) = container_name(op, path) else {
+        return Ok(None);
+    };
     match key(alloc, account, container)? {
         Some(key) => Ok(Some(key)),
         None => Ok(None),
@@ -81,8 +101,8 @@ fn blob_name(alloc: Global, op: Op, path: &[u8]) -> Result<BlobName, AllocError>
     }
 }
 
-/// The key and the blob that a path names, by rule F5: `None` if the name of the account or the container is not good, or if the
-/// operation names a blob and the name of the blob is not good.
+/// The key and the blob that the operation names by a path, by rule F5: `None` if the name of the account is not good, or the name of
+/// a container or a blob that the operation names.
 ///
 /// `AllocError` if memory runs out.
 #[tactic(auto, unfolding(crate::specs::HeadRules::has_bad_name))]
@@ -90,7 +110,7 @@ pub(crate) fn read_names(alloc: Global, op: Op, path: &[u8]) -> Result<Option<Na
     ensures { IfOk result (λ o.
         MatchOption o (has_bad_name op path.now ≡ true) (AreNames op path.now)) }
 {
-    let Some(key) = good_key(alloc, path)? else {
+    let Some(key) = good_key(alloc, op, path)? else {
         return Ok(None);
     };
     let blob = match blob_name(alloc, op, path)? {
