@@ -1,70 +1,68 @@
 -- What a connection reads of the history.
-use Rattle.std.proofs.Common.{◌≡◌, ◌⊎◌, inl, inr, ℕ, List, [], ◌∷◌, ◌++◌, Some, refl, sym, ap, ◌∙◌, subst, append_assoc}
+use Rattle.std.proofs.Common.{◌≡◌, ◌⊎◌, inl, inr, ℕ, List, [], ◌∷◌, ◌++◌, map, refl, sym, ap, ◌∙◌, subst, append_assoc}
 use Rattle.std.proofs.lemmas.List.{append-nil}
 use Rattle.stamp_types.specs.declared.reply.Reply.{Reply}
 use Rattle.stamp_types.specs.Requests.{Asked}
 use Rattle.stamp_types.specs.World.{World}
 use Rattle.access_rules.specs.declared.keys.Keys.{Keys}
-use Rattle.request_form.specs.declared.denial.Denial.{Denial}
-use Rattle.request_form.specs.HeadForms.{Form, with_body}
-use Rattle.stamp_model.specs.Runs.{Timed, world_after_one, world_after_all, reply_to_one}
-use Rattle.std.proofs.lemmas.List.Sums.{fold-append}
-use Rattle.http_front.specs.Conversations.{Exchange, ServiceReplies, IsUnansweredAt, StopsAtItem, StopsBeforeOrAtItem}
+use Rattle.request_form.specs.HeadForms.{with_body}
+use Rattle.stamp_model.specs.Runs.{world_after_one, world_after_all, reply_to_one}
+use Rattle.http_front.specs.Conversations.{Exchange, ServiceReplies, IsUnansweredAt, StopsBeforeOrAtItem}
 use Rattle.http_front.specs.Conversations.Exchange.{Answered, RefusedAt}
 use Rattle.http_front.specs.Streams.{Item}
 use Rattle.http_front.specs.Streams.Item.{Requested, Refused}
-use Rattle.account_lock.specs.Histories.{timed, world_left, IsServed, IsUnchanged}
+use Rattle.account_lock.specs.Histories.{Entered, entered, judged, world_left, IsServed, IsUnchanged}
 use Rattle.account_lock.specs.Connections.{Call, calls_of, calls_along, IsAmong, ReadsHistory, AddsOneAtMost, IsReadAfter}
 use Rattle.account_lock.proofs.HistoryLemmas.{world_left-append}
 
 -- the calls along a front part, and the calls along what comes after it
-calls_along-append : (keys : Keys) (w : World (List ℕ)) (front rest : List Timed)
-    → calls_along keys w (front ++ rest) ≡ calls_along keys w front ++ calls_along keys (world_after_all (Some keys) w front) rest
+calls_along-append : (keys : Keys) (w : World (List ℕ)) (front rest : List Entered)
+    → calls_along keys w (front ++ rest) ≡ calls_along keys w front ++ calls_along keys (world_after_all w (map (judged keys) front)) rest
 calls_along-append keys w [] rest = refl
-calls_along-append keys w (entry ∷ front) rest = ap (λ (l : List Call). (entry, reply_to_one (Some keys) w entry) ∷ l) (calls_along-append keys (world_after_one (Some keys) w entry) front rest)
+calls_along-append keys w (entry ∷ front) rest = ap (λ (l : List Call). (entry, reply_to_one w (judged keys entry)) ∷ l) (calls_along-append keys (world_after_one w (judged keys entry)) front rest)
 
 module _ (keys : Keys) where
   -- entries of others, and then a call
-  served_then : (known mid known' : List Timed) (q : Asked) (t : ℕ) (reply : Reply) (calls : List Call)
-      → IsServed keys known q t reply mid → ReadsHistory keys mid calls known' → ReadsHistory keys known ((timed q t, reply) ∷ calls) known'
+  served_then : (known mid known' : List Entered) (q : Asked) (t : ℕ) (reply : Reply) (calls : List Call)
+      → IsServed keys known q t reply mid → ReadsHistory keys mid calls known' → ReadsHistory keys known ((entered q t, reply) ∷ calls) known'
   served_then known mid known' q t reply calls step rest =
-      let entry = timed q t in
+      let entry = entered q t in
       let w = world_left keys known in
-      let then_held = world_after_all (Some keys) w step.others in
+      let then_held = world_after_all w (map (judged keys) step.others) in
       let here : world_left keys (known ++ step.others) ≡ then_held = world_left-append keys known step.others in
-      let next : world_left keys mid ≡ world_after_one (Some keys) then_held entry =
-      ap (world_left keys) step.entered ∙ (world_left-append keys (known ++ step.others) (entry ∷ []) ∙ ap (λ (v : World (List ℕ)). world_after_one (Some keys) v entry) here) in
-      let answer : reply_to_one (Some keys) then_held entry ≡ reply = sym (step.replied ∙ ap (λ (v : World (List ℕ)). reply_to_one (Some keys) v entry) here) in record {
+      let next : world_left keys mid ≡ world_after_one then_held (judged keys entry) =
+      ap (world_left keys) step.enters ∙ (world_left-append keys (known ++ step.others) (entry ∷ []) ∙ ap (λ (v : World (List ℕ)). world_after_one v (judged keys entry)) here) in
+      let answer : reply_to_one then_held (judged keys entry) ≡ reply = sym (step.replied ∙ ap (λ (v : World (List ℕ)). reply_to_one v (judged keys entry)) here) in record {
         entries = step.others ++ entry ∷ rest.entries;
-        continued = rest.continued ∙ (ap (λ (l : List Timed). l ++ rest.entries) step.entered ∙ (append_assoc (known ++ step.others) (entry ∷ []) rest.entries ∙ append_assoc known step.others (entry ∷ rest.entries)));
+        continued = rest.continued ∙ (ap (λ (l : List Entered). l ++ rest.entries) step.enters ∙ (append_assoc (known ++ step.others) (entry ∷ []) rest.entries ∙ append_assoc known step.others (entry ∷ rest.entries)));
         own = (
           calls_along keys w step.others,
-          calls_along keys (world_after_one (Some keys) then_held entry) rest.entries,
+          calls_along keys (world_after_one then_held (judged keys entry)) rest.entries,
           calls_along-append keys w step.others (entry ∷ rest.entries)
-              ∙ ap (λ (r : Reply). calls_along keys w step.others ++ (entry, r) ∷ calls_along keys (world_after_one (Some keys) then_held entry) rest.entries) answer,
+              ∙ ap (λ (r : Reply). calls_along keys w step.others ++ (entry, r) ∷ calls_along keys (world_after_one then_held (judged keys entry)) rest.entries) answer,
           subst (λ (v : World (List ℕ)). IsAmong calls (calls_along keys v rest.entries)) next rest.own,
         );
       }
 
   -- the replies of a connection are those of the model along one history
-  pub replies_are_along : (known : List Timed) (exchanges : List Exchange) (known' : List Timed)
+  pub replies_are_along : (known : List Entered) (exchanges : List Exchange) (known' : List Entered)
       → ServiceReplies (IsServed keys) known exchanges known' → ReadsHistory keys known (calls_of exchanges) known'
   replies_are_along known [] known' same = record { entries = []; continued = same ∙ sym (append-nil known); own = tt }
   replies_are_along known (Answered form body moment reply ∷ exchanges) known' given =
       served_then known given.0 known' (with_body form body) moment reply (calls_of exchanges) given.1 (replies_are_along given.0 exchanges known' given.2)
   replies_are_along known (RefusedAt denial moment ∷ exchanges) known' given =
-      subst (λ (k : List Timed). ReadsHistory keys k (calls_of exchanges) known') given.1 (replies_are_along given.0 exchanges known' given.2)
+      subst (λ (k : List Entered). ReadsHistory keys k (calls_of exchanges) known') given.1 (replies_are_along given.0 exchanges known' given.2)
 
-  unwritten : (known known' : List Timed) (q : Asked) (t : ℕ) → IsUnchanged known known' ⊎ ((reply : Reply) × IsServed keys known q t reply known') → AddsOneAtMost keys known known'
+  unwritten : (known known' : List Entered) (q : Asked) (t : ℕ) → IsUnchanged known known' ⊎ ((reply : Reply) × IsServed keys known q t reply known') → AddsOneAtMost keys known known'
   unwritten known known' q t (inl same) = inl same
   unwritten known known' q t (inr made) = inr (q, t, made.0, made.1)
 
-  unanswered : (known known' : List Timed) (item : Item) (t : ℕ) → IsUnansweredAt (IsServed keys) IsUnchanged known known' item t → AddsOneAtMost keys known known'
+  unanswered : (known known' : List Entered) (item : Item) (t : ℕ) → IsUnansweredAt (IsServed keys) IsUnchanged known known' item t → AddsOneAtMost keys known known'
   unanswered known known' (Requested form body) t left = unwritten known known' (with_body form body) t left
   unanswered known known' (Refused denial) t same = inl same
 
   -- if memory runs out, at most one request of the connection is entered after those that were answered
-  pub stops_with_one : {C : Type 0} (gives : C → ℕ → C → Type 0) (clock clock' : C) (known known' : List Timed) (bytes written : List ℕ)
+  pub stops_with_one : {C : Type 0} (gives : C → ℕ → C → Type 0) (clock clock' : C) (known known' : List Entered) (bytes written : List ℕ)
       → StopsBeforeOrAtItem gives (IsServed keys) IsUnchanged clock clock' known known' bytes written → AddsOneAtMost keys known known'
   stops_with_one gives clock clock' known known' bytes written (inl before) = inl before.1
   stops_with_one gives clock clock' known known' bytes written (inr at) = unanswered known known' at.item at.moment at.left
@@ -96,38 +94,38 @@ next_after {X} front x rest ys own =
 
 -- an element that is among the calls along entries has the model's reply at its place, and the calls after it are along the entries
 -- after it
-at_place : (keys : Keys) (w : World (List ℕ)) (entries : List Timed) (before : List Call) (call : Call) (after : List Call)
+at_place : (keys : Keys) (w : World (List ℕ)) (entries : List Entered) (before : List Call) (call : Call) (after : List Call)
     → calls_along keys w entries ≡ before ++ call ∷ after
-    → (front : List Timed) × (rest : List Timed) × (call.1 ≡ reply_to_one (Some keys) (world_after_all (Some keys) w front) call.0)
-    × (after ≡ calls_along keys (world_after_one (Some keys) (world_after_all (Some keys) w front) call.0) rest)
+    → (front : List Entered) × (rest : List Entered) × (call.1 ≡ reply_to_one (world_after_all w (map (judged keys) front)) (judged keys call.0))
+    × (after ≡ calls_along keys (world_after_one (world_after_all w (map (judged keys) front)) (judged keys call.0)) rest)
 at_place keys w [] [] call after is = absurd (cc (is))
 at_place keys w [] (x ∷ before) call after is = absurd (cc (is))
 at_place keys w (entry ∷ entries) [] call after is =
-    let head : (entry, reply_to_one (Some keys) w entry) ≡ call = cc (is) in
-    let tail : calls_along keys (world_after_one (Some keys) w entry) entries ≡ after = cc (is) in (
+    let head : (entry, reply_to_one w (judged keys entry)) ≡ call = cc (is) in
+    let tail : calls_along keys (world_after_one w (judged keys entry)) entries ≡ after = cc (is) in (
       [],
       entries,
-      subst (λ (c : Call). c.1 ≡ reply_to_one (Some keys) w c.0) head refl,
-      sym tail ∙ ap (λ (c : Call). calls_along keys (world_after_one (Some keys) w c.0) entries) head,
+      subst (λ (c : Call). c.1 ≡ reply_to_one w (judged keys c.0)) head refl,
+      sym tail ∙ ap (λ (c : Call). calls_along keys (world_after_one w (judged keys c.0)) entries) head,
     )
 at_place keys w (entry ∷ entries) (x ∷ before) call after is =
-    let tail : calls_along keys (world_after_one (Some keys) w entry) entries ≡ before ++ call ∷ after = cc (is) in
-    let more = at_place keys (world_after_one (Some keys) w entry) entries before call after tail in
+    let tail : calls_along keys (world_after_one w (judged keys entry)) entries ≡ before ++ call ∷ after = cc (is) in
+    let more = at_place keys (world_after_one w (judged keys entry)) entries before call after tail in
     (entry ∷ more.0, more.1, more.2, more.3)
 
-pub later_reads : (keys : Keys) (known known' : List Timed) (front : List Call) (earlier : Call) (middle : List Call) (later : Call) (back : List Call)
+pub later_reads : (keys : Keys) (known known' : List Entered) (front : List Call) (earlier : Call) (middle : List Call) (later : Call) (back : List Call)
     → ReadsHistory keys known (front ++ earlier ∷ (middle ++ later ∷ back)) known' → IsReadAfter keys earlier later
 later_reads keys known known' front earlier middle later back reads =
     let w = world_left keys known in
     let one = next_after front earlier (middle ++ later ∷ back) (calls_along keys w reads.entries) reads.own in
     let two = next_after middle later back one.1 one.3 in
     let first = at_place keys w reads.entries one.0 earlier one.1 one.2 in
-    let then_held = world_after_all (Some keys) w first.0 in
-    let second = at_place keys (world_after_one (Some keys) then_held earlier.0) first.1 two.0 later two.1 (sym first.3 ∙ two.2) in
+    let then_held = world_after_all w (map (judged keys) first.0) in
+    let second = at_place keys (world_after_one then_held (judged keys earlier.0)) first.1 two.0 later two.1 (sym first.3 ∙ two.2) in
     let here : world_left keys (known ++ first.0) ≡ then_held = world_left-append keys known first.0 in record {
       before = known ++ first.0;
       between = second.0;
-      first = first.2 ∙ ap (λ (v : World (List ℕ)). reply_to_one (Some keys) v earlier.0) (sym here);
-      second = second.2 ∙ ap (λ (v : World (List ℕ)). reply_to_one (Some keys) v later.0)
-          (sym (world_left-append keys (known ++ first.0) (earlier.0 ∷ second.0) ∙ ap (λ (v : World (List ℕ)). world_after_all (Some keys) (world_after_one (Some keys) v earlier.0) second.0) here));
+      first = first.2 ∙ ap (λ (v : World (List ℕ)). reply_to_one v (judged keys earlier.0)) (sym here);
+      second = second.2 ∙ ap (λ (v : World (List ℕ)). reply_to_one v (judged keys later.0))
+          (sym (world_left-append keys (known ++ first.0) (earlier.0 ∷ second.0) ∙ ap (λ (v : World (List ℕ)). world_after_all (world_after_one v (judged keys earlier.0)) (map (judged keys) second.0)) here));
     }

@@ -1,32 +1,42 @@
 -- One history of the requests of an account, for all its connections (Calder et al., SOSP 2011, section 5: the changes of a
 -- partition are made one after the other).
-use Rattle.std.specs.Prelude.{ℕ, ◌≡◌, List, [], ◌∷◌, ◌++◌, Some}
+use Rattle.std.specs.Prelude.{ℕ, ◌≡◌, List, [], ◌∷◌, ◌++◌, map}
+use Rattle.std.specs.FinMap as finite
 use Rattle.stamp_types.specs.declared.reply.Reply.{Reply}
 use Rattle.stamp_types.specs.Requests.{Asked}
 use Rattle.stamp_types.specs.World.{World}
 use Rattle.access_rules.specs.declared.keys.Keys.{Keys}
-use Rattle.stamp_model.specs.Runs.{Timed, world_after_all, reply_to_one}
-use Rattle.stamp_model.specs.Services.{Held, empty_held}
+use Rattle.stamp_model.specs.Runs.{Timed, timed, world_after_all, reply_to_one}
+use Rattle.account_service.specs.Services.{Held}
+
+-- a request, and the moment at which it is answered
+pub record Entered : Type 0 where
+  pub request : Asked
+  pub moment : ℕ
 
 -- the entry of a request that is answered at this moment
-abbrev pub timed : Asked → ℕ → Timed
-timed q t = record { request = q; moment = t }
+abbrev pub entered : Asked → ℕ → Entered
+entered q t = record { request = q; moment = t }
+
+-- the entry, judged by the account's key pair
+abbrev pub judged : Keys → Entered → Timed
+judged keys e = timed keys e.request e.moment
 
 -- the containers that the entries leave, from those of a new stamp
-abbrev pub world_left : Keys → List Timed → World (List ℕ)
-world_left keys history = world_after_all (Some keys) (empty_held keys).world history
+abbrev pub world_left : Keys → List Entered → World (List ℕ)
+world_left keys history = world_after_all finite.empty (map (judged keys) history)
 
 -- what the stamp holds after the entries
-abbrev pub left_after : Keys → List Timed → Held
+abbrev pub left_after : Keys → List Entered → Held
 left_after keys history = record { keys = keys; world = world_left keys history }
 
 -- What a connection knew of the history is continued by entries of others and then by this request, and the reply is the model's
 -- at the containers that all entries before the request leave.
-pub record IsServed (keys : Keys) (known : List Timed) (q : Asked) (t : ℕ) (reply : Reply) (known' : List Timed) : Type 0 where
-  pub others : List Timed
-  pub entered : known' ≡ (known ++ others) ++ timed q t ∷ []
-  pub replied : reply ≡ reply_to_one (Some keys) (world_left keys (known ++ others)) (timed q t)
+pub record IsServed (keys : Keys) (known : List Entered) (q : Asked) (t : ℕ) (reply : Reply) (known' : List Entered) : Type 0 where
+  pub others : List Entered
+  pub enters : known' ≡ (known ++ others) ++ entered q t ∷ []
+  pub replied : reply ≡ reply_to_one (world_left keys (known ++ others)) (timed keys q t)
 
 -- what a connection knows of the history stays the same
-abbrev pub IsUnchanged : List Timed → List Timed → Type 0
+abbrev pub IsUnchanged : List Entered → List Entered → Type 0
 IsUnchanged known known' = known' ≡ known

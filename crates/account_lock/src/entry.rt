@@ -11,9 +11,9 @@ pub struct Entry {
 }
 
 impl Model for Entry {
-    ghost use Rattle.stamp_model.specs.Runs.{Timed};
+    ghost use Rattle.account_lock.specs.Histories.{Entered};
 
-    ghost Value = { Timed };
+    ghost Value = { Entered };
 
     ghost view = { λ e. record { request = e.request; moment = e.moment } };
 }
@@ -26,9 +26,9 @@ pub struct NextEntry<'a> {
 }
 
 impl<'a> Model for NextEntry<'a> {
-    ghost use Rattle.stamp_model.specs.Runs.{Timed};
+    ghost use Rattle.account_lock.specs.Histories.{Entered};
 
-    ghost Value = { Timed };
+    ghost Value = { Entered };
 
     ghost view = { λ e. record { request = e.request.now; moment = e.moment } };
 }

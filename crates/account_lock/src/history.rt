@@ -1,9 +1,9 @@
 //! One history of the requests that were answered. It only grows, and it exists in proofs alone: what threads share is the
 //! number of its entries.
-ghost use Rattle.std.specs.Prelude.{◌≡◌, ◌+◌, ◌==◌, ◌<◌, ◌≤◌, ◌^◌, ◌++◌, ◌∷◌, ◌⊎◌, [], length, MatchBool};
+ghost use Rattle.std.specs.Prelude.{◌≡◌, ◌+◌, ◌==◌, ◌<◌, ◌^◌, ◌++◌, ◌∷◌, ◌⊎◌, [], length, MatchBool};
 ghost use mathlib.Core.List.{IsPrefix};
 ghost use Rattle.account_lock.specs.Growth.{count_word, IsLonger};
-ghost use Rattle.account_lock.specs.Histories.{timed};
+ghost use Rattle.account_lock.specs.Histories.{entered};
 
 use crate::entry::{Entry, NextEntry};
 use logbook::{Gain, Offer, Plain, Play, Rule, Seen, Start, Word};
@@ -134,9 +134,9 @@ pub struct Front<A: Account> {
 
 impl<A: Account> Model for Front<A> {
     ghost use Rattle.std.specs.Prelude.{◌≡◌, List, length};
-    ghost use Rattle.stamp_model.specs.Runs.{Timed};
+    ghost use Rattle.account_lock.specs.Histories.{Entered};
 
-    ghost Value = { List Timed };
+    ghost Value = { List Entered };
 
     ghost view = { λ f. f.seen.log };
 
@@ -180,7 +180,7 @@ impl<A: Account> Front<A> {
     /// Adds an entry to all that is known, and returns whether it did. It did not if the history is longer than what is known.
     pub fn add(&mut self, count: &EntryCount<A>, request: &Request, moment: Moment) -> bool
         requires room { length self.old < 2 ^ 62 }
-        ensures { MatchBool result (self.new ≡ self.old ++ timed request.now moment ∷ []) (IsLonger self.old self.new) }
+        ensures { MatchBool result (self.new ≡ self.old ++ entered request.now moment ∷ []) (IsLonger self.old self.new) }
     {
         let next = NextEntry { request, moment };
         let mut offer: Offer<Entry, u64, Counted, Nothing> = self

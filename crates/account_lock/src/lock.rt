@@ -1,11 +1,12 @@
 //! One lock for the rows of an account, and its connections.
-ghost use Rattle.std.specs.Prelude.{◌≡◌, ◌↔◌, IsSome, IsTrue, [], ◌∷◌, ◌++◌, ◌<◌, ◌^◌, ℕ, IfOk, OnErr, OnOk, length};
+ghost use Rattle.std.specs.Prelude.{◌≡◌, ◌↔◌, IsSome, IsTrue, [], ◌∷◌, ◌++◌, ◌<◌, ◌^◌, IfOk, OnErr, OnOk, length};
 ghost use mathlib.Core.List.{IsPrefix};
 ghost use Rattle.stamp_values.specs.Names.{is_account};
 ghost use Rattle.range_rows.specs.Readings.{reading_of};
-ghost use Rattle.stamp_model.specs.Services.{empty_held, held_reply};
+ghost use Rattle.stamp_model.specs.Runs.{timed, reply_to_one};
 ghost use Rattle.account_service.specs.HeldRows.{held_of};
-ghost use Rattle.account_lock.specs.Histories.{timed, left_after};
+ghost use Rattle.account_service.specs.Services.{empty_held};
+ghost use Rattle.account_lock.specs.Histories.{entered, left_after, world_left};
 
 use crate::history::{Account, EntryCount, Front, NewHistory};
 use access_rules::Keys;
@@ -29,11 +30,10 @@ struct Locked<A: Account> {
 
 impl<A: Account> Model for Locked<A> {
     ghost use Rattle.std.specs.Prelude.{◌≡◌, List};
-    ghost use Rattle.stamp_model.specs.Runs.{Timed};
     ghost use Rattle.account_service.specs.HeldRows.{held_of};
-    ghost use Rattle.account_lock.specs.Histories.{left_after};
+    ghost use Rattle.account_lock.specs.Histories.{Entered, left_after};
 
-    ghost Value = { List Timed };
+    ghost Value = { List Entered };
 
     ghost view = { λ l. l.front };
 
@@ -79,8 +79,8 @@ impl<A: Account> Locked<A> {
     ) -> Result<Reply, AllocError>
         requires read { reading ≡ reading_of request.now }
         ensures answered { IfOk result (λ reply.
-            reply ≡ held_reply (left_after A.keys self.old) request.now moment) }
-        ensures entered { OnOk result (self.new ≡ self.old ++ timed request.now moment ∷ []) }
+            reply ≡ reply_to_one (world_left A.keys self.old) (timed A.keys request.now moment)) }
+        ensures entered { OnOk result (self.new ≡ self.old ++ entered request.now moment ∷ []) }
         ensures begun { OnOk result (IsPrefix known.old self.old) }
         ensures known { OnOk result (known.new ≡ self.new) }
         ensures same { OnErr result ((self.new ≡ self.old) × (known.new ≡ known.old)) }
@@ -148,10 +148,9 @@ impl<'a, A: Account, R: Wait> Connection<'a, A, R> {
 
 impl<'a, A: Account, R: Wait> Service for Connection<'a, A, R> {
     ghost use Rattle.std.specs.Prelude.{List};
-    ghost use Rattle.stamp_model.specs.Runs.{Timed};
-    ghost use Rattle.account_lock.specs.Histories.{IsServed, IsUnchanged};
+    ghost use Rattle.account_lock.specs.Histories.{Entered, IsServed, IsUnchanged};
 
-    ghost World = { List Timed };
+    ghost World = { List Entered };
 
     ghost world = { λ s. s.known };
 

@@ -1,5 +1,5 @@
 -- What a service holds whose content is in memory, and what it answers.
-use Rattle.std.proofs.Common.{◌≡◌, ℕ, true, false, List, [], ◌∷◌, length, drop, zero, suc, get_or, Option, Some, None, Result, Ok, Err, IfOk, OnOk, OnErr, refl, sym, ap, ◌∙◌, subst}
+use Rattle.std.proofs.Common.{◌≡◌, ℕ, true, List, [], ◌∷◌, length, drop, zero, suc, get_or, Option, Some, None, Result, Ok, Err, IfOk, OnOk, OnErr, refl, sym, ap, ◌∙◌, subst}
 use Rattle.std.proofs.lemmas.List.Sums.{AllPass-from_list_all}
 use Rattle.std.specs.Prelude.{⊤, IfSome, IsTrue}
 use Rattle.std.specs.declared.alloc.AllocError.{AllocError}
@@ -30,15 +30,16 @@ use Rattle.range_rows.specs.ObjectReplies.{ReadsWhole, byte_count, frame, reply_
 use Rattle.range_rows.specs.RequestChanges.{delete_blob, put_blob, put_block, put_block_list, set_metadata, act_by, change_of, part_after}
 use Rattle.range_rows.proofs.ChangeLemmas.{change_fits}
 use Rattle.range_rows.proofs.SpanLemmas.{length-read, reply_of-read}
-use Rattle.stamp_model.specs.Effects.{unless_refused, world_after, effect_as}
+use Rattle.stamp_model.specs.Effects.{unless_refused, world_after}
 use Rattle.stamp_model.specs.Refusals.{refusal}
 use Rattle.stamp_model.specs.Responses.{response, reply}
 use Rattle.stamp_model.proofs.ContentLemmas.{sizes-read, world_value-effect}
 use Rattle.stamp_model.proofs.EffectLemmas.{on_key, effect-refused}
 use Rattle.stamp_model.proofs.ReplyLemmas.{reply-own, unrefused}
 use Rattle.account_service.specs.Decisions.{found_reply}
-use Rattle.stamp_model.specs.Services.{empty_held, AnswersAsModel, held_reply, held_after}
+use Rattle.stamp_model.specs.Runs.{timed, reply_to_one}
 use Rattle.account_service.specs.HeldRows.{HeldRows, empty_rows, AreHeld, bytes_held, held_of, row_refusal, rows_after, rows_with}
+use Rattle.account_service.specs.Services.{empty_held, AnswersAsModel, held_after}
 
 -- ---- the rows of a new stamp
 
@@ -158,7 +159,7 @@ module _ (h : HeldRows) (q : Asked) (t : ℕ) (all : AreHeld h.rows) where
   abbrev reply_by : Part (List ℕ) → Part ℕ → Reply
   reply_by p z = response (refusal (Some h.keys) z q t) (reply_of (part_after held (unless_refused (refusal (Some h.keys) z q t) (change_of z q t)) p) q)
 
-  reply_by_rows : held_reply (held_of h) q t ≡ reply_by (part_value held part) row_sizes
+  reply_by_rows : reply_to_one (held_of h).world (timed h.keys q t) ≡ reply_by (part_value held part) row_sizes
   reply_by_rows =
       reply-own (Some h.keys) (world_value held h.rows) q t None
       ∙ ap (λ (p : Part (List ℕ)). reply_by p (sizes p)) (part_at-world_value held h.rows q.ask.key)
@@ -179,7 +180,7 @@ module _ (h : HeldRows) (q : Asked) (t : ℕ) (all : AreHeld h.rows) where
 
   -- the frame with the bytes of its spans is the reply
   pub reply_with_spans : row_refusal h q t ≡ None
-      → found_reply part q t ≡ held_reply (held_of h) q t
+      → found_reply part q t ≡ reply_to_one (held_of h).world (timed h.keys q t)
   reply_with_spans free =
       let after = part_after same_pieces change part in
       let whole = EachContent-then (λ ps. is_held ps ≡ true) (ReadsWhole piece_bytes) held_whole after (after_whole change refl) in
@@ -189,7 +190,7 @@ module _ (h : HeldRows) (q : Asked) (t : ℕ) (all : AreHeld h.rows) where
       ∙ sym (reply_by_rows ∙ ap (λ (o : Option Refusal). response o (reply_of (part_after held (unless_refused o change) (part_value held part)) q)) free)
 
   -- the reply to a refused request
-  pub reply_refused : (r : Refusal) → row_refusal h q t ≡ Some r → denied r ≡ held_reply (held_of h) q t
+  pub reply_refused : (r : Refusal) → row_refusal h q t ≡ Some r → denied r ≡ reply_to_one (held_of h).world (timed h.keys q t)
   reply_refused r e =
       sym (reply_by_rows ∙ ap (λ (o : Option Refusal). response o (reply_of (part_after held (unless_refused o change) (part_value held part)) q)) e)
 
@@ -209,7 +210,7 @@ module _ (h : HeldRows) (q : Asked) (t : ℕ) (all : AreHeld h.rows) where
       ap (λ (w : World (List ℕ)). record { keys = h.keys; world = w }) (world_value-effect held pieces_len byte_count same_pieces (Some h.keys) h.rows q t sized)
 
   -- a request that is carried out is answered as the model says
-  pub answers_allowed : (reply : Reply) (h' : HeldRows) → reply ≡ held_reply (held_of h) q t → h' ≡ rows_after h q t → AnswersAsModel (held_of h) q t reply (held_of h')
+  pub answers_allowed : (reply : Reply) (h' : HeldRows) → reply ≡ reply_to_one (held_of h).world (timed h.keys q t) → h' ≡ rows_after h q t → AnswersAsModel (held_of h) q t reply (held_of h')
   answers_allowed reply h' is new = (is, ap held_of new ∙ held_of-rows_after)
 
 module _ (h : HeldRows) (q : Asked) (t : ℕ) (all : AreHeld h.rows) where

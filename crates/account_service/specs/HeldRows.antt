@@ -17,7 +17,7 @@ use Rattle.row_trees.specs.BlobRows.{rows_code}
 use Rattle.range_rows.specs.ObjectReplies.{span_bytes}
 use Rattle.stamp_model.specs.Effects.{effect_as, world_after}
 use Rattle.stamp_model.specs.Refusals.{refusal}
-use Rattle.stamp_model.specs.Services.{Held}
+use Rattle.account_service.specs.Services.{Held}
 
 -- an account's keys, and the containers as rows hold them, with content in pieces
 pub record HeldRows : Type 0 where

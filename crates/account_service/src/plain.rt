@@ -7,9 +7,8 @@ ghost use Rattle.stamp_types.specs.World.{part_at, part_value};
 ghost use Rattle.row_trees.specs.Fits.{fits};
 ghost use Rattle.range_rows.specs.Readings.{reading_of};
 ghost use Rattle.account_service.specs.Decisions.{row_decision};
-ghost use Rattle.stamp_model.specs.Services.{AnswersAsModel, Held, empty_held};
-ghost use Rattle.account_service.specs.HeldRows.{AreHeld, empty_rows, held_of};
-ghost use Rattle.account_service.specs.HeldRows.{rows_with};
+ghost use Rattle.account_service.specs.HeldRows.{AreHeld, empty_rows, held_of, rows_with};
+ghost use Rattle.account_service.specs.Services.{AnswersAsModel, Held, empty_held};
 
 use crate::decision::{Decision, decide};
 use access_rules::Keys;

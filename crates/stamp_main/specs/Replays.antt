@@ -1,6 +1,7 @@
 -- What `stamp replay` writes: the answers to its input in order, as the model says, by a clock that always gives the same moment
 -- (Blob service REST reference, 2012-02-12; RFC 9112, section 9.3).
 use Rattle.std.specs.Prelude.{◌≡◌, ◌⊎◌, ℕ, List, [], ◌∷◌, ◌++◌, length, true, Some, IfSome, Result, Ok, codes}
+use Rattle.std.specs.FinMap as finite
 use Rattle.std.specs.Io.KnownBytes.{Appends}
 use Rattle.stamp_values.specs.Names.{is_account}
 use Rattle.stamp_types.specs.declared.reply.Reply.{Reply}
@@ -8,7 +9,7 @@ use Rattle.stamp_types.specs.Replies.{denied}
 use Rattle.moment_text.specs.IsoReader.{iso_moment}
 use Rattle.hmac_sign.specs.Signature.{IsBytes, base64_of}
 use Rattle.access_rules.specs.declared.keys.Keys.{Keys}
-use Rattle.stamp_model.specs.Runs.{Timed}
+use Rattle.stamp_model.specs.Runs.{Timed, timed, replies_to}
 use Rattle.http_front.specs.declared.end.End.{End}
 use Rattle.http_front.specs.declared.end.FrontFault.{FrontFault}
 use Rattle.http_front.specs.declared.counted.Output.TheVariants as outputs
@@ -18,46 +19,34 @@ use Rattle.http_front.specs.Inputs.{IsInterimOrNothing}
 use Rattle.http_front.specs.Outcomes.{IsOfWholeInput}
 use Rattle.reply_form.specs.FixedReplies.{out_of_memory_bytes}
 use Rattle.request_form.specs.HeadForms.{with_body}
-use Rattle.stamp_model.specs.Services.{Held, empty_held, held_reply, held_after}
 use Rattle.reply_form.specs.ReplyBytes.{reply_bytes}
 use Rattle.http_front.specs.Streams.{Item, Tail, Reads, ReadsFront, interim, tail_bytes, refusal_of}
 use Rattle.http_front.specs.Streams.Item.{Requested, Refused}
 use Rattle.stamp_main.specs.declared.ending.Ending.{Ending}
 use Rattle.stamp_main.specs.Ending.{run_ending}
 
--- what is written for an item that is answered at the moment: the interim reply if a request asks for it, and then the reply
-unfoldable pub answer_of : Held → ℕ → Item → List ℕ
-answer_of h t (Requested form body) =
-    interim form ++ reply_bytes (held_reply h (with_body form body) t) t (Some form.ask.signing.verb) form.closes
-answer_of h t (Refused denial) = reply_bytes (denied (refusal_of denial)) t denial.verb true
+-- the requests among items in this order, each answered at the moment by the account's key pair
+abbrev pub requests_of : Keys → ℕ → List Item → List Timed
+requests_of keys t [] = []
+requests_of keys t (Requested form body ∷ items) = timed keys (with_body form body) t ∷ requests_of keys t items
+requests_of keys t (Refused denial ∷ items) = requests_of keys t items
 
--- what is held after an item; a head that is refused changes nothing
-unfoldable pub held_after_item : Held → ℕ → Item → Held
-held_after_item h t (Requested form body) = held_after h (with_body form body) t
-held_after_item h t (Refused denial) = h
-
--- what is written for items in this order, each item answered at the moment
-abbrev pub output_of : Held → ℕ → List Item → List ℕ
-output_of h t [] = []
-output_of h t (item ∷ items) = answer_of h t item ++ output_of (held_after_item h t item) t items
-
--- what a replay writes for a stream that has these items and stops in this way
-unfoldable pub replay_output : Keys → ℕ → List Item → Tail → List ℕ
-replay_output keys t items tail = output_of (empty_held keys) t items ++ tail_bytes tail
-
--- the requests among items in this order, each request at the moment
-abbrev pub requests_of : ℕ → List Item → List Timed
-requests_of t [] = []
-requests_of t (Requested form body ∷ items) = record { request = with_body form body; moment = t } ∷ requests_of t items
-requests_of t (Refused denial ∷ items) = requests_of t items
-
--- what is written for items in this order at the moment, if these are the replies to the requests among them
+-- What is written for items in this order at the moment, if these are the replies to the requests among them: for a request the
+-- interim reply if the request asks for it, and then its reply.
 abbrev pub written_for : ℕ → List Item → List Reply → List ℕ
 written_for t [] replies = []
 written_for t (Requested form body ∷ items) [] = written_for t items []
 written_for t (Requested form body ∷ items) (r ∷ replies) =
     (interim form ++ reply_bytes r t (Some form.ask.signing.verb) form.closes) ++ written_for t items replies
 written_for t (Refused denial ∷ items) replies = reply_bytes (denied (refusal_of denial)) t denial.verb true ++ written_for t items replies
+
+-- what is written for items in this order at the moment: the replies of the model, if there are no containers before the first request
+abbrev pub output_of : Keys → ℕ → List Item → List ℕ
+output_of keys t items = written_for t items (replies_to finite.empty (requests_of keys t items))
+
+-- what a replay writes for a stream that has these items and stops in this way
+unfoldable pub replay_output : Keys → ℕ → List Item → Tail → List ℕ
+replay_output keys t items tail = output_of keys t items ++ tail_bytes tail
 
 -- what a replay writes for an input: what it writes for the items of the input
 abbrev pub IsOutput : Keys → ℕ → List ℕ → List ℕ → Type 0
@@ -87,7 +76,7 @@ pub record ReplayEndsOutOfMemory (keys : Keys) (moment : ℕ) (from to : Connect
   pub reads : ReadsFront received items rest
   pub begun : List ℕ
   pub begun_is : IsInterimOrNothing rest begun
-  pub output : Sends from.writer to.writer ((output_of (empty_held keys) moment items ++ begun) ++ out_of_memory_bytes)
+  pub output : Sends from.writer to.writer ((output_of keys moment items ++ begun) ++ out_of_memory_bytes)
 
 -- A write failed. What went out is a beginning of the output for items that are first in the bytes that were taken, and of what
 -- comes before the answer to the next item.
@@ -100,7 +89,7 @@ pub record ReplayBreaksOff (keys : Keys) (moment : ℕ) (from to : ConnectionSta
   pub reads : Reads received (items ++ others) tail
   pub begun : List ℕ
   pub begun_is : (begun ≡ []) ⊎ (begun ≡ next_bytes others tail)
-  pub output : Sends from.writer to.writer (output_of (empty_held keys) moment items ++ begun)
+  pub output : Sends from.writer to.writer (output_of keys moment items ++ begun)
 
 -- A write failed: it broke off the output for the items, or the last bytes of a replay for which memory ran out.
 abbrev pub ReplayEndsByWrite : Keys → ℕ → ConnectionState → ConnectionState → Type 0

@@ -1,5 +1,5 @@
 //! `stamp serve`: the connections that come to an address, served by a fixed number of workers.
-ghost use Rattle.std.specs.Prelude.{◌≡◌, ◌⊎◌, List, ◌++◌, IfOk, IsTrue, string_bytes};
+ghost use Rattle.std.specs.Prelude.{◌≡◌, ◌⊎◌, IfOk, IsTrue, string_bytes};
 ghost use Rattle.stamp_values.specs.Names.{is_account};
 ghost use Rattle.http_front.specs.Connections.{IsFresh};
 ghost use Rattle.http_front.specs.declared.counted.Output.TheVariants as outputs;

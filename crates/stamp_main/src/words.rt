@@ -1,5 +1,5 @@
 //! The words of commands, read as values.
-ghost use Rattle.std.specs.Prelude.{◌≡◌, ◌≢◌, ◌≤◌, ◌⊎◌, ℕ, List, [], ◌∷◌, IfOk, IfErr, IsTrue, Err, Ok, decimal, true};
+ghost use Rattle.std.specs.Prelude.{◌≡◌, ◌≢◌, ◌≤◌, ◌⊎◌, ℕ, List, IfOk, IfErr, IsTrue, Err, Ok, decimal, true};
 ghost use Rattle.stamp_values.specs.Names as names;
 ghost use Rattle.moment_text.specs.IsoReader.{iso_moment};
 ghost use Rattle.hmac_sign.specs.Signature.{IsBytes, base64_of};

@@ -38,7 +38,6 @@ use Rattle.stamp_types.specs.World.{Blob, Part, World, no_blob, blob_in, part_at
 use Rattle.stamp_types.proofs.Cuts.{held-cut}
 use Rattle.stamp_types.proofs.EffectLemmas.{blob_in-insert, get-remove_same}
 use Rattle.stamp_types.proofs.WorldLemmas.{blob_in-part_value, blob_value-no_blob, taken_blocks-blob_value}
-use Rattle.access_rules.specs.declared.keys.Keys.{Keys}
 use Rattle.block_blobs.specs.BlockLists.{first_missing, found_entries, source_of, sources_of, taken_from}
 use Rattle.range_rows.specs.NamedBlobs.{has_listed, target_blob}
 use Rattle.range_rows.specs.ObjectReplies.{blob_content, byte_count, date_headers, kept_lines, list_text, ranged_bytes, ranged_frame, sizes, with_content}
@@ -60,12 +59,12 @@ use Rattle.stamp_model.proofs.SeenLemmas.{alike-put_block, with_block}
 -- ---- Put Block
 
 -- after a Put Block readers see of each blob what they saw before
-pub committed-put_block : (keys : Option Keys) (w : World (List ℕ)) (put : Timed) (key : Key) (name : List ℕ) → put.request.ask.op ≡ op.PutBlock
-    → (blob_in (part_at (world_after_one keys w put) key) name).committed ≡ (blob_in (part_at w key) name).committed
-committed-put_block keys w put key name puts = sym ((alike-put_block keys w put.request put.moment puts key).committed name)
+pub committed-put_block : (w : World (List ℕ)) (put : Timed) (key : Key) (name : List ℕ) → put.request.ask.op ≡ op.PutBlock
+    → (blob_in (part_at (world_after_one w put) key) name).committed ≡ (blob_in (part_at w key) name).committed
+committed-put_block w put key name puts = sym ((alike-put_block put.keys w put.request put.moment puts key).committed name)
 
-module _ (keys : Option Keys) (w : World (List ℕ)) (key : Key) (name id : List ℕ) (put : Timed)
-    (puts : IsOn op.PutBlock key name put.request) (has_id : put.request.ask.args.block ≡ Some id) (none : (reply_to_one keys w put).rule ≡ None) where
+module _ (w : World (List ℕ)) (key : Key) (name id : List ℕ) (put : Timed)
+    (puts : IsOn op.PutBlock key name put.request) (has_id : put.request.ask.args.block ≡ Some id) (none : (reply_to_one w put).rule ≡ None) where
   abbrev block_put : PutBlock
   block_put = put_block put.request name id
 
@@ -75,13 +74,13 @@ module _ (keys : Option Keys) (w : World (List ℕ)) (key : Key) (name id : List
       ∙ (λ i. option_and_then (λ name. option_map (λ id. act.PutBlock (put_block put.request name id)) (has_id i)) (puts.blob i))
 
   -- a Put Block is one change of its container
-  pub count-put_block : (part_at (world_after_one keys w put) key).count ≡ (part_at w key).count + 1
-  count-put_block = ap (λ (p : Part (List ℕ)). p.count) (part_at-act keys w put.request put.moment key (act.PutBlock block_put) puts.container none block_act)
+  pub count-put_block : (part_at (world_after_one w put) key).count ≡ (part_at w key).count + 1
+  count-put_block = ap (λ (p : Part (List ℕ)). p.count) (part_at-act put.keys w put.request put.moment key (act.PutBlock block_put) puts.container none block_act)
 
   -- after a Put Block the uncommitted blocks of its blob are those of before, with the body under the id
-  pub uncommitted-put_block : (blob_in (part_at (world_after_one keys w put) key) name).uncommitted ≡ finite.insert (blob_in (part_at w key) name).uncommitted id put.request.body
+  pub uncommitted-put_block : (blob_in (part_at (world_after_one w put) key) name).uncommitted ≡ finite.insert (blob_in (part_at w key) name).uncommitted id put.request.body
   uncommitted-put_block =
-      ap (λ (p : Part (List ℕ)). (blob_in p name).uncommitted) (part_at-act keys w put.request put.moment key (act.PutBlock block_put) puts.container none block_act)
+      ap (λ (p : Part (List ℕ)). (blob_in p name).uncommitted) (part_at-act put.keys w put.request put.moment key (act.PutBlock block_put) puts.container none block_act)
       ∙ ap (λ (b : Blob (List ℕ)). b.uncommitted) (blob_in-insert held (part_at w key) ((part_at w key).count + 1) (part_at w key).standing name (with_block (part_at w key) block_put))
       ∙ ap (λ (bytes : List ℕ). finite.insert (blob_in (part_at w key) name).uncommitted id bytes) (held-cut put.request.body)
 
@@ -167,8 +166,8 @@ none_if (Some x) h = cc
 pub kept-list : (q : Asked) (key : Key) (name : List ℕ) → IsAsk q.ask → IsOn op.PutBlockList key name q → (kept : Kept) × (q.ask.args.kept ≡ Some kept)
 kept-list q key name fits lists = some_of q.ask.args.kept (fits.own.kept ∙ ap keeps_headers lists.op)
 
-module _ (keys : Option Keys) (w : World (List ℕ)) (key : Key) (name : List ℕ) (list : Timed)
-    (lists : IsOn op.PutBlockList key name list.request) (none : (reply_to_one keys w list).rule ≡ None) where
+module _ (w : World (List ℕ)) (key : Key) (name : List ℕ) (list : Timed)
+    (lists : IsOn op.PutBlockList key name list.request) (none : (reply_to_one w list).rule ≡ None) where
   abbrev wanted : List Wanted
   wanted = wanted_blocks list.request
 
@@ -182,7 +181,7 @@ module _ (keys : Option Keys) (w : World (List ℕ)) (key : Key) (name : List �
       (sym (ap (λ (o : Option ℕ). is_some o) (first_missing-read byte_count blob_before wanted))
       ∙ sym (ap (λ (b : Blob ℕ). is_some (first_missing b wanted)) (blob_in-part_value byte_count (part_at w key) name))
       ∙ sym (λ i. is_some (first_missing (unwrap_or (option_map (blob_in (sizes (part_at w (lists.container i)))) (lists.blob i)) no_blob) wanted))
-      ∙ no_cause keys (sizes (part_at w list.request.ask.key)) list.request list.moment (reply-unrefused keys w list.request list.moment None none) BlockIsMissing)
+      ∙ no_cause list.keys (sizes (part_at w list.request.ask.key)) list.request list.moment (reply-unrefused list.keys w list.request list.moment None none) BlockIsMissing)
 
   module _ (kept : Kept) (keeps : list.request.ask.args.kept ≡ Some kept) where
     abbrev list_put : PutBlockList
@@ -194,14 +193,14 @@ module _ (keys : Option Keys) (w : World (List ℕ)) (key : Key) (name : List �
         ∙ (λ i. option_and_then (λ name. option_map (λ kept. act.PutBlockList (put_block_list (blob_in (sizes (part_at w key)) name) list.request list.moment name kept)) (keeps i)) (lists.blob i))
 
     -- the container after an accepted Put Block List is what its act makes of the container
-    pub part-listed : part_at (world_after_one keys w list) key ≡ changed held (act.PutBlockList list_put) (part_at w key)
-    part-listed = part_at-own_act keys w list.request list.moment key (act.PutBlockList list_put) lists.container none list_act
+    pub part-listed : part_at (world_after_one w list) key ≡ changed held (act.PutBlockList list_put) (part_at w key)
+    part-listed = part_at-own_act list.keys w list.request list.moment key (act.PutBlockList list_put) lists.container none list_act
 
     abbrev pub list_there : Committed (List ℕ)
     list_there = listed_committed_part held ((part_at w key).count + 1) list_put (part_at w key)
 
     -- after a Put Block List readers see the blocks that it commits
-    pub committed-list : (blob_in (part_at (world_after_one keys w list) key) name).committed ≡ Some list_there
+    pub committed-list : (blob_in (part_at (world_after_one w list) key) name).committed ≡ Some list_there
     committed-list = ap (λ (p : Part (List ℕ)). (blob_in p name).committed) part-listed ∙ blob_in-put_list held list_put (part_at w key)
 
     -- the content of these blocks is that of the wanted blocks
@@ -213,41 +212,41 @@ module _ (keys : Option Keys) (w : World (List ℕ)) (key : Key) (name : List �
 
     -- the reply to a Get Blob after the Put Block List has the content of the wanted blocks, as the blob had it before
     pub body-list : (get : Timed) → IsOn op.GetBlob key name get.request → get.request.ask.args.range ≡ None
-        → (reply_to_one keys (world_after_one keys w list) get).rule ≡ None
-        → (reply_to_one keys (world_after_one keys w list) get).body ≡ wanted_bytes blob_before wanted
+        → (reply_to_one (world_after_one w list) get).rule ≡ None
+        → (reply_to_one (world_after_one w list) get).body ≡ wanted_bytes blob_before wanted
     body-list get gets whole free =
         ap (λ (r : Reply). r.body)
-        (reply-read keys (world_after_one keys w list) get.request get.moment free op.GetBlob key name list_there refl gets committed-list
+        (reply-read get.keys (world_after_one w list) get.request get.moment free op.GetBlob key name list_there refl gets committed-list
         ∙ ap (λ (r : Option ByteRange). with_content (ranged_frame r (committed_value byte_count list_there)) (ranged_bytes r (blob_content list_there))) whole)
         ∙ content-list
 
     -- the reply to a Get Blob Properties after the Put Block List has the length of that content
-    pub length-list : (get : Timed) → IsOn op.BlobProperties key name get.request → (reply_to_one keys (world_after_one keys w list) get).rule ≡ None
-        → (reply_to_one keys (world_after_one keys w list) get).length ≡ length (wanted_bytes blob_before wanted)
+    pub length-list : (get : Timed) → IsOn op.BlobProperties key name get.request → (reply_to_one (world_after_one w list) get).rule ≡ None
+        → (reply_to_one (world_after_one w list) get).length ≡ length (wanted_bytes blob_before wanted)
     length-list get gets free =
-        ap (λ (r : Reply). r.length) (reply-read keys (world_after_one keys w list) get.request get.moment free op.BlobProperties key name list_there refl gets committed-list)
+        ap (λ (r : Reply). r.length) (reply-read get.keys (world_after_one w list) get.request get.moment free op.BlobProperties key name list_there refl gets committed-list)
         ∙ sizes_of_bytes list_there.blocks
         ∙ ap (λ (bytes : List ℕ). length bytes) content-list
 
     -- the reply to a Put Block List has the ETag and the moment of its change
-    pub headers-list : (reply_to_one keys w list).headers ≡ header.ContentMd5 (md5 list.request.body) ∷ date_headers ((part_at w key).count + 1) list.moment
-    headers-list = ap (λ (r : Reply). r.headers) (reply-write keys w list.request list.moment none op.PutBlockList key name list_there lists committed-list)
+    pub headers-list : (reply_to_one w list).headers ≡ header.ContentMd5 (md5 list.request.body) ∷ date_headers ((part_at w key).count + 1) list.moment
+    headers-list = ap (λ (r : Reply). r.headers) (reply-write list.keys w list.request list.moment none op.PutBlockList key name list_there lists committed-list)
 
     -- the reply to a Get Blob after the Put Block List has the same ETag and the same moment
     pub headers-get_list : (get : Timed) → IsOn op.GetBlob key name get.request → get.request.ask.args.range ≡ None
-        → (reply_to_one keys (world_after_one keys w list) get).rule ≡ None
-        → (reply_to_one keys (world_after_one keys w list) get).headers
+        → (reply_to_one (world_after_one w list) get).rule ≡ None
+        → (reply_to_one (world_after_one w list) get).headers
         ≡ kept_lines (kept_fields kept None) ++ map header.Meta list.request.ask.args.metadata
         ++ header.BlobType ∷ header.AcceptRanges ∷ date_headers ((part_at w key).count + 1) list.moment
     headers-get_list get gets whole free =
         ap (λ (r : Reply). r.headers)
-        (reply-read keys (world_after_one keys w list) get.request get.moment free op.GetBlob key name list_there refl gets committed-list
+        (reply-read get.keys (world_after_one w list) get.request get.moment free op.GetBlob key name list_there refl gets committed-list
         ∙ ap (λ (r : Option ByteRange). with_content (ranged_frame r (committed_value byte_count list_there)) (ranged_bytes r (blob_content list_there))) whole)
 
 -- ---- a blob without uncommitted blocks
 
-module _ (keys : Option Keys) (w : World (List ℕ)) (key : Key) (name : List ℕ) (commit : Timed)
-    (fits : IsAsk commit.request.ask) (none : (reply_to_one keys w commit).rule ≡ None) where
+module _ (w : World (List ℕ)) (key : Key) (name : List ℕ) (commit : Timed)
+    (fits : IsAsk commit.request.ask) (none : (reply_to_one w commit).rule ≡ None) where
   abbrev uncommitted_in : Part (List ℕ) → FinMap name_cmp (List ℕ)
   uncommitted_in p = (blob_in p name).uncommitted
 
@@ -259,26 +258,26 @@ module _ (keys : Option Keys) (w : World (List ℕ)) (key : Key) (name : List �
   inserted_last c = ap (λ (b : Blob (List ℕ)). b.uncommitted) (blob_in-insert held (part_at w key) ((part_at w key).count + 1) (part_at w key).standing name (all_committed c))
 
   -- after a Put Blob, a Put Block List or a Delete Blob that is accepted, its blob has no uncommitted block
-  pub uncommitted-taken : (o : Op) → takes_blocks o ≡ true → IsOn o key name commit.request → uncommitted_in (part_at (world_after_one keys w commit) key) ≡ finite.empty
+  pub uncommitted-taken : (o : Op) → takes_blocks o ≡ true → IsOn o key name commit.request → uncommitted_in (part_at (world_after_one w commit) key) ≡ finite.empty
   uncommitted-taken op.PutBlob takes on =
       let keeps = kept-put commit.request key name fits on in
       let put : PutBlob = put_blob commit.request commit.moment name keeps.0 in
-      ap uncommitted_in (part_at-act keys w commit.request commit.moment key (act.PutBlob put) on.container none (put_act keys w key name keeps.0 commit on keeps.1 none))
+      ap uncommitted_in (part_at-act commit.keys w commit.request commit.moment key (act.PutBlob put) on.container none (put_act w key name keeps.0 commit on keeps.1 none))
       ∙ inserted_last (put_committed held ((part_at w key).count + 1) put)
   uncommitted-taken op.PutBlockList takes on =
       let keeps = kept-list commit.request key name fits on in
-      ap uncommitted_in (part-listed keys w key name commit on none keeps.0 keeps.1)
-      ∙ inserted_last (list_there keys w key name commit on none keeps.0 keeps.1)
+      ap uncommitted_in (part-listed w key name commit on none keeps.0 keeps.1)
+      ∙ inserted_last (list_there w key name commit on none keeps.0 keeps.1)
   uncommitted-taken op.DeleteBlob takes on =
-      ap uncommitted_in (part-deleted keys w key name commit on none)
+      ap uncommitted_in (part-deleted w key name commit on none)
       ∙ ap (λ (o : Option (Blob (List ℕ))). (unwrap_or o no_blob).uncommitted) (get-remove_same (part_at w key).blobs name)
   uncommitted-taken other takes on = cc
 
 -- the reply to a Get Block List has the block lists of the blob in its body
-pub body-block_list : (keys : Option Keys) (v : World (List ℕ)) (key : Key) (name : List ℕ) (list : Timed) → IsOn op.GetBlockList key name list.request → (reply_to_one keys v list).rule ≡ None
-    → (reply_to_one keys v list).body ≡ list_text list.request.ask.args.kinds (blob_in (sizes (part_at v key)) name)
-body-block_list keys v key name list lists free =
-    ap (λ (r : Reply). r.body) (reply-read_in keys v list.request list.moment free op.GetBlockList key refl (record { op = lists.op; container = lists.container }))
+pub body-block_list : (v : World (List ℕ)) (key : Key) (name : List ℕ) (list : Timed) → IsOn op.GetBlockList key name list.request → (reply_to_one v list).rule ≡ None
+    → (reply_to_one v list).body ≡ list_text list.request.ask.args.kinds (blob_in (sizes (part_at v key)) name)
+body-block_list v key name list lists free =
+    ap (λ (r : Reply). r.body) (reply-read_in list.keys v list.request list.moment free op.GetBlockList key refl (record { op = lists.op; container = lists.container }))
     ∙ append-nil (list_text list.request.ask.args.kinds (target_blob (sizes (part_at v key)) list.request.ask))
     ∙ ap (λ (blob : Option (List ℕ)). list_text list.request.ask.args.kinds (unwrap_or (option_map (blob_in (sizes (part_at v key))) blob) no_blob)) lists.blob
 
@@ -305,14 +304,14 @@ object_refusal-list p q name is named exists none =
     (cond (makes i) (Some ContainerExists) (cond (lacks i) (Some BlobIsAbsent) (find (cause_holds (sizes p) q) (drop 3 causes)))))
 
 -- after a Delete Blob, a Get Block List of the blob that permission admits is refused by O3
-pub reply-deleted_list : (keys : Option Keys) (w : World (List ℕ)) (key : Key) (name : List ℕ) (delete list : Timed)
-    → IsOn op.DeleteBlob key name delete.request → (reply_to_one keys w delete).rule ≡ None → IsOn op.GetBlockList key name list.request
-    → IsAdmitted keys (world_after_one keys w delete) list → reply_to_one keys (world_after_one keys w delete) list ≡ denied (cause_refusal BlobIsAbsent)
-reply-deleted_list keys w key name delete list deletes none lists admits =
-    let v = world_after_one keys w delete in
-    let gone = part-deleted keys w key name delete deletes none in
-    reply-refused keys v list.request list.moment (cause_refusal BlobIsAbsent) admits
+pub reply-deleted_list : (w : World (List ℕ)) (key : Key) (name : List ℕ) (delete list : Timed)
+    → IsOn op.DeleteBlob key name delete.request → (reply_to_one w delete).rule ≡ None → IsOn op.GetBlockList key name list.request
+    → IsAdmitted (world_after_one w delete) list → reply_to_one (world_after_one w delete) list ≡ denied (cause_refusal BlobIsAbsent)
+reply-deleted_list w key name delete list deletes none lists admits =
+    let v = world_after_one w delete in
+    let gone = part-deleted w key name delete deletes none in
+    reply-refused list.keys v list.request list.moment (cause_refusal BlobIsAbsent) admits
     (object_refusal-list (part_at v list.request.ask.key) list.request name lists.op lists.blob
-    (ap (λ (k : Key). is_some (part_at v k).standing) lists.container ∙ ap (λ (p : Part (List ℕ)). is_some p.standing) gone ∙ container_before keys w key name delete deletes none)
+    (ap (λ (k : Key). is_some (part_at v k).standing) lists.container ∙ ap (λ (p : Part (List ℕ)). is_some p.standing) gone ∙ container_before w key name delete deletes none)
     (ap (λ (k : Key). blob_in (part_at v k) name) lists.container ∙ ap (λ (p : Part (List ℕ)). blob_in p name) gone
     ∙ ap (λ (o : Option (Blob (List ℕ))). unwrap_or o no_blob) (get-remove_same (part_at w key).blobs name)))

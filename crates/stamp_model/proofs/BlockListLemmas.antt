@@ -26,13 +26,12 @@ use Rattle.stamp_types.specs.declared.committed.Committed.{Committed}
 use Rattle.stamp_types.specs.Requests.{IsAsk}
 use Rattle.stamp_types.specs.World.{Blob, World, blob_in, block_of, block_value, blob_value, committed_value, content_from, part_at, taken_blocks}
 use Rattle.stamp_types.proofs.WorldLemmas.{blob_in-part_value, equal_if_is_eq}
-use Rattle.access_rules.specs.declared.keys.Keys.{Keys}
 use Rattle.block_blobs.specs.BlockLists.{found_entries, source_of, sources_of, taken_from}
 use Rattle.body_forms.specs.WrittenLists.{ListedBlock, block_list_text}
 use Rattle.range_rows.specs.ObjectReplies.{byte_count, if_shown, list_text, listed_committed, listed_entry, listed_uncommitted, shown_blocks, shows_committed, shows_uncommitted}
 use Rattle.range_rows.specs.Readings.{wanted_blocks}
 use Rattle.stamp_model.specs.Blocks.{IsListed, ListsUncommitted, wanted_listed}
-use Rattle.stamp_model.specs.Runs.{Timed, IsOn, reply_to_one, world_after_one}
+use Rattle.stamp_model.specs.Runs.{Timed, IsOn, world_after_one, reply_to_one}
 use Rattle.stamp_model.proofs.BlockLemmas.{body-block_list, committed-list, content-source, first_missing-accepted, found_entries-read, kept-list, list_there, uncommitted-taken}
 use Rattle.stamp_model.proofs.WrittenLemmas.{committed-put, kept-put, put_there}
 
@@ -101,16 +100,16 @@ text_without k b c same gone =
         ap (λ (m : FinMap name_cmp ℕ). map listed_entry (entries m)) (map_values-empty names_total names_exact byte_count)
         ∙ ap (map listed_entry) (no_element (entries (finite.empty {X = ℕ} {R = name_cmp})) (sym (len-entries (finite.empty {X = ℕ} {R = name_cmp})) ∙ len-empty name_cmp ℕ))
 
-module _ (keys : Option Keys) (v : World (List ℕ)) (key : Key) (name : List ℕ) (read : Timed) (reads : IsOn op.GetBlockList key name read.request) (free : (reply_to_one keys v read).rule ≡ None) where
+module _ (v : World (List ℕ)) (key : Key) (name : List ℕ) (read : Timed) (reads : IsOn op.GetBlockList key name read.request) (free : (reply_to_one v read).rule ≡ None) where
   -- the body of the reply to a Get Block List
-  pub body-parts : (reply_to_one keys v read).body ≡ list_text read.request.ask.args.kinds (blob_value byte_count (blob_in (part_at v key) name))
+  pub body-parts : (reply_to_one v read).body ≡ list_text read.request.ask.args.kinds (blob_value byte_count (blob_in (part_at v key) name))
   body-parts =
-      body-block_list keys v key name read reads free
+      body-block_list v key name read reads free
       ∙ ap (λ (b : Blob ℕ). list_text read.request.ask.args.kinds b) (blob_in-part_value byte_count (part_at v key) name)
 
-module _ (keys : Option Keys) (w : World (List ℕ)) (key : Key) (name : List ℕ) (list : Timed) (fits : IsAsk list.request.ask)
-    (lists : IsOn op.PutBlockList key name list.request) (none : (reply_to_one keys w list).rule ≡ None)
-    (read : Timed) (reads : IsOn op.GetBlockList key name read.request) (free : (reply_to_one keys (world_after_one keys w list) read).rule ≡ None) where
+module _ (w : World (List ℕ)) (key : Key) (name : List ℕ) (list : Timed) (fits : IsAsk list.request.ask)
+    (lists : IsOn op.PutBlockList key name list.request) (none : (reply_to_one w list).rule ≡ None)
+    (read : Timed) (reads : IsOn op.GetBlockList key name read.request) (free : (reply_to_one (world_after_one w list) read).rule ≡ None) where
   abbrev kinds_read : Option BlockKinds
   kinds_read = read.request.ask.args.kinds
 
@@ -123,32 +122,32 @@ module _ (keys : Option Keys) (w : World (List ℕ)) (key : Key) (name : List �
   found_here : AllByRecursion (λ w. is_none (source_of before w) ≡ false) wanted_here
   found_here =
       all_fail (λ w. is_none (source_of before w)) 0 wanted_here
-      (sym (position_from-zero (λ w. is_none (source_of before w)) wanted_here) ∙ first_missing-accepted keys w key name list lists none)
+      (sym (position_from-zero (λ w. is_none (source_of before w)) wanted_here) ∙ first_missing-accepted w key name list lists none)
 
   -- after a Put Block List, a Get Block List shows the wanted blocks as committed, and no uncommitted block
-  pub body-listed : (reply_to_one keys (world_after_one keys w list) read).body
+  pub body-listed : (reply_to_one (world_after_one w list) read).body
       ≡ block_list_text (if_shown (shows_committed kinds_read) (map (wanted_listed before) wanted_here)) (if_shown (shows_uncommitted kinds_read) [])
   body-listed =
       let keeps = kept-list list.request key name fits lists in
-      body-parts keys (world_after_one keys w list) key name read reads free
-      ∙ text_without kinds_read (blob_in (part_at (world_after_one keys w list) key) name) (Some (list_there keys w key name list lists none keeps.0 keeps.1))
-      (committed-list keys w key name list lists none keeps.0 keeps.1) (uncommitted-taken keys w key name list fits none op.PutBlockList refl lists)
+      body-parts (world_after_one w list) key name read reads free
+      ∙ text_without kinds_read (blob_in (part_at (world_after_one w list) key) name) (Some (list_there w key name list lists none keeps.0 keeps.1))
+      (committed-list w key name list lists none keeps.0 keeps.1) (uncommitted-taken w key name list fits none op.PutBlockList refl lists)
       ∙ ap (λ (us : List ListedBlock). block_list_text (if_shown (shows_committed kinds_read) us) (if_shown (shows_uncommitted kinds_read) []))
       (ap (λ (b : Blob ℕ). shown before (taken_blocks before (found_entries b wanted_here))) (blob_in-part_value byte_count (part_at w key) name)
       ∙ ap (λ (ts : List Taken). shown before (taken_blocks before ts)) (found_entries-read byte_count before wanted_here)
       ∙ shown-taken before wanted_here found_here)
 
-module _ (keys : Option Keys) (w : World (List ℕ)) (key : Key) (name : List ℕ) (put : Timed) (fits : IsAsk put.request.ask)
-    (puts : IsOn op.PutBlob key name put.request) (none : (reply_to_one keys w put).rule ≡ None)
-    (read : Timed) (reads : IsOn op.GetBlockList key name read.request) (free : (reply_to_one keys (world_after_one keys w put) read).rule ≡ None) where
+module _ (w : World (List ℕ)) (key : Key) (name : List ℕ) (put : Timed) (fits : IsAsk put.request.ask)
+    (puts : IsOn op.PutBlob key name put.request) (none : (reply_to_one w put).rule ≡ None)
+    (read : Timed) (reads : IsOn op.GetBlockList key name read.request) (free : (reply_to_one (world_after_one w put) read).rule ≡ None) where
   -- after a Put Blob, a Get Block List shows no block: the block of a blob that was put whole has no id
-  pub body-put_whole : (reply_to_one keys (world_after_one keys w put) read).body
+  pub body-put_whole : (reply_to_one (world_after_one w put) read).body
       ≡ block_list_text (if_shown (shows_committed read.request.ask.args.kinds) []) (if_shown (shows_uncommitted read.request.ask.args.kinds) [])
   body-put_whole =
       let keeps = kept-put put.request key name fits puts in
-      body-parts keys (world_after_one keys w put) key name read reads free
-      ∙ text_without read.request.ask.args.kinds (blob_in (part_at (world_after_one keys w put) key) name) (Some (put_there keys w key name keeps.0 put puts keeps.1 none))
-      (committed-put keys w key name keeps.0 put puts keeps.1 none) (uncommitted-taken keys w key name put fits none op.PutBlob refl puts)
+      body-parts (world_after_one w put) key name read reads free
+      ∙ text_without read.request.ask.args.kinds (blob_in (part_at (world_after_one w put) key) name) (Some (put_there w key name keeps.0 put puts keeps.1 none))
+      (committed-put w key name keeps.0 put puts keeps.1 none) (uncommitted-taken w key name put fits none op.PutBlob refl puts)
 
 -- ---- uncommitted blocks
 
@@ -260,13 +259,13 @@ module _ (b : Blob (List ℕ)) where
         ∙ found-entry at.0 at.1 (u.id, u.len) (ap (λ (l : List (List ℕ × ℕ)). is_sorted name_cmp l) (sym at.2) ∙ sorted));
   }
 
-module _ (keys : Option Keys) (v : World (List ℕ)) (key : Key) (name : List ℕ) (read : Timed) (reads : IsOn op.GetBlockList key name read.request) (free : (reply_to_one keys v read).rule ≡ None) where
+module _ (v : World (List ℕ)) (key : Key) (name : List ℕ) (read : Timed) (reads : IsOn op.GetBlockList key name read.request) (free : (reply_to_one v read).rule ≡ None) where
   -- a Get Block List shows the uncommitted blocks as they are
   pub body-uncommitted : (committed : List ListedBlock) × (us : List ListedBlock) × ListsUncommitted (blob_in (part_at v key) name) us
-      × ((reply_to_one keys v read).body ≡ block_list_text (if_shown (shows_committed read.request.ask.args.kinds) committed) (if_shown (shows_uncommitted read.request.ask.args.kinds) us))
+      × ((reply_to_one v read).body ≡ block_list_text (if_shown (shows_committed read.request.ask.args.kinds) committed) (if_shown (shows_uncommitted read.request.ask.args.kinds) us))
   body-uncommitted = (
     listed_committed (option_map (committed_value byte_count) (blob_in (part_at v key) name).committed),
     listed_uncommitted (map_values byte_count (blob_in (part_at v key) name).uncommitted),
     lists_uncommitted (blob_in (part_at v key) name),
-    body-parts keys v key name read reads free,
+    body-parts v key name read reads free,
   )

@@ -31,9 +31,9 @@ use Rattle.range_rows.proofs.AnswerLemmas.{named_blob-part_value}
 use Rattle.stamp_model.specs.Conditions.{MeetsConditions, MeetsIfMatch, MeetsIfNoneMatch, without_conditions}
 use Rattle.stamp_model.specs.Effects.{effect, unless_refused, world_after}
 use Rattle.stamp_model.specs.Histories.{IsAccepted, pair_of, replay}
-use Rattle.stamp_model.specs.JudgedRequests.{Judged, reply_to_judged, world_after_run}
 use Rattle.stamp_model.specs.Refusals.{refusal}
 use Rattle.stamp_model.specs.Responses.{answer_of, reply, response}
+use Rattle.stamp_model.specs.Runs.{Timed, world_after_all, reply_to_one}
 use Rattle.stamp_model.proofs.ArgumentLemmas.{free-with_args, no_cause, refusal-with_args}
 use Rattle.stamp_model.proofs.EffectLemmas.{effect-refused, on_key}
 use Rattle.stamp_model.proofs.EtagLemmas.{one_state-replayed, one_state-run}
@@ -210,18 +210,18 @@ seen-accepted pairs key front middle e name seen fits on asks at_first new =
     (ap (λ (history : List Past). (blob_in (replay pairs history) name).committed) (append-nil (front ++ middle)) ∙ at_last) (sym found.2)
 
 -- the same of a request that is answered after requests in turn
-pub seen-answered : (w : World (List ℕ)) (front middle : List Judged) (r : Judged) (name : List ℕ) (seen : Committed (List ℕ))
+pub seen-answered : (w : World (List ℕ)) (front middle : List Timed) (r : Timed) (name : List ℕ) (seen : Committed (List ℕ))
     → EtagsAtMost (part_at w r.request.ask.key).count (part_at w r.request.ask.key) → IsAsk r.request.ask → r.request.ask.blob ≡ Some name
-    → r.request.ask.args.if_match ≡ Some (condition.Count seen.etag) → (blob_in (part_at (world_after_run w front) r.request.ask.key) name).committed ≡ Some seen
-    → (reply_to_judged (world_after_run w (front ++ middle)) r).rule ≡ None → (blob_in (part_at (world_after_run w (front ++ middle)) r.request.ask.key) name).committed ≡ Some seen
+    → r.request.ask.args.if_match ≡ Some (condition.Count seen.etag) → (blob_in (part_at (world_after_all w front) r.request.ask.key) name).committed ≡ Some seen
+    → (reply_to_one (world_after_all w (front ++ middle)) r).rule ≡ None → (blob_in (part_at (world_after_all w (front ++ middle)) r.request.ask.key) name).committed ≡ Some seen
 seen-answered w front middle r name seen within fits on asks at_first none =
     let key : Key = r.request.ask.key in
-    let v : World (List ℕ) = world_after_run w (front ++ middle) in
+    let v : World (List ℕ) = world_after_all w (front ++ middle) in
     let found = some_with (named_blob (part_at v key) r.request.ask) seen.etag ((met-answered r.keys v r.request r.moment fits r.bound none).if_match.has_etag seen.etag asks) in
     let at_last : (blob_in (part_at v key) name).committed ≡ Some found.0 =
     sym (ap (λ (blob : Option (List ℕ)). option_and_then (λ name. (blob_in (part_at v key) name).committed) blob) on) ∙ found.1 in
     one_state-run w key within front middle [] name seen found.0 at_first
-    (ap (λ (rs : List Judged). (blob_in (part_at (world_after_run w rs) key) name).committed) (append-nil (front ++ middle)) ∙ at_last) (sym found.2)
+    (ap (λ (rs : List Timed). (blob_in (part_at (world_after_all w rs) key) name).committed) (append-nil (front ++ middle)) ∙ at_last) (sym found.2)
 
 -- ---- a request without its conditions
 

@@ -26,11 +26,12 @@ use Rattle.range_rows.specs.RequestChanges.{act_by, change_of, part_after}
 use Rattle.stamp_model.specs.Effects.{effect}
 use Rattle.stamp_model.specs.Etags.{IsSeenBeforeOrNewer, WasSeenOrIsNewer}
 use Rattle.stamp_model.specs.Histories.{replay}
-use Rattle.stamp_model.specs.JudgedRequests.{Judged, accepted_at, judged_entry, part_after_judged, part_after_run, world_after_run}
 use Rattle.stamp_model.specs.Refusals.{refusal}
+use Rattle.stamp_model.specs.AcceptedRequests.{accepted_at, timed_by}
+use Rattle.stamp_model.specs.Runs.{Timed, part_after_one, part_after_all, world_after_all}
 use Rattle.stamp_model.proofs.CountLemmas.{KeepsBound, KeepsBound-after, KeepsBound-same, said_of_act_by}
 use Rattle.stamp_model.proofs.EffectLemmas.{related-after_act, related-unless_refused, related-effect}
-use Rattle.stamp_model.proofs.JudgedLemmas.{accepted_at-append, part_at-run, replay_from-judged}
+use Rattle.stamp_model.proofs.AcceptedLemmas.{accepted_at-append, part_at-run, replay_from-timed}
 
 -- ---- one change
 
@@ -118,19 +119,19 @@ module _ (name : List ℕ) where
   later-effect keys w q t = related-effect held (IsLater name) IsLater-same byte_count keys w q t (later_own q t)
 
   -- a container is later after requests on it in turn
-  pub later-run : (start : Part (List ℕ)) (rs : List Judged) → IsLater name start (part_after_run start rs)
+  pub later-run : (start : Part (List ℕ)) (rs : List Timed) → IsLater name start (part_after_all start rs)
   later-run start [] = IsLater-same start
   later-run start (r ∷ rest) =
-      IsLater-then start (part_after_judged start r) (part_after_run (part_after_judged start r) rest)
+      IsLater-then start (part_after_one start r) (part_after_all (part_after_one start r) rest)
       (related-unless_refused held (IsLater name) IsLater-same start (refusal r.keys (sizes start) r.request r.moment) (change_of (sizes start) r.request r.moment) (later_own r.request r.moment (sizes start) start))
-      (later-run (part_after_judged start r) rest)
+      (later-run (part_after_one start r) rest)
 
 -- ---- no ETag is over the count
 
-etags-run : (start : Part (List ℕ)) (rs : List Judged) → KeepsBound start (part_after_run start rs)
+etags-run : (start : Part (List ℕ)) (rs : List Timed) → KeepsBound start (part_after_all start rs)
 etags-run start [] within = within
 etags-run start (r ∷ rest) within =
-    etags-run (part_after_judged start r) rest
+    etags-run (part_after_one start r) rest
     (related-unless_refused held KeepsBound KeepsBound-same start (refusal r.keys (sizes start) r.request r.moment) (change_of (sizes start) r.request r.moment) (KeepsBound-after r.request r.moment (sizes start) start) within)
 
 EtagsAtMost-no_part : EtagsAtMost {C = List ℕ} 0 no_part
@@ -174,48 +175,48 @@ one_state keys w q t k name a c within before after same =
     cc
 
 -- the same, along requests on the container in turn
-one_state-part : (p : Part (List ℕ)) → EtagsAtMost p.count p → (front middle rest : List Judged) (name : List ℕ) (a c : Committed (List ℕ)) → (blob_in (part_after_run p front) name).committed ≡ Some a
-    → (blob_in (part_after_run p (front ++ middle ++ rest)) name).committed ≡ Some c → a.etag ≡ c.etag → (blob_in (part_after_run p (front ++ middle)) name).committed ≡ Some a
+one_state-part : (p : Part (List ℕ)) → EtagsAtMost p.count p → (front middle rest : List Timed) (name : List ℕ) (a c : Committed (List ℕ)) → (blob_in (part_after_all p front) name).committed ≡ Some a
+    → (blob_in (part_after_all p (front ++ middle ++ rest)) name).committed ≡ Some c → a.etag ≡ c.etag → (blob_in (part_after_all p (front ++ middle)) name).committed ≡ Some a
 one_state-part p within front middle rest name a c at_first at_last same =
-    let s : Part (List ℕ) = part_after_run p front in
-    let m : Part (List ℕ) = part_after_run s middle in
-    let to_middle : part_after_run p (front ++ middle) ≡ m = fold-append part_after_judged p front middle in
-    let to_last : part_after_run p (front ++ middle ++ rest) ≡ part_after_run m rest =
-    fold-append part_after_judged p (front ++ middle) rest ∙ ap (λ (x : Part (List ℕ)). part_after_run x rest) to_middle in
+    let s : Part (List ℕ) = part_after_all p front in
+    let m : Part (List ℕ) = part_after_all s middle in
+    let to_middle : part_after_all p (front ++ middle) ≡ m = fold-append part_after_one p front middle in
+    let to_last : part_after_all p (front ++ middle ++ rest) ≡ part_after_all m rest =
+    fold-append part_after_one p (front ++ middle) rest ∙ ap (λ (x : Part (List ℕ)). part_after_all x rest) to_middle in
     ap (λ (x : Part (List ℕ)). (blob_in x name).committed) to_middle
-    ∙ middle_first name s m (part_after_run m rest) (etags-run p front within) (later-run name s middle) (later-run name m rest) a c at_first
+    ∙ middle_first name s m (part_after_all m rest) (etags-run p front within) (later-run name s middle) (later-run name m rest) a c at_first
     (ap (λ (x : Part (List ℕ)). (blob_in x name).committed) (sym to_last) ∙ at_last) same
 
 -- the same, along the entries of a history
 pub one_state-replayed : (pairs : List Keys) (front middle rest : List Past) (name : List ℕ) (a c : Committed (List ℕ)) → (blob_in (replay pairs front) name).committed ≡ Some a
     → (blob_in (replay pairs (front ++ middle ++ rest)) name).committed ≡ Some c → a.etag ≡ c.etag → (blob_in (replay pairs (front ++ middle)) name).committed ≡ Some a
 one_state-replayed pairs front middle rest name a c at_first at_last same =
-    let entry : Past → Judged = judged_entry pairs in
-    let to_first : replay pairs front ≡ part_after_run no_part (map entry front) = replay_from-judged pairs front no_part in
-    let to_middle : replay pairs (front ++ middle) ≡ part_after_run no_part (map entry front ++ map entry middle) =
-    replay_from-judged pairs (front ++ middle) no_part ∙ ap (part_after_run no_part) (map-append entry front middle) in
-    let to_last : replay pairs (front ++ middle ++ rest) ≡ part_after_run no_part (map entry front ++ map entry middle ++ map entry rest) =
-    replay_from-judged pairs (front ++ middle ++ rest) no_part
-    ∙ ap (part_after_run no_part) (map-append entry (front ++ middle) rest ∙ ap (λ (l : List Judged). l ++ map entry rest) (map-append entry front middle)) in
+    let entry : Past → Timed = timed_by pairs in
+    let to_first : replay pairs front ≡ part_after_all no_part (map entry front) = replay_from-timed pairs front no_part in
+    let to_middle : replay pairs (front ++ middle) ≡ part_after_all no_part (map entry front ++ map entry middle) =
+    replay_from-timed pairs (front ++ middle) no_part ∙ ap (part_after_all no_part) (map-append entry front middle) in
+    let to_last : replay pairs (front ++ middle ++ rest) ≡ part_after_all no_part (map entry front ++ map entry middle ++ map entry rest) =
+    replay_from-timed pairs (front ++ middle ++ rest) no_part
+    ∙ ap (part_after_all no_part) (map-append entry (front ++ middle) rest ∙ ap (λ (l : List Timed). l ++ map entry rest) (map-append entry front middle)) in
     ap (λ (x : Part (List ℕ)). (blob_in x name).committed) to_middle
     ∙ one_state-part no_part EtagsAtMost-no_part (map entry front) (map entry middle) (map entry rest) name a c
     (ap (λ (x : Part (List ℕ)). (blob_in x name).committed) (sym to_first) ∙ at_first)
     (ap (λ (x : Part (List ℕ)). (blob_in x name).committed) (sym to_last) ∙ at_last) same
 
 -- the same, along requests in turn, which may be on any containers
-pub one_state-run : (w : World (List ℕ)) (key : Key) → EtagsAtMost (part_at w key).count (part_at w key) → (front middle rest : List Judged) (name : List ℕ) (a c : Committed (List ℕ))
-    → (blob_in (part_at (world_after_run w front) key) name).committed ≡ Some a → (blob_in (part_at (world_after_run w (front ++ middle ++ rest)) key) name).committed ≡ Some c
-    → a.etag ≡ c.etag → (blob_in (part_at (world_after_run w (front ++ middle)) key) name).committed ≡ Some a
+pub one_state-run : (w : World (List ℕ)) (key : Key) → EtagsAtMost (part_at w key).count (part_at w key) → (front middle rest : List Timed) (name : List ℕ) (a c : Committed (List ℕ))
+    → (blob_in (part_at (world_after_all w front) key) name).committed ≡ Some a → (blob_in (part_at (world_after_all w (front ++ middle ++ rest)) key) name).committed ≡ Some c
+    → a.etag ≡ c.etag → (blob_in (part_at (world_after_all w (front ++ middle)) key) name).committed ≡ Some a
 one_state-run w key within front middle rest name a c at_first at_last same =
     let p : Part (List ℕ) = part_at w key in
-    let early : List Judged = accepted_at key w front in
-    let between : List Judged = accepted_at key (world_after_run w front) middle in
-    let late : List Judged = accepted_at key (world_after_run w (front ++ middle)) rest in
-    let to_middle : part_at (world_after_run w (front ++ middle)) key ≡ part_after_run p (early ++ between) =
-    part_at-run key (front ++ middle) w ∙ ap (part_after_run p) (accepted_at-append key front middle w) in
-    let to_last : part_at (world_after_run w (front ++ middle ++ rest)) key ≡ part_after_run p (early ++ between ++ late) =
+    let early : List Timed = accepted_at key w front in
+    let between : List Timed = accepted_at key (world_after_all w front) middle in
+    let late : List Timed = accepted_at key (world_after_all w (front ++ middle)) rest in
+    let to_middle : part_at (world_after_all w (front ++ middle)) key ≡ part_after_all p (early ++ between) =
+    part_at-run key (front ++ middle) w ∙ ap (part_after_all p) (accepted_at-append key front middle w) in
+    let to_last : part_at (world_after_all w (front ++ middle ++ rest)) key ≡ part_after_all p (early ++ between ++ late) =
     part_at-run key (front ++ middle ++ rest) w
-    ∙ ap (part_after_run p) (accepted_at-append key (front ++ middle) rest w ∙ ap (λ (l : List Judged). l ++ late) (accepted_at-append key front middle w)) in
+    ∙ ap (part_after_all p) (accepted_at-append key (front ++ middle) rest w ∙ ap (λ (l : List Timed). l ++ late) (accepted_at-append key front middle w)) in
     ap (λ (x : Part (List ℕ)). (blob_in x name).committed) to_middle
     ∙ one_state-part p within early between late name a c
     (ap (λ (x : Part (List ℕ)). (blob_in x name).committed) (sym (part_at-run key front w)) ∙ at_first)

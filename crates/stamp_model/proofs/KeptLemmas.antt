@@ -26,8 +26,7 @@ use Rattle.stamp_model.specs.Blocks.{takes_blocks}
 use Rattle.stamp_model.specs.Effects.{effect}
 use Rattle.stamp_model.specs.Histories.{makes_or_deletes}
 use Rattle.stamp_model.specs.Kept.{GivesNoContent, LeavesBlob, LeavesContent, LeavesSeen, alters_blob, gives_content, writes_blob}
-use Rattle.stamp_model.specs.JudgedRequests.{Judged, world_after_judged, world_after_run}
-use Rattle.stamp_model.specs.Runs.{Timed, world_after_all, world_after_one}
+use Rattle.stamp_model.specs.Runs.{Timed, world_after_one, world_after_all}
 use Rattle.stamp_model.proofs.EffectLemmas.{part_at-effect_others, related-after_act, related-effect, said_of_block, said_of_named}
 use Rattle.stamp_model.proofs.ReplyLemmas.{unmapped}
 use Rattle.stamp_model.proofs.SeenLemmas.{block_unseen}
@@ -217,41 +216,22 @@ module _ (keys : Option Keys) (w : World (List ℕ)) (q : Asked) (t : ℕ) (k : 
 
 -- ---- what requests in turn leave of a blob
 
-module _ (keys : Option Keys) (key : Key) (holds : Asked → Type 0) where
+module _ (key : Key) (holds : Asked → Type 0) where
   abbrev AllHold : List Timed → Type 0
   AllHold rs = All (λ r. holds r.request) rs
 
   -- what each request leaves is left by all of them
   pub left-in_turn : {X : Type 0} (said : Part (List ℕ) → X)
-      → ((w : World (List ℕ)) (r : Timed) → holds r.request → said (part_at (world_after_one keys w r) key) ≡ said (part_at w key))
-      → (w : World (List ℕ)) (rs : List Timed) → AllHold rs → said (part_at (world_after_all keys w rs) key) ≡ said (part_at w key)
+      → ((w : World (List ℕ)) (r : Timed) → holds r.request → said (part_at (world_after_one w r) key) ≡ said (part_at w key))
+      → (w : World (List ℕ)) (rs : List Timed) → AllHold rs → said (part_at (world_after_all w rs) key) ≡ said (part_at w key)
   left-in_turn said each w [] all = refl
   left-in_turn said each w (r ∷ rs) all =
-      left-in_turn said each (world_after_one keys w r) rs (All-tail (λ r. holds r.request) r rs all) ∙ each w r (All-head (λ r. holds r.request) r rs all)
+      left-in_turn said each (world_after_one w r) rs (All-tail (λ r. holds r.request) r rs all) ∙ each w r (All-head (λ r. holds r.request) r rs all)
 
   -- what is so after each request, if it was so before, is so after all of them
   pub so-in_turn : (said : Part (List ℕ) → Type 0)
-      → ((w : World (List ℕ)) (r : Timed) → holds r.request → said (part_at w key) → said (part_at (world_after_one keys w r) key))
-      → (w : World (List ℕ)) (rs : List Timed) → AllHold rs → said (part_at w key) → said (part_at (world_after_all keys w rs) key)
+      → ((w : World (List ℕ)) (r : Timed) → holds r.request → said (part_at w key) → said (part_at (world_after_one w r) key))
+      → (w : World (List ℕ)) (rs : List Timed) → AllHold rs → said (part_at w key) → said (part_at (world_after_all w rs) key)
   so-in_turn said each w [] all so = so
   so-in_turn said each w (r ∷ rs) all so =
-      so-in_turn said each (world_after_one keys w r) rs (All-tail (λ r. holds r.request) r rs all) (each w r (All-head (λ r. holds r.request) r rs all) so)
-
--- the same of requests that are judged each by its own key pair
-module _ (key : Key) (holds : Asked → Type 0) where
-  abbrev AllHoldIn : List Judged → Type 0
-  AllHoldIn rs = All (λ r. holds r.request) rs
-
-  pub left-in_run : {X : Type 0} (said : Part (List ℕ) → X)
-      → ((w : World (List ℕ)) (r : Judged) → holds r.request → said (part_at (world_after_judged w r) key) ≡ said (part_at w key))
-      → (w : World (List ℕ)) (rs : List Judged) → AllHoldIn rs → said (part_at (world_after_run w rs) key) ≡ said (part_at w key)
-  left-in_run said each w [] all = refl
-  left-in_run said each w (r ∷ rs) all =
-      left-in_run said each (world_after_judged w r) rs (All-tail (λ r. holds r.request) r rs all) ∙ each w r (All-head (λ r. holds r.request) r rs all)
-
-  pub so-in_run : (said : Part (List ℕ) → Type 0)
-      → ((w : World (List ℕ)) (r : Judged) → holds r.request → said (part_at w key) → said (part_at (world_after_judged w r) key))
-      → (w : World (List ℕ)) (rs : List Judged) → AllHoldIn rs → said (part_at w key) → said (part_at (world_after_run w rs) key)
-  so-in_run said each w [] all so = so
-  so-in_run said each w (r ∷ rs) all so =
-      so-in_run said each (world_after_judged w r) rs (All-tail (λ r. holds r.request) r rs all) (each w r (All-head (λ r. holds r.request) r rs all) so)
+      so-in_turn said each (world_after_one w r) rs (All-tail (λ r. holds r.request) r rs all) (each w r (All-head (λ r. holds r.request) r rs all) so)

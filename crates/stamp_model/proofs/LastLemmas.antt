@@ -35,11 +35,10 @@ use Rattle.range_rows.specs.Readings.{wanted_blocks}
 use Rattle.range_rows.specs.RequestChanges.{put_props}
 use Rattle.stamp_model.specs.Blocks.{reads_committed, wanted_bytes}
 use Rattle.stamp_model.specs.Kept.{GivesNoContent, LeavesContent, LeavesSeen}
-use Rattle.stamp_model.specs.JudgedRequests.{Judged, reply_to_judged, world_after_run}
 use Rattle.stamp_model.specs.Responses.{reply}
-use Rattle.stamp_model.specs.Runs.{Timed, IsAdmitted, IsOn, reply_to_one, world_after_all, world_after_one}
+use Rattle.stamp_model.specs.Runs.{Timed, IsAdmitted, IsOn, world_after_one, world_after_all, reply_to_one}
 use Rattle.stamp_model.proofs.BlockLemmas.{committed-list, content-list, list_there}
-use Rattle.stamp_model.proofs.KeptLemmas.{committed-left, content-left, unseen-left, left-in_run, left-in_turn, so-in_run, so-in_turn}
+use Rattle.stamp_model.proofs.KeptLemmas.{committed-left, content-left, unseen-left, left-in_turn, so-in_turn}
 use Rattle.stamp_model.proofs.ObjectLemmas.{object_refusal-container}
 use Rattle.stamp_model.proofs.ReadLemmas.{read_before, reply-read, reply-refused}
 use Rattle.stamp_model.proofs.SeenLemmas.{answers_alike, writes_nothing}
@@ -83,103 +82,74 @@ module _ (later : World (List ℕ)) (key : Key) (name : List ℕ) (c : Committed
 
 module _ (w : World (List ℕ)) (key : Key) (name : List ℕ) (c : Committed (List ℕ)) (seen : (blob_in (part_at w key) name).committed ≡ Some c) where
   -- requests in turn leave the content, if each of them leaves it
-  content_after : (keys : Option Keys) (middle : List Timed) → All (λ r. LeavesContent key name r.request) middle
-      → option_map blocks_and_props (blob_in (part_at (world_after_all keys w middle) key) name).committed ≡ Some (blocks_and_props c)
-  content_after keys middle all =
-      left-in_turn keys key (λ q. LeavesContent key name q) (λ p. option_map blocks_and_props (blob_in p name).committed)
-      (λ v r leaves. content-left keys v r.request r.moment key name leaves) w middle all
-      ∙ ap (option_map blocks_and_props) seen
-
-  -- the same of requests that are judged each by its own key pair
-  content_after_run : (middle : List Judged) → All (λ r. LeavesContent key name r.request) middle
-      → option_map blocks_and_props (blob_in (part_at (world_after_run w middle) key) name).committed ≡ Some (blocks_and_props c)
-  content_after_run middle all =
-      left-in_run key (λ q. LeavesContent key name q) (λ p. option_map blocks_and_props (blob_in p name).committed)
+  content_after : (middle : List Timed) → All (λ r. LeavesContent key name r.request) middle
+      → option_map blocks_and_props (blob_in (part_at (world_after_all w middle) key) name).committed ≡ Some (blocks_and_props c)
+  content_after middle all =
+      left-in_turn key (λ q. LeavesContent key name q) (λ p. option_map blocks_and_props (blob_in p name).committed)
       (λ v r leaves. content-left r.keys v r.request r.moment key name leaves) w middle all
       ∙ ap (option_map blocks_and_props) seen
+  -- the same of requests that are judged each by its own key pair
 
 -- ---- Put Blob, Put Block List and Set Blob Metadata
 
--- a request by its own key pair, as a request at its moment
-abbrev pub at_moment : Judged → Timed
-at_moment r = record { request = r.request; moment = r.moment }
-
-module _ (keys : Option Keys) (w : World (List ℕ)) (key : Key) (name : List ℕ) (kept : Kept) (put : Timed)
-    (puts : IsOn op.PutBlob key name put.request) (keeps : put.request.ask.args.kept ≡ Some kept) (none : (reply_to_one keys w put).rule ≡ None) where
+module _ (w : World (List ℕ)) (key : Key) (name : List ℕ) (kept : Kept) (put : Timed)
+    (puts : IsOn op.PutBlob key name put.request) (keeps : put.request.ask.args.kept ≡ Some kept) (none : (reply_to_one w put).rule ≡ None) where
   abbrev stored : Committed (List ℕ)
-  stored = put_there keys w key name kept put puts keeps none
+  stored = put_there w key name kept put puts keeps none
 
-  abbrev stored_seen : (blob_in (part_at (world_after_one keys w put) key) name).committed ≡ Some stored
-  stored_seen = committed-put keys w key name kept put puts keeps none
+  abbrev stored_seen : (blob_in (part_at (world_after_one w put) key) name).committed ≡ Some stored
+  stored_seen = committed-put w key name kept put puts keeps none
 
   module _ (middle : List Timed) (all : All (λ r. LeavesContent key name r.request) middle)
       (get : Timed) (gets : IsOn op.GetBlob key name get.request) (whole : get.request.ask.args.range ≡ None)
-      (free : (reply_to_one keys (world_after_all keys w (put ∷ middle)) get).rule ≡ None) where
-    pub body-put_last : (reply_to_one keys (world_after_all keys w (put ∷ middle)) get).body ≡ put.request.body
+      (free : (reply_to_one (world_after_all w (put ∷ middle)) get).rule ≡ None) where
+    pub body-put_last : (reply_to_one (world_after_all w (put ∷ middle)) get).body ≡ put.request.body
     body-put_last =
-        body-later (world_after_all keys w (put ∷ middle)) key name stored (content_after (world_after_one keys w put) key name stored stored_seen keys middle all) keys get.request get.moment gets whole free
+        body-later (world_after_all w (put ∷ middle)) key name stored (content_after (world_after_one w put) key name stored stored_seen middle all) get.keys get.request get.moment gets whole free
         ∙ append-nil (held (cut put.request.body)) ∙ held-cut put.request.body
 
-    pub headers-put_last : (metadata : List Meta) × (etag : ℕ) × (made : ℕ) × ((reply_to_one keys (world_after_all keys w (put ∷ middle)) get).headers
+    pub headers-put_last : (metadata : List Meta) × (etag : ℕ) × (made : ℕ) × ((reply_to_one (world_after_all w (put ∷ middle)) get).headers
         ≡ kept_lines (put_props put.request kept) ++ map header.Meta metadata ++ header.BlobType ∷ header.AcceptRanges ∷ date_headers etag made)
     headers-put_last =
-        headers-later (world_after_all keys w (put ∷ middle)) key name stored (content_after (world_after_one keys w put) key name stored stored_seen keys middle all) keys get.request get.moment gets whole free
+        headers-later (world_after_all w (put ∷ middle)) key name stored (content_after (world_after_one w put) key name stored stored_seen middle all) get.keys get.request get.moment gets whole free
 
-  module _ (middle : List Judged) (all : All (λ r. LeavesContent key name r.request) middle)
-      (get : Judged) (gets : IsOn op.GetBlob key name get.request) (whole : get.request.ask.args.range ≡ None)
-      (free : (reply_to_judged (world_after_run (world_after_one keys w put) middle) get).rule ≡ None) where
-    pub body-put_run : (reply_to_judged (world_after_run (world_after_one keys w put) middle) get).body ≡ put.request.body
-    body-put_run =
-        body-later (world_after_run (world_after_one keys w put) middle) key name stored (content_after_run (world_after_one keys w put) key name stored stored_seen middle all)
-        get.keys get.request get.moment gets whole free
-        ∙ append-nil (held (cut put.request.body)) ∙ held-cut put.request.body
-
-module _ (keys : Option Keys) (w : World (List ℕ)) (key : Key) (name : List ℕ) (list : Timed)
-    (lists : IsOn op.PutBlockList key name list.request) (none : (reply_to_one keys w list).rule ≡ None) (kept : Kept) (keeps : list.request.ask.args.kept ≡ Some kept) where
+module _ (w : World (List ℕ)) (key : Key) (name : List ℕ) (list : Timed)
+    (lists : IsOn op.PutBlockList key name list.request) (none : (reply_to_one w list).rule ≡ None) (kept : Kept) (keeps : list.request.ask.args.kept ≡ Some kept) where
   abbrev listed : Committed (List ℕ)
-  listed = list_there keys w key name list lists none kept keeps
+  listed = list_there w key name list lists none kept keeps
 
-  abbrev listed_seen : (blob_in (part_at (world_after_one keys w list) key) name).committed ≡ Some listed
-  listed_seen = committed-list keys w key name list lists none kept keeps
+  abbrev listed_seen : (blob_in (part_at (world_after_one w list) key) name).committed ≡ Some listed
+  listed_seen = committed-list w key name list lists none kept keeps
 
   module _ (middle : List Timed) (all : All (λ r. LeavesContent key name r.request) middle)
       (get : Timed) (gets : IsOn op.GetBlob key name get.request) (whole : get.request.ask.args.range ≡ None)
-      (free : (reply_to_one keys (world_after_all keys w (list ∷ middle)) get).rule ≡ None) where
-    pub body-list_last : (reply_to_one keys (world_after_all keys w (list ∷ middle)) get).body ≡ wanted_bytes (blob_in (part_at w key) name) (wanted_blocks list.request)
+      (free : (reply_to_one (world_after_all w (list ∷ middle)) get).rule ≡ None) where
+    pub body-list_last : (reply_to_one (world_after_all w (list ∷ middle)) get).body ≡ wanted_bytes (blob_in (part_at w key) name) (wanted_blocks list.request)
     body-list_last =
-        body-later (world_after_all keys w (list ∷ middle)) key name listed (content_after (world_after_one keys w list) key name listed listed_seen keys middle all) keys get.request get.moment gets whole free
-        ∙ content-list keys w key name list lists none kept keeps
+        body-later (world_after_all w (list ∷ middle)) key name listed (content_after (world_after_one w list) key name listed listed_seen middle all) get.keys get.request get.moment gets whole free
+        ∙ content-list w key name list lists none kept keeps
 
-    pub headers-list_last : (metadata : List Meta) × (etag : ℕ) × (made : ℕ) × ((reply_to_one keys (world_after_all keys w (list ∷ middle)) get).headers
+    pub headers-list_last : (metadata : List Meta) × (etag : ℕ) × (made : ℕ) × ((reply_to_one (world_after_all w (list ∷ middle)) get).headers
         ≡ kept_lines (kept_fields kept None) ++ map header.Meta metadata ++ header.BlobType ∷ header.AcceptRanges ∷ date_headers etag made)
     headers-list_last =
-        headers-later (world_after_all keys w (list ∷ middle)) key name listed (content_after (world_after_one keys w list) key name listed listed_seen keys middle all) keys get.request get.moment gets whole free
-
-  module _ (middle : List Judged) (all : All (λ r. LeavesContent key name r.request) middle)
-      (get : Judged) (gets : IsOn op.GetBlob key name get.request) (whole : get.request.ask.args.range ≡ None)
-      (free : (reply_to_judged (world_after_run (world_after_one keys w list) middle) get).rule ≡ None) where
-    pub body-list_run : (reply_to_judged (world_after_run (world_after_one keys w list) middle) get).body ≡ wanted_bytes (blob_in (part_at w key) name) (wanted_blocks list.request)
-    body-list_run =
-        body-later (world_after_run (world_after_one keys w list) middle) key name listed (content_after_run (world_after_one keys w list) key name listed listed_seen middle all)
-        get.keys get.request get.moment gets whole free
-        ∙ content-list keys w key name list lists none kept keeps
+        headers-later (world_after_all w (list ∷ middle)) key name listed (content_after (world_after_one w list) key name listed listed_seen middle all) get.keys get.request get.moment gets whole free
 
 -- each later request leaves what readers see of the blob
-seen_later : (keys : Option Keys) (w : World (List ℕ)) (key : Key) (name : List ℕ) (middle : List Timed) → All (λ r. LeavesSeen key name r.request) middle
-    → (blob_in (part_at (world_after_all keys w middle) key) name).committed ≡ (blob_in (part_at w key) name).committed
-seen_later keys w key name middle all =
-    left-in_turn keys key (λ q. LeavesSeen key name q) (λ p. (blob_in p name).committed) (λ v r leaves. committed-left keys v r.request r.moment key name leaves) w middle all
+seen_later : (w : World (List ℕ)) (key : Key) (name : List ℕ) (middle : List Timed) → All (λ r. LeavesSeen key name r.request) middle
+    → (blob_in (part_at (world_after_all w middle) key) name).committed ≡ (blob_in (part_at w key) name).committed
+seen_later w key name middle all =
+    left-in_turn key (λ q. LeavesSeen key name q) (λ p. (blob_in p name).committed) (λ v r leaves. committed-left r.keys v r.request r.moment key name leaves) w middle all
 
-module _ (keys : Option Keys) (w : World (List ℕ)) (key : Key) (name : List ℕ) (set : Timed)
-    (sets : IsOn op.SetMetadata key name set.request) (none : (reply_to_one keys w set).rule ≡ None)
+module _ (w : World (List ℕ)) (key : Key) (name : List ℕ) (set : Timed)
+    (sets : IsOn op.SetMetadata key name set.request) (none : (reply_to_one w set).rule ≡ None)
     (middle : List Timed) (all : All (λ r. LeavesSeen key name r.request) middle) where
-  pub headers-set_last : (get : Timed) → IsOn op.GetMetadata key name get.request → (reply_to_one keys (world_after_all keys w (set ∷ middle)) get).rule ≡ None
-      → (reply_to_one keys (world_after_all keys w (set ∷ middle)) get).headers ≡ map header.Meta set.request.ask.args.metadata ++ (reply_to_one keys w set).headers
+  pub headers-set_last : (get : Timed) → IsOn op.GetMetadata key name get.request → (reply_to_one (world_after_all w (set ∷ middle)) get).rule ≡ None
+      → (reply_to_one (world_after_all w (set ∷ middle)) get).headers ≡ map header.Meta set.request.ask.args.metadata ++ (reply_to_one w set).headers
   headers-set_last get gets free =
       ap (λ (r : Reply). r.headers)
-      (reply-read keys (world_after_all keys w (set ∷ middle)) get.request get.moment free op.GetMetadata key name (set_there keys w key name set sets none) refl gets
-      (seen_later keys (world_after_one keys w set) key name middle all ∙ committed-set keys w key name set sets none))
-      ∙ ap (λ (hs : List Header). map header.Meta set.request.ask.args.metadata ++ hs) (sym (headers-set keys w key name set sets none))
+      (reply-read get.keys (world_after_all w (set ∷ middle)) get.request get.moment free op.GetMetadata key name (set_there w key name set sets none) refl gets
+      (seen_later (world_after_one w set) key name middle all ∙ committed-set w key name set sets none))
+      ∙ ap (λ (hs : List Header). map header.Meta set.request.ask.args.metadata ++ hs) (sym (headers-set w key name set sets none))
 
 -- ---- a later read
 
@@ -208,16 +178,16 @@ module _ (p r : Part (List ℕ)) (q : Asked) (name : List ℕ) (on : q.ask.blob 
       (ap (λ (o : Option (Committed (List ℕ))). unwrap_or o empty_blob) (same_named p r same)) q.ask.op reads
 
 -- a later read of what is committed is answered as it would have been answered at once
-pub reply-later : (keys : Option Keys) (w : World (List ℕ)) (name : List ℕ) (middle : List Timed) (read : Timed) → read.request.ask.blob ≡ Some name
+pub reply-later : (w : World (List ℕ)) (name : List ℕ) (middle : List Timed) (read : Timed) → read.request.ask.blob ≡ Some name
     → reads_committed read.request.ask.op read.request.ask.args.kinds ≡ true → All (λ r. LeavesSeen read.request.ask.key name r.request) middle
-    → (reply_to_one keys w read).rule ≡ None → (reply_to_one keys (world_after_all keys w middle) read).rule ≡ None
-    → reply_to_one keys (world_after_all keys w middle) read ≡ reply_to_one keys w read
-reply-later keys w name middle read on reads all free later_free =
+    → (reply_to_one w read).rule ≡ None → (reply_to_one (world_after_all w middle) read).rule ≡ None
+    → reply_to_one (world_after_all w middle) read ≡ reply_to_one w read
+reply-later w name middle read on reads all free later_free =
     let unwritten = writes_nothing read.request.ask.op read.request.ask.args.kinds reads in
-    read_before keys (world_after_all keys w middle) read.request read.moment later_free read.request.ask.op refl unwritten
-    ∙ reply_of-alike (part_at (world_after_all keys w middle) read.request.ask.key) (part_at w read.request.ask.key) read.request name on
-    (seen_later keys w read.request.ask.key name middle all) reads
-    ∙ sym (read_before keys w read.request read.moment free read.request.ask.op refl unwritten)
+    read_before read.keys (world_after_all w middle) read.request read.moment later_free read.request.ask.op refl unwritten
+    ∙ reply_of-alike (part_at (world_after_all w middle) read.request.ask.key) (part_at w read.request.ask.key) read.request name on
+    (seen_later w read.request.ask.key name middle all) reads
+    ∙ sym (read_before read.keys w read.request read.moment free read.request.ask.op refl unwritten)
 
 -- ---- Delete Blob
 
@@ -227,50 +197,37 @@ container_if op.CreateContainer needs = cc
 container_if other needs = refl
 
 -- In a later world readers see no blob of this name.
-module _ (after : World (List ℕ)) (key : Key) (name : List ℕ) (unseen : (blob_in (part_at after key) name).committed ≡ None) (keys : Option Keys) (read : Timed)
-    (at : read.request.ask.key ≡ key) (on : read.request.ask.blob ≡ Some name) (needs : needs_blob read.request.ask.op ≡ true) (admits : IsAdmitted keys after read) where
+module _ (after : World (List ℕ)) (key : Key) (name : List ℕ) (unseen : (blob_in (part_at after key) name).committed ≡ None) (read : Timed)
+    (at : read.request.ask.key ≡ key) (on : read.request.ask.blob ≡ Some name) (needs : needs_blob read.request.ask.op ≡ true) (admits : IsAdmitted after read) where
   -- a request that needs the blob, and that permission admits, is refused by O1 or O3
-  reply-unseen : (reply_to_one keys after read ≡ denied (cause_refusal ContainerIsAbsent)) ⊎ (reply_to_one keys after read ≡ denied (cause_refusal BlobIsAbsent))
+  reply-unseen : (reply_to_one after read ≡ denied (cause_refusal ContainerIsAbsent)) ⊎ (reply_to_one after read ≡ denied (cause_refusal BlobIsAbsent))
   reply-unseen = by_standing (part_at after key).standing refl
     where
       by_standing : (s : Option Standing) → (part_at after key).standing ≡ s
-          → (reply_to_one keys after read ≡ denied (cause_refusal ContainerIsAbsent)) ⊎ (reply_to_one keys after read ≡ denied (cause_refusal BlobIsAbsent))
+          → (reply_to_one after read ≡ denied (cause_refusal ContainerIsAbsent)) ⊎ (reply_to_one after read ≡ denied (cause_refusal BlobIsAbsent))
       by_standing None is =
-          inl (reply-refused keys after read.request read.moment (cause_refusal ContainerIsAbsent) admits
+          inl (reply-refused read.keys after read.request read.moment (cause_refusal ContainerIsAbsent) admits
           (object_refusal-container (part_at after read.request.ask.key) read.request (container_if read.request.ask.op needs) (ap (λ (k : Key). (part_at after k).standing) at ∙ is)))
       by_standing (Some s) is =
-          inr (reply-absent_blob keys after key read at needs admits (ap (λ (o : Option Standing). is_some o) is)
+          inr (reply-absent_blob after key read at needs admits (ap (λ (o : Option Standing). is_some o) is)
           (ap (λ (o : Option (List ℕ)). option_and_then (λ n. (blob_in (part_at after key) n).committed) o) on ∙ unseen))
 
-module _ (keys : Option Keys) (w : World (List ℕ)) (key : Key) (name : List ℕ) (delete : Timed)
-    (deletes : IsOn op.DeleteBlob key name delete.request) (none : (reply_to_one keys w delete).rule ≡ None) where
-  unseen_at_once : (blob_in (part_at (world_after_one keys w delete) key) name).committed ≡ None
+module _ (w : World (List ℕ)) (key : Key) (name : List ℕ) (delete : Timed)
+    (deletes : IsOn op.DeleteBlob key name delete.request) (none : (reply_to_one w delete).rule ≡ None) where
+  unseen_at_once : (blob_in (part_at (world_after_one w delete) key) name).committed ≡ None
   unseen_at_once =
-      ap (λ (p : Part (List ℕ)). (blob_in p name).committed) (part-deleted keys w key name delete deletes none)
+      ap (λ (p : Part (List ℕ)). (blob_in p name).committed) (part-deleted w key name delete deletes none)
       ∙ ap (λ (o : Option (Blob (List ℕ))). (unwrap_or o no_blob).committed) (get-remove_same (part_at w key).blobs name)
 
   module _ (middle : List Timed) (all : All (λ r. GivesNoContent key name r.request) middle) where
     abbrev after_all : World (List ℕ)
-    after_all = world_after_all keys w (delete ∷ middle)
+    after_all = world_after_all w (delete ∷ middle)
 
     unseen_later : (blob_in (part_at after_all key) name).committed ≡ None
     unseen_later =
-        so-in_turn keys key (λ q. GivesNoContent key name q) (λ p. (blob_in p name).committed ≡ None) (λ v r gives before. unseen-left keys v r.request r.moment key name gives before)
-        (world_after_one keys w delete) middle all unseen_at_once
+        so-in_turn key (λ q. GivesNoContent key name q) (λ p. (blob_in p name).committed ≡ None) (λ v r gives before. unseen-left r.keys v r.request r.moment key name gives before)
+        (world_after_one w delete) middle all unseen_at_once
 
-    pub reply-deleted_last : (read : Timed) → read.request.ask.key ≡ key → read.request.ask.blob ≡ Some name → needs_blob read.request.ask.op ≡ true → IsAdmitted keys after_all read
-        → (reply_to_one keys after_all read ≡ denied (cause_refusal ContainerIsAbsent)) ⊎ (reply_to_one keys after_all read ≡ denied (cause_refusal BlobIsAbsent))
-    reply-deleted_last read at on needs admits = reply-unseen after_all key name unseen_later keys read at on needs admits
-
-  module _ (middle : List Judged) (all : All (λ r. GivesNoContent key name r.request) middle) where
-    abbrev after_run : World (List ℕ)
-    after_run = world_after_run (world_after_one keys w delete) middle
-
-    unseen_after_run : (blob_in (part_at after_run key) name).committed ≡ None
-    unseen_after_run =
-        so-in_run key (λ q. GivesNoContent key name q) (λ p. (blob_in p name).committed ≡ None) (λ v r gives before. unseen-left r.keys v r.request r.moment key name gives before)
-        (world_after_one keys w delete) middle all unseen_at_once
-
-    pub reply-deleted_run : (read : Judged) → read.request.ask.key ≡ key → read.request.ask.blob ≡ Some name → needs_blob read.request.ask.op ≡ true → IsAdmitted read.keys after_run (at_moment read)
-        → (reply_to_judged after_run read ≡ denied (cause_refusal ContainerIsAbsent)) ⊎ (reply_to_judged after_run read ≡ denied (cause_refusal BlobIsAbsent))
-    reply-deleted_run read at on needs admits = reply-unseen after_run key name unseen_after_run read.keys (at_moment read) at on needs admits
+    pub reply-deleted_last : (read : Timed) → read.request.ask.key ≡ key → read.request.ask.blob ≡ Some name → needs_blob read.request.ask.op ≡ true → IsAdmitted after_all read
+        → (reply_to_one after_all read ≡ denied (cause_refusal ContainerIsAbsent)) ⊎ (reply_to_one after_all read ≡ denied (cause_refusal BlobIsAbsent))
+    reply-deleted_last read at on needs admits = reply-unseen after_all key name unseen_later read at on needs admits

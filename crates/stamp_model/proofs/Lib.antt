@@ -1,3 +1,4 @@
+pub mod AcceptedLemmas
 pub mod AccessLemmas
 pub mod AnswerLemmas
 pub mod ArgumentLemmas
@@ -11,7 +12,6 @@ pub mod EffectLemmas
 pub mod EtagLemmas
 pub mod FailedConditionLemmas
 pub mod HistoryLemmas
-pub mod JudgedLemmas
 pub mod KeptLemmas
 pub mod LastLemmas
 pub mod MakingLemmas

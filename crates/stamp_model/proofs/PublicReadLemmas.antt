@@ -9,7 +9,6 @@ use Rattle.stamp_values.specs.declared.signing.Credential.TheVariants.{Anonymous
 use Rattle.stamp_types.specs.declared.rule.Rule.TheVariants.{P1, P2}
 use Rattle.stamp_types.specs.Requests.{Asked, IsAsk}
 use Rattle.stamp_types.specs.World.{World, part_at}
-use Rattle.access_rules.specs.declared.keys.Keys.{Keys}
 use Rattle.access_rules.specs.Needs.{need_of}
 use Rattle.access_rules.specs.Rules.{allows_less, first_rule, some_passes}
 use Rattle.row_trees.specs.Access.{acl_of}
@@ -37,25 +36,25 @@ seen_by_level op.GetBlockList (Some kinds.Uncommitted) need h = cc
 seen_by_level op.GetBlockList (Some kinds.All) need h = cc
 seen_by_level other k need h = refl
 
-module _ (keys : Option Keys) (w : World (List ℕ)) (put read : Timed) (puts : put.request.ask.op ≡ op.PutBlock) (fits : IsAsk read.request.ask)
+module _ (w : World (List ℕ)) (put read : Timed) (puts : put.request.ask.op ≡ op.PutBlock) (fits : IsAsk read.request.ask)
     (anonymous : read.request.ask.credential ≡ Anonymous) where
   abbrev q : Asked
   q = read.request
 
   abbrev after : World (List ℕ)
-  after = world_after_one keys w put
+  after = world_after_one w put
 
   -- no level allows the operation, so P1 refuses the request
-  never_public : (v : World (List ℕ)) → (need_of q.ask.op q.ask.args.kinds).level ≡ None → first_rule keys (acl_of (part_at v q.ask.key)) q.ask read.moment ≡ Some P1
+  never_public : (v : World (List ℕ)) → (need_of q.ask.op q.ask.args.kinds).level ≡ None → first_rule read.keys (acl_of (part_at v q.ask.key)) q.ask read.moment ≡ Some P1
   never_public v none =
-      first_public keys (acl_of (part_at v q.ask.key)) q.ask read.moment q.ask.credential anonymous
+      first_public read.keys (acl_of (part_at v q.ask.key)) q.ask read.moment q.ask.credential anonymous
       ∙ ap (λ (need : Option Level). cond (is_none need) (Some P1) (cond (some_passes (allows_less (acl_of (part_at v q.ask.key))) need) (Some P2) None)) none
 
-  by_need : (need : Option Level) → (need_of q.ask.op q.ask.args.kinds).level ≡ need → reply_to_one keys after read ≡ reply_to_one keys w read
-  by_need None is = reply-denied keys after q read.moment None P1 (never_public after is) ∙ sym (reply-denied keys w q read.moment None P1 (never_public w is))
+  by_need : (need : Option Level) → (need_of q.ask.op q.ask.args.kinds).level ≡ need → reply_to_one after read ≡ reply_to_one w read
+  by_need None is = reply-denied read.keys after q read.moment None P1 (never_public after is) ∙ sym (reply-denied read.keys w q read.moment None P1 (never_public w is))
   by_need (Some need) is =
-      sym (reply_alike keys q read.moment fits (seen_by_level q.ask.op q.ask.args.kinds need is) w after (alike-put_block keys w put.request put.moment puts q.ask.key))
+      sym (reply_alike read.keys q read.moment fits (seen_by_level q.ask.op q.ask.args.kinds need is) w after (alike-put_block put.keys w put.request put.moment puts q.ask.key))
 
   -- a request without a credential has the reply after a Put Block that it would have had before
-  pub reply-public_put_block : reply_to_one keys after read ≡ reply_to_one keys w read
+  pub reply-public_put_block : reply_to_one after read ≡ reply_to_one w read
   reply-public_put_block = by_need (need_of q.ask.op q.ask.args.kinds).level refl

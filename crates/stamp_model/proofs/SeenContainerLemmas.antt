@@ -27,10 +27,10 @@ use Rattle.range_rows.specs.ObjectRules.{Cause, cause_holds, cause_refusal, caus
 use Rattle.range_rows.specs.ObjectRules.Cause.{ContainerIsAbsent, ContainerExists, BlobIsAbsent, MatchFails, IsNotModified, BlobExists, NoneMatchFails, BodyIsDamaged, BodyIsMalformed, IdIsBad, BlockIsMissing, ListIsTooLong, IdHasOtherLength, BlocksAreFull, ListIsTooLarge, RangeIsPastTheEnd, CountIsFull}
 use Rattle.range_rows.specs.Readings.{wanted_blocks}
 use Rattle.stamp_model.specs.Effects.{change, effect}
-use Rattle.stamp_model.specs.JudgedRequests.{is_on}
 use Rattle.stamp_model.specs.Refusals.{access_refusal, refusal, unserved_refusal}
 use Rattle.stamp_model.specs.Responses.{answer_of, reply, response}
 use Rattle.stamp_model.specs.SeenContainers.{is_in_account, is_between, is_seen, routed}
+use Rattle.stamp_model.specs.AcceptedRequests.{is_on}
 use Rattle.stamp_model.proofs.CallerLemmas.{first_rule-unlevelled}
 use Rattle.stamp_model.proofs.ReplyLemmas.{reply-own, unrefused}
 use Rattle.stamp_model.proofs.SeenLemmas.{is_not_put_block, none_unless, reads_seen, wants_nothing}

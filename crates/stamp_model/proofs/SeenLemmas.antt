@@ -42,7 +42,7 @@ use Rattle.stamp_model.specs.Blocks.{reads_committed}
 use Rattle.stamp_model.specs.Effects.{effect}
 use Rattle.stamp_model.specs.Refusals.{access_refusal, refusal, unserved_refusal}
 use Rattle.stamp_model.specs.Responses.{answer_of, response, reply}
-use Rattle.stamp_model.specs.Runs.{Timed, world_after_all, world_after_one, reply_to_one}
+use Rattle.stamp_model.specs.Runs.{Timed, world_after_one, world_after_all, reply_to_one}
 use Rattle.stamp_model.proofs.EffectLemmas.{related-after_act, related-effect, said_of_block}
 use Rattle.stamp_model.proofs.ReadLemmas.{effect-read}
 
@@ -270,17 +270,17 @@ module _ (keys : Option Keys) (q : Asked) (t : ℕ) (fits : IsAsk q.ask) (reads 
       ∙ sym (from_unchanged v)
 
 -- a request that reads only what is committed has the reply after a Put Block that it would have had before
-pub reply-put_block : (keys : Option Keys) (w : World (List ℕ)) (put read : Timed) → put.request.ask.op ≡ op.PutBlock → IsAsk read.request.ask
-    → reads_committed read.request.ask.op read.request.ask.args.kinds ≡ true → reply_to_one keys (world_after_one keys w put) read ≡ reply_to_one keys w read
-reply-put_block keys w put read puts fits reads =
-    sym (reply_alike keys read.request read.moment fits (seen_if_committed read.request.ask.op read.request.ask.args.kinds reads) w (world_after_one keys w put)
-    (alike-put_block keys w put.request put.moment puts read.request.ask.key))
+pub reply-put_block : (w : World (List ℕ)) (put read : Timed) → put.request.ask.op ≡ op.PutBlock → IsAsk read.request.ask
+    → reads_committed read.request.ask.op read.request.ask.args.kinds ≡ true → reply_to_one (world_after_one w put) read ≡ reply_to_one w read
+reply-put_block w put read puts fits reads =
+    sym (reply_alike read.keys read.request read.moment fits (seen_if_committed read.request.ask.op read.request.ask.args.kinds reads) w (world_after_one w put)
+    (alike-put_block put.keys w put.request put.moment puts read.request.ask.key))
 
 -- it has this reply after any number of Put Blocks
-pub reply-put_blocks : (keys : Option Keys) (w : World (List ℕ)) (puts : List Timed) (read : Timed) → All (λ put. put.request.ask.op ≡ op.PutBlock) puts → IsAsk read.request.ask
-    → reads_committed read.request.ask.op read.request.ask.args.kinds ≡ true → reply_to_one keys (world_after_all keys w puts) read ≡ reply_to_one keys w read
-reply-put_blocks keys w [] read all fits reads = refl
-reply-put_blocks keys w (put ∷ puts) read all fits reads =
+pub reply-put_blocks : (w : World (List ℕ)) (puts : List Timed) (read : Timed) → All (λ put. put.request.ask.op ≡ op.PutBlock) puts → IsAsk read.request.ask
+    → reads_committed read.request.ask.op read.request.ask.args.kinds ≡ true → reply_to_one (world_after_all w puts) read ≡ reply_to_one w read
+reply-put_blocks w [] read all fits reads = refl
+reply-put_blocks w (put ∷ puts) read all fits reads =
     let IsPut : Timed → Type 0 = λ put. put.request.ask.op ≡ op.PutBlock in
-    reply-put_blocks keys (world_after_one keys w put) puts read (All-tail IsPut put puts all) fits reads
-    ∙ reply-put_block keys w put read (All-head IsPut put puts all) fits reads
+    reply-put_blocks (world_after_one w put) puts read (All-tail IsPut put puts all) fits reads
+    ∙ reply-put_block w put read (All-head IsPut put puts all) fits reads

@@ -1,13 +1,12 @@
+pub mod AcceptedRequests
 pub mod Blocks
 pub mod Conditions
 pub mod Effects
 pub mod Etags
 pub mod Histories
-pub mod JudgedRequests
 pub mod Kept
 pub mod Ranges
 pub mod Refusals
 pub mod Responses
 pub mod Runs
 pub mod SeenContainers
-pub mod Services

@@ -7,7 +7,7 @@ use Rattle.stamp_values.specs.Order.{name_cmp}
 use Rattle.stamp_values.specs.Trees.{is_below, is_from}
 use Rattle.stamp_values.specs.declared.key.Key.{Key}
 use Rattle.stamp_types.specs.Requests.{Asked}
-use Rattle.stamp_model.specs.JudgedRequests.{is_on}
+use Rattle.stamp_model.specs.AcceptedRequests.{is_on}
 
 -- the first key that a request looks at: the key of the container that it names; or, of List Containers, the key of its marker
 abbrev pub routed : Asked → Key

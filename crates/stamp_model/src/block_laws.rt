@@ -1,5 +1,5 @@
 //! Laws of blocks and of block lists. Each law is the contract of a function that does nothing.
-ghost use Rattle.std.specs.Prelude.{◌≡◌, ◌≢◌, ℕ, ◌+◌, IsTrue, All, List, [], ◌∷◌, ◌++◌, Option, Some, None, length, map};
+ghost use Rattle.std.specs.Prelude.{◌≡◌, ◌≢◌, ℕ, ◌+◌, IsTrue, All, List, [], ◌∷◌, ◌++◌, Some, None, length, map};
 ghost use Rattle.std.specs.FinMap as finite;
 ghost use Rattle.md5.specs.Md5.{md5};
 ghost use Rattle.stamp_values.specs.declared.block.Source.TheVariants as source;
@@ -16,13 +16,12 @@ ghost use Rattle.stamp_types.specs.PropsFields.{kept_fields};
 ghost use Rattle.stamp_types.specs.Replies.{denied};
 ghost use Rattle.stamp_types.specs.Requests.{IsAsk};
 ghost use Rattle.stamp_types.specs.World.{World, blob_in, content_from, part_at};
-ghost use Rattle.access_rules.specs.declared.keys.Keys.{Keys};
 ghost use Rattle.block_blobs.specs.BlockLists.{first_missing};
 ghost use Rattle.body_forms.specs.WrittenLists.{ListedBlock, block_list_text};
 ghost use Rattle.range_rows.specs.ObjectReplies.{date_headers, if_shown, kept_lines, shows_committed, shows_uncommitted};
 ghost use Rattle.range_rows.specs.Readings.{wanted_blocks};
 ghost use Rattle.stamp_model.specs.Blocks.{ListsUncommitted, reads_committed, takes_blocks, wanted_bytes, wanted_listed};
-ghost use Rattle.stamp_model.specs.Runs.{Timed, IsAdmitted, IsOn, reply_to_one, world_after_all, world_after_one};
+ghost use Rattle.stamp_model.specs.Runs.{Timed, IsAdmitted, IsOn, world_after_one, world_after_all, reply_to_one};
 
 /// A commit is seen whole or not at all. A Put Block, accepted or refused, changes no reply to a
 /// request that reads only what is committed: such a request has the reply that it would have had
@@ -37,100 +36,100 @@ ghost use Rattle.stamp_model.specs.Runs.{Timed, IsAdmitted, IsOn, reply_to_one, 
 /// Block List; the reply to a Get Blob Properties has the length of that content. If a Put Block List
 /// is refused, all containers stay as they are.
 pub fn a_commit_is_seen_whole_or_not_at_all()
-    ensures unseen { (keys : Option Keys) (w : World (List ℕ)) (put read : Timed)
+    ensures unseen { (w : World (List ℕ)) (put read : Timed)
         → put.request.ask.op ≡ PutBlock → IsAsk read.request.ask
         → IsTrue (reads_committed read.request.ask.op read.request.ask.args.kinds)
-        → reply_to_one keys (world_after_one keys w put) read ≡ reply_to_one keys w read }
-    ensures unseen_all { (keys : Option Keys) (w : World (List ℕ)) (puts : List Timed)
+        → reply_to_one (world_after_one w put) read ≡ reply_to_one w read }
+    ensures unseen_all { (w : World (List ℕ)) (puts : List Timed)
         (read : Timed)
         → All (λ put. put.request.ask.op ≡ PutBlock) puts → IsAsk read.request.ask
         → IsTrue (reads_committed read.request.ask.op read.request.ask.args.kinds)
-        → reply_to_one keys (world_after_all keys w puts) read ≡ reply_to_one keys w read }
-    ensures public { (keys : Option Keys) (w : World (List ℕ)) (put read : Timed)
+        → reply_to_one (world_after_all w puts) read ≡ reply_to_one w read }
+    ensures public { (w : World (List ℕ)) (put read : Timed)
         → put.request.ask.op ≡ PutBlock → IsAsk read.request.ask
         → read.request.ask.credential ≡ Anonymous
-        → reply_to_one keys (world_after_one keys w put) read ≡ reply_to_one keys w read }
-    ensures committed { (keys : Option Keys) (w : World (List ℕ)) (put : Timed) (key : Key)
+        → reply_to_one (world_after_one w put) read ≡ reply_to_one w read }
+    ensures committed { (w : World (List ℕ)) (put : Timed) (key : Key)
         (name : List ℕ)
         → put.request.ask.op ≡ PutBlock
-        → (blob_in (part_at (world_after_one keys w put) key) name).committed
+        → (blob_in (part_at (world_after_one w put) key) name).committed
         ≡ (blob_in (part_at w key) name).committed }
-    ensures counted { (keys : Option Keys) (w : World (List ℕ)) (key : Key) (name id : List ℕ)
+    ensures counted { (w : World (List ℕ)) (key : Key) (name id : List ℕ)
         (put : Timed)
         → IsOn PutBlock key name put.request → put.request.ask.args.block ≡ Some id
-        → (reply_to_one keys w put).rule ≡ None
-        → (part_at (world_after_one keys w put) key).count ≡ (part_at w key).count + 1 }
-    ensures put { (keys : Option Keys) (w : World (List ℕ)) (key : Key) (name id : List ℕ)
+        → (reply_to_one w put).rule ≡ None
+        → (part_at (world_after_one w put) key).count ≡ (part_at w key).count + 1 }
+    ensures put { (w : World (List ℕ)) (key : Key) (name id : List ℕ)
         (put : Timed)
         → IsOn PutBlock key name put.request → put.request.ask.args.block ≡ Some id
-        → (reply_to_one keys w put).rule ≡ None
+        → (reply_to_one w put).rule ≡ None
         → content_from source.Uncommitted id
-        (blob_in (part_at (world_after_one keys w put) key) name) ≡ Some put.request.body }
-    ensures other { (keys : Option Keys) (w : World (List ℕ)) (key : Key) (name id other : List ℕ)
+        (blob_in (part_at (world_after_one w put) key) name) ≡ Some put.request.body }
+    ensures other { (w : World (List ℕ)) (key : Key) (name id other : List ℕ)
         (put : Timed)
         → IsOn PutBlock key name put.request → put.request.ask.args.block ≡ Some id
-        → (reply_to_one keys w put).rule ≡ None → other ≢ id
+        → (reply_to_one w put).rule ≡ None → other ≢ id
         → content_from source.Uncommitted other
-        (blob_in (part_at (world_after_one keys w put) key) name)
+        (blob_in (part_at (world_after_one w put) key) name)
         ≡ content_from source.Uncommitted other (blob_in (part_at w key) name) }
-    ensures found { (keys : Option Keys) (w : World (List ℕ)) (key : Key) (name : List ℕ)
+    ensures found { (w : World (List ℕ)) (key : Key) (name : List ℕ)
         (list : Timed)
-        → IsOn PutBlockList key name list.request → (reply_to_one keys w list).rule ≡ None
+        → IsOn PutBlockList key name list.request → (reply_to_one w list).rule ≡ None
         → first_missing (blob_in (part_at w key) name) (wanted_blocks list.request) ≡ None }
-    ensures body { (keys : Option Keys) (w : World (List ℕ)) (key : Key) (name : List ℕ)
+    ensures body { (w : World (List ℕ)) (key : Key) (name : List ℕ)
         (list get : Timed)
         → IsAsk list.request.ask → IsOn PutBlockList key name list.request
         → IsOn GetBlob key name get.request → get.request.ask.args.range ≡ None
-        → (reply_to_one keys w list).rule ≡ None
-        → (reply_to_one keys (world_after_one keys w list) get).rule ≡ None
-        → (reply_to_one keys (world_after_one keys w list) get).body
+        → (reply_to_one w list).rule ≡ None
+        → (reply_to_one (world_after_one w list) get).rule ≡ None
+        → (reply_to_one (world_after_one w list) get).body
         ≡ wanted_bytes (blob_in (part_at w key) name) (wanted_blocks list.request) }
-    ensures length { (keys : Option Keys) (w : World (List ℕ)) (key : Key) (name : List ℕ)
+    ensures length { (w : World (List ℕ)) (key : Key) (name : List ℕ)
         (list get : Timed)
         → IsAsk list.request.ask → IsOn PutBlockList key name list.request
-        → IsOn BlobProperties key name get.request → (reply_to_one keys w list).rule ≡ None
-        → (reply_to_one keys (world_after_one keys w list) get).rule ≡ None
-        → (reply_to_one keys (world_after_one keys w list) get).length
+        → IsOn BlobProperties key name get.request → (reply_to_one w list).rule ≡ None
+        → (reply_to_one (world_after_one w list) get).rule ≡ None
+        → (reply_to_one (world_after_one w list) get).length
         ≡ length (wanted_bytes (blob_in (part_at w key) name) (wanted_blocks list.request)) }
-    ensures list { (keys : Option Keys) (w : World (List ℕ)) (key : Key) (name : List ℕ)
+    ensures list { (w : World (List ℕ)) (key : Key) (name : List ℕ)
         (list : Timed)
         → IsAsk list.request.ask → IsOn PutBlockList key name list.request
-        → (reply_to_one keys w list).rule ≡ None
-        → (reply_to_one keys w list).headers
+        → (reply_to_one w list).rule ≡ None
+        → (reply_to_one w list).headers
         ≡ header.ContentMd5 (md5 list.request.body)
         ∷ date_headers ((part_at w key).count + 1) list.moment }
-    ensures get { (keys : Option Keys) (w : World (List ℕ)) (key : Key) (name : List ℕ)
+    ensures get { (w : World (List ℕ)) (key : Key) (name : List ℕ)
         (kept : Kept) (list get : Timed)
         → IsOn PutBlockList key name list.request → list.request.ask.args.kept ≡ Some kept
         → IsOn GetBlob key name get.request → get.request.ask.args.range ≡ None
-        → (reply_to_one keys w list).rule ≡ None
-        → (reply_to_one keys (world_after_one keys w list) get).rule ≡ None
-        → (reply_to_one keys (world_after_one keys w list) get).headers
+        → (reply_to_one w list).rule ≡ None
+        → (reply_to_one (world_after_one w list) get).rule ≡ None
+        → (reply_to_one (world_after_one w list) get).headers
         ≡ kept_lines (kept_fields kept None)
         ++ map header.Meta list.request.ask.args.metadata
         ++ header.BlobType ∷ header.AcceptRanges
         ∷ date_headers ((part_at w key).count + 1) list.moment }
-    ensures refused { (keys : Option Keys) (w : World (List ℕ)) (list : Timed) (rule : Rule)
-        → list.request.ask.op ≡ PutBlockList → (reply_to_one keys w list).rule ≡ Some rule
-        → world_after_one keys w list ≡ w }
+    ensures refused { (w : World (List ℕ)) (list : Timed) (rule : Rule)
+        → list.request.ask.op ≡ PutBlockList → (reply_to_one w list).rule ≡ Some rule
+        → world_after_one w list ≡ w }
 {}
 
 /// No uncommitted block outlives a commit. After an accepted Put Blob, Put Block List or Delete Blob,
 /// the blob has no uncommitted block. After a Delete Blob, O3 refuses each Get Block List of the blob
 /// that permission admits.
 pub fn no_block_outlives_its_commit()
-    ensures gone { (keys : Option Keys) (w : World (List ℕ)) (key : Key) (name : List ℕ) (o : Op)
+    ensures gone { (w : World (List ℕ)) (key : Key) (name : List ℕ) (o : Op)
         (commit : Timed)
         → IsAsk commit.request.ask → IsTrue (takes_blocks o) → IsOn o key name commit.request
-        → (reply_to_one keys w commit).rule ≡ None
-        → (blob_in (part_at (world_after_one keys w commit) key) name).uncommitted
+        → (reply_to_one w commit).rule ≡ None
+        → (blob_in (part_at (world_after_one w commit) key) name).uncommitted
         ≡ finite.empty }
-    ensures deleted { (keys : Option Keys) (w : World (List ℕ)) (key : Key) (name : List ℕ)
+    ensures deleted { (w : World (List ℕ)) (key : Key) (name : List ℕ)
         (delete list : Timed)
         → IsOn DeleteBlob key name delete.request → IsOn GetBlockList key name list.request
-        → (reply_to_one keys w delete).rule ≡ None
-        → IsAdmitted keys (world_after_one keys w delete) list
-        → reply_to_one keys (world_after_one keys w delete) list
+        → (reply_to_one w delete).rule ≡ None
+        → IsAdmitted (world_after_one w delete) list
+        → reply_to_one (world_after_one w delete) list
         ≡ denied (record { rule = O3; code = BlobNotFound }) }
 {}
 
@@ -141,30 +140,30 @@ pub fn no_block_outlives_its_commit()
 /// was put whole has no id. If a Get Block List that no rule refuses asks for the uncommitted blocks,
 /// it shows those of the blob, each once, with its number of bytes, in the order of the ids.
 pub fn a_block_list_shows_the_blocks()
-    ensures committed { (keys : Option Keys) (w : World (List ℕ)) (key : Key) (name : List ℕ)
+    ensures committed { (w : World (List ℕ)) (key : Key) (name : List ℕ)
         (list read : Timed)
         → IsAsk list.request.ask → IsOn PutBlockList key name list.request
-        → (reply_to_one keys w list).rule ≡ None → IsOn GetBlockList key name read.request
-        → (reply_to_one keys (world_after_one keys w list) read).rule ≡ None
-        → (reply_to_one keys (world_after_one keys w list) read).body
+        → (reply_to_one w list).rule ≡ None → IsOn GetBlockList key name read.request
+        → (reply_to_one (world_after_one w list) read).rule ≡ None
+        → (reply_to_one (world_after_one w list) read).body
         ≡ block_list_text
         (if_shown (shows_committed read.request.ask.args.kinds)
         (map (wanted_listed (blob_in (part_at w key) name)) (wanted_blocks list.request)))
         (if_shown (shows_uncommitted read.request.ask.args.kinds) []) }
-    ensures whole { (keys : Option Keys) (w : World (List ℕ)) (key : Key) (name : List ℕ)
+    ensures whole { (w : World (List ℕ)) (key : Key) (name : List ℕ)
         (put read : Timed)
         → IsAsk put.request.ask → IsOn PutBlob key name put.request
-        → (reply_to_one keys w put).rule ≡ None → IsOn GetBlockList key name read.request
-        → (reply_to_one keys (world_after_one keys w put) read).rule ≡ None
-        → (reply_to_one keys (world_after_one keys w put) read).body
+        → (reply_to_one w put).rule ≡ None → IsOn GetBlockList key name read.request
+        → (reply_to_one (world_after_one w put) read).rule ≡ None
+        → (reply_to_one (world_after_one w put) read).body
         ≡ block_list_text (if_shown (shows_committed read.request.ask.args.kinds) [])
         (if_shown (shows_uncommitted read.request.ask.args.kinds) []) }
-    ensures uncommitted { (keys : Option Keys) (w : World (List ℕ)) (key : Key) (name : List ℕ)
+    ensures uncommitted { (w : World (List ℕ)) (key : Key) (name : List ℕ)
         (read : Timed)
-        → IsOn GetBlockList key name read.request → (reply_to_one keys w read).rule ≡ None
+        → IsOn GetBlockList key name read.request → (reply_to_one w read).rule ≡ None
         → (committed : List ListedBlock) × (us : List ListedBlock)
         × ListsUncommitted (blob_in (part_at w key) name) us
-        × ((reply_to_one keys w read).body
+        × ((reply_to_one w read).body
         ≡ block_list_text (if_shown (shows_committed read.request.ask.args.kinds) committed)
         (if_shown (shows_uncommitted read.request.ask.args.kinds) us)) }
 {}

@@ -17,16 +17,16 @@ ghost use Rattle.access_rules.specs.declared.keys.Keys.{Keys};
 ghost use Rattle.stamp_model.specs.Conditions.{FailsIfMatch, FailsIfNoneMatch, HasJudgedConditions, MeetsConditions, MeetsIfMatch, without_conditions};
 ghost use Rattle.stamp_model.specs.Effects.{effect};
 ghost use Rattle.stamp_model.specs.Histories.{IsAccepted, replay};
-ghost use Rattle.stamp_model.specs.JudgedRequests.{Judged, reply_to_judged, world_after_run};
 ghost use Rattle.stamp_model.specs.Ranges.{IsPartOf, without_range};
 ghost use Rattle.stamp_model.specs.Responses.{reply};
+ghost use Rattle.stamp_model.specs.Runs.{Timed, world_after_all, reply_to_one};
 
 /// A conditional write changes what its caller saw. If a request changes anything, its conditions
 /// were true of the container as it was before the change. The same is so if the reply names no
-/// rule, also for a request that only reads. Along the entries of a history, if a caller saw a blob,
-/// and an entry with the ETag of that blob in If-Match is accepted later, the blob was still as the
-/// caller saw it when that entry changed it. The same is so of a later request among requests in
-/// turn, each judged by its own key pair, if the reply to the later request names no rule.
+/// rule, also for a request that only reads. Along the entries of a history, if a caller saw a
+/// blob, and an entry with the ETag of that blob in If-Match is accepted later, the blob was still
+/// as the caller saw it when that entry changed it. The same is so of a later request among
+/// requests in turn, if the reply to the later request names no rule.
 pub fn a_conditional_write_changes_what_its_caller_saw()
     ensures changed { (keys : Option Keys) (w : World (List ℕ)) (q : Asked) (t : ℕ)
         → IsAsk q.ask → effect keys w q t ≢ w → MeetsConditions (part_at w q.ask.key) q.ask }
@@ -41,15 +41,15 @@ pub fn a_conditional_write_changes_what_its_caller_saw()
         → (blob_in (replay pairs front) name).committed ≡ Some seen
         → IsAccepted pairs key (replay pairs (front ++ middle)) e
         → (blob_in (replay pairs (front ++ middle)) name).committed ≡ Some seen }
-    ensures run { (w : World (List ℕ)) (front middle : List Judged) (r : Judged)
+    ensures run { (w : World (List ℕ)) (front middle : List Timed) (r : Timed)
         (name : List ℕ) (seen : Committed (List ℕ))
         → EtagsAtMost (part_at w r.request.ask.key).count (part_at w r.request.ask.key)
         → IsAsk r.request.ask → r.request.ask.blob ≡ Some name
         → r.request.ask.args.if_match ≡ Some (condition.Count seen.etag)
-        → (blob_in (part_at (world_after_run w front) r.request.ask.key) name).committed
+        → (blob_in (part_at (world_after_all w front) r.request.ask.key) name).committed
         ≡ Some seen
-        → (reply_to_judged (world_after_run w (front ++ middle)) r).rule ≡ None
-        → (blob_in (part_at (world_after_run w (front ++ middle)) r.request.ask.key) name).committed
+        → (reply_to_one (world_after_all w (front ++ middle)) r).rule ≡ None
+        → (blob_in (part_at (world_after_all w (front ++ middle)) r.request.ask.key) name).committed
         ≡ Some seen }
 {}
 

@@ -10,14 +10,14 @@ ghost use Rattle.access_rules.specs.declared.keys.Keys.{Keys};
 ghost use Rattle.stamp_model.specs.Effects.{effect};
 ghost use Rattle.stamp_model.specs.Etags.{IsSeenBeforeOrNewer};
 ghost use Rattle.stamp_model.specs.Histories.{replay};
-ghost use Rattle.stamp_model.specs.JudgedRequests.{Judged, world_after_run};
+ghost use Rattle.stamp_model.specs.Runs.{Timed, world_after_all};
 
 /// One ETag names one state of a blob. After a request readers see of a blob what they saw before,
-/// or nothing, or what has an ETag above the count of before. So if no ETag was over the count, and
-/// the blob has the same ETag before the request and after it, readers see the same of it. Along
-/// the entries of a history, a blob that has the same ETag at two moments is the same at both, and
-/// at each moment between them. The same is so along requests in turn, each judged by its own key
-/// pair, if no ETag was over the count before the first of them.
+/// or nothing, or what has an ETag above the count of before. So if no ETag was over the count,
+/// and the blob has the same ETag before the request and after it, readers see the same of it.
+/// Along the entries of a history, a blob that has the same ETag at two moments is the same at
+/// both, and at each moment between them. The same is so along requests in turn, if no ETag was
+/// over the count before the first of them.
 pub fn an_etag_names_one_state()
     ensures request { (keys : Option Keys) (w : World (List ℕ)) (q : Asked) (t : ℕ) (k : Key)
         (name : List ℕ)
@@ -34,13 +34,13 @@ pub fn an_etag_names_one_state()
         → (blob_in (replay pairs (front ++ middle ++ rest)) name).committed ≡ Some last
         → first.etag ≡ last.etag
         → (blob_in (replay pairs (front ++ middle)) name).committed ≡ Some first }
-    ensures run { (w : World (List ℕ)) (key : Key) (front middle rest : List Judged)
+    ensures run { (w : World (List ℕ)) (key : Key) (front middle rest : List Timed)
         (name : List ℕ) (first last : Committed (List ℕ))
         → EtagsAtMost (part_at w key).count (part_at w key)
-        → (blob_in (part_at (world_after_run w front) key) name).committed ≡ Some first
-        → (blob_in (part_at (world_after_run w (front ++ middle ++ rest)) key) name).committed
+        → (blob_in (part_at (world_after_all w front) key) name).committed ≡ Some first
+        → (blob_in (part_at (world_after_all w (front ++ middle ++ rest)) key) name).committed
         ≡ Some last
         → first.etag ≡ last.etag
-        → (blob_in (part_at (world_after_run w (front ++ middle)) key) name).committed
+        → (blob_in (part_at (world_after_all w (front ++ middle)) key) name).committed
         ≡ Some first }
 {}

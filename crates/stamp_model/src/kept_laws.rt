@@ -15,8 +15,6 @@ ghost use Rattle.stamp_types.specs.Replies.{denied};
 ghost use Rattle.stamp_types.specs.Requests.{Asked, IsAsk};
 ghost use Rattle.stamp_types.specs.World.{World, blob_in, part_at};
 ghost use Rattle.access_rules.specs.declared.keys.Keys.{Keys};
-ghost use Rattle.access_rules.specs.Routes.{Admits};
-ghost use Rattle.row_trees.specs.Access.{acl_of};
 ghost use Rattle.range_rows.specs.ObjectReplies.{date_headers, kept_lines};
 ghost use Rattle.range_rows.specs.ObjectRules.{needs_blob};
 ghost use Rattle.range_rows.specs.Readings.{wanted_blocks};
@@ -24,8 +22,7 @@ ghost use Rattle.range_rows.specs.RequestChanges.{put_props};
 ghost use Rattle.stamp_model.specs.Blocks.{reads_committed, wanted_bytes};
 ghost use Rattle.stamp_model.specs.Effects.{effect};
 ghost use Rattle.stamp_model.specs.Kept.{GivesNoContent, LeavesBlob, LeavesContent, LeavesSeen};
-ghost use Rattle.stamp_model.specs.JudgedRequests.{Judged, reply_to_judged, world_after_run};
-ghost use Rattle.stamp_model.specs.Runs.{Timed, IsAdmitted, IsOn, reply_to_one, world_after_all};
+ghost use Rattle.stamp_model.specs.Runs.{Timed, IsAdmitted, IsOn, world_after_all, reply_to_one};
 
 /// A blob is changed by its own requests. A request leaves a blob as it was, with its uncommitted
 /// blocks, unless it writes this very blob, or makes or deletes its container. Put Block leaves what
@@ -48,111 +45,80 @@ pub fn a_blob_is_changed_by_its_own_requests()
         ≡ option_map blocks_and_props (blob_in (part_at w key) name).committed }
 {}
 
-/// What was written last is read, whatever came between that did not ask to write it again. A request
-/// counts by what it asks for, also if it is refused. If a Put Blob
-/// or a Put Block List is accepted, and each request after it leaves the content of the blob, a Get
-/// Blob without a range that no rule refuses has that content and the headers that were kept with
-/// it. If a Set Blob Metadata is accepted, and each request after it leaves what readers see of the
-/// blob, a Get Blob Metadata that no rule refuses has these metadata, and the ETag and the moment that
-/// the reply to the Set Blob Metadata gave. A
-/// request that reads only what is committed of a blob has the reply that it would have had before
-/// requests that leave what readers see of the blob, if no rule refuses it before or after them.
-/// After an accepted Delete Blob, and requests that give the blob no content, O1 or O3 refuses each
-/// request that needs the blob and that permission admits. Content, commits and deletions are so along
-/// requests that are judged each by its own key pair too.
+/// What was written last is read, whatever came between that did not ask to write it again. A
+/// request counts by what it asks for, also if it is refused. If a Put Blob or a Put Block List is
+/// accepted, and each request after it leaves the content of the blob, a Get Blob without a range
+/// that no rule refuses has that content and the headers that were kept with it. If a Set Blob
+/// Metadata is accepted, and each request after it leaves what readers see of the blob, a Get Blob
+/// Metadata that no rule refuses has these metadata, and the ETag and the moment that the reply to
+/// the Set Blob Metadata gave. A request that reads only what is committed of a blob has the reply
+/// that it would have had before requests that leave what readers see of the blob, if no rule
+/// refuses it before or after them. After an accepted Delete Blob, and requests that give the blob
+/// no content, O1 or O3 refuses each request that needs the blob and that permission admits.
 pub fn what_was_written_last_is_read()
-    ensures body { (keys : Option Keys) (w : World (List ℕ)) (key : Key) (name : List ℕ)
+    ensures body { (w : World (List ℕ)) (key : Key) (name : List ℕ)
         (put : Timed) (middle : List Timed) (get : Timed)
         → IsAsk put.request.ask → IsOn PutBlob key name put.request
-        → (reply_to_one keys w put).rule ≡ None
+        → (reply_to_one w put).rule ≡ None
         → All (λ r. LeavesContent key name r.request) middle → IsOn GetBlob key name get.request
         → get.request.ask.args.range ≡ None
-        → (reply_to_one keys (world_after_all keys w (put ∷ middle)) get).rule ≡ None
-        → (reply_to_one keys (world_after_all keys w (put ∷ middle)) get).body
+        → (reply_to_one (world_after_all w (put ∷ middle)) get).rule ≡ None
+        → (reply_to_one (world_after_all w (put ∷ middle)) get).body
         ≡ put.request.body }
-    ensures kept { (keys : Option Keys) (w : World (List ℕ)) (key : Key) (name : List ℕ)
+    ensures kept { (w : World (List ℕ)) (key : Key) (name : List ℕ)
         (kept : Kept) (put : Timed) (middle : List Timed) (get : Timed)
         → IsOn PutBlob key name put.request → put.request.ask.args.kept ≡ Some kept
-        → (reply_to_one keys w put).rule ≡ None
+        → (reply_to_one w put).rule ≡ None
         → All (λ r. LeavesContent key name r.request) middle → IsOn GetBlob key name get.request
         → get.request.ask.args.range ≡ None
-        → (reply_to_one keys (world_after_all keys w (put ∷ middle)) get).rule ≡ None
+        → (reply_to_one (world_after_all w (put ∷ middle)) get).rule ≡ None
         → (metadata : List Meta) × (etag : ℕ) × (made : ℕ)
-        × ((reply_to_one keys (world_after_all keys w (put ∷ middle)) get).headers
+        × ((reply_to_one (world_after_all w (put ∷ middle)) get).headers
         ≡ kept_lines (put_props put.request kept) ++ map header.Meta metadata
         ++ header.BlobType ∷ header.AcceptRanges ∷ date_headers etag made) }
-    ensures list { (keys : Option Keys) (w : World (List ℕ)) (key : Key) (name : List ℕ)
+    ensures list { (w : World (List ℕ)) (key : Key) (name : List ℕ)
         (list : Timed) (middle : List Timed) (get : Timed)
         → IsAsk list.request.ask → IsOn PutBlockList key name list.request
-        → (reply_to_one keys w list).rule ≡ None
+        → (reply_to_one w list).rule ≡ None
         → All (λ r. LeavesContent key name r.request) middle → IsOn GetBlob key name get.request
         → get.request.ask.args.range ≡ None
-        → (reply_to_one keys (world_after_all keys w (list ∷ middle)) get).rule ≡ None
-        → (reply_to_one keys (world_after_all keys w (list ∷ middle)) get).body
+        → (reply_to_one (world_after_all w (list ∷ middle)) get).rule ≡ None
+        → (reply_to_one (world_after_all w (list ∷ middle)) get).body
         ≡ wanted_bytes (blob_in (part_at w key) name) (wanted_blocks list.request) }
-    ensures kept_list { (keys : Option Keys) (w : World (List ℕ)) (key : Key) (name : List ℕ)
+    ensures kept_list { (w : World (List ℕ)) (key : Key) (name : List ℕ)
         (kept : Kept) (list : Timed) (middle : List Timed) (get : Timed)
         → IsOn PutBlockList key name list.request → list.request.ask.args.kept ≡ Some kept
-        → (reply_to_one keys w list).rule ≡ None
+        → (reply_to_one w list).rule ≡ None
         → All (λ r. LeavesContent key name r.request) middle → IsOn GetBlob key name get.request
         → get.request.ask.args.range ≡ None
-        → (reply_to_one keys (world_after_all keys w (list ∷ middle)) get).rule ≡ None
+        → (reply_to_one (world_after_all w (list ∷ middle)) get).rule ≡ None
         → (metadata : List Meta) × (etag : ℕ) × (made : ℕ)
-        × ((reply_to_one keys (world_after_all keys w (list ∷ middle)) get).headers
+        × ((reply_to_one (world_after_all w (list ∷ middle)) get).headers
         ≡ kept_lines (kept_fields kept None) ++ map header.Meta metadata
         ++ header.BlobType ∷ header.AcceptRanges ∷ date_headers etag made) }
-    ensures metadata { (keys : Option Keys) (w : World (List ℕ)) (key : Key) (name : List ℕ)
+    ensures metadata { (w : World (List ℕ)) (key : Key) (name : List ℕ)
         (set : Timed) (middle : List Timed) (get : Timed)
-        → IsOn SetMetadata key name set.request → (reply_to_one keys w set).rule ≡ None
+        → IsOn SetMetadata key name set.request → (reply_to_one w set).rule ≡ None
         → All (λ r. LeavesSeen key name r.request) middle → IsOn GetMetadata key name get.request
-        → (reply_to_one keys (world_after_all keys w (set ∷ middle)) get).rule ≡ None
-        → (reply_to_one keys (world_after_all keys w (set ∷ middle)) get).headers
-        ≡ map header.Meta set.request.ask.args.metadata ++ (reply_to_one keys w set).headers }
-    ensures later { (keys : Option Keys) (w : World (List ℕ)) (name : List ℕ)
+        → (reply_to_one (world_after_all w (set ∷ middle)) get).rule ≡ None
+        → (reply_to_one (world_after_all w (set ∷ middle)) get).headers
+        ≡ map header.Meta set.request.ask.args.metadata ++ (reply_to_one w set).headers }
+    ensures later { (w : World (List ℕ)) (name : List ℕ)
         (middle : List Timed) (read : Timed)
         → read.request.ask.blob ≡ Some name
         → IsTrue (reads_committed read.request.ask.op read.request.ask.args.kinds)
         → All (λ r. LeavesSeen read.request.ask.key name r.request) middle
-        → (reply_to_one keys w read).rule ≡ None
-        → (reply_to_one keys (world_after_all keys w middle) read).rule ≡ None
-        → reply_to_one keys (world_after_all keys w middle) read ≡ reply_to_one keys w read }
-    ensures deleted { (keys : Option Keys) (w : World (List ℕ)) (key : Key) (name : List ℕ)
+        → (reply_to_one w read).rule ≡ None
+        → (reply_to_one (world_after_all w middle) read).rule ≡ None
+        → reply_to_one (world_after_all w middle) read ≡ reply_to_one w read }
+    ensures deleted { (w : World (List ℕ)) (key : Key) (name : List ℕ)
         (delete : Timed) (middle : List Timed) (read : Timed)
-        → IsOn DeleteBlob key name delete.request → (reply_to_one keys w delete).rule ≡ None
+        → IsOn DeleteBlob key name delete.request → (reply_to_one w delete).rule ≡ None
         → All (λ r. GivesNoContent key name r.request) middle → read.request.ask.key ≡ key
         → read.request.ask.blob ≡ Some name → IsTrue (needs_blob read.request.ask.op)
-        → IsAdmitted keys (world_after_all keys w (delete ∷ middle)) read
-        → (reply_to_one keys (world_after_all keys w (delete ∷ middle)) read
+        → IsAdmitted (world_after_all w (delete ∷ middle)) read
+        → (reply_to_one (world_after_all w (delete ∷ middle)) read
         ≡ denied (record { rule = O1; code = ContainerNotFound }))
-        ⊎ (reply_to_one keys (world_after_all keys w (delete ∷ middle)) read
-        ≡ denied (record { rule = O3; code = BlobNotFound })) }
-    ensures body_run { (w : World (List ℕ)) (key : Key) (name : List ℕ) (put : Judged)
-        (middle : List Judged) (get : Judged)
-        → IsAsk put.request.ask → IsOn PutBlob key name put.request
-        → (reply_to_judged w put).rule ≡ None
-        → All (λ r. LeavesContent key name r.request) middle → IsOn GetBlob key name get.request
-        → get.request.ask.args.range ≡ None
-        → (reply_to_judged (world_after_run w (put ∷ middle)) get).rule ≡ None
-        → (reply_to_judged (world_after_run w (put ∷ middle)) get).body ≡ put.request.body }
-    ensures list_run { (w : World (List ℕ)) (key : Key) (name : List ℕ) (list : Judged)
-        (middle : List Judged) (get : Judged)
-        → IsAsk list.request.ask → IsOn PutBlockList key name list.request
-        → (reply_to_judged w list).rule ≡ None
-        → All (λ r. LeavesContent key name r.request) middle → IsOn GetBlob key name get.request
-        → get.request.ask.args.range ≡ None
-        → (reply_to_judged (world_after_run w (list ∷ middle)) get).rule ≡ None
-        → (reply_to_judged (world_after_run w (list ∷ middle)) get).body
-        ≡ wanted_bytes (blob_in (part_at w key) name) (wanted_blocks list.request) }
-    ensures deleted_run { (w : World (List ℕ)) (key : Key) (name : List ℕ) (delete : Judged)
-        (middle : List Judged) (read : Judged)
-        → IsOn DeleteBlob key name delete.request → (reply_to_judged w delete).rule ≡ None
-        → All (λ r. GivesNoContent key name r.request) middle → read.request.ask.key ≡ key
-        → read.request.ask.blob ≡ Some name → IsTrue (needs_blob read.request.ask.op)
-        → Admits read.keys
-        (acl_of (part_at (world_after_run w (delete ∷ middle)) read.request.ask.key))
-        read.request.ask.credential read.request.ask read.moment
-        → (reply_to_judged (world_after_run w (delete ∷ middle)) read
-        ≡ denied (record { rule = O1; code = ContainerNotFound }))
-        ⊎ (reply_to_judged (world_after_run w (delete ∷ middle)) read
+        ⊎ (reply_to_one (world_after_all w (delete ∷ middle)) read
         ≡ denied (record { rule = O3; code = BlobNotFound })) }
 {}

@@ -2,16 +2,17 @@
 //! code that runs.
 #![tactic(auto)]
 
+mod accepted_laws;
 mod block_laws;
 mod caller_laws;
 mod condition_laws;
 mod etag_laws;
 mod history_laws;
-mod judged_laws;
 mod kept_laws;
 mod laws;
 mod run_laws;
 
+pub use accepted_laws::a_run_is_the_replay_of_its_accepted_requests;
 pub use block_laws::{
     a_block_list_shows_the_blocks, a_commit_is_seen_whole_or_not_at_all,
     no_block_outlives_its_commit,
@@ -29,7 +30,6 @@ pub use history_laws::{
     a_front_part_of_a_legal_history_is_legal, an_accepted_request_continues_a_legal_history,
     each_entry_is_one_change,
 };
-pub use judged_laws::a_run_is_the_replay_of_its_accepted_requests;
 pub use kept_laws::{a_blob_is_changed_by_its_own_requests, what_was_written_last_is_read};
 pub use laws::{
     a_container_is_changed_by_its_own_operations, a_refused_request_changes_nothing,

@@ -1,6 +1,6 @@
 //! Laws of requests that are answered in turn. Each law is the contract of a function that does
 //! nothing.
-ghost use Rattle.std.specs.Prelude.{◌≡◌, ℕ, ◌+◌, IsTrue, List, [], ◌∷◌, ◌++◌, Option, Some, None, length, map};
+ghost use Rattle.std.specs.Prelude.{◌≡◌, ℕ, ◌+◌, IsTrue, List, [], ◌∷◌, ◌++◌, Some, None, length, map};
 ghost use Rattle.md5.specs.Md5.{md5};
 ghost use Rattle.stamp_values.specs.declared.key.Key.{Key};
 ghost use Rattle.stamp_values.specs.declared.op.Op.TheVariants.{BlobProperties, ContainerProperties, CreateContainer, DeleteBlob, DeleteContainer, GetBlob, GetMetadata, PutBlob, SetContainerMetadata, SetMetadata};
@@ -13,9 +13,6 @@ ghost use Rattle.stamp_types.specs.declared.rule.Rule.TheVariants.{O1, O3};
 ghost use Rattle.stamp_types.specs.Replies.{denied};
 ghost use Rattle.stamp_types.specs.Requests.{IsAsk};
 ghost use Rattle.stamp_types.specs.World.{World, part_at};
-ghost use Rattle.access_rules.specs.declared.keys.Keys.{Keys};
-ghost use Rattle.access_rules.specs.Routes.{Admits};
-ghost use Rattle.row_trees.specs.Access.{acl_of};
 ghost use Rattle.range_rows.specs.ObjectReplies.{date_headers, kept_lines};
 ghost use Rattle.range_rows.specs.ObjectRules.{needs_blob, needs_container};
 ghost use Rattle.range_rows.specs.RequestChanges.{put_props};
@@ -24,45 +21,44 @@ ghost use Rattle.stamp_model.specs.Runs.{Timed, AreAnswered, IsAdmitted, IsIn, I
 /// Each request has one reply, which follows from what the requests before it left. So the replies
 /// to the first requests do not depend on what comes after these requests.
 pub fn each_request_has_the_reply_of_its_position()
-    ensures count { (keys : Option Keys) (w : World (List ℕ)) (rs : List Timed)
-        → length (replies_to keys w rs) ≡ length rs }
-    ensures some { (keys : Option Keys) (w : World (List ℕ)) (front : List Timed) (r : Timed)
+    ensures count { (w : World (List ℕ)) (rs : List Timed)
+        → length (replies_to w rs) ≡ length rs }
+    ensures some { (w : World (List ℕ)) (front : List Timed) (r : Timed)
         (rest : List Timed)
-        → AreAnswered keys w front r rest (replies_to keys w front)
-        (reply_to_one keys (world_after_all keys w front) r)
-        (replies_to keys (world_after_all keys w (front ++ r ∷ [])) rest) }
-    ensures once { (keys : Option Keys) (w : World (List ℕ)) (front : List Timed) (r : Timed)
+        → AreAnswered w front r rest (replies_to w front)
+        (reply_to_one (world_after_all w front) r)
+        (replies_to (world_after_all w (front ++ r ∷ [])) rest) }
+    ensures once { (w : World (List ℕ)) (front : List Timed) (r : Timed)
         (rest : List Timed) (before : List Reply) (answer : Reply) (after : List Reply)
-        → AreAnswered keys w front r rest before answer after
-        → answer ≡ reply_to_one keys (world_after_all keys w front) r }
-    ensures front { (keys : Option Keys) (w : World (List ℕ)) (front : List Timed) (r : Timed)
+        → AreAnswered w front r rest before answer after
+        → answer ≡ reply_to_one (world_after_all w front) r }
+    ensures front { (w : World (List ℕ)) (front : List Timed) (r : Timed)
         (rest : List Timed) (before : List Reply) (answer : Reply) (after : List Reply)
-        → AreAnswered keys w front r rest before answer after → before ≡ replies_to keys w front }
+        → AreAnswered w front r rest before answer after → before ≡ replies_to w front }
 {}
 
 /// A reply names no rule only if the request's own route admits the request: by the account's keys,
 /// or by what its container gives to all callers, as the requests before it left that container.
 pub fn only_what_the_own_route_admits_is_answered()
-    ensures { (keys : Option Keys) (w : World (List ℕ)) (front : List Timed) (r : Timed)
+    ensures { (w : World (List ℕ)) (front : List Timed) (r : Timed)
         (rest : List Timed) (before : List Reply) (answer : Reply) (after : List Reply)
-        → AreAnswered keys w front r rest before answer after → answer.rule ≡ None
-        → Admits keys (acl_of (part_at (world_after_all keys w front) r.request.ask.key))
-        r.request.ask.credential r.request.ask r.moment }
+        → AreAnswered w front r rest before answer after → answer.rule ≡ None
+        → IsAdmitted (world_after_all w front) r }
 {}
 
 /// If a request is refused, it changes no other reply: without it, all requests before it and after
 /// it have the replies that they have with it, and the containers are the same in the end.
 pub fn a_refused_request_changes_no_other_reply()
-    ensures replies { (keys : Option Keys) (w : World (List ℕ)) (front : List Timed) (r : Timed)
+    ensures replies { (w : World (List ℕ)) (front : List Timed) (r : Timed)
         (rest : List Timed) (before : List Reply) (answer : Reply) (after : List Reply)
         (rule : Rule)
-        → AreAnswered keys w front r rest before answer after → answer.rule ≡ Some rule
-        → replies_to keys w (front ++ rest) ≡ before ++ after }
-    ensures world { (keys : Option Keys) (w : World (List ℕ)) (front : List Timed) (r : Timed)
+        → AreAnswered w front r rest before answer after → answer.rule ≡ Some rule
+        → replies_to w (front ++ rest) ≡ before ++ after }
+    ensures world { (w : World (List ℕ)) (front : List Timed) (r : Timed)
         (rest : List Timed) (before : List Reply) (answer : Reply) (after : List Reply)
         (rule : Rule)
-        → AreAnswered keys w front r rest before answer after → answer.rule ≡ Some rule
-        → world_after_all keys w (front ++ rest) ≡ world_after_all keys w (front ++ r ∷ rest) }
+        → AreAnswered w front r rest before answer after → answer.rule ≡ Some rule
+        → world_after_all w (front ++ rest) ≡ world_after_all w (front ++ r ∷ rest) }
 {}
 
 /// What is written is read by the request that comes next. Each clause begins with a request that is
@@ -76,82 +72,82 @@ pub fn a_refused_request_changes_no_other_reply()
 /// is refused by O3. What a Put Block and a Put Block List write has a law of its own,
 /// `a_commit_is_seen_whole_or_not_at_all`.
 pub fn what_is_written_is_read()
-    ensures body { (keys : Option Keys) (w : World (List ℕ)) (key : Key) (name : List ℕ)
+    ensures body { (w : World (List ℕ)) (key : Key) (name : List ℕ)
         (put get : Timed)
         → IsAsk put.request.ask → IsOn PutBlob key name put.request
         → IsOn GetBlob key name get.request → get.request.ask.args.range ≡ None
-        → (reply_to_one keys w put).rule ≡ None
-        → (reply_to_one keys (world_after_one keys w put) get).rule ≡ None
-        → (reply_to_one keys (world_after_one keys w put) get).body ≡ put.request.body }
-    ensures put { (keys : Option Keys) (w : World (List ℕ)) (key : Key) (name : List ℕ)
+        → (reply_to_one w put).rule ≡ None
+        → (reply_to_one (world_after_one w put) get).rule ≡ None
+        → (reply_to_one (world_after_one w put) get).body ≡ put.request.body }
+    ensures put { (w : World (List ℕ)) (key : Key) (name : List ℕ)
         (kept : Kept) (put : Timed)
         → IsOn PutBlob key name put.request → put.request.ask.args.kept ≡ Some kept
-        → (reply_to_one keys w put).rule ≡ None
-        → (reply_to_one keys w put).headers
+        → (reply_to_one w put).rule ≡ None
+        → (reply_to_one w put).headers
         ≡ header.ContentMd5 (md5 put.request.body)
         ∷ date_headers ((part_at w key).count + 1) put.moment }
-    ensures get { (keys : Option Keys) (w : World (List ℕ)) (key : Key) (name : List ℕ)
+    ensures get { (w : World (List ℕ)) (key : Key) (name : List ℕ)
         (kept : Kept) (put get : Timed)
         → IsOn PutBlob key name put.request → put.request.ask.args.kept ≡ Some kept
         → IsOn GetBlob key name get.request → get.request.ask.args.range ≡ None
-        → (reply_to_one keys w put).rule ≡ None
-        → (reply_to_one keys (world_after_one keys w put) get).rule ≡ None
-        → (reply_to_one keys (world_after_one keys w put) get).headers
+        → (reply_to_one w put).rule ≡ None
+        → (reply_to_one (world_after_one w put) get).rule ≡ None
+        → (reply_to_one (world_after_one w put) get).headers
         ≡ kept_lines (put_props put.request kept)
         ++ map header.Meta put.request.ask.args.metadata
         ++ header.BlobType ∷ header.AcceptRanges
         ∷ date_headers ((part_at w key).count + 1) put.moment }
-    ensures length { (keys : Option Keys) (w : World (List ℕ)) (key : Key) (name : List ℕ)
+    ensures length { (w : World (List ℕ)) (key : Key) (name : List ℕ)
         (put get : Timed)
         → IsAsk put.request.ask → IsOn PutBlob key name put.request
-        → IsOn BlobProperties key name get.request → (reply_to_one keys w put).rule ≡ None
-        → (reply_to_one keys (world_after_one keys w put) get).rule ≡ None
-        → (reply_to_one keys (world_after_one keys w put) get).length
+        → IsOn BlobProperties key name get.request → (reply_to_one w put).rule ≡ None
+        → (reply_to_one (world_after_one w put) get).rule ≡ None
+        → (reply_to_one (world_after_one w put) get).length
         ≡ length put.request.body }
-    ensures set { (keys : Option Keys) (w : World (List ℕ)) (key : Key) (name : List ℕ)
+    ensures set { (w : World (List ℕ)) (key : Key) (name : List ℕ)
         (set : Timed)
-        → IsOn SetMetadata key name set.request → (reply_to_one keys w set).rule ≡ None
-        → (reply_to_one keys w set).headers
+        → IsOn SetMetadata key name set.request → (reply_to_one w set).rule ≡ None
+        → (reply_to_one w set).headers
         ≡ date_headers ((part_at w key).count + 1) set.moment }
-    ensures metadata { (keys : Option Keys) (w : World (List ℕ)) (key : Key) (name : List ℕ)
+    ensures metadata { (w : World (List ℕ)) (key : Key) (name : List ℕ)
         (set get : Timed)
         → IsOn SetMetadata key name set.request → IsOn GetMetadata key name get.request
-        → (reply_to_one keys w set).rule ≡ None
-        → (reply_to_one keys (world_after_one keys w set) get).rule ≡ None
-        → (reply_to_one keys (world_after_one keys w set) get).headers
-        ≡ map header.Meta set.request.ask.args.metadata ++ (reply_to_one keys w set).headers }
-    ensures set_container { (keys : Option Keys) (w : World (List ℕ)) (key : Key) (set : Timed)
-        → IsIn SetContainerMetadata key set.request → (reply_to_one keys w set).rule ≡ None
-        → (reply_to_one keys w set).headers
+        → (reply_to_one w set).rule ≡ None
+        → (reply_to_one (world_after_one w set) get).rule ≡ None
+        → (reply_to_one (world_after_one w set) get).headers
+        ≡ map header.Meta set.request.ask.args.metadata ++ (reply_to_one w set).headers }
+    ensures set_container { (w : World (List ℕ)) (key : Key) (set : Timed)
+        → IsIn SetContainerMetadata key set.request → (reply_to_one w set).rule ≡ None
+        → (reply_to_one w set).headers
         ≡ date_headers ((part_at w key).count + 1) set.moment }
-    ensures properties { (keys : Option Keys) (w : World (List ℕ)) (key : Key) (set get : Timed)
+    ensures properties { (w : World (List ℕ)) (key : Key) (set get : Timed)
         → IsIn SetContainerMetadata key set.request
-        → IsIn ContainerProperties key get.request → (reply_to_one keys w set).rule ≡ None
-        → (reply_to_one keys (world_after_one keys w set) get).rule ≡ None
-        → (reply_to_one keys (world_after_one keys w set) get).headers
-        ≡ map header.Meta set.request.ask.args.metadata ++ (reply_to_one keys w set).headers }
-    ensures deleted_blob { (keys : Option Keys) (w : World (List ℕ)) (key : Key) (name : List ℕ)
+        → IsIn ContainerProperties key get.request → (reply_to_one w set).rule ≡ None
+        → (reply_to_one (world_after_one w set) get).rule ≡ None
+        → (reply_to_one (world_after_one w set) get).headers
+        ≡ map header.Meta set.request.ask.args.metadata ++ (reply_to_one w set).headers }
+    ensures deleted_blob { (w : World (List ℕ)) (key : Key) (name : List ℕ)
         (delete read : Timed)
-        → IsOn DeleteBlob key name delete.request → (reply_to_one keys w delete).rule ≡ None
+        → IsOn DeleteBlob key name delete.request → (reply_to_one w delete).rule ≡ None
         → read.request.ask.key ≡ key → read.request.ask.blob ≡ Some name
         → IsTrue (needs_blob read.request.ask.op)
-        → IsAdmitted keys (world_after_one keys w delete) read
-        → reply_to_one keys (world_after_one keys w delete) read
+        → IsAdmitted (world_after_one w delete) read
+        → reply_to_one (world_after_one w delete) read
         ≡ denied (record { rule = O3; code = BlobNotFound }) }
-    ensures deleted_container { (keys : Option Keys) (w : World (List ℕ)) (key : Key)
+    ensures deleted_container { (w : World (List ℕ)) (key : Key)
         (delete ask : Timed)
-        → IsIn DeleteContainer key delete.request → (reply_to_one keys w delete).rule ≡ None
+        → IsIn DeleteContainer key delete.request → (reply_to_one w delete).rule ≡ None
         → ask.request.ask.key ≡ key → IsTrue (needs_container ask.request.ask.op)
-        → IsAdmitted keys (world_after_one keys w delete) ask
-        → reply_to_one keys (world_after_one keys w delete) ask
+        → IsAdmitted (world_after_one w delete) ask
+        → reply_to_one (world_after_one w delete) ask
         ≡ denied (record { rule = O1; code = ContainerNotFound }) }
-    ensures made_again { (keys : Option Keys) (w : World (List ℕ)) (key : Key)
+    ensures made_again { (w : World (List ℕ)) (key : Key)
         (delete create read : Timed)
         → IsIn DeleteContainer key delete.request → IsIn CreateContainer key create.request
-        → (reply_to_one keys w delete).rule ≡ None
-        → (reply_to_one keys (world_after_one keys w delete) create).rule ≡ None
+        → (reply_to_one w delete).rule ≡ None
+        → (reply_to_one (world_after_one w delete) create).rule ≡ None
         → read.request.ask.key ≡ key → IsTrue (needs_blob read.request.ask.op)
-        → IsAdmitted keys (world_after_all keys w (delete ∷ create ∷ [])) read
-        → reply_to_one keys (world_after_all keys w (delete ∷ create ∷ [])) read
+        → IsAdmitted (world_after_all w (delete ∷ create ∷ [])) read
+        → reply_to_one (world_after_all w (delete ∷ create ∷ [])) read
         ≡ denied (record { rule = O3; code = BlobNotFound }) }
 {}

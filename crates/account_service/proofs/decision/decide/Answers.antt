@@ -1,4 +1,4 @@
-use Rattle.std.proofs.Common.{◌≡◌, Option, rules, sym, ap, ◌∙◌, subst}
+use Rattle.std.proofs.Common.{◌≡◌, Option, rules, ap, ◌∙◌, subst}
 use Rattle.std.specs.Prelude.{IfOk}
 use Rattle.stamp_types.specs.declared.refusal.Refusal.{Refusal}
 use Rattle.row_trees.specs.FoundParts.{sizes_found}

@@ -1,5 +1,5 @@
-use Rattle.std.proofs.Common.{◌≡◌, None, Some, rules, sym, ap, ◌∙◌}
-use Rattle.range_rows.specs.Judgements.{judgement, refusal_in}
+use Rattle.std.proofs.Common.{◌≡◌, None, rules}
+use Rattle.range_rows.specs.Judgements.{judgement}
 use Rattle.range_rows.specs.declared.judged.Judged.TheVariants as judged
 use Rattle.range_rows.proofs.JudgementLemmas.{refusal_of_judgement}
 use Rattle.stamp_model.specs.Refusals.{unserved_refusal}

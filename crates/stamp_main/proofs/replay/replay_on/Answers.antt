@@ -1,4 +1,4 @@
-use Rattle.std.proofs.Common.{rules, refl}
+use Rattle.std.proofs.Common.{rules}
 use Rattle.stamp_main.proofs.ReplayLemmas.{broken_by}
 use Rattle.stamp_main.proofs.replay.replay_on.Goals as goal
 

@@ -1,4 +1,4 @@
-use Rattle.std.proofs.Common.{rules, ◌≡◌}
+use Rattle.std.proofs.Common.{rules}
 use Rattle.stamp_main.proofs.SignLemmas.{sent_signature}
 use Rattle.stamp_main.proofs.signing.sign_on.Goals as goal
 

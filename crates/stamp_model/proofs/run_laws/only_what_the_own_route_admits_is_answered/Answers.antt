@@ -2,4 +2,4 @@ use Rattle.stamp_model.proofs.RunLemmas.{answered_admits}
 use Rattle.stamp_model.proofs.run_laws.only_what_the_own_route_admits_is_answered.Goals as goal
 
 pub returns : goal.returns
-returns c = λ keys w front r rest before answer after given none. answered_admits keys w front r rest before answer after given none
+returns c = λ w front r rest before answer after given none. answered_admits w front r rest before answer after given none

@@ -1,5 +1,5 @@
 use Rattle.std.proofs.Common.{sym, ◌∙◌, ap}
-use Rattle.account_lock.specs.Histories.{timed}
+use Rattle.account_lock.specs.Histories.{entered}
 use Rattle.account_lock.proofs.Adding.{adds_moves}
 use Rattle.account_lock.proofs.history.Front.add.Goals as goal
 
@@ -12,5 +12,5 @@ compare_exchange-found-requires g c =
       c.self.invariant.1 ∙ sym (ap (λ w. w.book) h),
       pen.0 ∙ (c.self.invariant.1 ∙ sym (ap (λ w. w.book) h)),
       offer.0,
-      rw (ap (λ w. w.key) h, pen.1, offer.1, offer.3) (adds_moves c.self.inside.seen.log (timed c.args.request.now c.args.moment) c.self.inside.count (sym c.self.invariant.0)),
+      rw (ap (λ w. w.key) h, pen.1, offer.1, offer.3) (adds_moves c.self.inside.seen.log (entered c.args.request.now c.args.moment) c.self.inside.count (sym c.self.invariant.0)),
     )

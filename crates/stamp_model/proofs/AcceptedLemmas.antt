@@ -8,7 +8,6 @@ use Rattle.stamp_values.specs.Order.{key_cmp, keys_total, keys_exact}
 use Rattle.stamp_values.specs.declared.key.Key.{Key}
 use Rattle.stamp_types.specs.declared.past.Past.{Past}
 use Rattle.stamp_types.specs.declared.refusal.Refusal.{Refusal}
-use Rattle.stamp_types.specs.declared.reply.Reply.{Reply}
 use Rattle.stamp_types.specs.Changes.{KeyedAct}
 use Rattle.stamp_types.specs.Pieces.{held}
 use Rattle.stamp_types.specs.World.{Part, World, part_at}
@@ -18,9 +17,9 @@ use Rattle.range_rows.specs.ObjectReplies.{byte_count, sizes}
 use Rattle.range_rows.specs.RequestChanges.{change_of, part_after}
 use Rattle.stamp_model.specs.Effects.{accepted, unless_refused}
 use Rattle.stamp_model.specs.Histories.{IsAccepted, IsEntryAfter, IsLegalFrom, after_entry, pair_of, replay_from}
-use Rattle.stamp_model.specs.JudgedRequests.{EpochsRise, IsChange, Judged, accepted_at, changes_at, is_on, judged_entry, judged_with, part_after_judged, part_after_run, replies_to_run, world_after_judged, world_after_run}
 use Rattle.stamp_model.specs.Refusals.{refusal}
-use Rattle.stamp_model.specs.Runs.{Timed, replies_to, reply_to_one, world_after_all, world_after_one}
+use Rattle.stamp_model.specs.AcceptedRequests.{EpochsRise, IsChange, accepted_at, changes_at, is_on, timed_by}
+use Rattle.stamp_model.specs.Runs.{Timed, part_after_one, part_after_all, world_after_one, world_after_all}
 use Rattle.stamp_model.proofs.CountLemmas.{IsLegalFrom-rest}
 use Rattle.stamp_model.proofs.EffectLemmas.{part_at-effect, part_at-effect_others}
 use Rattle.stamp_model.proofs.HistoryLemmas.{IsLegalFrom-append, IsLegalFrom-nil, last_or_before, replay_from-append}
@@ -38,7 +37,7 @@ by_accepted : (o : Option KeyedAct) (p : Part (List ℕ)) → part_after held o 
 by_accepted None p = refl
 by_accepted (Some c) p = refl
 
-module _ (w : World (List ℕ)) (r : Judged) (key : Key) where
+module _ (w : World (List ℕ)) (r : Timed) (key : Key) where
   abbrev own : Key
   own = r.request.ask.key
 
@@ -46,7 +45,7 @@ module _ (w : World (List ℕ)) (r : Judged) (key : Key) where
   found = accepted r.keys (sizes (part_at w own)) r.request r.moment
 
   abbrev After : Key → Bool → Type 0
-  After k b = part_at (world_after_judged w r) k ≡ cond (b && is_some found) (part_after_judged (part_at w k) r) (part_at w k)
+  After k b = part_at (world_after_one w r) k ≡ cond (b && is_some found) (part_after_one (part_at w k) r) (part_at w k)
 
   at_own : After own true
   at_own = part_at-effect byte_count held r.keys w r.request r.moment ∙ by_accepted found (part_at w own)
@@ -56,8 +55,8 @@ module _ (w : World (List ℕ)) (r : Judged) (key : Key) where
   by_key false e = part_at-effect_others byte_count held r.keys w r.request r.moment key (untied key own e)
 
   -- a container after a request: changed, if the request changes it, or else as it was
-  pub part_at-judged : part_at (world_after_judged w r) key ≡ cond (changes_at key w r) (part_after_judged (part_at w key) r) (part_at w key)
-  part_at-judged = by_key (is_on key r.request) refl
+  pub part_at-one : part_at (world_after_one w r) key ≡ cond (changes_at key w r) (part_after_one (part_at w key) r) (part_at w key)
+  part_at-one = by_key (is_on key r.request) refl
 
   -- a request that changes the container is on it, and is accepted there
   pub IsChange-changes : changes_at key w r ≡ true → IsChange key (part_at w key) r
@@ -78,62 +77,62 @@ module _ (w : World (List ℕ)) (r : Judged) (key : Key) where
 
 -- ---- requests in turn
 
-next_by : (b : Bool) (p : Part (List ℕ)) (r : Judged) (rs : List Judged) → part_after_run (cond b (part_after_judged p r) p) rs ≡ part_after_run p (cond b (r ∷ rs) rs)
+next_by : (b : Bool) (p : Part (List ℕ)) (r : Timed) (rs : List Timed) → part_after_all (cond b (part_after_one p r) p) rs ≡ part_after_all p (cond b (r ∷ rs) rs)
 next_by true p r rs = refl
 next_by false p r rs = refl
 
 -- a container after requests in turn is what those that change it make of it
-pub part_at-run : (key : Key) (rs : List Judged) (w : World (List ℕ)) → part_at (world_after_run w rs) key ≡ part_after_run (part_at w key) (accepted_at key w rs)
+pub part_at-run : (key : Key) (rs : List Timed) (w : World (List ℕ)) → part_at (world_after_all w rs) key ≡ part_after_all (part_at w key) (accepted_at key w rs)
 part_at-run key [] w = refl
 part_at-run key (r ∷ rs) w =
-    part_at-run key rs (world_after_judged w r)
-    ∙ ap (λ (p : Part (List ℕ)). part_after_run p (accepted_at key (world_after_judged w r) rs)) (part_at-judged w r key)
-    ∙ next_by (changes_at key w r) (part_at w key) r (accepted_at key (world_after_judged w r) rs)
+    part_at-run key rs (world_after_one w r)
+    ∙ ap (λ (p : Part (List ℕ)). part_after_all p (accepted_at key (world_after_one w r) rs)) (part_at-one w r key)
+    ∙ next_by (changes_at key w r) (part_at w key) r (accepted_at key (world_after_one w r) rs)
 
 none_there : {X : Type 0} (front : List X) (x : X) (rest : List X) → [] ≡ front ++ x ∷ rest → ⊥
 none_there [] x rest h = cc
 none_there (y ∷ front) x rest h = cc
 
 -- each of the requests that change a container changes it as those before it left it
-pub each-accepted : (key : Key) (rs : List Judged) (w : World (List ℕ)) (front : List Judged) (r : Judged) (rest : List Judged) → accepted_at key w rs ≡ front ++ r ∷ rest
-    → IsChange key (part_after_run (part_at w key) front) r
+pub each-accepted : (key : Key) (rs : List Timed) (w : World (List ℕ)) (front : List Timed) (r : Timed) (rest : List Timed) → accepted_at key w rs ≡ front ++ r ∷ rest
+    → IsChange key (part_after_all (part_at w key) front) r
 each-accepted key [] w front r rest h = absurd (none_there front r rest h)
-each-accepted key (x ∷ rs) w front r rest h = by_change (λ f is. each-accepted key rs (world_after_judged w x) f r rest is) (changes_at key w x) refl h
+each-accepted key (x ∷ rs) w front r rest h = by_change (λ f is. each-accepted key rs (world_after_one w x) f r rest is) (changes_at key w x) refl h
   where
     next : World (List ℕ)
-    next = world_after_judged w x
+    next = world_after_one w x
 
     Later : Type 0
-    Later = (front : List Judged) → accepted_at key next rs ≡ front ++ r ∷ rest → IsChange key (part_after_run (part_at next key) front) r
+    Later = (front : List Timed) → accepted_at key next rs ≡ front ++ r ∷ rest → IsChange key (part_after_all (part_at next key) front) r
 
-    first_or_later : Later → changes_at key w x ≡ true → (front : List Judged) → x ∷ accepted_at key next rs ≡ front ++ r ∷ rest → IsChange key (part_after_run (part_at w key) front) r
-    first_or_later later changes [] h = let same : x ≡ r = cc in subst (λ (y : Judged). IsChange key (part_at w key) y) same (IsChange-changes w x key changes)
+    first_or_later : Later → changes_at key w x ≡ true → (front : List Timed) → x ∷ accepted_at key next rs ≡ front ++ r ∷ rest → IsChange key (part_after_all (part_at w key) front) r
+    first_or_later later changes [] h = let same : x ≡ r = cc in subst (λ (y : Timed). IsChange key (part_at w key) y) same (IsChange-changes w x key changes)
     first_or_later later changes (y ∷ front) h =
         let same : x ≡ y = cc in
         let more : accepted_at key next rs ≡ front ++ r ∷ rest = cc in
-        subst (λ (p : Part (List ℕ)). IsChange key (part_after_run p front) r)
-        (part_at-judged w x key ∙ ap (λ (b : Bool). cond b (part_after_judged (part_at w key) x) (part_at w key)) changes ∙ ap (part_after_judged (part_at w key)) same)
+        subst (λ (p : Part (List ℕ)). IsChange key (part_after_all p front) r)
+        (part_at-one w x key ∙ ap (λ (b : Bool). cond b (part_after_one (part_at w key) x) (part_at w key)) changes ∙ ap (part_after_one (part_at w key)) same)
         (later front more)
 
-    by_change : Later → (b : Bool) → changes_at key w x ≡ b → cond b (x ∷ accepted_at key next rs) (accepted_at key next rs) ≡ front ++ r ∷ rest → IsChange key (part_after_run (part_at w key) front) r
+    by_change : Later → (b : Bool) → changes_at key w x ≡ b → cond b (x ∷ accepted_at key next rs) (accepted_at key next rs) ≡ front ++ r ∷ rest → IsChange key (part_after_all (part_at w key) front) r
     by_change later true changes h = first_or_later later changes front h
     by_change later false stays h =
-        subst (λ (p : Part (List ℕ)). IsChange key (part_after_run p front) r)
-        (part_at-judged w x key ∙ ap (λ (b : Bool). cond b (part_after_judged (part_at w key) x) (part_at w key)) stays)
+        subst (λ (p : Part (List ℕ)). IsChange key (part_after_all p front) r)
+        (part_at-one w x key ∙ ap (λ (b : Bool). cond b (part_after_one (part_at w key) x) (part_at w key)) stays)
         (later front h)
 
 -- the requests of two lists that change a container: those of the first list, and then those of the second list
-pub accepted_at-append : (key : Key) (front rest : List Judged) (w : World (List ℕ)) → accepted_at key w (front ++ rest) ≡ accepted_at key w front ++ accepted_at key (world_after_run w front) rest
+pub accepted_at-append : (key : Key) (front rest : List Timed) (w : World (List ℕ)) → accepted_at key w (front ++ rest) ≡ accepted_at key w front ++ accepted_at key (world_after_all w front) rest
 accepted_at-append key [] rest w = refl
 accepted_at-append key (r ∷ front) rest w =
-    ap (λ (l : List Judged). cond (changes_at key w r) (r ∷ l) l) (accepted_at-append key front rest (world_after_judged w r))
+    ap (λ (l : List Timed). cond (changes_at key w r) (r ∷ l) l) (accepted_at-append key front rest (world_after_one w r))
     ∙ by_change (changes_at key w r)
   where
-    early : List Judged
-    early = accepted_at key (world_after_judged w r) front
+    early : List Timed
+    early = accepted_at key (world_after_one w r) front
 
-    late : List Judged
-    late = accepted_at key (world_after_run (world_after_judged w r) front) rest
+    late : List Timed
+    late = accepted_at key (world_after_all (world_after_one w r) front) rest
 
     by_change : (b : Bool) → cond b (r ∷ (early ++ late)) (early ++ late) ≡ cond b (r ∷ early) early ++ late
     by_change true = refl
@@ -142,12 +141,12 @@ accepted_at-append key (r ∷ front) rest w =
 -- ---- histories
 
 -- a history replays as its entries do, each judged by the pair of its epoch
-pub replay_from-judged : (pairs : List Keys) (history : List Past) (start : Part (List ℕ)) → replay_from pairs start history ≡ part_after_run start (map (judged_entry pairs) history)
-replay_from-judged pairs [] start = refl
-replay_from-judged pairs (e ∷ rest) start = replay_from-judged pairs rest (after_entry pairs start e)
+pub replay_from-timed : (pairs : List Keys) (history : List Past) (start : Part (List ℕ)) → replay_from pairs start history ≡ part_after_all start (map (timed_by pairs) history)
+replay_from-timed pairs [] start = refl
+replay_from-timed pairs (e ∷ rest) start = replay_from-timed pairs rest (after_entry pairs start e)
 
 -- an accepted entry is a change
-pub IsChange-entry : (pairs : List Keys) (key : Key) (p : Part (List ℕ)) (e : Past) → IsAccepted pairs key p e → IsChange key p (judged_entry pairs e)
+pub IsChange-entry : (pairs : List Keys) (key : Key) (p : Part (List ℕ)) (e : Past) → IsAccepted pairs key p e → IsChange key p (timed_by pairs e)
 IsChange-entry pairs key p e new = record {
   own = new.own;
   changes = ap (λ (o : Option Refusal). is_some (unless_refused o (change_of (sizes p) e.request e.moment))) new.allowed ∙ new.writes;
@@ -155,28 +154,28 @@ IsChange-entry pairs key p e new = record {
 
 -- each entry of a legal history changes its container
 pub accepted_at-legal : (pairs : List Keys) (key : Key) (history : List Past) (w : World (List ℕ)) → IsLegalFrom pairs key (part_at w key) history
-    → accepted_at key w (map (judged_entry pairs) history) ≡ map (judged_entry pairs) history
+    → accepted_at key w (map (timed_by pairs) history) ≡ map (timed_by pairs) history
 accepted_at-legal pairs key [] w legal = refl
 accepted_at-legal pairs key (e ∷ rest) w legal =
-    ap (λ (b : Bool). cond b (first ∷ accepted_at key next (map (judged_entry pairs) rest)) (accepted_at key next (map (judged_entry pairs) rest))) changes
-    ∙ ap (λ (l : List Judged). first ∷ l)
+    ap (λ (b : Bool). cond b (first ∷ accepted_at key next (map (timed_by pairs) rest)) (accepted_at key next (map (timed_by pairs) rest))) changes
+    ∙ ap (λ (l : List Timed). first ∷ l)
     (accepted_at-legal pairs key rest next
     (subst (λ (p : Part (List ℕ)). IsLegalFrom pairs key p rest) (sym after) (IsLegalFrom-rest pairs key (part_at w key) e rest legal)))
   where
-    first : Judged
-    first = judged_entry pairs e
+    first : Timed
+    first = timed_by pairs e
 
     next : World (List ℕ)
-    next = world_after_judged w first
+    next = world_after_one w first
 
     changes : changes_at key w first ≡ true
     changes = changes-IsChange w first key (IsChange-entry pairs key (part_at w key) e (legal.accepted [] e (rest, refl)))
 
     after : part_at next key ≡ after_entry pairs (part_at w key) e
-    after = part_at-judged w first key ∙ ap (λ (b : Bool). cond b (part_after_judged (part_at w key) first) (part_at w key)) changes
+    after = part_at-one w first key ∙ ap (λ (b : Bool). cond b (part_after_one (part_at w key) first) (part_at w key)) changes
 
 -- a change is an accepted entry
-IsAccepted-change : (pairs : List Keys) (key : Key) (p : Part (List ℕ)) (e : Past) → IsChange key p (judged_entry pairs e) → IsAccepted pairs key p e
+IsAccepted-change : (pairs : List Keys) (key : Key) (p : Part (List ℕ)) (e : Past) → IsChange key p (timed_by pairs e) → IsAccepted pairs key p e
 IsAccepted-change pairs key p e c =
     let both = by_refusal (refusal (pair_of pairs e.epoch) (sizes p) e.request e.moment) (change_of (sizes p) e.request e.moment) c.changes in
     record { own = c.own; writes = both.1; allowed = both.0 }
@@ -205,8 +204,8 @@ module _ (history rest : List Past) (e : Past) where
       by_place (inr came) = NoneIsAbove-rest none front x came before y after
 
 module _ (pairs : List Keys) (key : Key) (start : Part (List ℕ)) where
-  abbrev entry : Past → Judged
-  entry = judged_entry pairs
+  abbrev entry : Past → Timed
+  entry = timed_by pairs
 
   -- entries continue a legal history by those of them that change the container
   abbrev Continued : World (List ℕ) → List Past → List Past → Type 0
@@ -221,10 +220,10 @@ module _ (pairs : List Keys) (key : Key) (start : Part (List ℕ)) where
 
   module _ (w : World (List ℕ)) (history rest : List Past) (e : Past) (up : IsUpTo w history (e ∷ rest)) where
     abbrev next : World (List ℕ)
-    next = world_after_judged w (entry e)
+    next = world_after_one w (entry e)
 
     after_by : (b : Bool) → changes_at key w (entry e) ≡ b → part_at next key ≡ cond b (after_entry pairs (part_at w key) e) (part_at w key)
-    after_by b is = part_at-judged w (entry e) key ∙ ap (λ (b : Bool). cond b (after_entry pairs (part_at w key) e) (part_at w key)) is
+    after_by b is = part_at-one w (entry e) key ∙ ap (λ (b : Bool). cond b (after_entry pairs (part_at w key) e) (part_at w key)) is
 
     IsUpTo-stays : changes_at key w (entry e) ≡ false → IsUpTo next history rest
     IsUpTo-stays stays = record {
@@ -249,7 +248,7 @@ module _ (pairs : List Keys) (key : Key) (start : Part (List ℕ)) where
         let more = changed is in (
           e ∷ more.0,
           subst (λ (h : List Past). IsLegalFrom pairs key start h) (append_assoc history (e ∷ []) more.0) more.1,
-          ap (λ (l : List Judged). entry e ∷ l) more.2
+          ap (λ (l : List Timed). entry e ∷ l) more.2
               ∙ sym (ap (λ (b : Bool). cond b (entry e ∷ accepted_at key next (map entry rest)) (accepted_at key next (map entry rest))) is),
         )
     Continued-by false is changed stayed =
@@ -263,15 +262,15 @@ module _ (pairs : List Keys) (key : Key) (start : Part (List ℕ)) where
   continued [] w history up = ([], subst (λ (h : List Past). IsLegalFrom pairs key start h) (sym (append-nil history)) up.legal, refl)
   continued (e ∷ rest) w history up =
       Continued-by w history rest e up (changes_at key w (entry e)) refl
-      (λ changes. continued rest (world_after_judged w (entry e)) (history ++ e ∷ []) (IsUpTo-changes w history rest e up changes))
-      (λ stays. continued rest (world_after_judged w (entry e)) history (IsUpTo-stays w history rest e up stays))
+      (λ changes. continued rest (world_after_one w (entry e)) (history ++ e ∷ []) (IsUpTo-changes w history rest e up changes))
+      (λ stays. continued rest (world_after_one w (entry e)) history (IsUpTo-stays w history rest e up stays))
 
 no_entry_before : (front : List Past) (x : Past) → IsEntryAfter front x [] → ⊥
 no_entry_before front x comes = none_there front x comes.0 comes.1
 
 -- of entries whose epochs do not fall, those that change the container are a legal history
 pub history-accepted : (pairs : List Keys) (key : Key) (w : World (List ℕ)) (entries : List Past) → EpochsRise entries
-    → (history : List Past) × IsLegalFrom pairs key (part_at w key) history × (map (judged_entry pairs) history ≡ accepted_at key w (map (judged_entry pairs) entries))
+    → (history : List Past) × IsLegalFrom pairs key (part_at w key) history × (map (timed_by pairs) history ≡ accepted_at key w (map (timed_by pairs) entries))
 history-accepted pairs key w entries rise =
     continued pairs key (part_at w key) entries w []
     (record {
@@ -280,13 +279,3 @@ history-accepted pairs key w entries rise =
       none = λ front x comes before y after. absurd (no_entry_before front x comes);
       rise = rise;
     })
-
--- ---- one key pair
-
-pub world_after_all-judged : (keys : Option Keys) (rs : List Timed) (w : World (List ℕ)) → world_after_all keys w rs ≡ world_after_run w (map (judged_with keys) rs)
-world_after_all-judged keys [] w = refl
-world_after_all-judged keys (r ∷ rs) w = world_after_all-judged keys rs (world_after_one keys w r)
-
-pub replies_to-judged : (keys : Option Keys) (rs : List Timed) (w : World (List ℕ)) → replies_to keys w rs ≡ replies_to_run w (map (judged_with keys) rs)
-replies_to-judged keys [] w = refl
-replies_to-judged keys (r ∷ rs) w = ap (λ (l : List Reply). reply_to_one keys w r ∷ l) (replies_to-judged keys rs (world_after_one keys w r))
