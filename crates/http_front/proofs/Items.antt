@@ -1,5 +1,5 @@
 -- One item is read.
-use Rattle.std.proofs.Common.{◌≡◌, ◌≢◌, ℕ, ◌+◌, ◌<◌, ◌≤◌, List, [], ◌∷◌, ◌++◌, Option, Some, None, Result, Ok, Err, refl, sym, ap, ◌∙◌, append_assoc, append-nil, subst, length, length-append, length-take, length-drop, take, drop, arith, inl, inr}
+use Rattle.std.proofs.Common.{◌≡◌, ◌≢◌, ℕ, ◌+◌, ◌<◌, ◌≤◌, List, [], ◌∷◌, ◌++◌, Option, Some, None, Result, Ok, Err, refl, sym, ap, ◌∙◌, append_assoc, append-nil, subst, length, length-append, length-take, take, drop, arith, inl, inr}
 use Rattle.std.proofs.lemmas.List.{drop-append-le, drop_all, take-append-drop}
 use Rattle.request_form.specs.declared.denial.Denial.{Denial}
 use Rattle.request_form.specs.HeadForms.{Form}

@@ -1,8 +1,8 @@
 -- A run so far, and one item more.
-use Rattle.std.proofs.Common.{◌≡◌, ◌≢◌, ◌⊎◌, ℕ, ◌+◌, ◌*◌, ◌<◌, ◌≤◌, Bool, true, false, List, [], ◌∷◌, ◌++◌, length, length-append, length-drop, map, flat_map, Option, Some, None, IfSome, Result, Ok, Err, inl, inr, refl, sym, ap, ◌∙◌, subst, arith, append-nil}
+use Rattle.std.proofs.Common.{◌≡◌, ◌≢◌, ℕ, ◌+◌, ◌*◌, ◌<◌, Bool, true, false, List, [], ◌∷◌, ◌++◌, length, length-append, length-drop, map, flat_map, Option, Some, None, IfSome, Result, Ok, Err, inl, inr, refl, sym, ap, ◌∙◌, subst, arith, append-nil}
 use Rattle.std.proofs.lemmas.List.{map-append}
 use Rattle.std.proofs.lemmas.List.Concat.{flat_map-append}
-use Rattle.std.specs.Io.KnownBytes.{Consumes, Appends, IsAtEnd}
+use Rattle.std.specs.Io.KnownBytes.{Consumes, Appends}
 use Rattle.std.proofs.KnownBytes.{Consumes-whole}
 use Rattle.stamp_types.specs.Requests.{Asked}
 use Rattle.stamp_types.specs.declared.reply.Reply.{Reply}
@@ -18,11 +18,11 @@ use Rattle.http_front.specs.declared.item.NextItem.{NextItem}
 use Rattle.http_front.specs.declared.item.NextItem.TheVariants as next_item
 use Rattle.http_front.specs.Answers.{LeavesItemUnanswered, AnswersCall, LeavesRequestUnanswered, AnswersItem, found_closes}
 use Rattle.http_front.specs.Connections.{ConnectionState, ReaderState, WriterState, IsFresh, IsLeftBy, IsOpen, Receives, Sends, idle_reads}
-use Rattle.http_front.specs.Conversations.{Exchange, item_of, moment_of, bytes_of, ClockGives, ServiceRepliesTo, ServiceReplies, EndsAs, AnswersInput, AnswersReceived, StopsBeforeOrAtItem, StopsAtItem, EndsOutOfMemory, BreaksOff, next_bytes}
+use Rattle.http_front.specs.Conversations.{Exchange, item_of, moment_of, bytes_of, ClockGives, ServiceRepliesTo, ServiceReplies, EndsAs, AnswersInput, AnswersReceived, StopsBeforeOrAtItem, StopsAtItem, EndsOutOfMemory, BreaksOff}
 use Rattle.http_front.specs.Conversations.Exchange.{Answered, RefusedAt}
-use Rattle.http_front.specs.Inputs.{IsFoundAtFront, IsInterimOrNothing, IsCutAt, ReadsItem, call_of}
+use Rattle.http_front.specs.Inputs.{IsFoundAtFront, IsInterimOrNothing, ReadsItem}
 use Rattle.http_front.specs.Outcomes.{IsOfWholeInput, UnlessMemoryFailed, UnlessWriteOrMemoryFailed}
-use Rattle.http_front.specs.Streams.{Item, Tail, HasHead, BeginsWith, EndsIn, Reads, ReadsFront, item_closes, interim, tail_bytes}
+use Rattle.http_front.specs.Streams.{Item, Tail, BeginsWith, EndsIn, Reads, ReadsFront, item_closes, interim, tail_bytes}
 use Rattle.http_front.specs.Streams.Item.{Requested, Refused}
 use Rattle.http_front.specs.Streams.Tail.{AtStart, Closing, InHead, InBody}
 use Rattle.http_front.proofs.ConnectionLemmas.{Receives-none, Receives-more, Sends-all, Sends-none, Sends-more}

@@ -1,4 +1,4 @@
-use Rattle.std.proofs.Common.{◌≡◌, Bool, Ok, Err, ap, sym, ◌∙◌}
+use Rattle.std.proofs.Common.{◌≡◌, Bool, Err, sym, ◌∙◌}
 use Rattle.std.proofs.lemmas.Result.{err_from_is_err_and}
 use Rattle.http_front.specs.declared.end.FrontFault.TheVariants.{Write, NoMemory}
 use Rattle.http_front.proofs.Talks.{answered_at, serving_none, serving_more, closed, closed_whole, broken_answer, clean, cut, cut_whole, broken_item, whole_of, starve_item, starve_answer, work_less}

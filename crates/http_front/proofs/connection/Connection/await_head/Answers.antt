@@ -1,4 +1,3 @@
-use Rattle.std.proofs.Common.{rules, ◌≡◌}
 use Rattle.http_front.proofs.ConnectionLemmas.{ReadsOn-none, ReadsOn-more}
 use Rattle.http_front.proofs.Ends.{searched_none}
 use Rattle.http_front.proofs.connection.Connection.await_head.Goals as goal

@@ -2,7 +2,6 @@ use Rattle.std.proofs.Common.{◌≤◌, ◌++◌, length, sym, subst, ◌∙◌
 use Rattle.std.proofs.lemmas.Result.{err_from_is_err_and}
 use Rattle.http_front.specs.Connections.{WriterState, Sends}
 use Rattle.http_front.specs.Streams.{interim}
-use Rattle.http_front.specs.declared.end.FrontFault.TheVariants.{NoMemory}
 use Rattle.http_front.proofs.Ends.{head_len_bound}
 use Rattle.http_front.proofs.Items.{starts, bodies_none, bodies_cut, bodies_whole}
 use Rattle.http_front.proofs.connection.Connection.read_body.Goals as goal
