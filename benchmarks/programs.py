@@ -11,14 +11,19 @@ sys.path.insert(0, str(ROOT / "checks"))
 import tree  # noqa: E402
 
 
-def build(copy, name, below):
-    """The program in benchmarks/NAME.rt.txt, proved and built in a copy of the tree that has the crates below it."""
+def place(copy, name, below):
+    """Places the program in benchmarks/NAME.rt.txt into a copy of the tree that has the crates below it."""
     # The gate refuses a file of Rattle's outside a crate, so the program has another name here.
     source = copy / "crates" / name / "src" / "main.rt"
     source.parent.mkdir(parents=True)
     shutil.copy(ROOT / "benchmarks" / f"{name}.rt.txt", source)
     with open(copy / "crates.txt", "a", encoding="utf-8") as lines:
         lines.write(f"{name}: {' '.join(below)}\n")
+
+
+def build(copy, name, below):
+    """The program in benchmarks/NAME.rt.txt, proved and built in a copy of the tree that has the crates below it."""
+    place(copy, name, below)
     said = []
     _, failed = tree.prove(copy, said.append)
     if failed:
