@@ -1,6 +1,7 @@
 pub mod ChangeLemmas
 pub mod ContentLemmas
 pub mod DataLemmas
+pub mod FailedLemmas
 pub mod FirstPartLemmas
 pub mod KeptLemmas
 pub mod LogLemmas

@@ -1,5 +1,5 @@
 //! Laws of what a log means. Each law is the contract of a function that does nothing.
-ghost use Rattle.std.specs.Prelude.{◌≡◌, ◌≢◌, ℕ, Bool, IsSome, IsTrue, List, Option, None, [], ◌∷◌, ◌++◌};
+ghost use Rattle.std.specs.Prelude.{◌≡◌, ◌≢◌, ℕ, Bool, IsSome, IsTrue, List, Option, None, Result, Err, [], ◌∷◌, ◌++◌};
 ghost use Rattle.extent_node.specs.Copies.{Block};
 ghost use Rattle.extent_node.specs.Faults.{held};
 ghost use Rattle.stamp_types.specs.Changes.{KeyedAct, change_with, content_of};
@@ -10,13 +10,15 @@ ghost use Rattle.stamp_types.specs.declared.piece.Piece.{Piece};
 ghost use Rattle.stamp_values.specs.declared.key.Key.{Key};
 ghost use Rattle.stream_manager.specs.Places.{KeepsPlaces};
 ghost use Rattle.stream_manager.specs.Streams.{laid};
+ghost use Rattle.stream_manager.specs.declared.faults.SettleFault.{SettleFault};
 ghost use Rattle.partition_stream.specs.Changes.{Recorded};
 ghost use Rattle.partition_stream.specs.Contents.{AreStored, content_at};
 ghost use Rattle.partition_stream.specs.Meanings.{acts_on, after_acts, held_of, meaning, IsOneMore, IsWithDoubt};
-ghost use Rattle.partition_stream.specs.Outcomes.{Logs};
+ghost use Rattle.partition_stream.specs.Outcomes.{Logs, IsLogged, IsLogSealed};
 ghost use Rattle.partition_stream.specs.Positions.{IsFirstPart, all_changes, changes_before};
 ghost use Rattle.partition_stream.specs.Storing.{AreKept, IsStoredChange};
 ghost use Rattle.partition_stream.specs.Streams.{HaveSameBlocks, Logged, ThreeStreams, logged};
+ghost use Rattle.partition_stream.specs.declared.faults.LogFault.{LogFault};
 ghost use Rattle.partition_stream.specs.declared.position.Position.{Position};
 
 /// Content that is stored stays stored and reads the same, if the blocks of the data stay at their places. A change that gets content
@@ -47,6 +49,15 @@ pub fn an_acknowledged_change_is_one_more()
 pub fn a_doubt_is_one_change_or_none()
     ensures { (s t : Logged) (kept : Bool) (doubt : Option Recorded) (key : Key) → t.rows ≡ s.rows → t.log ≡ s.log ++ held kept doubt
         → IsWithDoubt s t doubt key }
+{}
+
+/// A change that fails leaves each container as it was, or as the older change that was in doubt leaves it. So does a seal, whatever
+/// it answers.
+pub fn a_change_that_fails_is_not_counted()
+    ensures logged { (s t : ThreeStreams) (e : LogFault) (c : Recorded) (key : Key) → IsLogged (Err e) s c t
+        → (logged t).rows ≡ (logged s).rows → IsWithDoubt (logged s) (logged t) (logged s).doubt key }
+    ensures sealed { (s t : ThreeStreams) (r : Result (Unit {0}) SettleFault) (key : Key) → IsLogSealed r s t
+        → (logged t).rows ≡ (logged s).rows → IsWithDoubt (logged s) (logged t) (logged s).doubt key }
 {}
 
 /// What the log means is the same, whether each content is read in the data before the changes are made or after them.

@@ -28,6 +28,8 @@ fn content_is_read_where_it_was_put(rt: HostRuntime) {
     // 4,194,302 is 16,710 times 251 and 92.
     let end = part(&rt, &streams, &placed, 0, 4_194_302, 4_194_304, &mut wire);
     assert!(rt; end.as_slice() == &[92u8, 93][..]);
+    // The first node answers, so no other node is asked.
+    assert_eq!(rt; wire.called().len(), 7);
     let last = part(&rt, &streams, &placed, 1, 0, 1, &mut wire);
     assert!(rt; last.as_slice() == &[94u8][..]);
     let nothing = part(&rt, &streams, &placed, 0, 5, 5, &mut wire);

@@ -10,6 +10,8 @@ fn both_halves_keep_the_changes_and_go_on(rt: HostRuntime) {
     let mut wire = script(&rt, alloc, &[], &[]);
     assert_eq!(rt; log(&rt, alloc, &mut streams, "one", &mut wire), Told::Done);
     assert!(rt; streams.seal(&mut wire).is_ok());
+    // Each node is asked once, for the log alone: the other streams have no block.
+    assert_eq!(rt; wire.called().len(), 6);
     let mut half = streams.share().ok().expect(&rt, "memory");
     assert!(rt; keeps(&rt, alloc, &half, &["one"]));
     assert_eq!(rt; log(&rt, alloc, &mut half, "two", &mut wire), Told::Done);
