@@ -1,5 +1,5 @@
 -- Changes that fail, and seals, leave each container as it was, or as an older doubt leaves it.
-use Rattle.std.proofs.Common.{◌≡◌, ◌∙◌, ◌⊎◌, inl, inr, Option, Some, None, false, Result, Ok, Err, List, [], ◌++◌, ap, sym, append-nil}
+use Rattle.std.proofs.Common.{◌≡◌, ◌∙◌, ◌⊎◌, inl, inr, Option, Some, None, false, Result, Ok, Err, [], ◌++◌, ap, sym, append-nil}
 use Rattle.stamp_values.specs.declared.key.Key.{Key}
 use Rattle.stream_manager.specs.Places.{blocks_of, is_kept}
 use Rattle.stream_manager.specs.Streams.{laid}

@@ -1,5 +1,5 @@
 -- A change that is logged without an older doubt is one more change.
-use Rattle.std.proofs.Common.{◌≡◌, ◌∙◌, Bool, true, false, Option, None, List, [], ◌∷◌, ◌++◌, ap, refl}
+use Rattle.std.proofs.Common.{◌≡◌, ◌∙◌, Bool, true, false, Option, None, [], ◌∷◌, ◌++◌, ap, refl}
 use Rattle.std.specs.Option.{option_to_list}
 use Rattle.extent_node.specs.Faults.{held}
 use Rattle.stream_manager.specs.Places.{blocks_of, is_kept}
