@@ -8,6 +8,7 @@ use Rattle.list_pages.specs.Names.{begins_with, group_of}
 use Rattle.list_pages.specs.Seeks.{raised, later_of}
 use Rattle.list_pages.specs.Pages.{Entry, PageOf, listed, from_marker, page, with_value, page_of_names}
 use Rattle.list_pages.specs.Rising.{Rises}
+use Rattle.list_pages.proofs.Orders.{before, from_from, from_itself, past_from}
 use Rattle.list_pages.proofs.Lists.{IsEndOf, rest_above, end_of_all, length_filter}
 use Rattle.list_pages.proofs.Walk.{seen, seen_by, walked, walked_is, pass_by, end, name_step, group_step, group_passed, rest_after, walk_from}
 
@@ -37,6 +38,35 @@ module _ {Y : Type 0} where
     next = (next ∙ ap (option_map (λ item. item.0)) (sym (at_end out item later) ∙ ap (slice_get (out ++ item ∷ later)) full ∙ ap (λ xs. slice_get xs max) (sym is))) i;
   }
 
+-- ---- names that are at the marker or past it
+
+module _ {X : Type 0} (m : List ℕ) where
+  abbrev pub AreFrom : List (List ℕ × X) → Type 0
+  AreFrom [] = Unit
+  AreFrom (e ∷ es) = (is_name_from m e.0 ≡ true) × AreFrom es
+
+  kept_by : (e : List ℕ × X) (b : Bool) (es : List (List ℕ × X)) → is_name_from m e.0 ≡ true → AreFrom es → AreFrom (cond b (e ∷ es) es)
+  kept_by e true es at more = (at, more)
+  kept_by e false es at more = more
+
+  -- a test keeps such names
+  are_kept : (keep : List ℕ × X → Bool) (es : List (List ℕ × X)) → AreFrom es → AreFrom (filter keep es)
+  are_kept keep [] from = tt
+  are_kept keep (e ∷ es) from = kept_by e (keep e) (filter keep es) from.0 (are_kept keep es from.1)
+
+  past_by : (bound : List ℕ) (e : List ℕ × X) (b : Bool) (es : List (List ℕ × X)) → is_name_from m bound ≡ true → is_name_from bound e.0 ≡ b → AreFrom es → AreFrom (cond b (e ∷ es) es)
+  past_by bound e true es at is more = (from_from m bound e.0 at is, more)
+  past_by bound e false es at is more = more
+
+  -- what is past a bound that is at the marker or past it
+  are_past : (bound : List ℕ) → is_name_from m bound ≡ true → (es : List (List ℕ × X)) → AreFrom (filter (λ e. is_name_from bound e.0) es)
+  are_past bound at [] = tt
+  are_past bound at (e ∷ es) = past_by bound e (is_name_from bound e.0) (filter (λ e. is_name_from bound e.0) es) at refl (are_past bound at es)
+
+start_by : (p m : List ℕ) (b : Bool) → is_name_from p m ≡ b → is_name_from m (cond b m p) ≡ true
+start_by p m true is = from_itself m
+start_by p m false is = past_from m p (before p m is)
+
 module _ {X Y : Type 0} (has : X → Option Y) (p d m : List ℕ) (es : List (List ℕ × X)) where
   -- the list that a page is of
   abbrev pub wanted : List (Entry Y)
@@ -46,6 +76,7 @@ module _ {X Y : Type 0} (has : X → Option Y) (p d m : List ℕ) (es : List (Li
   pub record IsAt (out : List (Entry Y)) (left : List (List ℕ × X)) : Type 0 where
     pub so_far : wanted ≡ out ++ walked has p d m left
     pub place : IsEndOf left es
+    pub from : AreFrom m left
 
   -- the part of a list that passes a test that no later entry fails ends the list
   abbrev from_bound : List ℕ → List (List ℕ × X)
@@ -59,6 +90,7 @@ module _ {X Y : Type 0} (has : X → Option Y) (p d m : List ℕ) (es : List (Li
     at_first left is = record {
       so_far = walked_is has p d m es ∙ walk_from has p d m es ∙ ap (walked has p d m) (sym is);
       place = ends_from (later_of p m) left is;
+      from = subst (λ left. AreFrom m left) (sym is) (are_past m (later_of p m) (start_by p m (is_name_from p m) refl) es);
     }
 
     pub at_start : (out : List (Entry Y)) (left : List (List ℕ × X)) (bound : List ℕ) → out ≡ [] → bound ≡ later_of p m → left ≡ from_bound bound → IsAt out left
@@ -79,6 +111,19 @@ module _ {X Y : Type 0} (has : X → Option Y) (p d m : List ℕ) (es : List (Li
 
       later_place : IsEndOf later es
       later_place = (at.place.0 ++ here ∷ [], there ∙ sym (append_assoc at.place.0 (here ∷ []) later))
+
+      all_from : AreFrom m (here ∷ later)
+      all_from = subst (λ left. AreFrom m left) is at.from
+
+      -- the name is at the marker or past it
+      pub at_name : is_name_from m name ≡ true
+      at_name = all_from.0
+
+      kept : (group : List ℕ) (after : List (List ℕ × X)) → begins_with name p ≡ true → group_of p d name ≡ Some group → after ≡ from_bound (raised group) → after ≡ filter (λ e. is_name_from (raised group) e.0) later
+      kept group after f g from = from ∙ ap (filter (λ e. is_name_from (raised group) e.0)) there ∙ rest_after has p d m at.place.0 here later group rest_up f g
+
+      after_from : (group : List ℕ) (after : List (List ℕ × X)) → begins_with name p ≡ true → group_of p d name ≡ Some group → after ≡ from_bound (raised group) → AreFrom m after
+      after_from group after f g from = subst (λ left. AreFrom m left) (sym (kept group after f g from)) (are_kept m (λ e. is_name_from (raised group) e.0) later all_from.1)
 
       -- ---- what is seen of the name
       no_prefix : (value : Option Y) (group : Option (List ℕ)) → seen_by has p d m value name false group ≡ None
@@ -102,7 +147,7 @@ module _ {X Y : Type 0} (has : X → Option Y) (p d m : List ℕ) (es : List (Li
 
       -- ---- the steps
       skip : seen has p d m here ≡ None → IsAt out later
-      skip none = record { so_far = reached ∙ ap (λ t. out ++ t) (pass_by has p d m here later none); place = later_place }
+      skip none = record { so_far = reached ∙ ap (λ t. out ++ t) (pass_by has p d m here later none); place = later_place; from = all_from.1 }
 
       -- the name does not begin with the prefix
       pub skip_without : begins_with name p ≡ false → IsAt out later
@@ -124,7 +169,7 @@ module _ {X Y : Type 0} (has : X → Option Y) (p d m : List ℕ) (es : List (Li
 
       -- the name is the next entry
       pub take_name : (value : Y) → has v ≡ Some value → begins_with name p ≡ true → group_of p d name ≡ None → is_name_from m name ≡ true → (more : List (Entry Y)) → more ≡ out ++ (name, Some value) ∷ [] → IsAt more later
-      take_name value e f g h more put = subst (λ out. IsAt out later) (sym put) (record { so_far = one_more (name, Some value) (walked has p d m later) (name_next value e f g h); place = later_place })
+      take_name value e f g h more put = subst (λ out. IsAt out later) (sym put) (record { so_far = one_more (name, Some value) (walked has p d m later) (name_next value e f g h); place = later_place; from = all_from.1 })
 
       -- the name is the first entry that is left out
       pub full_name : (r : PageOf Y) (max : ℕ) (value : Y) → has v ≡ Some value → begins_with name p ≡ true → group_of p d name ≡ None → is_name_from m name ≡ true → length out ≡ max → r.entries ≡ out → r.next ≡ Some name
@@ -143,6 +188,7 @@ module _ {X Y : Type 0} (has : X → Option Y) (p d m : List ℕ) (es : List (Li
       take_group value group after e f g h from more put = subst (λ out. IsAt out after) (sym put) (record {
         so_far = one_more (group, None) (walked has p d m after) (group_next value group e f g h ∙ ap (λ es. out ++ (group, None) ∷ walked has p d m es) (sym from));
         place = ends_from (raised group) after from;
+        from = after_from group after f g from;
       })
 
       -- the group is before the marker
@@ -154,6 +200,7 @@ module _ {X Y : Type 0} (has : X → Option Y) (p d m : List ℕ) (es : List (Li
             ∙ ap (λ es. out ++ walked has p d m (filter (λ e. is_name_from (raised group) e.0) es)) (sym there)
             ∙ ap (λ es. out ++ walked has p d m es) (sym from);
         place = ends_from (raised group) after from;
+        from = after_from group after f g from;
       }
 
       -- the group is the first entry that is left out
@@ -169,9 +216,8 @@ module _ {X Y : Type 0} (has : X → Option Y) (p d m : List ℕ) (es : List (Li
       -- the rows after a group are fewer
       pub fewer : (group : List ℕ) (after : List (List ℕ × X)) → begins_with name p ≡ true → group_of p d name ≡ Some group → after ≡ from_bound (raised group) → length after < length left
       fewer group after f g from =
-          let kept : after ≡ filter (λ e. is_name_from (raised group) e.0) later = from ∙ ap (filter (λ e. is_name_from (raised group) e.0)) there ∙ rest_after has p d m at.place.0 here later group rest_up f g in
           let few = length_filter (λ (e : List ℕ × X). is_name_from (raised group) e.0) later in
-          omega (arith, ap length kept, few, ap length is)
+          omega (arith, ap length (kept group after f g from), few, ap length is)
 
     -- no row is left
     pub all_walked : (r : PageOf Y) (max : ℕ) (out : List (Entry Y)) (left : List (List ℕ × X)) → IsAt out left → left ≡ [] → length out ≤ max → r.entries ≡ out → r.next ≡ None → r ≡ page_of_names has p d m max es

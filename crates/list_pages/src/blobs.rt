@@ -59,12 +59,11 @@ fn page_under<'a>(
         };
         match group_of(prefix, delimiter, name) {
             None => {
-                if is_from(marker, name) {
-                    if entries.len() >= max {
-                        return Ok(BlobPage::new(entries, Some(name)));
-                    }
-                    entries.push(BlobEntry::blob(name, shown))?;
+                // The walk begins at the marker, so the name is at the marker or past it.
+                if entries.len() >= max {
+                    return Ok(BlobPage::new(entries, Some(name)));
                 }
+                entries.push(BlobEntry::blob(name, shown))?;
             }
             Some(group) => {
                 // The walk goes on after the group, so the other names of the group cost nothing.
