@@ -11,9 +11,10 @@ import tree
 
 RECORD = tree.ROOT / "edits-tried.txt"
 HEADING = """# Written by ./prove. A line for each must-fail edit that was tried last: the edit, the digest of the edit and of the files that it turns,
-# the digest of what else decides about it, the day, the toolchain. docs/gate.md says what is in the digests.
+# the digest of what else decides about it, the day, whether it was tried alone, together with others or both ways, the toolchain. docs/gate.md says
+# what is in the digests.
 """
-LINE = re.compile(r"(?P<edit>\w+/[\w.-]+) (?P<turned>[0-9a-f]{16}) (?P<around>[0-9a-f]{16}) (?P<day>\d{4}-\d\d-\d\d) (?P<toolchain>\S.*)")
+LINE = re.compile(r"(?P<edit>\w+/[\w.-]+) (?P<turned>[0-9a-f]{16}) (?P<around>[0-9a-f]{16}) (?P<day>\d{4}-\d\d-\d\d) (?:(?P<way>alone|together|both) )?(?P<toolchain>\S.*)")
 FUNCTION = re.compile(r"( *)(?:pub(?:\([\w ]+\))? )?(?:const )?(?:unsafe )?fn (\w+)")
 TYPE = re.compile(r"^(?:pub(?:\([\w ]+\))? )?(?:struct|enum) (\w+)", re.M)
 IMPLS = re.compile(r"impl(?:<.*?>)? (?:(?:\w+::)*(\w+)(?:<.*>)? for )?(?:\w+::)*(\w+)")
@@ -201,17 +202,24 @@ def read_record(file=RECORD):
 
 
 def write_record(record, tried, toolchain, file=RECORD, root=tree.ROOT):
-    """Writes the record anew, whole or not at all, with a line for each edit that was refused, by its digests. Lines of edits that are gone go."""
+    """Writes the record anew, whole or not at all, with a line for each edit that was refused, by its digests and how it was tried.
+
+    Lines of edits that are gone go."""
     here = {str(it) for crate in tree.lines_of_crates(root) for it in edits_of(crate, root)}
     lines = {edit: line[0] for edit, line in record.items() if edit in here}
-    lines.update({str(edit): f"{edit} {turned} {around} {date.today()} {toolchain}" for edit, (turned, around) in tried.items()})
+    lines.update({str(edit): f"{edit} {turned} {around} {date.today()} {way} {toolchain}" for edit, (turned, around, way) in tried.items()})
     new = file.with_suffix(".new")
     new.write_text(HEADING + "".join(f"{lines[edit]}\n" for edit in sorted(lines)), encoding="utf-8")
     os.replace(new, file)
 
 
 def told(left, record):
-    """What to tell of the edits that are still owed."""
+    """What to tell of the edits that are still owed, and of those that were tried both ways."""
+    both = sum(it["way"] == "both" for it in record.values())
+    return f"{told_of_owed(left, record)}; {both} of {len(record)} were tried alone and together"
+
+
+def told_of_owed(left, record):
     if not left:
         return "no must-fail edit is owed"
     days = [record[str(it)]["day"] for it in left if str(it) in record]

@@ -114,24 +114,24 @@ class Budget:
             self.running.remove(share * self.likely[crate])
 
 
-def digests_of(found, copy):
-    """The digests of edits, of the files of a copy of the tree."""
-    of_crates = {crate: edits.Digests(crate, copy) for crate in {it.crate for it in found}}
-    return {edit: of_crates[edit.crate].of(edit) for edit in found}
+def lines_of(ways, copy):
+    """What the record says of edits, by how each of them was tried: their digests, of the files of a copy of the tree, and how."""
+    of_crates = {crate: edits.Digests(crate, copy) for crate in {it.crate for it in ways}}
+    return {edit: (*of_crates[edit.crate].of(edit), way) for edit, way in ways.items()}
 
 
 class Trials:
-    """Trials of edits on a copy of the tree: which edits were tried, and whether each of them was refused."""
+    """Trials of edits on a copy of the tree: which edits were tried, whether each of them was refused, and whether it was tried alone or together."""
 
     def __init__(self, copy, budget):
         self.rt, self.copy, self.budget = toolchain(), copy, budget
         self.crates = {it.name: it for it in self.rt.rtlib.crates_below(str(copy))}
-        self.refused, self.telling = {}, threading.Lock()
+        self.refused, self.ways, self.telling = {}, {}, threading.Lock()
 
-    def tell(self, edit, is_refused, how):
+    def tell(self, edit, is_refused, way, where):
         with self.telling:
-            self.refused[edit] = is_refused
-            print(f"prove: must-fail {edit}: {'refused' if is_refused else 'NOT REFUSED'}, {how}", flush=True)
+            self.refused[edit], self.ways[edit] = is_refused, way
+            print(f"prove: must-fail {edit}: {'refused' if is_refused else 'NOT REFUSED'}, {way}: {where}", flush=True)
 
     def try_together(self, crate, texts, functions):
         """Tries the edits of a list in one check, and returns those that it does not show to be refused.
@@ -151,7 +151,7 @@ class Trials:
             return [*functions]
         for edit, of_edit in functions.items():
             if of_edit & found:
-                self.tell(edit, True, f"at a goal of {min(of_edit & found)}")
+                self.tell(edit, True, "together", f"at a goal of {min(of_edit & found)}")
         return [edit for edit, of_edit in functions.items() if not of_edit & found]
 
     def try_alone(self, crate, found):
@@ -180,7 +180,7 @@ class Trials:
             for edit, (is_refused, said) in tried.items():
                 if not (is_sound and is_refused) and len(tried) > 1:
                     is_refused, said = try_one(edit)
-                self.tell(edit, is_refused, f"alone: {said.partition(': ')[2]}")
+                self.tell(edit, is_refused, "alone", said.partition(": ")[2])
 
     def try_all(self, found, are_some_alone=True):
         """Tries edits, those of a crate that comes first in the list before those of others, as many at a time as there is room for.
