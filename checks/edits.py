@@ -11,10 +11,12 @@ import tree
 
 RECORD = tree.ROOT / "edits-tried.txt"
 HEADING = """# Written by ./prove. A line for each must-fail edit that was tried last: the edit, the digest of the edit and of the files that it turns,
-# the digest of what else decides about it, the day, whether it was tried alone, together with others or both ways, the toolchain. docs/gate.md says
-# what is in the digests.
+# the digest of what else decides about it, the day, whether it was tried alone, together with others or both ways, or gave no answer in time, the
+# toolchain. docs/gate.md says what is in the digests.
 """
-LINE = re.compile(r"(?P<edit>\w+/[\w.-]+) (?P<turned>[0-9a-f]{16}) (?P<around>[0-9a-f]{16}) (?P<day>\d{4}-\d\d-\d\d) (?:(?P<way>alone|together|both) )?(?P<toolchain>\S.*)")
+# How the record says that a check of an edit was ended before it answered.
+UNANSWERED = "unanswered"
+LINE = re.compile(r"(?P<edit>\w+/[\w.-]+) (?P<turned>[0-9a-f]{16}) (?P<around>[0-9a-f]{16}) (?P<day>\d{4}-\d\d-\d\d) (?:(?P<way>alone|together|both|unanswered) )?(?P<toolchain>\S.*)")
 FUNCTION = re.compile(r"( *)(?:pub(?:\([\w ]+\))? )?(?:const )?(?:unsafe )?fn (\w+)")
 TYPE = re.compile(r"^(?:pub(?:\([\w ]+\))? )?(?:struct|enum) (\w+)", re.M)
 IMPLS = re.compile(r"impl(?:<.*?>)? (?:(?:\w+::)*(\w+)(?:<.*>)? for )?(?:\w+::)*(\w+)")
@@ -202,7 +204,7 @@ def read_record(file=RECORD):
 
 
 def write_record(record, tried, toolchain, file=RECORD, root=tree.ROOT):
-    """Writes the record anew, whole or not at all, with a line for each edit that was refused, by its digests and how it was tried.
+    """Writes the record anew, whole or not at all, with a line for each of these edits, by its digests and how it was tried.
 
     Lines of edits that are gone go."""
     here = {str(it) for crate in tree.lines_of_crates(root) for it in edits_of(crate, root)}
@@ -229,7 +231,8 @@ def told_of_owed(left, record):
 
 
 def owed(record, toolchain, crates, root=tree.ROOT):
-    """The edits of these crates that are owed, those first that are new or whose files changed, then those that were tried longest ago.
+    """The edits of these crates that are owed, those first that are new or whose files changed, then those that were tried longest ago, and last
+    those that gave no answer in time.
 
     If a crate owes none, and none of its edits was tried with this toolchain, it owes the one that was tried longest ago."""
     found = []
@@ -241,6 +244,8 @@ def owed(record, toolchain, crates, root=tree.ROOT):
                 found.append((0, "", edit))
             elif line["around"] != around:
                 late.append((1, line["day"], edit))
+            elif line["way"] == UNANSWERED:
+                late.append((3, line["day"], edit))
             else:
                 lines[edit] = line
         found += late

@@ -8,6 +8,7 @@ import importlib.util
 import os
 import re
 import resource
+import signal
 import subprocess
 import tempfile
 import threading
@@ -20,6 +21,11 @@ import tree
 FLAGS = ["--jobs", "1"]
 # What an edit is likely to take of the proof of its crate, if another edit of the crate was tried before it.
 LATER = 0.3
+# The most seconds of processor time that the check of one edit may take. After that nothing is known of the edit.
+LONGEST = 6 * 60
+OUT_OF_TIME = f"ended with status -{signal.SIGXCPU}"
+# Whether the checks of this thread are ended after so much time.
+CHECKS = threading.local()
 JUDGED = re.compile(r"(fn|impl|struct|enum|trait) \S+: ")
 REFUSED = re.compile(r"fn (\S+): (?:not proved(?!;)|no proof: expected answers in )")
 GOAL = re.compile(r"note: src/\S+?:\d+:\d+: ")
@@ -37,7 +43,9 @@ def toolchain():
     loader.exec_module(rt)
     rt.rtlib.Crate = rt.Crate
     # Its first call sets the handler of a signal, which only the main thread may do.
-    rt.rtlib.guarded()
+    words = rt.rtlib.guarded()
+    # The second limit kills, which `rt` takes for a lack of memory; the first one ends a check before that.
+    rt.rtlib.guarded = lambda: [*(["prlimit", f"--cpu={LONGEST}:{2 * LONGEST}"] if getattr(CHECKS, "are_limited", False) else []), *words]
     return rt
 
 
@@ -128,6 +136,15 @@ class Trials:
         self.crates = {it.name: it for it in self.rt.rtlib.crates_below(str(copy))}
         self.refused, self.ways, self.telling = {}, {}, threading.Lock()
 
+    def is_refused(self, answer):
+        """Whether an answer of `rt` to an edit says that the prover refused it, also if only by a limit of its own."""
+        return answer in (self.rt.REFUSED, self.rt.AT_LIMIT)
+
+    def tell_unanswered(self, edit):
+        with self.telling:
+            self.ways[edit] = edits.UNANSWERED
+            print(f"prove: must-fail {edit}: no answer after {LONGEST // 60} minutes of processor time, so it stays owed", flush=True)
+
     def tell(self, edit, is_refused, way, where):
         with self.telling:
             self.refused[edit], self.ways[edit] = is_refused, way
@@ -166,7 +183,11 @@ class Trials:
             def try_one(edit, kept=None):
                 file = Path(room) / f"{edit.name}.edit"
                 file.write_text(edit.text(), encoding="utf-8")
-                return self.rt.must_fail(self.crates[crate], str(file), FLAGS, kept)
+                CHECKS.are_limited = True
+                try:
+                    return self.rt.must_fail(self.crates[crate], str(file), FLAGS, kept)
+                finally:
+                    CHECKS.are_limited = False
 
             for edit in found:
                 share = LATER if tried else 1
@@ -177,10 +198,13 @@ class Trials:
                 finally:
                     self.budget.end(crate, share)
             is_sound = len(tried) < 2 or not self.rt.checked(self.crates[crate], {}, FLAGS, kept).returncode
-            for edit, (is_refused, said) in tried.items():
-                if not (is_sound and is_refused) and len(tried) > 1:
-                    is_refused, said = try_one(edit)
-                self.tell(edit, is_refused, "alone", said.partition(": ")[2])
+            for edit, (answer, said) in tried.items():
+                if not (is_sound and self.is_refused(answer)) and OUT_OF_TIME not in said and len(tried) > 1:
+                    answer, said = try_one(edit)
+                if OUT_OF_TIME in said:
+                    self.tell_unanswered(edit)
+                else:
+                    self.tell(edit, self.is_refused(answer), "alone", said.partition(": ")[2])
 
     def try_all(self, found, are_some_alone=True):
         """Tries edits, those of a crate that comes first in the list before those of others, as many at a time as there is room for.
