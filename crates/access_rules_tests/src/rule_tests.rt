@@ -1,8 +1,8 @@
 //! What no clause says about the rules: that a request can be allowed, and that the definitions mean what the reference says.
 //! The rules of the key route that a client can meet are cases of `replay_cases`.
 
-use crate::slow_rules::slow_verdict;
-use crate::test_requests::{ACCOUNT, Case, Dated, Sent, case_verdict};
+use crate::slow_rules::{slow_has_false_signature, slow_verdict};
+use crate::test_requests::{ACCOUNT, Case, Dated, Sent, case_has_false_signature, case_verdict};
 use access_rules::{Letter, Need, Verdict, Way, need_of};
 use stamp_types::{BlockKinds, Level, Op, Rule};
 use std::alloc::Global;
@@ -44,9 +44,10 @@ const K2: Verdict = Verdict::Deny(Rule::K2);
 
 const K4: Verdict = Verdict::Deny(Rule::K4);
 
-// The verdict is the one that is wanted, and the slow judge agrees.
+// The verdict is the one that is wanted, and the slow judge agrees, also on the signature alone.
 fn check(rt: &impl Abort, alloc: Global, case: &Case, wanted: Verdict) {
-    let is_right = case_verdict(rt, alloc, case) == wanted;
+    let is_right = case_verdict(rt, alloc, case) == wanted
+        && case_has_false_signature(rt, alloc, case) == slow_has_false_signature(case);
     assert!(rt;
         is_right && slow_verdict(case) == wanted,
         "{:?} {:?}",

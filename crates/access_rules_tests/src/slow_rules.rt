@@ -72,6 +72,11 @@ fn holds(rule: Rule, case: &Case) -> bool {
     }
 }
 
+/// Whether K5 holds of a case, whatever the other rules say.
+pub(crate) fn slow_has_false_signature(case: &Case) -> bool {
+    holds(Rule::K5, case)
+}
+
 /// The verdict on a case: the first of the rules that holds.
 pub(crate) fn slow_verdict(case: &Case) -> Verdict {
     use Rule::{K1, K2, K3, K4, K5, P1, P2, S1};

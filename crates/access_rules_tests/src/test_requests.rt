@@ -1,7 +1,7 @@
 //! Cases for tests: what was sent, what the stamp has, and the verdict.
 
 use crate::sample_parts::page;
-use access_rules::{Keys, Verdict, verdict};
+use access_rules::{Keys, Verdict, has_false_signature, verdict};
 use container_acl::Acl;
 use hmac_sign::SigningKey;
 use stamp_types::{
@@ -172,4 +172,11 @@ pub(crate) fn case_verdict(rt: &impl Abort, alloc: Global, case: &Case) -> Verdi
     let request = request(rt, alloc, case);
     let now = Moment::new(case.now).expect(rt, "a moment");
     verdict(alloc, Some(&keys), acl, &request, now).expect(rt, "memory")
+}
+
+/// Whether the signature of a case is false.
+pub(crate) fn case_has_false_signature(rt: &impl Abort, alloc: Global, case: &Case) -> bool {
+    let keys = keys(rt, alloc, case.account);
+    let request = request(rt, alloc, case);
+    has_false_signature(alloc, Some(&keys), &request).expect(rt, "memory")
 }
