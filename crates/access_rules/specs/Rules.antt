@@ -1,7 +1,7 @@
 -- The rules of permission, each by itself, and the first rule that holds (Blob service REST reference, 2012-02-12,
 -- Authentication for the Azure Storage Services; Set Container ACL). Which rules there are, and their order, is the
 -- stamp's own.
-use Rattle.std.specs.Prelude.{ℕ, Bool, true, false, not, ◌&&◌, ◌||◌, List, [], ◌∷◌, Option, Some, None, is_none, bytes_eq, find}
+use Rattle.std.specs.Prelude.{ℕ, Bool, true, false, not, ◌&&◌, ◌||◌, List, [], ◌∷◌, Option, Some, None, is_none, is_some, bytes_eq, find}
 use Rattle.stamp_values.specs.declared.level.Level.{Level}
 use Rattle.stamp_values.specs.declared.acl.Acl.{Acl}
 use Rattle.stamp_values.specs.declared.signing.Credential.{Credential}
@@ -54,6 +54,10 @@ has_false_signature keys q =
     && some_passes
     (λ claim. some_passes (λ pair. not (is_signed pair (string_of q) claim.signature)) (keys_for keys q.key.account))
     (claim_of q.credential)
+
+-- there is a signature to judge: the claim can be read, and the stamp has the keys of the path's account
+abbrev pub has_signature : Option Keys → Ask → Bool
+has_signature keys q = is_some (claim_of q.credential) && is_some (keys_for keys q.key.account)
 
 -- the rule holds; a rule about a part that is missing does not hold
 abbrev pub holds : Option Keys → Option Acl → Ask → ℕ → Rule → Bool

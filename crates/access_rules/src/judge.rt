@@ -5,7 +5,7 @@ ghost use Rattle.stamp_values.specs.declared.signing.Credential.TheVariants as c
 ghost use Rattle.stamp_types.specs.declared.rule.Rule.TheVariants.{K5};
 ghost use Rattle.access_rules.specs.declared.judgement.Way.TheVariants as way;
 ghost use Rattle.access_rules.specs.declared.keys.Keys.{Keys};
-ghost use Rattle.access_rules.specs.Rules.{has_false_signature, needs_signature, on_key, rule_before_signature, verdict_by, verdict_of};
+ghost use Rattle.access_rules.specs.Rules.{has_false_signature, has_signature, needs_signature, rule_before_signature, verdict_by, verdict_of};
 
 use crate::judgement::{Verdict, Way};
 use crate::keys::Keys;
@@ -51,7 +51,8 @@ fn is_false(
     values: &[Bytes],
 ) -> Result<bool, AllocError>
     requires { ask.now.credential ≡ credential.Shared values.now }
-    ensures { IfOk result (λ it. it ≡ has_false_signature (option_copied keys.entry) ask.now) }
+    ensures value { IfOk result (λ it. it ≡ has_false_signature (option_copied keys.entry) ask.now) }
+    ensures memory { IsErr result → IsTrue (has_signature (option_copied keys.entry) ask.now) }
 {
     let Some(claim) = claim_in(values) else {
         return Ok(false);
@@ -77,7 +78,8 @@ pub fn has_false_signature(
 ) -> Result<bool, AllocError>
     ensures value { IfOk result (λ it.
         it ≡ has_false_signature (option_copied keys.entry) request.now.ask) }
-    ensures memory { IsErr result → IsTrue (on_key request.now.ask.credential) }
+    ensures memory { IsErr result
+        → IsTrue (has_signature (option_copied keys.entry) request.now.ask) }
 {
     let ask = request.ask();
     match &ask.credential {
