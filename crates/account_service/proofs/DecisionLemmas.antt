@@ -32,7 +32,8 @@ use Rattle.range_rows.specs.declared.judged.Allowed.{Allowed}
 use Rattle.range_rows.specs.declared.target.Target.{Target}
 use Rattle.range_rows.specs.ObjectReplies.{blob_read, frame, frame_by, is_served, ranged_frame, span_bytes, spans, spans_by, spans_len, standing_read}
 use Rattle.range_rows.specs.ObjectRules.{object_refusal}
-use Rattle.range_rows.specs.RequestChanges.{act_by, change_of}
+use Rattle.range_rows.specs.RequestChanges.{change_of}
+use Rattle.range_rows.proofs.FrameLemmas.{act_by-read}
 use Rattle.stamp_model.specs.Refusals.{access_refusal, unserved_refusal}
 use Rattle.stamp_model.proofs.EffectLemmas.{on_key}
 use Rattle.stamp_model.proofs.ReplyLemmas.{unrefused}
@@ -143,6 +144,7 @@ one_body op.SetMetadata q s c b range d = inl refl
 one_body op.DeleteBlob q s c b range d = inl refl
 one_body op.PutBlock q s c b range d = inl refl
 one_body op.PutBlockList q s c b range d = inl refl
+one_body op.GetAcl q s c b range d = inr refl
 one_body op.GetBlockList q s c b range d = inr refl
 one_body other q s c b range d = inl refl
 
@@ -166,18 +168,6 @@ fits_memory r p d q ss n is out counted held short =
 
 -- ---- the change
 
--- an operation that reads changes nothing
-unchanging : (z : Part ℕ) (q : Asked) (t : ℕ) (o : Op) → writes o ≡ false → act_by o z q t ≡ None
-unchanging z q t op.CreateContainer reads = cc
-unchanging z q t op.SetContainerMetadata reads = cc
-unchanging z q t op.DeleteContainer reads = cc
-unchanging z q t op.PutBlob reads = cc
-unchanging z q t op.SetMetadata reads = cc
-unchanging z q t op.DeleteBlob reads = cc
-unchanging z q t op.PutBlock reads = cc
-unchanging z q t op.PutBlockList reads = cc
-unchanging z q t other reads = refl
-
 -- a request that reads has no change
 pub no_change : (z : Part ℕ) (q : Asked) (t : ℕ) → writes q.ask.op ≡ false → None ≡ change_of z q t
-no_change z q t reads = sym (ap (option_map (on_key q.ask.key)) (unchanging z q t q.ask.op reads))
+no_change z q t reads = sym (ap (option_map (on_key q.ask.key)) (act_by-read z q t q.ask.op reads))

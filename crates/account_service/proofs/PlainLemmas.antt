@@ -83,6 +83,7 @@ module _ (z : Part ℕ) (q : Asked) (t : ℕ) where
   brought_by : (o : Op) → BringsHeld (act_by o z q t)
   brought_by op.CreateContainer = tt
   brought_by op.SetContainerMetadata = tt
+  brought_by op.SetAcl = tt
   brought_by op.DeleteContainer = tt
   brought_by op.SetMetadata = by_name q.ask.blob
     where

@@ -11,14 +11,12 @@ use Rattle.stamp_values.specs.declared.op.Op.TheVariants as op
 use Rattle.stamp_types.specs.declared.act.Act.{Act}
 use Rattle.stamp_types.specs.declared.act.Act.TheVariants as act
 use Rattle.stamp_types.specs.declared.args.Kept.{Kept}
-use Rattle.stamp_types.specs.declared.piece.Piece.{Piece}
 use Rattle.stamp_types.specs.Changes.{KeyedAct}
-use Rattle.stamp_types.specs.Pieces.{pieces_len}
 use Rattle.stamp_types.specs.Requests.{Asked}
-use Rattle.stamp_types.specs.World.{Blob, Part, World, blob_in, no_blob, part_at, part_value}
+use Rattle.stamp_types.specs.World.{Blob, Part, blob_in, no_blob}
 use Rattle.row_trees.specs.Fits.{fits}
 use Rattle.row_trees.specs.Fits.{count_limit}
-use Rattle.range_rows.specs.ObjectRules.{needs_container, object_refusal, sizes_named}
+use Rattle.range_rows.specs.ObjectRules.{needs_container, object_refusal}
 use Rattle.row_trees.specs.ListedBlocks.{entries_fault, listed_size}
 use Rattle.range_rows.specs.NamedBlobs.{target_blob}
 use Rattle.range_rows.specs.Readings.{wanted_blocks}
@@ -99,6 +97,7 @@ module _ (p : Part ℕ) (q : Asked) (t : ℕ) (free : object_refusal p q ≡ Non
   fits_by : (o : Op) → q.ask.op ≡ o → AllFit (act_by o p q t)
   fits_by op.CreateContainer is = fits_if_there true true (ap writes is) (or_true (is_some p.standing)) refl
   fits_by op.SetContainerMetadata is = fits_in_existing true (ap writes is) (ap needs_container is) refl
+  fits_by op.SetAcl is = fits_in_existing true (ap writes is) (ap needs_container is) refl
   fits_by op.DeleteContainer is = fits_in_existing true (ap writes is) (ap needs_container is) refl
   fits_by op.PutBlob is = fits_put is q.ask.blob q.ask.args.kept
   fits_by op.SetMetadata is =

@@ -17,14 +17,14 @@ use Rattle.stamp_types.specs.declared.standing.Standing.{Standing}
 use Rattle.stamp_types.specs.declared.status.Status.TheVariants as status
 use Rattle.stamp_types.specs.Pieces.{pieces_len}
 use Rattle.stamp_types.specs.Requests.{Asked, IsRequest}
-use Rattle.stamp_types.specs.World.{Blob, Part, blob_in, blob_value, committed_value, committed_with_metadata, no_blob, part_value, same_pieces, standing_with_metadata}
+use Rattle.stamp_types.specs.World.{Blob, Part, blob_in, blob_value, committed_value, committed_with_metadata, no_blob, part_value, same_pieces, standing_with_acl, standing_with_metadata}
 use Rattle.stamp_types.proofs.EffectLemmas.{blob_in-set_metadata}
 use Rattle.range_rows.specs.NamedBlobs.{target_blob}
 use Rattle.row_trees.specs.FoundParts.{sizes_found}
 use Rattle.range_rows.specs.FoundParts.{pieces_found_after, sizes_found_after}
-use Rattle.range_rows.specs.ObjectReplies.{blob_content, blob_read, date_headers, empty_blob, empty_standing, frame, frame_by, get_frame, is_served, list_frame, metadata_headers, put_reply, ranged_frame, ranged_spans, spans, spans_by, standing_read, success_reply, write_frame}
+use Rattle.range_rows.specs.ObjectReplies.{acl_frame, blob_content, blob_read, date_headers, empty_blob, empty_standing, frame, frame_by, get_frame, is_served, list_frame, metadata_headers, put_reply, ranged_frame, ranged_spans, spans, spans_by, standing_read, success_reply, write_frame}
 use Rattle.range_rows.specs.ObjectRules.{needs_blob, needs_container, object_refusal}
-use Rattle.range_rows.specs.RequestChanges.{act_by, change_of, part_after, put_blob, put_block_list, set_container_metadata, set_metadata}
+use Rattle.range_rows.specs.RequestChanges.{act_by, change_of, part_after, put_blob, put_block_list, set_acl, set_container_metadata, set_metadata}
 use Rattle.range_rows.proofs.Unrefused.{needed_blob, needed_container}
 use Rattle.range_rows.proofs.AnswerLemmas.{blob_in-put, blob_in-put_list, named_blob-part_value}
 use Rattle.range_rows.proofs.BlockLemmas.{committed-target_blob, target_blob-part_value}
@@ -48,6 +48,12 @@ module _ (p : Part ℕ) (q : Asked) (t : ℕ) where
       ≡ dated_frame op.SetContainerMetadata
   standing_with_metadata-frame None exists = cc
   standing_with_metadata-frame (Some s) exists = refl
+
+  standing_with_acl-frame : (o : Option Standing) → IsSome o
+      → success_reply status.Success (date_headers (unwrap_or (option_map (standing_with_acl (p.count + 1) (set_acl q t)) o) empty_standing).etag (unwrap_or (option_map (standing_with_acl (p.count + 1) (set_acl q t)) o) empty_standing).made) 0
+      ≡ dated_frame op.SetAcl
+  standing_with_acl-frame None exists = cc
+  standing_with_acl-frame (Some s) exists = refl
 
   abbrev put_act : Option (List ℕ) → Option Kept → Option Act
   put_act blob kept = option_and_then (λ name. option_map (λ kept. act.PutBlob (put_blob q t name kept)) kept) blob
@@ -95,6 +101,7 @@ module _ (p : Part ℕ) (q : Asked) (t : ℕ) where
     write_frame_by : (o : Op) → q.ask.op ≡ o → is_served o ≡ true → writes o ≡ true → frame_after o ≡ dated_frame o
     write_frame_by op.CreateContainer is served writing = refl
     write_frame_by op.SetContainerMetadata is served writing = standing_with_metadata-frame p.standing (needed_container p q free (ap needs_container is))
+    write_frame_by op.SetAcl is served writing = standing_with_acl-frame p.standing (needed_container p q free (ap needs_container is))
     write_frame_by op.DeleteContainer is served writing = refl
     write_frame_by op.PutBlob is served writing =
         put_blob-frame q.ask.blob q.ask.args.kept (valid.ask.names.blob ∙ ap names_blob is) (valid.ask.own.kept ∙ ap keeps_headers is)
@@ -124,20 +131,22 @@ spans_of_write p q writing = spans_of_others p q (λ get. cc)
 -- ---- requests that read
 
 module _ (z : Part ℕ) (q : Asked) (t : ℕ) where
-  act_by_read : (o : Op) → writes o ≡ false → act_by o z q t ≡ None
-  act_by_read op.CreateContainer reads = cc
-  act_by_read op.SetContainerMetadata reads = cc
-  act_by_read op.DeleteContainer reads = cc
-  act_by_read op.PutBlob reads = cc
-  act_by_read op.SetMetadata reads = cc
-  act_by_read op.DeleteBlob reads = cc
-  act_by_read op.PutBlock reads = cc
-  act_by_read op.PutBlockList reads = cc
-  act_by_read other reads = refl
+  -- an operation that reads changes nothing
+  pub act_by-read : (o : Op) → writes o ≡ false → act_by o z q t ≡ None
+  act_by-read op.CreateContainer reads = cc
+  act_by-read op.SetContainerMetadata reads = cc
+  act_by-read op.SetAcl reads = cc
+  act_by-read op.DeleteContainer reads = cc
+  act_by-read op.PutBlob reads = cc
+  act_by-read op.SetMetadata reads = cc
+  act_by-read op.DeleteBlob reads = cc
+  act_by-read op.PutBlock reads = cc
+  act_by-read op.PutBlockList reads = cc
+  act_by-read other reads = refl
 
   -- a request that reads leaves its container as it is
   pub part_after_read : {C : Type 0} (f : List Piece → C) (r : Part C) → writes q.ask.op ≡ false → part_after f (change_of z q t) r ≡ r
-  part_after_read f r reads = ap (λ (o : Option Act). part_after f (option_map (λ a. record { key = q.ask.key; act = a }) o) r) (act_by_read q.ask.op reads)
+  part_after_read f r reads = ap (λ (o : Option Act). part_after f (option_map (λ a. record { key = q.ask.key; act = a }) o) r) (act_by-read q.ask.op reads)
 
 module _ (p : Part (List Piece)) (q : Asked) where
   abbrev sized : Part ℕ
@@ -167,6 +176,12 @@ module _ (p : Part (List Piece)) (q : Asked) where
   frame_of_container_properties s is there =
       ap (λ (o : Op). frame_by o q (standing_read sized) (blob_read sized q.ask) (target_blob sized q.ask)) is
       ∙ ap (λ (o : Option Standing). frame_by op.ContainerProperties q (unwrap_or o empty_standing) (blob_read sized q.ask) (target_blob sized q.ask)) there
+
+  -- the frame of Get Container ACL is the frame of what the container has beside its blobs
+  pub frame_of_acl : (s : Standing) → q.ask.op ≡ op.GetAcl → p.standing ≡ Some s → frame sized q ≡ acl_frame s
+  frame_of_acl s is there =
+      ap (λ (o : Op). frame_by o q (standing_read sized) (blob_read sized q.ask) (target_blob sized q.ask)) is
+      ∙ ap (λ (o : Option Standing). frame_by op.GetAcl q (unwrap_or o empty_standing) (blob_read sized q.ask) (target_blob sized q.ask)) there
 
   -- the frame of Get Block List is the frame of the whole blob that it names
   pub frame_of_block_list : (b : Blob (List Piece)) → q.ask.op ≡ op.GetBlockList → b ≡ target_blob p q.ask → frame sized q ≡ list_frame q.ask.args.kinds (blob_value pieces_len b)

@@ -1,17 +1,20 @@
 -- The first cause that exists, found group by group.
 use Rattle.std.proofs.Common.{◌≡◌, ℕ, Bool, true, false, cond, List, [], ◌∷◌, ◌++◌, length, nat_lt, Option, Some, None, refl, sym, ap, ◌∙◌}
-use Rattle.std.specs.Prelude.{IsSome, find, is_some}
+use Rattle.std.specs.Prelude.{IsSome, Result, Ok, Err, find, is_some}
 use Rattle.std.specs.Option.{option_and_then, option_map, option_map_or}
 use Rattle.stamp_values.specs.Limits.{blob_limit, entries_limit}
 use Rattle.stamp_values.specs.declared.block.Source.{Source}
 use Rattle.stamp_values.specs.declared.block.Wanted.{Wanted}
 use Rattle.stamp_values.specs.declared.op.Op.{Op}
 use Rattle.stamp_values.specs.declared.op.Op.TheVariants as op
+use Rattle.stamp_values.specs.declared.policy.Policy.{Policy}
 use Rattle.stamp_types.specs.declared.piece.Piece.{Piece}
 use Rattle.stamp_types.specs.declared.refusal.Refusal.{Refusal}
 use Rattle.stamp_types.specs.Pieces.{pieces_len}
 use Rattle.stamp_types.specs.Requests.{Asked, IsRequest}
 use Rattle.stamp_types.specs.World.{Blob, Part, blob_value}
+use Rattle.body_forms.specs.PolicyValues.{policies_reading}
+use Rattle.body_forms.specs.declared.body_fault.BodyFault.{BodyFault}
 use Rattle.block_blobs.specs.BlockLists.{first_missing, found_entries, list_fault, wanted_fault}
 use Rattle.block_blobs.specs.UncommittedBlocks.{block_fault, has_other_length, is_one_too_many}
 use Rattle.block_blobs.specs.declared.block_fault.BlockFault.TheVariants as fault
@@ -21,7 +24,7 @@ use Rattle.range_rows.specs.JudgedBlocks.{blocks_by}
 use Rattle.range_rows.specs.NamedBlobs.{target_blob}
 use Rattle.range_rows.specs.ObjectRules.{Cause, cause_holds, cause_refusal, object_refusal}
 use Rattle.range_rows.specs.ObjectRules.Cause.{BlockIsMissing, ListIsTooLong, IdHasOtherLength, BlocksAreFull, ListIsTooLarge}
-use Rattle.range_rows.specs.Readings.{listed_in, reading_by, reading_of, wanted_blocks}
+use Rattle.range_rows.specs.Readings.{listed_in, reading_by, reading_from, reading_of, wanted_blocks}
 use Rattle.range_rows.specs.declared.block_rules.Blocks.{Blocks}
 use Rattle.range_rows.specs.declared.block_rules.Blocks.TheVariants as blocks
 use Rattle.range_rows.specs.declared.reading.Reading.{Reading}
@@ -151,10 +154,16 @@ sources_of_blocks (Some r) ss found h = cc
 
 -- ---- what a reading says of its request
 
+-- policies are not a block list
+not_a_list : (said : Result (List Policy) BodyFault) (ws : List Wanted) → reading.BlockList ws ≡ reading_from reading.Policies said → ⊥
+not_a_list (Ok policies) ws h = cc
+not_a_list (Err fault) ws h = cc
+
 -- only a Put Block List wants blocks
 list_of_op : (o : Op) (body : List ℕ) (ws : List Wanted) → reading.BlockList ws ≡ reading_by o body → o ≡ op.PutBlockList
 unfolding reading_by
 list_of_op op.PutBlockList body ws h = refl
+list_of_op op.SetAcl body ws h = absurd (not_a_list (policies_reading body) ws h)
 list_of_op other body ws h = cc
 
 pub is_put_block_list : (q : Asked) (ws : List Wanted) → reading.BlockList ws ≡ reading_of q → q.ask.op ≡ op.PutBlockList

@@ -16,6 +16,7 @@ use Rattle.stamp_types.specs.declared.reply.Reply.{Reply}
 use Rattle.stamp_types.specs.declared.standing.Standing.{Standing}
 use Rattle.stamp_types.specs.Requests.{Asked}
 use Rattle.stamp_types.specs.World.{Blob, Part, block_value, committed_value}
+use Rattle.body_forms.specs.WrittenPolicies.{policies_text}
 use Rattle.range_rows.specs.NamedBlobs.{target_blob}
 use Rattle.range_rows.specs.ObjectReplies.{blob_content, blob_read, byte_count, bytes_by, bytes_sent, empty_blob, frame_by, list_text, range_end, ranged_bytes, ranged_frame, reply_of, sizes, standing_read}
 use Rattle.range_rows.specs.ObjectRules.{blob_size, named_blob}
@@ -71,6 +72,7 @@ length_by_op : (o : Op) (q : Asked) (s : Standing) (c : Committed (List ℕ)) (b
     → (frame_by o q s (committed_value byte_count c) b).length ≡ length ((frame_by o q s (committed_value byte_count c) b).body ++ bytes_by o q.ask.args.range c)
 length_by_op op.GetBlob q s c b other = length_of_ranged q.ask.args.range c
 length_by_op op.GetBlockList q s c b other = ap (λ (bytes : List ℕ). length bytes) (sym (append-nil (list_text q.ask.args.kinds b)))
+length_by_op op.GetAcl q s c b other = ap (λ (bytes : List ℕ). length bytes) (sym (append-nil (policies_text s.acl.policies)))
 length_by_op op.BlobProperties q s c b other = absurd (other refl)
 length_by_op other q s c b apart = refl
 

@@ -10,6 +10,8 @@ use Rattle.stamp_values.specs.Order.{name_cmp}
 use Rattle.stamp_values.specs.declared.block.BlockKinds.{BlockKinds}
 use Rattle.stamp_values.specs.declared.block.BlockKinds.TheVariants as kinds
 use Rattle.stamp_values.specs.declared.condition.ByteRange.{ByteRange}
+use Rattle.stamp_values.specs.declared.level.Level.{Level}
+use Rattle.stamp_values.specs.declared.level.Level.TheVariants as level
 use Rattle.stamp_values.specs.declared.meta.Meta.{Meta}
 use Rattle.stamp_values.specs.declared.op.Op.{Op}
 use Rattle.stamp_values.specs.declared.op.Op.TheVariants as op
@@ -29,26 +31,16 @@ use Rattle.stamp_types.specs.PropsFields.{PropsFields}
 use Rattle.stamp_types.specs.Requests.{Asked}
 use Rattle.stamp_types.specs.World.{Blob, Part, no_blob, part_value}
 use Rattle.body_forms.specs.WrittenLists.{ListedBlock, block_list_text}
+use Rattle.body_forms.specs.WrittenPolicies.{policies_text}
 use Rattle.range_rows.specs.declared.answer.Span.{Span}
 use Rattle.range_rows.specs.NamedBlobs.{target_blob}
 use Rattle.range_rows.specs.ObjectRules.{blob_size, named_blob}
 
--- the operations that are answered so far; any other is refused
+-- the operations that are answered so far: all but the two lists, which are refused
 abbrev pub is_served : Op → Bool
-is_served op.CreateContainer = true
-is_served op.ContainerProperties = true
-is_served op.SetContainerMetadata = true
-is_served op.DeleteContainer = true
-is_served op.PutBlob = true
-is_served op.GetBlob = true
-is_served op.BlobProperties = true
-is_served op.GetMetadata = true
-is_served op.SetMetadata = true
-is_served op.DeleteBlob = true
-is_served op.PutBlock = true
-is_served op.PutBlockList = true
-is_served op.GetBlockList = true
-is_served _ = false
+is_served op.ListContainers = false
+is_served op.ListBlobs = false
+is_served _ = true
 
 -- a header of a text, which has no line if the text is empty
 abbrev pub line_of : (List ℕ → Header) → List ℕ → List Header
@@ -150,16 +142,26 @@ abbrev pub committed_headers : Option (Committed ℕ) → List Header
 committed_headers None = []
 committed_headers (Some c) = header.BlobLength (blob_size c) ∷ date_headers c.etag c.made
 
+-- the header of a body in XML
+abbrev pub xml_header : Header
+xml_header = header.ContentType (codes "application/xml")
+
+-- a reply that refuses nothing, with this text as its body
+abbrev pub text_reply : List Header → List ℕ → Reply
+text_reply headers text = record { status = status.Success; code = None; rule = None; headers = headers; length = length text; body = text }
+
 -- the reply to Get Block List
 abbrev pub list_frame : Option BlockKinds → Blob ℕ → Reply
-list_frame k b = record {
-  status = status.Success;
-  code = None;
-  rule = None;
-  headers = header.ContentType (codes "application/xml") ∷ committed_headers b.committed;
-  length = length (list_text k b);
-  body = list_text k b;
-}
+list_frame k b = text_reply (xml_header ∷ committed_headers b.committed) (list_text k b)
+
+-- the level of a container; nothing if the container is closed
+abbrev pub level_headers : Level → List Header
+level_headers level.Closed = []
+level_headers other = header.PublicAccess other ∷ []
+
+-- the reply to Get Container ACL: the level in a header, and the stored policies
+abbrev pub acl_frame : Standing → Reply
+acl_frame s = text_reply (xml_header ∷ level_headers s.acl.level ++ date_headers s.etag s.made) (policies_text s.acl.policies)
 
 -- the frame of the reply to Get Blob without a range, and to Get Blob Properties: its length is the length of all blocks together
 abbrev pub get_frame : Committed ℕ → Reply
@@ -203,6 +205,8 @@ abbrev pub frame_by : Op → Asked → Standing → Committed ℕ → Blob ℕ �
 frame_by op.CreateContainer q s c b = success_reply status.Created (date_headers s.etag s.made) 0
 frame_by op.ContainerProperties q s c b = success_reply status.Success (metadata_headers s.metadata s.etag s.made) 0
 frame_by op.SetContainerMetadata q s c b = success_reply status.Success (date_headers s.etag s.made) 0
+frame_by op.GetAcl q s c b = acl_frame s
+frame_by op.SetAcl q s c b = success_reply status.Success (date_headers s.etag s.made) 0
 frame_by op.DeleteContainer q s c b = success_reply status.Accepted [] 0
 frame_by op.PutBlob q s c b = put_reply (md5 q.body) c.etag c.made
 frame_by op.GetBlob q s c b = ranged_frame q.ask.args.range c

@@ -1,5 +1,5 @@
--- What writing requests do (Blob service REST reference, 2012-02-12, "Create Container", "Set Container Metadata", "Delete Container",
--- "Put Blob", "Set Blob Metadata", "Delete Blob", "Put Block", "Put Block List"; RFC 1321).
+-- What writing requests do (Blob service REST reference, 2012-02-12, "Create Container", "Set Container Metadata", "Set Container ACL",
+-- "Delete Container", "Put Blob", "Set Blob Metadata", "Delete Blob", "Put Block", "Put Block List"; RFC 1321).
 use Rattle.std.specs.Prelude.{ℕ, List, Option, Some, None, unwrap_or}
 use Rattle.std.specs.Option.{option_map, option_and_then}
 use Rattle.md5.specs.Md5.{md5}
@@ -14,6 +14,7 @@ use Rattle.stamp_types.specs.declared.act.DeleteBlob.{DeleteBlob}
 use Rattle.stamp_types.specs.declared.act.PutBlob.{PutBlob}
 use Rattle.stamp_types.specs.declared.act.PutBlock.{PutBlock}
 use Rattle.stamp_types.specs.declared.act.PutBlockList.{PutBlockList}
+use Rattle.stamp_types.specs.declared.act.SetAcl.{SetAcl}
 use Rattle.stamp_types.specs.declared.act.SetContainerMetadata.{SetContainerMetadata}
 use Rattle.stamp_types.specs.declared.act.SetMetadata.{SetMetadata}
 use Rattle.stamp_types.specs.declared.args.Kept.{Kept}
@@ -25,7 +26,7 @@ use Rattle.stamp_types.specs.World.{Blob, Part, World, blob_in, changed, part_at
 use Rattle.stamp_types.specs.declared.piece.Piece.{Piece}
 use Rattle.block_blobs.specs.BlockLists.{found_entries}
 use Rattle.range_rows.specs.ObjectRules.{sizes_named}
-use Rattle.range_rows.specs.Readings.{wanted_blocks}
+use Rattle.range_rows.specs.Readings.{sent_policies, wanted_blocks}
 
 -- what is kept of the headers that a request asks to be kept, with the body's MD5 if the request gives no MD5
 abbrev pub put_props : Asked → Kept → PropsFields
@@ -38,6 +39,10 @@ create_container q t = record { moment = t; level = unwrap_or q.ask.args.level l
 -- what a Set Container Metadata does: the metadata of the request replaces all metadata
 abbrev pub set_container_metadata : Asked → ℕ → SetContainerMetadata
 set_container_metadata q t = record { moment = t; metadata = q.ask.args.metadata }
+
+-- what a Set Container ACL does: the level that is asked for, or else closed, and the policies that are sent replace what there was
+abbrev pub set_acl : Asked → ℕ → SetAcl
+set_acl q t = record { moment = t; acl = record { level = unwrap_or q.ask.args.level level.Closed; policies = sent_policies q } }
 
 -- what a Put Blob does: the blob gets the body in pieces, the kept headers and the metadata
 abbrev pub put_blob : Asked → ℕ → List ℕ → Kept → PutBlob
@@ -70,10 +75,11 @@ put_block_list_of entries q t name kept = record {
 abbrev pub put_block_list : Blob ℕ → Asked → ℕ → List ℕ → Kept → PutBlockList
 put_block_list b q t name kept = put_block_list_of (found_entries b (wanted_blocks q)) q t name kept
 
--- what a request of the operation does to a container at a moment; the other operations change nothing so far
+-- what a request of the operation does to a container at a moment; an operation that reads changes nothing
 abbrev pub act_by : Op → Part ℕ → Asked → ℕ → Option Act
 act_by op.CreateContainer p q t = Some (act.CreateContainer (create_container q t))
 act_by op.SetContainerMetadata p q t = Some (act.SetContainerMetadata (set_container_metadata q t))
+act_by op.SetAcl p q t = Some (act.SetAcl (set_acl q t))
 act_by op.DeleteContainer p q t = Some act.DeleteContainer
 act_by op.PutBlob p q t = option_and_then (λ name. option_map (λ kept. act.PutBlob (put_blob q t name kept)) q.ask.args.kept) q.ask.blob
 act_by op.SetMetadata p q t = option_map (λ name. act.SetMetadata (set_metadata q t name)) q.ask.blob

@@ -1,20 +1,17 @@
 //! Replies to Get Block List.
-ghost use Rattle.std.specs.Prelude.{◌≡◌, ◌∷◌, ◌++◌, IfOk, None, OnOk, Some, codes, map};
+ghost use Rattle.std.specs.Prelude.{◌≡◌, ◌∷◌, ◌++◌, IfOk, None, OnOk, Some, map};
 ghost use Rattle.stamp_values.specs.Maps.{map_values};
-ghost use Rattle.stamp_types.specs.declared.header.Header.TheVariants as header;
 ghost use Rattle.stamp_types.specs.Pieces.{pieces_len};
 ghost use Rattle.stamp_types.specs.World.{block_value, blob_value};
 ghost use Rattle.body_forms.specs.WrittenLists.{block_list_text, block_view};
 ghost use Rattle.row_trees.specs.FoundParts.{sized};
 ghost use Rattle.range_rows.specs.ObjectReplies as replies;
 
-use crate::replies::push_dates;
+use crate::replies::{push_dates, text_reply};
 use block_blobs::BlobRow;
 use body_forms::{ListedBlock, write_block_list};
 use row_trees::FoundBlob;
-use stamp_types::{
-    Block, BlockKinds, Header, Items, Pieces, Reply, Share, Shares, Status, Visible,
-};
+use stamp_types::{Block, BlockKinds, Header, Pieces, Reply, Visible};
 use std::alloc::{AllocError, Global};
 
 // Puts a committed block after the list, if the block has an id.
@@ -117,8 +114,7 @@ fn list_text(
 #[tactic(auto, using(crate::proofs::AnswerLemmas::sizes_of_blocks))]
 fn list_headers(alloc: Global, blob: &BlobRow) -> Result<Vec<Header>, AllocError>
     ensures { IfOk result (λ headers. headers.items
-        ≡ header.ContentType (codes "application/xml")
-        ∷ replies.committed_headers (sized blob.now.committed)) }
+        ≡ replies.xml_header ∷ replies.committed_headers (sized blob.now.committed)) }
 {
     let mut headers = Vec::with_capacity(alloc, 4)?;
     headers.push(Header::ContentType(Visible::xml(alloc)?))?;
@@ -136,17 +132,8 @@ fn row_reply(alloc: Global, kinds: Option<BlockKinds>, blob: &BlobRow) -> Result
 {
     let headers = list_headers(alloc, blob)?;
     let text = list_text(alloc, kinds, blob)?;
-    let length = text.len() as u64;
-    let mut body = Shares::empty(alloc);
-    body.push(Share::new(alloc, text)?)?;
-    Ok(Reply {
-        status: Status::Success,
-        code: None,
-        rule: None,
-        headers: Items::new(headers),
-        length,
-        body,
-    })
+    let reply = text_reply(alloc, headers, text)?;
+    Ok(reply)
 }
 
 /// The reply to Get Block List of these kinds: committed blocks are shown if a request asks for no

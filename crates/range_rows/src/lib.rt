@@ -1,6 +1,7 @@
 //! The rules of the object over rows, what allowed requests change, and how they are answered.
 #![tactic(auto)]
 
+mod acl_reply;
 mod answer;
 mod answer_laws;
 mod block_list_reply;

@@ -17,6 +17,7 @@ ghost use Rattle.range_rows.specs.NamedBlobs.{IsTarget};
 ghost use Rattle.range_rows.specs.ObjectReplies as replies;
 ghost use Rattle.range_rows.specs.ObjectRules.{object_refusal};
 
+use crate::acl_reply::acl_reply;
 use crate::answer::{Answer, Span};
 use crate::block_list_reply::list_reply;
 use crate::judged::Allowed;
@@ -25,7 +26,7 @@ use crate::target::Target;
 use row_trees::Found;
 use stamp_types::{
     Block, ByteRange, Committed, Header, Items, Meta, Metadata, Moment, Op, Piece, Pieces, Props,
-    Reply, Request, SentRange, Shares, Status, Visible,
+    Reply, Request, SentRange, Share, Shares, Status, Visible,
 };
 use std::alloc::{AllocError, Global};
 
@@ -169,6 +170,27 @@ fn success_reply(alloc: Global, status: Status, headers: Vec<Header>, length: u6
     }
 }
 
+/// A reply that refuses nothing, with this text as its body.
+pub(crate) fn text_reply(
+    alloc: Global,
+    headers: Vec<Header>,
+    text: Vec<u8>,
+) -> Result<Reply, AllocError>
+    ensures { IfOk result (λ reply. reply ≡ replies.text_reply headers.items text.items) }
+{
+    let length = text.len() as u64;
+    let mut body = Shares::empty(alloc);
+    body.push(Share::new(alloc, text)?)?;
+    Ok(Reply {
+        status: Status::Success,
+        code: None,
+        rule: None,
+        headers: Items::new(headers),
+        length,
+        body,
+    })
+}
+
 // The reply that says which change wrote last, and when.
 fn dates_reply(alloc: Global, status: Status, etag: u64, made: Moment) -> Result<Reply, AllocError>
     ensures { IfOk result (λ reply.
@@ -228,7 +250,7 @@ fn write_frame(
 {
     match request.ask().op {
         Op::CreateContainer => dates_reply(alloc, Status::Created, etag, moment),
-        Op::SetContainerMetadata | Op::SetMetadata => {
+        Op::SetContainerMetadata | Op::SetAcl | Op::SetMetadata => {
             dates_reply(alloc, Status::Success, etag, moment)
         }
         Op::PutBlob | Op::PutBlockList => { put_reply(alloc, request.body().sum(), etag, moment) }
@@ -396,7 +418,7 @@ fn write_answer(
 }
 
 // The answer to an allowed request that reads.
-#[tactic(auto, using(crate::proofs::Unrefused::allowed_blob, crate::proofs::Unrefused::allowed_container, crate::proofs::FrameLemmas::frame_of_container_properties, crate::proofs::FrameLemmas::frame_of_get_blob, crate::proofs::FrameLemmas::frame_of_blob_properties, crate::proofs::FrameLemmas::frame_of_get_metadata, crate::proofs::FrameLemmas::frame_of_block_list, crate::proofs::FrameLemmas::spans_of_get, crate::proofs::FrameLemmas::spans_of_others))]
+#[tactic(auto, using(crate::proofs::Unrefused::allowed_blob, crate::proofs::Unrefused::allowed_container, crate::proofs::FrameLemmas::frame_of_container_properties, crate::proofs::FrameLemmas::frame_of_acl, crate::proofs::FrameLemmas::frame_of_get_blob, crate::proofs::FrameLemmas::frame_of_blob_properties, crate::proofs::FrameLemmas::frame_of_get_metadata, crate::proofs::FrameLemmas::frame_of_block_list, crate::proofs::FrameLemmas::spans_of_get, crate::proofs::FrameLemmas::spans_of_others))]
 fn read_answer(alloc: Global, target: &Target<'_>, request: &Request) -> Result<Answer, AllocError>
     requires target { IsTarget target.now request.now.ask }
     requires served { IsTrue (replies.is_served request.now.ask.op) }
@@ -414,6 +436,10 @@ fn read_answer(alloc: Global, target: &Target<'_>, request: &Request) -> Result<
     match (ask.op, target.container.standing(), seen.committed()) {
         (Op::ContainerProperties, Some(standing), _) => {
             let frame = metadata_reply(alloc, &standing.metadata, standing.etag, standing.made)?;
+            Ok(without_content(alloc, frame))
+        }
+        (Op::GetAcl, Some(standing), _) => {
+            let frame = acl_reply(alloc, standing)?;
             Ok(without_content(alloc, frame))
         }
         (Op::BlobProperties, _, Some(blob)) => {

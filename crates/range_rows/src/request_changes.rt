@@ -1,7 +1,6 @@
 //! What writing requests do.
-ghost use Rattle.std.specs.Prelude.{◌≡◌, ◌≤◌, ℕ, IfOk, IsTrue, None, Some, length, nat_le};
+ghost use Rattle.std.specs.Prelude.{◌≡◌, ◌≤◌, IfOk, IsTrue, None, Some, length, nat_le};
 ghost use Rattle.stamp_values.specs.Limits.{entries_limit, put_blob_limit, put_block_limit};
-ghost use Rattle.stamp_types.specs.Pieces.{pieces_len};
 ghost use Rattle.stamp_types.specs.PropsFields.{is_kept, kept_fields};
 ghost use Rattle.block_blobs.specs.BlockLists.{found_entries};
 ghost use Rattle.stamp_values.specs.Operations.{writes};
@@ -10,17 +9,16 @@ ghost use Rattle.row_trees.specs.FoundParts.{sizes_found};
 ghost use Rattle.range_rows.specs.Judgements.{IsAllowed};
 ghost use Rattle.range_rows.specs.NamedBlobs.{target_blob};
 ghost use Rattle.range_rows.specs.ObjectReplies.{is_served};
-ghost use Rattle.range_rows.specs.ObjectRules.{object_refusal};
-ghost use Rattle.range_rows.specs.Readings.{listed_in, reading_of, wanted_blocks};
+ghost use Rattle.range_rows.specs.Readings.{listed_in, policies_in, reading_of, wanted_blocks};
 ghost use Rattle.range_rows.specs.RequestChanges as changes;
 
 use crate::judged::Allowed;
 use crate::reading::Reading;
 use block_blobs::entries_from;
 use stamp_types::{
-    Act, BlockId, Change, CreateContainer, DeleteBlob, Items, Kept, Level, Moment, Op, Pieces,
-    Props, PutBlob, PutBlock, PutBlockList, Request, SetContainerMetadata, SetMetadata, Taken,
-    Text, Wanted,
+    Acl, Act, BlockId, Change, CreateContainer, DeleteBlob, Items, Kept, Level, Moment, Op, Pieces,
+    Policies, Props, PutBlob, PutBlock, PutBlockList, Request, SetAcl, SetContainerMetadata,
+    SetMetadata, Taken, Text, Wanted,
 };
 use std::alloc::{AllocError, Global};
 
@@ -93,6 +91,30 @@ fn set_container_metadata(
         moment,
         metadata: request.ask().args.metadata.clone()?,
     })
+}
+
+// The policies that the body says: no policies if it says none.
+fn policies_in(alloc: Global, reading: Reading) -> Policies
+    ensures { result ≡ policies_in reading }
+{
+    match reading {
+        Reading::Policies(policies) => policies,
+        _ => Policies::empty(alloc),
+    }
+}
+
+// What a Set Container ACL does. The policies move from the reading.
+fn set_acl(alloc: Global, request: &Request, reading: Reading, moment: Moment) -> SetAcl
+    requires { reading ≡ reading_of request.now }
+    ensures { result ≡ changes.set_acl request.now moment }
+{
+    SetAcl {
+        moment,
+        acl: Acl {
+            level: request.ask().args.level.unwrap_or(Level::Closed),
+            policies: policies_in(alloc, reading),
+        },
+    }
 }
 
 // What a Set Blob Metadata of this name does.
@@ -225,6 +247,7 @@ impl<'a> Allowed<'a> {
                 let set = set_container_metadata(request, moment)?;
                 Ok(Act::SetContainerMetadata(set))
             }
+            (Op::SetAcl, _, _, _) => Ok(Act::SetAcl(set_acl(alloc, request, reading, moment))),
             (Op::DeleteContainer, _, _, _) => Ok(Act::DeleteContainer),
             (Op::PutBlob, Some(blob), Some(kept), _) => {
                 Ok(Act::PutBlob(put_blob(alloc, request, moment, blob, kept)?))
@@ -266,7 +289,7 @@ impl<'a> Allowed<'a> {
     }
 
     /// The change that the request makes at the moment, if its operation writes and is served. Rows make
-    /// this change. The request was judged with `reading`, whose ids move into the change. The ETag is
+    /// this change. The request was judged with `reading`, whose ids or policies move into the change. The ETag is
     /// given when the change is made.
     ///
     /// `AllocError` if memory runs out for the change, or if the body can have no further owner.

@@ -4,24 +4,9 @@ ghost use Rattle.range_rows.specs.ObjectReplies as replies;
 
 use stamp_types::Op;
 
-/// Whether the operation is answered so far. Each other operation is refused.
+/// Whether the operation is answered so far. The two lists, of containers and of blobs, are refused.
 pub fn is_served(op: Op) -> bool
     ensures { result ≡ replies.is_served op }
 {
-    matches!(
-        op,
-        Op::CreateContainer
-            | Op::ContainerProperties
-            | Op::SetContainerMetadata
-            | Op::DeleteContainer
-            | Op::PutBlob
-            | Op::GetBlob
-            | Op::BlobProperties
-            | Op::GetMetadata
-            | Op::SetMetadata
-            | Op::DeleteBlob
-            | Op::PutBlock
-            | Op::PutBlockList
-            | Op::GetBlockList
-    )
+    !matches!(op, Op::ListContainers | Op::ListBlobs)
 }

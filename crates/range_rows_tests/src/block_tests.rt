@@ -7,7 +7,7 @@ use crate::sample_requests::{
 use range_rows::{BodyFault, ObjectRules, Reading, Rows};
 use stamp_types::{
     Act, Args, Block, BlockId, Body, Bytes, Change, Code, Items, Lookup, Metadata, Op, Piece,
-    Pieces, PutBlock, PutBlockList, Refusal, Request, Rule, Source, StoredBlob, Taken,
+    Pieces, Policy, PutBlock, PutBlockList, Refusal, Request, Rule, Source, StoredBlob, Taken,
     UncommittedBlock, Wanted,
 };
 use std::alloc::Global;
@@ -221,12 +221,20 @@ fn changes_of_blocks_fit_a_container_that_takes_one_more_change(rt: HostRuntime)
 enum Says {
     Nothing,
     List(&'static [(Lookup, &'static [u8])]),
+    /// Stored policies with these ids.
+    Policies(&'static [&'static str]),
     Fault(BodyFault),
 }
 
+const POLICIES: &str =
+    "<SignedIdentifiers><SignedIdentifier><Id>b</Id></SignedIdentifier><SignedIdentifier><Id>a</Id></SignedIdentifier></SignedIdentifiers>";
+
+const TWICE: &str =
+    "<SignedIdentifiers><SignedIdentifier><Id>a</Id></SignedIdentifier><SignedIdentifier><Id>a</Id></SignedIdentifier></SignedIdentifiers>";
+
 const LIST: &str = "<BlockList><Latest>AAAA</Latest><Committed>BBBB</Committed></BlockList>";
 
-fn bodies() -> [(Op, &'static str, Says); 6] {
+fn bodies() -> [(Op, &'static str, Says); 11] {
     [
         (
             Op::PutBlockList,
@@ -246,6 +254,11 @@ fn bodies() -> [(Op, &'static str, Says); 6] {
             Says::Fault(BodyFault::Id),
         ),
         (Op::PutBlob, LIST, Says::Nothing),
+        (Op::SetAcl, POLICIES, Says::Policies(&["b", "a"])),
+        (Op::SetAcl, "", Says::Policies(&[])),
+        (Op::SetAcl, LIST, Says::Fault(BodyFault::Form)),
+        (Op::SetAcl, TWICE, Says::Fault(BodyFault::Id)),
+        (Op::GetAcl, POLICIES, Says::Nothing),
     ]
 }
 
@@ -261,10 +274,19 @@ fn are_wanted(wanted: &[Wanted], list: &[(Lookup, &[u8])]) -> bool {
             .all(|(wanted, entry)| is_wanted(wanted, *entry))
 }
 
+fn have_ids(policies: &[Policy], ids: &[&str]) -> bool {
+    policies.len() == ids.len()
+        && policies
+            .iter()
+            .zip(ids)
+            .all(|(policy, id)| policy.id.as_str() == *id)
+}
+
 fn is_said(reading: &Reading, says: Says) -> bool {
     match (reading, says) {
         (Reading::Nothing, Says::Nothing) => true,
         (Reading::BlockList(wanted), Says::List(list)) => are_wanted(wanted.as_slice(), list),
+        (Reading::Policies(policies), Says::Policies(ids)) => have_ids(policies.as_slice(), ids),
         (Reading::Fault(fault), Says::Fault(said)) => *fault == said,
         _ => false,
     }
@@ -277,7 +299,7 @@ fn reading(rt: &impl Abort, alloc: Global, op: Op, text: &str) -> Reading {
 }
 
 #[test]
-fn only_the_body_of_a_put_block_list_is_read(rt: HostRuntime) {
+fn only_the_bodies_of_a_block_list_and_of_stored_policies_are_read(rt: HostRuntime) {
     for (op, text, says) in bodies() {
         let reading = reading(&rt, rt.alloc(), op, text);
         assert!(rt; is_said(&reading, says), "{op:?} {text}");

@@ -1,9 +1,9 @@
 //! Each operation once, in turn on one container: the status, the headers in their order, the
-//! length and the content of each reply, against values that were written by hand.
+//! length, the body and the content of each reply, against values that were written by hand.
 
 use crate::sample_requests::{allowed, body, four_names, make, moment_after, request_with};
 use range_rows::{Answer, Reading, Rows, is_served};
-use stamp_types::{Change, Header, Moment, Op, Piece, Request, Status};
+use stamp_types::{Change, Header, Level, Moment, Op, Piece, Request, Status};
 use std::alloc::Global;
 use std::process::Abort;
 
@@ -12,6 +12,10 @@ use std::process::Abort;
 enum Line {
     // application/octet-stream
     OctetStream,
+    // application/xml
+    Xml,
+    // that anyone may read the blobs of the container
+    BlobLevel,
     // the MD5 of `hello`
     SumOfHello,
     // a name of the metadata, and its value
@@ -25,7 +29,7 @@ enum Line {
 
 // The operations on the container `pics`, or on its blob `a.txt`, in turn, and for each of them how
 // many steps of 100 ns after noon its moment is.
-fn turns() -> [(u8, Op); 10] {
+fn turns() -> [(u8, Op); 12] {
     [
         (1, Op::CreateContainer),
         (2, Op::SetContainerMetadata),
@@ -36,9 +40,18 @@ fn turns() -> [(u8, Op); 10] {
         (7, Op::GetMetadata),
         (8, Op::ContainerProperties),
         (9, Op::DeleteBlob),
-        (10, Op::DeleteContainer),
+        (10, Op::SetAcl),
+        (11, Op::GetAcl),
+        (12, Op::DeleteContainer),
     ]
 }
+
+// Stored policies as they are sent, and as they are shown.
+const SENT: &str =
+    "<SignedIdentifiers><SignedIdentifier><Id> a </Id></SignedIdentifier></SignedIdentifiers>";
+
+const SHOWN: &str =
+    "<?xml version=\"1.0\" encoding=\"utf-8\"?><SignedIdentifiers><SignedIdentifier><Id>a</Id><AccessPolicy></AccessPolicy></SignedIdentifier></SignedIdentifiers>";
 
 // The value of the metadata, and the body of the request.
 fn word(op: Op) -> &'static str {
@@ -47,6 +60,7 @@ fn word(op: Op) -> &'static str {
         Op::SetContainerMetadata => "two",
         Op::PutBlob => "hello",
         Op::SetMetadata => "new",
+        Op::SetAcl => SENT,
         _ => "",
     }
 }
@@ -62,12 +76,18 @@ fn status(op: Op) -> Status {
 fn length(op: Op) -> u64 {
     match op {
         Op::GetBlob | Op::BlobProperties => 5,
+        Op::GetAcl => 153,
         _ => 0,
     }
 }
 
 fn content(op: Op) -> &'static str {
     if op == Op::GetBlob { "hello" } else { "" }
+}
+
+// The body of the reply's own, which is sent before content.
+fn own_body(op: Op) -> &'static str {
+    if op == Op::GetAcl { SHOWN } else { "" }
 }
 
 fn lines(op: Op) -> &'static [Line] {
@@ -116,6 +136,8 @@ fn lines(op: Op) -> &'static [Line] {
             Line::Etag(2),
             Line::Made(2),
         ],
+        Op::SetAcl => &[Line::Etag(6), Line::Made(10)],
+        Op::GetAcl => &[Line::Xml, Line::BlobLevel, Line::Etag(6), Line::Made(10)],
         _ => &[],
     }
 }
@@ -130,6 +152,8 @@ fn says(rt: &impl Abort, header: &Header, line: Line) -> bool {
         (Header::ContentType(text), Line::OctetStream) => {
             text.as_str() == "application/octet-stream"
         }
+        (Header::ContentType(text), Line::Xml) => text.as_str() == "application/xml",
+        (Header::PublicAccess(level), Line::BlobLevel) => *level == Level::Blob,
         (Header::ContentMd5(sum), Line::SumOfHello) => *sum == HELLO,
         (Header::Meta(meta), Line::Named(name, value)) => {
             meta.name.as_str() == name && meta.value.as_str() == value
@@ -205,12 +229,13 @@ fn asked(rt: &impl Abort, alloc: Global, op: Op) -> Request {
     request_with(rt, alloc, op, metadata, body(rt, alloc, bytes))
 }
 
-fn judge(rt: &impl Abort, op: Op, answer: &Answer) {
+fn judge(rt: &impl Abort, alloc: Global, op: Op, answer: &Answer) {
     let frame = &answer.frame;
     compare(rt, frame.headers.as_slice(), lines(op));
     assert!(rt; frame.status == status(op), "{op:?}");
     assert!(rt; frame.length == length(op), "{op:?}");
-    assert!(rt; frame.body.is_empty(), "{op:?}");
+    let bytes = frame.body.joined(alloc).expect(rt, "memory");
+    assert!(rt; bytes.as_slice() == own_body(op).as_bytes(), "{op:?}");
     assert!(rt; sends(answer, content(op)), "{op:?}");
 }
 
@@ -222,7 +247,7 @@ fn each_operation_is_answered_and_done(rt: HostRuntime) {
         let moment = moment_after(&rt, tick);
         let request = asked(&rt, alloc, op);
         let answer = answer(&rt, alloc, &rows, &request, moment);
-        judge(&rt, op, &answer);
+        judge(&rt, alloc, op, &answer);
         drop(answer);
         change(&rt, alloc, &mut rows, &request, moment);
     }

@@ -65,12 +65,12 @@ fn kept(alloc: Global, op: Op) -> Option<Kept> {
     })
 }
 
-// The level of the container that Create Container makes. Other operations give no level.
+// The level that a Create Container or a Set Container ACL gives. Other operations give no level.
 fn level(op: Op) -> Option<Level> {
-    if op == Op::CreateContainer {
-        Some(Level::Closed)
-    } else {
-        None
+    match op {
+        Op::CreateContainer => Some(Level::Closed),
+        Op::SetAcl => Some(Level::Blob),
+        _ => None,
     }
 }
 

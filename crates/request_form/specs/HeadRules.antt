@@ -6,7 +6,7 @@ use Rattle.std.specs.List.{list_all, list_any}
 use Rattle.std.specs.Option.{option_map_or, option_or}
 use Rattle.std.specs.Str.Parse.{digits_value}
 use Rattle.stamp_values.specs.declared.op.Op.{Op}
-use Rattle.stamp_values.specs.declared.op.Op.TheVariants.{CreateContainer, ContainerProperties, SetContainerMetadata, DeleteContainer, PutBlob, GetBlob, BlobProperties, GetMetadata, SetMetadata, DeleteBlob, PutBlock, PutBlockList, GetBlockList}
+use Rattle.stamp_values.specs.declared.op.Op.TheVariants.{CreateContainer, ContainerProperties, SetContainerMetadata, GetAcl, SetAcl, DeleteContainer, PutBlob, GetBlob, BlobProperties, GetMetadata, SetMetadata, DeleteBlob, PutBlock, PutBlockList, GetBlockList}
 use Rattle.stamp_values.specs.declared.verb.Verb.{Verb}
 use Rattle.stamp_values.specs.declared.verb.Verb.TheVariants.{Get, Head, Put, Delete}
 use Rattle.stamp_values.specs.declared.signing.Field.{Field}
@@ -53,6 +53,9 @@ operations =
     ∷ record { verb = Get; kind = path.Container; restype = Some (codes "container"); comp = None; op = ContainerProperties }
     ∷ record { verb = Head; kind = path.Container; restype = Some (codes "container"); comp = None; op = ContainerProperties }
     ∷ record { verb = Put; kind = path.Container; restype = Some (codes "container"); comp = Some (codes "metadata"); op = SetContainerMetadata }
+    ∷ record { verb = Get; kind = path.Container; restype = Some (codes "container"); comp = Some (codes "acl"); op = GetAcl }
+    ∷ record { verb = Head; kind = path.Container; restype = Some (codes "container"); comp = Some (codes "acl"); op = GetAcl }
+    ∷ record { verb = Put; kind = path.Container; restype = Some (codes "container"); comp = Some (codes "acl"); op = SetAcl }
     ∷ record { verb = Delete; kind = path.Container; restype = Some (codes "container"); comp = None; op = DeleteContainer }
     ∷ record { verb = Put; kind = path.Blob; restype = None; comp = None; op = PutBlob }
     ∷ record { verb = Get; kind = path.Blob; restype = None; comp = None; op = GetBlob }

@@ -51,10 +51,13 @@ fn container_op(verb: Verb, comp: Option<&[u8]>) -> Option<Op>
 {
     let plain = is_value(comp, None);
     let metadata = is_value(comp, Some("metadata"));
+    let acl = is_value(comp, Some("acl"));
     match verb {
         Verb::Put if plain => Some(Op::CreateContainer),
         Verb::Put if metadata => Some(Op::SetContainerMetadata),
+        Verb::Put if acl => Some(Op::SetAcl),
         Verb::Get | Verb::Head if plain => Some(Op::ContainerProperties),
+        Verb::Get | Verb::Head if acl => Some(Op::GetAcl),
         Verb::Delete if plain => Some(Op::DeleteContainer),
         _ => None,
     }

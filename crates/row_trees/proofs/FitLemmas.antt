@@ -11,16 +11,16 @@ use Rattle.stamp_types.specs.ActKinds.{is_row}
 use Rattle.stamp_types.specs.Changes.{KeyedAct, is_act, is_change, is_committed, is_stored_blob, are_uncommitted}
 use Rattle.stamp_types.specs.Pieces.{pieces_len}
 use Rattle.stamp_types.specs.World.{Part, no_part, part_value}
-use Rattle.row_trees.specs.Fits.{fits, fits_blob, is_made, creates, deletes}
+use Rattle.row_trees.specs.Fits.{fits, fits_blob, creates, deletes}
 use Rattle.row_trees.specs.Fits.{count_limit}
 
 -- a container takes one more change, if the change fits and is not a row of a checkpoint
 pub room_for_change : (p : Part (List Piece)) (a : Act) → fits (part_value pieces_len p) a ≡ true → is_row a ≡ false → p.count < count_limit
 room_for_change p a h row =
     let z = part_value pieces_len p in
-    let room : Bool = is_made a && (is_some p.standing || creates a) && nat_lt p.count count_limit in
+    let room : Bool = (is_some p.standing || creates a) && nat_lt p.count count_limit in
     let made : (room && fits_blob z a) ≡ true = subst (λ b. (b || (room && fits_blob z a)) ≡ true) row h in
-    ltb-true p.count count_limit (and_parts (is_made a && (is_some p.standing || creates a)) (nat_lt p.count count_limit) (and_parts room (fits_blob z a) made).0).1
+    ltb-true p.count count_limit (and_parts (is_some p.standing || creates a) (nat_lt p.count count_limit) (and_parts room (fits_blob z a) made).0).1
 
 -- a deletion does not fit a container that never was
 pub no_deletion : (a : Act) → fits (part_value pieces_len (no_part {C = List Piece})) a ≡ true → deletes a ≡ false

@@ -12,11 +12,6 @@ use Rattle.row_trees.specs.ListedBlocks.{entries_fault}
 abbrev pub count_limit : ℕ
 count_limit = 18446744073709551615
 
--- rows make the change so far: they do not set access
-abbrev pub is_made : Act → Bool
-is_made (act.SetAcl a) = false
-is_made other = true
-
 -- the blob of a Put Block takes the block, and the blob of a Put Block List has the blocks of the entries, within the limits
 abbrev pub fits_blob : Part ℕ → Act → Bool
 fits_blob p (act.PutBlock a) = is_none (block_fault a.id (blob_in p a.blob).uncommitted)
@@ -42,4 +37,4 @@ commits other = false
 -- a change of a container that exists, or its creation, in a container that takes one more change, if it fits its blob; a row of a
 -- checkpoint always fits
 abbrev pub fits : Part ℕ → Act → Bool
-fits p a = is_row a || (is_made a && (is_some p.standing || creates a) && nat_lt p.count count_limit && fits_blob p a)
+fits p a = is_row a || ((is_some p.standing || creates a) && nat_lt p.count count_limit && fits_blob p a)

@@ -10,7 +10,7 @@ use crate::container::Container;
 use crate::row::Row;
 use block_blobs::BlobRow;
 use stamp_types::{
-    Acl, Act, Bytes, ContainerRow, CreateContainer, DeleteBlob, Policies, PutBlob,
+    Acl, Act, Bytes, ContainerRow, CreateContainer, DeleteBlob, Policies, PutBlob, SetAcl,
     SetContainerMetadata, SetMetadata, Standing, StoredBlob, Text,
 };
 use stamp_values::Named;
@@ -49,6 +49,18 @@ impl Container {
             standing.etag = self.count;
             standing.made = set.moment;
             standing.metadata = set.metadata;
+        }
+    }
+
+    fn set_acl(&mut self, set: SetAcl)
+        requires { self.old.count < count_limit }
+        ensures { self.new ≡ changed same_pieces (act.SetAcl set) self.old }
+    {
+        self.count += 1;
+        if let Some(standing) = &mut self.standing {
+            standing.etag = self.count;
+            standing.made = set.moment;
+            standing.acl = set.acl;
         }
     }
 
@@ -150,6 +162,7 @@ impl Container {
         match act {
             Act::CreateContainer(create) => self.create(alloc, create),
             Act::SetContainerMetadata(set) => self.set_container_metadata(set),
+            Act::SetAcl(set) => self.set_acl(set),
             Act::DeleteContainer => self.delete(alloc),
             Act::PutBlob(put) => self.put_blob(alloc, put)?,
             Act::SetMetadata(set) => self.set_metadata(set),
@@ -158,7 +171,6 @@ impl Container {
             Act::PutBlockList(list) => self.put_block_list(alloc, list)?,
             Act::ContainerRow(row) => self.take_row(row),
             Act::StoredBlob(row) => self.store_blob(alloc, row)?,
-            Act::SetAcl(_) => unreachable!(),
         }
         Ok(())
     }

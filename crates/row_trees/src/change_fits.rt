@@ -20,12 +20,6 @@ fn is_row(act: &Act) -> bool
     matches!(act, Act::ContainerRow(_) | Act::StoredBlob(_))
 }
 
-fn is_made(act: &Act) -> bool
-    ensures { result ≡ fits.is_made act.now }
-{
-    !matches!(act, Act::SetAcl(_))
-}
-
 fn creates(act: &Act) -> bool
     ensures { result ≡ fits.creates act.now }
 {
@@ -96,14 +90,14 @@ impl Container {
 impl Rows {
     // Whether the container of a change takes it, whatever blocks its blobs have.
     fn takes_change(&self, change: &Change) -> bool
-        ensures { result ≡ (fits.is_made change.now.act
-            && (is_some (part_at self.now change.now.key).standing || fits.creates change.now.act)
+        ensures { result
+            ≡ ((is_some (part_at self.now change.now.key).standing || fits.creates change.now.act)
             && nat_lt (part_at self.now change.now.key).count count_limit) }
     {
         let key = change.key();
         let act = change.act();
         let exists = self.container(key).is_some();
-        is_made(act) && (exists || creates(act)) && self.count(key) < u64::MAX
+        (exists || creates(act)) && self.count(key) < u64::MAX
     }
 
     // Whether a change fits its blob, if it is a change of blocks.
@@ -120,7 +114,7 @@ impl Rows {
 
     /// Whether the rows make the change, as `take` and `apply` require it: the container exists or
     /// is created, and takes one more change, a block can be put under its id, and the blocks of a
-    /// list exist. Rows of a checkpoint always fit. Set Container ACL does not fit so far.
+    /// list exist. Rows of a checkpoint always fit.
     ///
     /// `AllocError` if memory runs out while the blocks of a list are looked up, or if the content of
     /// a block can have no further owner.

@@ -30,6 +30,7 @@ module _ {C : Type 0} (f : List Piece → C) where
     keeps : (o : Op) → alters_container o ≡ false → IfSome (act_by o z q t) Keeps
     keeps op.CreateContainer unaltered = cc
     keeps op.SetContainerMetadata unaltered = cc
+    keeps op.SetAcl unaltered = cc
     keeps op.DeleteContainer unaltered = cc
     keeps op.PutBlob unaltered = said_of_put Keeps (λ a. refl) q t q.ask.blob q.ask.args.kept
     keeps op.SetMetadata unaltered = said_of_named Keeps (λ name. act.SetMetadata (set_metadata q t name)) (λ name. refl) q.ask.blob
@@ -48,6 +49,7 @@ module _ {C : Type 0} (f : List Piece → C) where
     keeps_access : (o : Op) → alters_access o ≡ false → IfSome (act_by o z q t) KeepsAcl
     keeps_access op.CreateContainer unaltered = cc
     keeps_access op.SetContainerMetadata unaltered = access-changed f p (act.SetContainerMetadata (set_container_metadata q t)) refl
+    keeps_access op.SetAcl unaltered = cc
     keeps_access op.DeleteContainer unaltered = cc
     keeps_access op.PutBlob unaltered = said_of_put KeepsAcl (λ a. refl) q t q.ask.blob q.ask.args.kept
     keeps_access op.SetMetadata unaltered = said_of_named KeepsAcl (λ name. act.SetMetadata (set_metadata q t name)) (λ name. refl) q.ask.blob

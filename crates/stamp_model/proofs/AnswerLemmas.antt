@@ -19,7 +19,7 @@ use Rattle.stamp_types.specs.declared.refusal.Refusal.{Refusal}
 use Rattle.stamp_types.specs.declared.standing.Standing.{Standing}
 use Rattle.stamp_types.specs.Pieces.{held}
 use Rattle.stamp_types.specs.Requests.{Asked, IsAsk}
-use Rattle.stamp_types.specs.World.{Blob, Part, World, blob_in, blob_value, committed_value, committed_with_metadata, part_at, standing_with_metadata}
+use Rattle.stamp_types.specs.World.{Blob, Part, World, blob_in, blob_value, committed_value, committed_with_metadata, part_at, standing_with_acl, standing_with_metadata}
 use Rattle.stamp_types.proofs.EffectLemmas.{blob_in-set_metadata}
 use Rattle.access_rules.specs.declared.keys.Keys.{Keys}
 use Rattle.range_rows.specs.ObjectReplies.{byte_count, sizes, standing_read, blob_read, frame_by, bytes_by, with_content, reply_of}
@@ -27,7 +27,7 @@ use Rattle.row_trees.specs.FoundParts.{has_uncommitted}
 use Rattle.range_rows.specs.NamedBlobs.{has_listed, target_blob}
 use Rattle.range_rows.specs.ObjectRules.{needs_container, needs_blob, named_blob, object_refusal}
 use Rattle.range_rows.specs.ObjectRules.Cause.{BlobIsAbsent}
-use Rattle.range_rows.specs.RequestChanges.{put_blob, put_block_list, set_container_metadata, set_metadata, act_by, change_of, part_after}
+use Rattle.range_rows.specs.RequestChanges.{put_blob, put_block_list, set_acl, set_container_metadata, set_metadata, act_by, change_of, part_after}
 use Rattle.range_rows.proofs.AnswerLemmas.{blob_in-put_list, blob_in-put}
 use Rattle.range_rows.proofs.BlockLemmas.{target_blob-part_value}
 use Rattle.range_rows.proofs.ListLemmas.{entries-map_values}
@@ -73,6 +73,9 @@ module _ (p : Part (List ℕ)) (q : Asked) (t : ℕ) where
     container_told op.ContainerProperties is tells = container_needed p q free (ap needs_container is)
     container_told op.SetContainerMetadata is tells =
         is_some-mapped (standing_with_metadata (p.count + 1) (set_container_metadata q t)) p.standing ∙ container_needed p q free (ap needs_container is)
+    container_told op.GetAcl is tells = container_needed p q free (ap needs_container is)
+    container_told op.SetAcl is tells =
+        is_some-mapped (standing_with_acl (p.count + 1) (set_acl q t)) p.standing ∙ container_needed p q free (ap needs_container is)
     container_told other is tells = cc
 
     -- readers see the blob after the request

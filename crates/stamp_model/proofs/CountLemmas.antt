@@ -19,7 +19,7 @@ use Rattle.stamp_types.proofs.ActLaws.{count-changed}
 use Rattle.stamp_types.proofs.EffectLemmas.{etags_bounded}
 use Rattle.access_rules.specs.declared.keys.Keys.{Keys}
 use Rattle.range_rows.specs.ObjectReplies.{byte_count, sizes}
-use Rattle.range_rows.specs.RequestChanges.{create_container, delete_blob, set_container_metadata, set_metadata, act_by, change_of, part_after}
+use Rattle.range_rows.specs.RequestChanges.{create_container, delete_blob, set_acl, set_container_metadata, set_metadata, act_by, change_of, part_after}
 use Rattle.stamp_model.specs.Effects.{unless_refused, effect}
 use Rattle.stamp_model.specs.Histories.{pair_of, after_entry, replay_from, IsAccepted, IsLegalFrom}
 use Rattle.stamp_model.proofs.EffectLemmas.{on_key, said_of_block, said_of_list, said_of_put, said_of_named, related-after_act, related-effect}
@@ -29,6 +29,7 @@ module _ (z : Part ℕ) (q : Asked) (t : ℕ) (said : Act → Type 0) (each : (a
   pub said_of_act_by : (o : Op) → IfSome (act_by o z q t) said
   said_of_act_by op.CreateContainer = each (act.CreateContainer (create_container q t)) refl
   said_of_act_by op.SetContainerMetadata = each (act.SetContainerMetadata (set_container_metadata q t)) refl
+  said_of_act_by op.SetAcl = each (act.SetAcl (set_acl q t)) refl
   said_of_act_by op.DeleteContainer = each act.DeleteContainer refl
   said_of_act_by op.PutBlob = said_of_put said (λ a. each (act.PutBlob a) refl) q t q.ask.blob q.ask.args.kept
   said_of_act_by op.SetMetadata = said_of_named said (λ name. act.SetMetadata (set_metadata q t name)) (λ name. each (act.SetMetadata (set_metadata q t name)) refl) q.ask.blob

@@ -136,6 +136,7 @@ module _ (p : Part (List ℕ)) (name : List ℕ) where
     act-leaves : (o : Op) → makes_or_deletes o ≡ false → (q.ask.blob ≡ Some name → writes_blob o ≡ false) → IfSome (act_by o z q t) SameBlob
     act-leaves op.CreateContainer stands unwritten = cc
     act-leaves op.SetContainerMetadata stands unwritten = refl
+    act-leaves op.SetAcl stands unwritten = refl
     act-leaves op.DeleteContainer stands unwritten = cc
     act-leaves op.PutBlob stands unwritten = other_put SameBlob (λ a same. same) unwritten
     act-leaves op.SetMetadata stands unwritten = other_metadata SameBlob (λ a same. same) unwritten
@@ -148,6 +149,7 @@ module _ (p : Part (List ℕ)) (name : List ℕ) where
     act-leaves_seen : (o : Op) → makes_or_deletes o ≡ false → (q.ask.blob ≡ Some name → alters_blob o ≡ false) → IfSome (act_by o z q t) SameSeen
     act-leaves_seen op.CreateContainer stands unaltered = cc
     act-leaves_seen op.SetContainerMetadata stands unaltered = refl
+    act-leaves_seen op.SetAcl stands unaltered = refl
     act-leaves_seen op.DeleteContainer stands unaltered = cc
     act-leaves_seen op.PutBlob stands unaltered = other_put SameSeen seen_if_same unaltered
     act-leaves_seen op.SetMetadata stands unaltered = other_metadata SameSeen seen_if_same unaltered
@@ -160,6 +162,7 @@ module _ (p : Part (List ℕ)) (name : List ℕ) where
     act-leaves_content : (o : Op) → makes_or_deletes o ≡ false → (q.ask.blob ≡ Some name → takes_blocks o ≡ false) → IfSome (act_by o z q t) SameContent
     act-leaves_content op.CreateContainer stands untaken = cc
     act-leaves_content op.SetContainerMetadata stands untaken = refl
+    act-leaves_content op.SetAcl stands untaken = refl
     act-leaves_content op.DeleteContainer stands untaken = cc
     act-leaves_content op.PutBlob stands untaken = other_put SameContent (λ a same. content_if_seen a (seen_if_same a same)) untaken
     act-leaves_content op.SetMetadata stands untaken = said_of_named SameContent (λ n. act.SetMetadata (set_metadata q t n)) (λ n. content_metadata (set_metadata q t n)) q.ask.blob
@@ -173,6 +176,7 @@ module _ (p : Part (List ℕ)) (name : List ℕ) where
     act-shows_nothing : (o : Op) → (q.ask.blob ≡ Some name → gives_content o ≡ false) → IfSome (act_by o z q t) StaysUnseen
     act-shows_nothing op.CreateContainer gives = λ none. none
     act-shows_nothing op.SetContainerMetadata gives = λ none. none
+    act-shows_nothing op.SetAcl gives = λ none. none
     act-shows_nothing op.DeleteContainer gives = λ none. ap (λ (o : Option (Blob (List ℕ))). (unwrap_or o no_blob).committed) (finite.get-empty name_cmp name)
     act-shows_nothing op.PutBlob gives = other_put StaysUnseen (λ a same none. seen_if_same a same ∙ none) gives
     act-shows_nothing op.SetMetadata gives =

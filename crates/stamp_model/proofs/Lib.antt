@@ -1,5 +1,6 @@
 pub mod AcceptedLemmas
 pub mod AccessLemmas
+pub mod AclLemmas
 pub mod AnswerLemmas
 pub mod ArgumentLemmas
 pub mod BlockLemmas

@@ -13,11 +13,11 @@ use Rattle.stamp_types.specs.declared.refusal.Refusal.{Refusal}
 use Rattle.stamp_types.specs.declared.standing.Standing.{Standing}
 use Rattle.stamp_types.specs.Pieces.{held}
 use Rattle.stamp_types.specs.Requests.{Asked}
-use Rattle.stamp_types.specs.World.{Part, no_part, standing_with_metadata}
+use Rattle.stamp_types.specs.World.{Part, no_part, standing_with_acl, standing_with_metadata}
 use Rattle.access_rules.specs.declared.keys.Keys.{Keys}
 use Rattle.range_rows.specs.ObjectReplies.{sizes}
 use Rattle.range_rows.specs.ObjectRules.{needs_container, object_refusal}
-use Rattle.range_rows.specs.RequestChanges.{set_container_metadata, act_by, change_of, part_after}
+use Rattle.range_rows.specs.RequestChanges.{set_acl, set_container_metadata, act_by, change_of, part_after}
 use Rattle.stamp_model.specs.Effects.{unless_refused}
 use Rattle.stamp_model.specs.Histories.{pair_of, after_entry, replay_from, replay, makes_or_deletes, operations, last_making_or_deletion, IsAccepted, IsLegal, IsLegalFrom}
 use Rattle.stamp_model.proofs.AccessLemmas.{standing-after_act}
@@ -45,7 +45,7 @@ module _ (p : Part (List ℕ)) (q : Asked) (t : ℕ) where
   after_one op.CreateContainer = refl
   after_one op.DeleteContainer = refl
   after_one op.SetContainerMetadata = is_some-mapped (standing_with_metadata (p.count + 1) (set_container_metadata q t)) p.standing
-  after_one op.SetAcl = refl
+  after_one op.SetAcl = is_some-mapped (standing_with_acl (p.count + 1) (set_acl q t)) p.standing
   after_one other = ap (λ (o : Option Standing). is_some o) (standing-after_act held (sizes p) p q t q.ask.key other refl)
 
 module _ (pairs : List Keys) (key : Key) where

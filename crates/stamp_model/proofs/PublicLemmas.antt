@@ -131,6 +131,7 @@ reply-absent_as_closed keys w v q t bound s anonymous none exists closed =
 act_by-public : (o : Op) (kinds : Option BlockKinds) (need : Level) (z : Part ℕ) (q : Asked) (t : ℕ) → (need_of o kinds).level ≡ Some need → act_by o z q t ≡ None
 act_by-public op.CreateContainer kinds need z q t h = cc
 act_by-public op.SetContainerMetadata kinds need z q t h = cc
+act_by-public op.SetAcl kinds need z q t h = cc
 act_by-public op.DeleteContainer kinds need z q t h = cc
 act_by-public op.PutBlob kinds need z q t h = cc
 act_by-public op.SetMetadata kinds need z q t h = cc

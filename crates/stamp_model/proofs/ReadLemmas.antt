@@ -22,6 +22,7 @@ use Rattle.range_rows.specs.NamedBlobs.{target_blob}
 use Rattle.range_rows.specs.ObjectRules.{object_refusal}
 use Rattle.range_rows.specs.RequestChanges.{act_by, change_of, part_after}
 use Rattle.range_rows.proofs.AnswerLemmas.{named_blob-part_value}
+use Rattle.range_rows.proofs.FrameLemmas.{act_by-read}
 use Rattle.stamp_model.specs.Refusals.{access_refusal, unserved_refusal, refusal}
 use Rattle.stamp_model.specs.Effects.{unless_refused, world_after, effect}
 use Rattle.stamp_model.specs.Responses.{answer_of, response, reply}
@@ -30,17 +31,6 @@ use Rattle.stamp_model.proofs.EffectLemmas.{on_key, part_at-effect}
 use Rattle.stamp_model.proofs.ReplyLemmas.{reply-unrefused, reply-admitted}
 
 -- ---- what a request leaves
-
-act_by-read : (o : Op) (z : Part ℕ) (q : Asked) (t : ℕ) → writes o ≡ false → act_by o z q t ≡ None
-act_by-read op.CreateContainer z q t reads = cc
-act_by-read op.SetContainerMetadata z q t reads = cc
-act_by-read op.DeleteContainer z q t reads = cc
-act_by-read op.PutBlob z q t reads = cc
-act_by-read op.SetMetadata z q t reads = cc
-act_by-read op.DeleteBlob z q t reads = cc
-act_by-read op.PutBlock z q t reads = cc
-act_by-read op.PutBlockList z q t reads = cc
-act_by-read other z q t reads = refl
 
 without_change : (r : Option Refusal) (w : World (List ℕ)) → world_after held (unless_refused r None) w ≡ w
 without_change None w = refl
@@ -51,7 +41,7 @@ module _ (keys : Option Keys) (w : World (List ℕ)) (q : Asked) (t : ℕ) where
   pub effect-read : writes q.ask.op ≡ false → effect keys w q t ≡ w
   effect-read reads =
       ap (λ (a : Option Act). world_after held (unless_refused (refusal keys (sizes (part_at w q.ask.key)) q t) (option_map (on_key q.ask.key) a)) w)
-      (act_by-read q.ask.op (sizes (part_at w q.ask.key)) q t reads)
+      (act_by-read (sizes (part_at w q.ask.key)) q t q.ask.op reads)
       ∙ without_change (refusal keys (sizes (part_at w q.ask.key)) q t) w
 
   -- the container after a request that nothing refuses is what its act makes of the container, if the container's sizes give this act

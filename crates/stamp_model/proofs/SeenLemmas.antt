@@ -143,6 +143,7 @@ writes_unseen other k reads = refl
 pub wants_nothing : (o : Op) (k : Option BlockKinds) (body : List ℕ) → reads_seen o k ≡ true → listed_in (reading_by o body) ≡ []
 unfolding reading_by
 wants_nothing op.PutBlockList k body reads = cc
+wants_nothing op.SetAcl k body reads = cc
 wants_nothing other k body reads = refl
 
 pub is_not_put_block : (o : Op) (k : Option BlockKinds) → reads_seen o k ≡ true → o ≡ op.PutBlock → ⊥
@@ -229,6 +230,8 @@ module _ (q : Asked) (s u : Standing) (c d : Committed ℕ) (b g : Blob ℕ) (e 
   answers_seen same op.CreateContainer reads = cc
   answers_seen same op.ContainerProperties reads = λ i. with_content (frame_by op.ContainerProperties q (same i) c b) []
   answers_seen same op.SetContainerMetadata reads = cc
+  answers_seen same op.GetAcl reads = λ i. with_content (frame_by op.GetAcl q (same i) c b) []
+  answers_seen same op.SetAcl reads = cc
   answers_seen same op.DeleteContainer reads = cc
   answers_seen same op.PutBlob reads = cc
   answers_seen same op.GetBlob reads = answers_alike op.GetBlob refl

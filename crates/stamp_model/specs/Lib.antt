@@ -10,3 +10,4 @@ pub mod Refusals
 pub mod Responses
 pub mod Runs
 pub mod SeenContainers
+pub mod ShownAcls

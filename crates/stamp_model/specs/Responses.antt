@@ -18,6 +18,8 @@ abbrev pub tells_container : Op → Bool
 tells_container op.CreateContainer = true
 tells_container op.ContainerProperties = true
 tells_container op.SetContainerMetadata = true
+tells_container op.GetAcl = true
+tells_container op.SetAcl = true
 tells_container _ = false
 
 -- the answer of the operation tells what readers see of the blob: its ETag and its moment at least

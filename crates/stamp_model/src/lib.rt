@@ -3,6 +3,7 @@
 #![tactic(auto)]
 
 mod accepted_laws;
+mod acl_laws;
 mod block_laws;
 mod caller_laws;
 mod condition_laws;
@@ -13,6 +14,7 @@ mod laws;
 mod run_laws;
 
 pub use accepted_laws::a_run_is_the_replay_of_its_accepted_requests;
+pub use acl_laws::an_acl_reaches_no_content;
 pub use block_laws::{
     a_block_list_shows_the_blocks, a_commit_is_seen_whole_or_not_at_all,
     no_block_outlives_its_commit,

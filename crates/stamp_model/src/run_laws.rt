@@ -3,7 +3,7 @@
 ghost use Rattle.std.specs.Prelude.{◌≡◌, ℕ, ◌+◌, IsTrue, List, [], ◌∷◌, ◌++◌, Some, None, length, map};
 ghost use Rattle.md5.specs.Md5.{md5};
 ghost use Rattle.stamp_values.specs.declared.key.Key.{Key};
-ghost use Rattle.stamp_values.specs.declared.op.Op.TheVariants.{BlobProperties, ContainerProperties, CreateContainer, DeleteBlob, DeleteContainer, GetBlob, GetMetadata, PutBlob, SetContainerMetadata, SetMetadata};
+ghost use Rattle.stamp_values.specs.declared.op.Op.TheVariants.{BlobProperties, ContainerProperties, CreateContainer, DeleteBlob, DeleteContainer, GetAcl, GetBlob, GetMetadata, PutBlob, SetAcl, SetContainerMetadata, SetMetadata};
 ghost use Rattle.stamp_types.specs.declared.args.Kept.{Kept};
 ghost use Rattle.stamp_types.specs.declared.code.Code.TheVariants.{BlobNotFound, ContainerNotFound};
 ghost use Rattle.stamp_types.specs.declared.header.Header.TheVariants as header;
@@ -17,6 +17,7 @@ ghost use Rattle.range_rows.specs.ObjectReplies.{date_headers, kept_lines};
 ghost use Rattle.range_rows.specs.ObjectRules.{needs_blob, needs_container};
 ghost use Rattle.range_rows.specs.RequestChanges.{put_props};
 ghost use Rattle.stamp_model.specs.Runs.{Timed, AreAnswered, IsAdmitted, IsIn, IsOn, world_after_one, world_after_all, reply_to_one, replies_to};
+ghost use Rattle.stamp_model.specs.ShownAcls.{ShowsAcl};
 
 /// Each request has one reply, which follows from what the requests before it left. So the replies
 /// to the first requests do not depend on what comes after these requests.
@@ -65,7 +66,8 @@ pub fn a_refused_request_changes_no_other_reply()
 /// accepted: its reply names no rule. After a Put Blob, the reply to a Get Blob without a range has
 /// the body that was put, and the ETag and the moment of the reply to the Put Blob; the reply to a Get Blob Properties
 /// has the length of that body. After Set Blob Metadata or Set Container Metadata, the metadata that
-/// were set are read, with the ETag and the moment of the reply to that request. After a Delete
+/// were set are read, with the ETag and the moment of the reply to that request. After a Set Container
+/// ACL, the level that was asked for and exactly the policies of the body are read. After a Delete
 /// Blob, each request that needs the blob and that permission admits is refused by O3. After a Delete
 /// Container, each request that needs the container and that permission admits is refused by O1. If
 /// the container is then made again, each request that needs a blob of it and that permission admits
@@ -126,6 +128,16 @@ pub fn what_is_written_is_read()
         → (reply_to_one (world_after_one w set) get).rule ≡ None
         → (reply_to_one (world_after_one w set) get).headers
         ≡ map header.Meta set.request.ask.args.metadata ++ (reply_to_one w set).headers }
+    ensures set_acl { (w : World (List ℕ)) (key : Key) (set : Timed)
+        → IsIn SetAcl key set.request → (reply_to_one w set).rule ≡ None
+        → (reply_to_one w set).headers
+        ≡ date_headers ((part_at w key).count + 1) set.moment }
+    ensures acl { (w : World (List ℕ)) (key : Key) (set get : Timed)
+        → IsIn SetAcl key set.request → IsIn GetAcl key get.request
+        → (reply_to_one w set).rule ≡ None
+        → (reply_to_one (world_after_one w set) get).rule ≡ None
+        → ShowsAcl set.request (reply_to_one w set)
+        (reply_to_one (world_after_one w set) get) }
     ensures deleted_blob { (w : World (List ℕ)) (key : Key) (name : List ℕ)
         (delete read : Timed)
         → IsOn DeleteBlob key name delete.request → (reply_to_one w delete).rule ≡ None

@@ -1,3 +1,4 @@
+use Rattle.stamp_model.proofs.AclLemmas.{headers-set_acl, shows-get_acl}
 use Rattle.stamp_model.proofs.WrittenLemmas.{headers-put, headers-get, body-get, length-properties, kept-put, headers-set, headers-get_metadata, headers-set_container, headers-properties, reply-deleted_blob, reply-deleted_container, reply-made_again}
 use Rattle.stamp_model.proofs.run_laws.what_is_written_is_read.Goals as goal
 
@@ -28,6 +29,12 @@ returns-clause-set_container c = λ w key set sets none. headers-set_container w
 
 pub returns-clause-properties : goal.returns-clause-properties
 returns-clause-properties c = λ w key set get sets gets none free. headers-properties w key set sets none get gets free
+
+pub returns-clause-set_acl : goal.returns-clause-set_acl
+returns-clause-set_acl c = λ w key set sets none. headers-set_acl w key set sets none
+
+pub returns-clause-acl : goal.returns-clause-acl
+returns-clause-acl c = λ w key set get sets gets none free. shows-get_acl w key set sets none get gets free
 
 pub returns-clause-deleted_blob : goal.returns-clause-deleted_blob
 returns-clause-deleted_blob c = λ w key name delete read deletes none same named needs admits. reply-deleted_blob w key name delete deletes none read same named needs admits
