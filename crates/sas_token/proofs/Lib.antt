@@ -1,3 +1,4 @@
 pub mod MeaningLemmas
+pub mod ReadingLemmas
 pub mod StringLemmas
 pub mod TokenLemmas

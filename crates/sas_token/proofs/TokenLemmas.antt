@@ -1,22 +1,13 @@
 -- A query is one token at most, and not a token if it has a fault.
-use Rattle.std.proofs.Common.{◌≡◌, ℕ, Bool, true, false, List, [], ◌∷◌, Option, Some, None, Result, Ok, Err, MatchResult, codes, refl, sym, ap, ◌∙◌, inl, inr, ◌==◌, unwrap_or, bytes_eq, if◌then◌else◌}
-use Rattle.std.specs.List.{list_any}
+use Rattle.std.proofs.Common.{◌≡◌, ℕ, Bool, true, false, List, [], ◌∷◌, Option, Some, None, Result, Ok, Err, MatchResult, codes, refl, sym, ap, ◌∙◌, inl, inr, unwrap_or, bytes_eq, if◌then◌else◌}
 use Rattle.stamp_values.specs.Letters.{Permissions, letters_text}
 use Rattle.stamp_values.specs.declared.signing.Field.{Field}
 use Rattle.sas_token.specs.declared.fault.TokenFault.{TokenFault}
 use Rattle.sas_token.specs.declared.fault.TokenFault.TheVariants.{Twice, Missing, Version, Resource as OtherResource, Letters, Time, NoMemory}
 use Rattle.sas_token.specs.declared.token.Resource.{Resource}
 use Rattle.sas_token.specs.declared.token.Resource.TheVariants.{Container, Blob}
+use Rattle.sas_token.specs.TokenReading.{permissions_in}
 use Rattle.sas_token.specs.Tokens.{Sent, IsToken, HasCause, fault_order, IsFirst, IsFault, GivesLetters, GivesTime, resource_letter}
-
--- the permissions whose letters are in a text
-abbrev permissions_in : List ℕ → Permissions
-permissions_in text = record {
-  read = list_any (λ b. b == 114) text;
-  write = list_any (λ b. b == 119) text;
-  delete = list_any (λ b. b == 100) text;
-  list = list_any (λ b. b == 108) text;
-}
 
 by_bools : (r w d l : Bool) → permissions_in (letters_text (record { read = r; write = w; delete = d; list = l })) ≡ record { read = r; write = w; delete = d; list = l }
 by_bools true true true true = refl
@@ -36,7 +27,7 @@ by_bools false false true false = refl
 by_bools false false false true = refl
 by_bools false false false false = refl
 
-permissions_in-letters_text : (p : Permissions) → permissions_in (letters_text p) ≡ p
+pub permissions_in-letters_text : (p : Permissions) → permissions_in (letters_text p) ≡ p
 permissions_in-letters_text p = by_bools p.read p.write p.delete p.list
 
 pub same_letters : (text : List ℕ) (a b : Option Permissions) → GivesLetters text a → GivesLetters text b → a ≡ b

@@ -1,1 +1,2 @@
+pub mod TokenReading
 pub mod Tokens

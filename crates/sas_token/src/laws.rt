@@ -1,9 +1,10 @@
 //! Laws of tokens. Each law is the contract of a function that does nothing.
-ghost use Rattle.std.specs.Prelude.{◌≡◌, ℕ, List, Option};
+ghost use Rattle.std.specs.Prelude.{◌≡◌, ◌↔◌, ℕ, List, Option, Some};
 ghost use Rattle.stamp_values.specs.declared.key.Key.{Key};
 ghost use Rattle.stamp_values.specs.declared.signing.Field.{Field};
 ghost use Rattle.sas_token.specs.declared.fault.TokenFault.{TokenFault as Fault};
 ghost use Rattle.sas_token.specs.Tokens.{Sent, IsToken, IsFault, token_string, HasGoodNames, MeanTheSame};
+ghost use Rattle.sas_token.specs.TokenReading.{token_of};
 
 /// A query is one token, or it has one fault. It is not two tokens, has not two first faults, and is not a token with a fault.
 pub fn a_query_is_one_token()
@@ -11,6 +12,11 @@ pub fn a_query_is_one_token()
     ensures fault { (query : List Field) (f g : Fault) → IsFault query f → IsFault query g → f ≡ g }
     ensures not_both { (query : List Field) (t : Sent) (f : Fault) → IsToken query t
         → ¬ IsFault query f }
+{}
+
+/// The reading as a function gives the token that a query is, and nothing else.
+pub fn the_reading_is_the_token()
+    ensures { (query : List Field) (t : Sent) → (token_of query ≡ Some t) ↔ IsToken query t }
 {}
 
 /// If two tokens of one version have one string to sign, they mean the same. So a signature of one token is not a signature of a

@@ -8,7 +8,7 @@ mod strings;
 mod token;
 
 pub use fault::TokenFault;
-pub use laws::{a_query_is_one_token, one_string_has_one_meaning};
+pub use laws::{a_query_is_one_token, one_string_has_one_meaning, the_reading_is_the_token};
 pub use reader::read_token;
 pub use strings::token_string;
 pub use token::{Resource, Token};

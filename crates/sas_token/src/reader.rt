@@ -1,11 +1,13 @@
 //! Reads a token out of a query.
-ghost use Rattle.std.specs.Prelude.{◌≡◌, ◌≢◌, ◌↔◌, ℕ, IfOk, IfSome, IfNone, MatchResult, Ok, Err, Option, Some, option_map};
+ghost use Rattle.std.specs.Prelude.{◌≡◌, ◌≢◌, ◌↔◌, ℕ, IfOk, IfSome, IfNone, MatchResult, Ok, Err, Option, Some};
 ghost use Rattle.std.specs.List.{list_any};
+ghost use Rattle.std.specs.Result.{result_ok};
 ghost use Rattle.stamp_values.specs.Fields.{is_sent_twice};
 ghost use Rattle.stamp_values.specs.Letters.{Permissions};
 ghost use Rattle.sas_token.specs.declared.fault.TokenFault.{TokenFault as Fault};
 ghost use Rattle.sas_token.specs.declared.token.Resource.{Resource as Kind};
 ghost use Rattle.sas_token.specs.Tokens.{Sent, IsToken, IsFault, GivesLetters, GivesTime, parameter_names, resource_letter, text_under};
+ghost use Rattle.sas_token.specs.TokenReading.{token_of};
 
 use crate::fault::TokenFault;
 use crate::token::{Resource, Token};
@@ -129,12 +131,14 @@ fn read(query: &FieldList) -> Result<Token<'_>, TokenFault>
 ///
 /// The call takes no memory. A fault is the first of its enum that has a cause. Blob service REST reference, 2012-02-12,
 /// Delegating Access with a Shared Access Signature.
-#[tactic(auto, using(crate::proofs::TokenLemmas::token_read))]
+#[tactic(auto, using(crate::proofs::TokenLemmas::token_read, crate::proofs::ReadingLemmas::token_value))]
 pub fn read_token(query: &FieldList) -> Result<Token<'_>, TokenFault>
     ensures read { IfOk result (IsToken query.now) }
     ensures complete { (token : Sent) → IsToken query.now token → result ≡ Ok token }
     ensures refused { (fault : Fault) → (result ≡ Err fault) ↔ IsFault query.now fault }
     ensures no_memory { result ≢ Err TokenFault.NoMemory }
+    // The same reading as a function.
+    ensures value { result_ok result ≡ token_of query.now }
 {
     read(query)
 }

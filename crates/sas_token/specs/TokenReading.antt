@@ -1,0 +1,68 @@
+-- The token that a query is, as a function (Blob service REST reference, 2012-02-12, Delegating Access with a Shared Access Signature).
+-- A law says that it gives the tokens of the definition, and nothing else.
+use Rattle.std.specs.Prelude.{ℕ, ◌==◌, cond, List, [], ◌∷◌, Option, Some, None, option_and_then, option_map, bytes_eq, codes}
+use Rattle.std.specs.List.{list_any}
+use Rattle.std.specs.Result.{result_ok}
+use Rattle.stamp_values.specs.Ascii.{lower_r, lower_w, lower_d, lower_l}
+use Rattle.stamp_values.specs.Fields.{is_sent_twice, first_value}
+use Rattle.stamp_values.specs.Letters.{Permissions, letters_text}
+use Rattle.stamp_values.specs.declared.signing.Field.{Field}
+use Rattle.moment_text.specs.IsoReader.{iso_moment}
+use Rattle.sas_token.specs.declared.token.Resource.{Resource}
+use Rattle.sas_token.specs.declared.token.Resource.TheVariants.{Container, Blob}
+use Rattle.sas_token.specs.Tokens.{Sent, parameter_names, served_version, text_under}
+
+-- the version, if it is the version that is served
+abbrev pub if_served : List ℕ → Option (List ℕ)
+if_served version = cond (bytes_eq version served_version) (Some version) None
+
+-- the kind of resource that a letter names
+abbrev pub resource_of : List ℕ → Option Resource
+resource_of letter = cond (bytes_eq letter (codes "b")) (Some Blob) (cond (bytes_eq letter (codes "c")) (Some Container) None)
+
+-- the permissions whose letters are in a text
+abbrev pub permissions_in : List ℕ → Permissions
+permissions_in text = record {
+  read = list_any (λ b. b == lower_r) text;
+  write = list_any (λ b. b == lower_w) text;
+  delete = list_any (λ b. b == lower_d) text;
+  list = list_any (λ b. b == lower_l) text;
+}
+
+-- the permissions that a text gives, if it is empty or is the letters of permissions; an empty text gives no permissions
+unfoldable pub letters_given : List ℕ → Option (Option Permissions)
+letters_given [] = Some None
+letters_given (b ∷ bs) = cond (bytes_eq (b ∷ bs) (letters_text (permissions_in (b ∷ bs)))) (Some (Some (permissions_in (b ∷ bs)))) None
+
+-- the moment that a text names, if it is empty or is a time; an empty text names no moment
+unfoldable pub time_given : List ℕ → Option (Option ℕ)
+time_given [] = Some None
+time_given (b ∷ bs) = option_map (λ moment. Some moment) (result_ok (iso_moment (b ∷ bs)))
+
+-- the token with the other texts of the query, if each of these parts could be read
+abbrev pub token_by : List Field → Option (List ℕ) → Option Resource → Option (List ℕ) → Option (Option Permissions) → Option (Option ℕ) → Option (Option ℕ) → Option Sent
+token_by query (Some version) (Some resource) (Some signature) (Some letters) (Some start) (Some expiry) = Some (record {
+  version = version;
+  resource = resource;
+  permissions = text_under query (codes "sp");
+  start_text = text_under query (codes "st");
+  expiry_text = text_under query (codes "se");
+  id = text_under query (codes "si");
+  signature = signature;
+  letters = letters;
+  start = start;
+  expiry = expiry;
+})
+token_by query version resource signature letters start expiry = None
+
+-- the token that a query is: none of the seven parameters was sent more than once, and each part can be read
+unfoldable pub token_of : List Field → Option Sent
+token_of query =
+    cond (list_any (is_sent_twice query) parameter_names) None
+    (token_by query
+    (option_and_then if_served (first_value query (codes "sv")))
+    (option_and_then resource_of (first_value query (codes "sr")))
+    (first_value query (codes "sig"))
+    (letters_given (text_under query (codes "sp")))
+    (time_given (text_under query (codes "st")))
+    (time_given (text_under query (codes "se"))))
