@@ -15,7 +15,7 @@ SENTENCE = 40
 LIMITS = {"README.md": 1200, "docs/architecture.md": 2500, "docs/gate.md": 1300}
 # It was 62,000 before the program was a server, 67,000 before the statement had a page of its files, and 74,000 before partitions had streams;
 # a part that is added brings its own pages.
-ALL = 75_000
+ALL = 80_000
 
 
 def all_pages():

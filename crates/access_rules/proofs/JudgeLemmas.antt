@@ -1,6 +1,8 @@
 -- The rules before the signature among all rules.
-use Rattle.std.proofs.Common.{◌≡◌, ℕ, Bool, true, false, cond, Option, Some, None}
+use Rattle.std.proofs.Common.{◌≡◌, ℕ, Bool, true, false, cond, List, Option, Some, None, sym, subst}
 use Rattle.stamp_values.specs.declared.acl.Acl.{Acl}
+use Rattle.stamp_values.specs.declared.signing.Credential.{Credential}
+use Rattle.stamp_values.specs.declared.signing.Credential.TheVariants.{Shared}
 use Rattle.stamp_types.specs.declared.ask.Ask.{Ask}
 use Rattle.stamp_types.specs.declared.rule.Rule.{Rule}
 use Rattle.stamp_types.specs.declared.rule.Rule.TheVariants.{K1, K2, K3, K4}
@@ -15,6 +17,15 @@ by_four false false true d rest rule h = h
 by_four false false false true rest rule h = h
 by_four false false false false rest rule h = cc
 
--- if one of the rules before the signature holds, the first of them is the first rule of all
-pub first_rule-before : (keys : Option Keys) (acl : Option Acl) (q : Ask) (t : ℕ) (rule : Rule) → rule_before_signature keys q t ≡ Some rule → first_rule keys acl q t ≡ Some rule
-first_rule-before keys acl q t rule h = by_four (holds keys acl q t K1) (holds keys acl q t K2) (holds keys acl q t K3) (holds keys acl q t K4) _ rule h
+before_shared : (keys : Option Keys) (acl : Option Acl) (q : Ask) (t : ℕ) (rule : Rule) (values : List (List ℕ))
+    → rule_before_signature keys (record q { credential = Shared values }) t ≡ Some rule → first_rule keys acl (record q { credential = Shared values }) t ≡ Some rule
+before_shared keys acl q t rule values h =
+    let ask : Ask = record q { credential = Shared values } in
+    by_four (holds keys acl ask t K1) (holds keys acl ask t K2) (holds keys acl ask t K3) (holds keys acl ask t K4) _ rule h
+
+-- if one of the rules before the signature holds of a request that asks by a key, the first of them is the first rule of all
+pub first_rule-before : (keys : Option Keys) (acl : Option Acl) (q : Ask) (t : ℕ) (rule : Rule) (values : List (List ℕ)) → q.credential ≡ Shared values
+    → rule_before_signature keys q t ≡ Some rule → first_rule keys acl q t ≡ Some rule
+first_rule-before keys acl q t rule values is =
+    subst (λ (c : Credential). rule_before_signature keys (record q { credential = c }) t ≡ Some rule → first_rule keys acl (record q { credential = c }) t ≡ Some rule) (sym is)
+    (before_shared keys acl q t rule values)

@@ -1,5 +1,5 @@
 -- No rule holds if and only if the request's own route admits the request.
-use Rattle.std.proofs.Common.{◌≡◌, ℕ, ◌+◌, ◌≤◌, ◌↔◌, ◌⊎◌, inl, inr, Bool, true, false, cond, not, ◌||◌, List, [], ◌∷◌, Option, Some, None, Result, Ok, Err, refl, sym, ap, ◌∙◌, arith, nat_le, subst, is_none}
+use Rattle.std.proofs.Common.{◌≡◌, ℕ, ◌+◌, ◌≤◌, ◌↔◌, Bool, true, false, cond, not, ◌||◌, List, [], ◌∷◌, Option, Some, None, Result, Ok, Err, refl, sym, ap, ◌∙◌, arith, nat_le, subst, is_none}
 use Rattle.std.proofs.lemmas.Bool.Decides.{nat_tests}
 use Rattle.std.proofs.lemmas.Slice.Eq.{bytes_eq-Decides}
 use Rattle.std.specs.Prelude.{bytes_eq, option_and_then}
@@ -16,26 +16,13 @@ use Rattle.hmac_sign.specs.Signature.{signature_of}
 use Rattle.shared_key.specs.Authorizations.{Claim}
 use Rattle.access_rules.specs.declared.keys.Keys.{Keys}
 use Rattle.access_rules.proofs.ClaimLemmas.{claimed, claims}
+use Rattle.access_rules.proofs.KeyLemmas.{keys_found, found_keys, either, of_either}
 use Rattle.access_rules.specs.Needs.{need_of}
 use Rattle.moment_text.specs.Http.{http_moment}
 use Rattle.access_rules.specs.Parts.{claim_in, keys_for, date_text, date_in, string_of, leeway, is_far, is_signed}
 use Rattle.access_rules.specs.Rules.{first_rule, some_passes, allows_less}
 use Rattle.access_rules.specs.Routes.{ByKey, ByPublic, Admits}
-
--- ---- keys
-
--- the keys that are found are the keys of the account
-keys_found : (keys : Option Keys) (account : List ℕ) (pair : Keys) → keys_for keys account ≡ Some pair → (keys ≡ Some pair) × (pair.account ≡ account)
-keys_found None account pair e = cc
-keys_found (Some k) account pair e =
-    elim (bytes_eq k.account account) as (λ b. bytes_eq k.account account ≡ b → cond b (Some k) None ≡ Some pair → (Some k ≡ Some pair) × (pair.account ≡ account)) [
-      | true ↦ λ is h. (h, let same : k ≡ pair = cc in ap (λ (p : Keys). p.account) (sym same) ∙ (bytes_eq-Decides k.account account).0 is)
-      | false ↦ λ is h. cc
-    ] refl e
-
-found_keys : (keys : Option Keys) (account : List ℕ) (pair : Keys) → keys ≡ Some pair → pair.account ≡ account → keys_for keys account ≡ Some pair
-found_keys keys account pair is own =
-    ap (λ k. keys_for k account) is ∙ ap (λ b. cond b (Some pair) None) ((bytes_eq-Decides pair.account account).1 own)
+use Rattle.access_rules.proofs.TokenRouteLaw.{by_token}
 
 -- ---- the date
 
@@ -58,25 +45,6 @@ near t date h = (grind (arith, nat_tests), grind (arith, nat_tests))
 
 is_near : (t date : ℕ) → t ≤ date + leeway → date ≤ t + leeway → is_far t date ≡ false
 is_near t date p q = grind (arith, nat_tests)
-
-one_of : (a b : Bool) → (a || b) ≡ true → (a ≡ true) ⊎ (b ≡ true)
-one_of true b h = inl refl
-one_of false b h = inr h
-
-or_right : (a : Bool) → (a || true) ≡ true
-or_right true = refl
-or_right false = refl
-
-either : (xs ys zs : List ℕ) → (bytes_eq xs ys || bytes_eq xs zs) ≡ true → (xs ≡ ys) ⊎ (xs ≡ zs)
-either xs ys zs h =
-    elim (one_of (bytes_eq xs ys) (bytes_eq xs zs) h) [
-      | inl e ↦ inl ((bytes_eq-Decides xs ys).0 e)
-      | inr e ↦ inr ((bytes_eq-Decides xs zs).0 e)
-    ]
-
-of_either : (xs ys zs : List ℕ) → (xs ≡ ys) ⊎ (xs ≡ zs) → (bytes_eq xs ys || bytes_eq xs zs) ≡ true
-of_either xs ys zs (inl e) = ap (λ b. b || bytes_eq xs zs) ((bytes_eq-Decides xs ys).1 e)
-of_either xs ys zs (inr e) = ap (λ b. bytes_eq xs ys || b) ((bytes_eq-Decides xs zs).1 e) ∙ or_right (bytes_eq xs ys)
 
 -- the rules of the key route, over what they look at: the claim, the test that its account is the path's account, the keys,
 -- the date, the test that the date is far, and the test that a pair of keys gives the signature of the claim
@@ -229,5 +197,5 @@ by_public (Some has) q (Some need) e = (
 
 pub by_route : (keys : Option Keys) (acl : Option Acl) (q : Ask) (t : ℕ) (credential : Credential) → (first_rule keys acl (asking q credential) t ≡ None) ↔ Admits keys acl credential (asking q credential) t
 by_route keys acl q t (Shared values) = by_key keys acl q t values
-by_route keys acl q t Token = (λ h. cc, λ b. absurd b)
+by_route keys acl q t Token = by_token keys acl (asking q Token) t refl
 by_route keys acl q t Anonymous = by_public acl (asking q Anonymous) _ refl

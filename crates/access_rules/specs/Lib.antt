@@ -3,3 +3,5 @@ pub mod Openings
 pub mod Parts
 pub mod Routes
 pub mod Rules
+pub mod TokenParts
+pub mod TokenRoute

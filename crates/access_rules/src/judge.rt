@@ -5,12 +5,13 @@ ghost use Rattle.stamp_values.specs.declared.signing.Credential.TheVariants as c
 ghost use Rattle.stamp_types.specs.declared.rule.Rule.TheVariants.{K5};
 ghost use Rattle.access_rules.specs.declared.judgement.Way.TheVariants as way;
 ghost use Rattle.access_rules.specs.declared.keys.Keys.{Keys};
-ghost use Rattle.access_rules.specs.Rules.{has_false_signature, has_signature, needs_signature, rule_before_signature, verdict_by, verdict_of};
+ghost use Rattle.access_rules.specs.Rules.{has_false_claim, has_false_signature, has_signature, needs_signature, rule_before_signature, verdict_by, verdict_of};
 
 use crate::judgement::{Verdict, Way};
 use crate::keys::Keys;
 use crate::needs::need_of;
 use crate::parts::{claim_in, date_in, is_far, is_signed, keys_for};
+use crate::token_route::{is_false_token, rule_by_token};
 use container_acl::{Acl, permits};
 use stamp_types::{Ask, Bytes, Credential, Moment, Request, Rule};
 use std::alloc::{AllocError, Global};
@@ -51,7 +52,7 @@ fn is_false(
     values: &[Bytes],
 ) -> Result<bool, AllocError>
     requires { ask.now.credential ≡ credential.Shared values.now }
-    ensures value { IfOk result (λ it. it ≡ has_false_signature (option_copied keys.entry) ask.now) }
+    ensures value { IfOk result (λ it. it ≡ has_false_claim (option_copied keys.entry) ask.now) }
     ensures memory { IsErr result → IsTrue (has_signature (option_copied keys.entry) ask.now) }
 {
     let Some(claim) = claim_in(values) else {
@@ -64,10 +65,11 @@ fn is_false(
     Ok(!signed)
 }
 
-/// Whether the request asks by the key of an account and its signature is false: rule K5 by itself.
+/// Whether the signature that the request brings, by the key of an account or by a token, is false: the rules K5 and S4 by
+/// themselves.
 ///
-/// The claim has to be in its form, and `keys` have to be the keys of the path's account; else the answer is no, and a rule before
-/// K5 refuses the request. Keys and request alone decide: the answer is the same for any container and at any moment, so it can be
+/// The claim or the token has to be in its form, `keys` have to be the keys of the path's account, and a token has to be for what
+/// the request names; else the answer is no, and a rule before K5 or S4 refuses the request. Keys and request alone decide: the answer is the same for any container and at any moment, so it can be
 /// asked for before a lock is taken.
 ///
 /// `AllocError` if memory runs out for the string to sign or for a signature.
@@ -84,7 +86,8 @@ pub fn has_false_signature(
     let ask = request.ask();
     match &ask.credential {
         Credential::Shared(values) => is_false(alloc, keys, ask, values.as_slice()),
-        _ => Ok(false),
+        Credential::Token => is_false_token(alloc, keys, ask),
+        Credential::Anonymous => Ok(false),
     }
 }
 
@@ -118,6 +121,25 @@ fn by_key(
     Ok(after_signature(is_false))
 }
 
+#[tactic(auto, using(crate::proofs::TokenLemmas::first_token_rule))]
+fn by_token(
+    alloc: Global,
+    keys: Option<&Keys>,
+    acl: Option<&Acl>,
+    ask: &Ask,
+    now: Moment,
+) -> Result<Verdict, AllocError>
+    requires { ask.now.credential ≡ credential.Token }
+    ensures value { IfOk result (λ v.
+        v ≡ verdict_of (option_copied keys.entry) (option_copied acl.entry) ask.now now) }
+    ensures memory { IsErr result → IsTrue (needs_signature (option_copied keys.entry) ask.now now) }
+{
+    match rule_by_token(alloc, keys, acl, ask, now)? {
+        Some(rule) => Ok(Verdict::Deny(rule)),
+        None => Ok(Verdict::Allow(Way::Token)),
+    }
+}
+
 // A container that does not exist is refused like a closed container, so that nobody can tell the two apart.
 fn by_public(acl: Option<&Acl>, ask: &Ask) -> Verdict
     requires { ask.now.credential ≡ credential.Anonymous }
@@ -138,12 +160,12 @@ fn by_public(acl: Option<&Acl>, ask: &Ask) -> Verdict
 ///
 /// `keys` are the keys that the stamp has for the request's account; keys of another account count as no keys. `acl` is what the
 /// request's container says about who may read it; `None` means that the container does not exist. The answer is the first rule
-/// that holds, in the order K1 to K5, S1, P1, P2. If no rule holds, the answer is the request's route. A request is judged by
-/// its own route alone, so a bad signature is refused even if the container is public. S1 refuses each shared access signature.
+/// that holds, in the order K1 to K5, S1 to S11, P1, P2. If no rule holds, the answer is the request's route. A request is judged by
+/// its own route alone, so a bad signature is refused even if the container is public.
 ///
-/// `AllocError` if memory runs out for the string to sign or for a signature. Only the key route takes memory, and only if no
-/// rule of K1 to K4 holds. Blob service REST reference, 2012-02-12, Authentication for the Azure Storage Services; Set Container
-/// ACL.
+/// `AllocError` if memory runs out for the string to sign or for a signature. The public route takes no memory, and the other
+/// routes only if no rule before the signature holds: K1 to K4, or S1 to S3. Blob service REST reference, 2012-02-12,
+/// Authentication for the Azure Storage Services; Delegating Access with a Shared Access Signature; Set Container ACL.
 pub fn verdict(
     alloc: Global,
     keys: Option<&Keys>,
@@ -159,7 +181,7 @@ pub fn verdict(
     let ask = request.ask();
     match &ask.credential {
         Credential::Shared(values) => by_key(alloc, keys, ask, values.as_slice(), now),
-        Credential::Token => Ok(Verdict::Deny(Rule::S1)),
+        Credential::Token => by_token(alloc, keys, acl, ask, now),
         Credential::Anonymous => Ok(by_public(acl, ask)),
     }
 }

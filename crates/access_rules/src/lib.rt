@@ -7,6 +7,9 @@ mod keys;
 mod laws;
 mod needs;
 mod parts;
+mod token_laws;
+mod token_parts;
+mod token_route;
 
 pub use judge::{has_false_signature, verdict};
 pub use judgement::{Verdict, Way};
@@ -16,3 +19,6 @@ pub use laws::{
     no_rule_holds_if_and_only_if_the_own_route_admits, nobody_writes_by_public_access,
 };
 pub use needs::{Letter, Need, need_of};
+pub use token_laws::{
+    a_token_has_one_time, each_letter_opens_what_it_names, no_token_reaches_a_container_itself,
+};

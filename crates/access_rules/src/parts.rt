@@ -68,6 +68,21 @@ fn gives(
     Ok(signature == text.as_bytes())
 }
 
+/// Whether one of the two keys gives this signature for the string.
+pub(crate) fn signs(
+    alloc: Global,
+    keys: &Keys,
+    string: &[u8],
+    signature: &[u8],
+) -> Result<bool, AllocError>
+    ensures { IfOk result (λ signed. signed ≡ is_signed keys.now string.now signature.now) }
+{
+    if gives(alloc, &keys.first, string, signature)? {
+        return Ok(true);
+    }
+    gives(alloc, &keys.second, string, signature)
+}
+
 /// Whether one of the two keys gives this signature for the string to sign of the request.
 pub(crate) fn is_signed(
     alloc: Global,
@@ -79,8 +94,5 @@ pub(crate) fn is_signed(
         signed ≡ is_signed keys.now (string_of ask.now) signature.now) }
 {
     let string = key_string(alloc, &ask.signing, ask.key.account.as_str().as_bytes())?;
-    if gives(alloc, &keys.first, &string, signature)? {
-        return Ok(true);
-    }
-    gives(alloc, &keys.second, &string, signature)
+    signs(alloc, keys, &string, signature)
 }

@@ -2,7 +2,9 @@
 //! The rules of the key route that a client can meet are cases of `replay_cases`.
 
 use crate::slow_rules::{slow_has_false_signature, slow_verdict};
-use crate::test_requests::{ACCOUNT, Case, Dated, Sent, case_has_false_signature, case_verdict};
+use crate::test_requests::{
+    ACCOUNT, Case, Dated, Sent, case_has_false_signature, case_verdict, token_verdict,
+};
 use access_rules::{Letter, Need, Verdict, Way, need_of};
 use stamp_types::{BlockKinds, Level, Op, Rule};
 use std::alloc::Global;
@@ -170,5 +172,46 @@ fn each_operation_is_opened_by_the_levels_of_the_reference(rt: HostRuntime) {
         check_level(&rt, rt.alloc(), row, Some(Level::Closed));
         check_level(&rt, rt.alloc(), row, Some(Level::Blob));
         check_level(&rt, rt.alloc(), row, Some(Level::Container));
+    }
+}
+
+// The signatures were made by Python's hmac, and the first of them by Azure's clients too: see docs/formats/tokens.md.
+#[test]
+fn either_key_allows_by_a_token(rt: HostRuntime) {
+    for (signature, now, wanted, is_false) in [
+        (
+            "/pBX2z6ZAz3Vfm5I/v36IJDo956LK+rZZR6bLQuIrbY=",
+            NOON,
+            Verdict::Allow(Way::Token),
+            false,
+        ),
+        (
+            "VL5Okp+giXtLqFLJGulNEhGgIvYO/4iUk4wAGqiz/Js=",
+            NOON,
+            Verdict::Allow(Way::Token),
+            false,
+        ),
+        (
+            "TIGKkDHmlrdB8WeYksI8cRDgS/QFtDWqXqapUkFpU44=",
+            NOON,
+            Verdict::Deny(Rule::S4),
+            true,
+        ),
+        (
+            "/pBX2z6ZAz3Vfm5I/v36IJDo956LK+rZZR6bLQuIrbY=",
+            NOON + 36_000_000_000,
+            Verdict::Deny(Rule::S9),
+            false,
+        ),
+    ] {
+        let query = [
+            ("sv", "2012-02-12"),
+            ("sr", "b"),
+            ("sp", "r"),
+            ("se", "2012-10-01T13:00:00Z"),
+            ("sig", signature),
+        ];
+        let judged = token_verdict(&rt, rt.alloc(), &query, now);
+        assert!(rt; judged == (wanted, is_false), "{signature}");
     }
 }

@@ -174,6 +174,49 @@ pub(crate) fn case_verdict(rt: &impl Abort, alloc: Global, case: &Case) -> Verdi
     verdict(alloc, Some(&keys), acl, &request, now).expect(rt, "memory")
 }
 
+// A Get Blob of `a.txt` in `pics` whose query has these parameters.
+fn get_with(rt: &impl Abort, alloc: Global, query: &[(&str, &str)]) -> Request {
+    let mut fields = FieldList::new(alloc);
+    for (name, value) in query {
+        let pushed = fields.push(name.as_bytes(), value.as_bytes());
+        pushed.expect(rt, "memory");
+    }
+    let ask = Ask {
+        op: Op::GetBlob,
+        key: Key {
+            account: text(rt, alloc, ACCOUNT),
+            container: text(rt, alloc, "pics"),
+        },
+        blob: Some(text(rt, alloc, "a.txt")),
+        args: Args::none(alloc),
+        signing: Signing {
+            verb: Verb::Get,
+            headers: FieldList::new(alloc),
+            path: bytes(rt, alloc, "/devstoreaccount1/pics/a.txt"),
+            query: fields,
+        },
+        credential: Credential::Token,
+    };
+    let request = Request::new(alloc, ask, Body::empty()).expect(rt, "memory");
+    request.expect(rt, "parts that fit")
+}
+
+/// The verdict on a Get Blob of `a.txt` in `pics`, which does not exist, by a token with these parameters; and whether the
+/// signature is false.
+pub(crate) fn token_verdict(
+    rt: &impl Abort,
+    alloc: Global,
+    query: &[(&str, &str)],
+    now: i64,
+) -> (Verdict, bool) {
+    let keys = keys(rt, alloc, ACCOUNT);
+    let request = get_with(rt, alloc, query);
+    let now = Moment::new(now).expect(rt, "a moment");
+    let judged = verdict(alloc, Some(&keys), None, &request, now);
+    let is_false = has_false_signature(alloc, Some(&keys), &request);
+    (judged.expect(rt, "memory"), is_false.expect(rt, "memory"))
+}
+
 /// Whether the signature of a case is false.
 pub(crate) fn case_has_false_signature(rt: &impl Abort, alloc: Global, case: &Case) -> bool {
     let keys = keys(rt, alloc, case.account);

@@ -128,19 +128,39 @@ fn heads_of_operations_that_are_not_built(rt: HostRuntime) {
     let rows = [
         ("GET /acct?comp=list HTTP/1.1\r\n\r\n", None),
         (
-            "GET /acct/box?restype=container&comp=acl HTTP/1.1\r\n\r\n",
+            "GET /acct/box?restype=container&comp=list HTTP/1.1\r\n\r\n",
             None,
+        ),
+    ];
+    assert_ops(&rt, rt.alloc(), &rows);
+}
+
+#[test]
+fn heads_about_access(rt: HostRuntime) {
+    let rows = [
+        (
+            "GET /acct/box?restype=container&comp=acl HTTP/1.1\r\n\r\n",
+            Some(Op::GetAcl),
         ),
         (
             "HEAD /acct/box?restype=container&comp=acl HTTP/1.1\r\n\r\n",
-            None,
+            Some(Op::GetAcl),
         ),
         (
             "PUT /acct/box?restype=container&comp=acl HTTP/1.1\r\nContent-Length: 0\r\n\r\n",
+            Some(Op::SetAcl),
+        ),
+        (
+            "DELETE /acct/box?restype=container&comp=acl HTTP/1.1\r\n\r\n",
+            None,
+        ),
+        ("GET /acct/box?comp=acl HTTP/1.1\r\n\r\n", None),
+        (
+            "GET /acct/box?restype=container&comp=ACL HTTP/1.1\r\n\r\n",
             None,
         ),
         (
-            "GET /acct/box?restype=container&comp=list HTTP/1.1\r\n\r\n",
+            "GET /acct/box/b?restype=container&comp=acl HTTP/1.1\r\n\r\n",
             None,
         ),
     ];

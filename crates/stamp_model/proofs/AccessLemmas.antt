@@ -46,7 +46,8 @@ module _ {C : Type 0} (f : List Piece → C) where
     abbrev KeepsAcl : Act → Type 0
     KeepsAcl a = KeepsAccess p (changed f a p)
 
-    keeps_access : (o : Op) → alters_access o ≡ false → IfSome (act_by o z q t) KeepsAcl
+    -- an act of an operation that does not set access leaves the level and the policies
+    pub keeps_access : (o : Op) → alters_access o ≡ false → IfSome (act_by o z q t) KeepsAcl
     keeps_access op.CreateContainer unaltered = cc
     keeps_access op.SetContainerMetadata unaltered = access-changed f p (act.SetContainerMetadata (set_container_metadata q t)) refl
     keeps_access op.SetAcl unaltered = cc

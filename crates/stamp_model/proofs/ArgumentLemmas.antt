@@ -1,5 +1,5 @@
 -- What permission says of a request with other arguments, and what refuses it.
-use Rattle.std.proofs.Common.{◌≡◌, ℕ, Bool, true, false, cond, ◌&&◌, is_none, List, [], ◌∷◌, Option, Some, None, refl, ap, ◌∙◌, sym}
+use Rattle.std.proofs.Common.{◌≡◌, ℕ, Bool, true, false, cond, not, ◌&&◌, is_none, List, [], ◌∷◌, Option, Some, None, refl, ap, ◌∙◌, sym}
 use Rattle.std.specs.Prelude.{find, ⊤}
 use Rattle.std.specs.Option.{option_map, option_or}
 use Rattle.stamp_values.specs.declared.acl.Acl.{Acl}
@@ -7,12 +7,14 @@ use Rattle.stamp_values.specs.declared.block.BlockKinds.{BlockKinds}
 use Rattle.stamp_types.specs.declared.args.Args.{Args}
 use Rattle.stamp_types.specs.declared.ask.Ask.{Ask}
 use Rattle.stamp_types.specs.declared.rule.Rule.{Rule}
-use Rattle.stamp_types.specs.declared.rule.Rule.TheVariants.{K1, K2, K3, K4, K5, S1, P1, P2}
+use Rattle.stamp_types.specs.declared.rule.Rule.TheVariants.{K1, K2, K3, K4, K5, S1, P1, P2, S10, S11}
 use Rattle.stamp_types.specs.Requests.{Asked}
 use Rattle.stamp_types.specs.World.{Part}
 use Rattle.access_rules.specs.declared.keys.Keys.{Keys}
 use Rattle.access_rules.specs.Needs.{need_of}
-use Rattle.access_rules.specs.Rules.{access_rules, allows_less, first_rule, holds, on_public, some_passes}
+use Rattle.access_rules.specs.Rules.{access_rules, allows_less, first_rule, holds, of_fields, of_token, on_public, some_passes}
+use Rattle.access_rules.specs.TokenParts.{allows, given_once}
+use Rattle.container_acl.specs.JoinedFields.{letters_of}
 use Rattle.row_trees.specs.Access.{acl_of}
 use Rattle.range_rows.specs.ObjectRules.{Cause, cause_holds, cause_refusal, causes}
 use Rattle.range_rows.specs.ObjectRules.Cause.{ContainerIsAbsent, ContainerExists, BlobIsAbsent, MatchFails, IsNotModified, BlobExists, NoneMatchFails, BodyIsDamaged, BodyIsMalformed, IdIsBad, BlockIsMissing, ListIsTooLong, IdHasOtherLength, BlocksAreFull, ListIsTooLarge, RangeIsPastTheEnd, CountIsFull}
@@ -73,6 +75,9 @@ holds-with_args keys acl a x t same K3 = refl
 holds-with_args keys acl a x t same K4 = refl
 holds-with_args keys acl a x t same K5 = refl
 holds-with_args keys acl a x t same S1 = refl
+holds-with_args keys acl a x t same S10 = ap (λ (k : Option BlockKinds). of_token (λ token. is_none (need_of a.op k).letter) a) same
+holds-with_args keys acl a x t same S11 =
+    ap (λ (k : Option BlockKinds). of_fields (λ token policy. some_passes (λ letter. some_passes (λ permissions. not (allows letter permissions)) (given_once token.letters (letters_of policy))) (need_of a.op k).letter) acl a) same
 holds-with_args keys acl a x t same P1 = ap (λ (k : Option BlockKinds). on_public a.credential && is_none (need_of a.op k).level) same
 holds-with_args keys acl a x t same P2 = ap (λ (k : Option BlockKinds). on_public a.credential && some_passes (allows_less acl) (need_of a.op k).level) same
 holds-with_args keys acl a x t same other = refl

@@ -1,5 +1,5 @@
 -- Counts: requests and entries of a history as changes, and the pair of an epoch.
-use Rattle.std.proofs.Common.{◌≡◌, ℕ, ◌+◌, ◌⊎◌, inl, inr, Bool, true, false, cond, arith, List, [], ◌∷◌, length, Option, Some, None, IfSome, refl, sym, ap, ◌∙◌, subst}
+use Rattle.std.proofs.Common.{◌≡◌, ℕ, ◌+◌, ◌⊎◌, inl, inr, Bool, true, false, cond, arith, List, [], ◌∷◌, ◌++◌, length, Option, Some, None, IfSome, refl, sym, ap, ◌∙◌, subst}
 use Rattle.std.proofs.lemmas.Bool.Decides.{nat_tests}
 use Rattle.std.specs.Prelude.{find, is_some, nat_eq}
 use Rattle.std.specs.Option.{option_map}
@@ -98,6 +98,12 @@ module _ (pairs : List Keys) (key : Key) where
     epochs = λ front between x later comes. legal.epochs (e ∷ front) between x later (comes.0, ap (λ (ys : List Past). e ∷ ys) comes.1);
   }
 
+  -- what follows an entry is legal after it
+  pub IsLegalFrom-after : (start : Part (List ℕ)) (front : List Past) (e : Past) (rest : List Past) → IsLegalFrom pairs key start (front ++ e ∷ rest)
+      → IsLegalFrom pairs key (after_entry pairs (replay_from pairs start front) e) rest
+  IsLegalFrom-after start [] e rest legal = IsLegalFrom-rest start e rest legal
+  IsLegalFrom-after start (x ∷ front) e rest legal = IsLegalFrom-after (after_entry pairs start x) front e rest (IsLegalFrom-rest start x (front ++ e ∷ rest) legal)
+
   -- a legal history has an entry for each change
   pub count-replayed : (start : Part (List ℕ)) (history : List Past) → IsLegalFrom pairs key start history → (replay_from pairs start history).count ≡ start.count + length history
   count-replayed start [] legal = grind (arith)
@@ -111,7 +117,7 @@ pub none_before : (history : List Past) → 0 + length history ≡ length histor
 none_before history = grind (arith)
 
 -- an element that is found passes the test
-found_passes : {X : Type 0} (test : X → Bool) (xs : List X) (x : X) → find test xs ≡ Some x → test x ≡ true
+pub found_passes : {X : Type 0} (test : X → Bool) (xs : List X) (x : X) → find test xs ≡ Some x → test x ≡ true
 found_passes test [] x h = cc
 found_passes test (y ∷ ys) x h =
     elim (test y) as (λ b. test y ≡ b → cond b (Some y) (find test ys) ≡ Some x → test x ≡ true) [

@@ -18,6 +18,7 @@ pub mod LastLemmas
 pub mod MakingLemmas
 pub mod ObjectLemmas
 pub mod PartLemmas
+pub mod PolicyLemmas
 pub mod PublicLemmas
 pub mod PublicReadLemmas
 pub mod ReadLemmas

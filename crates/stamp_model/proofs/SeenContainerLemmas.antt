@@ -1,5 +1,6 @@
 -- The reply to a request in two worlds that agree on the containers that the request sees.
-use Rattle.std.proofs.Common.{◌≡◌, ℕ, Bool, true, false, ◌&&◌, ◌||◌, not, cond, List, [], Option, Some, None, refl, sym, ap, ◌∙◌}
+use Rattle.std.proofs.Common.{◌≡◌, ℕ, arith, Bool, true, false, ◌&&◌, ◌||◌, ◌==◌, not, cond, List, [], ◌∷◌, length, Option, Some, None, refl, sym, ap, ◌∙◌}
+use Rattle.std.proofs.lemmas.Bool.Decides.{nat_tests}
 use Rattle.std.specs.Cmp.{eq_by_cmp_equiv}
 use Rattle.std.specs.Prelude.{find, is_none, is_some, nat_le, nat_lt}
 use Rattle.std.specs.Option.{option_map, option_map_or, option_or}
@@ -31,7 +32,7 @@ use Rattle.stamp_model.specs.Refusals.{access_refusal, refusal, unserved_refusal
 use Rattle.stamp_model.specs.Responses.{answer_of, reply, response}
 use Rattle.stamp_model.specs.SeenContainers.{is_in_account, is_between, is_seen, routed}
 use Rattle.stamp_model.specs.AcceptedRequests.{is_on}
-use Rattle.stamp_model.proofs.CallerLemmas.{first_rule-unlevelled}
+use Rattle.stamp_model.proofs.CallerLemmas.{first_rule-unnamed}
 use Rattle.stamp_model.proofs.ReplyLemmas.{reply-own, unrefused}
 use Rattle.stamp_model.proofs.SeenLemmas.{is_not_put_block, none_unless, reads_seen, wants_nothing}
 
@@ -49,6 +50,13 @@ reply-agrees keys w v q t bound same =
 module _ (q : Asked) (fits : IsAsk q.ask) (lists : q.ask.op ≡ op.ListContainers) where
   reads : reads_seen q.ask.op q.ask.args.kinds ≡ true
   reads = ap (λ (o : Op). reads_seen o q.ask.args.kinds) lists
+
+  unnamed : q.ask.key.container ≡ []
+  unnamed = is_empty q.ask.key.container (fits.names.container ∙ ap names_container lists)
+    where
+      is_empty : (name : List ℕ) → not (length name == 0) ≡ false → name ≡ []
+      is_empty [] h = refl
+      is_empty (b ∷ bs) h = let never : not (length (b ∷ bs) == 0) ≡ true = grind (arith, nat_tests) in cc
 
   nothing_wanted : wanted_blocks q ≡ []
   nothing_wanted = wants_nothing q.ask.op q.ask.args.kinds q.body reads
@@ -89,7 +97,7 @@ module _ (q : Asked) (fits : IsAsk q.ask) (lists : q.ask.op ≡ op.ListContainer
     refusal-listing : (keys : Option Keys) (t : ℕ) → refusal keys p q t ≡ refusal keys r q t
     refusal-listing keys t =
         let first : first_rule keys (acl_of p) q.ask t ≡ first_rule keys (acl_of r) q.ask t =
-        first_rule-unlevelled keys (acl_of p) (acl_of r) q.ask t (ap (λ (o : Op). (need_of o q.ask.args.kinds).level) lists) in
+        first_rule-unnamed keys (acl_of p) (acl_of r) q.ask t unnamed (ap (λ (o : Op). (need_of o q.ask.args.kinds).level) lists) in
         λ i. option_or (option_map access_refusal (first i)) (option_or (option_map cause_refusal (find (λ c. same_cause c i) causes)) (unserved_refusal q.ask.op))
 
   -- whatever the containers are, the reply is the same: the operation is not served

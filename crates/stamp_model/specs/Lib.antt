@@ -11,3 +11,4 @@ pub mod Responses
 pub mod Runs
 pub mod SeenContainers
 pub mod ShownAcls
+pub mod Withdrawals

@@ -60,6 +60,9 @@ sees_no_container rule.K3 = true
 sees_no_container rule.K4 = true
 sees_no_container rule.K5 = true
 sees_no_container rule.S1 = true
+sees_no_container rule.S2 = true
+sees_no_container rule.S3 = true
+sees_no_container rule.S4 = true
 sees_no_container rule.P1 = true
 sees_no_container _ = false
 

@@ -20,7 +20,7 @@ pub fn a_read_changes_nothing()
         → writes q.ask.op ≡ false → effect keys w q t ≡ w }
 {}
 
-/// A caller without a valid credential learns nothing of containers. If K1 to K5, S1 or P1 refuses a
+/// A caller without a valid credential learns nothing of containers. If K1 to K5, S1 to S4 or P1 refuses a
 /// request, the reply is the same whatever containers the stamp has: the keys, the request and the
 /// moment decide it. P2 gives a request one reply, whatever the container is, so this reply tells that
 /// P2 refuses and no more. Whether P2 refuses is decided by the level of the container, if it exists.

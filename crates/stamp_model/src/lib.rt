@@ -11,6 +11,7 @@ mod etag_laws;
 mod history_laws;
 mod kept_laws;
 mod laws;
+mod policy_laws;
 mod run_laws;
 
 pub use accepted_laws::a_run_is_the_replay_of_its_accepted_requests;
@@ -40,6 +41,9 @@ pub use laws::{
     content_is_read_before_or_after_a_request, counts_only_rise,
     nobody_writes_without_a_credential, public_access_is_what_the_container_gives,
     success_is_what_the_own_route_admits, the_refusal_is_the_first_rule_of_all,
+};
+pub use policy_laws::{
+    a_policy_is_as_it_was_set_last, a_token_writes_by_its_letters, a_withdrawn_policy_opens_nothing,
 };
 pub use run_laws::{
     a_refused_request_changes_no_other_reply, each_request_has_the_reply_of_its_position,

@@ -1,0 +1,88 @@
+//! The parts of a request that the rules of the signature route judge.
+ghost use Rattle.std.specs.Prelude.{◌≡◌, IfOk, IsTrue, option_copied};
+ghost use Rattle.access_rules.specs.Parts.{is_signed};
+ghost use Rattle.access_rules.specs.TokenParts as parts;
+ghost use Rattle.container_acl.specs.JoinedFields.{fields_with};
+
+use crate::keys::Keys;
+use crate::needs::Letter;
+use crate::parts::signs;
+use container_acl::{Acl, FieldFault, Fields, fields_with};
+use sas_token::{Resource, Token, read_token, token_string};
+use stamp_types::{Ask, Letters, Level, Policies, Text};
+use std::alloc::{AllocError, Global};
+
+/// The token that the query of a request is, if the query is a token.
+pub(crate) fn token_in(ask: &Ask) -> Option<Token<'_>>
+    ensures { result ≡ parts.token_in ask.now }
+{
+    read_token(&ask.signing.query).ok()
+}
+
+fn is_named(name: &Text) -> bool
+    ensures { result ≡ parts.is_named name.now }
+{
+    match name.as_str().as_bytes() {
+        [] => false,
+        [_, ..] => true,
+    }
+}
+
+/// Whether a request names what a token is for: a container, and also a blob, if the token is for a blob.
+pub(crate) fn names_resource(ask: &Ask, resource: Resource) -> bool
+    ensures { result ≡ parts.names_resource ask.now resource }
+{
+    let is_in_container = is_named(&ask.key.container);
+    match resource {
+        Resource::Container => is_in_container,
+        Resource::Blob => is_in_container && ask.blob.is_some(),
+    }
+}
+
+/// Whether one of the two keys gives the signature of a token, which is for what the request names.
+#[tactic(auto, using(crate::proofs::TokenLemmas::container_named, crate::proofs::TokenLemmas::blob_named))]
+pub(crate) fn is_token_signed(
+    alloc: Global,
+    keys: &Keys,
+    ask: &Ask,
+    token: &Token<'_>,
+) -> Result<bool, AllocError>
+    requires { IsTrue (parts.names_resource ask.now token.now.resource) }
+    ensures { IfOk result (λ signed.
+        signed ≡ is_signed keys.now (parts.text_of ask.now token.now) token.now.signature) }
+{
+    let string = token_string(alloc, token, &ask.key, ask.blob.as_ref())?;
+    signs(alloc, keys, &string, token.signature)
+}
+
+/// What a token and the policy that it names give together. A container that does not exist has no policies.
+pub(crate) fn given_fields(
+    alloc: Global,
+    acl: Option<&Acl>,
+    token: &Token<'_>,
+) -> Result<Fields, FieldFault>
+    ensures { result ≡ fields_with (parts.acl_or_closed (option_copied acl.entry)) token.now }
+{
+    match acl {
+        Some(acl) => fields_with(acl, token),
+        None => {
+            let closed = Acl {
+                level: Level::Closed,
+                policies: Policies::empty(alloc),
+            };
+            fields_with(&closed, token)
+        }
+    }
+}
+
+/// Whether the permissions have the letter.
+pub(crate) fn allows(letter: Letter, letters: Letters) -> bool
+    ensures { result ≡ parts.allows letter letters }
+{
+    match letter {
+        Letter::Read => letters.reads(),
+        Letter::Write => letters.writes(),
+        Letter::Delete => letters.deletes(),
+        Letter::List => letters.lists(),
+    }
+}
