@@ -15,6 +15,7 @@ pub mod FailedConditionLemmas
 pub mod HistoryLemmas
 pub mod KeptLemmas
 pub mod LastLemmas
+pub mod MadeLemmas
 pub mod MakingLemmas
 pub mod ObjectLemmas
 pub mod PartLemmas
@@ -27,4 +28,5 @@ pub mod RuleLemmas
 pub mod RunLemmas
 pub mod SeenContainerLemmas
 pub mod SeenLemmas
+pub mod SuccessLemmas
 pub mod WrittenLemmas

@@ -146,10 +146,12 @@ module _ (r : ByteRange) (d : Committed (List ℕ)) (start : r.first < length (b
 
 module _ (keys : Option Keys) (w : World (List ℕ)) (q : Asked) (t : ℕ) (bound : Option Key) (free : refusal keys (sizes (part_at w q.ask.key)) q t ≡ None)
     (gets : q.ask.op ≡ op.GetBlob) (d : Committed (List ℕ)) (there : named_blob (part_at w q.ask.key) q.ask ≡ Some d) where
-  named-sized : named_blob (sizes (part_at w q.ask.key)) q.ask ≡ Some (committed_value byte_count d)
+  -- what readers see of the blob, with the sizes of its content
+  pub named-sized : named_blob (sizes (part_at w q.ask.key)) q.ask ≡ Some (committed_value byte_count d)
   named-sized = named_blob-part_value byte_count (part_at w q.ask.key) q.ask ∙ ap (option_map (committed_value byte_count)) there
 
-  reply-get : (range : Option ByteRange) → q.ask.args.range ≡ range → reply keys w q t bound ≡ with_content (ranged_frame range (committed_value byte_count d)) (ranged_bytes range (blob_content d))
+  -- the reply to a Get Blob, by its range
+  pub reply-get : (range : Option ByteRange) → q.ask.args.range ≡ range → reply keys w q t bound ≡ with_content (ranged_frame range (committed_value byte_count d)) (ranged_bytes range (blob_content d))
   reply-get range asks =
       reply-admitted keys w q t bound free
       ∙ ap (λ (v : World (List ℕ)). reply_of (part_at v q.ask.key) q) (effect-read keys w q t (ap writes gets))

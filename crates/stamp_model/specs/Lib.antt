@@ -11,4 +11,5 @@ pub mod Responses
 pub mod Runs
 pub mod SeenContainers
 pub mod ShownAcls
+pub mod Statuses
 pub mod Withdrawals

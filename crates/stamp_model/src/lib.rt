@@ -13,6 +13,7 @@ mod kept_laws;
 mod laws;
 mod policy_laws;
 mod run_laws;
+mod success_laws;
 
 pub use accepted_laws::a_run_is_the_replay_of_its_accepted_requests;
 pub use acl_laws::an_acl_reaches_no_content;
@@ -48,4 +49,10 @@ pub use policy_laws::{
 pub use run_laws::{
     a_refused_request_changes_no_other_reply, each_request_has_the_reply_of_its_position,
     only_what_the_own_route_admits_is_answered, what_is_written_is_read,
+};
+pub use success_laws::{
+    a_block_list_shows_the_kinds_that_are_asked_for, a_container_is_made_as_it_is_asked_for,
+    a_damaged_body_is_refused, a_put_block_is_answered_with_its_md5,
+    a_range_is_refused_only_past_the_end, a_success_has_the_status_of_its_operation,
+    only_a_blob_that_is_seen_is_deleted, properties_are_what_get_blob_tells,
 };
