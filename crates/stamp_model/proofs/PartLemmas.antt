@@ -1,13 +1,13 @@
 -- The bytes of a range are part of the bytes of the blob.
 use Rattle.std.proofs.Common.{◌≡◌, ◌<◌, ◌≤◌, ℕ, ◌+◌, ◌-◌, min, Bool, true, false, ◌&&◌, ◌||◌, List, [], ◌∷◌, ◌++◌, drop, is_none, length, map, Option, Some, None, IfSome, arith, nat_le, nat_lt, refl, sym, ap, ◌∙◌, subst, unwrap_or, if◌then◌else◌}
 use Rattle.std.proofs.lemmas.Bool.{leb-false, ltb-false, ltb-true}
-use Rattle.std.proofs.lemmas.List.{length-append, length-drop, length-take-le}
-use Rattle.std.proofs.lemmas.List.Elements.{Contains-append_left, Contains-append_right}
+use Rattle.std.proofs.lemmas.List.{append-nil, length-append, length-drop, length-take-le}
+use Rattle.std.proofs.lemmas.List.Elements.{Contains-append_left, Contains-append_right, filter-append}
 use Rattle.std.proofs.lemmas.List.Folds.{list_any-append}
 use Rattle.std.proofs.lemmas.List.Sums.{sum_by-cons}
 use Rattle.std.specs.Prelude.{Contains, is_some, sum_by}
-use Rattle.std.specs.List.{flat_map, list_any, slice_range}
-use Rattle.std.specs.Option.{option_map, option_map_or}
+use Rattle.std.specs.List.{filter, flat_map, list_any, slice_range}
+use Rattle.std.specs.Option.{option_map, option_map_or, option_to_list}
 use Rattle.stamp_values.specs.Operations.{is_op, writes}
 use Rattle.stamp_values.specs.declared.condition.ByteRange.{ByteRange}
 use Rattle.stamp_values.specs.declared.key.Key.{Key}
@@ -23,12 +23,12 @@ use Rattle.stamp_types.specs.PropsFields.{PropsFields}
 use Rattle.stamp_types.specs.Requests.{Asked, IsAsk}
 use Rattle.stamp_types.specs.World.{Part, World, block_value, committed_value, part_at}
 use Rattle.access_rules.specs.declared.keys.Keys.{Keys}
-use Rattle.range_rows.specs.ObjectReplies.{blob_content, byte_count, bytes_by, date_headers, empty_blob, frame_by, get_frame, kept_lines, line_of, part_frame, part_headers, range_end, ranged_bytes, ranged_frame, reply_of, sent_range, sizes, standing_read, with_content, without_md5}
+use Rattle.range_rows.specs.ObjectReplies.{blob_content, byte_count, bytes_by, date_headers, empty_blob, frame_by, get_frame, kept_lines, line_of, part_frame, part_headers, range_end, ranged_bytes, ranged_frame, read_headers, reply_of, sent_range, sizes, standing_read, with_content, without_md5}
 use Rattle.range_rows.specs.NamedBlobs.{target_blob}
 use Rattle.range_rows.specs.ObjectRules.{Cause, blob_size, cause_holds, named_blob, needs_blob, starts_past}
 use Rattle.range_rows.specs.ObjectRules.Cause.{BlobIsAbsent, RangeIsPastTheEnd}
 use Rattle.range_rows.proofs.AnswerLemmas.{named_blob-part_value}
-use Rattle.stamp_model.specs.Ranges.{IsPartOf, is_md5, without_range}
+use Rattle.stamp_model.specs.Ranges.{IsPartOf, is_md5, is_of_both, without_range}
 use Rattle.stamp_model.specs.Refusals.{refusal}
 use Rattle.stamp_model.specs.Responses.{reply}
 use Rattle.stamp_model.proofs.ObjectLemmas.{left_false}
@@ -104,6 +104,32 @@ no_md5_part : (sent : SentRange) (c : Committed ℕ) → list_any is_md5 (part_h
 no_md5_part sent c =
     no_md5_both (kept_lines (without_md5 c.props) ++ header.ContentRange sent ∷ map header.Meta c.metadata) (header.BlobType ∷ header.AcceptRanges ∷ date_headers c.etag c.made)
     (no_md5_both (kept_lines (without_md5 c.props)) (header.ContentRange sent ∷ map header.Meta c.metadata) (no_md5_kept c.props) (no_md5_metadata c.metadata)) refl
+
+-- ---- the other headers of a part
+
+md5_apart : (front : List Header) (sum : Option (List ℕ)) → filter is_of_both (front ++ map header.ContentMd5 (option_to_list sum)) ≡ filter is_of_both front
+md5_apart front None = ap (λ (hs : List Header). filter is_of_both hs) (append-nil front)
+md5_apart front (Some sum) = filter-append is_of_both front (header.ContentMd5 sum ∷ []) ∙ append-nil (filter is_of_both front)
+
+same_kept_lines : (k : PropsFields) → filter is_of_both (kept_lines (without_md5 k)) ≡ filter is_of_both (kept_lines k)
+same_kept_lines k =
+    let front : List Header = header.ContentType k.content_type ∷ line_of header.ContentEncoding k.encoding ++ line_of header.ContentLanguage k.language in
+    let cache : List Header = line_of header.CacheControl k.cache_control in
+    let each : (sum : Option (List ℕ)) → filter is_of_both (front ++ map header.ContentMd5 (option_to_list sum) ++ cache) ≡ filter is_of_both front ++ filter is_of_both cache =
+    λ sum. filter-append is_of_both (front ++ map header.ContentMd5 (option_to_list sum)) cache ∙ ap (λ (hs : List Header). hs ++ filter is_of_both cache) (md5_apart front sum) in
+    each None ∙ sym (each k.md5)
+
+-- beside Content-MD5 and Content-Range, a part has the headers of the whole
+same_headers : (sent : SentRange) (c : Committed ℕ) → filter is_of_both (part_headers sent c) ≡ filter is_of_both (read_headers c)
+same_headers sent c =
+    let metas : List Header = map header.Meta c.metadata in
+    let last : List Header = header.BlobType ∷ header.AcceptRanges ∷ date_headers c.etag c.made in
+    filter-append is_of_both (kept_lines (without_md5 c.props) ++ header.ContentRange sent ∷ metas) last
+    ∙ ap (λ (hs : List Header). hs ++ filter is_of_both last)
+    (filter-append is_of_both (kept_lines (without_md5 c.props)) (header.ContentRange sent ∷ metas)
+    ∙ ap (λ (hs : List Header). hs ++ filter is_of_both metas) (same_kept_lines c.props)
+    ∙ sym (filter-append is_of_both (kept_lines c.props) metas))
+    ∙ sym (filter-append is_of_both (kept_lines c.props ++ metas) last)
 
 module _ (r : ByteRange) (d : Committed (List ℕ)) (start : r.first < length (blob_content d)) (order : IfSome r.last (λ last. r.first ≤ last)) where
   abbrev bytes : List ℕ
@@ -203,3 +229,11 @@ module _ (keys : Option Keys) (w : World (List ℕ)) (q : Asked) (t : ℕ) (boun
       (subst (λ (x : Reply). IsPartOf r (with_content (part_frame r (committed_value byte_count named.0)) (ranged_bytes (Some r) (blob_content named.0))) x)
       (sym (reply-get keys w (without_range q) t bound free-whole gets named.0 named.1 None refl))
       (is_part r named.0 (starts_within keys w q t bound free gets named.0 named.1 r asks) (subst (λ (o : Option ByteRange). IfSome o (λ r. IfSome r.last (λ last. r.first ≤ last))) asks fits.no_more.range_order)))
+
+  -- what is answered with the range has the other headers of what is answered without it
+  pub headers-of_both : filter is_of_both (reply keys w q t bound).headers ≡ filter is_of_both (reply keys w (without_range q) t bound).headers
+  headers-of_both =
+      let sized : Committed ℕ = committed_value byte_count named.0 in
+      ap (λ (x : Reply). filter is_of_both x.headers) (reply-get keys w q t bound free gets named.0 named.1 (Some r) asks)
+      ∙ same_headers (sent_range r (blob_size sized)) sized
+      ∙ sym (ap (λ (x : Reply). filter is_of_both x.headers) (reply-get keys w (without_range q) t bound free-whole gets named.0 named.1 None refl))

@@ -19,6 +19,12 @@ abbrev pub is_md5 : Header → Bool
 is_md5 (ContentMd5 sum) = true
 is_md5 _ = false
 
+-- the header may be the same in a part and in the whole: it is neither Content-MD5 nor Content-Range
+abbrev pub is_of_both : Header → Bool
+is_of_both (ContentMd5 sum) = false
+is_of_both (ContentRange sent) = false
+is_of_both _ = true
+
 -- one reply has the bytes of another reply from a first byte to a last byte, and says which bytes they are
 pub record IsPartOf (range : ByteRange) (part whole : Reply) : Type 0 where
   -- the other reply refuses nothing

@@ -1,6 +1,6 @@
 //! Laws of what a success says of its request. Each law is the contract of a function that does
 //! nothing.
-ghost use Rattle.std.specs.Prelude.{◌≡◌, ◌<◌, ◌≤◌, ℕ, ◌+◌, IsSome, List, [], ◌∷◌, ◌++◌, Option, Some, None, codes, length, map, unwrap_or};
+ghost use Rattle.std.specs.Prelude.{◌≡◌, ◌<◌, ◌≤◌, ℕ, ◌+◌, IsSome, List, [], ◌∷◌, ◌++◌, Option, Some, None, codes, filter, length, map, unwrap_or};
 ghost use Rattle.md5.specs.Md5.{md5};
 ghost use Rattle.stamp_values.specs.declared.block.BlockKinds.TheVariants as kinds;
 ghost use Rattle.stamp_values.specs.declared.condition.ByteRange.{ByteRange};
@@ -19,7 +19,7 @@ ghost use Rattle.body_forms.specs.WrittenLists.{ListedBlock, block_list_text};
 ghost use Rattle.range_rows.specs.ObjectReplies.{date_headers, with_content};
 ghost use Rattle.range_rows.specs.Readings.{wanted_blocks};
 ghost use Rattle.stamp_model.specs.Blocks.{wanted_bytes};
-ghost use Rattle.stamp_model.specs.Ranges.{without_range};
+ghost use Rattle.stamp_model.specs.Ranges.{is_of_both, without_range};
 ghost use Rattle.stamp_model.specs.Responses.{reply};
 ghost use Rattle.stamp_model.specs.Runs.{Timed, IsAdmitted, IsIn, IsOn, world_after_one, reply_to_one};
 ghost use Rattle.stamp_model.specs.Statuses.{success_status};
@@ -73,6 +73,17 @@ pub fn a_range_is_refused_only_past_the_end()
         → (reply keys w (without_range q) t bound).rule ≡ None
         → length (reply keys w (without_range q) t bound).body ≤ range.first
         → reply keys w q t bound ≡ denied (record { rule = O6; code = InvalidRange }) }
+{}
+
+/// A part has the other headers of the whole. If no rule refuses a request with a range, its reply
+/// has the headers of the reply to the same request without its range, in their order, beside
+/// Content-MD5 and Content-Range.
+pub fn a_part_has_the_other_headers_of_the_whole()
+    ensures { (keys : Option Keys) (w : World (List ℕ)) (q : Asked) (t : ℕ) (bound : Option Key)
+        (range : ByteRange)
+        → IsAsk q.ask → q.ask.args.range ≡ Some range → (reply keys w q t bound).rule ≡ None
+        → filter is_of_both (reply keys w q t bound).headers
+        ≡ filter is_of_both (reply keys w (without_range q) t bound).headers }
 {}
 
 /// A container is made as it is asked for. If a Create Container is accepted, its container has the
