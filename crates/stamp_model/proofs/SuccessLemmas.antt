@@ -1,9 +1,10 @@
 -- What the success of a request says of its body, of its blob and of its status, and when a range refuses a request.
-use Rattle.std.proofs.Common.{◌≡◌, ◌<◌, ◌≤◌, ℕ, Bool, true, false, not, ◌&&◌, ◌||◌, List, [], length, Option, Some, None, nat_le, refl, sym, ap, ◌∙◌}
+use Rattle.std.proofs.Common.{◌≡◌, ◌<◌, ◌≤◌, ℕ, Bool, true, false, not, ◌&&◌, ◌||◌, List, [], length, Option, Some, None, nat_le, refl, sym, ap, ◌∙◌, ◌+◌, ◌∷◌, ◌++◌, arith, map, subst}
 use Rattle.std.proofs.lemmas.Bool.{lt-leb, le-leb}
-use Rattle.std.specs.Prelude.{find, is_some, nat_eq}
+use Rattle.std.proofs.lemmas.List.Elements.{Contains-append_left, Contains-append_right}
+use Rattle.std.specs.Prelude.{find, is_some, nat_eq, Contains}
 use Rattle.std.specs.Cmp.Lexicographic.{pointwise, bytes_decides}
-use Rattle.std.specs.Option.{option_map, option_and_then, option_or}
+use Rattle.std.specs.Option.{option_map, option_and_then, option_or, option_to_list}
 use Rattle.md5.specs.Md5.{md5}
 use Rattle.stamp_values.specs.Operations.{is_op}
 use Rattle.stamp_values.specs.declared.condition.ByteRange.{ByteRange}
@@ -12,8 +13,11 @@ use Rattle.stamp_values.specs.declared.op.Op.{Op}
 use Rattle.stamp_values.specs.declared.op.Op.TheVariants as op
 use Rattle.stamp_types.specs.declared.args.Kept.{Kept}
 use Rattle.stamp_types.specs.declared.committed.Committed.{Committed}
+use Rattle.stamp_types.specs.declared.header.Header.{Header}
+use Rattle.stamp_types.specs.declared.header.Header.TheVariants as header
 use Rattle.stamp_types.specs.declared.reply.Reply.{Reply}
 use Rattle.stamp_types.specs.declared.standing.Standing.{Standing}
+use Rattle.stamp_types.specs.PropsFields.{PropsFields, md5_or}
 use Rattle.stamp_types.specs.Replies.{denied}
 use Rattle.stamp_types.specs.Requests.{Asked, IsAsk}
 use Rattle.stamp_types.specs.World.{Blob, Part, World, blob_in, part_at, committed_value}
@@ -21,21 +25,22 @@ use Rattle.access_rules.specs.declared.keys.Keys.{Keys}
 use Rattle.access_rules.specs.Rules.{first_rule}
 use Rattle.row_trees.specs.Access.{acl_of}
 use Rattle.range_rows.specs.NamedBlobs.{target_blob}
-use Rattle.range_rows.specs.ObjectReplies.{blob_content, blob_read, byte_count, frame_by, ranged_bytes, ranged_frame, sizes, standing_read, with_content}
+use Rattle.range_rows.specs.ObjectReplies.{blob_content, blob_read, byte_count, frame_by, ranged_bytes, ranged_frame, sizes, standing_read, with_content, date_headers, kept_lines, line_of}
 use Rattle.range_rows.specs.ObjectRules.{Cause, cause_holds, cause_refusal, causes, has_other_md5, is_damaged, kept_md5, named_blob, needs_blob, object_refusal, starts_past}
 use Rattle.range_rows.specs.ObjectRules.Cause.{BodyIsDamaged, RangeIsPastTheEnd}
+use Rattle.range_rows.specs.RequestChanges.{put_props}
 use Rattle.stamp_model.specs.Effects.{effect}
 use Rattle.stamp_model.specs.Ranges.{without_range}
 use Rattle.stamp_model.specs.Refusals.{access_refusal, refusal, unserved_refusal}
 use Rattle.stamp_model.specs.Responses.{answer_of, reply, response}
-use Rattle.stamp_model.specs.Runs.{Timed, IsOn, reply_to_one}
+use Rattle.stamp_model.specs.Runs.{Timed, IsOn, reply_to_one, world_after_one}
 use Rattle.stamp_model.specs.Statuses.{success_status}
 use Rattle.stamp_model.proofs.ArgumentLemmas.{first_rule-with_args, free-with_args, no_cause}
 use Rattle.stamp_model.proofs.ObjectLemmas.{blob_needed, left_false}
 use Rattle.stamp_model.proofs.PartLemmas.{named-sized, reply-get, sizes_of_bytes}
 use Rattle.stamp_model.proofs.ReadLemmas.{reply-read}
 use Rattle.stamp_model.proofs.ReplyLemmas.{reply-admitted, reply-unrefused, unrefused}
-use Rattle.stamp_model.proofs.WrittenLemmas.{some_of}
+use Rattle.stamp_model.proofs.WrittenLemmas.{body-get, headers-get, kept-put, some_of}
 
 -- ---- the MD5 of a body
 
@@ -66,6 +71,42 @@ module _ (keys : Option Keys) (w : World (List ℕ)) (q : Asked) (t : ℕ) (boun
   md5-kept kept sum puts keeps given =
       md5-given q.body sum (kept_md5 q.ask) (ap (λ (o : Option Kept). option_and_then (λ k. k.md5) o) keeps ∙ given)
       (sym (ap (λ (o : Op). is_op op.PutBlob o && has_other_md5 q.body (kept_md5 q.ask)) puts) ∙ right_false _ _ undamaged)
+
+-- ---- the MD5 of a blob that was put
+
+module _ (w : World (List ℕ)) (key : Key) (name : List ℕ) (put : Timed) (fits : IsAsk put.request.ask) (puts : IsOn op.PutBlob key name put.request) (none : (reply_to_one w put).rule ≡ None) where
+  abbrev sum_put : List ℕ
+  sum_put = md5 put.request.body
+
+  -- the MD5 that a Put Blob keeps is the MD5 of its body
+  md5-props : (kept : Kept) → put.request.ask.args.kept ≡ Some kept → (put_props put.request kept).md5 ≡ Some sum_put
+  md5-props kept keeps = by_given kept.md5 refl
+    where
+      by_given : (given : Option (List ℕ)) → kept.md5 ≡ given → md5_or given (Some sum_put) ≡ Some sum_put
+      by_given None is = refl
+      by_given (Some sum) is = ap (λ (bytes : List ℕ). Some bytes) (sym (md5-kept put.keys w put.request put.moment None none kept sum puts.op keeps is))
+
+  kept_md5_line : (k : PropsFields) (sum : List ℕ) → k.md5 ≡ Some sum → Contains (kept_lines k) (header.ContentMd5 sum)
+  kept_md5_line k sum is =
+      let front : List Header = header.ContentType k.content_type ∷ line_of header.ContentEncoding k.encoding ++ line_of header.ContentLanguage k.language in
+      let sums : List Header = map header.ContentMd5 (option_to_list k.md5) in
+      Contains-append_left (front ++ sums) (line_of header.CacheControl k.cache_control) (header.ContentMd5 sum)
+      (Contains-append_right front sums (header.ContentMd5 sum)
+      (subst (λ (o : Option (List ℕ)). Contains (map header.ContentMd5 (option_to_list o)) (header.ContentMd5 sum)) (sym is) (0, omega arith, refl)))
+
+  -- the reply to the Get Blob that comes next has the MD5 of its own body
+  pub md5-get : (get : Timed) → IsOn op.GetBlob key name get.request → get.request.ask.args.range ≡ None → (reply_to_one (world_after_one w put) get).rule ≡ None
+      → Contains (reply_to_one (world_after_one w put) get).headers (header.ContentMd5 (md5 (reply_to_one (world_after_one w put) get).body))
+  md5-get get gets whole free =
+      let keeps = kept-put put.request key name fits puts in
+      let props : PropsFields = put_props put.request keeps.0 in
+      let metas : List Header = map header.Meta put.request.ask.args.metadata in
+      let last : List Header = header.BlobType ∷ header.AcceptRanges ∷ date_headers ((part_at w key).count + 1) put.moment in
+      let said : Contains (kept_lines props ++ metas ++ last) (header.ContentMd5 sum_put) =
+      Contains-append_left (kept_lines props ++ metas) last (header.ContentMd5 sum_put)
+      (Contains-append_left (kept_lines props) metas (header.ContentMd5 sum_put) (kept_md5_line props sum_put (md5-props keeps.0 keeps.1))) in
+      subst (λ (bytes : List ℕ). Contains (reply_to_one (world_after_one w put) get).headers (header.ContentMd5 (md5 bytes))) (sym (body-get w key name keeps.0 put puts keeps.1 none get gets whole free))
+      (subst (λ (hs : List Header). Contains hs (header.ContentMd5 sum_put)) (sym (headers-get w key name keeps.0 put puts keeps.1 none get gets whole free)) said)
 
 -- ---- the status of a success
 

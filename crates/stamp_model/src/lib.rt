@@ -51,9 +51,9 @@ pub use run_laws::{
     only_what_the_own_route_admits_is_answered, what_is_written_is_read,
 };
 pub use success_laws::{
-    a_block_list_shows_the_kinds_that_are_asked_for, a_container_is_made_as_it_is_asked_for,
-    a_damaged_body_is_refused, a_part_has_the_other_headers_of_the_whole,
-    a_put_block_is_answered_with_its_md5, a_range_is_refused_only_past_the_end,
-    a_success_has_the_status_of_its_operation, only_a_blob_that_is_seen_is_deleted,
-    properties_are_what_get_blob_tells,
+    a_blob_is_read_with_the_md5_of_its_bytes, a_block_list_shows_the_kinds_that_are_asked_for,
+    a_container_is_made_as_it_is_asked_for, a_damaged_body_is_refused,
+    a_part_has_the_other_headers_of_the_whole, a_put_block_is_answered_with_its_md5,
+    a_range_is_refused_only_past_the_end, a_success_has_the_status_of_its_operation,
+    only_a_blob_that_is_seen_is_deleted, properties_are_what_get_blob_tells,
 };

@@ -1,6 +1,6 @@
 //! Laws of what a success says of its request. Each law is the contract of a function that does
 //! nothing.
-ghost use Rattle.std.specs.Prelude.{◌≡◌, ◌<◌, ◌≤◌, ℕ, ◌+◌, IsSome, List, [], ◌∷◌, ◌++◌, Option, Some, None, codes, filter, length, map, unwrap_or};
+ghost use Rattle.std.specs.Prelude.{◌≡◌, ◌<◌, ◌≤◌, ℕ, ◌+◌, IsSome, List, [], ◌∷◌, ◌++◌, Option, Contains, Some, None, codes, filter, length, map, unwrap_or};
 ghost use Rattle.md5.specs.Md5.{md5};
 ghost use Rattle.stamp_values.specs.declared.block.BlockKinds.TheVariants as kinds;
 ghost use Rattle.stamp_values.specs.declared.condition.ByteRange.{ByteRange};
@@ -35,6 +35,18 @@ pub fn a_damaged_body_is_refused()
         (bound : Option Key) (kept : Kept) (sum : List ℕ)
         → (reply keys w q t bound).rule ≡ None → q.ask.op ≡ PutBlob
         → q.ask.args.kept ≡ Some kept → kept.md5 ≡ Some sum → md5 q.body ≡ sum }
+{}
+
+/// A blob is read with the MD5 of its bytes: after an accepted Put Blob, the reply to a Get Blob
+/// without a range that comes next has a Content-MD5, which is the MD5 of the body of that reply.
+pub fn a_blob_is_read_with_the_md5_of_its_bytes()
+    ensures { (w : World (List ℕ)) (key : Key) (name : List ℕ) (put get : Timed)
+        → IsAsk put.request.ask → IsOn PutBlob key name put.request
+        → IsOn GetBlob key name get.request → get.request.ask.args.range ≡ None
+        → (reply_to_one w put).rule ≡ None
+        → (reply_to_one (world_after_one w put) get).rule ≡ None
+        → Contains (reply_to_one (world_after_one w put) get).headers
+        (header.ContentMd5 (md5 (reply_to_one (world_after_one w put) get).body)) }
 {}
 
 /// If no rule refuses a request, its reply has the status of its operation: 201 if the operation
