@@ -29,6 +29,7 @@ use Rattle.range_rows.specs.ObjectReplies.{blob_content, blob_read, byte_count, 
 use Rattle.range_rows.specs.ObjectRules.{Cause, cause_holds, cause_refusal, causes, has_other_md5, is_damaged, kept_md5, named_blob, needs_blob, object_refusal, starts_past}
 use Rattle.range_rows.specs.ObjectRules.Cause.{BodyIsDamaged, RangeIsPastTheEnd}
 use Rattle.range_rows.specs.RequestChanges.{put_props}
+use Rattle.stamp_model.specs.Conditions.{without_content_md5}
 use Rattle.stamp_model.specs.Effects.{effect}
 use Rattle.stamp_model.specs.Ranges.{without_range}
 use Rattle.stamp_model.specs.Refusals.{access_refusal, refusal, unserved_refusal}
@@ -71,6 +72,34 @@ module _ (keys : Option Keys) (w : World (List ℕ)) (q : Asked) (t : ℕ) (boun
   md5-kept kept sum puts keeps given =
       md5-given q.body sum (kept_md5 q.ask) (ap (λ (o : Option Kept). option_and_then (λ k. k.md5) o) keeps ∙ given)
       (sym (ap (λ (o : Op). is_op op.PutBlob o && has_other_md5 q.body (kept_md5 q.ask)) puts) ∙ right_false _ _ undamaged)
+
+-- a damaged body alone
+abbrev is_damage_cause : Cause → Bool
+is_damage_cause BodyIsDamaged = true
+is_damage_cause other = false
+
+damage_alone : (q : Asked) (p : Part ℕ) → cause_holds p q BodyIsDamaged ≡ true → ((c : Cause) → cause_holds p (without_content_md5 q) c ≡ false) → (c : Cause) → cause_holds p q c ≡ is_damage_cause c
+damage_alone q p damaged free BodyIsDamaged = damaged
+damage_alone q p damaged free other = free other
+
+other_md5 : (b : Bool) (body sum : List ℕ) → pointwise nat_eq sum (md5 body) ≡ b → (md5 body ≡ sum → ⊥) → not b ≡ true
+other_md5 true body sum same apart = absurd (apart (sym ((bytes_decides sum (md5 body)).0 same)))
+other_md5 false body sum same apart = refl
+
+-- a request that is refused for nothing else is refused if its body has another MD5 than Content-MD5 says
+pub reply-damaged : (keys : Option Keys) (w : World (List ℕ)) (q : Asked) (t : ℕ) (bound : Option Key) (sum : List ℕ) → (reply keys w (without_content_md5 q) t bound).rule ≡ None
+    → q.ask.args.content_md5 ≡ Some sum → (md5 q.body ≡ sum → ⊥) → reply keys w q t bound ≡ denied (cause_refusal BodyIsDamaged)
+reply-damaged keys w q t bound sum none given apart =
+    let p : Part ℕ = sizes (part_at w q.ask.key) in
+    let free : refusal keys p (without_content_md5 q) t ≡ None = reply-unrefused keys w (without_content_md5 q) t bound none in
+    let damaged : is_damaged q ≡ true =
+    ap (λ (o : Option (List ℕ)). has_other_md5 q.body o || (is_op op.PutBlob q.ask.op && has_other_md5 q.body (kept_md5 q.ask))) given
+    ∙ ap (λ (b : Bool). b || (is_op op.PutBlob q.ask.op && has_other_md5 q.body (kept_md5 q.ask))) (other_md5 (pointwise nat_eq sum (md5 q.body)) q.body sum refl apart) in
+    let alone : (c : Cause) → cause_holds p q c ≡ is_damage_cause c = damage_alone q p damaged (no_cause keys p (without_content_md5 q) t free) in
+    let refused : object_refusal p q ≡ Some (cause_refusal BodyIsDamaged) = λ i. option_map cause_refusal (find (λ c. alone c i) causes) in
+    let permitted : first_rule keys (acl_of p) q.ask t ≡ None =
+    first_rule-with_args keys (acl_of p) (without_content_md5 q).ask q.ask.args t refl ∙ (unrefused keys p (without_content_md5 q) t free).permitted in
+    λ i. response (option_or (option_map access_refusal (permitted i)) (option_or (refused i) (unserved_refusal q.ask.op))) (answer_of (effect keys w q t) q bound)
 
 -- ---- the MD5 of a blob that was put
 

@@ -14,6 +14,10 @@ use Rattle.range_rows.specs.ObjectRules.{named_blob, needs_blob}
 abbrev pub without_conditions : Asked → Asked
 without_conditions q = record q { ask = record q.ask { args = record q.ask.args { if_match = None; if_none_match = None } } }
 
+-- the same request without Content-MD5; what was signed stays as it was
+abbrev pub without_content_md5 : Asked → Asked
+without_content_md5 q = record q { ask = record q.ask { args = record q.ask.args { content_md5 = None } } }
+
 -- If-Match is true of the blob that the request names, as the container has it; it is so if If-Match is not sent
 pub record MeetsIfMatch {C : Type 0} (p : Part C) (a : Ask) : Type 0 where
   -- If-Match has an ETag: readers see the blob, and it has this ETag

@@ -1,6 +1,6 @@
 //! Laws of what a success says of its request. Each law is the contract of a function that does
 //! nothing.
-ghost use Rattle.std.specs.Prelude.{◌≡◌, ◌<◌, ◌≤◌, ℕ, ◌+◌, IsSome, List, [], ◌∷◌, ◌++◌, Option, Contains, Some, None, codes, filter, length, map, unwrap_or};
+ghost use Rattle.std.specs.Prelude.{◌≡◌, ◌≢◌, ◌<◌, ◌≤◌, ℕ, ◌+◌, IsSome, List, [], ◌∷◌, ◌++◌, Option, Contains, Some, None, codes, filter, length, map, unwrap_or};
 ghost use Rattle.md5.specs.Md5.{md5};
 ghost use Rattle.stamp_values.specs.declared.block.BlockKinds.TheVariants as kinds;
 ghost use Rattle.stamp_values.specs.declared.condition.ByteRange.{ByteRange};
@@ -8,9 +8,9 @@ ghost use Rattle.stamp_values.specs.declared.key.Key.{Key};
 ghost use Rattle.stamp_values.specs.declared.level.Level.TheVariants.{Closed};
 ghost use Rattle.stamp_values.specs.declared.op.Op.TheVariants.{BlobProperties, ContainerProperties, CreateContainer, DeleteBlob, GetBlob, GetBlockList, PutBlob, PutBlock, PutBlockList};
 ghost use Rattle.stamp_types.specs.declared.args.Kept.{Kept};
-ghost use Rattle.stamp_types.specs.declared.code.Code.TheVariants.{ContainerAlreadyExists, InvalidRange};
+ghost use Rattle.stamp_types.specs.declared.code.Code.TheVariants.{ContainerAlreadyExists, InvalidRange, Md5Mismatch};
 ghost use Rattle.stamp_types.specs.declared.header.Header.TheVariants as header;
-ghost use Rattle.stamp_types.specs.declared.rule.Rule.TheVariants.{O2, O6};
+ghost use Rattle.stamp_types.specs.declared.rule.Rule.TheVariants.{O2, O5, O6};
 ghost use Rattle.stamp_types.specs.Replies.{denied};
 ghost use Rattle.stamp_types.specs.Requests.{Asked, IsAsk};
 ghost use Rattle.stamp_types.specs.World.{World, blob_in, part_at};
@@ -19,13 +19,16 @@ ghost use Rattle.body_forms.specs.WrittenLists.{ListedBlock, block_list_text};
 ghost use Rattle.range_rows.specs.ObjectReplies.{date_headers, with_content};
 ghost use Rattle.range_rows.specs.Readings.{wanted_blocks};
 ghost use Rattle.stamp_model.specs.Blocks.{wanted_bytes};
+ghost use Rattle.stamp_model.specs.Conditions.{without_content_md5};
 ghost use Rattle.stamp_model.specs.Ranges.{is_of_both, without_range};
 ghost use Rattle.stamp_model.specs.Responses.{reply};
 ghost use Rattle.stamp_model.specs.Runs.{Timed, IsAdmitted, IsIn, IsOn, world_after_one, reply_to_one};
 ghost use Rattle.stamp_model.specs.Statuses.{success_status};
 
 /// A damaged body is refused. If no rule refuses a request that has a Content-MD5, its body has this
-/// MD5. If no rule refuses a Put Blob that has an x-ms-blob-content-md5, its body has this MD5 too.
+/// MD5. If no rule refuses a Put Blob that has an x-ms-blob-content-md5, its body has this MD5 too. If no
+/// rule refuses a request without its Content-MD5, and its body has another MD5, the request with its
+/// Content-MD5 is refused by O5 with Md5Mismatch.
 pub fn a_damaged_body_is_refused()
     ensures content_md5 { (keys : Option Keys) (w : World (List ℕ)) (q : Asked) (t : ℕ)
         (bound : Option Key) (sum : List ℕ)
@@ -35,6 +38,11 @@ pub fn a_damaged_body_is_refused()
         (bound : Option Key) (kept : Kept) (sum : List ℕ)
         → (reply keys w q t bound).rule ≡ None → q.ask.op ≡ PutBlob
         → q.ask.args.kept ≡ Some kept → kept.md5 ≡ Some sum → md5 q.body ≡ sum }
+    ensures told { (keys : Option Keys) (w : World (List ℕ)) (q : Asked) (t : ℕ)
+        (bound : Option Key) (sum : List ℕ)
+        → (reply keys w (without_content_md5 q) t bound).rule ≡ None
+        → q.ask.args.content_md5 ≡ Some sum → md5 q.body ≢ sum
+        → reply keys w q t bound ≡ denied (record { rule = O5; code = Md5Mismatch }) }
 {}
 
 /// A blob is read with the MD5 of its bytes: after an accepted Put Blob, the reply to a Get Blob
