@@ -1,3 +1,4 @@
+pub mod CallLemmas
 pub mod ChangeLemmas
 pub mod ContentLemmas
 pub mod DataLemmas

@@ -4,7 +4,7 @@ ghost use Rattle.stamp_types.specs.Pieces.{is_held, is_held_piece, is_pieces, pi
 ghost use Rattle.stream_manager.specs.Places.{KeepsPlaces, block_at};
 ghost use Rattle.stream_manager.specs.Streams.{laid};
 ghost use Rattle.partition_stream.specs.Contents.{ArePlaced, IsPlaced};
-ghost use Rattle.partition_stream.specs.Counting.{FailsPut};
+ghost use Rattle.partition_stream.specs.Counting.{CallsPut, FailsPut};
 
 use crate::faults::PutFault;
 use extent_node::Wire;
@@ -19,6 +19,7 @@ fn put_bytes<W: Wire>(blobs: &mut Stream, bytes: &Share, wire: &mut W) -> Result
     ensures placed { IfOk result (λ p. block_at (laid blobs.new) p ≡ Some bytes.now) }
     ensures kept { KeepsPlaces (laid blobs.old) (laid blobs.new) }
     ensures limit { blobs.new.limit ≡ blobs.old.limit }
+    ensures called { CallsPut result 1 (length blobs.old.sealed) (length blobs.new.sealed) (W.calls wire.old) (W.calls wire.new) }
     ensures counted { FailsPut result (W.faults wire.old) (W.faults wire.new) }
 {
     match blobs.append(bytes, wire) {
@@ -37,6 +38,7 @@ fn put_piece<W: Wire>(blobs: &mut Stream, piece: &Piece, wire: &mut W) -> Result
     ensures placed { IfOk result (λ p. IsPlaced (laid blobs.new) piece.now p) }
     ensures kept { KeepsPlaces (laid blobs.old) (laid blobs.new) }
     ensures limit { blobs.new.limit ≡ blobs.old.limit }
+    ensures called { CallsPut result 1 (length blobs.old.sealed) (length blobs.new.sealed) (W.calls wire.old) (W.calls wire.new) }
     ensures counted { FailsPut result (W.faults wire.old) (W.faults wire.new) }
 {
     match piece {
@@ -63,6 +65,7 @@ fn put_pieces<W: Wire>(
     ensures placed { IfOk result (λ ps. ArePlaced (laid blobs.new) pieces.now ps.items) }
     ensures kept { KeepsPlaces (laid blobs.old) (laid blobs.new) }
     ensures limit { blobs.new.limit ≡ blobs.old.limit }
+    ensures called { CallsPut result (length pieces.now) (length blobs.old.sealed) (length blobs.new.sealed) (W.calls wire.old) (W.calls wire.new) }
     ensures counted { FailsPut result (W.faults wire.old) (W.faults wire.new) }
 {
     let mut placed = Vec::with_capacity(alloc, pieces.len())?;
@@ -84,6 +87,7 @@ pub(crate) fn put_content<W: Wire>(
     ensures placed { IfOk result (λ ps. ArePlaced (laid blobs.new) content.now ps) }
     ensures kept { KeepsPlaces (laid blobs.old) (laid blobs.new) }
     ensures limit { blobs.new.limit ≡ blobs.old.limit }
+    ensures called { CallsPut result (length content.now) (length blobs.old.sealed) (length blobs.new.sealed) (W.calls wire.old) (W.calls wire.new) }
     ensures counted { FailsPut result (W.faults wire.old) (W.faults wire.new) }
 {
     let placed = put_pieces(alloc, blobs, content.as_slice(), wire)?;

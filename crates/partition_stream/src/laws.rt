@@ -87,6 +87,8 @@ pub fn a_body_that_is_cut_may_be_put()
 {}
 
 /// The changes before a position are the first of all changes. So a walk with `next_change` ends, and it has then met each change once.
+/// All changes, made in the order of the walk, make each container what the log means.
 pub fn a_walk_meets_all_changes_in_order()
-    ensures { (s : ThreeStreams) (p : Position) → IsFirstPart (changes_before s p) (all_changes s) }
+    ensures first { (s : ThreeStreams) (p : Position) → IsFirstPart (changes_before s p) (all_changes s) }
+    ensures made { (s : ThreeStreams) (key : Key) → held_of (logged s) key ≡ after_acts same_pieces (acts_on key (all_changes s)) no_part }
 {}

@@ -37,7 +37,7 @@ impl Model for Streams {
 }
 
 impl Streams {
-    ghost use Rattle.std.specs.Prelude.{◌≡◌, ◌≤◌, ◌<◌, ◌++◌, ◌∷◌, ⊤, [], true, false, None, Err, IfOk, OnOk, OnErr, IsTrue, MatchOption, slice_range};
+    ghost use Rattle.std.specs.Prelude.{◌≡◌, ◌≤◌, ◌<◌, ◌+◌, ◌++◌, ◌∷◌, ⊤, [], true, false, None, Err, IfOk, OnOk, OnErr, IsTrue, MatchOption, length, slice_range};
     ghost use Rattle.extent_seal.specs.Counting.{all_faults};
     ghost use Rattle.extent_seal.specs.declared.sealed.ReadFault.TheVariants.{Unreachable};
     ghost use Rattle.stamp_types.specs.Pieces.{is_held, piece_len};
@@ -45,7 +45,7 @@ impl Streams {
     ghost use Rattle.stream_manager.specs.Places.{KeepsPlaces};
     ghost use Rattle.stream_manager.specs.Streams.{laid};
     ghost use Rattle.partition_stream.specs.Contents.{ArePlaced, IsStored, bytes_at};
-    ghost use Rattle.partition_stream.specs.Counting.{FailsLog, FailsPut, FailsSeals};
+    ghost use Rattle.partition_stream.specs.Counting.{CallsLog, CallsPut, CallsSeals, FailsLog, FailsPut, FailsSeals, sealed_extents};
     ghost use Rattle.partition_stream.specs.Outcomes.{IsLogged, IsLogSettled, IsLogSealed};
     ghost use Rattle.partition_stream.specs.Positions.{all_changes, changes_before};
     ghost use Rattle.partition_stream.specs.Storing.{IsStoredChange};
@@ -81,6 +81,7 @@ impl Streams {
         ensures log { self.new.log ≡ self.old.log }
         ensures rows { self.new.rows ≡ self.old.rows }
         ensures limit { self.new.blobs.limit ≡ self.old.blobs.limit }
+        ensures called { CallsPut result (length content.now) (length self.old.blobs.sealed) (length self.new.blobs.sealed) (W.calls wire.old) (W.calls wire.new) }
         ensures counted { FailsPut result (W.faults wire.old) (W.faults wire.new) }
     {
         put_content(self.alloc, &mut self.blobs, content, wire)
@@ -101,6 +102,7 @@ impl Streams {
         ensures blobs { self.new.blobs ≡ self.old.blobs }
         ensures rows { self.new.rows ≡ self.old.rows }
         ensures limit { self.new.log.limit ≡ self.old.log.limit }
+        ensures called { CallsLog result (length self.old.log.sealed) (length self.new.log.sealed) (W.calls wire.old) (W.calls wire.new) }
         ensures counted { FailsLog result (W.faults wire.old) (W.faults wire.new) }
         ensures unheard { result ≡ Err NoMemory → wire.new ≡ wire.old }
     {
@@ -121,36 +123,45 @@ impl Streams {
     }
 
     // Seals the log.
+    #[tactic(auto, using(crate::proofs::CallLemmas::seal_calls))]
     fn seal_log<W: Wire>(&mut self, wire: &mut W) -> Result<(), SettleFault>
         ensures log { IsLogSealed result self.old self.new }
         ensures sealed { OnOk result (IsEmptyLast self.new.log) }
         ensures blobs { self.new.blobs ≡ self.old.blobs }
         ensures rows { self.new.rows ≡ self.old.rows }
         ensures limit { self.new.log.limit ≡ self.old.log.limit }
+        ensures called { CallsSeals result (length self.old.log.sealed) (length self.new.log.sealed) (W.calls wire.old) (W.calls wire.new) }
+        ensures once { length self.new.log.sealed ≤ length self.old.log.sealed + 1 }
         ensures counted { FailsSeals result (W.faults wire.old) (W.faults wire.new) }
     {
         self.log.seal(wire)
     }
 
     // Seals the data.
+    #[tactic(auto, using(crate::proofs::CallLemmas::seal_calls))]
     fn seal_blobs<W: Wire>(&mut self, wire: &mut W) -> Result<(), SettleFault>
         ensures kept { KeepsPlaces (laid self.old.blobs) (laid self.new.blobs) }
         ensures sealed { OnOk result (IsEmptyLast self.new.blobs) }
         ensures log { self.new.log ≡ self.old.log }
         ensures rows { self.new.rows ≡ self.old.rows }
         ensures limit { self.new.blobs.limit ≡ self.old.blobs.limit }
+        ensures called { CallsSeals result (length self.old.blobs.sealed) (length self.new.blobs.sealed) (W.calls wire.old) (W.calls wire.new) }
+        ensures once { length self.new.blobs.sealed ≤ length self.old.blobs.sealed + 1 }
         ensures counted { FailsSeals result (W.faults wire.old) (W.faults wire.new) }
     {
         self.blobs.seal(wire)
     }
 
     // Seals the rows.
+    #[tactic(auto, using(crate::proofs::CallLemmas::seal_calls))]
     fn seal_rows<W: Wire>(&mut self, wire: &mut W) -> Result<(), SettleFault>
         ensures same { (logged self.new).rows ≡ (logged self.old).rows }
         ensures sealed { OnOk result (IsEmptyLast self.new.rows) }
         ensures log { self.new.log ≡ self.old.log }
         ensures blobs { self.new.blobs ≡ self.old.blobs }
         ensures limit { self.new.rows.limit ≡ self.old.rows.limit }
+        ensures called { CallsSeals result (length self.old.rows.sealed) (length self.new.rows.sealed) (W.calls wire.old) (W.calls wire.new) }
+        ensures once { length self.new.rows.sealed ≤ length self.old.rows.sealed + 1 }
         ensures counted { FailsSeals result (W.faults wire.old) (W.faults wire.new) }
     {
         self.rows.seal(wire)
@@ -165,6 +176,8 @@ impl Streams {
         ensures rows { (logged self.new).rows ≡ (logged self.old).rows }
         ensures kept { KeepsPlaces (laid self.old.blobs) (laid self.new.blobs) }
         ensures limits { HaveSameLimits self.old self.new }
+        ensures called { CallsSeals result (sealed_extents self.old) (sealed_extents self.new) (W.calls wire.old) (W.calls wire.new) }
+        ensures once { sealed_extents self.new ≤ sealed_extents self.old + 3 }
         ensures counted { FailsSeals result (W.faults wire.old) (W.faults wire.new) }
     {
         self.seal_log(wire)?;

@@ -1,5 +1,5 @@
 -- What the wire counts over calls of a stream.
-use Rattle.std.specs.Prelude.{◌≡◌, ◌≤◌, ℕ, ◌+◌, true, Result, Ok, Err, List}
+use Rattle.std.specs.Prelude.{◌≡◌, ◌≤◌, ◌⊎◌, ℕ, ◌+◌, true, Result, Ok, Err, List}
 use Rattle.std.specs.List.{slice_get}
 use Rattle.std.specs.Option.{option_map_or}
 use Rattle.stamp_values.specs.declared.place.Place.{Place}
@@ -71,11 +71,17 @@ FailsSettle (Ok settled.Dropped) old new = Grows old new
 FailsSettle (Err settle_fault.Busy) old new = FailsEach old new
 FailsSettle (Err settle_fault.NoMemory) old new = new ≡ old
 
--- a seal calls each node at most once, and is Busy only if each node was called and failed
-abbrev pub CountsSeal : Result (Unit {0}) SettleFault → Counts → Counts → Counts → Counts → Type 0
-CountsSeal (Ok _) calls calls_after old new = Grows old new
-CountsSeal (Err settle_fault.Busy) calls calls_after old new = CallsEach calls calls_after × FailsEach old new
-CountsSeal (Err settle_fault.NoMemory) calls calls_after old new = (calls_after ≡ calls) × (new ≡ old)
+-- a seal calls each node once if it sealed an extent, and no node if not; if it is Busy, it called each node once and sealed no extent; no node is called if memory runs out
+abbrev pub CallsSeal : Result (Unit {0}) SettleFault → ℕ → ℕ → Counts → Counts → Type 0
+CallsSeal (Ok _) before after old new = ((after ≡ before) × (new ≡ old)) ⊎ ((after ≡ before + 1) × CallsEach old new)
+CallsSeal (Err settle_fault.Busy) before after old new = (after ≡ before) × CallsEach old new
+CallsSeal (Err settle_fault.NoMemory) before after old new = (after ≡ before) × (new ≡ old)
+
+-- a seal is Busy only if each node fails
+abbrev pub FailsSeal : Result (Unit {0}) SettleFault → Counts → Counts → Type 0
+FailsSeal (Ok _) old new = Grows old new
+FailsSeal (Err settle_fault.Busy) old new = FailsEach old new
+FailsSeal (Err settle_fault.NoMemory) old new = new ≡ old
 
 -- the nodes that have a copy of an extent: all three have a copy of the last extent
 abbrev pub kept_in : List Closed → ℕ → Three

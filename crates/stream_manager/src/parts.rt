@@ -45,7 +45,7 @@ impl Parts {
     ghost use Rattle.extent_seal.specs.Counting.{CallsEach, CallsCopies, CallsNoOther, FailsCopies, FailsEach, all_faults};
     ghost use Rattle.extent_seal.specs.declared.sealed.ReadFault.TheVariants.{Unreachable};
     ghost use Rattle.stamp_values.specs.declared.place.Place.{Place};
-    ghost use Rattle.stream_manager.specs.Counting.{CallsAtMost, Grows, CallsTry, FailsTry, CallsAppend, FailsAppend, CallsSettle, FailsSettle, CountsSeal, kept_in};
+    ghost use Rattle.stream_manager.specs.Counting.{CallsAtMost, Grows, CallsTry, FailsTry, CallsAppend, FailsAppend, CallsSettle, FailsSettle, CallsSeal, FailsSeal, kept_in};
     ghost use Rattle.stream_manager.specs.Extents.{closed_blocks, extents};
     ghost use Rattle.stream_manager.specs.Outcomes.{IsTried, IsPut, IsAppend, IsRefused, IsSettled, IsSealed};
     ghost use Rattle.stream_manager.specs.Places.{Decides, Follows, IsLastAt, block_at, next_place};
@@ -344,7 +344,10 @@ impl Parts {
         requires bytes { AreCounted self.old.bytes self.old.last.extent }
         ensures sealed { IsSealed result (extents self.old.sealed.items self.old.last.extent) self.old.last.extent
             (extents self.new.sealed.items self.new.last.extent) self.new.last.extent }
-        ensures counted { CountsSeal result (W.calls wire.old) (W.calls wire.new) (W.faults wire.old) (W.faults wire.new) }
+        ensures called { CallsSeal result (vec_len self.old.sealed) (vec_len self.new.sealed) (W.calls wire.old) (W.calls wire.new) }
+        ensures counted { FailsSeal result (W.faults wire.old) (W.faults wire.new) }
+        ensures unused { self.old.last.extent.blocks ≡ [] → self.old.last.extent.tried ≡ None → wire.new ≡ wire.old }
+        ensures same_sealed { self.old.last.extent.blocks ≡ [] → self.old.last.extent.tried ≡ None → self.new.sealed.items ≡ self.old.sealed.items }
         ensures sized { AreSized self.new.limit self.new.sealed.items self.new.last.extent }
         ensures bytes { AreCounted self.new.bytes self.new.last.extent }
         ensures limit { self.new.limit ≡ self.old.limit }

@@ -32,7 +32,7 @@ impl Stream {
     ghost use Rattle.std.specs.Option.{is_some};
     ghost use Rattle.extent_seal.specs.Counting.{CallsCopies, CallsNoOther, FailsCopies, FailsEach, all_faults};
     ghost use Rattle.extent_seal.specs.declared.sealed.ReadFault.TheVariants.{Unreachable};
-    ghost use Rattle.stream_manager.specs.Counting.{CallsAppend, FailsAppend, CallsSettle, FailsSettle, CountsSeal, kept_in};
+    ghost use Rattle.stream_manager.specs.Counting.{CallsAppend, FailsAppend, CallsSettle, FailsSettle, CallsSeal, FailsSeal, kept_in};
     ghost use Rattle.stream_manager.specs.Outcomes.{IsAppend, IsRefused, IsSettled, IsSealed};
     ghost use Rattle.stream_manager.specs.Places.{block_at, next_place};
     ghost use Rattle.stream_manager.specs.Sizes.{AreSized};
@@ -84,12 +84,16 @@ impl Stream {
         self.parts.settle(wire)
     }
 
-    /// Seals the last extent, if it has a block or a doubt. A doubt is settled by this.
+    /// Seals the last extent, if it has a block or a doubt. A doubt is settled by this. Each node is asked once, and no node if there is
+    /// nothing to seal.
     ///
     /// Busy: no node answered, and the stream is as it was.
     pub fn seal<W: Wire>(&mut self, wire: &mut W) -> Result<(), SettleFault>
         ensures sealed { IsSealed result (laid self.old) self.old.last (laid self.new) self.new.last }
-        ensures counted { CountsSeal result (W.calls wire.old) (W.calls wire.new) (W.faults wire.old) (W.faults wire.new) }
+        ensures called { CallsSeal result (length self.old.sealed) (length self.new.sealed) (W.calls wire.old) (W.calls wire.new) }
+        ensures counted { FailsSeal result (W.faults wire.old) (W.faults wire.new) }
+        ensures unused { self.old.last.blocks ≡ [] → self.old.last.tried ≡ None → wire.new ≡ wire.old }
+        ensures same { self.old.last.blocks ≡ [] → self.old.last.tried ≡ None → self.new.sealed ≡ self.old.sealed }
         ensures limit { self.new.limit ≡ self.old.limit }
         ensures sized { AreSized self.new.limit self.new.sealed self.new.last }
     {
