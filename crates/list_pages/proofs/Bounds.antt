@@ -11,15 +11,16 @@ use Rattle.stamp_values.specs.Trees.{is_name_from}
 use Rattle.stamp_values.specs.declared.key.Key.{Key}
 use Rattle.stamp_types.specs.declared.args.Page.{Page}
 use Rattle.stamp_types.specs.World.{Part, World}
-use Rattle.list_pages.specs.Containers.{before_end, end_of, of_account, or_else}
+use Rattle.list_pages.specs.Containers.{before_end, end_of, of_account, or_else, page_of_account}
 use Rattle.list_pages.specs.Laws.{IsInBounds}
 use Rattle.list_pages.specs.Lists.{ShownContainer, blob_list, container_list, given, page_of_blobs, page_of_containers, shown_blob, shown_container}
 use Rattle.list_pages.specs.Names.{begins_with, cut_after, group_of}
 use Rattle.list_pages.specs.Pages.{Entry, each_once, entry_by, entry_of, from_marker, is_other, listed, page, with_value}
 use Rattle.list_pages.specs.Rising.{IsBeforeAll, Rises}
+use Rattle.list_pages.specs.Seeks.{later_of}
 use Rattle.list_pages.proofs.Following.{above_at, cut_at, none_at}
 use Rattle.list_pages.proofs.Groups.{no_some, same_some}
-use Rattle.list_pages.proofs.Orders.{before, begins_with-append}
+use Rattle.list_pages.proofs.Orders.{before, begins_from, begins_with-append, from_from, from_itself, past_from}
 use Rattle.list_pages.proofs.Over.{containers_rise, paged, part}
 use Rattle.list_pages.proofs.Rising.{list_rises, rises_filter}
 
@@ -81,6 +82,31 @@ module _ {Y : Type 0} (prefix delimiter : List ℕ) where
   -- each entry of a list begins with the prefix
   pub list_begins : (es : List (List ℕ × Y)) → AllByRecursion (λ (entry : Entry Y). IsTrue (begins_with entry.0 prefix)) (listed prefix delimiter es)
   list_begins es = all_once (λ (entry : Entry Y). IsTrue (begins_with entry.0 prefix)) (filter_map (entry_of prefix delimiter) es) (entries_begin es)
+
+later_by : (p m text : List ℕ) (b : Bool) → is_name_from p m ≡ b → begins_with text p ≡ true → is_name_from (cond b m p) text ≡ is_name_from m text
+later_by p m text true is begins = refl
+later_by p m text false is begins = begins_from p text begins ∙ sym (from_from m p text (past_from m p (before p m is)) (begins_from p text begins))
+
+-- what begins with the prefix is at the marker or past it, if it is at the later of both or past it
+from_later : {Y : Type 0} (p m : List ℕ) (items : List (Entry Y)) → AllByRecursion (λ (entry : Entry Y). IsTrue (begins_with entry.0 p)) items → from_marker (later_of p m) items ≡ from_marker m items
+from_later p m [] all = refl
+from_later p m (item ∷ items) all =
+    λ i. cond (later_by p m item.0 (is_name_from p m) refl all.0 i) (item ∷ from_later p m items all.1 i) (from_later p m items all.1 i)
+
+-- a page of containers from the later of prefix and marker on is the page from the marker on
+pub page_from_later : {X Y : Type 0} (has : X → Option Y) (account p m : List ℕ) (max : ℕ) (end : Option (List ℕ)) (rows : List (Key × X)) → page_of_account has account p (later_of p m) max end rows ≡ page_of_account has account p m max end rows
+page_from_later {X} {Y} has account p m max end rows =
+    let items : List (Entry Y) = listed p [] (with_value has (before_end end (of_account account rows))) in
+    let same : from_marker (later_of p m) items ≡ from_marker m items = from_later p m items (list_begins p [] (with_value has (before_end end (of_account account rows)))) in
+    λ i. record { entries = (page max (same i)).entries; next = or_else (page max (same i)).next end }
+
+-- the later of prefix and marker is at the prefix or past it
+pub later_from : (p m : List ℕ) → is_name_from p (later_of p m) ≡ true
+later_from p m = by (is_name_from p m) refl
+  where
+    by : (b : Bool) → is_name_from p m ≡ b → is_name_from p (cond b m p) ≡ true
+    by true is = is
+    by false is = from_itself p
 
 or_nothing : (x : Option (List ℕ)) → or_else x None ≡ x
 or_nothing None = refl

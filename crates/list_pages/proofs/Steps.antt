@@ -157,10 +157,6 @@ module _ {X Y : Type 0} (has : X → Option Y) (p d m : List ℕ) (es : List (Li
       pub skip_none : has v ≡ None → IsAt out later
       skip_none e = skip (seen_none e)
 
-      -- the name is before the marker
-      pub skip_early : (value : Y) → has v ≡ Some value → begins_with name p ≡ true → group_of p d name ≡ None → is_name_from m name ≡ false → IsAt out later
-      skip_early value e f g h = skip (seen_name value false e f g h)
-
       one_more : (item : Entry Y) (items : List (Entry Y)) → wanted ≡ out ++ item ∷ items → wanted ≡ (out ++ item ∷ []) ++ items
       one_more item items e = e ∙ sym (append_assoc out (item ∷ []) items)
 

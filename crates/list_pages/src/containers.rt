@@ -1,5 +1,5 @@
 //! Pages of the containers of an account.
-ghost use Rattle.std.specs.Prelude.{◌≡◌, IfOk};
+ghost use Rattle.std.specs.Prelude.{◌≡◌, IfOk, IsTrue};
 ghost use Rattle.std.specs.FinMap as finite;
 ghost use Rattle.std.specs.Option.{option_copied, option_map};
 ghost use Rattle.list_pages.specs.Containers as containers;
@@ -7,6 +7,7 @@ ghost use Rattle.list_pages.specs.Lists as lists;
 ghost use Rattle.list_pages.specs.Containers.{page_of_account};
 ghost use Rattle.list_pages.specs.Lists.{page_of_containers, shown_container};
 ghost use Rattle.list_pages.specs.Seeks.{later_of};
+ghost use Rattle.stamp_values.specs.Trees.{is_name_from};
 
 use crate::entries::{ContainerEntry, ContainerPage};
 use crate::names::{begins_with, given, is_from};
@@ -94,26 +95,25 @@ fn name_of(key: &Key) -> &[u8]
     key.container.as_str().as_bytes()
 }
 
-// A page of the containers of the account before the end, from a key on at which it may begin.
+// A page of the containers of the key's account from the key on and before the end. The key's
+// container is at the prefix or past it.
 fn page_from<'a>(
     alloc: Global,
     rows: &'a Rows,
-    account: &Text,
     start: &Key,
     prefix: &[u8],
-    marker: &[u8],
     max: usize,
     end: Option<&'a [u8]>,
 ) -> Result<ContainerPage<'a>, AllocError>
-    requires account { start.now.account ≡ account.now }
-    requires container { start.now.container ≡ later_of prefix.now marker.now }
-    ensures { IfOk result (λ page. page ≡ page_of_account shown_container account.now prefix.now
-        marker.now max (option_map (λ t. t.now) end.entry) (finite.entries rows.now)) }
+    requires { IsTrue (is_name_from prefix.now start.now.container) }
+    ensures { IfOk result (λ page. page ≡ page_of_account shown_container start.now.account
+        prefix.now start.now.container max (option_map (λ t. t.now) end.entry)
+        (finite.entries rows.now)) }
 {
     let mut entries = Vec::new(alloc);
     let mut left = rows.containers_from(start);
     while let Some((key, found)) = left.next() {
-        if is_out(account, end, key) {
+        if is_out(&start.account, end, key) {
             return Ok(ContainerPage::new(entries, end));
         }
         let name = name_of(key);
@@ -127,12 +127,11 @@ fn page_from<'a>(
         let Some(standing) = found.standing() else {
             continue;
         };
-        if is_from(marker, name) {
-            if entries.len() >= max {
-                return Ok(ContainerPage::new(entries, Some(name)));
-            }
-            entries.push(ContainerEntry::of(name, standing))?;
+        // The walk begins at the marker, so the name is at the marker or past it.
+        if entries.len() >= max {
+            return Ok(ContainerPage::new(entries, Some(name)));
         }
+        entries.push(ContainerEntry::of(name, standing))?;
     }
     Ok(ContainerPage::new(entries, end))
 }
@@ -159,15 +158,5 @@ pub fn container_page<'a>(
     let start = start_of(alloc, account, page)?;
     let end = end_of(account, bound);
     let prefix = given(&page.prefix);
-    let marker = given(&page.marker);
-    page_from(
-        alloc,
-        rows,
-        account,
-        &start,
-        prefix,
-        marker,
-        page.max as usize,
-        end,
-    )
+    page_from(alloc, rows, &start, prefix, page.max as usize, end)
 }

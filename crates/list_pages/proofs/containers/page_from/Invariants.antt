@@ -12,8 +12,8 @@ abbrev pub invariant-loop-key : goal.invariant-loop-key
 invariant-loop-key l = record {
   can : (goal.iterator-loop-key).can_next l.left;
   ends : (goal.iterator-loop-key).is_finite l.left;
-  at : IsAt shown_container l.prefix [] l.marker (filter_map (shown l.account (option_map (λ t. t.now) l.end)) (finite.entries l.rows)) l.entries.items
-      (filter_map (shown l.account (option_map (λ t. t.now) l.end)) l.left);
+  at : IsAt shown_container l.prefix [] l.start.container (filter_map (shown l.start.account (option_map (λ t. t.now) l.end)) (finite.entries l.rows)) l.entries.items
+      (filter_map (shown l.start.account (option_map (λ t. t.now) l.end)) l.left);
   from : FromKey l.start l.left;
   order : InKeyOrder l.left;
   room : length l.entries.items ≤ l.max;
