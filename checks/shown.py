@@ -43,8 +43,12 @@ def free_address():
 
 
 def served(program):
-    """The README's first run: a server at a free address, and what its client gets. The server is ended after that."""
-    serve, client = (command for command, _ in SHOWN.findall((ROOT / "README.md").read_text(encoding="utf-8")))
+    """The README's first run: a blob that is shared in a replay, then a server at a free address, and what its client gets. The server is
+    ended after that."""
+    serve, client, share = (command for command, _ in SHOWN.findall((ROOT / "README.md").read_text(encoding="utf-8")))
+    ran = subprocess.run(["bash", "-euc", share.replace("./stamp ", f"{shlex.quote(program)} ")], cwd=ROOT, capture_output=True, timeout=60)
+    wanted = (ROOT / "examples" / "share.replies").read_bytes()
+    yield "README.md: a blob is shared", (ran.returncode, ran.stdout, ran.stderr), (0, wanted, b"")
     address = free_address()
     words = shlex.split(serve.replace(ADDRESS, address))
     yield "README.md: the words of the server", (words[0], words[-1]), ("./stamp", "&")
