@@ -1,4 +1,5 @@
 //! Wires, changes and answers for tests.
+ghost use Rattle.std.specs.Box.{box_value};
 ghost use Rattle.std.specs.Prelude.{◌≡◌, ◌≤◌, IsSomeAnd, length, map};
 ghost use Rattle.stamp_types.specs.Changes.{content_of};
 ghost use Rattle.stamp_types.specs.Pieces.{cut, piece_len};
@@ -6,9 +7,12 @@ ghost use Rattle.stamp_types.specs.declared.act.Act.TheVariants as act;
 ghost use Rattle.stamp_values.specs.Limits.{put_blob_limit};
 ghost use Rattle.stream_manager.specs.Streams.{laid};
 ghost use Rattle.partition_stream.specs.Contents.{AreStored};
+ghost use Rattle.partition_stream.specs.Streams.{AreSealed};
 
+use crate::put_first::put_and_log;
 use extent_node::{Delivery, Script};
-use partition_stream::{LogFault, Position, Streams};
+use extent_seal::ReadFault;
+use partition_stream::{LogFault, Position, PutFault, Streams};
 use stamp_types::{Act, BlockId, Bytes, Change, Key, Pieces, PutBlock, Share, Text};
 use std::alloc::Global;
 use std::process::Abort;
@@ -30,6 +34,9 @@ pub(crate) enum Told {
     Clean,
     Kept,
     Dropped,
+    Read,
+    End,
+    Unreachable,
 }
 
 /// A wire that gives these deliveries and answers in turn.
@@ -39,6 +46,23 @@ pub(crate) fn script(rt: &impl Abort, alloc: Global, puts: &[Delivery], asks: &[
         puts.to_vec(alloc).expect(rt, "memory"),
         asks.to_vec(alloc).expect(rt, "memory"),
     )
+}
+
+/// Streams without a change. A test owns them by a pointer, since a value with so many fields makes each step of its owner slow to prove.
+pub(crate) fn streams(rt: &impl Abort, alloc: Global, extent_bytes: u32) -> Box<Streams> {
+    let streams = Streams::new(alloc, extent_bytes);
+    Box::new(alloc, streams).expect(rt, "memory")
+}
+
+/// Streams that share what these streams have, all of which is sealed. Their data has the same blocks.
+pub(crate) fn half(rt: &impl Abort, alloc: Global, streams: &mut Streams) -> Box<Streams>
+    requires { AreSealed streams.old }
+    ensures { laid (box_value result).blobs ≡ laid streams.old.blobs }
+{
+    match streams.share() {
+        Ok(half) => Box::new(alloc, half).expect(rt, "memory"),
+        Err(_) => panic!(rt; "no memory"),
+    }
 }
 
 fn text(rt: &impl Abort, alloc: Global, text: &str) -> Text {
@@ -57,6 +81,15 @@ pub(crate) fn change(rt: &impl Abort, alloc: Global, name: &str) -> Change
     Change::new(key, Act::DeleteContainer).expect(rt, "a good change")
 }
 
+fn logged(answer: Result<(), LogFault>) -> Told {
+    match answer {
+        Ok(()) => Told::Done,
+        Err(LogFault::Busy) => Told::Busy,
+        Err(LogFault::Doubt) => Told::Doubt,
+        Err(LogFault::NoMemory) => Told::NoMemory,
+    }
+}
+
 /// Logs the change that deletes the container of this name.
 pub(crate) fn log(
     rt: &impl Abort,
@@ -66,12 +99,9 @@ pub(crate) fn log(
     wire: &mut Script,
 ) -> Told {
     let change = change(rt, alloc, name);
-    match streams.log_change(&change, 0, wire) {
-        Ok(()) => Told::Done,
-        Err(LogFault::Busy) => Told::Busy,
-        Err(LogFault::Doubt) => Told::Doubt,
-        Err(LogFault::NoMemory) => Told::NoMemory,
-    }
+    let answer = streams.log_change(&change, 0, wire);
+    drop(change);
+    logged(answer)
 }
 
 /// Settles the doubt of the log.
@@ -85,26 +115,68 @@ pub(crate) fn settle(streams: &mut Streams, wire: &mut Script) -> Told {
     }
 }
 
-// Whether the change is the one that deletes the container of this name.
-fn is_named(change: &Change, name: &str) -> bool {
-    change.key().container.as_str() == name && matches!(change.act(), Act::DeleteContainer)
+// Whether the change is the one that deletes the container of this name, of the epoch 0.
+fn is_named(change: &Change, epoch: u64, name: &str) -> bool {
+    let is_name = change.key().container.as_str() == name;
+    is_name && epoch == 0 && matches!(change.act(), Act::DeleteContainer)
+}
+
+// Whether the next change is the one that deletes the container of this name.
+fn is_next(streams: &Streams, position: &mut Position, name: &str, wire: &mut Script) -> bool {
+    match streams.next_change(position, wire) {
+        Ok(Some(read)) => {
+            let is = is_named(&read.0, read.1, name);
+            drop(read);
+            is
+        }
+        Ok(None) => false,
+        Err(_) => false,
+    }
+}
+
+/// What the next read of a change answers.
+pub(crate) fn next(streams: &Streams, position: &mut Position, wire: &mut Script) -> Told {
+    match streams.next_change(position, wire) {
+        Ok(Some(read)) => {
+            drop(read);
+            Told::Read
+        }
+        Ok(None) => Told::End,
+        Err(ReadFault::Unreachable) => Told::Unreachable,
+        Err(ReadFault::NoMemory) => Told::NoMemory,
+    }
 }
 
 /// Whether the streams keep the changes that delete these containers, in this order, and no other change.
 pub(crate) fn keeps(rt: &impl Abort, alloc: Global, streams: &Streams, names: &[&str]) -> bool {
     let mut wire = script(rt, alloc, &[], &[]);
     let mut position = Position::first();
+    let mut keeps = true;
     for name in names {
-        match streams.next_change(&mut position, &mut wire) {
-            Ok(Some((change, epoch))) => {
-                if epoch != 0 || !is_named(&change, name) {
-                    return false;
-                }
-            }
-            _ => return false,
-        }
+        keeps = keeps && is_next(streams, &mut position, name, &mut wire);
     }
-    matches!(streams.next_change(&mut position, &mut wire), Ok(None))
+    keeps && next(streams, &mut position, &mut wire) == Told::End
+}
+
+fn is_placed(change: &Change, len: u64) -> bool {
+    match change.content() {
+        Some(content) => content.is_placed() && content.len() == len,
+        None => false,
+    }
+}
+
+/// Whether the first change brings so many bytes of content, which are in the data.
+pub(crate) fn first_is_placed(streams: &Streams, len: u64, wire: &mut Script) -> bool {
+    let mut position = Position::first();
+    match streams.next_change(&mut position, wire) {
+        Ok(Some(read)) => {
+            let is = is_placed(&read.0, len);
+            drop(read);
+            is
+        }
+        Ok(None) => false,
+        Err(_) => false,
+    }
 }
 
 // The change that puts the block of this content.
@@ -123,6 +195,41 @@ pub(crate) fn block(rt: &impl Abort, alloc: Global, body: &Share) -> Change
     let content = Pieces::cut(alloc, body).expect(rt, "memory");
     let act = Act::PutBlock(PutBlock { blob, id, content });
     Change::new(key, act).expect(rt, "a good change")
+}
+
+/// Puts a body into the data and logs the change that puts a block of it.
+#[tactic(auto, using(partition_stream::proofs::DataLemmas::cut_held))]
+pub(crate) fn put_and_log_block(
+    rt: &impl Abort,
+    alloc: Global,
+    streams: &mut Streams,
+    body: &Share,
+    wire: &mut Script,
+) -> bool
+    requires { length body.now ≤ put_blob_limit }
+{
+    let content = Pieces::cut(alloc, body).expect(rt, "memory");
+    let change = block(rt, alloc, body);
+    put_and_log(streams, change, &content, wire).is_ok()
+}
+
+/// Puts a body into the data, and says whether that was Busy.
+#[tactic(auto, using(partition_stream::proofs::DataLemmas::cut_held))]
+pub(crate) fn try_put(
+    rt: &impl Abort,
+    alloc: Global,
+    streams: &mut Streams,
+    body: &Share,
+    wire: &mut Script,
+) -> Told
+    requires { length body.now ≤ put_blob_limit }
+{
+    let content = Pieces::cut(alloc, body).expect(rt, "memory");
+    match streams.put_data(&content, wire) {
+        Ok(_placed) => Told::Done,
+        Err(PutFault::Busy) => Told::Busy,
+        Err(PutFault::NoMemory) => Told::NoMemory,
+    }
 }
 
 /// Puts a body into the data.
