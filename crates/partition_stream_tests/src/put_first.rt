@@ -23,6 +23,7 @@ fn put<W: Wire>(streams: &mut Streams, content: &Pieces, wire: &mut W) -> Result
 }
 
 // Logs the change, whose content is now where the data has it.
+#[tactic(auto, using(crate::proofs::FirstLemmas::stored_placed))]
 fn log_placed<W: Wire>(
     streams: &mut Streams,
     change: Change,
