@@ -134,7 +134,7 @@ class Trials:
     def __init__(self, copy, budget):
         self.rt, self.copy, self.budget = toolchain(), copy, budget
         self.crates = {it.name: it for it in self.rt.rtlib.crates_below(str(copy))}
-        self.refused, self.ways, self.telling = {}, {}, threading.Lock()
+        self.refused, self.ways, self.unread, self.telling = {}, {}, [], threading.Lock()
 
     def is_refused(self, answer):
         """Whether an answer of `rt` to an edit says that the prover refused it, also if only by a limit of its own."""
@@ -164,7 +164,10 @@ class Trials:
             self.budget.end(crate)
         found = refused_in(ran.stdout, crate) if ran.returncode in (0, 1) else None
         if found is None:
-            print(f"prove: {crate}: {len(functions)} edits were made at once, and the check cannot be read: they are tried alone", flush=True)
+            self.unread += functions
+            last = ran.stdout.rstrip("\n").split("\n")[-1]
+            why = f"it ended with status {ran.returncode} after the line {last!r}"
+            print(f"prove: {crate}: {len(functions)} edits were made at once, and the check cannot be read: {why}. They are tried alone", flush=True)
             return [*functions]
         for edit, of_edit in functions.items():
             if of_edit & found:
