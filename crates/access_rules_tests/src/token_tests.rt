@@ -105,6 +105,51 @@ fn values_are_read_beside_their_neighbours(rt: HostRuntime) {
     assert_eq!(rt; fault_with(&rt, rt.alloc(), "si", &[&[b'a'; 65]]), None);
 }
 
+// Names and values of parameters.
+type Query = &'static [(&'static str, &'static str)];
+
+// Queries with two faults or more, and the fault that is named: the first of them in the order of docs/formats/tokens.md.
+fn faulty() -> [(Query, TokenFault); 5] {
+    [
+        (&[("sr", "a"), ("sr", "a")], TokenFault::Twice),
+        (&[("sv", ""), ("sr", "a")], TokenFault::Missing),
+        (&[("sv", ""), ("sr", "a"), ("sig", "")], TokenFault::Version),
+        (
+            &[("sv", "2012-02-12"), ("sr", "a"), ("sig", ""), ("sp", "a")],
+            TokenFault::Resource,
+        ),
+        (
+            &[
+                ("sv", "2012-02-12"),
+                ("sr", "b"),
+                ("sig", ""),
+                ("sp", "a"),
+                ("st", "a"),
+            ],
+            TokenFault::Letters,
+        ),
+    ]
+}
+
+// The fault of a query of these parameters.
+fn fault_of(rt: &impl Abort, alloc: Global, parameters: Query) -> Option<TokenFault> {
+    let mut query = FieldList::new(alloc);
+    for (name, value) in parameters {
+        query
+            .push(name.as_bytes(), value.as_bytes())
+            .expect(rt, "memory");
+    }
+    read_token(&query).err()
+}
+
+#[test]
+fn the_first_of_two_faults_is_named(rt: HostRuntime) {
+    for (parameters, fault) in faulty() {
+        let found = fault_of(&rt, rt.alloc(), parameters);
+        assert_eq!(rt; found, Some(fault), "{fault:?}");
+    }
+}
+
 #[test]
 fn the_fifteen_texts_of_letters_are_read(rt: HostRuntime) {
     for letters in [
