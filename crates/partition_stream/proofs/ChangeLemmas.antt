@@ -1,9 +1,9 @@
 -- The changes of blocks.
-use Rattle.std.proofs.Common.{◌≡◌, ◌∙◌, ℕ, Bool, true, false, Option, Some, None, Ok, List, [], ◌∷◌, ◌++◌, ap, sym, refl}
+use Rattle.std.proofs.Common.{◌≡◌, ◌∙◌, ℕ, Bool, true, false, Option, Some, None, Ok, List, [], ◌∷◌, ◌++◌, All, map, ap, sym, refl}
 use Rattle.std.specs.List.{cons_option}
 use Rattle.std.specs.Option.{option_and_then, option_to_list}
 use Rattle.std.specs.Result.{result_ok}
-use Rattle.std.proofs.lemmas.List.Elements.{filter_map-append}
+use Rattle.std.proofs.lemmas.List.Elements.{All-head, All-tail, filter_map-append}
 use Rattle.extent_node.specs.Copies.{Block}
 use Rattle.extent_node.specs.Faults.{held}
 use Rattle.stamp_types.specs.Changes.{KeyedAct}
@@ -48,3 +48,13 @@ changes_of-more blocks added = filter_map-append change_in blocks added
 pub changes_of-next : (blocks more : List Block) (block : Block) (c : Recorded) → more ≡ blocks ++ block ∷ [] → change_in block ≡ Some c → changes_of more ≡ changes_of blocks ++ c ∷ []
 changes_of-next blocks more block c m e =
     ap changes_of m ∙ changes_of-more blocks (block ∷ []) ∙ ap (λ l. changes_of blocks ++ l) (changes_of-one block c e)
+
+-- the records of changes are read as these changes
+changes_of-records : (cs : List KeyedAct) → All IsRecorded cs → changes_of (map record_bytes cs) ≡ map (λ c. (c, 0)) cs
+changes_of-records [] fit = refl
+changes_of-records (c ∷ cs) fit =
+    ap (λ o. cons_option o (changes_of (map record_bytes cs))) (change_in-record c (All-head IsRecorded c cs fit))
+    ∙ ap (λ l. (c, 0) ∷ l) (changes_of-records cs (All-tail IsRecorded c cs fit))
+
+pub changes_of-written : (blocks : List Block) (cs : List KeyedAct) → All IsRecorded cs → blocks ≡ map record_bytes cs → changes_of blocks ≡ map (λ c. (c, 0)) cs
+changes_of-written blocks cs fit bytes = ap changes_of bytes ∙ changes_of-records cs fit

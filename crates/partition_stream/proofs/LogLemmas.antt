@@ -5,13 +5,13 @@ use Rattle.extent_node.specs.Copies.{Block}
 use Rattle.extent_node.specs.Faults.{held}
 use Rattle.stream_manager.specs.Outcomes.{IsSettled, IsSealed}
 use Rattle.stream_manager.specs.Places.{blocks_of, is_kept}
-use Rattle.stream_manager.specs.Streams.{laid}
+use Rattle.stream_manager.specs.Streams.{Streamed, laid}
 use Rattle.stream_manager.specs.declared.faults.Settled.{Settled}
 use Rattle.stream_manager.specs.declared.faults.Settled.TheVariants as settled
 use Rattle.stream_manager.specs.declared.faults.SettleFault.{SettleFault}
 use Rattle.partition_stream.specs.Changes.{Recorded, change_in, changes_of}
 use Rattle.partition_stream.specs.Logging.{HasMore, IsRecordAppended}
-use Rattle.partition_stream.specs.Outcomes.{kept_doubt, Logs, IsLogged, IsLogSettled, IsLogSealed}
+use Rattle.partition_stream.specs.Outcomes.{kept_doubt, Logs, IsKeptAt, IsLogged, IsLogSettled, IsLogSealed}
 use Rattle.partition_stream.specs.Storing.{IsRecord}
 use Rattle.partition_stream.specs.Streams.{ThreeStreams, logged}
 use Rattle.partition_stream.specs.declared.faults.LogFault.{LogFault}
@@ -86,3 +86,10 @@ is_log_settled (Ok (settled.Kept p)) s t d h =
 is_log_settled (Ok settled.Dropped) s t d h =
     (some_doubt s.log.last.tried d h.0, (ap changes_of (h.1.order ∙ append-nil (blocks_of (laid s.log))), no_doubt t h.2))
 is_log_settled (Err e) s t d h = (some_doubt s.log.last.tried d h.0, record { blocks = h.1; last = h.2 })
+
+-- the place of a doubt that was kept
+pub is_kept_at : (r : Result Settled SettleFault) (s t : Streamed) → IsSettled r (laid s) s.last (laid t) t.last → IsKeptAt r s t
+is_kept_at (Ok settled.Clean) s t h = tt
+is_kept_at (Ok (settled.Kept p)) s t h = (h.0.0, (h.0.1, h.0.3))
+is_kept_at (Ok settled.Dropped) s t h = tt
+is_kept_at (Err e) s t h = tt

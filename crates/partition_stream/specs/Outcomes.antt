@@ -1,8 +1,9 @@
 -- What calls do to the streams of a partition.
-use Rattle.std.specs.Prelude.{◌≡◌, ◌⊎◌, Option, Some, None, IsSome, Result, Ok, Err, List, [], ◌∷◌, ◌++◌}
+use Rattle.std.specs.Prelude.{◌≡◌, ◌⊎◌, ⊤, Option, Some, None, IsSome, Result, Ok, Err, List, [], ◌∷◌, ◌++◌}
+use Rattle.extent_node.specs.Copies.{Block}
 use Rattle.extent_node.specs.Faults.{held}
-use Rattle.stream_manager.specs.Places.{is_kept}
-use Rattle.stream_manager.specs.Streams.{laid}
+use Rattle.stream_manager.specs.Places.{IsLastAt, is_kept}
+use Rattle.stream_manager.specs.Streams.{Streamed, laid}
 use Rattle.stream_manager.specs.declared.faults.Settled.{Settled}
 use Rattle.stream_manager.specs.declared.faults.Settled.TheVariants as settled
 use Rattle.stream_manager.specs.declared.faults.SettleFault.{SettleFault}
@@ -38,6 +39,13 @@ IsLogSettled (Ok settled.Clean) s t = ((logged s).doubt ≡ None) × IsSameStrea
 IsLogSettled (Ok (settled.Kept p)) s t = (c : Recorded) × (((logged s).doubt ≡ Some c) × (((logged t).log ≡ (logged s).log ++ c ∷ []) × ((logged t).doubt ≡ None)))
 IsLogSettled (Ok settled.Dropped) s t = IsSome (logged s).doubt × (((logged t).log ≡ (logged s).log) × ((logged t).doubt ≡ None))
 IsLogSettled (Err e) s t = IsSome (logged s).doubt × IsSameStream s.log t.log
+
+-- if a settle keeps a doubt, its record is at the place that is answered, after all other records
+abbrev pub IsKeptAt : Result Settled SettleFault → Streamed → Streamed → Type 0
+IsKeptAt (Ok settled.Clean) s t = ⊤
+IsKeptAt (Ok (settled.Kept p)) s t = (block : Block) × ((s.last.tried ≡ Some block) × IsLastAt (laid t) p block)
+IsKeptAt (Ok settled.Dropped) s t = ⊤
+IsKeptAt (Err e) s t = ⊤
 
 -- what a seal does to the log: a doubt is kept or dropped, or it stays if the seal failed
 abbrev pub IsLogSealed : Result (Unit {0}) SettleFault → ThreeStreams → ThreeStreams → Type 0

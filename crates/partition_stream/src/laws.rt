@@ -1,5 +1,5 @@
 //! Laws of what a log means. Each law is the contract of a function that does nothing.
-ghost use Rattle.std.specs.Prelude.{◌≡◌, ◌≢◌, ℕ, Bool, IsSome, IsTrue, List, Option, None, Result, Err, [], ◌∷◌, ◌++◌};
+ghost use Rattle.std.specs.Prelude.{◌≡◌, ◌≢◌, ℕ, All, Bool, IsSome, IsTrue, List, Option, None, Some, Result, Err, [], ◌∷◌, ◌++◌, map};
 ghost use Rattle.extent_node.specs.Copies.{Block};
 ghost use Rattle.extent_node.specs.Faults.{held};
 ghost use Rattle.stamp_types.specs.Changes.{KeyedAct, change_with, content_of};
@@ -8,7 +8,9 @@ ghost use Rattle.stamp_types.specs.Pieces.{cut, is_held};
 ghost use Rattle.stamp_types.specs.World.{Part, changed, no_part, part_value, same_pieces};
 ghost use Rattle.stamp_types.specs.declared.piece.Piece.{Piece};
 ghost use Rattle.stamp_values.specs.declared.key.Key.{Key};
-ghost use Rattle.stream_manager.specs.Places.{KeepsPlaces};
+ghost use Rattle.log_record.specs.Fits.{IsRecorded};
+ghost use Rattle.log_record.specs.Records.{record_bytes};
+ghost use Rattle.stream_manager.specs.Places.{KeepsPlaces, blocks_of};
 ghost use Rattle.stream_manager.specs.Streams.{laid};
 ghost use Rattle.stream_manager.specs.declared.faults.SettleFault.{SettleFault};
 ghost use Rattle.partition_stream.specs.Changes.{Recorded};
@@ -31,6 +33,17 @@ pub fn stored_content_stays()
     ensures brought { (es : List (List Block)) (c : KeyedAct) (ps : List Piece) → IsSome (content_of c.act) → AreStored es ps
         → IsStoredChange es (change_with c ps) }
     ensures each { (s : ThreeStreams) (key : Key) → AreKept s → EachContent (AreStored (laid s.blobs)) (held_of (logged s) key) }
+{}
+
+/// The changes of the rows and of the log are those whose records their blocks are, in the order of the blocks. The change that is in
+/// doubt is the one whose record is in doubt.
+pub fn each_record_is_its_change()
+    ensures rows { (s : ThreeStreams) (cs : List KeyedAct) → All IsRecorded cs → blocks_of (laid s.rows) ≡ map record_bytes cs
+        → (logged s).rows ≡ map (λ c. (c, 0)) cs }
+    ensures log { (s : ThreeStreams) (cs : List KeyedAct) → All IsRecorded cs → blocks_of (laid s.log) ≡ map record_bytes cs
+        → (logged s).log ≡ map (λ c. (c, 0)) cs }
+    ensures doubt { (s : ThreeStreams) (c : KeyedAct) → IsRecorded c → s.log.last.tried ≡ Some (record_bytes c)
+        → (logged s).doubt ≡ Some (c, 0) }
 {}
 
 /// A change more in the log is one more change of its container, in pieces and in bytes. A change that is logged without an older

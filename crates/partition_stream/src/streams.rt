@@ -46,7 +46,7 @@ impl Streams {
     ghost use Rattle.stream_manager.specs.Streams.{laid};
     ghost use Rattle.partition_stream.specs.Contents.{ArePlaced, IsStored, bytes_at};
     ghost use Rattle.partition_stream.specs.Counting.{CallsLog, CallsPut, CallsSeals, FailsLog, FailsPut, FailsSeals, sealed_extents};
-    ghost use Rattle.partition_stream.specs.Outcomes.{IsLogged, IsLogSettled, IsLogSealed};
+    ghost use Rattle.partition_stream.specs.Outcomes.{IsKeptAt, IsLogged, IsLogSettled, IsLogSealed};
     ghost use Rattle.partition_stream.specs.Positions.{all_changes, changes_before};
     ghost use Rattle.partition_stream.specs.Storing.{IsStoredChange};
     ghost use Rattle.partition_stream.specs.Streams.{AreSealed, HaveSameBlocks, HaveSameLimits, IsEmptyLast, logged};
@@ -110,9 +110,11 @@ impl Streams {
         append_record(&mut self.log, &block, wire)
     }
 
-    /// Settles a doubt of the log, if there is one: the change that is in doubt is kept or dropped.
+    /// Settles a doubt of the log, if there is one: the change that is in doubt is kept or dropped. A change that is kept has its record
+    /// at the place that is answered.
     pub fn settle<W: Wire>(&mut self, wire: &mut W) -> Result<Settled, SettleFault>
         ensures settled { IsLogSettled result self.old self.new }
+        ensures at { IsKeptAt result self.old.log self.new.log }
         ensures blobs { self.new.blobs ≡ self.old.blobs }
         ensures rows { self.new.rows ≡ self.old.rows }
         ensures limit { self.new.log.limit ≡ self.old.log.limit }
