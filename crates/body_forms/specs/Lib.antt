@@ -6,6 +6,7 @@ pub mod Escapes
 pub mod FrontReading
 pub mod Ids
 pub mod KeptPolicies
+pub mod ListEntries
 pub mod Markup
 pub mod Outcomes
 pub mod Policies
@@ -15,4 +16,5 @@ pub mod Reading
 pub mod Texts
 pub mod Tokens
 pub mod WrittenLists
+pub mod WrittenPages
 pub mod WrittenPolicies

@@ -11,12 +11,15 @@ mod escape;
 mod front;
 mod ids;
 mod laws;
+mod list_entries;
 mod policies;
 mod sent_policies;
 mod tokens;
 mod trimming;
 mod unescape;
+mod written_elements;
 mod written_list;
+mod written_pages;
 mod written_policies;
 
 pub use block_list::read_block_list;
@@ -27,7 +30,9 @@ pub use laws::{
     policies_are_read_in_one_way, the_reading_is_the_grammar,
     the_reading_of_policies_is_the_grammar, what_is_escaped_is_read_back,
 };
+pub use list_entries::{BlobEntry, ContainerEntry, ListedBlob};
 pub use policies::read_policies;
 pub use stamp_types::write_error;
 pub use written_list::{ListedBlock, write_block_list};
+pub use written_pages::{write_blob_list, write_container_list};
 pub use written_policies::write_policies;

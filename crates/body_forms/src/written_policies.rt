@@ -5,47 +5,15 @@ ghost use Rattle.stamp_values.specs.Texts.{is_utf8};
 ghost use Rattle.body_forms.specs.Elements.{HasNoWhiteEnds};
 ghost use Rattle.body_forms.specs.KeptPolicies.{IsMoment, HasKeptFields, IsPolicy};
 ghost use Rattle.body_forms.specs.PolicyValues.{policies_reading};
-ghost use Rattle.body_forms.specs.WrittenLists as lists;
 ghost use Rattle.body_forms.specs.WrittenPolicies as written;
 
-use crate::escape::append_escaped;
+use crate::written_elements::{append_closing, append_element, append_opening, append_prolog};
 use moment_text::write_iso;
 use stamp_values::{Letters, Moment, Policies, Policy, Text};
 use std::alloc::{AllocError, Global};
 
 /// How many bytes most bodies have at most.
 const BODY_ROOM: usize = 1024;
-
-#[tactic(auto, unfolding(crate::specs::WrittenLists::opening_text))]
-fn append_opening(out: &mut Vec<u8>, name: &str) -> Result<(), AllocError>
-    ensures { OnOk result (out.new.items ≡ out.old.items ++ lists.opening_text name.now) }
-{
-    out.extend_from_slice(b"<")?;
-    out.extend_from_slice(name.as_bytes())?;
-    out.extend_from_slice(b">")?;
-    Ok(())
-}
-
-#[tactic(auto, unfolding(crate::specs::WrittenLists::closing_text))]
-fn append_closing(out: &mut Vec<u8>, name: &str) -> Result<(), AllocError>
-    ensures { OnOk result (out.new.items ≡ out.old.items ++ lists.closing_text name.now) }
-{
-    out.extend_from_slice(b"</")?;
-    out.extend_from_slice(name.as_bytes())?;
-    out.extend_from_slice(b">")?;
-    Ok(())
-}
-
-// Puts an element of this name with this text at the end.
-#[tactic(auto, unfolding(crate::specs::WrittenPolicies::element_text))]
-fn append_element(out: &mut Vec<u8>, name: &str, text: &[u8]) -> Result<(), AllocError>
-    ensures { OnOk result (out.new.items ≡ out.old.items ++ written.element_text name.now text.now) }
-{
-    append_opening(out, name)?;
-    append_escaped(out, text)?;
-    append_closing(out, name)?;
-    Ok(())
-}
 
 // Nothing is written for a time that is absent.
 fn append_moment(
@@ -141,13 +109,6 @@ fn append_policies(alloc: Global, out: &mut Vec<u8>, policies: &[Policy]) -> Res
         append_policy(alloc, out, policy)?;
     }
     Ok(())
-}
-
-#[tactic(auto, unfolding(crate::specs::WrittenLists::prolog_text))]
-fn append_prolog(out: &mut Vec<u8>) -> Result<(), AllocError>
-    ensures { OnOk result (out.new.items ≡ out.old.items ++ lists.prolog_text) }
-{
-    out.extend_from_slice(b"<?xml version=\"1.0\" encoding=\"utf-8\"?>")
 }
 
 // The body with these policies.

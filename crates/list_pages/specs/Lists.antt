@@ -10,6 +10,7 @@ use Rattle.stamp_types.specs.declared.standing.Standing.{Standing}
 use Rattle.stamp_types.specs.declared.piece.Piece.{Piece}
 use Rattle.stamp_types.specs.Pieces.{pieces_len}
 use Rattle.stamp_types.specs.World.{Blob, Part, World, blob_value}
+pub use Rattle.body_forms.specs.ListEntries.{ShownBlob, ShownContainer, shown_committed, shown_standing}
 use Rattle.list_pages.specs.Containers.{of_account, page_of_rows}
 use Rattle.list_pages.specs.Pages.{Entry, PageOf, from_marker, listed, page, with_value}
 
@@ -17,17 +18,9 @@ use Rattle.list_pages.specs.Pages.{Entry, PageOf, from_marker, listed, page, wit
 abbrev pub given : Option (List ℕ) → List ℕ
 given text = unwrap_or text []
 
--- what a list shows of a blob: ETag, moment of the last change, content type, metadata, and how many bytes its content has
-pub record ShownBlob : Type 0 where
-  pub etag : ℕ
-  pub made : ℕ
-  pub content_type : List ℕ
-  pub metadata : List Meta
-  pub len : ℕ
-
 -- what a list shows of a committed part whose content is its size
 abbrev pub shown_part : Committed ℕ → ShownBlob
-shown_part c = record { etag = c.etag; made = c.made; content_type = c.props.content_type; metadata = c.metadata; len = sum_by (λ block. block.content) c.blocks }
+shown_part c = shown_committed c (sum_by (λ block. block.content) c.blocks)
 
 -- what a list shows of a blob: nothing, if the blob has no committed part
 abbrev pub shown_blob : Blob ℕ → Option ShownBlob
@@ -36,16 +29,6 @@ shown_blob b = option_map shown_part b.committed
 -- what a list shows of a blob whose content is in pieces: what it shows of the blob whose content is the size of the pieces
 abbrev pub shown_row : Blob (List Piece) → Option ShownBlob
 shown_row b = shown_blob (blob_value pieces_len b)
-
--- what a list shows of a container: ETag, moment of the last change, and metadata
-pub record ShownContainer : Type 0 where
-  pub etag : ℕ
-  pub made : ℕ
-  pub metadata : List Meta
-
--- what a list shows of a container that exists
-abbrev pub shown_standing : Standing → ShownContainer
-shown_standing s = record { etag = s.etag; made = s.made; metadata = s.metadata }
 
 -- what a list shows of a container: nothing, if the container does not exist
 abbrev pub shown_container : {C : Type 0} → Part C → Option ShownContainer

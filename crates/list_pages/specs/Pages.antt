@@ -4,11 +4,8 @@ use Rattle.std.specs.List.{filter, filter_map, slice_get}
 use Rattle.std.specs.Option.{option_map}
 use Rattle.std.specs.Cmp.Lexicographic.{pointwise}
 use Rattle.stamp_values.specs.Trees.{is_name_from}
+pub use Rattle.body_forms.specs.ListEntries.{Entry}
 use Rattle.list_pages.specs.Names.{begins_with, group_of}
-
--- an entry of a list: its text, and what is shown of the name. Nothing is shown of a group
-abbrev pub Entry : Type 0 → Type 0
-Entry X = List ℕ × Option X
 
 -- the entry of a name: its group, if it has a group, and otherwise the name itself
 abbrev pub entry_by : {X : Type 0} → Option (List ℕ) → List ℕ × X → Entry X

@@ -8,8 +8,9 @@ ghost use Rattle.list_pages.specs.Seeks.{can_be_raised, later_of, raised};
 ghost use Rattle.row_trees.specs.FoundParts.{sizes_found};
 ghost use Rattle.stamp_values.specs.Trees.{is_name_from};
 
-use crate::entries::{BlobEntry, BlobPage, ListedBlob};
+use crate::entries::{BlobPage, listed_blob};
 use crate::names::{begins_with, given, group_of, is_from, later_of, raised};
+use body_forms::BlobEntry;
 use row_trees::{BlobWalk, Found};
 use stamp_types::Page;
 use std::alloc::{AllocError, Global};
@@ -54,7 +55,7 @@ fn page_under<'a>(
             }
             continue;
         }
-        let Some(shown) = ListedBlob::of(&blob) else {
+        let Some(shown) = listed_blob(&blob) else {
             continue;
         };
         match group_of(prefix, delimiter, name) {

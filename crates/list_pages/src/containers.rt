@@ -9,8 +9,9 @@ ghost use Rattle.list_pages.specs.Lists.{page_of_containers, shown_container};
 ghost use Rattle.list_pages.specs.Seeks.{later_of};
 ghost use Rattle.stamp_values.specs.Trees.{is_name_from};
 
-use crate::entries::{ContainerEntry, ContainerPage};
+use crate::entries::ContainerPage;
 use crate::names::{begins_with, given, is_from};
+use body_forms::ContainerEntry;
 use row_trees::Rows;
 use stamp_types::{Key, Page, Text};
 use std::alloc::{AllocError, Global};

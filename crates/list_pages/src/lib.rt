@@ -9,8 +9,9 @@ mod names;
 mod worked_pages;
 
 pub use blobs::blob_page;
+pub use body_forms::{BlobEntry, ContainerEntry, ListedBlob};
 pub use containers::container_page;
-pub use entries::{BlobEntry, BlobPage, ContainerEntry, ContainerPage, ListedBlob};
+pub use entries::{BlobPage, ContainerPage};
 pub use laws::{
     a_page_is_in_order_and_in_bounds, a_page_of_containers_depends_on_its_range,
     each_blob_is_under_one_entry, following_the_markers_gives_each_entry_once,

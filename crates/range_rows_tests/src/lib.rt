@@ -14,3 +14,5 @@ mod rows_tests;
 mod sample_parts;
 #[cfg(test)]
 mod sample_requests;
+#[cfg(test)]
+mod written_page_tests;

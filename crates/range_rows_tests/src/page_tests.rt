@@ -9,7 +9,7 @@ use stamp_types::{
 use std::alloc::Global;
 use std::process::Abort;
 
-const ACCOUNT: &str = "devstoreaccount1";
+pub(crate) const ACCOUNT: &str = "devstoreaccount1";
 
 fn given(rt: &impl Abort, alloc: Global, word: &str) -> Option<Text> {
     if word.is_empty() {
@@ -20,9 +20,9 @@ fn given(rt: &impl Abort, alloc: Global, word: &str) -> Option<Text> {
 }
 
 // Prefix, delimiter, marker and the largest number of entries.
-type Asked = (&'static str, &'static str, &'static str, u32);
+pub(crate) type Asked = (&'static str, &'static str, &'static str, u32);
 
-fn page(rt: &impl Abort, alloc: Global, asked: Asked) -> Page {
+pub(crate) fn page(rt: &impl Abort, alloc: Global, asked: Asked) -> Page {
     Page {
         prefix: given(rt, alloc, asked.0),
         delimiter: given(rt, alloc, asked.1),
@@ -37,7 +37,13 @@ fn change(rt: &impl Abort, alloc: Global, rows: &mut Rows, key: Key, act: Act) {
     make(rt, alloc, rows, change);
 }
 
-fn create(rt: &impl Abort, alloc: Global, rows: &mut Rows, account: &str, container: &str) {
+pub(crate) fn create(
+    rt: &impl Abort,
+    alloc: Global,
+    rows: &mut Rows,
+    account: &str,
+    container: &str,
+) {
     let act = Act::CreateContainer(CreateContainer {
         moment: moment_after(rt, 1),
         level: Level::Closed,
@@ -68,7 +74,7 @@ fn put(rt: &impl Abort, alloc: Global, rows: &mut Rows, name: &str) {
     change(rt, alloc, rows, key(rt, alloc, ACCOUNT, "pics"), act);
 }
 
-fn rows_of(rt: &impl Abort, alloc: Global, names: &[&str]) -> Rows {
+pub(crate) fn rows_of(rt: &impl Abort, alloc: Global, names: &[&str]) -> Rows {
     let mut rows = Rows::new(alloc);
     create(rt, alloc, &mut rows, ACCOUNT, "pics");
     for name in names {
