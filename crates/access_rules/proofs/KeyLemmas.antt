@@ -18,7 +18,7 @@ pub found_keys : (keys : Option Keys) (account : List ℕ) (pair : Keys) → key
 found_keys keys account pair is own =
     ap (λ k. keys_for k account) is ∙ ap (λ b. cond b (Some pair) None) ((bytes_eq-Decides pair.account account).1 own)
 
-one_of : (a b : Bool) → (a || b) ≡ true → (a ≡ true) ⊎ (b ≡ true)
+pub one_of : (a b : Bool) → (a || b) ≡ true → (a ≡ true) ⊎ (b ≡ true)
 one_of true b h = inl refl
 one_of false b h = inr h
 

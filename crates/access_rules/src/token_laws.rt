@@ -1,21 +1,32 @@
 //! Laws of shared access signatures. Each law is the contract of a function that does nothing.
-ghost use Rattle.std.specs.Prelude.{◌≡◌, ◌≢◌, ◌≤◌, ℕ, IsTrue, Option, None};
+ghost use Rattle.std.specs.Prelude.{◌≡◌, ◌≢◌, ◌≤◌, ℕ, IsTrue, Option, None, Some};
+ghost use Rattle.stamp_values.specs.Letters.{Permissions};
 ghost use Rattle.stamp_values.specs.declared.acl.Acl.{Acl};
+ghost use Rattle.stamp_values.specs.declared.block.BlockKinds.{BlockKinds};
+ghost use Rattle.stamp_values.specs.declared.op.Op.{Op};
 ghost use Rattle.stamp_values.specs.declared.signing.Credential.TheVariants.{Token};
 ghost use Rattle.stamp_types.specs.Requests.{IsAsk};
 ghost use Rattle.stamp_types.specs.declared.ask.Ask.{Ask};
+ghost use Rattle.sas_token.specs.declared.token.Resource.{Resource};
 ghost use Rattle.access_rules.specs.declared.keys.Keys.{Keys};
+ghost use Rattle.access_rules.specs.declared.needs.Letter.{Letter};
+ghost use Rattle.access_rules.specs.Needs.{need_of};
 ghost use Rattle.access_rules.specs.Openings.{is_about_containers, names_operation};
 ghost use Rattle.access_rules.specs.Routes.{ByToken};
 ghost use Rattle.access_rules.specs.Rules.{first_rule};
+ghost use Rattle.access_rules.specs.TokenParts.{allows};
 
 /// Each letter opens what it names. If a token admits a request, a permission that the token and its policy give names the
 /// operation: r the reads of a blob and of its blocks; w Put Blob, Set Blob Metadata, Put Block and Put Block List; d Delete Blob;
-/// l List Blobs, by a token for the container.
+/// l List Blobs, by a token for the container. And if a permission names an operation, the letter that the operation needs is among
+/// the permissions, whichever kinds of blocks are asked for.
 pub fn each_letter_opens_what_it_names()
-    ensures { (keys : Option Keys) (acl : Option Acl) (q : Ask) (t : ℕ)
+    ensures no_more { (keys : Option Keys) (acl : Option Acl) (q : Ask) (t : ℕ)
         → IsAsk q → (by : ByToken keys acl q t)
         → IsTrue (names_operation by.fields.letters by.token.resource q.op) }
+    ensures no_less { (p : Permissions) (r : Resource) (o : Op) (k : Option BlockKinds)
+        → IsTrue (names_operation p r o)
+        → (letter : Letter) × ((need_of o k).letter ≡ Some letter) × IsTrue (allows letter p) }
 {}
 
 /// No token reaches a container itself: whatever its permissions are, a rule refuses to make, show, alter or delete a container,
