@@ -3,10 +3,8 @@ use Rattle.std.specs.Prelude.{ℕ, List, [], Option, unwrap_or, sum_by}
 use Rattle.std.specs.Option.{option_map}
 use Rattle.std.specs.FinMap.{entries}
 use Rattle.stamp_values.specs.declared.key.Key.{Key}
-use Rattle.stamp_values.specs.declared.meta.Meta.{Meta}
 use Rattle.stamp_types.specs.declared.args.Page.{Page}
 use Rattle.stamp_types.specs.declared.committed.Committed.{Committed}
-use Rattle.stamp_types.specs.declared.standing.Standing.{Standing}
 use Rattle.stamp_types.specs.declared.piece.Piece.{Piece}
 use Rattle.stamp_types.specs.Pieces.{pieces_len}
 use Rattle.stamp_types.specs.World.{Blob, Part, World, blob_value}
