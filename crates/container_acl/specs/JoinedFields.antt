@@ -10,9 +10,13 @@ use Rattle.container_acl.specs.declared.fields.Fields.{Fields}
 use Rattle.container_acl.specs.declared.fields.FieldFault.{FieldFault}
 use Rattle.container_acl.specs.declared.fields.FieldFault.TheVariants.{Absent, Both, Lacks}
 
+-- the id of the policy has exactly these bytes
+abbrev pub has_same_id : List ℕ → Policy → Bool
+has_same_id id p = bytes_eq p.id id
+
 -- the policy whose id has exactly these bytes
 abbrev pub policy_with : Acl → List ℕ → Option Policy
-policy_with acl id = find (λ p. bytes_eq p.id id) acl.policies
+policy_with acl id = find (has_same_id id) acl.policies
 
 -- the policy of a token: the one that its id names. There is none if the token has no id, or if the container does not have the policy
 abbrev pub policy_of : Acl → Sent → Option Policy
