@@ -69,8 +69,8 @@ fn is_false(
 /// themselves.
 ///
 /// The claim or the token has to be in its form, `keys` have to be the keys of the path's account, and a token has to be for what
-/// the request names; else the answer is no, and a rule before K5 or S4 refuses the request. Keys and request alone decide: the answer is the same for any container and at any moment, so it can be
-/// asked for before a lock is taken.
+/// the request names; else the answer is no, and a rule before K5 or S4 refuses the request. Keys and request alone decide: the
+/// answer is the same for any container and at any moment, so it can be asked for before a lock is taken.
 ///
 /// `AllocError` if memory runs out for the string to sign or for a signature.
 pub fn has_false_signature(
