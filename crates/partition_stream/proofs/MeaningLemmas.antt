@@ -73,6 +73,10 @@ held_of-other s t c key more other = held_of-one s t key c false (is_on-other ke
 held_of-same : (s t : Logged) (key : Key) → t.rows ≡ s.rows → t.log ≡ s.log → held_of t key ≡ held_of s key
 held_of-same s t key rows log = ap (λ l. after_acts same_pieces (acts_on key (l ++ t.log)) no_part) rows ∙ ap (λ l. after_acts same_pieces (acts_on key (s.rows ++ l)) no_part) log
 
+-- no changes
+pub held_of-empty : (s : Logged) (key : Key) → s.rows ≡ [] → s.log ≡ [] → held_of s key ≡ no_part
+held_of-empty s key rows log = ap (λ l. after_acts same_pieces (acts_on key (l ++ s.log)) no_part) rows ∙ ap (λ l. after_acts same_pieces (acts_on key l) no_part) log
+
 -- ---- in bytes
 
 -- what the data reads of the content that was there is as before
@@ -98,6 +102,9 @@ read_last f (a ∷ acts) p = read_last f acts (changed same_pieces a p) ∙ ap (
 -- a container that never was has nothing to read
 no_part_read : (f : List Piece → List ℕ) → part_value f no_part ≡ no_part
 no_part_read f = λ i. record { count = 0; standing = None; blobs = map_values-empty names_total names_exact (blob_value f) i }
+
+pub meaning-empty : (s : Logged) (key : Key) → s.rows ≡ [] → s.log ≡ [] → meaning s key ≡ no_part
+meaning-empty s key rows log = ap (part_value (content_at s.blobs)) (held_of-empty s key rows log) ∙ no_part_read (content_at s.blobs)
 
 pub meaning-read : (s : Logged) (key : Key) → meaning s key ≡ after_acts (content_at s.blobs) (acts_on key (s.rows ++ s.log)) no_part
 meaning-read s key =

@@ -1,5 +1,5 @@
 -- How many calls and faults the wire counts over calls of the streams.
-use Rattle.std.specs.Prelude.{◌≡◌, ◌≤◌, ℕ, ◌+◌, ◌*◌, List, length, Result, Ok, Err}
+use Rattle.std.specs.Prelude.{◌≡◌, ◌≤◌, ℕ, ◌+◌, ◌*◌, length, Result, Ok, Err}
 use Rattle.extent_node.specs.Faults.{Counts}
 use Rattle.extent_seal.specs.Counting.{all_faults}
 use Rattle.stream_manager.specs.Counting.{CallsAtMost, FailsEachAtLeast, Grows}

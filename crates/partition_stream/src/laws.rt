@@ -46,6 +46,12 @@ pub fn each_record_is_its_change()
         → (logged s).doubt ≡ Some (c, 0) }
 {}
 
+/// Rows and a log without a change mean a container that never was, in pieces and in bytes, whatever is in doubt.
+pub fn an_empty_log_means_no_container()
+    ensures pieces { (s : Logged) (key : Key) → s.rows ≡ [] → s.log ≡ [] → held_of s key ≡ no_part }
+    ensures bytes { (s : Logged) (key : Key) → s.rows ≡ [] → s.log ≡ [] → meaning s key ≡ no_part }
+{}
+
 /// A change more in the log is one more change of its container, in pieces and in bytes. A change that is logged without an older
 /// doubt is a change more.
 pub fn an_acknowledged_change_is_one_more()

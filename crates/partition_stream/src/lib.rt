@@ -13,8 +13,8 @@ pub use faults::{LogFault, PutFault};
 pub use laws::{
     a_body_that_is_cut_may_be_put, a_change_that_fails_is_not_counted,
     a_doubt_is_one_change_or_none, a_shared_log_means_the_same, a_walk_meets_all_changes_in_order,
-    an_acknowledged_change_is_one_more, another_container_is_left,
-    reading_first_or_last_is_the_same, stored_content_stays,
+    an_acknowledged_change_is_one_more, an_empty_log_means_no_container, another_container_is_left,
+    each_record_is_its_change, reading_first_or_last_is_the_same, stored_content_stays,
 };
 pub use position::Position;
 pub use streams::Streams;
