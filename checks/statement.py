@@ -83,7 +83,7 @@ PARTS = {
     "The replay": ("stamp_main",),
     "From bytes to requests": ("http_front", "request_form", "name_rules"),
     "Who may": ("access_rules", "shared_key", "hmac_sign", "base64_text", "sas_token", "container_acl"),
-    "The object, what changes it, and what is answered": ("stamp_model", "range_rows", "row_trees", "block_blobs", "body_forms", "stamp_types", "stamp_values", "moment_text"),
+    "The object, what changes it, and what is answered": ("stamp_model", "list_pages", "range_rows", "row_trees", "block_blobs", "body_forms", "stamp_types", "stamp_values", "moment_text"),
     "From replies to bytes": ("reply_form",),
 }
 

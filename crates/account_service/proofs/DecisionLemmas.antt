@@ -18,7 +18,7 @@ use Rattle.stamp_types.specs.declared.standing.Standing.{Standing}
 use Rattle.stamp_types.specs.Changes.{KeyedAct}
 use Rattle.stamp_types.specs.Pieces.{piece_bytes}
 use Rattle.stamp_types.specs.Requests.{Asked}
-use Rattle.stamp_types.specs.World.{Blob, Part}
+use Rattle.stamp_types.specs.World.{Blob, Part, World}
 use Rattle.access_rules.specs.declared.judgement.Verdict.TheVariants.{Allow, Deny}
 use Rattle.access_rules.specs.declared.judgement.Way.{Way}
 use Rattle.access_rules.specs.declared.keys.Keys.{Keys}
@@ -30,14 +30,14 @@ use Rattle.range_rows.specs.Judgements.{IsAllowed}
 use Rattle.range_rows.specs.NamedBlobs.{target_blob}
 use Rattle.range_rows.specs.declared.judged.Allowed.{Allowed}
 use Rattle.range_rows.specs.declared.target.Target.{Target}
-use Rattle.range_rows.specs.ObjectReplies.{blob_read, frame, frame_by, is_served, ranged_frame, span_bytes, spans, spans_by, spans_len, standing_read}
+use Rattle.range_rows.specs.ObjectReplies.{blob_read, frame, frame_by, ranged_frame, span_bytes, spans, spans_by, spans_len, standing_read}
 use Rattle.range_rows.specs.ObjectRules.{object_refusal}
 use Rattle.range_rows.specs.RequestChanges.{change_of}
 use Rattle.range_rows.proofs.FrameLemmas.{act_by-read}
-use Rattle.stamp_model.specs.Refusals.{access_refusal, unserved_refusal}
+use Rattle.stamp_model.specs.Refusals.{access_refusal}
 use Rattle.stamp_model.proofs.EffectLemmas.{on_key}
 use Rattle.stamp_model.proofs.ReplyLemmas.{unrefused}
-use Rattle.account_service.specs.Decisions.{decided_by, found_refusal, found_reply, object_or_unserved}
+use Rattle.account_service.specs.Decisions.{decided_by, found_refusal, row_reply}
 use Rattle.account_service.specs.HeldRows.{bytes_held}
 use Rattle.account_service.specs.declared.decision.Decision.{Decision}
 use Rattle.account_service.specs.declared.decision.Decision.TheVariants as decision
@@ -53,24 +53,20 @@ allowed_by None way w e = refl
 allowed_by (Some x) way w e = cc
 
 module _ (keys : Keys) (p : Part (List Piece)) (q : Asked) (t : ℕ) where
-  by_first : (o : Option Rule) → first_rule (Some keys) (acl_of p) q.ask t ≡ o → option_or (option_map access_refusal o) (object_or_unserved p q) ≡ found_refusal keys p q t
-  by_first o e = sym (ap (λ (o : Option Rule). option_or (option_map access_refusal o) (object_or_unserved p q)) e)
+  by_first : (o : Option Rule) → first_rule (Some keys) (acl_of p) q.ask t ≡ o → option_or (option_map access_refusal o) (object_refusal (sizes_found p) q) ≡ found_refusal keys p q t
+  by_first o e = sym (ap (λ (o : Option Rule). option_or (option_map access_refusal o) (object_refusal (sizes_found p) q)) e)
 
   -- a verdict that denies gives the refusal
   pub refusal_denied : (r : Rule) → Deny r ≡ verdict_of (Some keys) (acl_of p) q.ask t → Some (access_refusal r) ≡ found_refusal keys p q t
   refusal_denied r e = by_first (Some r) (denied_by _ (way_of q.ask.credential) r (sym e))
 
-  -- a verdict that allows leaves the refusal to the object and to whether the operation is served
-  pub refusal_allowed : (way : Way) → Allow way ≡ verdict_of (Some keys) (acl_of p) q.ask t → object_or_unserved p q ≡ found_refusal keys p q t
+  -- a verdict that allows leaves the refusal to the object
+  pub refusal_allowed : (way : Way) → Allow way ≡ verdict_of (Some keys) (acl_of p) q.ask t → object_refusal (sizes_found p) q ≡ found_refusal keys p q t
   refusal_allowed way e = by_first None (allowed_by _ (way_of q.ask.credential) way (sym e))
 
   -- if nothing refuses a request, the object does not refuse it
   pub unopposed : None ≡ found_refusal keys p q t → object_refusal (sizes_found p) q ≡ None
   unopposed free = (unrefused (Some keys) (sizes_found p) q t (sym free)).unopposed
-
-  -- if nothing refuses a request, its operation is served
-  pub served : None ≡ found_refusal keys p q t → is_served q.ask.op ≡ true
-  served free = (unrefused (Some keys) (sizes_found p) q t (sym free)).served
 
 -- ---- the decision
 
@@ -93,27 +89,27 @@ allowed_with None reply given change made e = (refl, ap reply_told e, ap change_
     change_told (decision.Refused r) = None
 allowed_with (Some x) reply given change made e = cc
 
-module _ (q : Asked) (t : ℕ) where
+module _ (w : World (List Piece)) (q : Asked) (t : ℕ) where
   -- what is decided on a permitted request, from its container
   abbrev permitted : Part (List Piece) → Decision
-  permitted p = decided_by (object_or_unserved p q) (found_reply p q t) (change_of (sizes_found p) q t)
+  permitted p = decided_by (object_refusal (sizes_found p) q) (row_reply w p q t) (change_of (sizes_found p) q t)
 
   -- a request that the object refuses is refused by this
   pub object_refused : (p : Part (List Piece)) (r : Refusal) → Some r ≡ object_refusal (sizes_found p) q → decision.Refused r ≡ permitted p
-  object_refused p r is = ap (λ o. decided_by (option_or o (unserved_refusal q.ask.op)) (found_reply p q t) (change_of (sizes_found p) q t)) is
+  object_refused p r is = ap (λ o. decided_by o (row_reply w p q t) (change_of (sizes_found p) q t)) is
 
   -- a request that nothing refuses has its reply and its change
-  allowed_decided : (a : Allowed) (target : Target) → IsAllowed a q → a.target ≡ target → None ≡ unserved_refusal q.ask.op
-      → decision.Allowed (found_reply a.target.container q t) (change_of (sizes_found a.target.container) q t) ≡ permitted target.container
-  allowed_decided a target is same served =
-      (λ i. decided_by (option_or (sym is.1 i) (served i)) (found_reply a.target.container q t) (change_of (sizes_found a.target.container) q t))
+  allowed_decided : (a : Allowed) (target : Target) → IsAllowed a q → a.target ≡ target
+      → decision.Allowed (row_reply w a.target.container q t) (change_of (sizes_found a.target.container) q t) ≡ permitted target.container
+  allowed_decided a target is same =
+      (λ i. decided_by (sym is.1 i) (row_reply w a.target.container q t) (change_of (sizes_found a.target.container) q t))
       ∙ ap (λ (target : Target). permitted target.container) same
 
-  pub given_allowed : (a : Allowed) (target : Target) (given : Result Decision AllocError) → IsAllowed a q → a.target ≡ target → None ≡ unserved_refusal q.ask.op
-      → IfOk given (λ given. given ≡ decision.Allowed (found_reply a.target.container q t) (change_of (sizes_found a.target.container) q t))
+  pub given_allowed : (a : Allowed) (target : Target) (given : Result Decision AllocError) → IsAllowed a q → a.target ≡ target
+      → IfOk given (λ given. given ≡ decision.Allowed (row_reply w a.target.container q t) (change_of (sizes_found a.target.container) q t))
       → IfOk given (λ given. given ≡ permitted target.container)
-  given_allowed a target (Ok given) is same served made = made ∙ allowed_decided a target is same served
-  given_allowed a target (Err fault) is same served made = tt
+  given_allowed a target (Ok given) is same made = made ∙ allowed_decided a target is same
+  given_allowed a target (Err fault) is same made = tt
 
 -- ---- memory
 

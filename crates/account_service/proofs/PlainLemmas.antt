@@ -1,9 +1,10 @@
 -- What a service holds whose content is in memory, and what it answers.
-use Rattle.std.proofs.Common.{◌≡◌, ℕ, true, List, [], ◌∷◌, length, drop, zero, suc, get_or, Option, Some, None, Result, Ok, Err, IfOk, OnOk, OnErr, refl, sym, ap, ◌∙◌, subst}
+use Rattle.std.proofs.Common.{◌≡◌, ℕ, true, false, List, [], ◌∷◌, length, drop, zero, suc, get_or, Option, Some, None, Result, Ok, Err, IfOk, OnOk, OnErr, refl, sym, ap, ◌∙◌, subst}
 use Rattle.std.proofs.lemmas.List.Sums.{AllPass-from_list_all}
 use Rattle.std.specs.Prelude.{⊤, IfSome, IsTrue}
 use Rattle.std.specs.declared.alloc.AllocError.{AllocError}
 use Rattle.std.specs.Option.{option_map, option_and_then}
+use Rattle.stamp_values.specs.Operations.{lists_names, writes}
 use Rattle.stamp_values.specs.Order.{keys_total, keys_exact}
 use Rattle.stamp_values.proofs.MapsLemmas.{map_values-empty}
 use Rattle.stamp_values.specs.declared.op.Op.{Op}
@@ -30,13 +31,16 @@ use Rattle.range_rows.specs.ObjectReplies.{ReadsWhole, byte_count, frame, reply_
 use Rattle.range_rows.specs.RequestChanges.{delete_blob, put_blob, put_block, put_block_list, set_metadata, act_by, change_of, part_after}
 use Rattle.range_rows.proofs.ChangeLemmas.{change_fits}
 use Rattle.range_rows.proofs.SpanLemmas.{length-read, reply_of-read}
-use Rattle.stamp_model.specs.Effects.{unless_refused, world_after}
+use Rattle.list_pages.specs.ListReplies.{blob_list_reply, containers_told, page_asked}
+use Rattle.list_pages.proofs.Shown.{page_of_read}
+use Rattle.stamp_model.specs.Effects.{effect, unless_refused, world_after}
 use Rattle.stamp_model.specs.Refusals.{refusal}
-use Rattle.stamp_model.specs.Responses.{response, reply}
+use Rattle.stamp_model.specs.Responses.{answer_by, answer_of, own_answer_by, response}
 use Rattle.stamp_model.proofs.ContentLemmas.{sizes-read, world_value-effect}
-use Rattle.stamp_model.proofs.EffectLemmas.{on_key, effect-refused}
-use Rattle.stamp_model.proofs.ReplyLemmas.{reply-own, unrefused}
-use Rattle.account_service.specs.Decisions.{found_reply}
+use Rattle.stamp_model.proofs.EffectLemmas.{on_key, effect-refused, part_at-effect}
+use Rattle.stamp_model.proofs.ReadLemmas.{effect-read}
+use Rattle.stamp_model.proofs.ReplyLemmas.{answer_of-rows, reply-admitted, unrefused}
+use Rattle.account_service.specs.Decisions.{found_reply, row_reply, row_reply_by}
 use Rattle.stamp_model.specs.Runs.{timed, reply_to_one}
 use Rattle.account_service.specs.HeldRows.{HeldRows, empty_rows, AreHeld, bytes_held, held_of, row_refusal, rows_after, rows_with}
 use Rattle.account_service.specs.Services.{empty_held, AnswersAsModel, held_after}
@@ -157,14 +161,8 @@ module _ (h : HeldRows) (q : Asked) (t : ℕ) (all : AreHeld h.rows) where
   sized : EachContent (λ ps. byte_count (held ps) ≡ pieces_len ps) part
   sized = EachContent-then (λ ps. is_held ps ≡ true) (λ ps. byte_count (held ps) ≡ pieces_len ps) (λ ps h. length-read piece_bytes ps (held_whole ps h)) part (all q.ask.key)
 
-  abbrev reply_by : Part (List ℕ) → Part ℕ → Reply
-  reply_by p z = response (refusal (Some h.keys) z q t) (reply_of (part_after held (unless_refused (refusal (Some h.keys) z q t) (change_of z q t)) p) q)
-
-  reply_by_rows : reply_to_one (held_of h).world (timed h.keys q t) ≡ reply_by (part_value held part) row_sizes
-  reply_by_rows =
-      reply-own (Some h.keys) (world_value held h.rows) q t None
-      ∙ ap (λ (p : Part (List ℕ)). reply_by p (sizes p)) (part_at-world_value held h.rows q.ask.key)
-      ∙ ap (reply_by (part_value held part)) (sizes-read held pieces_len byte_count part sized)
+  abbrev held_world : World (List ℕ)
+  held_world = world_value held h.rows
 
   same_refusal : refusal (Some h.keys) (sizes (part_at (world_value held h.rows) q.ask.key)) q t ≡ row_refusal h q t
   same_refusal =
@@ -179,21 +177,52 @@ module _ (h : HeldRows) (q : Asked) (t : ℕ) (all : AreHeld h.rows) where
   after_whole None e = all q.ask.key
   after_whole (Some c) e = EachContent-changed (λ ps. is_held ps ≡ true) same_pieces c.act part (all q.ask.key) (brings_held row_sizes q t c e)
 
-  -- the frame with the bytes of its spans is the reply
-  pub reply_with_spans : row_refusal h q t ≡ None
-      → found_reply part q t ≡ reply_to_one (held_of h).world (timed h.keys q t)
-  reply_with_spans free =
+  -- if nothing refuses a request, the reply is what the operation answers
+  reply_free : row_refusal h q t ≡ None → reply_to_one held_world (timed h.keys q t) ≡ answer_of (effect (Some h.keys) held_world q t) q None
+  reply_free free = reply-admitted (Some h.keys) held_world q t None (same_refusal ∙ free)
+
+  -- the container after the request, in bytes
+  part_after_free : row_refusal h q t ≡ None → part_at (effect (Some h.keys) held_world q t) q.ask.key ≡ part_after held change (part_value held part)
+  part_after_free free =
+      part_at-effect byte_count held (Some h.keys) held_world q t
+      ∙ (λ i. part_after held (unless_refused (same_refusal i) (change_of (same_sizes i) q t)) (part_at-world_value held h.rows q.ask.key i))
+      ∙ ap (λ (o : Option Refusal). part_after held (unless_refused o change) (part_value held part)) free
+    where
+      same_sizes : sizes (part_at held_world q.ask.key) ≡ row_sizes
+      same_sizes = ap (λ (p : Part (List ℕ)). sizes p) (part_at-world_value held h.rows q.ask.key) ∙ sizes-read held pieces_len byte_count part sized
+
+  -- the frame with the bytes of its spans is the reply of an operation that lists no names
+  reply_with_spans : lists_names q.ask.op ≡ false → row_refusal h q t ≡ None → found_reply part q t ≡ reply_to_one held_world (timed h.keys q t)
+  reply_with_spans other free =
       let after = part_after same_pieces change part in
       let whole = EachContent-then (λ ps. is_held ps ≡ true) (ReadsWhole piece_bytes) held_whole after (after_whole change refl) in
       ap (λ (z : Part ℕ). with_content (frame z q) (bytes_held (spans after q))) (sym (part_value-after pieces_len change))
       ∙ reply_of-read piece_bytes after q whole
-      ∙ ap (λ (p : Part (List ℕ)). reply_of p q) (part_value-after held change)
-      ∙ sym (reply_by_rows ∙ ap (λ (o : Option Refusal). response o (reply_of (part_after held (unless_refused o change) (part_value held part)) q)) free)
+      ∙ ap (λ (p : Part (List ℕ)). reply_of p q) (part_value-after held change ∙ sym (part_after_free free))
+      ∙ sym (reply_free free ∙ answer_of-rows (effect (Some h.keys) held_world q t) q None other)
+
+  -- a list is made from what is held as it is
+  answer_of_list : row_refusal h q t ≡ None → writes q.ask.op ≡ false → reply_to_one held_world (timed h.keys q t) ≡ answer_of held_world q None
+  answer_of_list free reads = reply_free free ∙ ap (λ (v : World (List ℕ)). answer_of v q None) (effect-read (Some h.keys) held_world q t reads)
+
+  -- the reply to a request that nothing refuses, by its operation
+  reply_by : (o : Op) → q.ask.op ≡ o → row_refusal h q t ≡ None → row_reply_by o h.rows part q t ≡ reply_to_one held_world (timed h.keys q t)
+  reply_by op.ListContainers is free =
+      ap (containers_told (page_asked q)) (page_of_read held q.ask.key.account (page_asked q) None h.rows)
+      ∙ sym (answer_of_list free (ap writes is) ∙ ap (λ (o : Op). answer_by o held_world q None) is)
+  reply_by op.ListBlobs is free =
+      ap (λ (z : Part ℕ). blob_list_reply z q)
+      (sym (ap (λ (p : Part (List ℕ)). sizes p) (part_at-world_value held h.rows q.ask.key) ∙ sizes-read held pieces_len byte_count part sized))
+      ∙ sym (answer_of_list free (ap writes is) ∙ ap (λ (o : Op). answer_by o held_world q None) is ∙ ap (λ (o : Op). own_answer_by o (part_at held_world q.ask.key) q) is)
+  reply_by o is free = reply_with_spans (ap lists_names is) free
+
+  -- the reply that is made from the rows is the model's
+  pub reply_made : row_refusal h q t ≡ None → row_reply h.rows part q t ≡ reply_to_one held_world (timed h.keys q t)
+  reply_made free = reply_by q.ask.op refl free
 
   -- the reply to a refused request
-  pub reply_refused : (r : Refusal) → row_refusal h q t ≡ Some r → denied r ≡ reply_to_one (held_of h).world (timed h.keys q t)
-  reply_refused r e =
-      sym (reply_by_rows ∙ ap (λ (o : Option Refusal). response o (reply_of (part_after held (unless_refused o change) (part_value held part)) q)) e)
+  pub reply_refused : (r : Refusal) → row_refusal h q t ≡ Some r → denied r ≡ reply_to_one held_world (timed h.keys q t)
+  reply_refused r e = sym (ap (λ (o : Option Refusal). response o (answer_of (effect (Some h.keys) held_world q t) q None)) (same_refusal ∙ e))
 
   -- a refused request changes nothing
   held_refused : (r : Refusal) → row_refusal h q t ≡ Some r → held_of h ≡ held_after (held_of h) q t
@@ -220,6 +249,6 @@ module _ (h : HeldRows) (q : Asked) (t : ℕ) (all : AreHeld h.rows) where
   answered_refused r (Ok reply) e is = answers_refused h q t all r reply e is
   answered_refused r (Err x) e is = is
 
-  pub answered_allowed : (reply : Reply) (h' : HeldRows) → row_refusal h q t ≡ None → reply ≡ found_reply (part_at h.rows q.ask.key) q t
+  pub answered_allowed : (reply : Reply) (h' : HeldRows) → row_refusal h q t ≡ None → reply ≡ row_reply h.rows (part_at h.rows q.ask.key) q t
       → h' ≡ rows_with (change_of (part_value pieces_len (part_at h.rows q.ask.key)) q t) h → AnswersAsModel (held_of h) q t reply (held_of h')
-  answered_allowed reply h' free made new = answers_allowed h q t all reply h' (made ∙ reply_with_spans h q t all free) (new ∙ rows_with_change h q t free)
+  answered_allowed reply h' free made new = answers_allowed h q t all reply h' (made ∙ reply_made h q t all free) (new ∙ rows_with_change h q t free)

@@ -1,20 +1,22 @@
 //! What is decided on a request, from what rows find of its container.
-ghost use Rattle.std.specs.Prelude.{◌≡◌, IfOk, IsTrue, Some};
+ghost use Rattle.std.specs.Prelude.{◌≡◌, IfOk, Some, false};
+ghost use Rattle.stamp_values.specs.Operations.{lists_names};
 ghost use Rattle.access_rules.specs.Rules.{verdict_of};
 ghost use Rattle.row_trees.specs.Access.{acl_of};
 ghost use Rattle.row_trees.specs.FoundParts.{sizes_found};
 ghost use Rattle.range_rows.specs.Judgements.{IsAllowed};
 ghost use Rattle.range_rows.specs.NamedBlobs.{IsTarget};
-ghost use Rattle.range_rows.specs.ObjectReplies as replies;
+ghost use Rattle.range_rows.specs.ObjectRules.{object_refusal};
 ghost use Rattle.range_rows.specs.Readings.{reading_of};
 ghost use Rattle.range_rows.specs.RequestChanges.{change_of};
 ghost use Rattle.stamp_model.specs.Refusals as refusals;
-ghost use Rattle.account_service.specs.Decisions.{decided_by, decision_of, found_reply, object_or_unserved};
+ghost use Rattle.account_service.specs.Decisions.{decided_by, decision_of, found_reply, row_reply};
 ghost use Rattle.account_service.specs.declared.decision.Decision.TheVariants as decision;
 
 use crate::content::reply_with_content;
 use access_rules::{Keys, Verdict, verdict};
-use range_rows::{Allowed, Judged, Reading, Target, is_served};
+use list_pages::{blob_list_reply, container_list_reply};
+use range_rows::{Allowed, Judged, Reading, Rows, Target};
 use stamp_types::{Change, Code, Moment, Op, Refusal, Reply, Request, Rule};
 use std::alloc::{AllocError, Global};
 
@@ -39,19 +41,6 @@ fn access_refusal(rule: Rule) -> Refusal
     Refusal { rule, code }
 }
 
-// The refusal of an operation that is not served yet.
-fn unserved_refusal(op: Op) -> Option<Refusal>
-    ensures { result ≡ refusals.unserved_refusal op }
-{
-    if is_served(op) {
-        return None;
-    }
-    Some(Refusal {
-        rule: Rule::F3,
-        code: Code::InvalidQueryParameterValue,
-    })
-}
-
 // Whether the request may be served, by the keys and by what its container says about who may read
 // it.
 fn permission(
@@ -68,16 +57,16 @@ fn permission(
     Ok(permission)
 }
 
-// The reply to a request that nothing refuses.
+// The reply with content to a request that nothing refuses, if it does not ask for a list of names.
 #[tactic(auto, using(crate::proofs::DecisionLemmas::fits_memory))]
-fn reply(
+fn reply_found(
     alloc: Global,
     allowed: &Allowed<'_>,
     request: &Request,
     moment: Moment,
 ) -> Result<Reply, AllocError>
     requires allowed { IsAllowed allowed.now request.now }
-    requires served { IsTrue (replies.is_served request.now.ask.op) }
+    requires names { lists_names request.now.ask.op ≡ false }
     ensures { IfOk result (λ reply.
         reply ≡ found_reply allowed.now.target.container request.now moment) }
 {
@@ -85,6 +74,25 @@ fn reply(
     // What the body of the frame has fits in memory.
     let _held = answer.frame.body.len();
     reply_with_content(answer)
+}
+
+// The reply to a request that nothing refuses. A list of containers is made from all rows.
+fn reply(
+    alloc: Global,
+    rows: &Rows,
+    allowed: &Allowed<'_>,
+    request: &Request,
+    moment: Moment,
+) -> Result<Reply, AllocError>
+    requires { IsAllowed allowed.now request.now }
+    ensures { IfOk result (λ reply.
+        reply ≡ row_reply rows.now allowed.now.target.container request.now moment) }
+{
+    match request.ask().op {
+        Op::ListContainers => container_list_reply(alloc, rows, request, None),
+        Op::ListBlobs => blob_list_reply(alloc, &allowed.target.container, request),
+        _ => reply_found(alloc, allowed, request, moment),
+    }
 }
 
 // The change of a request that nothing refuses, if the request makes one.
@@ -96,7 +104,6 @@ fn change(
     moment: Moment,
 ) -> Result<Option<Change>, AllocError>
     requires allowed { IsAllowed allowed.now request.now }
-    requires served { IsTrue (replies.is_served request.now.ask.op) }
     requires read { reading ≡ reading_of request.now }
     ensures { IfOk result (λ change. change
         ≡ change_of (sizes_found allowed.now.target.container) request.now moment) }
@@ -112,19 +119,19 @@ fn change(
 // What is decided on a request that nothing refuses.
 fn answered(
     alloc: Global,
+    rows: &Rows,
     allowed: &Allowed<'_>,
     request: &Request,
     reading: Reading,
     moment: Moment,
 ) -> Result<Decision, AllocError>
     requires allowed { IsAllowed allowed.now request.now }
-    requires served { IsTrue (replies.is_served request.now.ask.op) }
     requires read { reading ≡ reading_of request.now }
     ensures { IfOk result (λ given. given
-        ≡ decision.Allowed (found_reply allowed.now.target.container request.now moment)
+        ≡ decision.Allowed (row_reply rows.now allowed.now.target.container request.now moment)
         (change_of (sizes_found allowed.now.target.container) request.now moment)) }
 {
-    let reply = match reply(alloc, allowed, request, moment) {
+    let reply = match reply(alloc, rows, allowed, request, moment) {
         Ok(reply) => reply,
         Err(fault) => {
             drop(reading);
@@ -140,10 +147,11 @@ fn answered(
     }
 }
 
-// What is decided on a request that is permitted: the refusal by the object, or else since the operation
-// is not served yet, or else the reply and the change.
+// What is decided on a request that is permitted: the refusal by the object, or else the reply and the
+// change.
 fn permitted(
     alloc: Global,
+    rows: &Rows,
     target: Target<'_>,
     request: &Request,
     reading: Reading,
@@ -152,27 +160,24 @@ fn permitted(
     requires target { IsTarget target request.now.ask }
     requires read { reading ≡ reading_of request.now }
     ensures { IfOk result (λ decision. decision
-        ≡ decided_by (object_or_unserved target.entry.container request.now)
-        (found_reply target.entry.container request.now moment)
+        ≡ decided_by (object_refusal (sizes_found target.entry.container) request.now)
+        (row_reply rows.now target.entry.container request.now moment)
         (change_of (sizes_found target.entry.container) request.now moment)) }
 {
-    let allowed = match target.judge(alloc, request, &reading)? {
-        Judged::Refused(refusal) => return Ok(Decision::Refused(refusal)),
-        Judged::Allowed(allowed) => allowed,
-    };
-    match unserved_refusal(request.ask().op) {
-        Some(refusal) => Ok(Decision::Refused(refusal)),
-        None => answered(alloc, &allowed, request, reading, moment),
+    match target.judge(alloc, request, &reading)? {
+        Judged::Refused(refusal) => Ok(Decision::Refused(refusal)),
+        Judged::Allowed(allowed) => answered(alloc, rows, &allowed, request, reading, moment),
     }
 }
 
-/// Decides on a request from what rows find of the container and of the blob that the request names:
-/// the refusal, or else the reply and the change.
+/// Decides on a request from what the rows find of the container and of the blob that the request names:
+/// the refusal, or else the reply and the change. A list of containers looks at the other rows too.
 ///
 /// `AllocError` if memory runs out.
 pub(crate) fn decide(
     alloc: Global,
     keys: &Keys,
+    rows: &Rows,
     target: Target<'_>,
     request: &Request,
     reading: Reading,
@@ -181,10 +186,10 @@ pub(crate) fn decide(
     requires target { IsTarget target request.now.ask }
     requires read { reading ≡ reading_of request.now }
     ensures { IfOk result (λ decision.
-        decision ≡ decision_of keys.now target.entry.container request.now moment) }
+        decision ≡ decision_of keys.now rows.now target.entry.container request.now moment) }
 {
     match permission(alloc, keys, &target, request, moment)? {
         Verdict::Deny(rule) => Ok(Decision::Refused(access_refusal(rule))),
-        Verdict::Allow(_way) => permitted(alloc, target, request, reading, moment),
+        Verdict::Allow(_way) => permitted(alloc, rows, target, request, reading, moment),
     }
 }

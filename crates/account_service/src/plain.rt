@@ -72,7 +72,9 @@ impl Plain {
     {
         let ask = request.ask();
         let target = Target::of(self.rows.find(&ask.key), ask);
-        decide(alloc, &self.keys, target, request, reading, moment)
+        decide(
+            alloc, &self.keys, &self.rows, target, request, reading, moment,
+        )
     }
 
     // Makes a change, if there is one.

@@ -27,7 +27,7 @@ bracket_first Opening name c (inside, is, whole) = (name ++ inside ++ greater_th
 bracket_first Empty name c (inside, is, whole) = (name ++ inside ++ slash ∷ greater_than ∷ [], whole)
 bracket_first Closing name c (gap, is, whole) = (slash ∷ (name ++ gap ++ greater_than ∷ []), whole)
 
-tag_first : (g : Tag) (c : List ℕ) → IsTag g c → (d : List ℕ) × (c ≡ less_than ∷ d)
+pub tag_first : (g : Tag) (c : List ℕ) → IsTag g c → (d : List ℕ) × (c ≡ less_than ∷ d)
 tag_first g c (named, is) = bracket_first g.kind g.name c is
 
 tag_stops : (g : Tag) (c r : List ℕ) → IsTag g c → Stops is_white (c ++ r)

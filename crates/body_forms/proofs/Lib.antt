@@ -14,6 +14,8 @@ pub mod IdLemmas
 pub mod IdTurns
 pub mod KeptLemmas
 pub mod LetterLemmas
+pub mod PageTokensRead
+pub mod PlainTexts
 pub mod PolicyFaults
 pub mod PolicyLemmas
 pub mod PolicyValueLemmas
@@ -21,8 +23,10 @@ pub mod ReadAgain
 pub mod Readings
 pub mod Runs
 pub mod Sound
+pub mod SoundTexts
 pub mod TextBytes
 pub mod TextLemmas
+pub mod TokensRead
 pub mod TrimmedTexts
 pub mod UnescapeLemmas
 pub mod Utf8Texts

@@ -27,11 +27,11 @@ AreWritten A IsOne inner s = (tokens : List Token) × AreElements IsOne inner to
 no_attributes : AreAttributes []
 no_attributes = ([], [], All-nil IsAttribute, refl, refl)
 
-opening_is : (name : List ℕ) → is_name name ≡ true → IsTag (record { kind = Opening; name = name }) (opening_text name)
+pub opening_is : (name : List ℕ) → is_name name ≡ true → IsTag (record { kind = Opening; name = name }) (opening_text name)
 unfolding opening_text
 opening_is name named = (named, ([], no_attributes, ap (λ l. less_than ∷ (l ++ greater_than ∷ [])) (sym (append-nil name))))
 
-closing_is : (name : List ℕ) → is_name name ≡ true → IsTag (record { kind = Closing; name = name }) (closing_text name)
+pub closing_is : (name : List ℕ) → is_name name ≡ true → IsTag (record { kind = Closing; name = name }) (closing_text name)
 unfolding closing_text
 closing_is name named = (named, ([], refl, ap (λ l. less_than ∷ slash ∷ (l ++ greater_than ∷ [])) (sym (append-nil name))))
 

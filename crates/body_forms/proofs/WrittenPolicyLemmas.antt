@@ -1,14 +1,13 @@
 -- Stored policies that are written are a list of policies in the grammar.
-use Rattle.std.proofs.Common.{◌≡◌, ℕ, List, [], ◌∷◌, ◌++◌, map, codes, Option, Some, None, IfSome, IsUtf8, All, true, refl, sym, ap, ◌∙◌, subst, inl, inr, append_assoc, append-nil}
+use Rattle.std.proofs.Common.{◌≡◌, ℕ, List, [], ◌∷◌, ◌++◌, map, codes, Option, Some, None, IfSome, All, true, refl, sym, ap, ◌∙◌, subst, inl, inr, append_assoc, append-nil}
 use Rattle.std.specs.Prelude.{option_map}
 use Rattle.std.specs.List.{flat_map, list_all}
 use Rattle.std.proofs.lemmas.Bool.{and_parts}
 use Rattle.std.proofs.lemmas.List.Elements.{All-head, All-tail}
-use Rattle.std.proofs.lemmas.Str.{IsUtf8-append, IsUtf8-nil}
 use Rattle.stamp_values.specs.declared.policy.Policy.{Policy}
 use Rattle.stamp_values.specs.Ascii.{space}
 use Rattle.stamp_values.specs.Letters.{letters_text}
-use Rattle.stamp_values.specs.Texts.{is_clean, is_visible_byte, is_utf8}
+use Rattle.stamp_values.specs.Texts.{is_clean, is_utf8}
 use Rattle.stamp_values.specs.Names.{is_policy_id, is_within}
 use Rattle.stamp_values.specs.Texts.{char_count}
 use Rattle.stamp_values.proofs.Utf8Lemmas.{utf8_passes}
@@ -17,14 +16,14 @@ use Rattle.body_forms.specs.declared.access_policy.Field.TheVariants.{Start, Exp
 use Rattle.body_forms.specs.Bodies.{are_controls_white}
 use Rattle.body_forms.specs.Tokens.{is_name}
 use Rattle.body_forms.specs.Elements.{HasNoWhiteEnds}
-use Rattle.body_forms.specs.Escapes.{escaped}
 use Rattle.body_forms.specs.Policies.{ArePoliciesBody, policies_name, policy_name, id_name, access_name, field_name, Given, IsGiven, values, Access, access_of, IsAccess, Part, id, access, IsPart, ids, accesses, Sent, sent_of, IsSent, AreSent}
 use Rattle.body_forms.specs.PolicyValues.{is_good_id}
 use Rattle.body_forms.specs.WrittenLists.{opening_text, closing_text, prolog_text}
 use Rattle.body_forms.specs.WrittenPolicies.{moment_text, element_text, given_text, fields_text, access_text, identified_text, policy_text, policies_text}
 use Rattle.body_forms.proofs.Utf8Texts.{passes_text}
 use Rattle.body_forms.proofs.TrimmedTexts.{is_dark, dark_trimmed, dark_clean, all_visible, dark_moment, dark_letters}
-use Rattle.body_forms.proofs.WrittenTexts.{IsUtf8-visible, IsUtf8-escaped, starts_low, visible_then, escaped_then}
+use Rattle.body_forms.proofs.SoundTexts.{IsSound, sound-nil, sound-append, is_shown_name, inner_sound, element_sound, prolog_sound}
+use Rattle.body_forms.proofs.WrittenTexts.{IsUtf8-visible}
 use Rattle.body_forms.proofs.WrittenElements.{IsWritten, AreWritten, text_written, none_written, one_written, element_written, root_written}
 
 -- ---- the texts of a policy
@@ -146,64 +145,6 @@ all_written (p ∷ ps) trimmed =
 abbrev pub HasGoodId : Policy → Type 0
 HasGoodId p = is_good_id p.id ≡ true
 
--- the text is UTF-8 and begins with a byte below 128, and its control characters are white space, whatever text of this kind follows
-record IsSound (s : List ℕ) : Type 0 where
-  utf8 : IsUtf8 s
-  low : (b : List ℕ) → starts_low b ≡ true → starts_low (s ++ b) ≡ true
-  clean : (b : List ℕ) → starts_low b ≡ true → are_controls_white b ≡ true → are_controls_white (s ++ b) ≡ true
-
-sound-nil : IsSound []
-sound-nil = record { utf8 = IsUtf8-nil; low = λ b h. h; clean = λ b h k. k }
-
-sound-append : (a b : List ℕ) → IsSound a → IsSound b → IsSound (a ++ b)
-sound-append a b one two = record {
-  utf8 = IsUtf8-append a b one.utf8 two.utf8;
-  low = λ c h. ap starts_low (append_assoc a b c) ∙ one.low (b ++ c) (two.low c h);
-  clean = λ c h k. ap are_controls_white (append_assoc a b c) ∙ one.clean (b ++ c) (two.low c h) (two.clean c h k);
-}
-
--- the names of elements
-abbrev is_shown_name : List ℕ → Type 0
-is_shown_name name = (list_all is_visible_byte (opening_text name) ≡ true) × (list_all is_visible_byte (closing_text name) ≡ true)
-
-opening_low : (name b : List ℕ) → starts_low (opening_text name ++ b) ≡ true
-unfolding opening_text
-opening_low name b = refl
-
-closing_low : (name b : List ℕ) → starts_low (closing_text name ++ b) ≡ true
-unfolding closing_text
-closing_low name b = refl
-
-opening_sound : (name : List ℕ) → is_shown_name name → IsSound (opening_text name)
-opening_sound name (h, k) = record {
-  utf8 = IsUtf8-visible (opening_text name) h;
-  low = λ b _. opening_low name b;
-  clean = λ b _ clean. visible_then (opening_text name) b h clean;
-}
-
-closing_sound : (name : List ℕ) → is_shown_name name → IsSound (closing_text name)
-closing_sound name (h, k) = record {
-  utf8 = IsUtf8-visible (closing_text name) k;
-  low = λ b _. closing_low name b;
-  clean = λ b _ clean. visible_then (closing_text name) b k clean;
-}
-
-inner_sound : (name s : List ℕ) → is_shown_name name → IsSound s → IsSound (opening_text name ++ s ++ closing_text name)
-inner_sound name s shown h = sound-append (opening_text name ++ s) (closing_text name) (sound-append (opening_text name) s (opening_sound name shown) h) (closing_sound name shown)
-
--- an element of a text without control characters
-element_sound : (name t : List ℕ) → is_shown_name name → IsUtf8 t → is_clean t ≡ true → IsSound (element_text name t)
-unfolding element_text
-element_sound name t shown utf8 clean =
-    let one = opening_sound name shown in
-    let last = closing_sound name shown in
-    let shape : (b : List ℕ) → (opening_text name ++ escaped t ++ closing_text name) ++ b ≡ opening_text name ++ (escaped t ++ (closing_text name ++ b)) = λ b. simp append_assoc refl in
-    record {
-      utf8 = IsUtf8-append (opening_text name ++ escaped t) (closing_text name) (IsUtf8-append (opening_text name) (escaped t) one.utf8 (IsUtf8-escaped t utf8)) last.utf8;
-      low = λ b h. ap starts_low (shape b) ∙ opening_low name (escaped t ++ (closing_text name ++ b));
-      clean = λ b h k. ap are_controls_white (shape b) ∙ visible_then (opening_text name) (escaped t ++ (closing_text name ++ b)) shown.0 (escaped_then t (closing_text name ++ b) clean (closing_low name b) (last.clean b h k));
-    }
-
 dark_sound : (name t : List ℕ) → is_shown_name name → IsDark t → IsSound (element_text name t)
 dark_sound name t shown dark = element_sound name t shown (IsUtf8-visible t (all_visible t dark)) (dark_clean t dark)
 
@@ -267,21 +208,6 @@ policy_sound p good = inner_sound policy_name (identified_text p) policy_shown (
 all_sound : (ps : List Policy) → All HasGoodId ps → IsSound (flat_map policy_text ps)
 all_sound [] are = sound-nil
 all_sound (p ∷ ps) are = sound-append (policy_text p) (flat_map policy_text ps) (policy_sound p (All-head HasGoodId p ps are)) (all_sound ps (All-tail HasGoodId p ps are))
-
-prolog_shown : list_all is_visible_byte prolog_text ≡ true
-unfolding prolog_text
-prolog_shown = refl
-
-prolog_low : (b : List ℕ) → starts_low (prolog_text ++ b) ≡ true
-unfolding prolog_text
-prolog_low b = refl
-
-prolog_sound : IsSound prolog_text
-prolog_sound = record {
-  utf8 = IsUtf8-visible prolog_text prolog_shown;
-  low = λ b _. prolog_low b;
-  clean = λ b _ clean. visible_then prolog_text b prolog_shown clean;
-}
 
 -- ---- the body
 

@@ -1,5 +1,5 @@
 -- Texts that are written with references (Extensible Markup Language 1.0, sections 2.4 and 4.6).
-use Rattle.std.specs.Prelude.{◌≡◌, ℕ, true, not, ◌==◌, if◌then◌else◌, List, ◌∷◌, ◌++◌, Some}
+use Rattle.std.specs.Prelude.{◌≡◌, ℕ, Bool, true, not, ◌&&◌, ◌==◌, if◌then◌else◌, List, ◌∷◌, ◌++◌, Some}
 use Rattle.std.specs.List.{list_all, flat_map}
 use Rattle.stamp_values.specs.Ascii.{ampersand}
 use Rattle.body_forms.specs.Markup.{less_than, greater_than}
@@ -15,6 +15,10 @@ escaped_byte c =
     else if c == less_than then lt
     else if c == greater_than then gt
     else plain c
+
+-- the byte is written as itself
+abbrev pub is_written_as_itself : ℕ → Bool
+is_written_as_itself c = not (c == ampersand) && not (c == less_than) && not (c == greater_than)
 
 -- the text as it is written
 unfoldable pub escaped : List ℕ → List ℕ

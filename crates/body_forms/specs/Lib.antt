@@ -9,11 +9,13 @@ pub mod KeptPolicies
 pub mod ListEntries
 pub mod Markup
 pub mod Outcomes
+pub mod PageTokens
 pub mod Policies
 pub mod PolicyReading
 pub mod PolicyValues
 pub mod Reading
 pub mod Texts
+pub mod TokenReading
 pub mod Tokens
 pub mod WrittenLists
 pub mod WrittenPages

@@ -1,8 +1,9 @@
 //! Laws of the grammar. Each law is the contract of a function that does nothing.
-ghost use Rattle.std.specs.Prelude.{◌≡◌, ◌≢◌, ◌↔◌, List, ℕ, map, true, Some, Ok, Err, All};
+ghost use Rattle.std.specs.Prelude.{◌≡◌, ◌≢◌, ◌↔◌, List, ℕ, map, true, Option, Some, IfSome, Ok, Err, All};
 ghost use Rattle.std.specs.List.{list_any};
 ghost use Rattle.stamp_values.specs.declared.block.Wanted.{Wanted};
 ghost use Rattle.stamp_values.specs.declared.policy.Policy.{Policy};
+ghost use Rattle.stamp_types.specs.declared.args.Page.{Page};
 ghost use Rattle.body_forms.specs.Bodies.{IsBlockListBody};
 ghost use Rattle.body_forms.specs.BlockLists.{Entry};
 ghost use Rattle.body_forms.specs.Elements.{HasNoWhiteEnds};
@@ -11,10 +12,13 @@ ghost use Rattle.body_forms.specs.FrontReading.{body_entries};
 ghost use Rattle.body_forms.specs.Ids.{block_list_reading, has_bad_id, wanted_entry, HaveBlockIds};
 ghost use Rattle.body_forms.specs.declared.body_fault.BodyFault.{BodyFault};
 ghost use Rattle.body_forms.specs.declared.body_fault.BodyFault.TheVariants as fault;
+ghost use Rattle.body_forms.specs.PageTokens.{BlobEntries, ContainerEntries, blob_list_tokens, container_list_tokens, IsCleanBlob, IsCleanContainer, IsCleanEntry, IsCleanPage, IsCleanText};
 ghost use Rattle.body_forms.specs.PolicyReading.{body_policies};
 ghost use Rattle.body_forms.specs.Policies.{Sent, ArePoliciesBody};
 ghost use Rattle.body_forms.specs.PolicyValues.{policies_reading, SaysPolicies, SaysFault};
 ghost use Rattle.body_forms.specs.KeptPolicies.{ArePolicies};
+ghost use Rattle.body_forms.specs.TokenReading.{body_tokens};
+ghost use Rattle.body_forms.specs.WrittenPages.{blob_list_text, container_list_text};
 ghost use Rattle.body_forms.specs.WrittenPolicies.{policies_text};
 
 /// A body is a block list in one way at most: it has one list of entries.
@@ -78,4 +82,17 @@ pub fn policies_are_read_as_they_were_written()
     ensures any { (policies : List Policy) → ArePolicies policies
         → All (λ p. HasNoWhiteEnds p.id) policies
         → policies_reading (policies_text policies) ≡ Ok policies }
+{}
+
+/// A list that was written is read as its entries: as the tags of one element, and between them the names, the values of metadata, the content
+/// types, what was asked for and the next marker as they are. So no name ends an element or adds an entry. This holds if the texts are UTF-8
+/// without control characters, as names of blobs and parameters of requests are.
+pub fn a_written_list_reads_as_its_entries()
+    ensures blobs { (page : Page) (entries : BlobEntries) (next : Option (List ℕ))
+        → IsCleanPage page → All (IsCleanEntry IsCleanBlob) entries → IfSome next IsCleanText
+        → body_tokens (blob_list_text page entries next) ≡ Some (blob_list_tokens page entries next) }
+    ensures containers { (page : Page) (entries : ContainerEntries) (next : Option (List ℕ))
+        → IsCleanPage page → All (IsCleanEntry IsCleanContainer) entries → IfSome next IsCleanText
+        → body_tokens (container_list_text page entries next)
+        ≡ Some (container_list_tokens page entries next) }
 {}

@@ -25,10 +25,11 @@ mod written_policies;
 pub use block_list::read_block_list;
 pub use body_fault::BodyFault;
 pub use laws::{
-    a_body_is_read_in_one_way, block_lists_are_read_as_the_grammar_says,
-    policies_are_read_as_the_grammar_says, policies_are_read_as_they_were_written,
-    policies_are_read_in_one_way, the_reading_is_the_grammar,
-    the_reading_of_policies_is_the_grammar, what_is_escaped_is_read_back,
+    a_body_is_read_in_one_way, a_written_list_reads_as_its_entries,
+    block_lists_are_read_as_the_grammar_says, policies_are_read_as_the_grammar_says,
+    policies_are_read_as_they_were_written, policies_are_read_in_one_way,
+    the_reading_is_the_grammar, the_reading_of_policies_is_the_grammar,
+    what_is_escaped_is_read_back,
 };
 pub use list_entries::{BlobEntry, ContainerEntry, ListedBlob};
 pub use policies::read_policies;

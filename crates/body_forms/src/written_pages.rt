@@ -240,13 +240,15 @@ fn append_next(out: &mut Vec<u8>, next: Option<&[u8]>) -> Result<(), AllocError>
     }
 }
 
-// How many bytes the entries have at most, if few of their bytes are written as references.
+// How many bytes a list has at most with one entry more, if few bytes of its text are written as references.
+fn room_with(room: usize, text: &[u8]) -> usize {
+    room.saturating_add(ENTRY_ROOM).saturating_add(text.len())
+}
+
 fn room_for_blobs(entries: &[BlobEntry<'_>]) -> usize {
     let mut room = LIST_ROOM;
     for entry in entries {
-        room = room
-            .saturating_add(ENTRY_ROOM)
-            .saturating_add(entry.text().len());
+        room = room_with(room, entry.text());
     }
     room
 }
@@ -254,9 +256,7 @@ fn room_for_blobs(entries: &[BlobEntry<'_>]) -> usize {
 fn room_for_containers(entries: &[ContainerEntry<'_>]) -> usize {
     let mut room = LIST_ROOM;
     for entry in entries {
-        room = room
-            .saturating_add(ENTRY_ROOM)
-            .saturating_add(entry.name().len());
+        room = room_with(room, entry.name());
     }
     room
 }

@@ -12,6 +12,8 @@ mod head_tests;
 #[cfg(test)]
 mod name_tests;
 #[cfg(test)]
+mod page_tests;
+#[cfg(test)]
 mod range_tests;
 #[cfg(test)]
 mod reply_tests;

@@ -1,4 +1,4 @@
-//! Which operation a head asks for: each row of the table of operations, beside heads that fit no row that is built.
+//! Which operation a head asks for: each row of the table of operations, beside heads that fit no row.
 
 use request_form::read_head;
 use stamp_types::{Body, Op};
@@ -124,11 +124,45 @@ fn heads_about_blobs(rt: HostRuntime) {
 }
 
 #[test]
-fn heads_of_operations_that_are_not_built(rt: HostRuntime) {
+fn heads_about_lists(rt: HostRuntime) {
     let rows = [
-        ("GET /acct?comp=list HTTP/1.1\r\n\r\n", None),
+        (
+            "GET /acct?comp=list HTTP/1.1\r\n\r\n",
+            Some(Op::ListContainers),
+        ),
+        (
+            "GET /acct/?comp=list HTTP/1.1\r\n\r\n",
+            Some(Op::ListContainers),
+        ),
+        ("GET /acct HTTP/1.1\r\n\r\n", None),
+        ("GET /acct?comp=List HTTP/1.1\r\n\r\n", None),
+        ("GET /acct?comp=list&restype= HTTP/1.1\r\n\r\n", None),
+        (
+            "GET /acct?comp=list&restype=container HTTP/1.1\r\n\r\n",
+            None,
+        ),
+        ("HEAD /acct?comp=list HTTP/1.1\r\n\r\n", None),
+        (
+            "PUT /acct?comp=list HTTP/1.1\r\nContent-Length: 0\r\n\r\n",
+            None,
+        ),
+        ("GET /?comp=list HTTP/1.1\r\n\r\n", None),
         (
             "GET /acct/box?restype=container&comp=list HTTP/1.1\r\n\r\n",
+            Some(Op::ListBlobs),
+        ),
+        ("GET /acct/box?comp=list HTTP/1.1\r\n\r\n", None),
+        (
+            "HEAD /acct/box?restype=container&comp=list HTTP/1.1\r\n\r\n",
+            None,
+        ),
+        (
+            "DELETE /acct/box?restype=container&comp=list HTTP/1.1\r\n\r\n",
+            None,
+        ),
+        ("GET /acct/box/b?comp=list HTTP/1.1\r\n\r\n", None),
+        (
+            "GET /acct/box/b?restype=container&comp=list HTTP/1.1\r\n\r\n",
             None,
         ),
     ];

@@ -9,6 +9,7 @@ pub mod Keys
 pub mod Lists
 pub mod Orders
 pub mod Over
+pub mod Reached
 pub mod Rising
 pub mod Shown
 pub mod Sizes

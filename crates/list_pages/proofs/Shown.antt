@@ -1,5 +1,5 @@
 -- Lists depend on what is shown of names alone.
-use Rattle.std.proofs.Common.{◌≡◌, ℕ, Bool, true, false, cond, ◌&&◌, T, List, [], ◌∷◌, Option, Some, None, refl, sym, ap, ◌∙◌, nat_eq, unwrap_or}
+use Rattle.std.proofs.Common.{◌≡◌, ℕ, Bool, true, false, cond, ◌&&◌, T, List, [], ◌∷◌, Option, Some, None, refl, sym, ap, ◌∙◌, nat_eq, unwrap_or, map}
 use Rattle.std.specs.Cmp.{IsTotalOrder}
 use Rattle.std.specs.Cmp.Lexicographic.{pointwise}
 use Rattle.std.specs.FinMap.{FinMap, IsAntisymmetric, entries, entries_sorted, find, get, get-entries, get-insert, insert, is_sorted}
@@ -9,14 +9,17 @@ use Rattle.std.specs.Option.{option_and_then, option_map}
 use Rattle.std.specs.Ordering.{eq_by_cmp, is_eq, is_lt}
 use Rattle.std.specs.declared.cmp.Ordering.{Ordering}
 use Rattle.std.specs.declared.cmp.Ordering.TheVariants.{Less, Equal, Greater}
+use Rattle.stamp_values.specs.Maps.{entry_value}
 use Rattle.stamp_values.specs.Order.{key_cmp, keys_exact, keys_total, name_cmp, names_exact, names_total}
 use Rattle.stamp_values.specs.declared.key.Key.{Key}
 use Rattle.stamp_types.specs.declared.act.Act.TheVariants as act
 use Rattle.stamp_types.specs.declared.act.PutBlock.{PutBlock}
 use Rattle.stamp_types.specs.declared.args.Page.{Page}
 use Rattle.stamp_types.specs.declared.piece.Piece.{Piece}
-use Rattle.stamp_types.specs.World.{Blob, Part, World, blob_in, changed, changed_in, no_blob, no_part, part_at}
+use Rattle.stamp_types.specs.World.{Blob, Part, World, blob_in, changed, changed_in, no_blob, no_part, part_at, part_value, world_value}
+use Rattle.range_rows.proofs.ListLemmas.{entries-map_values}
 use Rattle.list_pages.specs.Containers.{before_end, end_of, of_account, page_to}
+use Rattle.list_pages.specs.Laws.{shown_at}
 use Rattle.list_pages.specs.Lists.{given, page_of_blobs, page_of_containers, shown_blob, shown_container, shown_part, shown_standing}
 use Rattle.list_pages.specs.Pages.{from_marker, listed, page, with_value}
 use Rattle.list_pages.proofs.Lists.{T_first, T_second, less}
@@ -99,12 +102,23 @@ blob_alike : (o : Option (Blob ℕ)) → option_map shown_part (unwrap_or o no_b
 blob_alike None = refl
 blob_alike (Some b) = refl
 
+-- what a list shows under a name is what is committed of its blob
+pub shown_at-committed : (p : Part ℕ) (name : List ℕ) → shown_at p name ≡ option_map shown_part (blob_in p name).committed
+shown_at-committed p name = sym (blob_alike (get p.blobs name))
+
 pub same_blob_page : (f : List Piece → ℕ) (q : Page) (a : PutBlock) (p : Part ℕ) → page_of_blobs q (changed f (act.PutBlock a) p) ≡ page_of_blobs q p
 same_blob_page f q a p =
     ap (λ names. page q.max (from_marker (given q.marker) (listed (given q.prefix) (given q.delimiter) names)))
     (shown-insert name_cmp names_total shown_blob names_exact p.blobs a.blob
     (record { committed = (blob_in p a.blob).committed; uncommitted = insert (blob_in p a.blob).uncommitted a.id (f a.content) })
     (blob_alike (get p.blobs a.blob)))
+
+-- a page of blobs depends on what is committed of each blob
+pub page_by_committed : (q : Page) (p r : Part ℕ) → ((name : List ℕ) → (blob_in p name).committed ≡ (blob_in r name).committed) → page_of_blobs q p ≡ page_of_blobs q r
+page_by_committed q p r same =
+    ap (λ names. page q.max (from_marker (given q.marker) (listed (given q.prefix) (given q.delimiter) names)))
+    (same_shown name_cmp names_total shown_blob names_exact p.blobs r.blobs
+    (λ name. sym (blob_alike (get p.blobs name)) ∙ ap (option_map shown_part) (same name) ∙ blob_alike (get r.blobs name)))
 
 -- ---- containers
 
@@ -124,18 +138,34 @@ module _ {X Y : Type 0} (has : X → Option Y) (account : List ℕ) where
   with_value-of_account (e ∷ es) =
       account_by e.0 e.1 (pointwise nat_eq e.0.account account) (has e.1) (of_account account es) (with_value has es) refl refl (with_value-of_account es)
 
-module _ {C : Type 0} where
-  -- a page of containers by what is shown of the rows
-  pub page_by_shown : (account : List ℕ) (q : Page) (bound : Option Key) (w v : World C) → with_value shown_container (entries w) ≡ with_value shown_container (entries v)
-      → page_of_containers account q bound w ≡ page_of_containers account q bound v
-  page_by_shown account q bound w v same =
-      ap (page_to (end_of account bound) (given q.prefix) (given q.marker) q.max)
-      (by_rows w ∙ ap (λ rows. before_end (end_of account bound) (of_account account rows)) same ∙ sym (by_rows v))
-    where
-      by_rows : (w : World C) → with_value shown_container (before_end (end_of account bound) (of_account account (entries w))) ≡ before_end (end_of account bound) (of_account account (with_value shown_container (entries w)))
-      by_rows w = with_value-before_end shown_container (end_of account bound) (of_account account (entries w)) ∙ ap (before_end (end_of account bound)) (with_value-of_account shown_container account (entries w))
+-- what is shown of the containers of an account before an end
+pub shown_before_end : {X Y : Type 0} (has : X → Option Y) (account : List ℕ) (end : Option (List ℕ)) (rows : List (Key × X))
+    → with_value has (before_end end (of_account account rows)) ≡ before_end end (of_account account (with_value has rows))
+shown_before_end has account end rows =
+    with_value-before_end has end (of_account account rows) ∙ ap (before_end end) (with_value-of_account has account rows)
 
-  container_alike : (o : Option (Part C)) → option_map shown_standing (unwrap_or o no_part).standing ≡ option_and_then shown_container o
+-- a page of containers by what is shown of the rows
+pub page_by_shown : {C D : Type 0} (account : List ℕ) (q : Page) (bound : Option Key) (w : World C) (v : World D) → with_value shown_container (entries w) ≡ with_value shown_container (entries v)
+    → page_of_containers account q bound w ≡ page_of_containers account q bound v
+page_by_shown account q bound w v same =
+    ap (page_to (end_of account bound) (given q.prefix) (given q.marker) q.max)
+    (shown_before_end shown_container account (end_of account bound) (entries w)
+    ∙ ap (λ rows. before_end (end_of account bound) (of_account account rows)) same
+    ∙ sym (shown_before_end shown_container account (end_of account bound) (entries v)))
+
+shown_read : {C D : Type 0} (f : C → D) (rows : List (Key × Part C)) → with_value shown_container rows ≡ with_value shown_container (map (entry_value (part_value f)) rows)
+shown_read f [] = refl
+shown_read f (e ∷ rows) = ap (cons_option (option_map (λ shown. (e.0, shown)) (shown_container e.1))) (shown_read f rows)
+
+-- a page of containers is the same, whether their content is read before or after
+pub page_of_read : {C D : Type 0} (f : C → D) (account : List ℕ) (q : Page) (bound : Option Key) (w : World C) → page_of_containers account q bound w ≡ page_of_containers account q bound (world_value f w)
+page_of_read f account q bound w =
+    page_by_shown account q bound w (world_value f w)
+    (shown_read f (entries w) ∙ ap (with_value shown_container) (sym (entries-map_values keys_total keys_exact (part_value f) w)))
+
+module _ {C : Type 0} where
+  -- what a list shows of a container, by what rows have under its key
+  pub container_alike : (o : Option (Part C)) → option_map shown_standing (unwrap_or o no_part).standing ≡ option_and_then shown_container o
   container_alike None = refl
   container_alike (Some p) = refl
 

@@ -1,15 +1,15 @@
 -- The laws of lists and of their pages (Blob service REST reference, 2012-02-12, "List Blobs", "List Containers": the marker).
-use Rattle.std.specs.Prelude.{◌≡◌, ℕ, ◌<◌, ◌≤◌, IfSome, IsTrue, List, [], ◌∷◌, ◌++◌, length, nat_eq, Option, None, Some, unwrap_or}
+use Rattle.std.specs.Prelude.{◌≡◌, true, ℕ, ◌<◌, ◌≤◌, IfSome, IsTrue, List, [], ◌∷◌, ◌++◌, length, nat_eq, Option, None, Some, unwrap_or}
 use Rattle.std.specs.Cmp.Lexicographic.{pointwise}
 use Rattle.std.specs.FinMap.{get}
 use Rattle.std.specs.List.{AllByRecursion, filter}
-use Rattle.std.specs.Option.{option_and_then, option_map}
+use Rattle.std.specs.Option.{option_and_then, option_map, option_to_list}
 use Rattle.std.specs.declared.cmp.Ordering.TheVariants.{Less}
 use Rattle.stamp_values.specs.Order.{name_cmp}
 use Rattle.stamp_values.specs.Trees.{is_name_from}
 use Rattle.stamp_types.specs.declared.args.Page.{Page}
 use Rattle.stamp_types.specs.World.{Part}
-use Rattle.list_pages.specs.Lists.{ShownBlob, shown_blob}
+use Rattle.list_pages.specs.Lists.{ShownBlob, given, shown_blob}
 use Rattle.list_pages.specs.Names.{begins_with, group_of}
 use Rattle.list_pages.specs.Pages.{Entry, PageOf, entry_of}
 use Rattle.list_pages.specs.Rising.{Rises}
@@ -68,6 +68,17 @@ entries_at text entries = filter (λ entry. pointwise nat_eq entry.0 text) entri
 -- what a list shows of the blob of a name: nothing, if the blob has no committed part
 abbrev pub shown_at : Part ℕ → List ℕ → Option ShownBlob
 shown_at p name = option_and_then shown_blob (get p.blobs name)
+
+-- a page with this NextMarker reaches the name: the name begins with the prefix, is at the marker or past it, and comes before the first
+-- entry that the page leaves out
+pub record Reaches (q : Page) (next : Option (List ℕ)) (name : List ℕ) : Type 0 where
+  pub begins : begins_with name (given q.prefix) ≡ true
+  pub from : is_name_from (given q.marker) name ≡ true
+  pub before : IfSome next (λ next. name_cmp name next ≡ Less)
+
+-- the entry of a name of which this is shown, or no entry
+abbrev pub own_entry : {X : Type 0} → List ℕ → Option X → List (Entry X)
+own_entry name shown = option_to_list (option_map (λ shown. (name, Some shown)) shown)
 
 -- the entry is that of a committed name
 abbrev pub IsOfSomeName : Part ℕ → List ℕ → List ℕ → Entry ShownBlob → Type 0

@@ -1,5 +1,6 @@
 pub mod Containers
 pub mod Laws
+pub mod ListReplies
 pub mod Lists
 pub mod Names
 pub mod Pages

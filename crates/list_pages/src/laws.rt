@@ -1,10 +1,10 @@
 //! Laws of lists and of their pages.
-ghost use Rattle.std.specs.Prelude.{◌≡◌, ◌+◌, ℕ, IfSome, IsSome, IsTrue, List, None, Option, Some, length, map, true};
+ghost use Rattle.std.specs.Prelude.{◌≡◌, ◌+◌, ℕ, [], IfSome, IsSome, IsTrue, List, None, Option, Some, length, map, true};
 ghost use Rattle.std.specs.FinMap.{entries};
 ghost use Rattle.std.specs.List.{AllByRecursion, filter};
 ghost use Rattle.std.specs.declared.cmp.Ordering.TheVariants.{Less};
-ghost use Rattle.list_pages.specs.Laws.{FollowingGivesAll, IsInBounds, IsOfSomeName, entries_at, listed_text, shown_at};
-ghost use Rattle.list_pages.specs.Lists.{blob_list, container_list, given, page_of_blobs, page_of_containers, shown_blob};
+ghost use Rattle.list_pages.specs.Laws.{FollowingGivesAll, IsInBounds, IsOfSomeName, Reaches, entries_at, listed_text, own_entry, shown_at};
+ghost use Rattle.list_pages.specs.Lists.{blob_list, container_list, given, page_of_blobs, page_of_containers, shown_blob, shown_container};
 ghost use Rattle.list_pages.specs.Names.{begins_with};
 ghost use Rattle.list_pages.specs.Pages.{with_value};
 ghost use Rattle.list_pages.specs.Ranges.{AreSameInRange, bound_of, key_of};
@@ -13,7 +13,7 @@ ghost use Rattle.stamp_types.specs.declared.act.Act.TheVariants as act;
 ghost use Rattle.stamp_types.specs.declared.act.PutBlock.{PutBlock};
 ghost use Rattle.stamp_types.specs.declared.args.Page.{Page};
 ghost use Rattle.stamp_types.specs.Pieces.{pieces_len};
-ghost use Rattle.stamp_types.specs.World.{Part, World, changed, changed_in};
+ghost use Rattle.stamp_types.specs.World.{Part, World, changed, changed_in, part_at};
 ghost use Rattle.stamp_values.specs.Order.{key_cmp};
 ghost use Rattle.stamp_values.specs.declared.key.Key.{Key};
 
@@ -44,6 +44,23 @@ pub fn each_blob_is_under_one_entry()
         (with_value shown_blob (entries p.blobs))) }
 {}
 
+/// Without a delimiter a page of blobs has exactly one entry of each committed name that it reaches, which
+/// shows the blob of that name, and no entry of a name without a committed part. A page of containers has
+/// exactly one entry of each container that exists, that it reaches, and that comes before the bound.
+pub fn a_page_has_each_name_that_it_reaches()
+    ensures reached { (q : Page) (p : Part ℕ) (name : List ℕ) → q.delimiter ≡ None
+        → Reaches q (page_of_blobs q p).next name
+        → entries_at name (page_of_blobs q p).entries ≡ own_entry name (shown_at p name) }
+    ensures none { (q : Page) (p : Part ℕ) (name : List ℕ) → q.delimiter ≡ None
+        → shown_at p name ≡ None → entries_at name (page_of_blobs q p).entries ≡ [] }
+    ensures containers { (account : List ℕ) (q : Page) (bound : Option Key) (w : World ℕ)
+        (name : List ℕ)
+        → IfSome bound (λ end. key_cmp (key_of account name) end ≡ Less)
+        → Reaches q (page_of_containers account q bound w).next name
+        → entries_at name (page_of_containers account q bound w).entries
+        ≡ own_entry name (shown_container (part_at w (key_of account name))) }
+{}
+
 /// The entries of a page strictly rise, are at the marker or past it, begin with the prefix, and are
 /// at most as many as were asked for. NextMarker is past each entry.
 pub fn a_page_is_in_order_and_in_bounds()
@@ -51,6 +68,15 @@ pub fn a_page_is_in_order_and_in_bounds()
         → IsInBounds (given q.prefix) (given q.marker) q.max (page_of_blobs q p) }
     ensures containers { (account : List ℕ) (q : Page) (bound : Option Key) (w : World ℕ)
         → IsInBounds (given q.prefix) (given q.marker) q.max (page_of_containers account q bound w) }
+{}
+
+/// A page of containers depends on what is shown of the containers of its account: on which of them
+/// exist, and on their ETags, moments and metadata. It depends on no blob, no level and no policy.
+pub fn a_page_of_containers_is_of_its_account()
+    ensures { (account : List ℕ) (q : Page) (bound : Option Key) (w v : World ℕ)
+        → ((key : Key) → key.account ≡ account
+        → shown_container (part_at w key) ≡ shown_container (part_at v key))
+        → page_of_containers account q bound w ≡ page_of_containers account q bound v }
 {}
 
 /// Two worlds that have the same containers from the marker on and before the bound give the same

@@ -6,6 +6,7 @@ mod containers;
 mod entries;
 mod laws;
 mod names;
+mod replies;
 mod worked_pages;
 
 pub use blobs::blob_page;
@@ -13,8 +14,10 @@ pub use body_forms::{BlobEntry, ContainerEntry, ListedBlob};
 pub use containers::container_page;
 pub use entries::{BlobPage, ContainerPage};
 pub use laws::{
-    a_page_is_in_order_and_in_bounds, a_page_of_containers_depends_on_its_range,
+    a_page_has_each_name_that_it_reaches, a_page_is_in_order_and_in_bounds,
+    a_page_of_containers_depends_on_its_range, a_page_of_containers_is_of_its_account,
     each_blob_is_under_one_entry, following_the_markers_gives_each_entry_once,
     lists_of_ranges_are_one, uncommitted_blocks_change_no_page,
 };
+pub use replies::{blob_list_reply, container_list_reply};
 pub use worked_pages::worked_pages_are_as_written;

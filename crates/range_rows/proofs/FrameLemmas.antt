@@ -22,7 +22,7 @@ use Rattle.stamp_types.proofs.EffectLemmas.{blob_in-set_metadata}
 use Rattle.range_rows.specs.NamedBlobs.{target_blob}
 use Rattle.row_trees.specs.FoundParts.{sizes_found}
 use Rattle.range_rows.specs.FoundParts.{pieces_found_after, sizes_found_after}
-use Rattle.range_rows.specs.ObjectReplies.{acl_frame, blob_content, blob_read, date_headers, empty_blob, empty_standing, frame, frame_by, get_frame, is_served, list_frame, metadata_headers, put_reply, ranged_frame, ranged_spans, spans, spans_by, standing_read, success_reply, write_frame}
+use Rattle.range_rows.specs.ObjectReplies.{acl_frame, blob_content, blob_read, date_headers, empty_blob, empty_standing, frame, frame_by, get_frame, list_frame, metadata_headers, put_reply, ranged_frame, ranged_spans, spans, spans_by, standing_read, success_reply, write_frame}
 use Rattle.range_rows.specs.ObjectRules.{needs_blob, needs_container, object_refusal}
 use Rattle.range_rows.specs.RequestChanges.{act_by, change_of, part_after, put_blob, put_block_list, set_acl, set_container_metadata, set_metadata}
 use Rattle.range_rows.proofs.Unrefused.{needed_blob, needed_container}
@@ -98,23 +98,23 @@ module _ (p : Part ℕ) (q : Asked) (t : ℕ) where
       ∙ committed_with_metadata-frame name (blob_in p name).committed exists
 
   module _ (valid : IsRequest q) (free : object_refusal p q ≡ None) where
-    write_frame_by : (o : Op) → q.ask.op ≡ o → is_served o ≡ true → writes o ≡ true → frame_after o ≡ dated_frame o
-    write_frame_by op.CreateContainer is served writing = refl
-    write_frame_by op.SetContainerMetadata is served writing = standing_with_metadata-frame p.standing (needed_container p q free (ap needs_container is))
-    write_frame_by op.SetAcl is served writing = standing_with_acl-frame p.standing (needed_container p q free (ap needs_container is))
-    write_frame_by op.DeleteContainer is served writing = refl
-    write_frame_by op.PutBlob is served writing =
+    write_frame_by : (o : Op) → q.ask.op ≡ o → writes o ≡ true → frame_after o ≡ dated_frame o
+    write_frame_by op.CreateContainer is writing = refl
+    write_frame_by op.SetContainerMetadata is writing = standing_with_metadata-frame p.standing (needed_container p q free (ap needs_container is))
+    write_frame_by op.SetAcl is writing = standing_with_acl-frame p.standing (needed_container p q free (ap needs_container is))
+    write_frame_by op.DeleteContainer is writing = refl
+    write_frame_by op.PutBlob is writing =
         put_blob-frame q.ask.blob q.ask.args.kept (valid.ask.names.blob ∙ ap names_blob is) (valid.ask.own.kept ∙ ap keeps_headers is)
-    write_frame_by op.SetMetadata is served writing = set_metadata-frame q.ask.blob (needed_blob p q free (ap needs_blob is))
-    write_frame_by op.DeleteBlob is served writing = refl
-    write_frame_by op.PutBlock is served writing = refl
-    write_frame_by op.PutBlockList is served writing =
+    write_frame_by op.SetMetadata is writing = set_metadata-frame q.ask.blob (needed_blob p q free (ap needs_blob is))
+    write_frame_by op.DeleteBlob is writing = refl
+    write_frame_by op.PutBlock is writing = refl
+    write_frame_by op.PutBlockList is writing =
         put_block_list-frame q.ask.blob q.ask.args.kept (valid.ask.names.blob ∙ ap names_blob is) (valid.ask.own.kept ∙ ap keeps_headers is)
-    write_frame_by other is served writing = cc
+    write_frame_by other is writing = cc
 
     -- the frame of a request that writes is the frame of the number and the moment of its change
-    pub frame_of_write : is_served q.ask.op ≡ true → writes q.ask.op ≡ true → frame (part_after pieces_len (change_of p q t) p) q ≡ write_frame q (p.count + 1) t
-    frame_of_write served writing = write_frame_by q.ask.op refl served writing
+    pub frame_of_write : writes q.ask.op ≡ true → frame (part_after pieces_len (change_of p q t) p) q ≡ write_frame q (p.count + 1) t
+    frame_of_write writing = write_frame_by q.ask.op refl writing
 
 spans_by-others : (o : Op) (range : Option ByteRange) (c : Committed (List Piece)) → (o ≡ op.GetBlob → ⊥) → spans_by o range c ≡ []
 spans_by-others op.GetBlob range c other = absurd (other refl)

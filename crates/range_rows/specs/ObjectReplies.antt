@@ -36,12 +36,6 @@ use Rattle.range_rows.specs.declared.answer.Span.{Span}
 use Rattle.range_rows.specs.NamedBlobs.{target_blob}
 use Rattle.range_rows.specs.ObjectRules.{blob_size, named_blob}
 
--- the operations that are answered so far: all but the two lists, which are refused
-abbrev pub is_served : Op → Bool
-is_served op.ListContainers = false
-is_served op.ListBlobs = false
-is_served _ = true
-
 -- a header of a text, which has no line if the text is empty
 abbrev pub line_of : (List ℕ → Header) → List ℕ → List Header
 line_of make [] = []
@@ -177,7 +171,7 @@ ranged_frame None c = get_frame c
 ranged_frame (Some r) c = part_frame r c
 
 -- A container and a blob without anything. They take the part of what does not exist in the reply to a request that no rule
--- refuses. For the operations that are served, no request is answered in this way: what a request answers from is made by its
+-- refuses. If its operation lists no names, no request is answered in this way: what a request answers from is made by its
 -- change, or a rule refuses the request without it.
 abbrev pub empty_standing : Standing
 empty_standing = record { etag = 0; made = 0; acl = closed_acl; metadata = [] }
@@ -200,7 +194,7 @@ abbrev pub blob_read : {C : Type 0} → Part C → Ask → Committed C
 blob_read p a = unwrap_or (named_blob p a) empty_blob
 
 -- the frame of the reply to an operation, if this is what the container has beside its blobs, this is what readers see of the blob, and
--- this is the whole blob, after the operation
+-- this is the whole blob, after the operation. A list of names is not answered in this way (list_pages has the replies to the two lists)
 abbrev pub frame_by : Op → Asked → Standing → Committed ℕ → Blob ℕ → Reply
 frame_by op.CreateContainer q s c b = success_reply status.Created (date_headers s.etag s.made) 0
 frame_by op.ContainerProperties q s c b = success_reply status.Success (metadata_headers s.metadata s.etag s.made) 0

@@ -16,7 +16,6 @@ mod reading;
 mod replies;
 mod request_changes;
 mod rows_rules;
-mod served;
 mod target;
 
 pub use answer::{Answer, Span};
@@ -27,7 +26,7 @@ pub use body_forms::BodyFault;
 pub use change_laws::a_change_that_no_rule_refuses_fits;
 pub use judged::{Allowed, Judged};
 pub use reading::Reading;
+pub use replies::text_reply;
 pub use row_trees::{Found, Rows};
 pub use rows_rules::ObjectRules;
-pub use served::is_served;
 pub use target::Target;

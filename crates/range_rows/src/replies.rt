@@ -3,7 +3,7 @@ ghost use Rattle.std.specs.Prelude.{◌≡◌, ◌≤◌, [], ◌∷◌, ◌++�
 ghost use Rattle.std.specs.List.{flat_map, list_all};
 ghost use Rattle.stamp_values.specs.Limits.{blob_limit};
 ghost use Rattle.std.specs.Option.{option_to_list};
-ghost use Rattle.stamp_values.specs.Operations.{writes};
+ghost use Rattle.stamp_values.specs.Operations.{lists_names, writes};
 ghost use Rattle.stamp_types.specs.declared.header.Header.TheVariants as header;
 ghost use Rattle.stamp_types.specs.Changes.{are_blocks, blocks_len};
 ghost use Rattle.stamp_types.specs.Pieces.{pieces_len};
@@ -170,12 +170,10 @@ fn success_reply(alloc: Global, status: Status, headers: Vec<Header>, length: u6
     }
 }
 
-/// A reply that refuses nothing, with this text as its body.
-pub(crate) fn text_reply(
-    alloc: Global,
-    headers: Vec<Header>,
-    text: Vec<u8>,
-) -> Result<Reply, AllocError>
+/// A reply that refuses nothing, with this text as its body. No byte of the text is copied.
+///
+/// `AllocError` if memory runs out for the owner of the text.
+pub fn text_reply(alloc: Global, headers: Vec<Header>, text: Vec<u8>) -> Result<Reply, AllocError>
     ensures { IfOk result (λ reply. reply ≡ replies.text_reply headers.items text.items) }
 {
     let length = text.len() as u64;
@@ -243,7 +241,6 @@ fn write_frame(
     etag: u64,
     moment: Moment,
 ) -> Result<Reply, AllocError>
-    requires served { IsTrue (replies.is_served request.now.ask.op) }
     requires writes { IsTrue (writes request.now.ask.op) }
     ensures frame { IfOk result (λ reply. reply ≡ replies.write_frame request.now etag moment) }
     ensures fits { IsRequest request.now }
@@ -406,7 +403,6 @@ fn write_answer(
     request: &Request,
     moment: Moment,
 ) -> Result<Answer, AllocError>
-    requires served { IsTrue (replies.is_served request.now.ask.op) }
     requires writes { IsTrue (writes request.now.ask.op) }
     requires allowed { object_refusal (sizes_found found.now) request.now ≡ None }
     ensures frame { IfOk result (λ answer. answer.frame
@@ -421,7 +417,7 @@ fn write_answer(
 #[tactic(auto, using(crate::proofs::Unrefused::allowed_blob, crate::proofs::Unrefused::allowed_container, crate::proofs::FrameLemmas::frame_of_container_properties, crate::proofs::FrameLemmas::frame_of_acl, crate::proofs::FrameLemmas::frame_of_get_blob, crate::proofs::FrameLemmas::frame_of_blob_properties, crate::proofs::FrameLemmas::frame_of_get_metadata, crate::proofs::FrameLemmas::frame_of_block_list, crate::proofs::FrameLemmas::spans_of_get, crate::proofs::FrameLemmas::spans_of_others))]
 fn read_answer(alloc: Global, target: &Target<'_>, request: &Request) -> Result<Answer, AllocError>
     requires target { IsTarget target.now request.now.ask }
-    requires served { IsTrue (replies.is_served request.now.ask.op) }
+    requires names { lists_names request.now.ask.op ≡ false }
     requires reads { writes request.now.ask.op ≡ false }
     requires allowed { object_refusal (sizes_found target.now.container) request.now ≡ None }
     ensures frame { IfOk result (λ answer.
@@ -463,9 +459,8 @@ fn read_answer(alloc: Global, target: &Target<'_>, request: &Request) -> Result<
 }
 
 impl<'a> Allowed<'a> {
-    ghost use Rattle.range_rows.specs.ObjectReplies.{is_served};
-
-    /// The answer to the request at the moment, if its operation is served. If the request makes a change, the answer is made from the container as it is after that change, which
+    /// The answer to the request at the moment. A list of names has another reply (`list_pages`). If the
+    /// request makes a change, the answer is made from the container as it is after that change, which
     /// is not applied yet.
     ///
     /// The answer has shares of the content, of which no byte is copied, or the content's places in
@@ -481,7 +476,7 @@ impl<'a> Allowed<'a> {
         moment: Moment,
     ) -> Result<Answer, AllocError>
         requires allowed { IsAllowed self.now request.now }
-        requires served { IsTrue (is_served request.now.ask.op) }
+        requires names { lists_names request.now.ask.op ≡ false }
         ensures frame { IfOk result (λ answer.
             answer.frame ≡ replies.frame (sizes_found_after self.now.target.container request.now moment) request.now) }
         ensures within { IfOk result (λ answer. IsTrue (list_all replies.is_within answer.spans)) }

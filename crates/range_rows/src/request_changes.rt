@@ -8,7 +8,6 @@ ghost use Rattle.stamp_types.specs.Changes.{is_act, is_in_one_piece};
 ghost use Rattle.row_trees.specs.FoundParts.{sizes_found};
 ghost use Rattle.range_rows.specs.Judgements.{IsAllowed};
 ghost use Rattle.range_rows.specs.NamedBlobs.{target_blob};
-ghost use Rattle.range_rows.specs.ObjectReplies.{is_served};
 ghost use Rattle.range_rows.specs.Readings.{listed_in, policies_in, reading_of, wanted_blocks};
 ghost use Rattle.range_rows.specs.RequestChanges as changes;
 
@@ -231,7 +230,6 @@ impl<'a> Allowed<'a> {
         moment: Moment,
     ) -> Result<Act, AllocError>
         requires allowed { IsAllowed self.now request.now }
-        requires served { IsTrue (is_served request.now.ask.op) }
         requires writes { IsTrue (writes request.now.ask.op) }
         requires read { reading ≡ reading_of request.now }
         ensures value { IfOk result (λ act. changes.act_by request.now.ask.op
@@ -277,7 +275,6 @@ impl<'a> Allowed<'a> {
         moment: Moment,
     ) -> Result<Change, AllocError>
         requires allowed { IsAllowed self.now request.now }
-        requires served { IsTrue (is_served request.now.ask.op) }
         requires writes { IsTrue (writes request.now.ask.op) }
         requires read { reading ≡ reading_of request.now }
         ensures { IfOk result (λ change. changes.change_of
@@ -288,8 +285,8 @@ impl<'a> Allowed<'a> {
         Ok(Change::fitting(key, act))
     }
 
-    /// The change that the request makes at the moment, if its operation writes and is served. Rows make
-    /// this change. The request was judged with `reading`, whose ids or policies move into the change. The ETag is
+    /// The change that the request makes at the moment, if its operation writes. Rows make this change.
+    /// The request was judged with `reading`, whose ids or policies move into the change. The ETag is
     /// given when the change is made.
     ///
     /// `AllocError` if memory runs out for the change, or if the body can have no further owner.
@@ -301,7 +298,6 @@ impl<'a> Allowed<'a> {
         moment: Moment,
     ) -> Result<Change, AllocError>
         requires allowed { IsAllowed self.now request.now }
-        requires served { IsTrue (is_served request.now.ask.op) }
         requires writes { IsTrue (writes request.now.ask.op) }
         requires read { reading ≡ reading_of request.now }
         ensures value { IfOk result (λ change. changes.change_of

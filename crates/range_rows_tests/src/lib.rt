@@ -6,6 +6,8 @@ mod block_tests;
 #[cfg(test)]
 mod change_tests;
 #[cfg(test)]
+mod list_reply_tests;
+#[cfg(test)]
 mod operation_tests;
 #[cfg(test)]
 mod page_tests;

@@ -2,7 +2,7 @@
 //! length, the body and the content of each reply, against values that were written by hand.
 
 use crate::sample_requests::{allowed, body, four_names, make, moment_after, request_with};
-use range_rows::{Answer, Reading, Rows, is_served};
+use range_rows::{Answer, Reading, Rows};
 use stamp_types::{Change, Header, Level, Moment, Op, Piece, Request, Status};
 use std::alloc::Global;
 use std::process::Abort;
@@ -192,7 +192,7 @@ fn answer(
     request: &Request,
     moment: Moment,
 ) -> Answer {
-    assert!(rt; is_served(request.ask().op));
+    assert!(rt; !request.ask().op.lists_names());
     let reading = Reading::of(alloc, request).expect(rt, "memory");
     let allowed = allowed(rt, alloc, rows, request, &reading);
     let answer = allowed.reply(alloc, request, moment);
@@ -207,7 +207,7 @@ fn change_of(
     request: &Request,
     moment: Moment,
 ) -> Change {
-    assert!(rt; request.ask().op.writes() && is_served(request.ask().op));
+    assert!(rt; request.ask().op.writes());
     let reading = Reading::of(alloc, request).expect(rt, "memory");
     let allowed = allowed(rt, alloc, rows, request, &reading);
     let change = allowed.change(alloc, request, reading, moment);

@@ -7,7 +7,7 @@ use crate::sample_parts::deleted_row;
 use range_rows::{Allowed, Judged, Reading, Rows, Target};
 use stamp_types::{
     Acl, Act, Args, Ask, Body, Bytes, Change, ContainerRow, Credential, FieldList, Items, Kept,
-    Key, Level, Meta, Metadata, Moment, Op, Piece, Pieces, Policies, Props, Request, Share,
+    Key, Level, Meta, Metadata, Moment, Op, Page, Piece, Pieces, Policies, Props, Request, Share,
     Signing, Standing, StoredBlob, Text, Verb, Visible,
 };
 use std::alloc::Global;
@@ -202,6 +202,23 @@ pub(crate) fn request_with(
     let args = args(alloc, op, None, metadata);
     let ask = asked(rt, alloc, op, "pics", "a.txt", args);
     let request = Request::new(alloc, ask, body).expect(rt, "memory");
+    request.expect(rt, "parts that fit")
+}
+
+/// A request of an operation that lists names, on the container or on the account alone, which asks for
+/// the page.
+pub(crate) fn list_request(
+    rt: &impl Abort,
+    alloc: Global,
+    op: Op,
+    key: Key,
+    page: Page,
+) -> Request {
+    let mut args = args(alloc, op, None, Metadata::empty(alloc));
+    args.page = Some(page);
+    let mut ask = asked(rt, alloc, op, "", "", args);
+    ask.key = key;
+    let request = Request::new(alloc, ask, Body::empty()).expect(rt, "memory");
     request.expect(rt, "parts that fit")
 }
 

@@ -8,7 +8,7 @@ use range_rows::Rows;
 use std::alloc::Global;
 use std::process::Abort;
 
-const WITH_A_GROUP: &str =
+pub(crate) const WITH_A_GROUP: &str =
     "<?xml version=\"1.0\" encoding=\"utf-8\"?><EnumerationResults><MaxResults>5000</MaxResults><Delimiter>/</Delimiter><Blobs><Blob><Name>a&amp;b&lt;c&gt;.txt</Name><Properties><Last-Modified>Mon, 01 Oct 2012 12:00:00 GMT</Last-Modified><Etag>\"0x0000000000000002\"</Etag><Content-Length>4</Content-Length><Content-Type>text/plain</Content-Type><BlobType>BlockBlob</BlobType></Properties></Blob><BlobPrefix><Name>d/</Name></BlobPrefix></Blobs><NextMarker></NextMarker></EnumerationResults>";
 
 const WITH_METADATA: &str =
@@ -17,7 +17,7 @@ const WITH_METADATA: &str =
 const WITHOUT_ENTRIES: &str =
     "<?xml version=\"1.0\" encoding=\"utf-8\"?><EnumerationResults><Marker>z</Marker><MaxResults>7</MaxResults><Blobs></Blobs><NextMarker></NextMarker></EnumerationResults>";
 
-const CONTAINERS: &str =
+pub(crate) const CONTAINERS: &str =
     "<?xml version=\"1.0\" encoding=\"utf-8\"?><EnumerationResults><MaxResults>5000</MaxResults><Containers><Container><Name>alpha</Name><Properties><Last-Modified>Mon, 01 Oct 2012 12:00:00 GMT</Last-Modified><Etag>\"0x0000000000000001\"</Etag></Properties></Container><Container><Name>beta</Name><Properties><Last-Modified>Mon, 01 Oct 2012 12:00:00 GMT</Last-Modified><Etag>\"0x0000000000000001\"</Etag></Properties></Container></Containers><NextMarker></NextMarker></EnumerationResults>";
 
 const CONTAINERS_WITH_METADATA: &str =

@@ -1,25 +1,21 @@
 -- The id of a block in a query that no rule refuses.
-use Rattle.std.proofs.Common.{◌≡◌, ℕ, ◌+◌, ◌≤◌, Bool, true, false, true≢false, not, ◌||◌, cond, List, [], ◌∷◌, find, length, nat_le, Option, Some, None, option_and_then, option_map, codes, refl, sym, ◌∙◌, arith, leb-true}
+use Rattle.std.proofs.Common.{◌≡◌, ℕ, ◌≤◌, Bool, true, false, true≢false, not, ◌||◌, cond, List, [], ◌∷◌, find, length, nat_le, Option, Some, None, option_and_then, option_map, codes, refl, sym, ◌∙◌, leb-true}
 use Rattle.std.proofs.lemmas.Bool.{and_parts, or_parts, not-false}
 use Rattle.std.specs.Prelude.{IsSome, is_some}
 use Rattle.std.specs.Option.{option_map_or}
 use Rattle.base64_text.specs.Base64.{standard, decoded_of, is_base64_within}
-use Rattle.stamp_types.specs.Requests.{given_len, kept_len}
-use Rattle.stamp_values.specs.Fields.{fields_len, first_value, has_name, is_sent}
-use Rattle.stamp_values.specs.MetadataLists.{metadata_len}
+use Rattle.stamp_types.specs.Requests.{given_len}
+use Rattle.stamp_values.specs.Fields.{first_value, has_name, is_sent}
 use Rattle.stamp_values.specs.Names.{is_within}
 use Rattle.stamp_values.specs.declared.op.Op.{Op}
 use Rattle.stamp_values.specs.declared.op.Op.TheVariants.{PutBlock}
 use Rattle.stamp_values.specs.declared.signing.Field.{Field}
 use Rattle.stamp_values.specs.declared.verb.Verb.{Verb}
-use Rattle.request_form.specs.HeadBlocks.{block_by, id_given}
+use Rattle.request_form.specs.HeadBlocks.{id_given}
 use Rattle.request_form.specs.HeadFields.{is_bad}
-use Rattle.request_form.specs.HeadForms.{kept_by}
-use Rattle.request_form.specs.HeadMetadata.{metadata_by}
 use Rattle.request_form.specs.HeadParts.{HeadParts}
 use Rattle.request_form.specs.HeadRules.{has_bad_block_id, has_bad_parameter, if_identified, is_bad_parameter, is_good_value, is_id, op_at, op_of, row_at, verb_of}
 use Rattle.request_form.specs.Targets.{target_of}
-use Rattle.request_form.proofs.ValueLemmas.{args_short}
 
 -- what was sent under a name has a first value
 first_sent : (query : List Field) (name : List ℕ) → is_sent query name ≡ is_some (first_value query name)
@@ -68,16 +64,6 @@ identified given (Some op) e = by_op op given e
     by_op PutBlock false e = absurd (cc)
     by_op other given e = absurd (cc)
 
--- an operation that is asked for is the operation of its row
-pub row_of : (given : Bool) (o : Option Op) (op : Op) → option_and_then (if_identified given) o ≡ Some op → o ≡ Some op
-row_of given None op e = absurd (cc)
-row_of given (Some found) op e = by_op found given e
-  where
-    by_op : (found : Op) (given : Bool) → if_identified given found ≡ Some op → Some found ≡ Some op
-    by_op PutBlock true e = e
-    by_op PutBlock false e = absurd (cc)
-    by_op other given e = e
-
 -- the id of a Put Block is there and has at most 64 bytes
 pub id_there : (p : HeadParts) → op_of p ≡ Some PutBlock → has_bad_parameter (target_of p.target).query ≡ false → IsShortId (id_given (target_of p.target).query)
 unfolding op_of op_at
@@ -87,10 +73,3 @@ id_there p e good = id_sent (target_of p.target).query (by_verb (verb_of p.metho
         → is_sent (target_of p.target).query (codes "blockid") ≡ true
     by_verb None e = absurd (cc)
     by_verb (Some verb) e = identified (is_sent (target_of p.target).query (codes "blockid")) (row_at verb (target_of p.target)) e
-
--- what an operation keeps and the id of its block have together at most 16,384 bytes
-pub all_short : (op : Op) (fields query : List Field) → fields_len fields ≤ 16384 → (op ≡ PutBlock → IsShortId (id_given query))
-    → kept_len (kept_by op fields) + metadata_len (metadata_by op fields) + given_len (block_by op query) ≤ 16384
-unfolding metadata_by
-all_short PutBlock fields query short id = let bound = (id refl).short in omega (arith)
-all_short other fields query short id = omega (arith, args_short other fields)

@@ -19,7 +19,7 @@ use Rattle.request_form.proofs.MetadataLemmas.{meta_counted, metas_count}
 use Rattle.request_form.specs.HeadRules.{has_bad_condition, has_bad_kept_by, has_bad_level_by, has_bad_line, has_bad_md5, has_own_twice, has_standard_twice, is_condition, kept_value}
 
 -- the value that was sent under a name is counted if the test passes its name
-under_short : (test : List ℕ → Bool) (name : List ℕ) → test name ≡ true → (fields : List Field) → given_len (first_value fields name) ≤ sum_by (λ f. cond (test f.name) (length f.value) 0) fields
+pub under_short : (test : List ℕ → Bool) (name : List ℕ) → test name ≡ true → (fields : List Field) → given_len (first_value fields name) ≤ sum_by (λ f. cond (test f.name) (length f.value) 0) fields
 under_short test name passes [] = omega arith
 under_short test name passes (f ∷ fs) = by_name (bytes_eq f.name name) refl (under_short test name passes fs)
   where

@@ -27,6 +27,7 @@ use Rattle.stamp_values.specs.Ascii.{comma}
 use Rattle.request_form.specs.HeadBlocks.{block_by, kinds_by}
 use Rattle.request_form.specs.HeadConditions.{condition_by}
 use Rattle.request_form.specs.HeadMetadata.{metadata_by}
+use Rattle.request_form.specs.HeadPages.{page_by}
 use Rattle.request_form.specs.HeadRanges.{range_by}
 use Rattle.request_form.specs.HeadRules.{verb_of, op_of, kept_value, body_len_of}
 use Rattle.request_form.specs.HeadParts.{HeadParts}
@@ -96,7 +97,7 @@ header_args_of op fields = record (line_args_of op fields) { metadata = metadata
 
 -- what comes with a request
 unfoldable pub args_of : Op → List Field → List Field → Args
-args_of op fields query = record (header_args_of op fields) { block = block_by op query; kinds = kinds_by op query }
+args_of op fields query = record (header_args_of op fields) { page = page_by op query; block = block_by op query; kinds = kinds_by op query }
 
 -- what the string to sign is made of
 unfoldable pub signing_of : Verb → HeadParts → Signing

@@ -9,6 +9,7 @@ use Rattle.stamp_types.specs.declared.rule.Rule.{Rule}
 use Rattle.stamp_types.specs.declared.rule.Rule.TheVariants.{F1, F2, F3, F4, F5, F6, F7, F8}
 use Rattle.request_form.specs.Targets.{blob_of, target_of}
 use Rattle.request_form.specs.HeadBlocks.{block_by, kinds_by}
+use Rattle.request_form.specs.HeadPages.{page_by}
 use Rattle.request_form.specs.HeadRules.{verb_of, op_at, op_of, has_bad_name, has_bad_parameter, body_len_of, denial_among}
 use Rattle.request_form.specs.HeadForms.{header_args_of, key_by, blob_by}
 use Rattle.request_form.specs.declared.denial.HeadFault.{HeadFault}
@@ -64,6 +65,7 @@ pub record IsOperation (verb : Verb) (target : Target) (o : Operation) : Type 0 
   pub parameters : has_bad_parameter target.query ≡ false
   pub block : o.block ≡ block_by o.op target.query
   pub kinds : o.kinds ≡ kinds_by o.op target.query
+  pub page : o.page ≡ page_by o.op target.query
 
 -- what a request line says
 pub record IsLine (p : HeadParts) (l : Line) : Type 0 where
@@ -72,6 +74,7 @@ pub record IsLine (p : HeadParts) (l : Line) : Type 0 where
   pub parameters : has_bad_parameter (target_of p.target).query ≡ false
   pub block : l.block ≡ block_by l.op (target_of p.target).query
   pub kinds : l.kinds ≡ kinds_by l.op (target_of p.target).query
+  pub page : l.page ≡ page_by l.op (target_of p.target).query
   pub target : l.target ≡ target_of p.target
 
 -- what the names and the header lines say

@@ -6,7 +6,7 @@ use Rattle.std.specs.List.{list_all, list_any}
 use Rattle.std.specs.Option.{option_map_or, option_or}
 use Rattle.std.specs.Str.Parse.{digits_value}
 use Rattle.stamp_values.specs.declared.op.Op.{Op}
-use Rattle.stamp_values.specs.declared.op.Op.TheVariants.{CreateContainer, ContainerProperties, SetContainerMetadata, GetAcl, SetAcl, DeleteContainer, PutBlob, GetBlob, BlobProperties, GetMetadata, SetMetadata, DeleteBlob, PutBlock, PutBlockList, GetBlockList}
+use Rattle.stamp_values.specs.declared.op.Op.TheVariants.{ListContainers, CreateContainer, ContainerProperties, SetContainerMetadata, GetAcl, SetAcl, DeleteContainer, ListBlobs, PutBlob, GetBlob, BlobProperties, GetMetadata, SetMetadata, DeleteBlob, PutBlock, PutBlockList, GetBlockList}
 use Rattle.stamp_values.specs.declared.verb.Verb.{Verb}
 use Rattle.stamp_values.specs.declared.verb.Verb.TheVariants.{Get, Head, Put, Delete}
 use Rattle.stamp_values.specs.declared.signing.Field.{Field}
@@ -49,7 +49,8 @@ pub record OperationRow : Type 0 where
 -- the operations that are built
 abbrev pub operations : List OperationRow
 operations =
-    record { verb = Put; kind = path.Container; restype = Some (codes "container"); comp = None; op = CreateContainer }
+    record { verb = Get; kind = path.Account; restype = None; comp = Some (codes "list"); op = ListContainers }
+    ∷ record { verb = Put; kind = path.Container; restype = Some (codes "container"); comp = None; op = CreateContainer }
     ∷ record { verb = Get; kind = path.Container; restype = Some (codes "container"); comp = None; op = ContainerProperties }
     ∷ record { verb = Head; kind = path.Container; restype = Some (codes "container"); comp = None; op = ContainerProperties }
     ∷ record { verb = Put; kind = path.Container; restype = Some (codes "container"); comp = Some (codes "metadata"); op = SetContainerMetadata }
@@ -57,6 +58,7 @@ operations =
     ∷ record { verb = Head; kind = path.Container; restype = Some (codes "container"); comp = Some (codes "acl"); op = GetAcl }
     ∷ record { verb = Put; kind = path.Container; restype = Some (codes "container"); comp = Some (codes "acl"); op = SetAcl }
     ∷ record { verb = Delete; kind = path.Container; restype = Some (codes "container"); comp = None; op = DeleteContainer }
+    ∷ record { verb = Get; kind = path.Container; restype = Some (codes "container"); comp = Some (codes "list"); op = ListBlobs }
     ∷ record { verb = Put; kind = path.Blob; restype = None; comp = None; op = PutBlob }
     ∷ record { verb = Get; kind = path.Blob; restype = None; comp = None; op = GetBlob }
     ∷ record { verb = Head; kind = path.Blob; restype = None; comp = None; op = BlobProperties }

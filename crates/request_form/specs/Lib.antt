@@ -3,6 +3,7 @@ pub mod HeadConditions
 pub mod HeadFields
 pub mod HeadForms
 pub mod HeadMetadata
+pub mod HeadPages
 pub mod HeadParts
 pub mod HeadRanges
 pub mod HeadReads

@@ -107,6 +107,7 @@ fn ask(head: ParsedHead<'_>, line: Line, names: Names, mut args: Args) -> Ask
 {
     let Target { path, query } = line.target;
     let credential = credential(head.authorization, &query);
+    args.page = line.page;
     args.block = line.block;
     args.kinds = line.kinds;
     Ask {

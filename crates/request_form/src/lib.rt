@@ -18,6 +18,7 @@ mod level_field;
 mod metadata_fields;
 mod names;
 mod operation;
+mod page_parameters;
 mod parameters;
 mod parsed_head;
 mod path_kind;

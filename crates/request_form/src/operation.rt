@@ -8,11 +8,12 @@ ghost use Rattle.request_form.specs.HeadRules as heads;
 ghost use Rattle.request_form.specs.declared.path_kind.PathKind.TheVariants as path;
 
 use crate::block_parameters::{block_by, kinds_by, read_id, read_kinds};
+use crate::page_parameters::page_by;
 use crate::parameters::has_bad_parameter;
 use crate::path_kind::PathKind;
 use crate::target::{Target, kind};
 use crate::value_fault::ValueFault;
-use stamp_types::{BlockId, BlockKinds, Code, Op, Verb};
+use stamp_types::{BlockId, BlockKinds, Code, Op, Page, Verb};
 use std::alloc::Global;
 
 /// What a method and a target ask for.
@@ -23,6 +24,8 @@ pub struct Operation {
     pub block: Option<BlockId>,
     /// The kinds of blocks, if the operation is Get Block List.
     pub kinds: Option<BlockKinds>,
+    /// Which names are to be listed, if the operation lists names.
+    pub page: Option<Page>,
 }
 
 /// Whether the operation is Put Blob.
@@ -44,6 +47,17 @@ fn is_value(value: Option<&[u8]>, wanted: Option<&str>) -> bool
     }
 }
 
+// The operation on an account that fits a method and a value of comp.
+fn account_op(verb: Verb, comp: Option<&[u8]>) -> Option<Op>
+    ensures { result ≡ heads.op_by verb path.Account None (option_map (λ v. v.now) comp.entry) }
+{
+    let list = is_value(comp, Some("list"));
+    match verb {
+        Verb::Get if list => Some(Op::ListContainers),
+        _ => None,
+    }
+}
+
 // The operation on a container that fits a method and a value of comp.
 fn container_op(verb: Verb, comp: Option<&[u8]>) -> Option<Op>
     ensures { result ≡ heads.op_by verb path.Container (Some (codes "container"))
@@ -52,12 +66,14 @@ fn container_op(verb: Verb, comp: Option<&[u8]>) -> Option<Op>
     let plain = is_value(comp, None);
     let metadata = is_value(comp, Some("metadata"));
     let acl = is_value(comp, Some("acl"));
+    let list = is_value(comp, Some("list"));
     match verb {
         Verb::Put if plain => Some(Op::CreateContainer),
         Verb::Put if metadata => Some(Op::SetContainerMetadata),
         Verb::Put if acl => Some(Op::SetAcl),
         Verb::Get | Verb::Head if plain => Some(Op::ContainerProperties),
         Verb::Get | Verb::Head if acl => Some(Op::GetAcl),
+        Verb::Get if list => Some(Op::ListBlobs),
         Verb::Delete if plain => Some(Op::DeleteContainer),
         _ => None,
     }
@@ -92,6 +108,7 @@ fn row_at(verb: Verb, target: &Target) -> Option<Op>
     let restype = target.query.first(b"restype");
     let comp = target.query.first(b"comp");
     match kind(target.path.as_slice()) {
+        PathKind::Account if is_value(restype, None) => account_op(verb, comp),
         PathKind::Container if is_value(restype, Some("container")) => container_op(verb, comp),
         PathKind::Blob if is_value(restype, None) => blob_op(verb, comp),
         _ => None,
@@ -128,11 +145,19 @@ pub(crate) fn read_operation(
     if has_bad_parameter(&target.query) {
         return Err(ValueFault::Refused(Code::InvalidQueryParameterValue));
     }
-    let id = read_id(alloc, &target.query)?;
     let kinds = read_kinds(&target.query)?;
+    let id = read_id(alloc, &target.query)?;
+    let page = match page_by(alloc, op, &target.query) {
+        Ok(page) => page,
+        Err(fault) => {
+            drop(id);
+            return Err(fault);
+        }
+    };
     Ok(Operation {
         op,
         block: block_by(op, id),
         kinds: kinds_by(op, kinds),
+        page,
     })
 }

@@ -9,7 +9,7 @@ use crate::parsed_head::ParsedHead;
 use crate::target::{Target, read_target};
 use crate::value_fault::ValueFault;
 use crate::verb::verb;
-use stamp_types::{BlockId, BlockKinds, Code, Op, Rule, Verb};
+use stamp_types::{BlockId, BlockKinds, Code, Op, Page, Rule, Verb};
 use std::alloc::Global;
 
 /// What a request line says that no rule refuses.
@@ -21,6 +21,8 @@ pub struct Line {
     pub block: Option<BlockId>,
     /// The kinds of blocks, if the operation is Get Block List.
     pub kinds: Option<BlockKinds>,
+    /// Which names are to be listed, if the operation lists names.
+    pub page: Option<Page>,
     pub target: Target,
 }
 
@@ -40,7 +42,12 @@ pub(crate) fn read_line(alloc: Global, head: &ParsedHead<'_>) -> Result<Line, He
     let Some(verb) = verb(alloc, head.method)? else {
         return Err(HeadFault::Denied(denied(Rule::F2, Code::UnsupportedHttpVerb, None)));
     };
-    let Operation { op, block, kinds } = match read_operation(alloc, verb, &target) {
+    let Operation {
+        op,
+        block,
+        kinds,
+        page,
+    } = match read_operation(alloc, verb, &target) {
         Ok(operation) => operation,
         Err(ValueFault::Refused(code)) => {
             return Err(HeadFault::Denied(denied(Rule::F3, code, Some(verb))));
@@ -52,6 +59,7 @@ pub(crate) fn read_line(alloc: Global, head: &ParsedHead<'_>) -> Result<Line, He
         op,
         block,
         kinds,
+        page,
         target,
     })
 }

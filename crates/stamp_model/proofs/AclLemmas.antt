@@ -80,7 +80,7 @@ said_policies (Err fault) good = cc
 module _ (w : World (List ℕ)) (key : Key) (set : Timed)
     (sets : IsIn op.SetAcl key set.request) (none : (reply_to_one w set).rule ≡ None) where
   free : refusal set.keys (sizes (part_at w set.request.ask.key)) set.request set.moment ≡ None
-  free = reply-unrefused set.keys w set.request set.moment None none
+  free = reply-unrefused set.keys w set.request set.moment set.bound none
 
   container_then : (s : Standing) × ((part_at w key).standing ≡ Some s)
   container_then =
@@ -108,20 +108,20 @@ module _ (w : World (List ℕ)) (key : Key) (set : Timed)
   standing-acl : (part_at (world_after_one w set) key).standing ≡ Some set_standing
   standing-acl =
       ap (λ (p : Part (List ℕ)). p.standing)
-      (part_at-act set.keys w set.request set.moment key (act.SetAcl (set_acl set.request set.moment)) sets.container none
+      (part_at-act set.keys w set.request set.moment set.bound key (act.SetAcl (set_acl set.request set.moment)) sets.container none
       (λ z. ap (λ (o : Op). act_by o z set.request set.moment) sets.op))
       ∙ ap (λ (o : Option Standing). option_map (standing_with_acl ((part_at w key).count + 1) (set_acl set.request set.moment)) o) container_then.1
 
   -- the reply to a Set Container ACL has the ETag and the moment of its change
   pub headers-set_acl : (reply_to_one w set).headers ≡ date_headers ((part_at w key).count + 1) set.moment
   headers-set_acl =
-      ap (λ (r : Reply). r.headers) (reply-write_in set.keys w set.request set.moment none op.SetAcl key sets)
+      ap (λ (r : Reply). r.headers) (reply-write_in set.keys w set.request set.moment set.bound none op.SetAcl key refl sets)
       ∙ ap (λ (o : Option Standing). date_headers (unwrap_or o empty_standing).etag (unwrap_or o empty_standing).made) standing-acl
 
   module _ (get : Timed) (gets : IsIn op.GetAcl key get.request) (unrefused : (reply_to_one (world_after_one w set) get).rule ≡ None) where
     shown : reply_to_one (world_after_one w set) get ≡ with_content (acl_frame set_standing) []
     shown =
-        reply-read_in get.keys (world_after_one w set) get.request get.moment unrefused op.GetAcl key refl gets
+        reply-read_in get.keys (world_after_one w set) get.request get.moment get.bound unrefused op.GetAcl key refl refl gets
         ∙ ap (λ (o : Option Standing). with_content (acl_frame (unwrap_or o empty_standing)) []) standing-acl
 
     body-get_acl : (reply_to_one (world_after_one w set) get).body ≡ policies_text policies_said.0

@@ -5,7 +5,7 @@ use Rattle.std.specs.Prelude.{is_none, is_some}
 use Rattle.std.specs.FinMap.{entries}
 use Rattle.std.specs.Option.{option_map, option_and_then}
 use Rattle.stamp_values.specs.Maps.{entry_value}
-use Rattle.stamp_values.specs.Operations.{is_op, keeps_headers, names_blob, writes}
+use Rattle.stamp_values.specs.Operations.{is_op, keeps_headers, lists_names, names_blob, writes}
 use Rattle.stamp_values.specs.Order.{names_exact, names_total}
 use Rattle.stamp_values.specs.declared.block.BlockKinds.{BlockKinds}
 use Rattle.stamp_values.specs.declared.block.BlockKinds.TheVariants as kinds
@@ -17,6 +17,7 @@ use Rattle.stamp_types.specs.declared.args.Kept.{Kept}
 use Rattle.stamp_types.specs.declared.committed.Committed.{Committed}
 use Rattle.stamp_types.specs.declared.refusal.Refusal.{Refusal}
 use Rattle.stamp_types.specs.declared.standing.Standing.{Standing}
+use Rattle.stamp_values.specs.declared.key.Key.{Key}
 use Rattle.stamp_types.specs.Pieces.{held}
 use Rattle.stamp_types.specs.Requests.{Asked, IsAsk}
 use Rattle.stamp_types.specs.World.{Blob, Part, World, blob_in, blob_value, committed_value, committed_with_metadata, part_at, standing_with_acl, standing_with_metadata}
@@ -33,12 +34,12 @@ use Rattle.range_rows.proofs.BlockLemmas.{target_blob-part_value}
 use Rattle.range_rows.proofs.ListLemmas.{entries-map_values}
 use Rattle.stamp_model.specs.Refusals.{refusal}
 use Rattle.stamp_model.specs.Effects.{unless_refused, change, effect}
-use Rattle.stamp_model.specs.Responses.{tells_container, tells_blob, tells_nothing}
+use Rattle.stamp_model.specs.Responses.{answer_of, tells_container, tells_blob, tells_nothing}
 use Rattle.stamp_model.proofs.ArgumentLemmas.{no_cause}
 use Rattle.stamp_model.proofs.EffectLemmas.{on_key}
 use Rattle.stamp_model.proofs.ObjectLemmas.{is_some-mapped, container_needed, blob_needed}
 use Rattle.stamp_model.proofs.ReadLemmas.{effect-read}
-use Rattle.stamp_model.proofs.ReplyLemmas.{unrefused}
+use Rattle.stamp_model.proofs.ReplyLemmas.{answer_of-rows, unrefused}
 
 module _ (p : Part (List ℕ)) (q : Asked) (t : ℕ) where
   abbrev after_act : Option Act → Part (List ℕ)
@@ -152,8 +153,20 @@ module _ (q : Asked) (s r : Standing) (c d : Committed ℕ) (b g : Blob ℕ) (e 
   nothing_told op.PutBlock tells = refl
   nothing_told other tells = cc
 
--- an answer that tells nothing is the same whatever the container is
-pub reply_of-nothing : (p r : Part (List ℕ)) (q : Asked) → tells_nothing q.ask.op ≡ true → reply_of p q ≡ reply_of r q
+-- what rows answer is the same whatever the container is, if it tells nothing
+reply_of-nothing : (p r : Part (List ℕ)) (q : Asked) → tells_nothing q.ask.op ≡ true → reply_of p q ≡ reply_of r q
 reply_of-nothing p r q tells =
     nothing_told q (standing_read (sizes p)) (standing_read (sizes r)) (blob_read (sizes p) q.ask) (blob_read (sizes r) q.ask)
     (target_blob (sizes p) q.ask) (target_blob (sizes r) q.ask) (blob_read p q.ask) (blob_read r q.ask) q.ask.op tells
+
+lists_none : (o : Op) → tells_nothing o ≡ true → lists_names o ≡ false
+lists_none op.ListContainers tells = cc
+lists_none op.ListBlobs tells = cc
+lists_none other tells = refl
+
+-- an answer that tells nothing is the same whatever containers there are
+pub answer_of-nothing : (w v : World (List ℕ)) (q : Asked) (bound : Option Key) → tells_nothing q.ask.op ≡ true → answer_of w q bound ≡ answer_of v q bound
+answer_of-nothing w v q bound tells =
+    answer_of-rows w q bound (lists_none q.ask.op tells)
+    ∙ reply_of-nothing (part_at w q.ask.key) (part_at v q.ask.key) q tells
+    ∙ sym (answer_of-rows v q bound (lists_none q.ask.op tells))

@@ -18,7 +18,7 @@ use Rattle.container_acl.specs.JoinedFields.{letters_of}
 use Rattle.row_trees.specs.Access.{acl_of}
 use Rattle.range_rows.specs.ObjectRules.{Cause, cause_holds, cause_refusal, causes}
 use Rattle.range_rows.specs.ObjectRules.Cause.{ContainerIsAbsent, ContainerExists, BlobIsAbsent, MatchFails, IsNotModified, BlobExists, NoneMatchFails, BodyIsDamaged, BodyIsMalformed, IdIsBad, BlockIsMissing, ListIsTooLong, IdHasOtherLength, BlocksAreFull, ListIsTooLarge, RangeIsPastTheEnd, CountIsFull}
-use Rattle.stamp_model.specs.Refusals.{access_refusal, refusal, unserved_refusal}
+use Rattle.stamp_model.specs.Refusals.{access_refusal, refusal}
 use Rattle.stamp_model.proofs.ReplyLemmas.{unrefused}
 
 -- ---- what is found
@@ -97,7 +97,7 @@ module _ (keys : Option Keys) (p : Part ℕ) (q : Asked) (t : ℕ) where
   pub refusal-with_args : (x : Args) → x.kinds ≡ q.ask.args.kinds → ((c : Cause) → cause_holds p (asked_with q x) c ≡ cause_holds p q c) → refusal keys p (asked_with q x) t ≡ refusal keys p q t
   refusal-with_args x same alike =
       λ i. option_or (option_map access_refusal (first_rule-with_args keys (acl_of p) q.ask x t same i))
-      (option_or (option_map cause_refusal (find (λ c. alike c i) causes)) (unserved_refusal q.ask.op))
+      (option_map cause_refusal (find (λ c. alike c i) causes))
 
   module _ (free : refusal keys p q t ≡ None) where
     unfound : find (cause_holds p q) causes ≡ None

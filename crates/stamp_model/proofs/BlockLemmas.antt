@@ -75,12 +75,12 @@ module _ (w : World (List ℕ)) (key : Key) (name id : List ℕ) (put : Timed)
 
   -- a Put Block is one change of its container
   pub count-put_block : (part_at (world_after_one w put) key).count ≡ (part_at w key).count + 1
-  count-put_block = ap (λ (p : Part (List ℕ)). p.count) (part_at-act put.keys w put.request put.moment key (act.PutBlock block_put) puts.container none block_act)
+  count-put_block = ap (λ (p : Part (List ℕ)). p.count) (part_at-act put.keys w put.request put.moment put.bound key (act.PutBlock block_put) puts.container none block_act)
 
   -- after a Put Block the uncommitted blocks of its blob are those of before, with the body under the id
   pub uncommitted-put_block : (blob_in (part_at (world_after_one w put) key) name).uncommitted ≡ finite.insert (blob_in (part_at w key) name).uncommitted id put.request.body
   uncommitted-put_block =
-      ap (λ (p : Part (List ℕ)). (blob_in p name).uncommitted) (part_at-act put.keys w put.request put.moment key (act.PutBlock block_put) puts.container none block_act)
+      ap (λ (p : Part (List ℕ)). (blob_in p name).uncommitted) (part_at-act put.keys w put.request put.moment put.bound key (act.PutBlock block_put) puts.container none block_act)
       ∙ ap (λ (b : Blob (List ℕ)). b.uncommitted) (blob_in-insert held (part_at w key) ((part_at w key).count + 1) (part_at w key).standing name (with_block (part_at w key) block_put))
       ∙ ap (λ (bytes : List ℕ). finite.insert (blob_in (part_at w key) name).uncommitted id bytes) (held-cut put.request.body)
 
@@ -181,7 +181,7 @@ module _ (w : World (List ℕ)) (key : Key) (name : List ℕ) (list : Timed)
       (sym (ap (λ (o : Option ℕ). is_some o) (first_missing-read byte_count blob_before wanted))
       ∙ sym (ap (λ (b : Blob ℕ). is_some (first_missing b wanted)) (blob_in-part_value byte_count (part_at w key) name))
       ∙ sym (λ i. is_some (first_missing (unwrap_or (option_map (blob_in (sizes (part_at w (lists.container i)))) (lists.blob i)) no_blob) wanted))
-      ∙ no_cause list.keys (sizes (part_at w list.request.ask.key)) list.request list.moment (reply-unrefused list.keys w list.request list.moment None none) BlockIsMissing)
+      ∙ no_cause list.keys (sizes (part_at w list.request.ask.key)) list.request list.moment (reply-unrefused list.keys w list.request list.moment list.bound none) BlockIsMissing)
 
   module _ (kept : Kept) (keeps : list.request.ask.args.kept ≡ Some kept) where
     abbrev list_put : PutBlockList
@@ -194,7 +194,7 @@ module _ (w : World (List ℕ)) (key : Key) (name : List ℕ) (list : Timed)
 
     -- the container after an accepted Put Block List is what its act makes of the container
     pub part-listed : part_at (world_after_one w list) key ≡ changed held (act.PutBlockList list_put) (part_at w key)
-    part-listed = part_at-own_act list.keys w list.request list.moment key (act.PutBlockList list_put) lists.container none list_act
+    part-listed = part_at-own_act list.keys w list.request list.moment list.bound key (act.PutBlockList list_put) lists.container none list_act
 
     abbrev pub list_there : Committed (List ℕ)
     list_there = listed_committed_part held ((part_at w key).count + 1) list_put (part_at w key)
@@ -216,7 +216,7 @@ module _ (w : World (List ℕ)) (key : Key) (name : List ℕ) (list : Timed)
         → (reply_to_one (world_after_one w list) get).body ≡ wanted_bytes blob_before wanted
     body-list get gets whole free =
         ap (λ (r : Reply). r.body)
-        (reply-read get.keys (world_after_one w list) get.request get.moment free op.GetBlob key name list_there refl gets committed-list
+        (reply-read get.keys (world_after_one w list) get.request get.moment get.bound free op.GetBlob key name list_there refl refl gets committed-list
         ∙ ap (λ (r : Option ByteRange). with_content (ranged_frame r (committed_value byte_count list_there)) (ranged_bytes r (blob_content list_there))) whole)
         ∙ content-list
 
@@ -224,13 +224,13 @@ module _ (w : World (List ℕ)) (key : Key) (name : List ℕ) (list : Timed)
     pub length-list : (get : Timed) → IsOn op.BlobProperties key name get.request → (reply_to_one (world_after_one w list) get).rule ≡ None
         → (reply_to_one (world_after_one w list) get).length ≡ length (wanted_bytes blob_before wanted)
     length-list get gets free =
-        ap (λ (r : Reply). r.length) (reply-read get.keys (world_after_one w list) get.request get.moment free op.BlobProperties key name list_there refl gets committed-list)
+        ap (λ (r : Reply). r.length) (reply-read get.keys (world_after_one w list) get.request get.moment get.bound free op.BlobProperties key name list_there refl refl gets committed-list)
         ∙ sizes_of_bytes list_there.blocks
         ∙ ap (λ (bytes : List ℕ). length bytes) content-list
 
     -- the reply to a Put Block List has the ETag and the moment of its change
     pub headers-list : (reply_to_one w list).headers ≡ header.ContentMd5 (md5 list.request.body) ∷ date_headers ((part_at w key).count + 1) list.moment
-    headers-list = ap (λ (r : Reply). r.headers) (reply-write list.keys w list.request list.moment none op.PutBlockList key name list_there lists committed-list)
+    headers-list = ap (λ (r : Reply). r.headers) (reply-write list.keys w list.request list.moment list.bound none op.PutBlockList key name list_there refl lists committed-list)
 
     -- the reply to a Get Blob after the Put Block List has the same ETag and the same moment
     pub headers-get_list : (get : Timed) → IsOn op.GetBlob key name get.request → get.request.ask.args.range ≡ None
@@ -240,7 +240,7 @@ module _ (w : World (List ℕ)) (key : Key) (name : List ℕ) (list : Timed)
         ++ header.BlobType ∷ header.AcceptRanges ∷ date_headers ((part_at w key).count + 1) list.moment
     headers-get_list get gets whole free =
         ap (λ (r : Reply). r.headers)
-        (reply-read get.keys (world_after_one w list) get.request get.moment free op.GetBlob key name list_there refl gets committed-list
+        (reply-read get.keys (world_after_one w list) get.request get.moment get.bound free op.GetBlob key name list_there refl refl gets committed-list
         ∙ ap (λ (r : Option ByteRange). with_content (ranged_frame r (committed_value byte_count list_there)) (ranged_bytes r (blob_content list_there))) whole)
 
 -- ---- a blob without uncommitted blocks
@@ -262,7 +262,7 @@ module _ (w : World (List ℕ)) (key : Key) (name : List ℕ) (commit : Timed)
   uncommitted-taken op.PutBlob takes on =
       let keeps = kept-put commit.request key name fits on in
       let put : PutBlob = put_blob commit.request commit.moment name keeps.0 in
-      ap uncommitted_in (part_at-act commit.keys w commit.request commit.moment key (act.PutBlob put) on.container none (put_act w key name keeps.0 commit on keeps.1 none))
+      ap uncommitted_in (part_at-act commit.keys w commit.request commit.moment commit.bound key (act.PutBlob put) on.container none (put_act w key name keeps.0 commit on keeps.1 none))
       ∙ inserted_last (put_committed held ((part_at w key).count + 1) put)
   uncommitted-taken op.PutBlockList takes on =
       let keeps = kept-list commit.request key name fits on in
@@ -277,7 +277,7 @@ module _ (w : World (List ℕ)) (key : Key) (name : List ℕ) (commit : Timed)
 pub body-block_list : (v : World (List ℕ)) (key : Key) (name : List ℕ) (list : Timed) → IsOn op.GetBlockList key name list.request → (reply_to_one v list).rule ≡ None
     → (reply_to_one v list).body ≡ list_text list.request.ask.args.kinds (blob_in (sizes (part_at v key)) name)
 body-block_list v key name list lists free =
-    ap (λ (r : Reply). r.body) (reply-read_in list.keys v list.request list.moment free op.GetBlockList key refl (record { op = lists.op; container = lists.container }))
+    ap (λ (r : Reply). r.body) (reply-read_in list.keys v list.request list.moment list.bound free op.GetBlockList key refl refl (record { op = lists.op; container = lists.container }))
     ∙ append-nil (list_text list.request.ask.args.kinds (target_blob (sizes (part_at v key)) list.request.ask))
     ∙ ap (λ (blob : Option (List ℕ)). list_text list.request.ask.args.kinds (unwrap_or (option_map (blob_in (sizes (part_at v key))) blob) no_blob)) lists.blob
 
@@ -310,7 +310,7 @@ pub reply-deleted_list : (w : World (List ℕ)) (key : Key) (name : List ℕ) (d
 reply-deleted_list w key name delete list deletes none lists admits =
     let v = world_after_one w delete in
     let gone = part-deleted w key name delete deletes none in
-    reply-refused list.keys v list.request list.moment (cause_refusal BlobIsAbsent) admits
+    reply-refused list.keys v list.request list.moment list.bound (cause_refusal BlobIsAbsent) admits
     (object_refusal-list (part_at v list.request.ask.key) list.request name lists.op lists.blob
     (ap (λ (k : Key). is_some (part_at v k).standing) lists.container ∙ ap (λ (p : Part (List ℕ)). is_some p.standing) gone ∙ container_before w key name delete deletes none)
     (ap (λ (k : Key). blob_in (part_at v k) name) lists.container ∙ ap (λ (p : Part (List ℕ)). blob_in p name) gone

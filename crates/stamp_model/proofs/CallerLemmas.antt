@@ -11,10 +11,9 @@ use Rattle.stamp_values.specs.declared.level.Level.{Level}
 use Rattle.stamp_values.specs.declared.signing.Credential.{Credential}
 use Rattle.stamp_values.specs.declared.signing.Credential.TheVariants.{Shared, Token, Anonymous}
 use Rattle.stamp_types.specs.declared.ask.Ask.{Ask}
-use Rattle.stamp_types.specs.declared.code.Code.TheVariants.{InvalidQueryParameterValue}
 use Rattle.stamp_types.specs.declared.refusal.Refusal.{Refusal}
 use Rattle.stamp_types.specs.declared.rule.Rule.{Rule}
-use Rattle.stamp_types.specs.declared.rule.Rule.TheVariants.{F3, P1, P2, S2, S3, S4, S5, S6, S7, S8, S9, S10, S11}
+use Rattle.stamp_types.specs.declared.rule.Rule.TheVariants.{P1, P2, S2, S3, S4, S5, S6, S7, S8, S9, S10, S11}
 use Rattle.stamp_types.specs.Replies.{denied}
 use Rattle.stamp_types.specs.Requests.{Asked}
 use Rattle.stamp_types.specs.World.{Part, World, part_at}
@@ -36,10 +35,10 @@ use Rattle.access_rules.specs.TokenRoute.{rule_after_signature, rule_of_given, t
 use Rattle.access_rules.proofs.RouteLaw.{asking, by_route}
 use Rattle.access_rules.proofs.TokenLemmas.{first_token_rule}
 use Rattle.row_trees.specs.Access.{acl_of}
-use Rattle.range_rows.specs.ObjectReplies.{is_served, sizes}
+use Rattle.range_rows.specs.ObjectReplies.{sizes}
 use Rattle.range_rows.specs.ObjectRules.{object_holds, object_refusal, object_rules}
 use Rattle.stamp_model.specs.Effects.{effect}
-use Rattle.stamp_model.specs.Refusals.{access_refusal, is_object_rule, sees_no_container, unserved_refusal}
+use Rattle.stamp_model.specs.Refusals.{access_refusal, is_object_rule, sees_no_container}
 use Rattle.stamp_model.specs.Responses.{answer_of, reply, response}
 use Rattle.stamp_model.proofs.CountLemmas.{found_passes}
 use Rattle.stamp_model.proofs.ReplyLemmas.{rule-reply}
@@ -63,20 +62,10 @@ module _ {X : Type 0} (test mark : X → Bool) where
 
 -- ---- the rule of a refusal that permission does not give
 
-module _ (mark : Rule → Bool) (none : list_all (λ r. not (mark r)) object_rules ≡ true) (last : mark F3 ≡ false) (p : Part ℕ) (q : Asked) where
-  by_object : (o : Option Refusal) → object_refusal p q ≡ o → (r : Refusal) → option_or o (unserved_refusal q.ask.op) ≡ Some r → mark r.rule ≡ false
-  by_object (Some x) is r h =
-      let same : x ≡ r = cc in
-      found-unmarked (object_holds p q) mark object_rules r.rule none (sym (object_rule-first p q) ∙ ap (option_map (λ (s : Refusal). s.rule)) is ∙ ap (λ (s : Refusal). Some s.rule) same)
-  by_object None is r h = by_service (is_served q.ask.op) h
-    where
-      by_service : (b : Bool) → cond b None (Some (record { rule = F3; code = InvalidQueryParameterValue })) ≡ Some r → mark r.rule ≡ false
-      by_service true h = cc
-      by_service false h = let same : F3 ≡ r.rule = cc in ap mark (sym same) ∙ last
-
+module _ (mark : Rule → Bool) (none : list_all (λ r. not (mark r)) object_rules ≡ true) (p : Part ℕ) (q : Asked) where
   -- the refusal is none of permission, so its rule has no mark
-  pub lower-unmarked : (r : Refusal) → option_or (object_refusal p q) (unserved_refusal q.ask.op) ≡ Some r → mark r.rule ≡ false
-  lower-unmarked = by_object (object_refusal p q) refl
+  pub lower-unmarked : (r : Refusal) → object_refusal p q ≡ Some r → mark r.rule ≡ false
+  lower-unmarked r is = found-unmarked (object_holds p q) mark object_rules r.rule none (sym (object_rule-first p q) ∙ ap (option_map (λ (s : Refusal). s.rule)) is)
 
 -- ---- what permission looks at
 
@@ -200,36 +189,36 @@ module _ (keys : Option Keys) (w : World (List ℕ)) (q : Asked) (t : ℕ) (boun
   -- the reply to a request that a rule of permission refuses
   pub reply-denied : (r : Rule) → permission ≡ Some r → reply keys w q t bound ≡ denied (access_refusal r)
   reply-denied r h =
-      ap (λ (o : Option Rule). response (option_or (option_map access_refusal o) (option_or (object_refusal (sizes own) q) (unserved_refusal q.ask.op))) (answer_of (effect keys w q t) q bound)) h
+      ap (λ (o : Option Rule). response (option_or (option_map access_refusal o) (object_refusal (sizes own) q)) (answer_of (effect keys w q t) q bound)) h
 
   named : (rule : Rule) → (reply keys w q t bound).rule ≡ Some rule
-      → option_map (λ (r : Refusal). r.rule) (option_or (option_map access_refusal permission) (option_or (object_refusal (sizes own) q) (unserved_refusal q.ask.op))) ≡ Some rule
+      → option_map (λ (r : Refusal). r.rule) (option_or (option_map access_refusal permission) (object_refusal (sizes own) q)) ≡ Some rule
   named rule told = sym (rule-reply keys w q t bound) ∙ told
 
-  -- a rule that no rule of the object is, nor the last one, is a rule of permission
-  by_permission : (mark : Rule → Bool) → list_all (λ r. not (mark r)) object_rules ≡ true → mark F3 ≡ false → (rule : Rule) → mark rule ≡ true
+  -- a rule that no rule of the object is is a rule of permission
+  by_permission : (mark : Rule → Bool) → list_all (λ r. not (mark r)) object_rules ≡ true → (rule : Rule) → mark rule ≡ true
       → (o : Option Rule) → permission ≡ o
-      → option_map (λ (r : Refusal). r.rule) (option_or (option_map access_refusal o) (option_or (object_refusal (sizes own) q) (unserved_refusal q.ask.op))) ≡ Some rule → permission ≡ Some rule
-  by_permission mark none last rule marked (Some r) is told = let same : r ≡ rule = cc in is ∙ ap (λ (r : Rule). Some r) same
-  by_permission mark none last rule marked None is told = by_lower (option_or (object_refusal (sizes own) q) (unserved_refusal q.ask.op)) refl told
+      → option_map (λ (r : Refusal). r.rule) (option_or (option_map access_refusal o) (object_refusal (sizes own) q)) ≡ Some rule → permission ≡ Some rule
+  by_permission mark none rule marked (Some r) is told = let same : r ≡ rule = cc in is ∙ ap (λ (r : Rule). Some r) same
+  by_permission mark none rule marked None is told = by_lower (object_refusal (sizes own) q) refl told
     where
-      by_lower : (o : Option Refusal) → option_or (object_refusal (sizes own) q) (unserved_refusal q.ask.op) ≡ o → option_map (λ (r : Refusal). r.rule) o ≡ Some rule → permission ≡ Some rule
+      by_lower : (o : Option Refusal) → object_refusal (sizes own) q ≡ o → option_map (λ (r : Refusal). r.rule) o ≡ Some rule → permission ≡ Some rule
       by_lower None is told = cc
       by_lower (Some r) is told =
           let same : r.rule ≡ rule = cc in
-          let unmarked = lower-unmarked mark none last (sizes own) q r is in
+          let unmarked = lower-unmarked mark none (sizes own) q r is in
           let never : true ≡ false = sym marked ∙ ap mark (sym same) ∙ unmarked in cc
 
-  pub permission-named : (mark : Rule → Bool) → list_all (λ r. not (mark r)) object_rules ≡ true → mark F3 ≡ false → (rule : Rule) → mark rule ≡ true
+  pub permission-named : (mark : Rule → Bool) → list_all (λ r. not (mark r)) object_rules ≡ true → (rule : Rule) → mark rule ≡ true
       → (reply keys w q t bound).rule ≡ Some rule → permission ≡ Some rule
-  permission-named mark none last rule marked told = by_permission mark none last rule marked permission refl (named rule told)
+  permission-named mark none rule marked told = by_permission mark none rule marked permission refl (named rule told)
 
   -- a reply that names a rule of the object goes to a caller whom its own route admits
   pub admitted-told : (rule : Rule) → is_object_rule rule ≡ true → (reply keys w q t bound).rule ≡ Some rule → Admits keys (acl_of own) q.ask.credential q.ask t
   admitted-told rule objects told = by_first permission refl (named rule told)
     where
       by_first : (o : Option Rule) → permission ≡ o
-          → option_map (λ (r : Refusal). r.rule) (option_or (option_map access_refusal o) (option_or (object_refusal (sizes own) q) (unserved_refusal q.ask.op))) ≡ Some rule
+          → option_map (λ (r : Refusal). r.rule) (option_or (option_map access_refusal o) (object_refusal (sizes own) q)) ≡ Some rule
           → Admits keys (acl_of own) q.ask.credential q.ask t
       by_first None is told = (by_route keys (acl_of own) q.ask t q.ask.credential).0 is
       by_first (Some r) is told =
@@ -241,7 +230,7 @@ module _ (keys : Option Keys) (w v : World (List ℕ)) (q : Asked) (t : ℕ) (bo
   -- a request that a rule refuses which sees no container has this reply whatever the stamp holds
   pub reply-blind : (rule : Rule) → sees_no_container rule ≡ true → (reply keys w q t bound).rule ≡ Some rule → reply keys v q t bound ≡ reply keys w q t bound
   reply-blind rule blind told =
-      let first = permission-named keys w q t bound sees_no_container refl refl rule blind told in
+      let first = permission-named keys w q t bound sees_no_container refl rule blind told in
       reply-denied keys v q t bound rule (first_rule-blind keys (acl_of (part_at w q.ask.key)) (acl_of (part_at v q.ask.key)) q.ask t rule blind first)
       ∙ sym (reply-denied keys w q t bound rule first)
 
@@ -252,13 +241,13 @@ module _ (keys : Option Keys) (w v : World (List ℕ)) (q : Asked) (t : ℕ) (bo
   -- P2 gives a request one reply
   pub reply-closed : (reply keys w q t bound).rule ≡ Some P2 → (reply keys v q t bound).rule ≡ Some P2 → reply keys v q t bound ≡ reply keys w q t bound
   reply-closed told other =
-      reply-denied keys v q t bound P2 (permission-named keys v q t bound is_level_rule refl refl P2 refl other)
-      ∙ sym (reply-denied keys w q t bound P2 (permission-named keys w q t bound is_level_rule refl refl P2 refl told))
+      reply-denied keys v q t bound P2 (permission-named keys v q t bound is_level_rule refl P2 refl other)
+      ∙ sym (reply-denied keys w q t bound P2 (permission-named keys w q t bound is_level_rule refl P2 refl told))
 
   -- a request that P2 refuses has this reply in each world in which the container has the same level
   pub reply-level : (reply keys w q t bound).rule ≡ Some P2
       → option_map (λ (a : Acl). a.level) (acl_of (part_at v q.ask.key)) ≡ option_map (λ (a : Acl). a.level) (acl_of (part_at w q.ask.key)) → reply keys v q t bound ≡ reply keys w q t bound
   reply-level told same =
-      let first = permission-named keys w q t bound is_level_rule refl refl P2 refl told in
+      let first = permission-named keys w q t bound is_level_rule refl P2 refl told in
       reply-denied keys v q t bound P2 (first_rule-level keys (acl_of (part_at w q.ask.key)) (acl_of (part_at v q.ask.key)) q.ask t (sym same) first)
       ∙ sym (reply-denied keys w q t bound P2 first)

@@ -32,7 +32,7 @@ use Rattle.stamp_model.specs.Conditions.{MeetsConditions, MeetsIfMatch, MeetsIfN
 use Rattle.stamp_model.specs.Effects.{effect, unless_refused, world_after}
 use Rattle.stamp_model.specs.Histories.{IsAccepted, pair_of, replay}
 use Rattle.stamp_model.specs.Refusals.{refusal}
-use Rattle.stamp_model.specs.Responses.{answer_of, reply, response}
+use Rattle.stamp_model.specs.Responses.{answer_by, answer_of, own_answer_by, reply, response}
 use Rattle.stamp_model.specs.Runs.{Timed, world_after_all, reply_to_one}
 use Rattle.stamp_model.proofs.ArgumentLemmas.{free-with_args, no_cause, refusal-with_args}
 use Rattle.stamp_model.proofs.EffectLemmas.{effect-refused, on_key}
@@ -278,6 +278,14 @@ module _ (q : Asked) where
       ap (λ (r : Reply). with_content r (bytes_by q.ask.op q.ask.args.range (blob_read p q.ask)))
       (frame_by-bare q.ask.op (standing_read (sizes p)) (blob_read (sizes p) q.ask) (target_blob (sizes p) q.ask))
 
+  own_answer_by-bare : (o : Op) (p : Part (List ℕ)) → own_answer_by o p bare ≡ own_answer_by o p q
+  own_answer_by-bare op.ListBlobs p = refl
+  own_answer_by-bare other p = reply_of-bare p
+
+  answer_by-bare : (o : Op) (w : World (List ℕ)) (bound : Option Key) → answer_by o w bare bound ≡ answer_by o w q bound
+  answer_by-bare op.ListContainers w bound = refl
+  answer_by-bare other w bound = own_answer_by-bare q.ask.op (part_at w q.ask.key)
+
   module _ (keys : Option Keys) (w : World (List ℕ)) (t : ℕ) (bound : Option Key) where
     abbrev own : Part (List ℕ)
     own = part_at w q.ask.key
@@ -286,7 +294,7 @@ module _ (q : Asked) where
     reply-alike : refusal keys (sizes own) bare t ≡ refusal keys (sizes own) q t → reply keys w bare t bound ≡ reply keys w q t bound
     reply-alike alike =
         (λ i. response (alike i) (answer_of (world_after held (unless_refused (alike i) (change_of-bare (sizes own) t i)) w) bare bound))
-        ∙ ap (response (refusal keys (sizes own) q t)) (reply_of-bare (part_at (effect keys w q t) q.ask.key))
+        ∙ ap (response (refusal keys (sizes own) q t)) (answer_by-bare q.ask.op (effect keys w q t) bound)
 
     effect-alike : refusal keys (sizes own) bare t ≡ refusal keys (sizes own) q t → effect keys w bare t ≡ effect keys w q t
     effect-alike alike = λ i. world_after held (unless_refused (alike i) (change_of-bare (sizes own) t i)) w

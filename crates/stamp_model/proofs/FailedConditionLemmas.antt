@@ -5,6 +5,7 @@ use Rattle.std.specs.Prelude.{find, is_none, is_some}
 use Rattle.std.specs.Option.{option_map}
 use Rattle.stamp_values.specs.Operations.{has_conditions, is_op, writes}
 use Rattle.stamp_values.specs.declared.condition.Condition.TheVariants as condition
+use Rattle.stamp_values.specs.declared.key.Key.{Key}
 use Rattle.stamp_values.specs.declared.op.Op.{Op}
 use Rattle.stamp_values.specs.declared.op.Op.TheVariants as op
 use Rattle.stamp_types.specs.declared.committed.Committed.{Committed}
@@ -62,7 +63,7 @@ module _ (p : Part (List ℕ)) (q : Asked) where
   refused_by : (c : Cause) → find holds causes ≡ Some c → object_refusal z q ≡ Some (cause_refusal c)
   refused_by c h = ap (option_map cause_refusal) h
 
-module _ (keys : Option Keys) (w : World (List ℕ)) (q : Asked) (t : ℕ) (judged : HasJudgedConditions keys (part_at w q.ask.key) q t) where
+module _ (keys : Option Keys) (w : World (List ℕ)) (q : Asked) (t : ℕ) (bound : Option Key) (judged : HasJudgedConditions keys (part_at w q.ask.key) q t) where
   abbrev own : Part (List ℕ)
   own = part_at w q.ask.key
 
@@ -70,7 +71,7 @@ module _ (keys : Option Keys) (w : World (List ℕ)) (q : Asked) (t : ℕ) (judg
   own_sizes = sizes own
 
   abbrev Refused : Cause → Type 0
-  Refused c = reply keys w q t None ≡ denied (cause_refusal c)
+  Refused c = reply keys w q t bound ≡ denied (cause_refusal c)
 
   module _ (conditional : has_conditions q.ask.op ≡ true) where
     exists : cause_holds own_sizes q ContainerIsAbsent ≡ false
@@ -95,7 +96,7 @@ module _ (keys : Option Keys) (w : World (List ℕ)) (q : Asked) (t : ℕ) (judg
         passed_over own q ContainerIsAbsent (drop 1 causes) exists ∙ passed_over own q ContainerExists (drop 2 causes) makes_nothing ∙ passed_over own q BlobIsAbsent (drop 3 causes) lacks_nothing
 
   refused : (c : Cause) → find (cause_holds own_sizes q) causes ≡ Some c → Refused c
-  refused c found = reply-refused keys w q t (cause_refusal c) judged.admitted (refused_by own q c found)
+  refused c found = reply-refused keys w q t bound (cause_refusal c) judged.admitted (refused_by own q c found)
 
   -- ---- If-Match
 

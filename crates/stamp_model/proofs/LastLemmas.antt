@@ -41,7 +41,7 @@ use Rattle.stamp_model.proofs.BlockLemmas.{committed-list, content-list, list_th
 use Rattle.stamp_model.proofs.KeptLemmas.{committed-left, content-left, unseen-left, left-in_turn, so-in_turn}
 use Rattle.stamp_model.proofs.ObjectLemmas.{object_refusal-container}
 use Rattle.stamp_model.proofs.ReadLemmas.{read_before, reply-read, reply-refused}
-use Rattle.stamp_model.proofs.SeenLemmas.{answers_alike, writes_nothing}
+use Rattle.stamp_model.proofs.SeenLemmas.{answers_alike, lists_nothing, writes_nothing}
 use Rattle.stamp_model.proofs.WrittenLemmas.{committed-put, committed-set, headers-set, part-deleted, put_there, reply-absent_blob, set_there}
 
 -- if an option is mapped to what a value is mapped to, it has a value that is mapped to the same
@@ -61,16 +61,16 @@ module _ (later : World (List ℕ)) (key : Key) (name : List ℕ) (c : Committed
   still : (d : Committed (List ℕ)) × ((blob_in (part_at later key) name).committed ≡ Some d) × (blocks_and_props d ≡ blocks_and_props c)
   still = from_mapped blocks_and_props (blob_in (part_at later key) name).committed (blocks_and_props c) left
 
-  module _ (keys : Option Keys) (get : Asked) (t : ℕ) (gets : IsOn op.GetBlob key name get) (whole : get.ask.args.range ≡ None) (free : (reply keys later get t None).rule ≡ None) where
-    read : reply keys later get t None ≡ with_content (ranged_frame None (committed_value byte_count still.0)) (ranged_bytes None (blob_content still.0))
+  module _ (keys : Option Keys) (get : Asked) (t : ℕ) (bound : Option Key) (gets : IsOn op.GetBlob key name get) (whole : get.ask.args.range ≡ None) (free : (reply keys later get t bound).rule ≡ None) where
+    read : reply keys later get t bound ≡ with_content (ranged_frame None (committed_value byte_count still.0)) (ranged_bytes None (blob_content still.0))
     read =
-        reply-read keys later get t free op.GetBlob key name still.0 refl gets still.1
+        reply-read keys later get t bound free op.GetBlob key name still.0 refl refl gets still.1
         ∙ ap (λ (r : Option ByteRange). with_content (ranged_frame r (committed_value byte_count still.0)) (ranged_bytes r (blob_content still.0))) whole
 
-    pub body-later : (reply keys later get t None).body ≡ joined c.blocks
+    pub body-later : (reply keys later get t bound).body ≡ joined c.blocks
     body-later = ap (λ (r : Reply). r.body) read ∙ ap (λ (kept : List (Block (List ℕ)) × Props). joined kept.0) still.2
 
-    pub headers-later : (metadata : List Meta) × (etag : ℕ) × (made : ℕ) × ((reply keys later get t None).headers
+    pub headers-later : (metadata : List Meta) × (etag : ℕ) × (made : ℕ) × ((reply keys later get t bound).headers
         ≡ kept_lines c.props ++ map header.Meta metadata ++ header.BlobType ∷ header.AcceptRanges ∷ date_headers etag made)
     headers-later = (
       still.0.metadata,
@@ -105,13 +105,13 @@ module _ (w : World (List ℕ)) (key : Key) (name : List ℕ) (kept : Kept) (put
       (free : (reply_to_one (world_after_all w (put ∷ middle)) get).rule ≡ None) where
     pub body-put_last : (reply_to_one (world_after_all w (put ∷ middle)) get).body ≡ put.request.body
     body-put_last =
-        body-later (world_after_all w (put ∷ middle)) key name stored (content_after (world_after_one w put) key name stored stored_seen middle all) get.keys get.request get.moment gets whole free
+        body-later (world_after_all w (put ∷ middle)) key name stored (content_after (world_after_one w put) key name stored stored_seen middle all) get.keys get.request get.moment get.bound gets whole free
         ∙ append-nil (held (cut put.request.body)) ∙ held-cut put.request.body
 
     pub headers-put_last : (metadata : List Meta) × (etag : ℕ) × (made : ℕ) × ((reply_to_one (world_after_all w (put ∷ middle)) get).headers
         ≡ kept_lines (put_props put.request kept) ++ map header.Meta metadata ++ header.BlobType ∷ header.AcceptRanges ∷ date_headers etag made)
     headers-put_last =
-        headers-later (world_after_all w (put ∷ middle)) key name stored (content_after (world_after_one w put) key name stored stored_seen middle all) get.keys get.request get.moment gets whole free
+        headers-later (world_after_all w (put ∷ middle)) key name stored (content_after (world_after_one w put) key name stored stored_seen middle all) get.keys get.request get.moment get.bound gets whole free
 
 module _ (w : World (List ℕ)) (key : Key) (name : List ℕ) (list : Timed)
     (lists : IsOn op.PutBlockList key name list.request) (none : (reply_to_one w list).rule ≡ None) (kept : Kept) (keeps : list.request.ask.args.kept ≡ Some kept) where
@@ -126,13 +126,13 @@ module _ (w : World (List ℕ)) (key : Key) (name : List ℕ) (list : Timed)
       (free : (reply_to_one (world_after_all w (list ∷ middle)) get).rule ≡ None) where
     pub body-list_last : (reply_to_one (world_after_all w (list ∷ middle)) get).body ≡ wanted_bytes (blob_in (part_at w key) name) (wanted_blocks list.request)
     body-list_last =
-        body-later (world_after_all w (list ∷ middle)) key name listed (content_after (world_after_one w list) key name listed listed_seen middle all) get.keys get.request get.moment gets whole free
+        body-later (world_after_all w (list ∷ middle)) key name listed (content_after (world_after_one w list) key name listed listed_seen middle all) get.keys get.request get.moment get.bound gets whole free
         ∙ content-list w key name list lists none kept keeps
 
     pub headers-list_last : (metadata : List Meta) × (etag : ℕ) × (made : ℕ) × ((reply_to_one (world_after_all w (list ∷ middle)) get).headers
         ≡ kept_lines (kept_fields kept None) ++ map header.Meta metadata ++ header.BlobType ∷ header.AcceptRanges ∷ date_headers etag made)
     headers-list_last =
-        headers-later (world_after_all w (list ∷ middle)) key name listed (content_after (world_after_one w list) key name listed listed_seen middle all) get.keys get.request get.moment gets whole free
+        headers-later (world_after_all w (list ∷ middle)) key name listed (content_after (world_after_one w list) key name listed listed_seen middle all) get.keys get.request get.moment get.bound gets whole free
 
 -- each later request leaves what readers see of the blob
 seen_later : (w : World (List ℕ)) (key : Key) (name : List ℕ) (middle : List Timed) → All (λ r. LeavesSeen key name r.request) middle
@@ -147,7 +147,7 @@ module _ (w : World (List ℕ)) (key : Key) (name : List ℕ) (set : Timed)
       → (reply_to_one (world_after_all w (set ∷ middle)) get).headers ≡ map header.Meta set.request.ask.args.metadata ++ (reply_to_one w set).headers
   headers-set_last get gets free =
       ap (λ (r : Reply). r.headers)
-      (reply-read get.keys (world_after_all w (set ∷ middle)) get.request get.moment free op.GetMetadata key name (set_there w key name set sets none) refl gets
+      (reply-read get.keys (world_after_all w (set ∷ middle)) get.request get.moment get.bound free op.GetMetadata key name (set_there w key name set sets none) refl refl gets
       (seen_later (world_after_one w set) key name middle all ∙ committed-set w key name set sets none))
       ∙ ap (λ (hs : List Header). map header.Meta set.request.ask.args.metadata ++ hs) (sym (headers-set w key name set sets none))
 
@@ -183,11 +183,12 @@ pub reply-later : (w : World (List ℕ)) (name : List ℕ) (middle : List Timed)
     → (reply_to_one w read).rule ≡ None → (reply_to_one (world_after_all w middle) read).rule ≡ None
     → reply_to_one (world_after_all w middle) read ≡ reply_to_one w read
 reply-later w name middle read on reads all free later_free =
+    let unlisted = lists_nothing read.request.ask.op read.request.ask.args.kinds reads in
     let unwritten = writes_nothing read.request.ask.op read.request.ask.args.kinds reads in
-    read_before read.keys (world_after_all w middle) read.request read.moment later_free read.request.ask.op refl unwritten
+    read_before read.keys (world_after_all w middle) read.request read.moment read.bound later_free read.request.ask.op refl unlisted unwritten
     ∙ reply_of-alike (part_at (world_after_all w middle) read.request.ask.key) (part_at w read.request.ask.key) read.request name on
     (seen_later w read.request.ask.key name middle all) reads
-    ∙ sym (read_before read.keys w read.request read.moment free read.request.ask.op refl unwritten)
+    ∙ sym (read_before read.keys w read.request read.moment read.bound free read.request.ask.op refl unlisted unwritten)
 
 -- ---- Delete Blob
 
@@ -206,7 +207,7 @@ module _ (after : World (List ℕ)) (key : Key) (name : List ℕ) (unseen : (blo
       by_standing : (s : Option Standing) → (part_at after key).standing ≡ s
           → (reply_to_one after read ≡ denied (cause_refusal ContainerIsAbsent)) ⊎ (reply_to_one after read ≡ denied (cause_refusal BlobIsAbsent))
       by_standing None is =
-          inl (reply-refused read.keys after read.request read.moment (cause_refusal ContainerIsAbsent) admits
+          inl (reply-refused read.keys after read.request read.moment read.bound (cause_refusal ContainerIsAbsent) admits
           (object_refusal-container (part_at after read.request.ask.key) read.request (container_if read.request.ask.op needs) (ap (λ (k : Key). (part_at after k).standing) at ∙ is)))
       by_standing (Some s) is =
           inr (reply-absent_blob after key read at needs admits (ap (λ (o : Option Standing). is_some o) is)

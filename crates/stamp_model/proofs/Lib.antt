@@ -15,6 +15,8 @@ pub mod FailedConditionLemmas
 pub mod HistoryLemmas
 pub mod KeptLemmas
 pub mod LastLemmas
+pub mod ListLemmas
+pub mod ListedLemmas
 pub mod MadeLemmas
 pub mod MakingLemmas
 pub mod ObjectLemmas

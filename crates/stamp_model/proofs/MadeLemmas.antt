@@ -47,20 +47,20 @@ module _ (w : World (List ℕ)) (key : Key) (create : Timed) (creates : IsIn op.
   pub standing-made : (part_at (world_after_one w create) key).standing ≡ Some made
   standing-made =
       ap (λ (p : Part (List ℕ)). p.standing)
-      (part_at-act create.keys w create.request create.moment key (act.CreateContainer (create_container create.request create.moment)) creates.container none
+      (part_at-act create.keys w create.request create.moment create.bound key (act.CreateContainer (create_container create.request create.moment)) creates.container none
       (λ z. ap (λ (o : Op). act_by o z create.request create.moment) creates.op))
 
   -- the reply to a Create Container has the ETag and the moment of its change
   pub headers-made : (reply_to_one w create).headers ≡ date_headers ((part_at w key).count + 1) create.moment
   headers-made =
-      ap (λ (r : Reply). r.headers) (reply-write_in create.keys w create.request create.moment none op.CreateContainer key creates)
+      ap (λ (r : Reply). r.headers) (reply-write_in create.keys w create.request create.moment create.bound none op.CreateContainer key refl creates)
       ∙ ap (λ (o : Option Standing). date_headers (unwrap_or o empty_standing).etag (unwrap_or o empty_standing).made) standing-made
 
   -- the reply to a Get Container Properties after it has the metadata that it asks for, and the same ETag and moment
   pub headers-made_properties : (get : Timed) → IsIn op.ContainerProperties key get.request → (reply_to_one (world_after_one w create) get).rule ≡ None
       → (reply_to_one (world_after_one w create) get).headers ≡ map header.Meta create.request.ask.args.metadata ++ (reply_to_one w create).headers
   headers-made_properties get gets free =
-      ap (λ (r : Reply). r.headers) (reply-read_in get.keys (world_after_one w create) get.request get.moment free op.ContainerProperties key refl gets)
+      ap (λ (r : Reply). r.headers) (reply-read_in get.keys (world_after_one w create) get.request get.moment get.bound free op.ContainerProperties key refl refl gets)
       ∙ ap (λ (o : Option Standing). metadata_headers (unwrap_or o empty_standing).metadata (unwrap_or o empty_standing).etag (unwrap_or o empty_standing).made) standing-made
       ∙ ap (λ (hs : List Header). map header.Meta create.request.ask.args.metadata ++ hs) (sym headers-made)
 
@@ -73,14 +73,14 @@ reply-exists w key create creates exists admits =
     let refused : object_refusal (sizes p) create.request ≡ Some (cause_refusal ContainerExists) =
     λ i. option_map cause_refusal (cond (needs_container (creates.op i) && is_none p.standing) (Some ContainerIsAbsent)
     (cond (is_op op.CreateContainer (creates.op i) && there i) (Some ContainerExists) (find (cause_holds (sizes p) create.request) (drop 2 causes)))) in
-    reply-refused create.keys w create.request create.moment (cause_refusal ContainerExists) admits refused
+    reply-refused create.keys w create.request create.moment create.bound (cause_refusal ContainerExists) admits refused
 
 -- ---- blocks
 
 -- the reply to a Put Block has the MD5 of its body, and no other header
 pub headers-put_block : (w : World (List ℕ)) (key : Key) (put : Timed) → IsIn op.PutBlock key put.request → (reply_to_one w put).rule ≡ None
     → (reply_to_one w put).headers ≡ header.ContentMd5 (md5 put.request.body) ∷ []
-headers-put_block w key put puts none = ap (λ (r : Reply). r.headers) (reply-write_in put.keys w put.request put.moment none op.PutBlock key puts)
+headers-put_block w key put puts none = ap (λ (r : Reply). r.headers) (reply-write_in put.keys w put.request put.moment put.bound none op.PutBlock key refl puts)
 
 module _ (w : World (List ℕ)) (key : Key) (name : List ℕ) (list read : Timed) (fits : IsAsk list.request.ask) (lists : IsOn op.PutBlockList key name list.request)
     (none : (reply_to_one w list).rule ≡ None) (reads : IsOn op.GetBlockList key name read.request) (free : (reply_to_one (world_after_one w list) read).rule ≡ None) where
@@ -93,7 +93,7 @@ module _ (w : World (List ℕ)) (key : Key) (name : List ℕ) (list read : Timed
       let keeps = kept-list list.request key name fits lists in
       let there : Committed (List ℕ) = list_there w key name list lists none keeps.0 keeps.1 in
       let listed : Option (Committed ℕ) → List Header = λ c. header.ContentType (codes "application/xml") ∷ committed_headers c in
-      ap (λ (r : Reply). r.headers) (reply-read_in read.keys v read.request read.moment free op.GetBlockList key refl (record { op = reads.op; container = reads.container }))
+      ap (λ (r : Reply). r.headers) (reply-read_in read.keys v read.request read.moment read.bound free op.GetBlockList key refl refl (record { op = reads.op; container = reads.container }))
       ∙ ap (λ (blob : Option (List ℕ)). listed (unwrap_or (option_map (blob_in (sizes (part_at v key))) blob) no_blob).committed) reads.blob
       ∙ ap (λ (b : Blob ℕ). listed b.committed) (blob_in-part_value byte_count (part_at v key) name)
       ∙ ap (λ (c : Option (Committed (List ℕ))). listed (option_map (committed_value byte_count) c)) (committed-list w key name list lists none keeps.0 keeps.1)

@@ -8,7 +8,7 @@ use Rattle.std.proofs.lemmas.List.Sums.{sum_by-cons}
 use Rattle.std.specs.Prelude.{Contains, is_some, sum_by}
 use Rattle.std.specs.List.{filter, flat_map, list_any, slice_range}
 use Rattle.std.specs.Option.{option_map, option_map_or, option_to_list}
-use Rattle.stamp_values.specs.Operations.{is_op, writes}
+use Rattle.stamp_values.specs.Operations.{is_op, lists_names, writes}
 use Rattle.stamp_values.specs.declared.condition.ByteRange.{ByteRange}
 use Rattle.stamp_values.specs.declared.key.Key.{Key}
 use Rattle.stamp_values.specs.declared.meta.Meta.{Meta}
@@ -29,12 +29,13 @@ use Rattle.range_rows.specs.ObjectRules.{Cause, blob_size, cause_holds, named_bl
 use Rattle.range_rows.specs.ObjectRules.Cause.{BlobIsAbsent, RangeIsPastTheEnd}
 use Rattle.range_rows.proofs.AnswerLemmas.{named_blob-part_value}
 use Rattle.stamp_model.specs.Ranges.{IsPartOf, is_md5, is_of_both, without_range}
+use Rattle.stamp_model.specs.Effects.{effect}
 use Rattle.stamp_model.specs.Refusals.{refusal}
 use Rattle.stamp_model.specs.Responses.{reply}
 use Rattle.stamp_model.proofs.ObjectLemmas.{left_false}
 use Rattle.stamp_model.proofs.ArgumentLemmas.{free-with_args, no_cause}
 use Rattle.stamp_model.proofs.ReadLemmas.{effect-read}
-use Rattle.stamp_model.proofs.ReplyLemmas.{reply-admitted, reply-unrefused}
+use Rattle.stamp_model.proofs.ReplyLemmas.{answer_of-rows, reply-admitted, reply-unrefused}
 
 -- ---- the end of a range
 
@@ -180,6 +181,7 @@ module _ (keys : Option Keys) (w : World (List ℕ)) (q : Asked) (t : ℕ) (boun
   pub reply-get : (range : Option ByteRange) → q.ask.args.range ≡ range → reply keys w q t bound ≡ with_content (ranged_frame range (committed_value byte_count d)) (ranged_bytes range (blob_content d))
   reply-get range asks =
       reply-admitted keys w q t bound free
+      ∙ answer_of-rows (effect keys w q t) q bound (ap lists_names gets)
       ∙ ap (λ (v : World (List ℕ)). reply_of (part_at v q.ask.key) q) (effect-read keys w q t (ap writes gets))
       ∙ (λ i. with_content (frame_by (gets i) q (standing_read (sizes (part_at w q.ask.key))) (unwrap_or (named-sized i) empty_blob) (target_blob (sizes (part_at w q.ask.key)) q.ask)) (bytes_by (gets i) q.ask.args.range (unwrap_or (there i) empty_blob)))
       ∙ ap (λ (range : Option ByteRange). with_content (ranged_frame range (committed_value byte_count d)) (ranged_bytes range (blob_content d))) asks

@@ -36,7 +36,7 @@ use Rattle.range_rows.specs.ObjectReplies.{byte_count, sizes}
 use Rattle.range_rows.specs.ObjectRules.{object_refusal}
 use Rattle.row_trees.specs.Access.{acl_of}
 use Rattle.range_rows.specs.RequestChanges.{act_by}
-use Rattle.stamp_model.specs.Refusals.{access_code, access_refusal, unserved_refusal, refusal}
+use Rattle.stamp_model.specs.Refusals.{access_code, access_refusal, refusal}
 use Rattle.stamp_model.specs.Effects.{unless_refused, world_after, effect}
 use Rattle.stamp_model.specs.Responses.{answer_of, response, reply}
 use Rattle.stamp_model.proofs.EffectLemmas.{on_key, effect-refused}
@@ -75,7 +75,7 @@ module _ (keys : Option Keys) (w : World (List ℕ)) (q : Asked) (t : ℕ) (boun
   -- a rule of permission decides the reply
   told : (rule : Rule) → first_rule keys (acl_of own_part) q.ask t ≡ Some rule → reply keys w q t bound ≡ denied (access_refusal rule)
   told rule is =
-      ap (λ (o : Option Rule). response (option_or (option_map access_refusal o) (option_or (object_refusal (sizes own_part) q) (unserved_refusal q.ask.op))) (answer_of (effect keys w q t) q bound)) is
+      ap (λ (o : Option Rule). response (option_or (option_map access_refusal o) (object_refusal (sizes own_part) q)) (answer_of (effect keys w q t) q bound)) is
 
   abbrev the_need : Option Level
   the_need = (need_of q.ask.op q.ask.args.kinds).level

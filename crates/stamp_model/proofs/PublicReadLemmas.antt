@@ -1,5 +1,6 @@
 -- What a caller without a credential is answered after a Put Block.
 use Rattle.std.proofs.Common.{◌≡◌, ℕ, true, List, Option, Some, None, refl, sym, ap, ◌∙◌, is_none, cond}
+use Rattle.stamp_values.specs.Operations.{names_container}
 use Rattle.stamp_values.specs.declared.block.BlockKinds.{BlockKinds}
 use Rattle.stamp_values.specs.declared.block.BlockKinds.TheVariants as kinds
 use Rattle.stamp_values.specs.declared.level.Level.{Level}
@@ -36,6 +37,11 @@ seen_by_level op.GetBlockList (Some kinds.Uncommitted) need h = cc
 seen_by_level op.GetBlockList (Some kinds.All) need h = cc
 seen_by_level other k need h = refl
 
+-- an operation that a level of public access allows names a container
+names_by_level : (o : Op) (k : Option BlockKinds) (need : Level) → (need_of o k).level ≡ Some need → names_container o ≡ true
+names_by_level op.ListContainers k need h = cc
+names_by_level other k need h = refl
+
 module _ (w : World (List ℕ)) (put read : Timed) (puts : put.request.ask.op ≡ op.PutBlock) (fits : IsAsk read.request.ask)
     (anonymous : read.request.ask.credential ≡ Anonymous) where
   abbrev q : Asked
@@ -51,9 +57,9 @@ module _ (w : World (List ℕ)) (put read : Timed) (puts : put.request.ask.op �
       ∙ ap (λ (need : Option Level). cond (is_none need) (Some P1) (cond (some_passes (allows_less (acl_of (part_at v q.ask.key))) need) (Some P2) None)) none
 
   by_need : (need : Option Level) → (need_of q.ask.op q.ask.args.kinds).level ≡ need → reply_to_one after read ≡ reply_to_one w read
-  by_need None is = reply-denied read.keys after q read.moment None P1 (never_public after is) ∙ sym (reply-denied read.keys w q read.moment None P1 (never_public w is))
+  by_need None is = reply-denied read.keys after q read.moment read.bound P1 (never_public after is) ∙ sym (reply-denied read.keys w q read.moment read.bound P1 (never_public w is))
   by_need (Some need) is =
-      sym (reply_alike read.keys q read.moment fits (seen_by_level q.ask.op q.ask.args.kinds need is) w after (alike-put_block put.keys w put.request put.moment puts q.ask.key))
+      sym (reply_alike read.keys q read.moment read.bound fits (names_by_level q.ask.op q.ask.args.kinds need is) (seen_by_level q.ask.op q.ask.args.kinds need is) w after (alike-put_block put.keys w put.request put.moment puts q.ask.key))
 
   -- a request without a credential has the reply after a Put Block that it would have had before
   pub reply-public_put_block : reply_to_one after read ≡ reply_to_one w read

@@ -2,23 +2,21 @@
 use Rattle.std.proofs.Common.{◌≡◌, ℕ, Bool, true, false, cond, not, ◌&&◌, ◌||◌, drop, take, List, [], ◌∷◌, ◌++◌, Option, Some, None, refl, sym, ap, ◌∙◌}
 use Rattle.std.proofs.lemmas.Bool.{and_parts}
 use Rattle.std.proofs.lemmas.List.Folds.{find-append}
-use Rattle.std.specs.Prelude.{find, if◌then◌else◌, ⊤}
+use Rattle.std.specs.Prelude.{find, ⊤}
 use Rattle.std.specs.List.{list_all, list_any}
 use Rattle.std.specs.Option.{option_map, option_or}
 use Rattle.stamp_values.specs.Operations.{writes}
-use Rattle.stamp_types.specs.declared.code.Code.TheVariants.{InvalidQueryParameterValue}
 use Rattle.stamp_types.specs.declared.refusal.Refusal.{Refusal}
 use Rattle.stamp_types.specs.declared.rule.Rule.{Rule}
-use Rattle.stamp_types.specs.declared.rule.Rule.TheVariants.{F3, O1, O2, O3, O4, O5, O6}
+use Rattle.stamp_types.specs.declared.rule.Rule.TheVariants.{O1, O2, O3, O4, O5, O6}
 use Rattle.stamp_types.specs.Requests.{Asked}
 use Rattle.stamp_types.specs.World.{Part}
 use Rattle.access_rules.specs.declared.keys.Keys.{Keys}
 use Rattle.access_rules.specs.Rules.{holds, access_rules, first_rule}
-use Rattle.range_rows.specs.ObjectReplies.{is_served}
 use Rattle.range_rows.specs.ObjectRules.{Cause, cause_holds, cause_refusal, causes, fails_if_match, fails_if_none_match, is_any, object_holds, object_refusal, object_rules}
 use Rattle.range_rows.specs.ObjectRules.Cause.{ContainerIsAbsent, ContainerExists, BlobIsAbsent}
 use Rattle.row_trees.specs.Access.{acl_of}
-use Rattle.stamp_model.specs.Refusals.{access_refusal, unserved_refusal, is_unserved, refusing_rule, refuses, rules_in_order}
+use Rattle.stamp_model.specs.Refusals.{access_refusal, refusing_rule, refuses, rules_in_order}
 
 or_none : (a b : Bool) → not b ≡ true → (a || b) ≡ a
 or_none true b h = refl
@@ -91,10 +89,6 @@ of_conditions false false false s = refl
 of_conditions false false true true = refl
 of_conditions false false true false = refl
 
-of_unserved : (b : Bool) → option_map (λ (r : Refusal). r.rule) (if b then None else Some (record { rule = F3; code = InvalidQueryParameterValue })) ≡ cond (not b) (Some F3) None
-of_unserved true = refl
-of_unserved false = refl
-
 -- the rule by which the object refuses is the first of its rules that holds
 pub object_rule-first : (p : Part ℕ) (q : Asked) → option_map (λ r. r.rule) (object_refusal p q) ≡ find (object_holds p q) object_rules
 object_rule-first p q =
@@ -116,22 +110,14 @@ module _ (keys : Option Keys) (p : Part ℕ) (q : Asked) (t : ℕ) where
   abbrev by_object : Rule → Bool
   by_object = object_holds p q
 
-  in_parts : refusing_rule keys p q t ≡ option_or (first_rule keys (acl_of p) q.ask t) (option_or (find by_object object_rules) (find (is_unserved q) (F3 ∷ [])))
+  in_parts : refusing_rule keys p q t ≡ option_or (first_rule keys (acl_of p) q.ask t) (find by_object object_rules)
   in_parts =
-      joined (option_map access_refusal (first_rule keys (acl_of p) q.ask t)) (option_or (object_refusal p q) (unserved_refusal q.ask.op))
-      ∙ (λ i. option_or (of_permission (first_rule keys (acl_of p) q.ask t) i) (joined (object_refusal p q) (unserved_refusal q.ask.op) i))
-      ∙ (λ i. option_or (first_rule keys (acl_of p) q.ask t) (option_or (object_rule-first p q i) (of_unserved (is_served q.ask.op) i)))
-
-  of_lower : find (λ r. by_object r || is_unserved q r) (object_rules ++ F3 ∷ []) ≡ option_or (find by_object object_rules) (find (is_unserved q) (F3 ∷ []))
-  of_lower =
-      find-append (λ r. by_object r || is_unserved q r) object_rules (F3 ∷ [])
-      ∙ (λ i. option_or (find-first_alone by_object (is_unserved q) object_rules refl i) (find-second_alone by_object (is_unserved q) (F3 ∷ []) refl i))
+      joined (option_map access_refusal (first_rule keys (acl_of p) q.ask t)) (object_refusal p q)
+      ∙ (λ i. option_or (of_permission (first_rule keys (acl_of p) q.ask t) i) (object_rule-first p q i))
 
   -- the rule that refuses is the first of all rules that holds
   pub refusing_rule-first : refusing_rule keys p q t ≡ find (refuses keys p q t) rules_in_order
   refusing_rule-first =
-      let lower : Rule → Bool = λ r. by_object r || is_unserved q r in
       in_parts
-      ∙ sym (find-append (refuses keys p q t) access_rules (object_rules ++ F3 ∷ [])
-      ∙ (λ i. option_or (find-first_alone by_access lower access_rules refl i) (find-second_alone by_access lower (object_rules ++ F3 ∷ []) refl i))
-      ∙ ap (λ (o : Option Rule). option_or (first_rule keys (acl_of p) q.ask t) o) of_lower)
+      ∙ sym (find-append (refuses keys p q t) access_rules object_rules
+      ∙ (λ i. option_or (find-first_alone by_access by_object access_rules refl i) (find-second_alone by_access by_object object_rules refl i)))

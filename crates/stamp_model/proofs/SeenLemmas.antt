@@ -6,7 +6,7 @@ use Rattle.std.specs.FinMap as finite
 use Rattle.std.specs.Option.{option_map, option_map_or, option_and_then, option_or}
 use Rattle.std.specs.Ordering.{eq_by_cmp}
 use Rattle.stamp_values.specs.Limits.{blob_limit}
-use Rattle.stamp_values.specs.Operations.{has_conditions, is_op, writes}
+use Rattle.stamp_values.specs.Operations.{has_conditions, is_op, lists_names, names_container, writes}
 use Rattle.stamp_values.specs.Order.{name_cmp, names_total, names_exact}
 use Rattle.stamp_values.specs.declared.block.BlockKinds.{BlockKinds}
 use Rattle.stamp_values.specs.declared.block.BlockKinds.TheVariants as kinds
@@ -38,13 +38,16 @@ use Rattle.range_rows.specs.ObjectRules.{Cause, cause_holds, cause_refusal, caus
 use Rattle.range_rows.specs.ObjectRules.Cause.{ContainerIsAbsent, ContainerExists, BlobIsAbsent, MatchFails, IsNotModified, BlobExists, NoneMatchFails, BodyIsDamaged, BodyIsMalformed, IdIsBad, BlockIsMissing, ListIsTooLong, IdHasOtherLength, BlocksAreFull, ListIsTooLarge, RangeIsPastTheEnd, CountIsFull}
 use Rattle.range_rows.specs.Readings.{listed_in, reading_by, wanted_blocks}
 use Rattle.range_rows.specs.RequestChanges.{act_by, change_of, part_after}
+use Rattle.list_pages.specs.ListReplies.{blobs_told, page_asked}
+use Rattle.list_pages.proofs.Shown.{page_by_committed}
 use Rattle.stamp_model.specs.Blocks.{reads_committed}
 use Rattle.stamp_model.specs.Effects.{effect}
-use Rattle.stamp_model.specs.Refusals.{access_refusal, refusal, unserved_refusal}
-use Rattle.stamp_model.specs.Responses.{answer_of, response, reply}
+use Rattle.stamp_model.specs.Refusals.{access_refusal, refusal}
+use Rattle.stamp_model.specs.Responses.{answer_of, own_answer, own_answer_by, response, reply}
 use Rattle.stamp_model.specs.Runs.{Timed, world_after_one, world_after_all, reply_to_one}
 use Rattle.stamp_model.proofs.EffectLemmas.{related-after_act, related-effect, said_of_block}
 use Rattle.stamp_model.proofs.ReadLemmas.{effect-read}
+use Rattle.stamp_model.proofs.ReplyLemmas.{answer_of-own}
 
 -- ---- containers in which readers see the same
 
@@ -114,6 +117,17 @@ writes_nothing op.BlobProperties k reads = refl
 writes_nothing op.GetMetadata k reads = refl
 writes_nothing op.GetBlockList k reads = refl
 writes_nothing other k reads = cc
+
+-- a request that reads only what is committed lists no names
+pub lists_nothing : (o : Op) (k : Option BlockKinds) → reads_committed o k ≡ true → lists_names o ≡ false
+lists_nothing op.ListContainers k reads = cc
+lists_nothing op.ListBlobs k reads = cc
+lists_nothing other k reads = refl
+
+-- a request that lists no names names a container
+pub names_if_committed : (o : Op) (k : Option BlockKinds) → reads_committed o k ≡ true → names_container o ≡ true
+names_if_committed op.ListContainers k reads = cc
+names_if_committed other k reads = refl
 
 -- the operation, with these kinds of blocks, writes nothing and lists no uncommitted blocks
 abbrev pub reads_seen : Op → Option BlockKinds → Bool
@@ -207,7 +221,7 @@ module _ (p r : Part ℕ) (alike : IsSeenAlike p r) (q : Asked) (fits : IsAsk q.
   refusal_alike : (keys : Option Keys) (t : ℕ) → refusal keys p q t ≡ refusal keys r q t
   refusal_alike keys t =
       λ i. option_or (option_map access_refusal (first_rule keys (option_map (λ s. s.acl) (alike.standing i)) q.ask t))
-      (option_or (option_map cause_refusal (find (λ c. alike_cause c i) causes)) (unserved_refusal q.ask.op))
+      (option_map cause_refusal (find (λ c. alike_cause c i) causes))
 
 -- ---- the reply to a request that reads only what is committed
 
@@ -245,8 +259,8 @@ module _ (q : Asked) (s u : Standing) (c d : Committed ℕ) (b g : Blob ℕ) (e 
   answers_seen same other reads = refl
 
 module _ (p r : Part (List ℕ)) (alike : IsSeenAlike p r) (q : Asked) (reads : reads_seen q.ask.op q.ask.args.kinds ≡ true) where
-  reply_of_alike : reply_of p q ≡ reply_of r q
-  reply_of_alike =
+  rows_alike : reply_of p q ≡ reply_of r q
+  rows_alike =
       let by_size = alike-read byte_count p r alike in
       answers_seen q (standing_read (sizes p)) (standing_read (sizes r)) (blob_read (sizes p) q.ask) (blob_read (sizes r) q.ask)
       (target_blob (sizes p) q.ask) (target_blob (sizes r) q.ask) (blob_read p q.ask) (blob_read r q.ask)
@@ -256,27 +270,36 @@ module _ (p r : Part (List ℕ)) (alike : IsSeenAlike p r) (q : Asked) (reads : 
       (ap (λ (s : Option Standing). unwrap_or s empty_standing) alike.standing)
       q.ask.op reads
 
-module _ (keys : Option Keys) (q : Asked) (t : ℕ) (fits : IsAsk q.ask) (reads : reads_seen q.ask.op q.ask.args.kinds ≡ true) where
+  own_answer_by_alike : (o : Op) → own_answer_by o p q ≡ own_answer_by o r q
+  own_answer_by_alike op.ListBlobs =
+      ap (blobs_told (page_asked q)) (page_by_committed (page_asked q) (sizes p) (sizes r) (alike-read byte_count p r alike).committed)
+  own_answer_by_alike other = rows_alike
+
+  own_answer_alike : own_answer p q ≡ own_answer r q
+  own_answer_alike = own_answer_by_alike q.ask.op
+
+module _ (keys : Option Keys) (q : Asked) (t : ℕ) (bound : Option Key) (fits : IsAsk q.ask) (named_by : names_container q.ask.op ≡ true) (reads : reads_seen q.ask.op q.ask.args.kinds ≡ true) where
   -- a request that reads is answered from the container as it is
-  from_unchanged : (w : World (List ℕ)) → reply keys w q t None ≡ response (refusal keys (sizes (part_at w q.ask.key)) q t) (answer_of w q None)
+  from_unchanged : (w : World (List ℕ)) → reply keys w q t bound ≡ response (refusal keys (sizes (part_at w q.ask.key)) q t) (own_answer (part_at w q.ask.key) q)
   from_unchanged w =
-      ap (λ (v : World (List ℕ)). response (refusal keys (sizes (part_at w q.ask.key)) q t) (answer_of v q None))
+      ap (λ (v : World (List ℕ)). response (refusal keys (sizes (part_at w q.ask.key)) q t) (answer_of v q bound))
       (effect-read keys w q t (writes_unseen q.ask.op q.ask.args.kinds reads))
+      ∙ ap (response (refusal keys (sizes (part_at w q.ask.key)) q t)) (answer_of-own w q bound named_by)
 
   -- if readers see the same in the containers of two worlds, the reply to a request that reads only what readers see is the same in both
-  pub reply_alike : (w v : World (List ℕ)) → IsSeenAlike (part_at w q.ask.key) (part_at v q.ask.key) → reply keys w q t None ≡ reply keys v q t None
+  pub reply_alike : (w v : World (List ℕ)) → IsSeenAlike (part_at w q.ask.key) (part_at v q.ask.key) → reply keys w q t bound ≡ reply keys v q t bound
   reply_alike w v alike =
       from_unchanged w
-      ∙ ap (λ (o : Option Refusal). response o (answer_of w q None))
+      ∙ ap (λ (o : Option Refusal). response o (own_answer (part_at w q.ask.key) q))
       (refusal_alike (sizes (part_at w q.ask.key)) (sizes (part_at v q.ask.key)) (alike-read byte_count (part_at w q.ask.key) (part_at v q.ask.key) alike) q fits reads keys t)
-      ∙ ap (response (refusal keys (sizes (part_at v q.ask.key)) q t)) (reply_of_alike (part_at w q.ask.key) (part_at v q.ask.key) alike q reads)
+      ∙ ap (response (refusal keys (sizes (part_at v q.ask.key)) q t)) (own_answer_alike (part_at w q.ask.key) (part_at v q.ask.key) alike q reads)
       ∙ sym (from_unchanged v)
 
 -- a request that reads only what is committed has the reply after a Put Block that it would have had before
 pub reply-put_block : (w : World (List ℕ)) (put read : Timed) → put.request.ask.op ≡ op.PutBlock → IsAsk read.request.ask
     → reads_committed read.request.ask.op read.request.ask.args.kinds ≡ true → reply_to_one (world_after_one w put) read ≡ reply_to_one w read
 reply-put_block w put read puts fits reads =
-    sym (reply_alike read.keys read.request read.moment fits (seen_if_committed read.request.ask.op read.request.ask.args.kinds reads) w (world_after_one w put)
+    sym (reply_alike read.keys read.request read.moment read.bound fits (names_if_committed read.request.ask.op read.request.ask.args.kinds reads) (seen_if_committed read.request.ask.op read.request.ask.args.kinds reads) w (world_after_one w put)
     (alike-put_block put.keys w put.request put.moment puts read.request.ask.key))
 
 -- it has this reply after any number of Put Blocks

@@ -6,7 +6,7 @@ use Rattle.std.specs.Prelude.{find, is_some, nat_eq, Contains}
 use Rattle.std.specs.Cmp.Lexicographic.{pointwise, bytes_decides}
 use Rattle.std.specs.Option.{option_map, option_and_then, option_or, option_to_list}
 use Rattle.md5.specs.Md5.{md5}
-use Rattle.stamp_values.specs.Operations.{is_op}
+use Rattle.stamp_values.specs.Operations.{is_op, lists_names}
 use Rattle.stamp_values.specs.declared.condition.ByteRange.{ByteRange}
 use Rattle.stamp_values.specs.declared.key.Key.{Key}
 use Rattle.stamp_values.specs.declared.op.Op.{Op}
@@ -32,15 +32,15 @@ use Rattle.range_rows.specs.RequestChanges.{put_props}
 use Rattle.stamp_model.specs.Conditions.{without_content_md5}
 use Rattle.stamp_model.specs.Effects.{effect}
 use Rattle.stamp_model.specs.Ranges.{without_range}
-use Rattle.stamp_model.specs.Refusals.{access_refusal, refusal, unserved_refusal}
-use Rattle.stamp_model.specs.Responses.{answer_of, reply, response}
+use Rattle.stamp_model.specs.Refusals.{access_refusal, refusal}
+use Rattle.stamp_model.specs.Responses.{answer_by, answer_of, own_answer_by, reply, response}
 use Rattle.stamp_model.specs.Runs.{Timed, IsOn, reply_to_one, world_after_one}
 use Rattle.stamp_model.specs.Statuses.{success_status}
 use Rattle.stamp_model.proofs.ArgumentLemmas.{first_rule-with_args, free-with_args, no_cause}
 use Rattle.stamp_model.proofs.ObjectLemmas.{blob_needed, left_false}
 use Rattle.stamp_model.proofs.PartLemmas.{named-sized, reply-get, sizes_of_bytes}
 use Rattle.stamp_model.proofs.ReadLemmas.{reply-read}
-use Rattle.stamp_model.proofs.ReplyLemmas.{reply-admitted, reply-unrefused, unrefused}
+use Rattle.stamp_model.proofs.ReplyLemmas.{answer_of-rows, reply-admitted, reply-unrefused, unrefused}
 use Rattle.stamp_model.proofs.WrittenLemmas.{body-get, headers-get, kept-put, some_of}
 
 -- ---- the MD5 of a body
@@ -99,7 +99,7 @@ reply-damaged keys w q t bound sum none given apart =
     let refused : object_refusal p q ≡ Some (cause_refusal BodyIsDamaged) = λ i. option_map cause_refusal (find (λ c. alone c i) causes) in
     let permitted : first_rule keys (acl_of p) q.ask t ≡ None =
     first_rule-with_args keys (acl_of p) (without_content_md5 q).ask q.ask.args t refl ∙ (unrefused keys p (without_content_md5 q) t free).permitted in
-    λ i. response (option_or (option_map access_refusal (permitted i)) (option_or (refused i) (unserved_refusal q.ask.op))) (answer_of (effect keys w q t) q bound)
+    λ i. response (option_or (option_map access_refusal (permitted i)) (refused i)) (answer_of (effect keys w q t) q bound)
 
 -- ---- the MD5 of a blob that was put
 
@@ -113,7 +113,7 @@ module _ (w : World (List ℕ)) (key : Key) (name : List ℕ) (put : Timed) (fit
     where
       by_given : (given : Option (List ℕ)) → kept.md5 ≡ given → md5_or given (Some sum_put) ≡ Some sum_put
       by_given None is = refl
-      by_given (Some sum) is = ap (λ (bytes : List ℕ). Some bytes) (sym (md5-kept put.keys w put.request put.moment None none kept sum puts.op keeps is))
+      by_given (Some sum) is = ap (λ (bytes : List ℕ). Some bytes) (sym (md5-kept put.keys w put.request put.moment put.bound none kept sum puts.op keeps is))
 
   kept_md5_line : (k : PropsFields) (sum : List ℕ) → k.md5 ≡ Some sum → Contains (kept_lines k) (header.ContentMd5 sum)
   kept_md5_line k sum is =
@@ -153,13 +153,21 @@ status-frame op.PutBlock q s c b = refl
 status-frame op.PutBlockList q s c b = refl
 status-frame other q s c b = refl
 
+status-own : (o : Op) (p : Part (List ℕ)) (q : Asked) → q.ask.op ≡ o → (own_answer_by o p q).status ≡ success_status o q.ask.args.range
+status-own op.ListBlobs p q is = refl
+status-own o p q is =
+    status-frame q.ask.op q (standing_read (sizes p)) (blob_read (sizes p) q.ask) (target_blob (sizes p) q.ask) ∙ ap (λ o. success_status o q.ask.args.range) is
+
+status-answer : (o : Op) (w : World (List ℕ)) (q : Asked) (bound : Option Key) → q.ask.op ≡ o → (answer_by o w q bound).status ≡ success_status o q.ask.args.range
+status-answer op.ListContainers w q bound is = refl
+status-answer o w q bound is = status-own q.ask.op (part_at w q.ask.key) q refl ∙ ap (λ o. success_status o q.ask.args.range) is
+
 -- a request that succeeds has the status of its operation
 pub status-unrefused : (keys : Option Keys) (w : World (List ℕ)) (q : Asked) (t : ℕ) (bound : Option Key) → (reply keys w q t bound).rule ≡ None
     → (reply keys w q t bound).status ≡ success_status q.ask.op q.ask.args.range
 status-unrefused keys w q t bound none =
-    let p : Part (List ℕ) = part_at (effect keys w q t) q.ask.key in
     ap (λ (r : Reply). r.status) (reply-admitted keys w q t bound (reply-unrefused keys w q t bound none))
-    ∙ status-frame q.ask.op q (standing_read (sizes p)) (blob_read (sizes p) q.ask) (target_blob (sizes p) q.ask)
+    ∙ status-answer q.ask.op (effect keys w q t) q bound refl
 
 -- ---- the blob of a success
 
@@ -171,7 +179,7 @@ module _ (w : World (List ℕ)) (key : Key) (name : List ℕ) where
       some_of (blob_in (part_at w key) name).committed
       (sym (λ i. is_some (option_and_then (λ name. (blob_in (part_at w (on.container i)) name).committed) (on.blob i)))
       ∙ blob_needed (part_at w r.request.ask.key) r.request
-      (unrefused r.keys (sizes (part_at w r.request.ask.key)) r.request r.moment (reply-unrefused r.keys w r.request r.moment None none)).unopposed (ap needs_blob on.op ∙ needs))
+      (unrefused r.keys (sizes (part_at w r.request.ask.key)) r.request r.moment (reply-unrefused r.keys w r.request r.moment r.bound none)).unopposed (ap needs_blob on.op ∙ needs))
 
   module _ (properties get : Timed) (asks : IsOn op.BlobProperties key name properties.request) (gets : IsOn op.GetBlob key name get.request)
       (whole : get.request.ask.args.range ≡ None) (free : (reply_to_one w properties).rule ≡ None) (none : (reply_to_one w get).rule ≡ None) where
@@ -181,11 +189,11 @@ module _ (w : World (List ℕ)) (key : Key) (name : List ℕ) where
         let there = seen-before op.GetBlob get refl gets none in
         let sized : Committed ℕ = committed_value byte_count there.0 in
         let got : reply_to_one w get ≡ with_content (ranged_frame None sized) (blob_content there.0) =
-        reply-read get.keys w get.request get.moment none op.GetBlob key name there.0 refl gets there.1
+        reply-read get.keys w get.request get.moment get.bound none op.GetBlob key name there.0 refl refl gets there.1
         ∙ ap (λ (r : Option ByteRange). with_content (ranged_frame r sized) (ranged_bytes r (blob_content there.0))) whole in
         let nothing : List ℕ = [] in
         let said : reply_to_one w properties ≡ with_content (ranged_frame None sized) nothing =
-        reply-read properties.keys w properties.request properties.moment free op.BlobProperties key name there.0 refl asks there.1 in
+        reply-read properties.keys w properties.request properties.moment properties.bound free op.BlobProperties key name there.0 refl refl asks there.1 in
         got ∙ (λ i. with_content (sym said i) (ap (λ (r : Reply). r.body) (sym got) i))
 
 -- ---- a range past the end
@@ -236,6 +244,7 @@ module _ (keys : Option Keys) (w : World (List ℕ)) (q : Asked) (t : ℕ) (boun
   rule-within within =
       ap (λ (x : Reply). x.rule) (reply-admitted keys w q t bound
       (free-with_args keys own (without_range q) t free q.ask.args refl (more_causes q own (past-range ∙ lt-leb (length whole_body) r.first within))))
+      ∙ ap (λ (x : Reply). x.rule) (answer_of-rows (effect keys w q t) q bound (ap lists_names gets))
       ∙ ap (λ (o : Op). (frame_by o q (standing_read (sizes (part_at (effect keys w q t) q.ask.key))) (blob_read (sizes (part_at (effect keys w q t) q.ask.key)) q.ask) (target_blob (sizes (part_at (effect keys w q t) q.ask.key)) q.ask)).rule) gets
       ∙ ap (λ (range : Option ByteRange). (ranged_frame range (blob_read (sizes (part_at (effect keys w q t) q.ask.key)) q.ask)).rule) asks
 
@@ -247,4 +256,4 @@ module _ (keys : Option Keys) (w : World (List ℕ)) (q : Asked) (t : ℕ) (boun
       let refused : object_refusal own q ≡ Some (cause_refusal RangeIsPastTheEnd) = λ i. option_map cause_refusal (find (λ c. alone c i) causes) in
       let permitted : first_rule keys (acl_of own) q.ask t ≡ None =
       first_rule-with_args keys (acl_of own) (without_range q).ask q.ask.args t refl ∙ (unrefused keys own (without_range q) t free).permitted in
-      λ i. response (option_or (option_map access_refusal (permitted i)) (option_or (refused i) (unserved_refusal q.ask.op))) (answer_of (effect keys w q t) q bound)
+      λ i. response (option_or (option_map access_refusal (permitted i)) (refused i)) (answer_of (effect keys w q t) q bound)

@@ -57,18 +57,18 @@ module _ (w : World (List ℕ)) (key : Key) (name : List ℕ) (kept : Kept) (put
   pub committed-put : (blob_in (part_at (world_after_one w put) key) name).committed ≡ Some put_there
   committed-put =
       ap (λ (p : Part (List ℕ)). (blob_in p name).committed)
-      (part_at-act put.keys w put.request put.moment key (act.PutBlob (put_blob put.request put.moment name kept)) puts.container none put_act)
+      (part_at-act put.keys w put.request put.moment put.bound key (act.PutBlob (put_blob put.request put.moment name kept)) puts.container none put_act)
       ∙ blob_in-put held (put_blob put.request put.moment name kept) (part_at w key)
 
   -- the reply to a Put Blob has the ETag and the moment of its change
   pub headers-put : (reply_to_one w put).headers ≡ header.ContentMd5 (md5 put.request.body) ∷ date_headers ((part_at w key).count + 1) put.moment
-  headers-put = ap (λ (r : Reply). r.headers) (reply-write put.keys w put.request put.moment none op.PutBlob key name put_there puts committed-put)
+  headers-put = ap (λ (r : Reply). r.headers) (reply-write put.keys w put.request put.moment put.bound none op.PutBlob key name put_there refl puts committed-put)
 
   module _ (get : Timed) (gets : IsOn op.GetBlob key name get.request) (whole : get.request.ask.args.range ≡ None)
       (free : (reply_to_one (world_after_one w put) get).rule ≡ None) where
     read : reply_to_one (world_after_one w put) get ≡ with_content (get_frame (committed_value byte_count put_there)) (blob_content put_there)
     read =
-        reply-read get.keys (world_after_one w put) get.request get.moment free op.GetBlob key name put_there refl gets committed-put
+        reply-read get.keys (world_after_one w put) get.request get.moment get.bound free op.GetBlob key name put_there refl refl gets committed-put
         ∙ ap (λ (r : Option ByteRange). with_content (ranged_frame r (committed_value byte_count put_there)) (ranged_bytes r (blob_content put_there))) whole
 
     -- the reply to a Get Blob after the Put Blob has the same ETag and the same moment
@@ -85,7 +85,7 @@ module _ (w : World (List ℕ)) (key : Key) (name : List ℕ) (kept : Kept) (put
   pub length-properties : (get : Timed) → IsOn op.BlobProperties key name get.request → (reply_to_one (world_after_one w put) get).rule ≡ None
       → (reply_to_one (world_after_one w put) get).length ≡ length put.request.body
   length-properties get gets free =
-      ap (λ (r : Reply). r.length) (reply-read get.keys (world_after_one w put) get.request get.moment free op.BlobProperties key name put_there refl gets committed-put)
+      ap (λ (r : Reply). r.length) (reply-read get.keys (world_after_one w put) get.request get.moment get.bound free op.BlobProperties key name put_there refl refl gets committed-put)
       ∙ none_before (held (cut put.request.body))
       ∙ ap (λ (bytes : List ℕ). length bytes) (held-cut put.request.body)
 
@@ -103,7 +103,7 @@ module _ (w : World (List ℕ)) (key : Key) (name : List ℕ) (set : Timed)
       some_of (blob_in (part_at w key) name).committed
       (sym (λ i. is_some (option_and_then (λ name. (blob_in (part_at w (sets.container i)) name).committed) (sets.blob i)))
       ∙ blob_needed (part_at w set.request.ask.key) set.request
-      (unrefused set.keys (sizes (part_at w set.request.ask.key)) set.request set.moment (reply-unrefused set.keys w set.request set.moment None none)).unopposed (ap needs_blob sets.op))
+      (unrefused set.keys (sizes (part_at w set.request.ask.key)) set.request set.moment (reply-unrefused set.keys w set.request set.moment set.bound none)).unopposed (ap needs_blob sets.op))
 
   abbrev pub set_there : Committed (List ℕ)
   set_there = committed_with_metadata ((part_at w key).count + 1) (set_metadata set.request set.moment name) blob_before.0
@@ -117,19 +117,19 @@ module _ (w : World (List ℕ)) (key : Key) (name : List ℕ) (set : Timed)
   pub committed-set : (blob_in (part_at (world_after_one w set) key) name).committed ≡ Some set_there
   committed-set =
       ap (λ (p : Part (List ℕ)). (blob_in p name).committed)
-      (part_at-act set.keys w set.request set.moment key (act.SetMetadata (set_metadata set.request set.moment name)) sets.container none set_act)
+      (part_at-act set.keys w set.request set.moment set.bound key (act.SetMetadata (set_metadata set.request set.moment name)) sets.container none set_act)
       ∙ ap (λ (b : Blob (List ℕ)). b.committed) (blob_in-set_metadata held (part_at w key) (set_metadata set.request set.moment name))
       ∙ ap (λ (c : Option (Committed (List ℕ))). option_map (committed_with_metadata ((part_at w key).count + 1) (set_metadata set.request set.moment name)) c) blob_before.1
 
   -- the reply to a Set Blob Metadata has the ETag and the moment of its change
   pub headers-set : (reply_to_one w set).headers ≡ date_headers ((part_at w key).count + 1) set.moment
-  headers-set = ap (λ (r : Reply). r.headers) (reply-write set.keys w set.request set.moment none op.SetMetadata key name set_there sets committed-set)
+  headers-set = ap (λ (r : Reply). r.headers) (reply-write set.keys w set.request set.moment set.bound none op.SetMetadata key name set_there refl sets committed-set)
 
   -- the reply to a Get Blob Metadata after it has the metadata that were set, and the same ETag and moment
   pub headers-get_metadata : (get : Timed) → IsOn op.GetMetadata key name get.request → (reply_to_one (world_after_one w set) get).rule ≡ None
       → (reply_to_one (world_after_one w set) get).headers ≡ map header.Meta set.request.ask.args.metadata ++ (reply_to_one w set).headers
   headers-get_metadata get gets free =
-      ap (λ (r : Reply). r.headers) (reply-read get.keys (world_after_one w set) get.request get.moment free op.GetMetadata key name set_there refl gets committed-set)
+      ap (λ (r : Reply). r.headers) (reply-read get.keys (world_after_one w set) get.request get.moment get.bound free op.GetMetadata key name set_there refl refl gets committed-set)
       ∙ ap (λ (hs : List Header). map header.Meta set.request.ask.args.metadata ++ hs) (sym headers-set)
 
 -- ---- what does not exist
@@ -138,7 +138,7 @@ module _ (w : World (List ℕ)) (key : Key) (name : List ℕ) (set : Timed)
 pub reply-absent_blob : (v : World (List ℕ)) (key : Key) (read : Timed) → read.request.ask.key ≡ key → needs_blob read.request.ask.op ≡ true → IsAdmitted v read
     → is_some (part_at v key).standing ≡ true → named_blob (part_at v key) read.request.ask ≡ None → reply_to_one v read ≡ denied (cause_refusal BlobIsAbsent)
 reply-absent_blob v key read same needs admits exists unseen =
-    reply-refused read.keys v read.request read.moment (cause_refusal BlobIsAbsent) admits
+    reply-refused read.keys v read.request read.moment read.bound (cause_refusal BlobIsAbsent) admits
     (object_refusal-blob (part_at v read.request.ask.key) read.request needs
     (ap (λ (k : Key). is_some (part_at v k).standing) same ∙ exists)
     (ap (λ (k : Key). named_blob (part_at v k) read.request.ask) same ∙ unseen))
@@ -152,15 +152,21 @@ module _ (w : World (List ℕ)) (key : Key) (name : List ℕ) (delete : Timed)
 
   -- after a Delete Blob the container is what the act makes of it
   pub part-deleted : part_at (world_after_one w delete) key ≡ changed held (act.DeleteBlob (delete_blob name)) (part_at w key)
-  part-deleted = part_at-act delete.keys w delete.request delete.moment key (act.DeleteBlob (delete_blob name)) deletes.container none delete_act
+  part-deleted = part_at-act delete.keys w delete.request delete.moment delete.bound key (act.DeleteBlob (delete_blob name)) deletes.container none delete_act
 
   -- the container of an accepted Delete Blob exists
   pub container_before : is_some (part_at w key).standing ≡ true
   container_before =
       sym (ap (λ (k : Key). is_some (part_at w k).standing) deletes.container)
       ∙ container_needed (part_at w delete.request.ask.key) delete.request
-      (unrefused delete.keys (sizes (part_at w delete.request.ask.key)) delete.request delete.moment (reply-unrefused delete.keys w delete.request delete.moment None none)).unopposed
+      (unrefused delete.keys (sizes (part_at w delete.request.ask.key)) delete.request delete.moment (reply-unrefused delete.keys w delete.request delete.moment delete.bound none)).unopposed
       (ap needs_container deletes.op)
+
+  -- after a Delete Blob readers see no blob of its name
+  pub committed-deleted : (blob_in (part_at (world_after_one w delete) key) name).committed ≡ None
+  committed-deleted =
+      ap (λ (p : Part (List ℕ)). (blob_in p name).committed) part-deleted
+      ∙ ap (λ (o : Option (Blob (List ℕ))). (unwrap_or o no_blob).committed) (get-remove_same (part_at w key).blobs name)
 
   -- after a Delete Blob, each request for the blob that permission admits is refused by O3
   pub reply-deleted_blob : (read : Timed) → read.request.ask.key ≡ key → read.request.ask.blob ≡ Some name → needs_blob read.request.ask.op ≡ true
@@ -169,8 +175,7 @@ module _ (w : World (List ℕ)) (key : Key) (name : List ℕ) (delete : Timed)
       reply-absent_blob (world_after_one w delete) key read same needs admits
       (ap (λ (p : Part (List ℕ)). is_some p.standing) part-deleted ∙ container_before)
       (ap (λ (blob : Option (List ℕ)). option_and_then (λ name. (blob_in (part_at (world_after_one w delete) key) name).committed) blob) named
-      ∙ ap (λ (p : Part (List ℕ)). (blob_in p name).committed) part-deleted
-      ∙ ap (λ (o : Option (Blob (List ℕ))). (unwrap_or o no_blob).committed) (get-remove_same (part_at w key).blobs name))
+      ∙ committed-deleted)
 
 -- ---- Delete Container
 
@@ -178,14 +183,14 @@ module _ (w : World (List ℕ)) (key : Key) (delete : Timed)
     (deletes : IsIn op.DeleteContainer key delete.request) (none : (reply_to_one w delete).rule ≡ None) where
   part-gone : part_at (world_after_one w delete) key ≡ changed held act.DeleteContainer (part_at w key)
   part-gone =
-      part_at-act delete.keys w delete.request delete.moment key act.DeleteContainer deletes.container none
+      part_at-act delete.keys w delete.request delete.moment delete.bound key act.DeleteContainer deletes.container none
       (λ z. ap (λ (o : Op). act_by o z delete.request delete.moment) deletes.op)
 
   -- after a Delete Container, each request that needs the container and that permission admits is refused by O1
   pub reply-deleted_container : (ask : Timed) → ask.request.ask.key ≡ key → needs_container ask.request.ask.op ≡ true → IsAdmitted (world_after_one w delete) ask
       → reply_to_one (world_after_one w delete) ask ≡ denied (cause_refusal ContainerIsAbsent)
   reply-deleted_container ask same needs admits =
-      reply-refused ask.keys (world_after_one w delete) ask.request ask.moment (cause_refusal ContainerIsAbsent) admits
+      reply-refused ask.keys (world_after_one w delete) ask.request ask.moment ask.bound (cause_refusal ContainerIsAbsent) admits
       (object_refusal-container (part_at (world_after_one w delete) ask.request.ask.key) ask.request needs
       (ap (λ (k : Key). (part_at (world_after_one w delete) k).standing) same ∙ ap (λ (p : Part (List ℕ)). p.standing) part-gone))
 
@@ -195,7 +200,7 @@ module _ (w : World (List ℕ)) (key : Key) (delete : Timed)
 
     part-made : part_at then_held key ≡ changed held (act.CreateContainer (create_container create.request create.moment)) (part_at (world_after_one w delete) key)
     part-made =
-        part_at-act create.keys (world_after_one w delete) create.request create.moment key (act.CreateContainer (create_container create.request create.moment)) creates.container made
+        part_at-act create.keys (world_after_one w delete) create.request create.moment create.bound key (act.CreateContainer (create_container create.request create.moment)) creates.container made
         (λ z. ap (λ (o : Op). act_by o z create.request create.moment) creates.op)
 
     -- after a Create Container that follows it, each request for a blob that permission admits is refused by O3
@@ -216,7 +221,7 @@ module _ (w : World (List ℕ)) (key : Key) (set : Timed)
       some_of (part_at w key).standing
       (sym (ap (λ (k : Key). is_some (part_at w k).standing) sets.container)
       ∙ container_needed (part_at w set.request.ask.key) set.request
-      (unrefused set.keys (sizes (part_at w set.request.ask.key)) set.request set.moment (reply-unrefused set.keys w set.request set.moment None none)).unopposed
+      (unrefused set.keys (sizes (part_at w set.request.ask.key)) set.request set.moment (reply-unrefused set.keys w set.request set.moment set.bound none)).unopposed
       (ap needs_container sets.op))
 
   abbrev set_standing : Standing
@@ -225,20 +230,20 @@ module _ (w : World (List ℕ)) (key : Key) (set : Timed)
   standing-set : (part_at (world_after_one w set) key).standing ≡ Some set_standing
   standing-set =
       ap (λ (p : Part (List ℕ)). p.standing)
-      (part_at-act set.keys w set.request set.moment key (act.SetContainerMetadata (set_container_metadata set.request set.moment)) sets.container none
+      (part_at-act set.keys w set.request set.moment set.bound key (act.SetContainerMetadata (set_container_metadata set.request set.moment)) sets.container none
       (λ z. ap (λ (o : Op). act_by o z set.request set.moment) sets.op))
       ∙ ap (λ (o : Option Standing). option_map (standing_with_metadata ((part_at w key).count + 1) (set_container_metadata set.request set.moment)) o) container_then.1
 
   -- the reply to a Set Container Metadata has the ETag and the moment of its change
   pub headers-set_container : (reply_to_one w set).headers ≡ date_headers ((part_at w key).count + 1) set.moment
   headers-set_container =
-      ap (λ (r : Reply). r.headers) (reply-write_in set.keys w set.request set.moment none op.SetContainerMetadata key sets)
+      ap (λ (r : Reply). r.headers) (reply-write_in set.keys w set.request set.moment set.bound none op.SetContainerMetadata key refl sets)
       ∙ ap (λ (o : Option Standing). date_headers (unwrap_or o empty_standing).etag (unwrap_or o empty_standing).made) standing-set
 
   -- the reply to a Get Container Properties after it has the metadata that were set, and the same ETag and moment
   pub headers-properties : (get : Timed) → IsIn op.ContainerProperties key get.request → (reply_to_one (world_after_one w set) get).rule ≡ None
       → (reply_to_one (world_after_one w set) get).headers ≡ map header.Meta set.request.ask.args.metadata ++ (reply_to_one w set).headers
   headers-properties get gets free =
-      ap (λ (r : Reply). r.headers) (reply-read_in get.keys (world_after_one w set) get.request get.moment free op.ContainerProperties key refl gets)
+      ap (λ (r : Reply). r.headers) (reply-read_in get.keys (world_after_one w set) get.request get.moment get.bound free op.ContainerProperties key refl refl gets)
       ∙ ap (λ (o : Option Standing). metadata_headers (unwrap_or o empty_standing).metadata (unwrap_or o empty_standing).etag (unwrap_or o empty_standing).made) standing-set
       ∙ ap (λ (hs : List Header). map header.Meta set.request.ask.args.metadata ++ hs) (sym headers-set_container)

@@ -5,6 +5,7 @@ pub mod Effects
 pub mod Etags
 pub mod Histories
 pub mod Kept
+pub mod Listed
 pub mod Ranges
 pub mod Refusals
 pub mod Responses

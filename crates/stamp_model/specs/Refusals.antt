@@ -1,8 +1,7 @@
 -- Which rule refuses a request, and with which code (Blob service REST reference, 2012-02-12, Status and Error Codes, Blob
 -- Service Error Codes). The rules, their order and the codes of the rules of permission are the stamp's own.
-use Rattle.std.specs.Prelude.{ℕ, Bool, true, false, not, ◌||◌, List, [], ◌∷◌, ◌++◌, Option, Some, None, if◌then◌else◌}
+use Rattle.std.specs.Prelude.{ℕ, Bool, true, false, ◌||◌, List, ◌++◌, Option}
 use Rattle.std.specs.Option.{option_map, option_or}
-use Rattle.stamp_values.specs.declared.op.Op.{Op}
 use Rattle.stamp_types.specs.declared.code.Code.{Code}
 use Rattle.stamp_types.specs.declared.code.Code.TheVariants as code
 use Rattle.stamp_types.specs.declared.refusal.Refusal.{Refusal}
@@ -13,7 +12,6 @@ use Rattle.stamp_types.specs.World.{Part}
 use Rattle.access_rules.specs.declared.keys.Keys.{Keys}
 use Rattle.access_rules.specs.Rules.{holds, access_rules, first_rule}
 use Rattle.row_trees.specs.Access.{acl_of}
-use Rattle.range_rows.specs.ObjectReplies.{is_served}
 use Rattle.range_rows.specs.ObjectRules.{object_holds, object_rules, object_refusal}
 
 -- the error code of a rule of permission
@@ -27,30 +25,21 @@ access_code _ = code.AuthenticationFailed
 abbrev pub access_refusal : Rule → Refusal
 access_refusal r = record { rule = r; code = access_code r }
 
--- an operation that is not served yet is refused last, by the rule and the code of a head that asks for no operation
-abbrev pub unserved_refusal : Op → Option Refusal
-unserved_refusal o = if is_served o then None else Some (record { rule = rule.F3; code = code.InvalidQueryParameterValue })
-
--- the refusal of a request: by permission, or else by the object, or else because the operation is not served
+-- the refusal of a request: by permission, or else by the object
 abbrev pub refusal : Option Keys → Part ℕ → Asked → ℕ → Option Refusal
-refusal keys p q t = option_or (option_map access_refusal (first_rule keys (acl_of p) q.ask t)) (option_or (object_refusal p q) (unserved_refusal q.ask.op))
+refusal keys p q t = option_or (option_map access_refusal (first_rule keys (acl_of p) q.ask t)) (object_refusal p q)
 
 -- the rule that refuses the request
 abbrev pub refusing_rule : Option Keys → Part ℕ → Asked → ℕ → Option Rule
 refusing_rule keys p q t = option_map (λ r. r.rule) (refusal keys p q t)
 
--- the rule is the rule of operations that are not served yet, and it holds
-abbrev pub is_unserved : Asked → Rule → Bool
-is_unserved q rule.F3 = not (is_served q.ask.op)
-is_unserved q _ = false
-
--- the rule holds: as a rule of permission, as a rule of the object, or because the operation is not served
+-- the rule holds: as a rule of permission, or as a rule of the object
 abbrev pub refuses : Option Keys → Part ℕ → Asked → ℕ → Rule → Bool
-refuses keys p q t r = holds keys (acl_of p) q.ask t r || (object_holds p q r || is_unserved q r)
+refuses keys p q t r = holds keys (acl_of p) q.ask t r || object_holds p q r
 
 -- all rules in their order: the reply names the first rule that holds
 abbrev pub rules_in_order : List Rule
-rules_in_order = access_rules ++ object_rules ++ rule.F3 ∷ []
+rules_in_order = access_rules ++ object_rules
 
 -- the rule is a rule of permission that is judged by the keys, the request and the moment alone
 abbrev pub sees_no_container : Rule → Bool

@@ -7,9 +7,10 @@ use Rattle.stamp_types.specs.declared.refusal.Refusal.{Refusal}
 use Rattle.stamp_types.specs.declared.reply.Reply.{Reply}
 use Rattle.stamp_types.specs.Replies.{denied}
 use Rattle.stamp_types.specs.Requests.{Asked}
-use Rattle.stamp_types.specs.World.{World, part_at}
+use Rattle.stamp_types.specs.World.{Part, World, part_at}
 use Rattle.access_rules.specs.declared.keys.Keys.{Keys}
 use Rattle.range_rows.specs.ObjectReplies.{reply_of, sizes}
+use Rattle.list_pages.specs.ListReplies.{blob_list_reply, container_list_reply}
 use Rattle.stamp_model.specs.Refusals.{refusal}
 use Rattle.stamp_model.specs.Effects.{effect}
 
@@ -39,10 +40,25 @@ tells_nothing op.DeleteBlob = true
 tells_nothing op.PutBlock = true
 tells_nothing _ = false
 
--- What an allowed request is answered, from the containers after its change. The bound is the first key that is not listed. Only
--- List Containers will look at the bound, and that operation is not served yet.
+-- what the operation answers from the container that the request names, as it is after the request's change. A List Containers names no
+-- container
+abbrev pub own_answer_by : Op → Part (List ℕ) → Asked → Reply
+own_answer_by op.ListBlobs p q = blob_list_reply (sizes p) q
+own_answer_by _ p q = reply_of p q
+
+-- what an allowed request is answered from the container that it names
+abbrev pub own_answer : Part (List ℕ) → Asked → Reply
+own_answer p q = own_answer_by q.ask.op p q
+
+-- what the operation answers from the containers, as they are after the request's change. The bound is the first key that is not listed,
+-- and matters to List Containers alone
+abbrev pub answer_by : Op → World (List ℕ) → Asked → Option Key → Reply
+answer_by op.ListContainers w q bound = container_list_reply w q bound
+answer_by _ w q bound = own_answer (part_at w q.ask.key) q
+
+-- what an allowed request is answered, from the containers after its change
 abbrev pub answer_of : World (List ℕ) → Asked → Option Key → Reply
-answer_of w q bound = reply_of (part_at w q.ask.key) q
+answer_of w q bound = answer_by q.ask.op w q bound
 
 -- the reply to a refused request, or else this answer
 abbrev pub response : Option Refusal → Reply → Reply

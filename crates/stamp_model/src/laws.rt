@@ -20,11 +20,11 @@ ghost use Rattle.access_rules.specs.Needs.{need_of};
 ghost use Rattle.access_rules.specs.Routes.{Admits};
 ghost use Rattle.range_rows.specs.NamedBlobs.{has_listed, target_blob};
 ghost use Rattle.range_rows.specs.ObjectRules.{named_blob, object_refusal};
-ghost use Rattle.range_rows.specs.ObjectReplies.{is_served, sizes};
+ghost use Rattle.range_rows.specs.ObjectReplies.{sizes};
 ghost use Rattle.row_trees.specs.Access.{acl_of};
 ghost use Rattle.stamp_model.specs.Refusals.{refusing_rule, refuses, rules_in_order};
 ghost use Rattle.stamp_model.specs.Effects.{alters_access, alters_container, change, effect, effect_as};
-ghost use Rattle.stamp_model.specs.SeenContainers.{is_seen};
+ghost use Rattle.stamp_model.specs.SeenContainers.{is_seen, is_under, routed};
 ghost use Rattle.stamp_model.specs.Responses.{answer_of, reply, tells_blob, tells_container, tells_nothing};
 
 /// The container of a request's key decides what that container is after the request. If the
@@ -42,11 +42,12 @@ pub fn an_own_container_decides_effect_and_reply()
 /// A reply depends on the containers that its request sees, and on no other container. A request that
 /// names a container sees this container. A List Containers sees the containers of its account from
 /// its marker on, up to the bound, which is the first key that is not listed; so it has one reply in
-/// all worlds that agree on these.
+/// all worlds that agree on these. Its marker comes before the bound.
 pub fn a_reply_depends_on_what_its_request_sees()
     ensures { (keys : Option Keys) (w v : World (List ℕ)) (q : Asked) (t : ℕ)
         (bound : Option Key)
         → IsAsk q.ask
+        → (names_container q.ask.op ≡ false → IsTrue (is_under bound (routed q)))
         → ((key : Key) → IsTrue (is_seen q bound key) → part_at w key ≡ part_at v key)
         → reply keys w q t bound ≡ reply keys v q t bound }
 {}
@@ -77,10 +78,9 @@ pub fn a_refused_request_changes_nothing()
         → (reply keys w q t bound).rule ≡ Some rule → effect keys w q t ≡ w }
 {}
 
-/// A reply names no rule if and only if three things are so: the request's own route admits the
-/// request, as that route is defined; the object does not refuse the request; and the operation is
-/// served. A reply that names no rule is what the operation answers from the containers as they are
-/// after the effect.
+/// A reply names no rule if and only if two things are so: the request's own route admits the request, as
+/// that route is defined; and the object does not refuse the request. A reply that names no rule is what
+/// the operation answers from the containers as they are after the effect.
 pub fn success_is_what_the_own_route_admits()
     ensures admitted { (keys : Option Keys) (w : World (List ℕ)) (q : Asked) (t : ℕ)
         (bound : Option Key)
@@ -90,13 +90,10 @@ pub fn success_is_what_the_own_route_admits()
         (bound : Option Key)
         → (reply keys w q t bound).rule ≡ None
         → object_refusal (sizes (part_at w q.ask.key)) q ≡ None }
-    ensures served { (keys : Option Keys) (w : World (List ℕ)) (q : Asked) (t : ℕ)
-        (bound : Option Key)
-        → (reply keys w q t bound).rule ≡ None → IsTrue (is_served q.ask.op) }
     ensures unnamed { (keys : Option Keys) (w : World (List ℕ)) (q : Asked) (t : ℕ)
         (bound : Option Key)
         → Admits keys (acl_of (part_at w q.ask.key)) q.ask.credential q.ask t
-        → object_refusal (sizes (part_at w q.ask.key)) q ≡ None → IsTrue (is_served q.ask.op)
+        → object_refusal (sizes (part_at w q.ask.key)) q ≡ None
         → (reply keys w q t bound).rule ≡ None }
     ensures answered { (keys : Option Keys) (w : World (List ℕ)) (q : Asked) (t : ℕ)
         (bound : Option Key)

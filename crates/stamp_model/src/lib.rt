@@ -11,6 +11,7 @@ mod etag_laws;
 mod history_laws;
 mod kept_laws;
 mod laws;
+mod list_laws;
 mod policy_laws;
 mod run_laws;
 mod success_laws;
@@ -42,6 +43,10 @@ pub use laws::{
     content_is_read_before_or_after_a_request, counts_only_rise,
     nobody_writes_without_a_credential, public_access_is_what_the_container_gives,
     success_is_what_the_own_route_admits, the_refusal_is_the_first_rule_of_all,
+};
+pub use list_laws::{
+    a_list_of_containers_is_of_its_account, a_list_shows_what_its_route_may_see,
+    a_put_block_leaves_every_list, what_is_written_is_listed,
 };
 pub use policy_laws::{
     a_policy_is_as_it_was_set_last, a_token_writes_by_its_letters, a_withdrawn_policy_opens_nothing,

@@ -1,8 +1,7 @@
-use Rattle.std.proofs.Common.{◌≡◌, None, rules}
+use Rattle.std.proofs.Common.{◌≡◌, rules}
 use Rattle.range_rows.specs.Judgements.{judgement}
 use Rattle.range_rows.specs.declared.judged.Judged.TheVariants as judged
 use Rattle.range_rows.proofs.JudgementLemmas.{refusal_of_judgement}
-use Rattle.stamp_model.specs.Refusals.{unserved_refusal}
 use Rattle.account_service.proofs.DecisionLemmas.{given_allowed, object_refused}
 use Rattle.account_service.proofs.decision.permitted.Goals as goal
 
@@ -11,11 +10,10 @@ returns-in-Refused c =
     let t = c.args.target in
     let q = c.args.request.now in
     let is : judged.Refused c.in-Refused.refusal ≡ judgement t q = search rules in
-    object_refused q c.args.moment t.container c.in-Refused.refusal (refusal_of_judgement t q (judged.Refused c.in-Refused.refusal) is)
+    object_refused c.args.rows.now q c.args.moment t.container c.in-Refused.refusal (refusal_of_judgement t q (judged.Refused c.in-Refused.refusal) is)
 
-pub returns-in-None : goal.returns-in-None
-returns-in-None c =
+pub returns-in-Allowed : goal.returns-in-Allowed
+returns-in-Allowed c =
     let t = c.args.target in
     let q = c.args.request.now in
-    let served : None ≡ unserved_refusal q.ask.op = search rules in
-    given_allowed q c.args.moment c.in-Allowed.allowed t c.answered.result (search rules) (search rules) served c.answered.ensures
+    given_allowed c.args.rows.now q c.args.moment c.in-Allowed.allowed t c.answered.result (search rules) (search rules) c.answered.ensures

@@ -1,9 +1,10 @@
-use Rattle.std.proofs.Common.{◌≡◌, ◌++◌, take}
-use Rattle.std.specs.List.{flat_map}
-use Rattle.body_forms.specs.Escapes.{escaped_byte}
-use Rattle.body_forms.specs.Texts.{piece_bytes}
+use Rattle.std.proofs.Common.{◌≡◌, ◌++◌, length}
+use Rattle.body_forms.specs.Escapes.{escaped}
 use Rattle.body_forms.proofs.escape.append_escaped.Given as goal
 
-abbrev pub invariant-loop-byte : goal.invariant-loop-byte
-invariant-loop-byte l =
-    l.out.items ≡ l.initial.out.items ++ flat_map (λ c. piece_bytes (escaped_byte c)) (take l.byte-index l.text)
+-- what is written, with what is left, is what was asked for
+abbrev pub invariant-loop-left : goal.invariant-loop-left
+invariant-loop-left l = l.out.items ++ escaped l.left ≡ l.fn.out.items ++ escaped l.fn.text
+
+abbrev pub decreases-loop-left : goal.decreases-loop-left
+decreases-loop-left l = length l.left

@@ -15,7 +15,7 @@ returns-in_err-fields c =
     rw (p.1, p.2) (denies_next c.args.head line_rules field_rules c.in_err-fields.field-0.0 c.in_ok-line.ensures.0 c.in_err-fields.ensures)
 
 pub invariant_of-result : goal.invariant_of-result
-invariant_of-result c = fits c.args.head c.in_ok-line.line c.in_ok-fields.fields c.ask-ask.result c.in_ok-line.ensures.1 c.in_ok-fields.ensures.1 c.requires.short c.ask-ask.ensures
+invariant_of-result c = fits c.args.head c.in_ok-line.line c.in_ok-fields.fields c.ask-ask.result c.in_ok-line.ensures.1 c.in_ok-fields.ensures.1 c.requires.short c.requires.target.0 c.ask-ask.ensures
 
 pub returns : goal.returns
 returns c = (

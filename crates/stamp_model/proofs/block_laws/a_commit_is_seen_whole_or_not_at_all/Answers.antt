@@ -57,4 +57,4 @@ pub returns-clause-get : goal.returns-clause-get
 returns-clause-get c = λ w key name kept list get lists keeps gets whole none free. headers-get_list w key name list lists none kept keeps get gets whole free
 
 pub returns-clause-refused : goal.returns-clause-refused
-returns-clause-refused c = λ w list rule lists named. effect-named list.keys w list.request list.moment None rule named
+returns-clause-refused c = λ w list rule lists named. effect-named list.keys w list.request list.moment list.bound rule named

@@ -4,7 +4,7 @@ use Rattle.stamp_types.specs.Pieces.{held}
 use Rattle.stamp_types.specs.World.{Part, part_at}
 use Rattle.range_rows.specs.ObjectReplies.{byte_count}
 use Rattle.range_rows.specs.ObjectRules.{named_blob}
-use Rattle.stamp_model.proofs.AnswerLemmas.{standing-unrefused, named_blob-unrefused, blocks-unrefused, reply_of-nothing}
+use Rattle.stamp_model.proofs.AnswerLemmas.{standing-unrefused, named_blob-unrefused, blocks-unrefused, answer_of-nothing}
 use Rattle.stamp_model.proofs.EffectLemmas.{part_at-effect}
 use Rattle.stamp_model.proofs.ReplyLemmas.{reply-unrefused}
 use Rattle.stamp_model.proofs.laws.an_answer_is_of_what_exists.Goals as goal
@@ -23,4 +23,4 @@ pub returns-clause-blocks : goal.returns-clause-blocks
 returns-clause-blocks c = λ keys w q t bound none tells. blocks-unrefused keys w q t (reply-unrefused keys w q t bound none) tells
 
 pub returns-clause-nothing : goal.returns-clause-nothing
-returns-clause-nothing c = λ w v q bound tells. reply_of-nothing (part_at w q.ask.key) (part_at v q.ask.key) q tells
+returns-clause-nothing c = λ w v q bound tells. answer_of-nothing w v q bound tells

@@ -12,12 +12,9 @@ returns-clause-admitted c = λ keys w q t bound none. reply-admits keys w q t bo
 pub returns-clause-unopposed : goal.returns-clause-unopposed
 returns-clause-unopposed c = λ keys w q t bound none. (unrefused keys (sizes (part_at w q.ask.key)) q t (reply-unrefused keys w q t bound none)).unopposed
 
-pub returns-clause-served : goal.returns-clause-served
-returns-clause-served c = λ keys w q t bound none. (unrefused keys (sizes (part_at w q.ask.key)) q t (reply-unrefused keys w q t bound none)).served
-
 pub returns-clause-unnamed : goal.returns-clause-unnamed
-returns-clause-unnamed c = λ keys w q t bound admits free served.
-    rule-reply keys w q t bound ∙ ap (λ (o : Option Refusal). option_map (λ (r : Refusal). r.rule) o) (refusal-admitted keys w q t bound admits free served)
+returns-clause-unnamed c = λ keys w q t bound admits free.
+    rule-reply keys w q t bound ∙ ap (λ (o : Option Refusal). option_map (λ (r : Refusal). r.rule) o) (refusal-admitted keys w q t bound admits free)
 
 pub returns-clause-answered : goal.returns-clause-answered
 returns-clause-answered c = λ keys w q t bound none. reply-admitted keys w q t bound (reply-unrefused keys w q t bound none)

@@ -4,7 +4,7 @@ use Rattle.range_rows.specs.ObjectReplies.{with_content}
 use Rattle.account_service.specs.Decisions.{found_reply}
 use Rattle.account_service.specs.HeldRows.{bytes_held}
 use Rattle.account_service.proofs.DecisionLemmas.{fits_memory}
-use Rattle.account_service.proofs.decision.reply.Goals as goal
+use Rattle.account_service.proofs.decision.reply_found.Goals as goal
 
 pub reply_with_content-requires-clause-short : goal.reply_with_content-requires-clause-short
 reply_with_content-requires-clause-short c =
