@@ -4,7 +4,8 @@
 usage: examples/with-stamp examples/clients/many.py
 
 STAMP_URL, STAMP_ACCOUNT and STAMP_KEY name the server; examples/with-stamp sets them. The server needs at least four workers. The session
-creates a container and deletes it at its end. Each check prints a line, and the last line has two counts. The status is 1 if a check failed.
+creates two containers and deletes them at its end. Each check prints a line, and the last line has two counts. The status is 1 if a check failed. If
+a request gets no reply within 20 seconds, the session ends.
 """
 import base64
 import email.utils
@@ -12,14 +13,20 @@ import hashlib
 import hmac
 import http.client
 import os
+import random
 import socket
+import subprocess
 import sys
 import threading
 import time
-from collections import Counter
-from concurrent.futures import ThreadPoolExecutor
-from contextlib import ExitStack
-from urllib.parse import urlsplit
+from collections import Counter, namedtuple
+from concurrent.futures import FIRST_COMPLETED, ThreadPoolExecutor, wait
+from contextlib import ExitStack, contextmanager
+from functools import partial
+from itertools import cycle
+from pathlib import Path
+from urllib.parse import quote, unquote, urlsplit
+from xml.etree import ElementTree
 
 if "STAMP_URL" not in os.environ:
     sys.exit(__doc__)
@@ -27,6 +34,7 @@ URL = urlsplit(os.environ["STAMP_URL"])
 ACCOUNT, KEY = os.environ["STAMP_ACCOUNT"], base64.b64decode(os.environ["STAMP_KEY"])
 CONTAINER = f"{URL.path}/many-{os.getpid()}-{time.time_ns()}"
 KEPT = f"{CONTAINER}/kept"
+NAMED = f"{CONTAINER}-names"
 # The standard headers of docs/formats/strings-to-sign.md.
 STANDARD = (
     "Content-Encoding", "Content-Language", "Content-Length", "Content-MD5", "Content-Type", "Date", "If-Modified-Since", "If-Match",
@@ -37,15 +45,33 @@ BLOCK_BLOB = {"x-ms-blob-type": "BlockBlob"}
 LIMIT = 20
 CALLERS, TRIES, COMMITS, CONNECTIONS = 8, 100, 100, 100
 LARGEST = 67_108_864
+# How many guests read by one policy, how often the policy is taken back, and how many reads come between two changes of it.
+GUESTS, TURNS, READS = 3, 15, 25
+TOKEN = Path(__file__).resolve().parent.parent / "token"
+POLICY = (
+    b"<SignedIdentifiers><SignedIdentifier><Id>guests</Id><AccessPolicy><Expiry>2099-12-31T00:00:00Z</Expiry><Permission>r</Permission>"
+    b"</AccessPolicy></SignedIdentifier></SignedIdentifiers>"
+)
+# Forty names with what is escaped in a path, in a query or in XML. `%20` is three characters of a name, and not a space.
+MARKS = (" ", "+", "&", "<", "%", "é", "~", "%20")
+NAMES = sorted((name for it in MARKS for name in (it, it + it, f"{it}a", f"a{it}", f"a{it}b")), key=str.encode)
+# Forty other names that come and go, in an order of chance, and how many of them do that between two pages, at least.
+PASSING = random.Random(2012).sample([f"{name}-" for name in NAMES], len(NAMES))
+MOVES = 5
+
+
+def parameters_of(query):
+    """The parameters as the string to sign has them: decoded, and in the order of their names. `+` is a plus sign."""
+    pieces = [piece.partition("=") for piece in query.split("&") if piece]
+    return [f"{name}:{unquote(value)}" for name, _, value in sorted(pieces)]
 
 
 def string_to_sign(method, target, headers):
-    """By docs/formats/strings-to-sign.md. No parameter of this session is escaped, so none is decoded."""
+    """By docs/formats/strings-to-sign.md. This session sends no parameter twice, and names parameters in lower case, without escapes."""
     path, _, query = target.partition("?")
     standard = [headers.get(name, "") for name in STANDARD]
     own = [f"{name}:{value}" for name, value in sorted(headers.items()) if name.startswith("x-ms-")]
-    parameters = sorted(piece.replace("=", ":", 1) for piece in query.split("&") if piece)
-    return "\n".join([method, *standard, *own, f"/{ACCOUNT}{path}", *parameters])
+    return "\n".join([method, *standard, *own, f"/{ACCOUNT}{path}", *parameters_of(query)])
 
 
 def signed(method, target, headers, length):
@@ -79,6 +105,13 @@ class Client:
         """Sends a signed request, and returns the status, the ETag and the body of its reply."""
         reply = self.send(*request)
         return reply.status, reply.headers.get("ETag", ""), reply.read()
+
+    def get_as_guest(self, target):
+        """Gets a target without a signature. Returns the status of the reply, and the rule that refused the request."""
+        self.connection.request("GET", target)
+        reply = self.connection.getresponse()
+        reply.read()
+        return reply.status, reply.headers.get("x-stamp-rule")
 
 
 def ask(*request):
@@ -178,6 +211,130 @@ def a_deletion():
         yield "the Get that had begun is whole", digest(first + reply.read()), digest(content)
 
 
+@contextmanager
+def others(calls):
+    """Other callers, who act during a `with`, each in a thread. A call gets an event that is set at the end, and returns soon after that."""
+    done = threading.Event()
+    with ThreadPoolExecutor(len(calls)) as pool:
+        running = [pool.submit(call, done) for call in calls]
+        try:
+            yield running
+        finally:
+            done.set()
+    for it in running:
+        it.result()
+
+
+def wait_for_more(acts, count, running):
+    """Waits until others have done so much more, or one of them has ended, which had no reply."""
+    wanted = len(acts) + count
+    while len(acts) < wanted and not wait(running, 0.001, FIRST_COMPLETED).done:
+        pass
+
+
+Act = namedtuple("Act", "began ended answer")
+
+
+def timed(call, *given):
+    """Calls a request. Returns when it began, when its reply had come, and its answer."""
+    began = time.monotonic()
+    answer = call(*given)
+    return Act(began, time.monotonic(), answer)
+
+
+def read_as_guest(target, reads, done):
+    """Reads a blob by a token until an event is set, and notes each read."""
+    with Client() as client:
+        while not done.is_set():
+            reads.append(timed(client.get_as_guest, target))
+
+
+def change_the_policy(reads, guests):
+    """Stores the policy and takes it back, again and again. After each change guests read some times. Returns the changes."""
+    changes = []
+    with Client() as owner:
+        for body in [POLICY, b""] * TURNS:
+            changes.append(timed(owner.ask, "PUT", f"{CONTAINER}?restype=container&comp=acl", body))
+            wait_for_more(reads, READS, guests)
+    return changes
+
+
+def answers_after(changes, reads):
+    """For each change the answers to reads that began after its reply and ended before the next change was sent."""
+    ends = [it.began for it in changes[1:]] + [float("inf")]
+    return [{read.answer for read in reads if it.ended < read.began and read.ended < end} for it, end in zip(changes, ends)]
+
+
+def a_policy():
+    """Guests read by the token of a stored policy, while its owner takes the policy back and stores it again."""
+    target, reads = f"{CONTAINER}/shared", []
+    yield "put a blob that is shared", ask("PUT", target, b"shared", BLOCK_BLOB)[0], 201
+    words = [TOKEN, os.environ["STAMP_KEY"], CONTAINER, "-", "-", "-", "guests"]
+    token = subprocess.run(words, stdout=subprocess.PIPE, check=True, text=True).stdout.strip()
+    with others([partial(read_as_guest, f"{target}?{token}", reads)] * GUESTS) as guests:
+        changes = change_the_policy(reads, guests)
+    yield "change a policy again and again", {it.answer[0] for it in changes}, {200}
+    after = answers_after(changes, reads)
+    yield "requests after the policy was stored are allowed", [it for it in after[::2] if it != {(200, None)}], []
+    yield "requests after the policy was taken back are refused", [it for it in after[1::2] if it != {(403, "S5")}], []
+
+
+def path_of(name):
+    return f"{NAMED}/{quote(name, safe='')}"
+
+
+def put_names(names):
+    """Puts an empty blob of each name. Returns the statuses."""
+    with Client() as client:
+        return {client.ask("PUT", path_of(name), b"", BLOCK_BLOB)[0] for name in names}
+
+
+def come_and_go(names, moves, done):
+    """Deletes blobs and puts them again, until an event is set. Half of them are gone at a time. Notes the status of each request."""
+    half = len(names) // 2
+    with Client() as client:
+        for gone, new in cycle(zip(names, names[half:] + names[:half])):
+            if done.is_set():
+                break
+            moves.append(client.ask("DELETE", path_of(gone))[0])
+            moves.append(client.ask("PUT", path_of(new), b"", BLOCK_BLOB)[0])
+
+
+def page_of(client, size, marker):
+    """Asks for a page. Returns its names, and the marker of the next page."""
+    target = f"{NAMED}?restype=container&comp=list&maxresults={size}&marker={quote(marker, safe='')}"
+    page = ElementTree.fromstring(client.ask("GET", target)[2])
+    return [it.text for it in page.iter("Name")], page.findtext("NextMarker")
+
+
+def pages_of(size, moves, running):
+    """All pages of a list, while others put and delete blobs between them. There are not more pages than names."""
+    pages, marker = [], ""
+    with Client() as client:
+        for _ in NAMES + PASSING:
+            names, marker = page_of(client, size, marker)
+            pages.append(names)
+            if not marker:
+                break
+            wait_for_more(moves, MOVES, running)
+    return pages
+
+
+def lists():
+    """Names are listed page by page, while other names come and go between the pages."""
+    yield "put eighty blobs", put_names(NAMES + PASSING), {201}
+    moves = []
+    with others([partial(come_and_go, PASSING[:20], moves), partial(come_and_go, PASSING[20:], moves)]) as running:
+        for size in (1, 3, 7):
+            pages = pages_of(size, moves, running)
+            met = [name for page in pages for name in page]
+            yield f"pages of {size}: names that stay, and are not met exactly once", [it for it in NAMES if met.count(it) != 1], []
+            yield f"pages of {size}: names are in order, and none comes twice", met, sorted(set(met), key=str.encode)
+            yield f"pages of {size}: names that come and go are met too", bool(set(met) & set(PASSING)), True
+            yield f"pages of {size}: only the last may have fewer names", {len(page) for page in pages[:-1]}, {size}
+    yield "names come and go", set(moves), {201, 202}
+
+
 def part_of_a_put(end):
     """Opens a connection, and sends a Put Blob of `late` up to the place `end`, as in `put[:end]`."""
     headers = signed("PUT", KEPT, BLOCK_BLOB, len(b"late"))
@@ -215,29 +372,32 @@ def connections():
     yield "a hundred connections, one after the other", statuses, Counter({200: CONNECTIONS})
 
 
-def container():
-    yield "create a container", ask("PUT", f"{CONTAINER}?restype=container")[0], 201
+def containers():
+    for it in (CONTAINER, NAMED):
+        yield "create a container", ask("PUT", f"{it}?restype=container")[0], 201
 
 
-def no_container():
-    yield "delete the container", ask("DELETE", f"{CONTAINER}?restype=container")[0], 202
+def no_containers():
+    for it in (CONTAINER, NAMED):
+        yield "delete a container", ask("DELETE", f"{it}?restype=container")[0], 202
 
 
-def answers(check):
-    """What a check tried, what it got and what it wants. If a connection breaks or a reply takes too long, the check ends with that."""
-    try:
-        yield from check()
-    except (OSError, http.client.HTTPException, ValueError) as error:
-        yield check.__name__, repr(error), "an answer"
+def answers():
+    """What each check tried, what it got and what it wants. If a connection breaks or a reply takes too long, the other checks are left out."""
+    for check in (containers, a_number, block_lists, a_deletion, a_policy, lists, bad_clients, connections, no_containers):
+        try:
+            yield from check()
+        except (OSError, http.client.HTTPException, ValueError, ElementTree.ParseError) as error:
+            yield check.__name__, repr(error), "an answer"
+            return
 
 
 def main():
     passed = failed = 0
-    for check in (container, a_number, block_lists, a_deletion, bad_clients, connections, no_container):
-        for what, got, wanted in answers(check):
-            is_well = got == wanted
-            passed, failed = passed + is_well, failed + (not is_well)
-            print(f"ok {what}" if is_well else f"FAIL {what}: got {got!r:.300} want {wanted!r:.300}", flush=True)
+    for what, got, wanted in answers():
+        is_well = got == wanted
+        passed, failed = passed + is_well, failed + (not is_well)
+        print(f"ok {what}" if is_well else f"FAIL {what}: got {got!r:.300} want {wanted!r:.300}", flush=True)
     print(f"{passed} ok, {failed} failed")
     return int(failed > 0)
 
