@@ -1,9 +1,8 @@
--- Dates, numbers and ETags are visible, and each of their bytes is written as itself.
 use Rattle.std.proofs.Common.{◌≡◌, ℕ, zero, suc, ◌<◌, ◌≤◌, ◌+◌, ◌-◌, ◌/◌, ◌%◌, Bool, true, false, not, cond, ◌&&◌, ◌||◌, ◌==◌, nat_lt, List, [], ◌∷◌, ◌++◌, codes, refl, ap₂, ◌∙◌, arith}
 use Rattle.std.specs.Prelude.{decimal, slice_index_or}
 use Rattle.std.specs.Char.{digit_char}
 use Rattle.std.specs.Fmt.{digits, digits_onto, digit_glyph}
-use Rattle.std.specs.List.{list_all, flat_map}
+use Rattle.std.specs.List.{list_all}
 use Rattle.std.proofs.lemmas.Bool.{and_parts}
 use Rattle.std.proofs.lemmas.Bool.Decides.{nat_tests}
 use Rattle.std.proofs.lemmas.List.Folds.{list_all-append}
@@ -11,14 +10,11 @@ use Rattle.httpdate.specs.declared.parts.Parts.{Parts}
 use Rattle.httpdate.specs.Calendar.{is_leap_year, days_in_month, IsCivilDate, IsTimeOfDay}
 use Rattle.httpdate.specs.Text.{two_digits, four_digits, day_name, month_name, time_of_day, imf_fixdate}
 use Rattle.httpdate.specs.Valid.{IsValid}
-use Rattle.stamp_values.specs.Ascii.{ampersand}
 use Rattle.stamp_values.specs.Etags.{hex_digits, etag_text}
 use Rattle.stamp_values.specs.Texts.{is_control_byte, is_clean, is_visible_byte}
 use Rattle.moment_text.specs.Http.{http_text, parts_at}
 use Rattle.moment_text.proofs.CivilLemmas.{parts_at_valid}
 use Rattle.body_forms.specs.KeptPolicies.{IsMoment}
-use Rattle.body_forms.specs.Markup.{less_than, greater_than}
-use Rattle.body_forms.specs.Texts.{piece_bytes}
 use Rattle.body_forms.specs.Escapes.{is_written_as_itself, escaped}
 use Rattle.body_forms.proofs.EscapeLemmas.{escaped_itself}
 

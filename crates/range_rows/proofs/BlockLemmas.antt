@@ -5,7 +5,7 @@ use Rattle.std.specs.Prelude.{is_none, is_some, nat_le, not, if◌then◌else◌
 use Rattle.std.specs.List.{flat_map, list_any}
 use Rattle.std.specs.Option.{option_and_then, option_map, option_to_list}
 use Rattle.std.specs.Ordering.{is_lt}
-use Rattle.std.specs.FinMap.{FinMap, entries, entries-from_sorted, entries_sorted, from_sorted, get, get-empty, get-from_entries, get-from_sorted, is_sorted, same_map}
+use Rattle.std.specs.FinMap.{FinMap, entries, entries-from_sorted, entries_sorted, from_sorted, get, get-from_entries, get-from_sorted, is_sorted, same_map}
 use Rattle.std.specs.FinMap.Entries.{below_all}
 use Rattle.stamp_values.specs.Maps.{entry_value, map_values}
 use Rattle.stamp_values.specs.Order.{name_cmp, names_exact, names_total}
@@ -23,7 +23,6 @@ use Rattle.stamp_types.proofs.WorldLemmas.{blob_in-part_value, blob_value-no_blo
 use Rattle.block_blobs.specs.BlockLists.{first_missing, found_entries, list_fault, listed_len, source_of, sources_of, taken_from, wanted_fault}
 use Rattle.block_blobs.specs.UncommittedBlocks.{block_count, block_fault, has_other_length, is_one_too_many}
 use Rattle.block_blobs.specs.declared.block_fault.BlockFault.TheVariants as fault
-use Rattle.block_blobs.proofs.EntryLemmas.{no_entries}
 use Rattle.row_trees.specs.FoundParts.{sized, sizes_found}
 use Rattle.row_trees.specs.ListedBlocks.{listed_size}
 use Rattle.row_trees.specs.FoundParts.{has_uncommitted}

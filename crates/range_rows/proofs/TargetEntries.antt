@@ -1,4 +1,3 @@
--- The entries of an allowed Put Block List.
 use Rattle.std.proofs.Common.{◌≡◌, ℕ, true, List, Option, None, length, sym, ap, ◌∙◌}
 use Rattle.std.specs.Prelude.{Result, Ok, Err, IfOk, IsTrue, nat_le}
 use Rattle.std.specs.declared.alloc.AllocError.{AllocError}

@@ -1,4 +1,3 @@
--- What holds of a container if the object does not refuse a request.
 use Rattle.std.proofs.Common.{◌≡◌, ◌<◌, ℕ, zero, suc, drop, Bool, true, false, cond, not, ◌&&◌, ◌||◌, List, [], ◌∷◌, Option, Some, None, nat_le, arith, refl, sym, ap, ◌∙◌, subst, length, nat_lt, unwrap_or}
 use Rattle.std.proofs.lemmas.Bool.{and_parts}
 use Rattle.std.specs.Prelude.{IsSome, is_none, is_some, find}
@@ -10,7 +9,7 @@ use Rattle.stamp_values.specs.declared.op.Op.TheVariants as op
 use Rattle.stamp_types.specs.declared.piece.Piece.{Piece}
 use Rattle.stamp_types.specs.Pieces.{pieces_len}
 use Rattle.stamp_types.specs.Requests.{Asked}
-use Rattle.stamp_types.specs.World.{Blob, Part, blob_value, committed_value, no_blob, part_value}
+use Rattle.stamp_types.specs.World.{Blob, Part, committed_value, part_value}
 use Rattle.block_blobs.specs.BlockLists.{first_absent, first_missing, found_entries, list_fault, wanted_fault}
 use Rattle.block_blobs.specs.UncommittedBlocks.{block_fault, has_other_length, is_one_too_many}
 use Rattle.block_blobs.specs.declared.block_fault.BlockFault.TheVariants as fault

@@ -1,4 +1,3 @@
--- Who is given a list, and what refuses it.
 use Rattle.std.proofs.Common.{◌≡◌, ◌≤◌, ℕ, arith, Bool, true, false, ◌&&◌, ◌||◌, not, List, [], Option, Some, None, IfSome, refl, sym, ap, ◌∙◌, subst}
 use Rattle.std.specs.Prelude.{IsSome, find, is_none, is_some}
 use Rattle.std.specs.FinMap.{FinMap}
@@ -6,7 +5,6 @@ use Rattle.std.specs.Option.{option_map, option_map_or}
 use Rattle.stamp_values.specs.Levels.{level_number}
 use Rattle.stamp_values.specs.Order.{name_cmp}
 use Rattle.stamp_values.specs.Operations.{checks_md5, is_op, lists_names, names_blob, names_container}
-use Rattle.stamp_values.specs.declared.acl.Acl.{Acl}
 use Rattle.stamp_values.specs.declared.key.Key.{Key}
 use Rattle.stamp_values.specs.declared.level.Level.{Level}
 use Rattle.stamp_values.specs.declared.level.Level.TheVariants as level
@@ -33,7 +31,7 @@ use Rattle.range_rows.specs.ObjectReplies.{sizes}
 use Rattle.block_blobs.specs.UncommittedBlocks.{has_other_length, is_one_too_many}
 use Rattle.range_rows.specs.NamedBlobs.{target_blob}
 use Rattle.range_rows.specs.ObjectRules.{Cause, cause_holds, cause_refusal, causes, has_other_md5, is_damaged, kept_md5, object_refusal, of_its_block}
-use Rattle.range_rows.specs.ObjectRules.Cause.{ContainerIsAbsent, ContainerExists, BlobIsAbsent, MatchFails, IsNotModified, BlobExists, NoneMatchFails, BodyIsDamaged, BodyIsMalformed, IdIsBad, BlockIsMissing, ListIsTooLong, IdHasOtherLength, BlocksAreFull, ListIsTooLarge, RangeIsPastTheEnd, CountIsFull}
+use Rattle.range_rows.specs.ObjectRules.Cause.{ContainerIsAbsent, BodyIsDamaged, IdHasOtherLength, BlocksAreFull}
 use Rattle.range_rows.specs.Readings.{reading_by}
 use Rattle.list_pages.specs.Lists.{shown_standing}
 use Rattle.stamp_model.specs.Refusals.{refusal}

@@ -1,27 +1,21 @@
--- What a list of blobs shows of a blob.
 use Rattle.std.proofs.Common.{◌≡◌, ◌+◌, ℕ, arith, true, false, List, [], ◌∷◌, ◌++◌, map, Option, Some, None, refl, sym, ap, ◌∙◌, subst}
 use Rattle.std.proofs.lemmas.List.Elements.{Contains-append_left, Contains-append_right}
-use Rattle.std.specs.Prelude.{Contains}
-use Rattle.std.specs.Option.{option_map, option_to_list}
+use Rattle.std.specs.Option.{option_map}
 use Rattle.stamp_values.specs.Operations.{writes}
 use Rattle.stamp_values.specs.declared.condition.ByteRange.{ByteRange}
 use Rattle.stamp_values.specs.declared.key.Key.{Key}
 use Rattle.stamp_values.specs.declared.op.Op.{Op}
 use Rattle.stamp_values.specs.declared.op.Op.TheVariants as op
-use Rattle.stamp_types.specs.declared.act.Act.TheVariants as act
 use Rattle.stamp_types.specs.declared.committed.Committed.{Committed}
 use Rattle.stamp_types.specs.declared.header.Header.{Header}
 use Rattle.stamp_types.specs.declared.header.Header.TheVariants as header
 use Rattle.stamp_types.specs.declared.reply.Reply.{Reply}
-use Rattle.stamp_types.specs.PropsFields.{PropsFields}
-use Rattle.stamp_types.specs.Pieces.{held}
-use Rattle.stamp_types.specs.Requests.{Asked, IsAsk}
+use Rattle.stamp_types.specs.Requests.{IsAsk}
 use Rattle.stamp_types.specs.World.{Blob, Part, World, blob_in, committed_value, part_at}
 use Rattle.stamp_types.proofs.WorldLemmas.{blob_in-part_value}
 use Rattle.body_forms.specs.ListEntries.{ShownBlob}
-use Rattle.range_rows.specs.ObjectReplies.{blob_content, byte_count, date_headers, get_frame, kept_lines, line_of, ranged_bytes, ranged_frame, read_headers, sizes, with_content}
-use Rattle.range_rows.specs.RequestChanges.{delete_blob}
-use Rattle.list_pages.specs.Laws.{entries_at, own_entry, shown_at}
+use Rattle.range_rows.specs.ObjectReplies.{blob_content, byte_count, date_headers, get_frame, kept_lines, ranged_bytes, ranged_frame, sizes, with_content}
+use Rattle.list_pages.specs.Laws.{own_entry, shown_at}
 use Rattle.list_pages.specs.ListReplies.{blob_list_reply, page_asked}
 use Rattle.list_pages.specs.Lists.{page_of_blobs, page_of_containers, shown_part}
 use Rattle.list_pages.specs.Ranges.{key_of}

@@ -26,7 +26,6 @@ use Rattle.stamp_types.specs.World.{Part, World, no_part, part_at, standing_with
 use Rattle.sas_token.specs.Tokens.{IsToken, Sent}
 use Rattle.sas_token.proofs.ReadingLemmas.{token_complete}
 use Rattle.container_acl.specs.JoinedFields.{fields_with, names_unknown_policy, policy_of, policy_with, with_policy}
-use Rattle.container_acl.specs.declared.fields.FieldFault.{FieldFault}
 use Rattle.container_acl.specs.declared.fields.FieldFault.TheVariants.{Absent}
 use Rattle.access_rules.specs.declared.keys.Keys.{Keys}
 use Rattle.access_rules.specs.declared.needs.Letter.{Letter}

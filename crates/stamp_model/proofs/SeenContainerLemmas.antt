@@ -129,14 +129,14 @@ module _ (q : Asked) (fits : IsAsk q.ask) (lists : q.ask.op ≡ op.ListContainer
         first_rule-unnamed keys (acl_of p) (acl_of r) q.ask t unnamed (ap (λ (o : Op). (need_of o q.ask.args.kinds).level) lists) in
         λ i. option_or (option_map access_refusal (first i)) (option_map cause_refusal (find (λ c. same_cause c i) causes))
 
-  -- the answer is a page of the containers as they are
-  pub answer-listing : (keys : Option Keys) (w : World (List ℕ)) (t : ℕ) (bound : Option Key) → answer_of (effect keys w q t) q bound ≡ container_list_reply w q bound
+  -- the answer is from the containers as they are
+  pub answer-listing : (keys : Option Keys) (w : World (List ℕ)) (t : ℕ) (bound : Option Key) → answer_of (effect keys w q t) q bound ≡ answer_by op.ListContainers w q bound
   answer-listing keys w t bound =
       ap (λ (v : World (List ℕ)). answer_of v q bound) (effect-read keys w q t (ap writes lists)) ∙ ap (λ (o : Op). answer_by o w q bound) lists
 
-  -- if the pages are the same, the replies are
-  reply-by_page : (keys : Option Keys) (w v : World (List ℕ)) (t : ℕ) (bound : Option Key) → container_list_reply w q bound ≡ container_list_reply v q bound → reply keys w q t bound ≡ reply keys v q t bound
-  reply-by_page keys w v t bound same =
+  -- if the answers are the same, the replies are
+  reply-by_answer : (keys : Option Keys) (w v : World (List ℕ)) (t : ℕ) (bound : Option Key) → answer_by op.ListContainers w q bound ≡ answer_by op.ListContainers v q bound → reply keys w q t bound ≡ reply keys v q t bound
+  reply-by_answer keys w v t bound same =
       ap (response (refusal keys (sizes (part_at w q.ask.key)) q t)) (answer-listing keys w t bound)
       ∙ (λ i. response (refusal-listing (sizes (part_at w q.ask.key)) (sizes (part_at v q.ask.key)) keys t i) (same i))
       ∙ sym (ap (response (refusal keys (sizes (part_at v q.ask.key)) q t)) (answer-listing keys v t bound))
@@ -145,7 +145,7 @@ module _ (q : Asked) (fits : IsAsk q.ask) (lists : q.ask.op ≡ op.ListContainer
   pub reply-of_account : (keys : Option Keys) (w v : World (List ℕ)) (t : ℕ) (bound : Option Key)
       → ((key : Key) → key.account ≡ q.ask.key.account → shown_container (part_at w key) ≡ shown_container (part_at v key)) → reply keys w q t bound ≡ reply keys v q t bound
   reply-of_account keys w v t bound same =
-      reply-by_page keys w v t bound (ap (containers_told (page_asked q)) (page_of_account_shown q.ask.key.account (page_asked q) bound w v same))
+      reply-by_answer keys w v t bound (ap (containers_told (page_asked q)) (page_of_account_shown q.ask.key.account (page_asked q) bound w v same))
 
   module _ (w v : World (List ℕ)) (bound : Option Key) (under : is_under bound (routed q) ≡ true)
       (agree : (key : Key) → is_seen q bound key ≡ true → shown_container (part_at w key) ≡ shown_container (part_at v key)) where
@@ -179,7 +179,7 @@ module _ (q : Asked) (fits : IsAsk q.ask) (lists : q.ask.op ≡ op.ListContainer
 
     -- worlds that show the same of the containers that a List Containers sees give it one reply
     pub reply-listing : (keys : Option Keys) (t : ℕ) → reply keys w q t bound ≡ reply keys v q t bound
-    reply-listing keys t = reply-by_page keys w v t bound page-listing
+    reply-listing keys t = reply-by_answer keys w v t bound page-listing
 
 -- ---- all operations
 

@@ -1,4 +1,3 @@
--- What a list of blobs shows (Blob service REST reference, 2012-02-12, "List Blobs", "Get Blob").
 use Rattle.std.specs.Prelude.{◌≡◌, ℕ, Bool, true, false, List, [], ◌∷◌, Contains, Option, None, Some}
 use Rattle.stamp_values.specs.declared.key.Key.{Key}
 use Rattle.stamp_values.specs.declared.op.Op.{Op}
@@ -28,10 +27,10 @@ pub record ListsNames (key : Key) (q : Asked) : Type 0 where
   pub plain : (page_asked q).delimiter ≡ None
 
 -- the body of the reply is a page, and if this page reaches the name, it has exactly one entry of the name, of which this is true
-pub record ListsOnce (q : Asked) (name : List ℕ) (listed : Reply) (IsTold : ShownBlob → Type 0) : Type 0 where
+pub record ListsOnce (q : Asked) (name : List ℕ) (listed : Reply) (IsShown : ShownBlob → Type 0) : Type 0 where
   pub page : PageOf ShownBlob
   pub body : listed.body ≡ blob_list_text (page_asked q) page.entries page.next
-  pub once : Reaches (page_asked q) page.next name → (shown : ShownBlob) × (entries_at name page.entries ≡ (name, Some shown) ∷ []) × IsTold shown
+  pub once : Reaches (page_asked q) page.next name → (shown : ShownBlob) × (entries_at name page.entries ≡ (name, Some shown) ∷ []) × IsShown shown
 
 -- the body of the reply is a page that has no entry of the name
 pub record ListsNever (q : Asked) (name : List ℕ) (listed : Reply) : Type 0 where

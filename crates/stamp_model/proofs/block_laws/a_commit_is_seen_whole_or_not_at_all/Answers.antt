@@ -1,5 +1,5 @@
 use Rattle.stamp_types.proofs.EffectLemmas.{get-insert_other, get-insert_same}
-use Rattle.std.proofs.Common.{ℕ, List, ap, ◌∙◌, None}
+use Rattle.std.proofs.Common.{ℕ, List, ap, ◌∙◌}
 use Rattle.std.specs.FinMap as finite
 use Rattle.std.specs.FinMap.{FinMap}
 use Rattle.stamp_values.specs.Order.{name_cmp}

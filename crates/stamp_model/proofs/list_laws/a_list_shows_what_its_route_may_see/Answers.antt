@@ -1,6 +1,6 @@
 use Rattle.stamp_model.proofs.ListLemmas.{containers-by_key, level-listed, rule-containers, rule-blobs, token-listed}
 use Rattle.stamp_model.proofs.ObjectLemmas.{object_refusal-container}
-use Rattle.std.proofs.Common.{ap, ◌∙◌}
+use Rattle.std.proofs.Common.{ap}
 use Rattle.stamp_types.specs.World.{part_at}
 use Rattle.range_rows.specs.ObjectRules.{cause_refusal, needs_container}
 use Rattle.range_rows.specs.ObjectRules.Cause.{ContainerIsAbsent}

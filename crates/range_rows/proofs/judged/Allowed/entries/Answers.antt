@@ -1,6 +1,5 @@
-use Rattle.std.proofs.Common.{◌≡◌, List, rules, subst}
+use Rattle.std.proofs.Common.{◌≡◌, rules}
 use Rattle.std.specs.Prelude.{IfOk}
-use Rattle.stamp_values.specs.declared.block.Taken.{Taken}
 use Rattle.block_blobs.specs.BlockLists as lists
 use Rattle.range_rows.specs.Readings.{wanted_blocks}
 use Rattle.range_rows.proofs.TargetEntries.{made_entries, made_few}
