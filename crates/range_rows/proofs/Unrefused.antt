@@ -1,4 +1,5 @@
-use Rattle.std.proofs.Common.{◌≡◌, ◌<◌, ℕ, zero, suc, drop, Bool, true, false, cond, not, ◌&&◌, ◌||◌, List, [], ◌∷◌, Option, Some, None, nat_le, arith, refl, sym, ap, ◌∙◌, subst, length, nat_lt, unwrap_or}
+-- What holds of a container if the object does not refuse a request.
+use Rattle.std.proofs.Common.{◌≡◌, ◌<◌, ℕ, zero, suc, drop, Bool, true, false, cond, not, ◌&&◌, ◌||◌, List, [], ◌∷◌, Option, Some, None, nat_le, arith, refl, sym, ap, ◌∙◌, subst, length, nat_lt}
 use Rattle.std.proofs.lemmas.Bool.{and_parts}
 use Rattle.std.specs.Prelude.{IsSome, is_none, is_some, find}
 use Rattle.std.specs.List.{list_all}

@@ -1,4 +1,5 @@
-use Rattle.std.proofs.Common.{◌≡◌, ◌+◌, ℕ, arith, true, false, List, [], ◌∷◌, ◌++◌, map, Option, Some, None, refl, sym, ap, ◌∙◌, subst}
+-- What a list of blobs shows of a blob.
+use Rattle.std.proofs.Common.{◌≡◌, ◌+◌, ℕ, arith, true, List, ◌∷◌, ◌++◌, map, Option, Some, None, refl, sym, ap, ◌∙◌, subst}
 use Rattle.std.proofs.lemmas.List.Elements.{Contains-append_left, Contains-append_right}
 use Rattle.std.specs.Option.{option_map}
 use Rattle.stamp_values.specs.Operations.{writes}
