@@ -1,5 +1,5 @@
 -- Replies to the two lists (Blob service REST reference, 2012-02-12, "List Blobs", "List Containers").
-use Rattle.std.specs.Prelude.{ℕ, List, [], ◌∷◌, Option, None, unwrap_or, false}
+use Rattle.std.specs.Prelude.{ℕ, [], ◌∷◌, Option, None, unwrap_or, false}
 use Rattle.stamp_values.specs.Limits.{page_limit}
 use Rattle.stamp_values.specs.declared.key.Key.{Key}
 use Rattle.stamp_types.specs.declared.args.Page.{Page}
