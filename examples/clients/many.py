@@ -8,10 +8,6 @@ creates two containers and deletes them at its end. Each check prints a line, an
 a request gets no reply within 20 seconds, the session ends.
 """
 import base64
-import email.utils
-import hashlib
-import hmac
-import http.client
 import os
 import random
 import socket
@@ -25,24 +21,17 @@ from contextlib import ExitStack, contextmanager
 from functools import partial
 from itertools import cycle
 from pathlib import Path
-from urllib.parse import quote, unquote, urlsplit
+from urllib.parse import quote
 from xml.etree import ElementTree
 
 if "STAMP_URL" not in os.environ:
     sys.exit(__doc__)
-URL = urlsplit(os.environ["STAMP_URL"])
-ACCOUNT, KEY = os.environ["STAMP_ACCOUNT"], base64.b64decode(os.environ["STAMP_KEY"])
+sys.dont_write_bytecode = True
+from session import BLOCK_BLOB, LIMIT, URL, Client, ask, digest, run, signed  # noqa: E402
+
 CONTAINER = f"{URL.path}/many-{os.getpid()}-{time.time_ns()}"
 KEPT = f"{CONTAINER}/kept"
 NAMED = f"{CONTAINER}-names"
-# The standard headers of docs/formats/strings-to-sign.md.
-STANDARD = (
-    "Content-Encoding", "Content-Language", "Content-Length", "Content-MD5", "Content-Type", "Date", "If-Modified-Since", "If-Match",
-    "If-None-Match", "If-Unmodified-Since", "Range",
-)
-BLOCK_BLOB = {"x-ms-blob-type": "BlockBlob"}
-# How long a reply may take, in seconds. The server waits 30 seconds for an idle client, so a check fails if its request waits for that.
-LIMIT = 20
 CALLERS, TRIES, COMMITS, CONNECTIONS = 8, 100, 100, 100
 LARGEST = 67_108_864
 # How many guests read by one policy, how often the policy is taken back, and how many reads come between two changes of it.
@@ -58,66 +47,6 @@ NAMES = sorted((name for it in MARKS for name in (it, it + it, f"{it}a", f"a{it}
 # Forty other names that come and go, in an order of chance, and how many of them do that between two pages, at least.
 PASSING = random.Random(2012).sample([f"{name}-" for name in NAMES], len(NAMES))
 MOVES = 5
-
-
-def parameters_of(query):
-    """The parameters as the string to sign has them: decoded, and in the order of their names. `+` is a plus sign."""
-    pieces = [piece.partition("=") for piece in query.split("&") if piece]
-    return [f"{name}:{unquote(value)}" for name, _, value in sorted(pieces)]
-
-
-def string_to_sign(method, target, headers):
-    """By docs/formats/strings-to-sign.md. This session sends no parameter twice, and names parameters in lower case, without escapes."""
-    path, _, query = target.partition("?")
-    standard = [headers.get(name, "") for name in STANDARD]
-    own = [f"{name}:{value}" for name, value in sorted(headers.items()) if name.startswith("x-ms-")]
-    return "\n".join([method, *standard, *own, f"/{ACCOUNT}{path}", *parameters_of(query)])
-
-
-def signed(method, target, headers, length):
-    """The headers of a signed request whose body has this length."""
-    headers = {**headers, "x-ms-version": "2012-02-12", "x-ms-date": email.utils.formatdate(usegmt=True)}
-    if method == "PUT":
-        headers["Content-Length"] = str(length)
-    signature = hmac.new(KEY, string_to_sign(method, target, headers).encode(), hashlib.sha256).digest()
-    return {**headers, "Authorization": f"SharedKey {ACCOUNT}:{base64.b64encode(signature).decode()}"}
-
-
-class Client:
-    """A caller with one connection, which ends with the `with` that made it."""
-
-    def __init__(self):
-        self.connection = http.client.HTTPConnection(URL.netloc, timeout=LIMIT)
-
-    def __enter__(self):
-        return self
-
-    def __exit__(self, *_):
-        self.connection.close()
-
-    def send(self, method, target, body=b"", headers=None):
-        """Sends a signed request, and returns its reply before the body of the reply is read."""
-        headers = signed(method, target, headers or {}, len(body))
-        self.connection.request(method, target, body if method == "PUT" else None, headers)
-        return self.connection.getresponse()
-
-    def ask(self, *request):
-        """Sends a signed request, and returns the status, the ETag and the body of its reply."""
-        reply = self.send(*request)
-        return reply.status, reply.headers.get("ETag", ""), reply.read()
-
-    def get_as_guest(self, target):
-        """Gets a target without a signature. Returns the status of the reply, and the rule that refused the request."""
-        self.connection.request("GET", target)
-        reply = self.connection.getresponse()
-        reply.read()
-        return reply.status, reply.headers.get("x-stamp-rule")
-
-
-def ask(*request):
-    """Sends a signed request on a connection of its own, and returns the same as `Client.ask`."""
-    with Client() as client:
-        return client.ask(*request)
 
 
 def raise_number(target):
@@ -141,10 +70,6 @@ def a_number():
     yield "each Put is accepted, or refused by its condition", {status for status, _ in puts} - {201, 412}, set()
     yield "the number at the end is the number of accepted Puts", int(ask("GET", target)[2]), len(etags) - 1
     yield "no ETag comes twice", len(set(etags)), len(etags)
-
-
-def digest(content):
-    return hashlib.sha256(content).hexdigest()
 
 
 def commit(target, block_list):
@@ -382,25 +307,8 @@ def no_containers():
         yield "delete a container", ask("DELETE", f"{it}?restype=container")[0], 202
 
 
-def answers():
-    """What each check tried, what it got and what it wants. If a connection breaks or a reply takes too long, the other checks are left out."""
-    for check in (containers, a_number, block_lists, a_deletion, a_policy, lists, bad_clients, connections, no_containers):
-        try:
-            yield from check()
-        except (OSError, http.client.HTTPException, ValueError, ElementTree.ParseError) as error:
-            yield check.__name__, repr(error), "an answer"
-            return
-
-
-def main():
-    passed = failed = 0
-    for what, got, wanted in answers():
-        is_well = got == wanted
-        passed, failed = passed + is_well, failed + (not is_well)
-        print(f"ok {what}" if is_well else f"FAIL {what}: got {got!r:.300} want {wanted!r:.300}", flush=True)
-    print(f"{passed} ok, {failed} failed")
-    return int(failed > 0)
+CHECKS = (containers, a_number, block_lists, a_deletion, a_policy, lists, bad_clients, connections, no_containers)
 
 
 if __name__ == "__main__":
-    sys.exit(main())
+    sys.exit(run(CHECKS))
