@@ -17,8 +17,8 @@ STAMP_URL, STAMP_ACCOUNT and STAMP_KEY name the server; examples/with-stamp sets
 4. The clients get the other half, and compare every byte.
 5. One client deletes the container.
 
-Each check prints a line, and the last line has two counts. Other lines have the requests in a second, and the server's memory beside the bytes that it
-keeps. The memory is that of the process which has the words `serve` and the address of STAMP_URL, if this machine has such a process. The status is
+Each check prints a line, and the last line has two counts. Other lines have the requests in a second, and the server's memory beside the bytes that
+it keeps. The memory is that of the process that has the words `serve` and the address of STAMP_URL, if this machine has such a process. The status is
 1 if a check failed. If a connection breaks, or if a request gets no reply within 20 seconds, the session ends.
 """
 import contextlib
