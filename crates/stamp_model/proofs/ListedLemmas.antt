@@ -1,12 +1,18 @@
 -- What a list of blobs shows of a blob.
-use Rattle.std.proofs.Common.{◌≡◌, ◌+◌, ℕ, arith, true, List, ◌∷◌, ◌++◌, map, Option, Some, None, refl, sym, ap, ◌∙◌, subst}
+use Rattle.std.proofs.Common.{◌≡◌, ◌≢◌, ◌≤◌, ◌+◌, ℕ, zero, suc, arith, nat_eq, Bool, true, false, cond, List, [], ◌∷◌, ◌++◌, map, take, Option, Some, None, IfSome, refl, sym, ap, ◌∙◌, subst}
 use Rattle.std.proofs.lemmas.List.Elements.{Contains-append_left, Contains-append_right}
+use Rattle.std.specs.Cmp.Lexicographic.{bytes_decides, pointwise}
+use Rattle.std.specs.FinMap.{entries}
+use Rattle.std.specs.List.{AllByRecursion, slice_get}
 use Rattle.std.specs.Option.{option_map}
+use Rattle.std.specs.declared.cmp.Ordering.TheVariants.{Less}
 use Rattle.stamp_values.specs.Operations.{writes}
+use Rattle.stamp_values.specs.Order.{key_cmp, name_cmp}
 use Rattle.stamp_values.specs.declared.condition.ByteRange.{ByteRange}
 use Rattle.stamp_values.specs.declared.key.Key.{Key}
 use Rattle.stamp_values.specs.declared.op.Op.{Op}
 use Rattle.stamp_values.specs.declared.op.Op.TheVariants as op
+use Rattle.stamp_types.specs.declared.args.Page.{Page}
 use Rattle.stamp_types.specs.declared.committed.Committed.{Committed}
 use Rattle.stamp_types.specs.declared.header.Header.{Header}
 use Rattle.stamp_types.specs.declared.header.Header.TheVariants as header
@@ -14,12 +20,16 @@ use Rattle.stamp_types.specs.declared.reply.Reply.{Reply}
 use Rattle.stamp_types.specs.Requests.{IsAsk}
 use Rattle.stamp_types.specs.World.{Blob, Part, World, blob_in, committed_value, part_at}
 use Rattle.stamp_types.proofs.WorldLemmas.{blob_in-part_value}
-use Rattle.body_forms.specs.ListEntries.{ShownBlob}
+use Rattle.body_forms.specs.ListEntries.{ShownBlob, ShownContainer}
 use Rattle.range_rows.specs.ObjectReplies.{blob_content, byte_count, date_headers, get_frame, kept_lines, ranged_bytes, ranged_frame, sizes, with_content}
+use Rattle.list_pages.specs.Containers.{before_end, end_of, of_account, or_else}
 use Rattle.list_pages.specs.Laws.{own_entry, shown_at}
 use Rattle.list_pages.specs.ListReplies.{blob_list_reply, page_asked}
-use Rattle.list_pages.specs.Lists.{page_of_blobs, page_of_containers, shown_part}
+use Rattle.list_pages.specs.Lists.{blob_list, given, page_of_blobs, page_of_containers, shown_container, shown_part}
+use Rattle.list_pages.specs.Pages.{Entry, from_marker, listed, with_value}
 use Rattle.list_pages.specs.Ranges.{key_of}
+use Rattle.list_pages.proofs.Bounds.{blobs_in_bounds, containers_in_bounds}
+use Rattle.list_pages.proofs.Keys.{same_account}
 use Rattle.list_pages.proofs.Reached.{container_reached, entry_none, entry_reached}
 use Rattle.list_pages.proofs.Shown.{shown_at-committed}
 use Rattle.stamp_model.specs.Listed.{IsTold, ListsContainer, ListsNames, ListsNever, ListsOnce, leaves_blob}
@@ -32,6 +42,53 @@ use Rattle.stamp_model.proofs.ReplyLemmas.{reply-admitted, reply-unrefused}
 use Rattle.stamp_model.proofs.SeenContainerLemmas.{answer-listing, before_bound}
 use Rattle.stamp_model.proofs.SuccessLemmas.{seen-before}
 use Rattle.stamp_model.proofs.WrittenLemmas.{committed-deleted, committed-put, committed-set, kept-put}
+
+-- ---- the next marker of a page
+
+-- no text comes before the empty text
+no_text_before : (text : List ℕ) → name_cmp text [] ≢ Less
+no_text_before [] less = cc
+no_text_before (b ∷ text) less = cc
+
+module _ {Y : Type 0} where
+  -- a marker that is past each entry of a page is not empty, if the page may have an entry and it is not empty in case there is nothing to list
+  next-filled : (max : ℕ) (items : List (Entry Y)) (next : Option (List ℕ)) → 1 ≤ max → (items ≡ [] → next ≢ Some [])
+      → IfSome next (λ next. AllByRecursion (λ (entry : Entry Y). name_cmp entry.0 next ≡ Less) (take max items)) → next ≢ Some []
+  next-filled zero items next some none past = absurd (omega arith)
+  next-filled (suc n) [] next some none past = none refl
+  next-filled (suc n) (item ∷ items) next some none past = λ empty.
+      no_text_before item.0 (subst (λ o. IfSome o (λ next. AllByRecursion (λ (entry : Entry Y). name_cmp entry.0 next ≡ Less) (take (suc n) (item ∷ items)))) empty past).0
+
+  next-nothing : (max : ℕ) (items : List (Entry Y)) → items ≡ [] → option_map (λ (entry : Entry Y). entry.0) (slice_get items max) ≡ None
+  next-nothing max items nothing = ap (λ items. option_map (λ (entry : Entry Y). entry.0) (slice_get items max)) nothing
+
+-- the next marker of a page of blobs is not empty
+blobs-next : (q : Page) (p : Part ℕ) → 1 ≤ q.max → (page_of_blobs q p).next ≢ Some []
+blobs-next q p some =
+    let items : List (Entry ShownBlob) = from_marker (given q.marker) (blob_list q p) in
+    next-filled q.max items (page_of_blobs q p).next some (λ nothing empty. let never = sym (next-nothing q.max items nothing) ∙ empty in cc) (blobs_in_bounds q p).next
+
+-- the containers of an account do not end at the empty name, if a container of the account comes before the bound
+end_of-filled : (account name : List ℕ) (bound : Option Key) → IfSome bound (λ end. key_cmp (key_of account name) end ≡ Less) → end_of account bound ≢ Some []
+end_of-filled account name None before = λ empty. cc
+end_of-filled account name (Some end) before = by (pointwise nat_eq end.account account) refl
+  where
+    by : (b : Bool) → pointwise nat_eq end.account account ≡ b → cond b (Some end.container) None ≢ Some []
+    by false is empty = cc
+    by true is empty =
+        let first : end.container ≡ [] = cc in
+        no_text_before name
+        (ap (name_cmp name) (sym first) ∙ sym (same_account (key_of account name) end (sym ((bytes_decides end.account account).0 is))) ∙ before)
+
+-- the next marker of a page of containers is not empty, if a container of the account comes before the bound
+containers-next : {C : Type 0} (account : List ℕ) (q : Page) (bound : Option Key) (w : World C) (name : List ℕ) → IfSome bound (λ end. key_cmp (key_of account name) end ≡ Less)
+    → 1 ≤ q.max → (page_of_containers account q bound w).next ≢ Some []
+containers-next account q bound w name before some =
+    let end : Option (List ℕ) = end_of account bound in
+    let items : List (Entry ShownContainer) = from_marker (given q.marker) (listed (given q.prefix) [] (with_value shown_container (before_end end (of_account account (entries w))))) in
+    next-filled q.max items (page_of_containers account q bound w).next some
+    (λ nothing empty. end_of-filled account name bound before (sym (ap (λ next. or_else next end) (next-nothing q.max items nothing)) ∙ empty))
+    (containers_in_bounds account q bound w).next
 
 -- ---- the page of a list
 
@@ -62,6 +119,7 @@ module _ (w : World (List ℕ)) (key : Key) (list : Timed) (lists : ListsNames k
     lists-once IsTold c there told = record {
       page = page_of_blobs (page_asked list.request) part_listed;
       body = ap (λ (r : Reply). r.body) reply-listed;
+      marked = blobs-next (page_asked list.request) part_listed;
       once = λ reaches. (
         shown_part (committed_value byte_count c),
         entry_reached (page_asked list.request) part_listed name lists.plain reaches ∙ ap (own_entry name) (shown-seen c there),
@@ -152,6 +210,9 @@ listed-container w name list fits lists none under = record {
       ap (λ (r : Reply). r.body)
       (reply-admitted list.keys w list.request list.moment list.bound (reply-unrefused list.keys w list.request list.moment list.bound none)
       ∙ answer-listing list.request fits lists list.keys w list.moment list.bound);
+  marked =
+      containers-next list.request.ask.key.account (page_asked list.request) list.bound w name
+      (before_bound list.bound (key_of list.request.ask.key.account name) under);
   once = λ reaches.
       container_reached list.request.ask.key.account (page_asked list.request) list.bound w name
       (before_bound list.bound (key_of list.request.ask.key.account name) under) reaches;
