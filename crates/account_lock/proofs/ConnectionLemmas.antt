@@ -1,5 +1,5 @@
 -- What a connection reads of the history.
-use Rattle.std.proofs.Common.{◌≡◌, ◌⊎◌, inl, inr, ℕ, List, [], ◌∷◌, ◌++◌, map, refl, sym, ap, ◌∙◌, subst, append_assoc}
+use Rattle.std.proofs.Common.{◌≡◌, ◌⊎◌, inl, inr, ℕ, List, [], ◌∷◌, ◌++◌, map, refl, sym, ap, ◌∙◌, subst, append_assoc, arith}
 use Rattle.std.proofs.lemmas.List.{append-nil}
 use Rattle.stamp_types.specs.declared.reply.Reply.{Reply}
 use Rattle.stamp_types.specs.Requests.{Asked}
@@ -11,7 +11,7 @@ use Rattle.http_front.specs.Conversations.{Exchange, ServiceReplies, IsUnanswere
 use Rattle.http_front.specs.Conversations.Exchange.{Answered, RefusedAt}
 use Rattle.http_front.specs.Streams.{Item}
 use Rattle.http_front.specs.Streams.Item.{Requested, Refused}
-use Rattle.account_lock.specs.Histories.{Entered, entered, judged, world_left, IsServed, IsUnchanged}
+use Rattle.account_lock.specs.Histories.{Entered, Known, entered, judged, world_left, IsServed, IsUnchanged}
 use Rattle.account_lock.specs.Connections.{Call, calls_of, calls_along, IsAmong, ReadsHistory, AddsOneAtMost, IsReadAfter}
 use Rattle.account_lock.proofs.HistoryLemmas.{world_left-append}
 
@@ -23,18 +23,18 @@ calls_along-append keys w (entry ∷ front) rest = ap (λ (l : List Call). (entr
 
 module _ (keys : Keys) where
   -- entries of others, and then a call
-  served_then : (known mid known' : List Entered) (q : Asked) (t : ℕ) (reply : Reply) (calls : List Call)
+  served_then : (known mid known' : Known) (q : Asked) (t : ℕ) (reply : Reply) (calls : List Call)
       → IsServed keys known q t reply mid → ReadsHistory keys mid calls known' → ReadsHistory keys known ((entered q t, reply) ∷ calls) known'
   served_then known mid known' q t reply calls step rest =
       let entry = entered q t in
-      let w = world_left keys known in
+      let w = world_left keys known.entries in
       let then_held = world_after_all w (map (judged keys) step.others) in
-      let here : world_left keys (known ++ step.others) ≡ then_held = world_left-append keys known step.others in
-      let next : world_left keys mid ≡ world_after_one then_held (judged keys entry) =
-      ap (world_left keys) step.enters ∙ (world_left-append keys (known ++ step.others) (entry ∷ []) ∙ ap (λ (v : World (List ℕ)). world_after_one v (judged keys entry)) here) in
+      let here : world_left keys (known.entries ++ step.others) ≡ then_held = world_left-append keys known.entries step.others in
+      let next : world_left keys mid.entries ≡ world_after_one then_held (judged keys entry) =
+      ap (world_left keys) step.enters ∙ (world_left-append keys (known.entries ++ step.others) (entry ∷ []) ∙ ap (λ (v : World (List ℕ)). world_after_one v (judged keys entry)) here) in
       let answer : reply_to_one then_held (judged keys entry) ≡ reply = sym (step.replied ∙ ap (λ (v : World (List ℕ)). reply_to_one v (judged keys entry)) here) in record {
         entries = step.others ++ entry ∷ rest.entries;
-        continued = rest.continued ∙ (ap (λ (l : List Entered). l ++ rest.entries) step.enters ∙ (append_assoc (known ++ step.others) (entry ∷ []) rest.entries ∙ append_assoc known step.others (entry ∷ rest.entries)));
+        continued = rest.continued ∙ (ap (λ (l : List Entered). l ++ rest.entries) step.enters ∙ (append_assoc (known.entries ++ step.others) (entry ∷ []) rest.entries ∙ append_assoc known.entries step.others (entry ∷ rest.entries)));
         own = (
           calls_along keys w step.others,
           calls_along keys (world_after_one then_held (judged keys entry)) rest.entries,
@@ -42,27 +42,33 @@ module _ (keys : Keys) where
               ∙ ap (λ (r : Reply). calls_along keys w step.others ++ (entry, r) ∷ calls_along keys (world_after_one then_held (judged keys entry)) rest.entries) answer,
           subst (λ (v : World (List ℕ)). IsAmong calls (calls_along keys v rest.entries)) next rest.own,
         );
+        made = omega (arith, rest.made, step.made);
       }
 
   -- the replies of a connection are those of the model along one history
-  pub replies_are_along : (known : List Entered) (exchanges : List Exchange) (known' : List Entered)
+  pub replies_are_along : (known : Known) (exchanges : List Exchange) (known' : Known)
       → ServiceReplies (IsServed keys) known exchanges known' → ReadsHistory keys known (calls_of exchanges) known'
-  replies_are_along known [] known' same = record { entries = []; continued = same ∙ sym (append-nil known); own = tt }
+  replies_are_along known [] known' same = record {
+    entries = [];
+    continued = ap (λ (k : Known). k.entries) same ∙ sym (append-nil known.entries);
+    own = tt;
+    made = omega (arith, ap (λ (k : Known). k.made) same);
+  }
   replies_are_along known (Answered form body moment reply ∷ exchanges) known' given =
       served_then known given.0 known' (with_body form body) moment reply (calls_of exchanges) given.1 (replies_are_along given.0 exchanges known' given.2)
   replies_are_along known (RefusedAt denial moment ∷ exchanges) known' given =
-      subst (λ (k : List Entered). ReadsHistory keys k (calls_of exchanges) known') given.1 (replies_are_along given.0 exchanges known' given.2)
+      subst (λ (k : Known). ReadsHistory keys k (calls_of exchanges) known') given.1 (replies_are_along given.0 exchanges known' given.2)
 
-  unwritten : (known known' : List Entered) (q : Asked) (t : ℕ) → IsUnchanged known known' ⊎ ((reply : Reply) × IsServed keys known q t reply known') → AddsOneAtMost keys known known'
+  unwritten : (known known' : Known) (q : Asked) (t : ℕ) → IsUnchanged known known' ⊎ ((reply : Reply) × IsServed keys known q t reply known') → AddsOneAtMost keys known known'
   unwritten known known' q t (inl same) = inl same
   unwritten known known' q t (inr made) = inr (q, t, made.0, made.1)
 
-  unanswered : (known known' : List Entered) (item : Item) (t : ℕ) → IsUnansweredAt (IsServed keys) IsUnchanged known known' item t → AddsOneAtMost keys known known'
+  unanswered : (known known' : Known) (item : Item) (t : ℕ) → IsUnansweredAt (IsServed keys) IsUnchanged known known' item t → AddsOneAtMost keys known known'
   unanswered known known' (Requested form body) t left = unwritten known known' (with_body form body) t left
   unanswered known known' (Refused denial) t same = inl same
 
   -- if memory runs out, at most one request of the connection is entered after those that were answered
-  pub stops_with_one : {C : Type 0} (gives : C → ℕ → C → Type 0) (clock clock' : C) (known known' : List Entered) (bytes written : List ℕ)
+  pub stops_with_one : {C : Type 0} (gives : C → ℕ → C → Type 0) (clock clock' : C) (known known' : Known) (bytes written : List ℕ)
       → StopsBeforeOrAtItem gives (IsServed keys) IsUnchanged clock clock' known known' bytes written → AddsOneAtMost keys known known'
   stops_with_one gives clock clock' known known' bytes written (inl before) = inl before.1
   stops_with_one gives clock clock' known known' bytes written (inr at) = unanswered known known' at.item at.moment at.left
@@ -113,19 +119,19 @@ at_place keys w (entry ∷ entries) (x ∷ before) call after is =
     let more = at_place keys (world_after_one w (judged keys entry)) entries before call after tail in
     (entry ∷ more.0, more.1, more.2, more.3)
 
-pub later_reads : (keys : Keys) (known known' : List Entered) (front : List Call) (earlier : Call) (middle : List Call) (later : Call) (back : List Call)
+pub later_reads : (keys : Keys) (known known' : Known) (front : List Call) (earlier : Call) (middle : List Call) (later : Call) (back : List Call)
     → ReadsHistory keys known (front ++ earlier ∷ (middle ++ later ∷ back)) known' → IsReadAfter keys earlier later
 later_reads keys known known' front earlier middle later back reads =
-    let w = world_left keys known in
+    let w = world_left keys known.entries in
     let one = next_after front earlier (middle ++ later ∷ back) (calls_along keys w reads.entries) reads.own in
     let two = next_after middle later back one.1 one.3 in
     let first = at_place keys w reads.entries one.0 earlier one.1 one.2 in
     let then_held = world_after_all w (map (judged keys) first.0) in
     let second = at_place keys (world_after_one then_held (judged keys earlier.0)) first.1 two.0 later two.1 (sym first.3 ∙ two.2) in
-    let here : world_left keys (known ++ first.0) ≡ then_held = world_left-append keys known first.0 in record {
-      before = known ++ first.0;
+    let here : world_left keys (known.entries ++ first.0) ≡ then_held = world_left-append keys known.entries first.0 in record {
+      before = known.entries ++ first.0;
       between = second.0;
       first = first.2 ∙ ap (λ (v : World (List ℕ)). reply_to_one v (judged keys earlier.0)) (sym here);
       second = second.2 ∙ ap (λ (v : World (List ℕ)). reply_to_one v (judged keys later.0))
-          (sym (world_left-append keys (known ++ first.0) (earlier.0 ∷ second.0) ∙ ap (λ (v : World (List ℕ)). world_after_all (world_after_one v (judged keys earlier.0)) (map (judged keys) second.0)) here));
+          (sym (world_left-append keys (known.entries ++ first.0) (earlier.0 ∷ second.0) ∙ ap (λ (v : World (List ℕ)). world_after_all (world_after_one v (judged keys earlier.0)) (map (judged keys) second.0)) here));
     }

@@ -1,5 +1,5 @@
 -- What one more entry leaves, and how a request is served.
-use Rattle.std.proofs.Common.{◌≡◌, ℕ, List, [], ◌∷◌, ◌++◌, Result, Ok, Err, IfOk, OnOk, map, ap, sym, ◌∙◌}
+use Rattle.std.proofs.Common.{◌≡◌, ◌+◌, ℕ, List, [], ◌∷◌, ◌++◌, Result, Ok, Err, IfOk, OnOk, length, length-append, map, ap, sym, ◌∙◌}
 use Rattle.std.proofs.lemmas.List.{map-append}
 use Rattle.std.proofs.lemmas.List.Sums.{fold-append}
 use Rattle.std.specs.FinMap as finite
@@ -21,19 +21,27 @@ world_left-append keys front rest =
 pub left_more : (keys : Keys) (history : List Entered) (q : Asked) (t : ℕ) → left_after keys (history ++ entered q t ∷ []) ≡ held_after (left_after keys history) q t
 left_more keys history q t = ap (λ (w : World (List ℕ)). record { keys = keys; world = w }) (world_left-append keys history (entered q t ∷ []))
 
--- a request is served if it is answered at the end of a history of which a beginning is known, and the whole is known then
-pub served : (keys : Keys) (known whole whole' known' : List Entered) (q : Asked) (t : ℕ) (reply : Reply)
-    → IsPrefix known whole → reply ≡ reply_to_one (world_left keys whole) (timed keys q t) → whole' ≡ whole ++ entered q t ∷ [] → known' ≡ whole'
-    → IsServed keys known q t reply known'
-served keys known whole whole' known' q t reply begins answered enters knows = record {
+-- one more entry makes the history longer by one
+pub length_more : (history : List Entered) (q : Asked) (t : ℕ) → length (history ++ entered q t ∷ []) ≡ length history + 1
+length_more history q t = length-append history (entered q t ∷ [])
+
+-- a request is served if it is answered at the end of a history of which a beginning is known, the whole is known then, and one entry
+-- more was made
+pub served : (keys : Keys) (known whole whole' known' : List Entered) (made made' : ℕ) (q : Asked) (t : ℕ) (reply : Reply)
+    → IsPrefix known whole → reply ≡ reply_to_one (world_left keys whole) (timed keys q t) → whole' ≡ whole ++ entered q t ∷ [] → known' ≡ whole' → made' ≡ made + 1
+    → IsServed keys (record { entries = known; made = made }) q t reply (record { entries = known'; made = made' })
+served keys known whole whole' known' made made' q t reply begins answered enters knows makes = record {
   others = begins.0;
   enters = knows ∙ (enters ∙ ap (λ (l : List Entered). l ++ entered q t ∷ []) (sym begins.1));
   replied = answered ∙ ap (λ (l : List Entered). reply_to_one (world_left keys l) (timed keys q t)) (sym begins.1);
+  made = makes;
 }
 
 -- the same of an answer that may be a fault
-pub served_if : {E : Type 0} (keys : Keys) (known whole whole' known' : List Entered) (q : Asked) (t : ℕ) (result : Result Reply E)
+pub served_if : {E : Type 0} (keys : Keys) (known whole whole' known' : List Entered) (made made' : ℕ) (q : Asked) (t : ℕ) (result : Result Reply E)
     → OnOk result (IsPrefix known whole) → IfOk result (λ reply. reply ≡ reply_to_one (world_left keys whole) (timed keys q t))
-    → OnOk result (whole' ≡ whole ++ entered q t ∷ []) → OnOk result (known' ≡ whole') → IfOk result (λ reply. IsServed keys known q t reply known')
-served_if keys known whole whole' known' q t (Ok reply) begins answered enters knows = served keys known whole whole' known' q t reply begins answered enters knows
-served_if keys known whole whole' known' q t (Err fault) begins answered enters knows = begins
+    → OnOk result (whole' ≡ whole ++ entered q t ∷ []) → OnOk result (known' ≡ whole') → OnOk result (made' ≡ made + 1)
+    → IfOk result (λ reply. IsServed keys (record { entries = known; made = made }) q t reply (record { entries = known'; made = made' }))
+served_if keys known whole whole' known' made made' q t (Ok reply) begins answered enters knows makes =
+    served keys known whole whole' known' made made' q t reply begins answered enters knows makes
+served_if keys known whole whole' known' made made' q t (Err fault) begins answered enters knows makes = begins

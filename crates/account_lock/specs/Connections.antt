@@ -1,5 +1,5 @@
 -- What a connection reads of the history (Calder et al., SOSP 2011, section 5; RFC 9112, section 9.3).
-use Rattle.std.specs.Prelude.{ℕ, ◌≡◌, ◌⊎◌, List, [], ◌∷◌, ◌++◌, flat_map}
+use Rattle.std.specs.Prelude.{ℕ, ◌≡◌, ◌+◌, ◌⊎◌, List, [], ◌∷◌, ◌++◌, flat_map, length}
 use mathlib.Core.List.{IsPrefix}
 use Rattle.stamp_types.specs.declared.reply.Reply.{Reply}
 use Rattle.stamp_types.specs.Requests.{Asked}
@@ -9,7 +9,7 @@ use Rattle.stamp_model.specs.Runs.{world_after_one, reply_to_one}
 use Rattle.request_form.specs.HeadForms.{with_body}
 use Rattle.http_front.specs.Conversations.{Exchange}
 use Rattle.http_front.specs.Conversations.Exchange.{Answered, RefusedAt}
-use Rattle.account_lock.specs.Histories.{Entered, entered, judged, world_left, IsServed}
+use Rattle.account_lock.specs.Histories.{Entered, Known, entered, judged, world_left, IsServed}
 
 -- a request at its moment, and the reply to it
 abbrev pub Call : Type 0
@@ -35,14 +35,15 @@ IsAmong [] ys = Unit {0}
 IsAmong {X} (x ∷ xs) ys = (before : List X) × (after : List X) × (ys ≡ before ++ x ∷ after) × IsAmong xs after
 
 -- What a connection knew of the history was continued by these entries. Among them are the connection's own calls, in their
--- order, each with the model's reply at its place.
-pub record ReadsHistory (keys : Keys) (known : List Entered) (calls : List Call) (known' : List Entered) : Type 0 where
+-- order, each with the model's reply at its place. The connection has made one entry for each of its calls.
+pub record ReadsHistory (keys : Keys) (known : Known) (calls : List Call) (known' : Known) : Type 0 where
   pub entries : List Entered
-  pub continued : known' ≡ known ++ entries
-  pub own : IsAmong calls (calls_along keys (world_left keys known) entries)
+  pub continued : known'.entries ≡ known.entries ++ entries
+  pub own : IsAmong calls (calls_along keys (world_left keys known.entries) entries)
+  pub made : known'.made ≡ known.made + length calls
 
--- the connection knows what it knew, or one request of its own was entered after it
-abbrev pub AddsOneAtMost : Keys → List Entered → List Entered → Type 0
+-- the connection knows what it knew and has made no entry, or one request of its own was entered after what it knew
+abbrev pub AddsOneAtMost : Keys → Known → Known → Type 0
 AddsOneAtMost keys known known' = (known' ≡ known) ⊎ ((q : Asked) × (t : ℕ) × (reply : Reply) × IsServed keys known q t reply known')
 
 -- both are beginnings of one history

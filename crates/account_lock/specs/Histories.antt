@@ -1,6 +1,6 @@
 -- One history of the requests of an account, for all its connections (Calder et al., SOSP 2011, section 5: the changes of a
 -- partition are made one after the other).
-use Rattle.std.specs.Prelude.{ℕ, ◌≡◌, List, [], ◌∷◌, ◌++◌, map}
+use Rattle.std.specs.Prelude.{ℕ, ◌≡◌, ◌+◌, List, [], ◌∷◌, ◌++◌, map}
 use Rattle.std.specs.FinMap as finite
 use Rattle.stamp_types.specs.declared.reply.Reply.{Reply}
 use Rattle.stamp_types.specs.Requests.{Asked}
@@ -30,13 +30,19 @@ world_left keys history = world_after_all finite.empty (map (judged keys) histor
 abbrev pub left_after : Keys → List Entered → Held
 left_after keys history = record { keys = keys; world = world_left keys history }
 
--- What a connection knew of the history is continued by entries of others and then by this request, and the reply is the model's
--- at the containers that all entries before the request leave.
-pub record IsServed (keys : Keys) (known : List Entered) (q : Asked) (t : ℕ) (reply : Reply) (known' : List Entered) : Type 0 where
-  pub others : List Entered
-  pub enters : known' ≡ (known ++ others) ++ entered q t ∷ []
-  pub replied : reply ≡ reply_to_one (world_left keys (known ++ others)) (timed keys q t)
+-- what a connection knows: a beginning of the history, and how many entries of the history are its own
+pub record Known : Type 0 where
+  pub entries : List Entered
+  pub made : ℕ
 
--- what a connection knows of the history stays the same
-abbrev pub IsUnchanged : List Entered → List Entered → Type 0
+-- What a connection knew of the history is continued by entries of others and then by this request, and the reply is the model's
+-- at the containers that all entries before the request leave. The connection has made this one entry more.
+pub record IsServed (keys : Keys) (known : Known) (q : Asked) (t : ℕ) (reply : Reply) (known' : Known) : Type 0 where
+  pub others : List Entered
+  pub enters : known'.entries ≡ (known.entries ++ others) ++ entered q t ∷ []
+  pub replied : reply ≡ reply_to_one (world_left keys (known.entries ++ others)) (timed keys q t)
+  pub made : known'.made ≡ known.made + 1
+
+-- a connection knows of the history what it knew, and has made no entry
+abbrev pub IsUnchanged : Known → Known → Type 0
 IsUnchanged known known' = known' ≡ known

@@ -1,5 +1,5 @@
 //! One history of the requests that were answered. It only grows, and it exists in proofs alone: what threads share is the
-//! number of its entries.
+//! number of its entries. Each connection has a share of it, which counts the entries that the connection made.
 ghost use Rattle.std.specs.Prelude.{◌≡◌, ◌+◌, ◌==◌, ◌<◌, ◌^◌, ◌++◌, ◌∷◌, ◌⊎◌, [], length, MatchBool};
 ghost use mathlib.Core.List.{IsPrefix};
 ghost use Rattle.account_lock.specs.Growth.{count_word, IsLonger};
@@ -9,6 +9,7 @@ use crate::entry::{Entry, NextEntry};
 use logbook::{Gain, Offer, Plain, Play, Rule, Seen, Start, Word};
 use stamp_types::{Moment, Request};
 use std::marker::{Brand, Model, PhantomData};
+use std::sync::ledger::{Blank, Book, Ledger, Share};
 
 /// The rule of a history: the word that threads share is the number of its entries.
 pub struct Counted;
@@ -58,9 +59,9 @@ impl<'a> Plain<NextEntry<'a>, Entry, u64> for Add {
     ghost state = { λ entry. None };
 }
 
-/// The account that a lock serves: its history, and the pair of keys that judges its requests. Each call of a program picks
-/// them.
-pub trait Account {
+/// The account that a lock serves: its history, the pair of keys that judges its requests, and the ledger of who made which number of
+/// entries. Each call of a program picks them.
+pub trait Account: Ledger {
     ghost use Rattle.logbook.specs.Pages.{Book};
     ghost use Rattle.access_rules.specs.declared.keys.Keys.{Keys};
 
@@ -82,26 +83,34 @@ impl Account for Brand {
 pub struct NewHistory {
     word: Word<Entry, u64, Counted>,
     seen: Seen<Entry, u64, Counted>,
+    shares: Blank,
     pub ghost empty: { seen.log ≡ [] },
     pub ghost word_is: { word ≡ count_word seen.book },
 }
 
 impl NewHistory {
-    /// Takes no memory.
-    pub fn new() -> NewHistory {
+    /// A history for so many connections at most. Takes no memory.
+    pub fn new(connections: u64) -> NewHistory
+        ensures { result.shares.parts ≡ connections }
+    {
         let (seen, mut first, _second) = Seen::open(Start::alone(), 0, 0);
         NewHistory {
             word: Word::tracked(0, &mut first),
             seen,
+            shares: Blank::new(connections),
         }
     }
 
-    /// The number of entries as the history of an account, and what is known of the history at first: nothing.
-    pub(crate) fn of<A: Account>(self) -> (EntryCount<A>, Front<A>)
-        requires { self.seen.book ≡ A.history }
-        ensures { result.1 ≡ [] }
+    /// The history of an account, without entries: their number, what is known of them, who made how many, and all shares in one.
+    pub(crate) fn of<A: Account>(self) -> (EntryCount<A>, Front<A>, Book<A>, Share<A>)
+        requires history { self.seen.book ≡ A.history }
+        requires shares { (self.shares.name ≡ A.name) × (self.shares.parts ≡ A.parts) }
+        ensures front { result.1 ≡ [] }
+        ensures total { result.2.total ≡ 0 }
+        ensures share { (result.3.parts ≡ A.parts) × (result.3.amount ≡ 0) }
     {
-        let NewHistory { word, seen } = self;
+        let NewHistory { word, seen, shares } = self;
+        let (total, share) = shares.open::<A>();
         (
             EntryCount {
                 word,
@@ -112,6 +121,8 @@ impl NewHistory {
                 seen,
                 account: PhantomData,
             },
+            total,
+            share,
         )
     }
 }

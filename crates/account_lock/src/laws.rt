@@ -14,7 +14,7 @@ ghost use Rattle.http_front.specs.declared.end.End.{End};
 ghost use Rattle.http_front.specs.declared.end.FrontFault.{FrontFault};
 ghost use Rattle.http_front.specs.Connections.{ConnectionState};
 ghost use Rattle.http_front.specs.Conversations.{AnswersInput, BreaksOff, EndsOutOfMemory};
-ghost use Rattle.account_lock.specs.Histories.{Entered, IsServed, IsUnchanged, world_left};
+ghost use Rattle.account_lock.specs.Histories.{Known, IsServed, IsUnchanged, world_left};
 ghost use Rattle.account_lock.specs.Connections.{AddsOneAtMost, AreOfOneHistory, Call, IsReadAfter, ReadsHistory, calls_of};
 
 use crate::history::Account;
@@ -23,22 +23,23 @@ use http_front::Clock;
 use std::sync::Wait;
 
 /// The replies of a connection are the model's replies along one history. This history begins with what the connection knew, and
-/// has the connection's own requests in their order, with requests of others between them. `run` ensures the premises.
+/// has the connection's own requests in their order, with requests of others between them. The connection made one entry for each
+/// request of its own. `run` ensures the premises.
 ///
-/// If memory runs out, the same holds of the requests that were answered in full. After them the history has one more request of
-/// the connection at most: its reply was made, and not written. If a write fails, the same holds of the requests to which the
-/// service replied.
+/// If memory runs out, the same holds of the requests that were answered in full. After them the connection made one more entry
+/// at most, of a request whose reply was made and not written. If a write fails, the same holds of the requests to which the service
+/// replied.
 pub fn each_connection_reads_one_history<C: Clock>()
-    ensures answered { (keys : Keys) (clock clock' : C) (seen seen' : List Entered)
+    ensures answered { (keys : Keys) (clock clock' : C) (seen seen' : Known)
         (from to : ConnectionState) (result : Result End FrontFault) (input : List ℕ)
         (talk : AnswersInput C.gives (IsServed keys) clock clock' seen seen' from to result input)
         → ReadsHistory keys seen (calls_of talk.exchanges) seen' }
-    ensures starved { (keys : Keys) (clock clock' : C) (seen seen' : List Entered)
+    ensures starved { (keys : Keys) (clock clock' : C) (seen seen' : Known)
         (from to : ConnectionState) (last : List ℕ)
         (talk : EndsOutOfMemory C.gives (IsServed keys) IsUnchanged clock clock' seen seen' from to last)
         → ReadsHistory keys seen (calls_of talk.exchanges) talk.world_then
         × AddsOneAtMost keys talk.world_then seen' }
-    ensures broken { (keys : Keys) (clock clock' : C) (seen seen' : List Entered)
+    ensures broken { (keys : Keys) (clock clock' : C) (seen seen' : Known)
         (from to : ConnectionState)
         (talk : BreaksOff C.gives (IsServed keys) clock clock' seen seen' from to)
         → ReadsHistory keys seen (calls_of talk.exchanges) seen' }
@@ -59,7 +60,7 @@ pub fn two_connections_agree<A: Account, R: Wait>(
 /// asks to put, commit or delete the blob, or to make or delete its container, the reply to the Get Blob has the body that was put.
 /// If the earlier request is a Put Block List, the reply has the content of the wanted blocks, as the blob had it before the list.
 pub fn a_connection_reads_its_own_writes()
-    ensures later { (keys : Keys) (seen seen' : List Entered) (front : List Call) (earlier : Call)
+    ensures later { (keys : Keys) (seen seen' : Known) (front : List Call) (earlier : Call)
         (middle : List Call) (later : Call) (back : List Call)
         → ReadsHistory keys seen (front ++ earlier ∷ (middle ++ later ∷ back)) seen'
         → IsReadAfter keys earlier later }

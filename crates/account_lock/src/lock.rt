@@ -1,5 +1,5 @@
 //! One lock for the rows of an account, and its connections.
-ghost use Rattle.std.specs.Prelude.{◌≡◌, ◌↔◌, IsSome, IsTrue, [], ◌∷◌, ◌++◌, ◌<◌, ◌^◌, IfOk, OnErr, OnOk, length};
+ghost use Rattle.std.specs.Prelude.{◌≡◌, ◌↔◌, IfSome, IsSome, IsTrue, [], ◌∷◌, ◌+◌, ◌++◌, ◌<◌, ◌≤◌, ◌^◌, IfOk, OnErr, OnOk, length};
 ghost use mathlib.Core.List.{IsPrefix};
 ghost use Rattle.stamp_values.specs.Names.{is_account};
 ghost use Rattle.range_rows.specs.Readings.{reading_of};
@@ -16,20 +16,23 @@ use range_rows::Reading;
 use stamp_types::{Moment, Reply, Request};
 use std::alloc::{AllocError, Global};
 use std::marker::Model;
+use std::sync::ledger::{Book, Share};
 use std::sync::{Mutex, Wait};
 
 /// The most entries of a history. A server that answers a million requests a second reaches it after 70,000 years.
 const MOST: u64 = 1 << 61;
 
-/// What the lock has: the rows, and how far the history has come. Contracts see it as the history.
+/// What the lock has: the rows, how far the history has come, and how many entries all connections made. Contracts see it as the
+/// history.
 #[derive(Drop)]
 struct Locked<A: Account> {
     plain: Plain,
     front: Front<A>,
+    made: Book<A>,
 }
 
 impl<A: Account> Model for Locked<A> {
-    ghost use Rattle.std.specs.Prelude.{◌≡◌, List};
+    ghost use Rattle.std.specs.Prelude.{◌≡◌, List, length};
     ghost use Rattle.account_service.specs.HeldRows.{held_of};
     ghost use Rattle.account_lock.specs.Histories.{Entered, left_after};
 
@@ -37,17 +40,18 @@ impl<A: Account> Model for Locked<A> {
 
     ghost view = { λ l. l.front };
 
-    // The rows hold what the history leaves, from a new stamp.
-    ghost invariant = { λ l. held_of l.plain ≡ left_after A.keys l.front };
+    // The rows hold what the history leaves, from a new stamp, and each entry was made by a connection.
+    ghost invariant = { λ l. (held_of l.plain ≡ left_after A.keys l.front) × (l.made.total ≡ length l.front) };
 }
 
 impl<A: Account> Locked<A> {
-    fn new(plain: Plain, front: Front<A>) -> Locked<A>
+    fn new(plain: Plain, front: Front<A>, made: Book<A>) -> Locked<A>
         requires rows { held_of plain ≡ empty_held A.keys }
         requires history { front ≡ [] }
+        requires made { made.total ≡ 0 }
         ensures { result ≡ [] }
     {
-        Locked { plain, front }
+        Locked { plain, front, made }
     }
 
     // A copy of the whole history, which begins with what the caller knows. `AllocError` if the history has as many entries as
@@ -64,26 +68,31 @@ impl<A: Account> Locked<A> {
         Ok(front)
     }
 
-    // Answers a request whose body was read before. The request is then the next entry of the history, and the caller knows the
-    // whole history. If memory runs out, there is no entry and no change.
-    #[tactic(auto, using(crate::proofs::HistoryLemmas::left_more))]
+    // Answers a request whose body was read before. The request is then the next entry of the history, the caller knows the whole
+    // history, and its share counts one entry more. If memory runs out, there is no entry and no change.
+    #[tactic(auto, using(crate::proofs::HistoryLemmas::left_more, crate::proofs::HistoryLemmas::length_more))]
     fn answer<R: Wait>(
         &mut self,
         rt: &R,
         alloc: Global,
         count: &EntryCount<A>,
         known: &mut Front<A>,
+        share: &mut Share<A>,
         request: &Request,
         reading: Reading,
         moment: Moment,
     ) -> Result<Reply, AllocError>
         requires read { reading ≡ reading_of request.now }
+        requires part { 0 < share.old.parts }
         ensures answered { IfOk result (λ reply.
             reply ≡ reply_to_one (world_left A.keys self.old) (timed A.keys request.now moment)) }
         ensures entered { OnOk result (self.new ≡ self.old ++ entered request.now moment ∷ []) }
         ensures begun { OnOk result (IsPrefix known.old self.old) }
         ensures known { OnOk result (known.new ≡ self.new) }
-        ensures same { OnErr result ((self.new ≡ self.old) × (known.new ≡ known.old)) }
+        ensures made { OnOk result (share.new.amount ≡ share.old.amount + 1) }
+        ensures same { OnErr result ((self.new ≡ self.old) × (known.new ≡ known.old)
+            × (share.new.amount ≡ share.old.amount)) }
+        ensures parts { share.new.parts ≡ share.old.parts }
     {
         let mut front = self.whole(known)?;
         let reply = self.plain.answer_read(alloc, request, reading, moment)?;
@@ -92,6 +101,7 @@ impl<A: Account> Locked<A> {
             for _ in rt.forever() {}
             unreachable!()
         }
+        self.made.add(share, 1);
         *known = front.again();
         self.front = front;
         Ok(reply)
@@ -106,36 +116,72 @@ pub struct AccountLock<A: Account> {
 }
 
 impl<A: Account> AccountLock<A> {
-    /// The lock of the keys' account, which has no containers, with a history without entries. Takes no memory.
+    /// The lock of the keys' account, which has no containers, with a history without entries, and all shares of the history in one.
+    /// Takes no memory.
     ///
     /// `None` if the name in the keys is not the name of an account.
-    pub fn new(alloc: Global, keys: Keys, history: NewHistory) -> Option<AccountLock<A>>
+    pub fn new(alloc: Global, keys: Keys, history: NewHistory) -> Option<(AccountLock<A>, Share<A>)>
         requires keys { keys ≡ A.keys }
         requires history { history.seen.book ≡ A.history }
+        requires shares { (history.shares.name ≡ A.name) × (history.shares.parts ≡ A.parts) }
         ensures named { IsSome result ↔ IsTrue (is_account keys.account) }
+        ensures share { IfSome result (λ new. (new.1.parts ≡ A.parts) × (new.1.amount ≡ 0)) }
     {
         let plain = Plain::new(alloc, keys)?;
-        let (count, front) = history.of::<A>();
-        Some(AccountLock {
+        let (count, front, made, share) = history.of::<A>();
+        let lock = AccountLock {
             count,
-            locked: Mutex::new(Locked::new(plain, front)),
-        })
+            locked: Mutex::new(Locked::new(plain, front, made)),
+        };
+        Some((lock, share))
+    }
+
+    /// How many entries the history has. Waits for the lock.
+    ///
+    /// Whoever has all shares in one learns that connections made all of these entries, and nobody else made one.
+    pub fn entries<R: Wait>(&self, rt: &R, share: &mut Share<A>) -> u64
+        ensures all { share.old.parts ≡ A.parts → share.old.amount ≡ result }
+        ensures own { share.old.amount ≤ result }
+        ensures same { (share.new.parts ≡ share.old.parts) × (share.new.amount ≡ share.old.amount) }
+    {
+        let mut locked = self.locked.lock(rt);
+        locked.made.audit(share);
+        locked.front.len()
     }
 }
 
-/// The service of one connection: the lock, and the beginning of the history that the connection knows.
+/// The service of one connection: the lock, the beginning of the history that the connection knows, and its share, which counts the
+/// entries that it made.
 #[derive(Drop)]
 pub struct Connection<'a, A: Account, R: Wait> {
     rt: &'a R,
     lock: &'a AccountLock<A>,
     known: Front<A>,
+    share: Share<A>,
+    // With one part nobody can split off a share that counts entries too.
+    ghost one_part: { share.parts ≡ 1 },
 }
 
 impl<'a, A: Account, R: Wait> Connection<'a, A, R> {
     /// A connection that knows the history as far as it has come. Waits for the lock.
-    pub fn new(rt: &'a R, lock: &'a AccountLock<A>) -> Self {
+    pub fn new(rt: &'a R, lock: &'a AccountLock<A>, share: Share<A>) -> Self
+        requires { share.parts ≡ 1 }
+        ensures { result.share.amount ≡ share.amount }
+    {
         let known = lock.locked.lock(rt).front.again();
-        Self { rt, lock, known }
+        Self {
+            rt,
+            lock,
+            known,
+            share,
+        }
+    }
+
+    /// Ends the connection, and gives its share back.
+    pub fn into_share(self) -> Share<A>
+        ensures { (result.parts ≡ 1) × (result.amount ≡ self.entry.share.amount) }
+    {
+        self.share
     }
 
     /// What the connection knows of the history.
@@ -147,12 +193,11 @@ impl<'a, A: Account, R: Wait> Connection<'a, A, R> {
 }
 
 impl<'a, A: Account, R: Wait> Service for Connection<'a, A, R> {
-    ghost use Rattle.std.specs.Prelude.{List};
-    ghost use Rattle.account_lock.specs.Histories.{Entered, IsServed, IsUnchanged};
+    ghost use Rattle.account_lock.specs.Histories.{Known, IsServed, IsUnchanged};
 
-    ghost World = { List Entered };
+    ghost World = { Known };
 
-    ghost world = { λ s. s.known };
+    ghost world = { λ s. record { entries = s.known; made = s.share.amount } };
 
     ghost answers = { λ seen q t reply seen'. IsServed A.keys seen q t reply seen' };
 
@@ -174,6 +219,7 @@ impl<'a, A: Account, R: Wait> Service for Connection<'a, A, R> {
             alloc,
             &self.lock.count,
             &mut self.known,
+            &mut self.share,
             &request,
             reading,
             moment,

@@ -12,6 +12,7 @@ use std::alloc::Global;
 use std::marker::Brand;
 use std::process::Abort;
 use std::sync::Wait;
+use std::sync::ledger::Share;
 use std::thread;
 use std::thread::Threads;
 
@@ -63,19 +64,22 @@ fn sent<A: Account, R: Wait + Abort>(
     out
 }
 
-// The same, on a connection that ends then.
+// The same, on a connection that ends then and gives its share back.
 fn sent_on<A: Account, R: Wait + Abort>(
     rt: &R,
     alloc: Global,
     connection: Connection<'_, A, R>,
     input: &[u8],
-) -> Vec<u8> {
+) -> (Vec<u8>, Share<A>)
+    ensures { result.1.parts ≡ 1 }
+{
     let mut connection = connection;
-    sent(rt, alloc, &mut connection, input)
+    let out = sent(rt, alloc, &mut connection, input);
+    (out, connection.into_share())
 }
 
 // Two threads send the same Create Container, each on a connection of its own. Then one connection puts a blob, and another gets
-// it.
+// it. The history has these four requests.
 fn two_share<A: Account + Send + Sync, R: Threads + Wait + Abort + Sync>(
     rt: &R,
     alloc: Global,
@@ -84,24 +88,30 @@ fn two_share<A: Account + Send + Sync, R: Threads + Wait + Abort + Sync>(
 )
     requires keys { keys ≡ A.keys }
     requires history { history.seen.book ≡ A.history }
+    requires shares { (history.shares.name ≡ A.name) × (history.shares.parts ≡ A.parts) }
+    requires four { history.shares.parts ≡ 4 }
 {
-    let lock = AccountLock::<A>::new(alloc, keys, history).expect(rt, "an account");
-    let first = Connection::new(rt, &lock);
-    let second = Connection::new(rt, &lock);
-    let (one, two) = thread::join(
+    let (lock, mut shares) = AccountLock::<A>::new(alloc, keys, history).expect(rt, "an account");
+    let first = Connection::new(rt, &lock, shares.split_off(1, 0));
+    let second = Connection::new(rt, &lock, shares.split_off(1, 0));
+    let ((one, mut made), (two, also)) = thread::join(
         rt,
-        move || -> Vec<u8> { sent_on(rt, alloc, first, CREATE) },
-        move || -> Vec<u8> { sent_on(rt, alloc, second, CREATE) },
+        move || -> (Vec<u8>, Share<A>) { sent_on(rt, alloc, first, CREATE) },
+        move || -> (Vec<u8>, Share<A>) { sent_on(rt, alloc, second, CREATE) },
     );
     // One thread has created the container, and the other is told that it exists.
     let created = (one.starts_with(CREATED), two.starts_with(CREATED));
     assert!(rt; created.0 != created.1);
     assert!(rt; one.starts_with(CONFLICT) != two.starts_with(CONFLICT));
-    let mut writer = Connection::new(rt, &lock);
-    let mut reader = Connection::new(rt, &lock);
+    let mut writer = Connection::new(rt, &lock, shares.split_off(1, 0));
+    let mut reader = Connection::new(rt, &lock, shares.split_off(1, 0));
     assert!(rt; sent(rt, alloc, &mut writer, PUT).starts_with(CREATED));
     assert!(rt; sent(rt, alloc, &mut reader, GET).ends_with(b"\r\n\r\nhello"));
     two_connections_agree(&writer, &reader);
+    made.merge(also);
+    made.merge(writer.into_share());
+    made.merge(reader.into_share());
+    assert!(rt; lock.entries(rt, &mut made) == 4);
 }
 
 // The bytes of a key that signs.
@@ -118,5 +128,5 @@ fn connections_that_share_a_lock_see_one_history(rt: HostRuntime) {
         second: key(&rt, rt.alloc(), b"key2"),
         epoch: 0,
     };
-    two_share::<Brand, _>(&rt, rt.alloc(), keys, NewHistory::new());
+    two_share::<Brand, _>(&rt, rt.alloc(), keys, NewHistory::new(4));
 }

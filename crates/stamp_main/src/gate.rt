@@ -1,5 +1,5 @@
 //! The connections that come to a listener.
-ghost use Rattle.std.specs.Prelude.{◌≡◌, IsTrue};
+ghost use Rattle.std.specs.Prelude.{◌≡◌, ◌+◌, ◌≤◌, IfNone, IfSome, IsTrue, OnSome};
 ghost use Rattle.stamp_values.specs.Names.{is_account};
 
 use crate::machine::Machine;
@@ -9,8 +9,8 @@ use http_front::{End, FrontFault, Link, Source, work};
 use std::alloc::{AllocError, Global};
 use std::io::{Read, Write};
 use std::net::{Shutdown, TcpListener, TcpStream};
-use std::sync::atomic::{AtomicU64, Ordering};
-use std::sync::{Arc, Wait};
+use std::sync::ledger::Share;
+use std::sync::{Arc, Mutex, Wait};
 use std::thread::Threads;
 use std::time::{Clock, Duration};
 use std::{io, thread};
@@ -43,6 +43,36 @@ const PASSING: [i32; 6] = [
     12, // ENOMEM
 ];
 
+/// How many connections may still be taken, and a share of the history for each.
+#[derive(Drop)]
+struct Left<A: Account> {
+    connections: u64,
+    shares: Share<A>,
+    ghost one_each: { connections ≤ shares.parts },
+    ghost none_made: { shares.amount ≡ 0 },
+}
+
+impl<A: Account> Left<A> {
+    fn new(connections: u64, shares: Share<A>) -> Left<A>
+        requires { (connections ≤ shares.parts) × (shares.amount ≡ 0) }
+    {
+        Left {
+            connections,
+            shares,
+        }
+    }
+
+    // The share of the next connection, if one is left.
+    fn take(&mut self) -> Option<Share<A>>
+        ensures share { IfSome result (λ share. share.parts ≡ 1) }
+        ensures one { OnSome result (self.old.connections ≡ self.new.connections + 1) }
+        ensures none { IfNone result (self.old.connections ≡ 0) }
+    {
+        self.connections = self.connections.checked_sub(1)?;
+        Some(self.shares.split_off(1, 0))
+    }
+}
+
 /// Takes connections from a listener, up to a number of them, for workers that serve them by one lock.
 #[derive(Drop)]
 pub(crate) struct Gate<'a, A: Account, R: Wait, C: Clock> {
@@ -51,7 +81,7 @@ pub(crate) struct Gate<'a, A: Account, R: Wait, C: Clock> {
     alloc: Global,
     lock: &'a AccountLock<A>,
     listener: &'a TcpListener,
-    left: AtomicU64,
+    left: Mutex<Left<A>>,
     patience: Duration,
 }
 
@@ -71,10 +101,12 @@ pub(crate) fn serve_on<A: Account + Send + Sync, R: Threads + Wait + Sync, C: Cl
     patience: Duration,
 ) -> Result<(), AllocError>
     requires history { history.seen.book ≡ A.history }
+    requires shares { (history.shares.name ≡ A.name) × (history.shares.parts ≡ A.parts) }
+    requires one_each { connections ≤ history.shares.parts }
     requires keys { keys ≡ A.keys }
     requires named { IsTrue (is_account keys.account) }
 {
-    let Some(lock) = AccountLock::<A>::new(alloc, keys, history) else {
+    let Some((lock, shares)) = AccountLock::<A>::new(alloc, keys, history) else {
         unreachable!()
     };
     let gate = Gate {
@@ -83,7 +115,7 @@ pub(crate) fn serve_on<A: Account + Send + Sync, R: Threads + Wait + Sync, C: Cl
         alloc,
         lock: &lock,
         listener,
-        left: AtomicU64::new(connections),
+        left: Mutex::new(Left::new(connections, shares)),
         patience,
     };
     work(rt, alloc, workers, &gate)
@@ -125,9 +157,7 @@ impl<'a, A: Account + Send + Sync, R: Wait + Sync, C: Clock + Sync> Source for G
 
     fn next(&self) -> Option<Link<Half, Half, Machine<'a, C>, Connection<'a, A, R>>> {
         for _ in 0..u64::MAX {
-            if !takes_one(&self.left) {
-                return None;
-            }
+            let share = self.left.lock(self.rt).take()?;
             match self.listener.accept() {
                 Ok((stream, _)) => {
                     if let Ok((reader, writer)) = halves(self.alloc, stream, self.patience) {
@@ -135,7 +165,7 @@ impl<'a, A: Account + Send + Sync, R: Wait + Sync, C: Clock + Sync> Source for G
                             reader,
                             writer,
                             clock: Machine::new(self.clock),
-                            service: Connection::new(self.rt, self.lock),
+                            service: Connection::new(self.rt, self.lock, share),
                             turns: TURNS,
                         });
                     }
@@ -162,12 +192,6 @@ impl<'a, A: Account + Send + Sync, R: Wait + Sync, C: Clock + Sync> Source for G
             let _ = read_on(self.clock, &link.reader.stream);
         }
     }
-}
-
-// Takes one of the connections that are left, if one is left. Two workers never take the same one.
-fn takes_one(left: &AtomicU64) -> bool {
-    left.fetch_update(Ordering::SeqCst, Ordering::SeqCst, |n| n.checked_sub(1))
-        .is_ok()
 }
 
 // A stream as its reader and its writer. Small replies are sent at once.

@@ -100,7 +100,7 @@ fn serve_all<R: Threads + Wait + Clock + Sync>(
     ensures { (result ≡ ListenerFault) ⊎ (result ≡ NoMemory) }
 {
     let patience = Duration::from_secs(PATIENCE);
-    let history = NewHistory::new();
+    let history = NewHistory::new(u64::MAX);
     match serve_on::<Brand, R, R>(
         rt,
         rt,

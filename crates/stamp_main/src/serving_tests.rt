@@ -1,6 +1,6 @@
 //! Both ends of connections in one process, on a port that the system gives. A client gives up after ten seconds, so each test ends by itself.
 //! Signatures, sums and replies were made outside of this repository's code.
-ghost use Rattle.std.specs.Prelude.{◌≡◌, IfOk, IsTrue};
+ghost use Rattle.std.specs.Prelude.{◌≡◌, ◌≤◌, IfOk, IsTrue};
 ghost use Rattle.stamp_values.specs.Names.{is_account};
 
 use crate::gate::serve_on;
@@ -182,6 +182,8 @@ fn both_ends<
     turns: &[Turn],
 ) -> io::Result<(bool, Option<usize>)>
     requires history { history.seen.book ≡ A.history }
+    requires shares { (history.shares.name ≡ A.name) × (history.shares.parts ≡ A.parts) }
+    requires one_each { connections ≤ history.shares.parts }
     requires keys { keys ≡ A.keys }
     requires named { IsTrue (is_account keys.account) }
 {
@@ -191,7 +193,8 @@ fn both_ends<
         rt,
         || -> bool
             requires { (history.seen.book ≡ A.history) × (keys ≡ A.keys)
-                × IsTrue (is_account keys.account) }
+                × (history.shares.name ≡ A.name) × (history.shares.parts ≡ A.parts)
+                × (connections ≤ history.shares.parts) × IsTrue (is_account keys.account) }
         {
             serve_on::<A, R, Noon>(
                 rt,
@@ -319,7 +322,7 @@ fn connections_are_served_over_loopback(rt: HostRuntime) -> Result<(), Fail> {
         let (served, differs) = both_ends::<Brand, _>(
             &rt,
             rt.alloc(),
-            NewHistory::new(),
+            NewHistory::new(connections),
             keys,
             workers,
             connections,
@@ -342,7 +345,7 @@ fn a_listener_that_fails_for_good_ends_serving(rt: HostRuntime) -> Result<(), Fa
         &rt,
         &Noon,
         rt.alloc(),
-        NewHistory::new(),
+        NewHistory::new(10),
         keys,
         &listener,
         2,
