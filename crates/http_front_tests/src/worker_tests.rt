@@ -119,9 +119,10 @@ impl Service for Counted<'_> {
     }
 }
 
-/// Gives two links. The first waits inside a body until the second is answered.
+/// Gives two links. The first is cut inside a body. If it waits, it waits there until the second is answered.
 #[derive(Drop)]
 struct Two<'a> {
+    waits: bool,
     told: &'a Told,
 }
 
@@ -137,7 +138,7 @@ impl<'a> Source for Two<'a> {
     fn next(&self) -> Option<Link<Script<'a>, Bell<'a>, Start, Counted<'a>>> {
         let told = self.told;
         let (bytes, is_patient) = match told.given.fetch_add(1, Ordering::SeqCst) {
-            0 => (CUT_PUT, true),
+            0 => (CUT_PUT, self.waits),
             1 => (GET, false),
             _ => return None,
         };
@@ -168,24 +169,47 @@ impl<'a> Source for Two<'a> {
     }
 }
 
-#[test]
-fn a_link_that_waits_inside_a_body_stops_no_other(rt: HostRuntime) {
-    let told = Told {
+fn untold() -> Told {
+    Told {
         given: AtomicU64::new(0),
         answered: AtomicBool::new(false),
         saw: AtomicBool::new(false),
         requests: AtomicU64::new(0),
         clean: AtomicU64::new(0),
         cut: AtomicU64::new(0),
-    };
-    work(&rt, rt.alloc(), 2, &Two { told: &told }).expect(&rt, "memory");
-    // With one worker, the reader of the first link would look in vain.
-    assert!(rt; told.saw.load(Ordering::SeqCst));
-    let ends = (
+    }
+}
+
+// How many links ended `Clean`, how many were cut, and how many requests came to the services.
+fn counts(told: &Told) -> (u64, u64, u64) {
+    (
         told.clean.load(Ordering::SeqCst),
         told.cut.load(Ordering::SeqCst),
-    );
-    assert_eq!(rt; ends, (1, 1));
+        told.requests.load(Ordering::SeqCst),
+    )
+}
+
+#[test]
+fn a_link_that_waits_inside_a_body_stops_no_other(rt: HostRuntime) {
+    let told = untold();
+    let two = Two {
+        waits: true,
+        told: &told,
+    };
+    work(&rt, rt.alloc(), 2, &two).expect(&rt, "memory");
+    // With one worker, the reader of the first link would look in vain.
+    assert!(rt; told.saw.load(Ordering::SeqCst));
     // The request whose body did not come reached no service.
-    assert_eq!(rt; told.requests.load(Ordering::SeqCst), 1);
+    assert_eq!(rt; counts(&told), (1, 1, 1));
+}
+
+#[test]
+fn a_worker_goes_on_after_a_link_that_was_cut(rt: HostRuntime) {
+    let told = untold();
+    let two = Two {
+        waits: false,
+        told: &told,
+    };
+    work(&rt, rt.alloc(), 1, &two).expect(&rt, "memory");
+    assert_eq!(rt; counts(&told), (1, 1, 1));
 }
