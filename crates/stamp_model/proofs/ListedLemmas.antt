@@ -1,5 +1,5 @@
 -- What a list of blobs shows of a blob.
-use Rattle.std.proofs.Common.{◌≡◌, ◌≢◌, ◌≤◌, ◌+◌, ℕ, zero, suc, arith, nat_eq, Bool, true, false, cond, List, [], ◌∷◌, ◌++◌, map, take, Option, Some, None, IfSome, refl, sym, ap, ◌∙◌, subst}
+use Rattle.std.proofs.Common.{◌≡◌, ◌≢◌, ◌≤◌, ◌+◌, ℕ, zero, suc, arith, nat_eq, Bool, true, false, cond, List, [], ◌∷◌, ◌++◌, length, map, take, Option, Some, None, IfSome, refl, sym, ap, ◌∙◌, subst}
 use Rattle.std.proofs.lemmas.List.Elements.{Contains-append_left, Contains-append_right}
 use Rattle.std.specs.Cmp.Lexicographic.{bytes_decides, pointwise}
 use Rattle.std.specs.FinMap.{entries}
@@ -24,7 +24,7 @@ use Rattle.body_forms.specs.ListEntries.{ShownBlob, ShownContainer}
 use Rattle.range_rows.specs.ObjectReplies.{blob_content, byte_count, date_headers, get_frame, kept_lines, ranged_bytes, ranged_frame, sizes, with_content}
 use Rattle.list_pages.specs.Containers.{before_end, end_of, of_account, or_else}
 use Rattle.list_pages.specs.Laws.{own_entry, shown_at}
-use Rattle.list_pages.specs.ListReplies.{blob_list_reply, page_asked}
+use Rattle.list_pages.specs.ListReplies.{blob_list_reply, containers_told, page_asked}
 use Rattle.list_pages.specs.Lists.{blob_list, given, page_of_blobs, page_of_containers, shown_container, shown_part}
 use Rattle.list_pages.specs.Pages.{Entry, from_marker, listed, with_value}
 use Rattle.list_pages.specs.Ranges.{key_of}
@@ -51,7 +51,7 @@ no_text_before [] less = cc
 no_text_before (b ∷ text) less = cc
 
 module _ {Y : Type 0} where
-  -- a marker that is past each entry of a page is not empty, if the page may have an entry and it is not empty in case there is nothing to list
+  -- a marker that is past each entry of a page is not empty, if the page may have an entry, and if no empty marker comes with an empty list
   next-filled : (max : ℕ) (items : List (Entry Y)) (next : Option (List ℕ)) → 1 ≤ max → (items ≡ [] → next ≢ Some [])
       → IfSome next (λ next. AllByRecursion (λ (entry : Entry Y). name_cmp entry.0 next ≡ Less) (take max items)) → next ≢ Some []
   next-filled zero items next some none past = absurd (omega arith)
@@ -59,6 +59,7 @@ module _ {Y : Type 0} where
   next-filled (suc n) (item ∷ items) next some none past = λ empty.
       no_text_before item.0 (subst (λ o. IfSome o (λ next. AllByRecursion (λ (entry : Entry Y). name_cmp entry.0 next ≡ Less) (take (suc n) (item ∷ items)))) empty past).0
 
+  -- an empty list leaves no entry out
   next-nothing : (max : ℕ) (items : List (Entry Y)) → items ≡ [] → option_map (λ (entry : Entry Y). entry.0) (slice_get items max) ≡ None
   next-nothing max items nothing = ap (λ items. option_map (λ (entry : Entry Y). entry.0) (slice_get items max)) nothing
 
@@ -119,6 +120,7 @@ module _ (w : World (List ℕ)) (key : Key) (list : Timed) (lists : ListsNames k
     lists-once IsTold c there told = record {
       page = page_of_blobs (page_asked list.request) part_listed;
       body = ap (λ (r : Reply). r.body) reply-listed;
+      told = ap (λ (r : Reply). r.length) reply-listed ∙ sym (ap (λ (r : Reply). length r.body) reply-listed);
       marked = blobs-next (page_asked list.request) part_listed;
       once = λ reaches. (
         shown_part (committed_value byte_count c),
@@ -132,6 +134,7 @@ module _ (w : World (List ℕ)) (key : Key) (list : Timed) (lists : ListsNames k
     lists-never unseen = record {
       page = page_of_blobs (page_asked list.request) part_listed;
       body = ap (λ (r : Reply). r.body) reply-listed;
+      told = ap (λ (r : Reply). r.length) reply-listed ∙ sym (ap (λ (r : Reply). length r.body) reply-listed);
       never =
           entry_none (page_asked list.request) part_listed name lists.plain
           (shown_at-committed part_listed name
@@ -204,16 +207,16 @@ listed-deleted w key name delete deletes free list lists none = lists-never (wor
 pub listed-container : (w : World (List ℕ)) (name : List ℕ) (list : Timed) → IsAsk list.request.ask → list.request.ask.op ≡ op.ListContainers → (reply_to_one w list).rule ≡ None
     → is_under list.bound (key_of list.request.ask.key.account name) ≡ true
     → ListsContainer list.request name (part_at w (key_of list.request.ask.key.account name)) (reply_to_one w list)
-listed-container w name list fits lists none under = record {
-  page = page_of_containers list.request.ask.key.account (page_asked list.request) list.bound w;
-  body =
-      ap (λ (r : Reply). r.body)
-      (reply-admitted list.keys w list.request list.moment list.bound (reply-unrefused list.keys w list.request list.moment list.bound none)
-      ∙ answer-listing list.request fits lists list.keys w list.moment list.bound);
-  marked =
-      containers-next list.request.ask.key.account (page_asked list.request) list.bound w name
-      (before_bound list.bound (key_of list.request.ask.key.account name) under);
-  once = λ reaches.
-      container_reached list.request.ask.key.account (page_asked list.request) list.bound w name
-      (before_bound list.bound (key_of list.request.ask.key.account name) under) reaches;
-}
+listed-container w name list fits lists none under =
+    let account : List ℕ = list.request.ask.key.account in
+    let asked : Page = page_asked list.request in
+    let listed : reply_to_one w list ≡ containers_told asked (page_of_containers account asked list.bound w) =
+    reply-admitted list.keys w list.request list.moment list.bound (reply-unrefused list.keys w list.request list.moment list.bound none)
+    ∙ answer-listing list.request fits lists list.keys w list.moment list.bound in
+    let before = before_bound list.bound (key_of account name) under in record {
+      page = page_of_containers account asked list.bound w;
+      body = ap (λ (r : Reply). r.body) listed;
+      told = ap (λ (r : Reply). r.length) listed ∙ sym (ap (λ (r : Reply). length r.body) listed);
+      marked = containers-next account asked list.bound w name before;
+      once = λ reaches. container_reached account asked list.bound w name before reaches;
+    }

@@ -1,5 +1,5 @@
 -- What a list of blobs shows (Blob service REST reference, 2012-02-12, "List Blobs", "Get Blob").
-use Rattle.std.specs.Prelude.{◌≡◌, ◌≢◌, ◌≤◌, ℕ, Bool, true, false, List, [], ◌∷◌, Contains, None, Some}
+use Rattle.std.specs.Prelude.{◌≡◌, ◌≢◌, ◌≤◌, ℕ, Bool, true, false, List, [], ◌∷◌, Contains, length, None, Some}
 use Rattle.stamp_values.specs.declared.key.Key.{Key}
 use Rattle.stamp_values.specs.declared.op.Op.{Op}
 use Rattle.stamp_values.specs.declared.op.Op.TheVariants as op
@@ -27,25 +27,29 @@ pub record ListsNames (key : Key) (q : Asked) : Type 0 where
   pub container : q.ask.key ≡ key
   pub plain : (page_asked q).delimiter ≡ None
 
--- the body of the reply is a page, and if this page reaches the name, it has exactly one entry of the name, of which this is true
+-- The body of the reply is a page, and the reply tells how many bytes it has. If this page reaches the name, it has exactly one entry of the
+-- name, of which this is true.
 pub record ListsOnce (q : Asked) (name : List ℕ) (listed : Reply) (IsShown : ShownBlob → Type 0) : Type 0 where
   pub page : PageOf ShownBlob
   pub body : listed.body ≡ blob_list_text (page_asked q) page.entries page.next
+  pub told : listed.length ≡ length listed.body
   -- if the page may have an entry, its next marker is not empty: so a page with an empty NextMarker reaches every name from its own marker on
   pub marked : 1 ≤ (page_asked q).max → page.next ≢ Some []
   pub once : Reaches (page_asked q) page.next name → (shown : ShownBlob) × (entries_at name page.entries ≡ (name, Some shown) ∷ []) × IsShown shown
 
--- the body of the reply is a page that has no entry of the name
+-- the body of the reply is a page, which has no entry of the name, and the reply tells how many bytes it has
 pub record ListsNever (q : Asked) (name : List ℕ) (listed : Reply) : Type 0 where
   pub page : PageOf ShownBlob
   pub body : listed.body ≡ blob_list_text (page_asked q) page.entries page.next
+  pub told : listed.length ≡ length listed.body
   pub never : entries_at name page.entries ≡ []
 
--- the body of the reply is a page of containers, and if this page reaches the name, it has exactly one entry of the name, which shows this
--- container if it exists, and else no entry of the name
+-- The body of the reply is a page of containers, and the reply tells how many bytes it has. If this page reaches the name, it has exactly one
+-- entry of the name, which shows this container if it exists, and else no entry of the name.
 pub record ListsContainer {C : Type 0} (q : Asked) (name : List ℕ) (p : Part C) (listed : Reply) : Type 0 where
   pub page : PageOf ShownContainer
   pub body : listed.body ≡ container_list_text (page_asked q) page.entries page.next
+  pub told : listed.length ≡ length listed.body
   -- as in `ListsOnce`
   pub marked : 1 ≤ (page_asked q).max → page.next ≢ Some []
   pub once : Reaches (page_asked q) page.next name → entries_at name page.entries ≡ own_entry name (shown_container p)
