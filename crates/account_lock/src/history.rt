@@ -188,10 +188,25 @@ impl<A: Account> Front<A> {
         }
     }
 
-    /// Adds an entry to all that is known, and returns whether it did. It did not if the history is longer than what is known.
-    pub fn add(&mut self, count: &EntryCount<A>, request: &Request, moment: Moment) -> bool
+    /// Adds an entry to all that is known, counts it in the share and in the sum of all shares, and returns whether it did. It did not
+    /// if the history is longer than what is known.
+    pub(crate) fn add(
+        &mut self,
+        count: &EntryCount<A>,
+        made: &mut Book<A>,
+        share: &mut Share<A>,
+        request: &Request,
+        moment: Moment,
+    ) -> bool
         requires room { length self.old < 2 ^ 62 }
-        ensures { MatchBool result (self.new ≡ self.old ++ entered request.now moment ∷ []) (IsLonger self.old self.new) }
+        requires part { 0 < share.old.parts }
+        ensures entry { MatchBool result (self.new ≡ self.old ++ entered request.now moment ∷ [])
+            (IsLonger self.old self.new) }
+        ensures sum { MatchBool result (made.new.total ≡ made.old.total + 1)
+            (made.new.total ≡ made.old.total) }
+        ensures share { MatchBool result (share.new.amount ≡ share.old.amount + 1)
+            (share.new.amount ≡ share.old.amount) }
+        ensures parts { share.new.parts ≡ share.old.parts }
     {
         let next = NextEntry { request, moment };
         let mut offer: Offer<Entry, u64, Counted, Nothing> = self
@@ -209,6 +224,9 @@ impl<A: Account> Front<A> {
                 &mut pen,
             );
         self.count = if found == known { known + 1 } else { found };
+        if found == known {
+            made.add(share, 1);
+        }
         found == known
     }
 }

@@ -8,7 +8,7 @@ mod lock;
 #[cfg(test)]
 mod lock_tests;
 
-pub use history::{Account, NewHistory};
+pub use history::{Account, Front, NewHistory};
 pub use laws::{
     a_connection_reads_its_own_writes, each_connection_reads_one_history, two_connections_agree,
 };

@@ -96,12 +96,11 @@ impl<A: Account> Locked<A> {
     {
         let mut front = self.whole(known)?;
         let reply = self.plain.answer_read(alloc, request, reading, moment)?;
-        if !front.add(count, request, moment) {
+        if !front.add(count, &mut self.made, share, request, moment) {
             // No other thread adds an entry while the lock is held.
             for _ in rt.forever() {}
             unreachable!()
         }
-        self.made.add(share, 1);
         *known = front.again();
         self.front = front;
         Ok(reply)
@@ -136,17 +135,18 @@ impl<A: Account> AccountLock<A> {
         Some((lock, share))
     }
 
-    /// How many entries the history has. Waits for the lock.
+    /// The history as far as it has come. Waits for the lock.
     ///
-    /// Whoever has all shares in one learns that connections made all of these entries, and nobody else made one.
-    pub fn entries<R: Wait>(&self, rt: &R, share: &mut Share<A>) -> u64
-        ensures all { share.old.parts ≡ A.parts → share.old.amount ≡ result }
-        ensures own { share.old.amount ≤ result }
+    /// The owner of a share learns that it has at least the entries that the share counts, and the owner of all shares in one learns
+    /// that it has no others.
+    pub fn history<R: Wait>(&self, rt: &R, share: &mut Share<A>) -> Front<A>
+        ensures all { share.old.parts ≡ A.parts → length result ≡ share.old.amount }
+        ensures own { share.old.amount ≤ length result }
         ensures same { (share.new.parts ≡ share.old.parts) × (share.new.amount ≡ share.old.amount) }
     {
         let mut locked = self.locked.lock(rt);
         locked.made.audit(share);
-        locked.front.len()
+        locked.front.again()
     }
 }
 

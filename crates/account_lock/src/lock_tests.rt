@@ -111,7 +111,7 @@ fn two_share<A: Account + Send + Sync, R: Threads + Wait + Abort + Sync>(
     made.merge(also);
     made.merge(writer.into_share());
     made.merge(reader.into_share());
-    assert!(rt; lock.entries(rt, &mut made) == 4);
+    assert!(rt; lock.history(rt, &mut made).len() == 4);
 }
 
 // The bytes of a key that signs.

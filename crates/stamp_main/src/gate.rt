@@ -55,6 +55,7 @@ struct Left<A: Account> {
 impl<A: Account> Left<A> {
     fn new(connections: u64, shares: Share<A>) -> Left<A>
         requires { (connections ≤ shares.parts) × (shares.amount ≡ 0) }
+        ensures { result.connections ≡ connections }
     {
         Left {
             connections,
