@@ -1,11 +1,12 @@
-"""What `./stamp` does if the program is not built yet. It runs in a small tree that is made for it, with a stub in the place of the
-toolchain, so nothing is built.
+"""What `./stamp` does if the program is not built yet, and what it says of bad words of `serve`. It runs in a small tree that is made for it,
+with a stub in the place of the toolchain, so nothing is built.
 
 Each function gives what was tried, what came of it, and what was wanted: the status, standard output and standard error.
 """
 import os
 import shutil
 import signal
+import socket
 import subprocess
 import sys
 import tempfile
@@ -13,9 +14,20 @@ import time
 from pathlib import Path
 
 ROOT = Path(__file__).resolve().parent.parent
-FILES = ("stamp", "HANDLES", "checks/start", "checks/tree.py", "checks/release.py")
+FILES = ("stamp", "HANDLES", "checks/start", "checks/tree.py", "checks/release.py", "checks/words.py")
 NEEDED = ("python3", "readlink", "dirname")
 SIGN = ["sign", "SmVmZQ=="]
+# Words of `serve` that are good, for an address of the documentation's network, at which no machine listens (RFC 5737).
+SERVED = ("192.0.2.1:10000", "64", "devstoreaccount1", "a2V5MQ==", "a2V5Mg==")
+USAGE = "usage: stamp sign KEY | stamp replay MOMENT ACCOUNT KEY1 KEY2 | stamp serve ADDRESS WORKERS ACCOUNT KEY1 KEY2\n"
+# For a place among these words, a bad word and what is said of it.
+BAD_WORDS = (
+    (1, "65", "WORKERS is a number from 1 to 64, in decimal digits without a zero before them, and not '65'"),
+    (2, "Account", "ACCOUNT is a name of 3 to 24 lower-case letters and digits, and not 'Account'"),
+    (3, "a2V5MQ", "KEY1 is not padded Base64: its length is a multiple of 4, with = at the end if need be"),
+    (4, "a2V5Mh==", "KEY2 is not padded Base64: its length is a multiple of 4, with = at the end if need be"),
+)
+IS_EMPTY = "is empty, and whoever guesses that can sign for the account. To have one key only, give it twice"
 OUT = "crates/stamp_main/out"
 NOT_BUILT = "stamp: the program was not built: "
 # Scripts that run in the place of the toolchain: it is asked to prove and to build, in a copy of the tree.
@@ -41,8 +53,8 @@ def make_path(folder):
         (folder / name).symlink_to(sys.executable if name == "python3" else shutil.which(name))
 
 
-def start(root, stub, program, **how):
-    """Starts `./stamp sign` of a tree, with a stub in the place of the toolchain, or without a toolchain if there is no stub."""
+def start(root, stub, program, words=SIGN, **how):
+    """Starts `./stamp` of a tree, with a stub in the place of the toolchain, or without a toolchain if there is no stub."""
     path = str(root.parent / "path")
     if stub:
         toolchain = root.parent / "bin" / "rt"
@@ -51,7 +63,7 @@ def start(root, stub, program, **how):
         path = f"{toolchain.parent}:{os.environ['PATH']}"
     how = {"stdin": subprocess.DEVNULL, "stdout": subprocess.PIPE, "stderr": subprocess.PIPE, "path": path, **how}
     environment = {"PATH": how.pop("path"), "PROGRAM": program, "TMPDIR": str(root.parent / "room")}
-    return subprocess.Popen([root / "stamp", *SIGN], env=environment, **how)
+    return subprocess.Popen([root / "stamp", *words], env=environment, **how)
 
 
 def ended(process):
@@ -113,6 +125,34 @@ def good_builds(root, program):
     os.close(folder)
 
 
+def bad_words(root, program):
+    """Each bad word of `serve` is told in one line, after the usage if the program would print it."""
+    def served(words):
+        return ended(start(root, NEVER_CALLED, program, ["serve", *words]))
+
+    for place, word, reason in BAD_WORDS:
+        words = [*SERVED[:place], word, *SERVED[place + 1 :]]
+        yield f"./stamp serve with {word} as its word {place + 1}", served(words), (2, b"", f"{USAGE}stamp: {reason}\n")
+    reason = "serve takes five words, ADDRESS WORKERS ACCOUNT KEY1 KEY2; 4 were given"
+    yield "./stamp serve with four words", served(SERVED[:4]), (2, b"", f"{USAGE}stamp: {reason}\n")
+    for place in (3, 4):
+        words = [*SERVED[:place], "", *SERVED[place + 1 :]]
+        yield f"./stamp serve with an empty word {place + 1}", served(words), (2, b"", f"stamp: KEY{place - 2} {IS_EMPTY}\n")
+
+
+def addresses_that_cannot_be_taken(root, program):
+    with socket.socket() as taken:
+        taken.bind(("127.0.0.1", 0))
+        taken.listen()
+        for address, why in (
+            (f"127.0.0.1:{taken.getsockname()[1]}", "Address already in use"),
+            (SERVED[0], "Cannot assign requested address"),
+            ("127.0.0.1", "an address is a host and a port, as in 127.0.0.1:10000"),
+        ):
+            wanted = f"stamp: the address {address} cannot be taken: {why}\n"
+            yield f"./stamp serve {address}", ended(start(root, NEVER_CALLED, program, ["serve", address, *SERVED[1:]])), (3, b"", wanted)
+
+
 def all_starts(program):
     with tempfile.TemporaryDirectory(prefix="stamp-start-") as folder:
         root = Path(folder).resolve() / "clone"
@@ -120,5 +160,5 @@ def all_starts(program):
         make_path(root.parent / "path")
         for name in ("bin", "room"):
             (root.parent / name).mkdir()
-        for tried in (what_is_missing, what_cannot_be_kept, builds_that_fail, good_builds):
+        for tried in (what_is_missing, what_cannot_be_kept, builds_that_fail, good_builds, bad_words, addresses_that_cannot_be_taken):
             yield from tried(root, program)

@@ -1,0 +1,78 @@
+"""What is wrong with the words of `serve`, before the program is started.
+
+The program answers bad words with its line of usage alone, and an address that cannot be taken with a status alone. `./stamp` adds the reason.
+"""
+import base64
+import binascii
+import re
+import socket
+
+# The statuses of the program for bad words, and for an address that cannot be taken.
+USAGE, NOT_TAKEN = 2, 3
+NAMES = ("ADDRESS", "WORKERS", "ACCOUNT", "KEY1", "KEY2")
+WORKERS, ACCOUNT = re.compile(r"[1-9]|[1-5][0-9]|6[0-4]"), re.compile(r"[a-z0-9]{3,24}")
+ADDRESS = re.compile(r"(.+):(\d+)")
+EMPTY = "is empty, and whoever guesses that can sign for the account. To have one key only, give it twice"
+
+
+def is_padded_base64(word):
+    try:
+        return base64.b64encode(base64.b64decode(word.encode(), validate=True)).decode() == word
+    except (binascii.Error, ValueError):
+        return False
+
+
+def fault_of_word(name, word):
+    """What is wrong with one word of `serve`, or None. The address is tried by itself."""
+    if name == "WORKERS" and not WORKERS.fullmatch(word):
+        return f"WORKERS is a number from 1 to 64, in decimal digits without a zero before them, and not {word!r}"
+    if name == "ACCOUNT" and not ACCOUNT.fullmatch(word):
+        return f"ACCOUNT is a name of 3 to 24 lower-case letters and digits, and not {word!r}"
+    if name.startswith("KEY") and not is_padded_base64(word):
+        # (a key is a secret, so it is not shown)
+        return f"{name} is not padded Base64: its length is a multiple of 4, with = at the end if need be"
+    return None
+
+
+def fault_of_words(words):
+    """What is wrong with the words after `serve` by which the program ends with its usage, or None."""
+    if len(words) != len(NAMES):
+        return f"serve takes five words, {' '.join(NAMES)}; {len(words)} {'was' if len(words) == 1 else 'were'} given"
+    return next(filter(None, map(fault_of_word, NAMES, words)), None)
+
+
+def empty_key(words):
+    """What is wrong with a key that the program takes, or None: an empty key is padded Base64."""
+    return next((f"{name} {EMPTY}" for name, word in zip(NAMES, words) if name.startswith("KEY") and not word), None)
+
+
+def why_not_taken(address):
+    """Why no program can listen at the address, or None if it was free just now."""
+    parts = ADDRESS.fullmatch(address)
+    if not parts or int(parts[2]) > 65_535:
+        return "an address is a host and a port, as in 127.0.0.1:10000"
+    try:
+        found = socket.getaddrinfo(parts[1].strip("[]"), int(parts[2]), type=socket.SOCK_STREAM, flags=socket.AI_PASSIVE)
+    except (OSError, UnicodeError) as error:
+        return getattr(error, "strerror", None) or str(error)
+    reason = None
+    for family, kind, protocol, _, place in found:
+        try:
+            with socket.socket(family, kind, protocol) as it:
+                it.setsockopt(socket.SOL_SOCKET, socket.SO_REUSEADDR, 1)
+                it.bind(place)
+                # A bound address may still belong to somebody who listens there.
+                it.listen(1)
+                return None
+        except OSError as error:
+            reason = error.strerror
+    return reason
+
+
+def fault_of_serve(words):
+    """What is wrong with the words after `serve`: the status and the reason, or None if the program can be started."""
+    fault = fault_of_words(words) or empty_key(words)
+    if fault:
+        return USAGE, fault
+    why = why_not_taken(words[0])
+    return (NOT_TAKEN, f"the address {words[0]} cannot be taken: {why}") if why else None
