@@ -19,7 +19,7 @@ ALL = 84_000
 
 
 def all_pages():
-    return sorted([tree.ROOT / "README.md", *tree.ROOT.glob("docs/**/*.md"), *tree.ROOT.glob("crates/*/README.md")])
+    return sorted([tree.ROOT / "README.md", *tree.ROOT.glob("docs/**/*.md"), tree.ROOT / "crates" / "README.md", *tree.ROOT.glob("crates/*/README.md")])
 
 
 def text_of(file):
