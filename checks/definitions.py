@@ -9,6 +9,11 @@ DEFINED = re.compile(r" *(?:pub (?:record|data)|(?:abbrev|unfoldable) pub) (\S+)
 FUNCTION = re.compile(r"( *)(pub |pub\(crate\) )?(?:const )?fn (\w+)")
 IMPLEMENTED = re.compile(r"impl(?:<[^{]*?>)? (?:.* for )?(\w+)")
 USE = re.compile(r"^\s*(pub |ghost |)use Rattle\.(\w+)\.specs\.(\w+)(?:\.\w+)*(?:\.\{([^}]*)\}| as (\w+))?;?$", re.M)
+DECLARED = re.compile(r" *pub (?:struct|enum|trait|type|const|(?:const )?fn) (\w+)")
+# The table of terms: its header, and the last two cells of a row.
+TERMS = re.compile(r"^\| Term \|.*\| Word \| Module \|\n\|[-|]+\|\n((?:\|.*\|\n)*)", re.M)
+TERM = re.compile(r"^\| (.*?) \|(.*)\| ([^|]*) \| ([^|]*) \|$", re.M)
+PLANNED = "planned"
 CITED = re.compile(r"[^\W\d][\w']*(?:\.[^\W\d][\w']*)?")
 
 
@@ -139,3 +144,52 @@ def citations():
                 for word in {origin(word, given) for word in cited_in(contract, words, files)}:
                     found[word].append((not is_public, crate != word.crate, name))
     return {word: list(dict.fromkeys(name for *_, name in sorted(of_word, key=lambda it: it[:2]))) for word, of_word in found.items()}
+
+
+def declared():
+    """For each word the files that make it public: by crate, the source file, or the file of definitions if no source file does."""
+    found = defaultdict(dict)
+    for crate, of_crate in modules().items():
+        for module in of_crate.values():
+            for word in module.words:
+                found[word][crate] = module.file
+        for file in sorted((tree.ROOT / "crates" / crate / "src").rglob("*.rt")):
+            for line in file.read_text(encoding="utf-8").splitlines():
+                if name := DECLARED.match(line):
+                    found[name[1]][crate] = file
+        found[crate][crate] = tree.ROOT / "crates" / crate / "README.md"
+    return found
+
+
+def places_of(word, found):
+    """The crates and files that have a word of a term. The word may have its crate before it."""
+    crate, _, name = word.rpartition("::")
+    return {of: file for of, file in found.get(name, {}).items() if crate in ("", of)}
+
+
+def module_cell(words, found):
+    """The modules that have the words of a term, each as a link, or that the term is planned."""
+    if words == PLANNED:
+        return f"*{PLANNED}*"
+    at = dict.fromkeys((crate, file) for word in re.findall(r"`(.*?)`", words) for crate, file in places_of(word, found).items())
+    cell = lambda crate, file: crate if file.name == "README.md" else f"{crate}/{file.stem}"
+    return ", ".join(f"[{cell(crate, file)}](../{file.relative_to(tree.ROOT)})" for crate, file in at)
+
+
+def with_modules_of_terms(page):
+    """A page whose table of terms has in its last column the modules of the words in the column before it."""
+    found = declared()
+    row = lambda it: f"| {it[1]} |{it[2]}| {it[3]} | {module_cell(it[3], found)} |"
+    return TERMS.sub(lambda table: table[0].replace(table[1], TERM.sub(row, table[1])), page)
+
+
+def unplaced_terms(page):
+    """Terms whose words no crate makes public, or more than one crate does."""
+    found = declared()
+    for table in TERMS.finditer(page):
+        for term, _, words, _ in TERM.findall(table[1]):
+            for word in re.findall(r"`(.*?)`", words) if words != PLANNED else ():
+                if len(places_of(word, found)) != 1:
+                    yield f"docs/definitions.md: {term}: {word} is in {', '.join(places_of(word, found)) or 'no crate'}"
+            if words != PLANNED and "`" not in words:
+                yield f"docs/definitions.md: {term} has no word in code, and is not {PLANNED}"

@@ -9,7 +9,7 @@ from pathlib import Path
 
 import tree
 
-RECORD = tree.ROOT / "edits-tried.txt"
+RECORD = tree.ROOT / "checks" / "edits-tried.txt"
 HEADING = """# Written by ./prove. A line for each must-fail edit that was tried last: the edit, the digest of the edit and of the files that it turns,
 # the digest of what else decides about it, the day, whether it was tried alone, together with others or both ways, or gave no answer in time, the
 # toolchain. docs/gate.md says what is in the digests.
@@ -72,17 +72,11 @@ def homes_of(texts):
     return {name: module_of(path) for path, text in texts.items() if path.startswith("src/") for name in TYPE.findall(text)}
 
 
-def stripped(text, path):
-    """A text of the crate without comments and blank lines."""
-    mark = "//" if path.endswith(".rt") else "--"
-    return "\n".join(line for line in text.split("\n") if line.strip() and not line.lstrip().startswith(mark))
-
-
 def statements(text, path):
     """What a source file says outside of the bodies of its functions."""
     lines = text.split("\n")
     inside = {at for it in functions(text, (), {}) for at in it.body}
-    return stripped("\n".join(line for at, line in enumerate(lines) if at not in inside), path)
+    return tree.stripped("\n".join(line for at, line in enumerate(lines) if at not in inside), path)
 
 
 @dataclass(frozen=True)
@@ -171,7 +165,7 @@ class Digests:
     def __init__(self, crate, root=tree.ROOT):
         self.texts = texts_of(crate, root)
         self.line = tree.lines_of_crates(root)[crate]
-        self.whole = {path: stripped(text, path) for path, text in self.texts.items()}
+        self.whole = {path: tree.stripped(text, path) for path, text in self.texts.items()}
         self.said = {path: statements(text, path) for path, text in self.texts.items() if path.startswith("src/")}
 
     def of(self, edit):
@@ -198,7 +192,7 @@ def read_record(file=RECORD):
         lines = [""]
     found = [LINE.fullmatch(it) for it in lines]
     if not all(found):
-        print("prove: edits-tried.txt is damaged, so every must-fail edit counts as owed", flush=True)
+        print("prove: checks/edits-tried.txt is damaged, so every must-fail edit counts as owed", flush=True)
         return {}
     return {it["edit"]: it for it in found}
 

@@ -12,14 +12,14 @@ FENCED = re.compile(r"^```.*?^```", re.S | re.M)
 SHORT_SENTENCES = ("README.md", "docs/using.md", "docs/theorem.md", "docs/architecture.md", "docs/gate.md")
 SENTENCE = 40
 # The most words of a page, and of all pages together, beside the lists that are generated.
-LIMITS = {"README.md": 1200, "docs/architecture.md": 2500, "docs/gate.md": 1300}
+LIMITS = {"README.md": 1200, "docs/architecture.md": 2500, "docs/gate.md": 1400}
 # It was 62,000 before the program was a server, 67,000 before the statement had a page of its files, 74,000 before partitions had streams, and
 # 80,000 before names were listed; a part that is added brings its own pages.
 ALL = 84_000
 
 
 def all_pages():
-    return sorted([tree.ROOT / "README.md", *tree.ROOT.glob("docs/**/*.md"), *tree.ROOT.glob("crates/*/README.md")])
+    return sorted([tree.ROOT / "README.md", *tree.ROOT.glob("docs/**/*.md"), tree.ROOT / "crates" / "README.md", *tree.ROOT.glob("crates/*/README.md")])
 
 
 def text_of(file):

@@ -4,6 +4,7 @@ from collections import defaultdict
 from typing import NamedTuple
 
 import definitions
+import layers
 import tree
 
 # The statement: what a replay writes, and how it ends.
@@ -78,23 +79,14 @@ def rests_on():
     return reached
 
 
-# The parts of the statement, and the crates whose definitions each part has.
-PARTS = {
-    "The replay": ("stamp_main",),
-    "From bytes to requests": ("http_front", "request_form", "name_rules"),
-    "Who may": ("access_rules", "shared_key", "hmac_sign", "base64_text", "sas_token", "container_acl"),
-    "The object, what changes it, and what is answered": ("stamp_model", "list_pages", "range_rows", "row_trees", "block_blobs", "body_forms", "stamp_types", "stamp_values", "moment_text"),
-    "From replies to bytes": ("reply_form",),
-}
-
-
 def modules():
-    """For each part of the statement, its files of definitions, each with the number of its definitions and of their lines."""
-    count, lines = defaultdict(int), defaultdict(int)
+    """For each layer that the statement reaches, the highest first, its files of definitions, each with the number of its definitions and of their
+    lines."""
+    count, lines, parts = defaultdict(int), defaultdict(int), {}
     for word, length in rests_on().items():
         count[word.crate, word.module] += 1
         lines[word.crate, word.module] += length
-    unknown = {crate for crate, _ in count} - {crate for crates in PARTS.values() for crate in crates}
-    if unknown:
-        raise ValueError(f"crates that are in no part of the statement: {', '.join(sorted(unknown))}")
-    return {part: [(at, count[at], lines[at]) for at in sorted(count, key=lambda it: (crates.index(it[0]), it[1]) if it[0] in crates else (99, "")) if at[0] in crates] for part, crates in PARTS.items()}
+    for layer in reversed(layers.layers()):
+        files = [at for crate in reversed(layer.crates) for at in sorted(count) if at[0] == crate]
+        parts |= {layer.name: [(at, count[at], lines[at]) for at in files]} if files else {}
+    return parts

@@ -14,6 +14,16 @@ ROOT = Path(__file__).resolve().parent.parent
 PROGRAM = "stamp_main"
 # What a proof reads of a crate.
 SOURCES = ("src", "specs", "proofs")
+# A part of a source file that may look like a comment or be one: a raw text, a text, a character, a comment. A quote after a letter belongs to a
+# name of a definition (the b of a byte apart), and a quote that no second one follows is of a lifetime. Each part begins with its mark, which is
+# found fast.
+PART = re.compile(
+    r"""'(?:(?<![\w']')|(?<=\bb'))(?:\\[^\n]?[^'\n]*|[^'\\\n])'|"(?<=\br")[^"]*"|"(?<=\br#").*?"#|"(?<=\bbr")[^"]*"|"(?<=\bbr#").*?"#"""
+    r"""|"(?:\\.|[^"\\])*"|/\*.*?\*/|//[^\n]*""",
+    re.S,
+)
+# What stands for the end of a line inside of a text, so that no line of the text is taken for a blank one.
+LINE_OF_TEXT = "\0"
 
 
 def lines_of_crates(root=ROOT):
@@ -23,30 +33,46 @@ def lines_of_crates(root=ROOT):
     return {line.partition(":")[0].split()[0]: line for line in lines if line}
 
 
-def with_crates_below(names):
-    """These crates and all crates of the repository that they depend on, in the order of crates.txt."""
-    lines, wanted, left = lines_of_crates(), set(), [*names]
+def named_by(line):
+    """The crates and the libraries that a line of crates.txt names after the crate itself."""
+    return line.partition(":")[2].split()
+
+
+def with_crates_below(names, root=ROOT):
+    """These crates and all crates of a tree that they depend on, in the order of crates.txt."""
+    lines, wanted, left = lines_of_crates(root), set(), [*names]
     while left:
         name = left.pop()
         if name in lines and name not in wanted:
             wanted.add(name)
-            left += lines[name].partition(":")[2].split()
+            left += named_by(lines[name])
     return [name for name in lines if name in wanted]
 
 
-def digest_of(names, parts, first="", root=ROOT):
-    """The digest of the lines of these crates in crates.txt, and of the names and contents of all files in these parts of them."""
-    whole, lines = hashlib.sha256(first.encode()), lines_of_crates(root)
-    for name in names:
-        whole.update(f"{lines[name]}\n".encode())
-        for file in sorted(it for part in parts for it in (root / "crates" / name / part).rglob("*") if it.is_file()):
-            whole.update(f"{file.relative_to(root)}\n{hashlib.sha256(file.read_bytes()).hexdigest()}\n".encode())
-    return whole.hexdigest()
+def stripped(text, path):
+    """A text of a crate without comments and blank lines. What looks like a comment inside of a text of the program stays."""
+    if path.endswith(".rt"):
+        text = PART.sub(lambda it: "" if it[0].startswith("//") else it[0].replace("\n", LINE_OF_TEXT), text)
+        return "\n".join(line.rstrip() for line in text.split("\n") if line.strip())
+    return "\n".join(line for line in text.split("\n") if line.strip() and not line.lstrip().startswith("--"))
+
+
+def what_decides(file):
+    """What a file of a crate says to the prover and to the compiler."""
+    if file.suffix not in (".rt", ".antt"):
+        return file.read_bytes()
+    return stripped(file.read_text(encoding="utf-8", errors="surrogateescape"), file.name).encode(errors="surrogateescape")
 
 
 def digest_of_program(root=ROOT):
-    """The digest of all that the program is built from in a tree, the toolchain apart."""
-    return digest_of(with_crates_below([PROGRAM]), SOURCES, (root / "HANDLES").read_text(encoding="utf-8"), root)
+    """The digest of all that the program is built from in a tree, the toolchain apart: the handles, and of each crate its line of crates.txt and
+    the names of its files with what each says. Comments, blank lines and the order of crates.txt do not count."""
+    whole, lines = hashlib.sha256((root / "HANDLES").read_bytes()), lines_of_crates(root)
+    for name in sorted(with_crates_below([PROGRAM], root)):
+        whole.update(f"{lines[name]}\n".encode())
+        for file in sorted(it for part in SOURCES for it in (root / "crates" / name / part).rglob("*") if it.is_file()):
+            whole.update(f"{file.relative_to(root)}\n{hashlib.sha256(what_decides(file)).hexdigest()}\n".encode())
+    return whole.hexdigest()
 
 
 def edit_files(name, root=ROOT):
@@ -63,7 +89,7 @@ def tests_in(name, root=ROOT):
 def crates_of_tests(root=ROOT):
     """The crates that hold only tests: libraries with tests on which no crate depends, in the order of crates.txt."""
     lines = lines_of_crates(root)
-    below = {it for line in lines.values() for it in line.partition(":")[2].split()}
+    below = {it for line in lines.values() for it in named_by(line)}
     is_library = lambda name: (root / "crates" / name / "src" / "lib.rt").is_file()
     return [name for name in lines if name not in below and is_library(name) and tests_in(name, root)]
 

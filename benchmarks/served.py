@@ -1,4 +1,4 @@
-"""A server that a check or a measurement starts, and signed requests to it."""
+"""A server that a script of this folder starts, and signed requests to it."""
 import email.utils
 import http.client
 import os
