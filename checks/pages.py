@@ -11,8 +11,9 @@ FENCED = re.compile(r"^```.*?^```", re.S | re.M)
 # The pages that people read first, which have no sentence of more words than SENTENCE.
 SHORT_SENTENCES = ("README.md", "docs/using.md", "docs/theorem.md", "docs/architecture.md", "docs/gate.md")
 SENTENCE = 40
-# The most words of a page, and of all pages together, beside the lists that are generated.
-LIMITS = {"README.md": 1200, "docs/architecture.md": 2500, "docs/gate.md": 1400}
+# The most words of a page, and of all pages together, beside the lists that are generated. README.md had 1,200 before it showed what the first
+# run prints, and named clients.
+LIMITS = {"README.md": 1400, "docs/architecture.md": 2500, "docs/gate.md": 1400}
 # It was 62,000 before the program was a server, 67,000 before the statement had a page of its files, 74,000 before partitions had streams, and
 # 80,000 before names were listed; a part that is added brings its own pages.
 ALL = 84_000

@@ -14,13 +14,29 @@ PAGES = ("docs/using.md", "docs/formats/tokens.md")
 REPLAY = ["replay", "2012-10-01T12:00:00Z", "devstoreaccount1", "a2V5MQ==", "a2V5Mg=="]
 # A command, perhaps a line about it, and perhaps what it prints.
 SHOWN = re.compile(r"^```sh\n(.*?)^```\n(?:\n[^`\n][^\n]*\n)?\n(?:```text\n(.*?)^```\n)?", re.S | re.M)
-# Where the README's server listens, and what stands for curl on a machine that does not have it.
-ADDRESS = "127.0.0.1:10000"
-CURL = """command -v curl > /dev/null || curl() { python3 -c '
-import sys, urllib.request
-sys.stdout.buffer.write(urllib.request.urlopen(sys.argv[1]).read())' "$1"; }
+# Where the server of the pages listens, and a curl that writes no progress. On a machine without curl, Python gets the body of the reply.
+ADDRESS = "127.0.0.1:10800"
+CURL = """curl() {
+    if type -P curl > /dev/null; then command curl -s "$@"; else python3 -c '
+import sys, urllib.error, urllib.request
+try:
+    reply = urllib.request.urlopen(sys.argv[1])
+except urllib.error.HTTPError as error:
+    reply = error
+sys.stdout.buffer.write(reply.read())' "$1"; fi
+}
 """
+DATE = re.compile(r"\w{3}, \d\d \w{3} \d{4} \d\d:\d\d:\d\d GMT")
 SIGNED = "x-ms-date: Mon, 01 Oct 2012 12:00:00 GMT\n"
+
+
+def run_shown(script, program):
+    """What a script prints on its two streams. A script that names the address of the pages gets a server of its own."""
+    run = ["bash", "-euc", CURL + script.replace("./stamp ", f"{shlex.quote(program)} ").replace(f"http://{ADDRESS}/devstoreaccount1", "$STAMP_URL")]
+    if ADDRESS in script:
+        run = [ROOT / "examples" / "with-stamp", "--program", program, *run]
+    ran = subprocess.run(run, cwd=ROOT, stdout=subprocess.PIPE, stderr=subprocess.PIPE, timeout=60)
+    return ran.stdout.decode(), ran.stderr
 
 
 def commands(program):
@@ -28,11 +44,10 @@ def commands(program):
     for page in PAGES:
         before = ""
         for number, (command, printed) in enumerate(SHOWN.findall((ROOT / page).read_text(encoding="utf-8")), 1):
-            command = command.replace("./stamp ", f"{shlex.quote(program)} ")
-            script = f"{{ {before}:\n}} >/dev/null\n{command}"
-            ran = subprocess.run(["bash", "-euc", script], cwd=ROOT, stdout=subprocess.PIPE, stderr=subprocess.PIPE, timeout=60)
-            yield f"{page}, command {number}", (ran.stdout.decode().replace("\r\n", "\n").rstrip("\n"), ran.stderr), (printed.rstrip("\n"), b"")
-            before += command
+            wrote, said = run_shown(f"{{ {before}:\n}} >/dev/null\n{command}", program)
+            yield f"{page}, command {number}", (wrote.replace("\r\n", "\n").rstrip("\n"), said), (printed.rstrip("\n"), b"")
+            # What was put to a server is not put again: each server begins without it.
+            before += "" if ADDRESS in command else command
 
 
 def free_address():
@@ -42,23 +57,27 @@ def free_address():
         return f"127.0.0.1:{it.getsockname()[1]}"
 
 
+def without_dates(text):
+    return DATE.sub("DATE", text)
+
+
 def served(program):
-    """The README's first run: a blob that is shared in a replay, then a server at a free address, and what its client gets. The server is
-    ended after that."""
-    serve, client, share = (command for command, _ in SHOWN.findall((ROOT / "README.md").read_text(encoding="utf-8")))
-    ran = subprocess.run(["bash", "-euc", share.replace("./stamp ", f"{shlex.quote(program)} ")], cwd=ROOT, capture_output=True, timeout=60)
+    """The README's first run: a blob that is shared in a replay, then a server at a free address, and what its client prints, but for the dates.
+    The server is ended after that."""
+    serve, client, share = SHOWN.findall((ROOT / "README.md").read_text(encoding="utf-8"))
+    ran = subprocess.run(["bash", "-euc", share[0].replace("./stamp ", f"{shlex.quote(program)} ")], cwd=ROOT, capture_output=True, timeout=60)
     wanted = (ROOT / "examples" / "share.replies").read_bytes()
     yield "README.md: a blob is shared", (ran.returncode, ran.stdout, ran.stderr), (0, wanted, b"")
     address = free_address()
-    words = shlex.split(serve.replace(ADDRESS, address))
+    words = shlex.split(serve[0].replace(ADDRESS, address))
     yield "README.md: the words of the server", (words[0], words[-1]), ("./stamp", "&")
     server = subprocess.Popen([program, *words[1:-1]], stdin=subprocess.DEVNULL, stdout=subprocess.PIPE, stderr=subprocess.PIPE)
     try:
-        yield "README.md: the line of the server", server.stdout.readline(), f"listening {address}\n".encode()
-        how = {"cwd": ROOT, "stdout": subprocess.PIPE, "stderr": subprocess.PIPE, "timeout": 60}
-        ran = subprocess.run(["bash", "-euc", CURL + client.replace(ADDRESS, address).replace("curl $", "curl -s $")], **how)
-        statuses = re.findall(rb"^(\d+) .*$", ran.stderr, re.M)
-        yield "README.md: the first run", (ran.returncode, ran.stdout, statuses), (0, b"hello", [b"201", b"201"])
+        yield "README.md: the line of the server", server.stdout.readline().decode(), serve[1].replace(ADDRESS, address)
+        script = CURL + client[0].replace(ADDRESS, address)
+        ran = subprocess.run(["bash", "-euc", script], cwd=ROOT, stdout=subprocess.PIPE, stderr=subprocess.STDOUT, timeout=60)
+        # (the blob has no line feed at its end)
+        yield "README.md: the first run", (ran.returncode, without_dates(ran.stdout.decode()) + "\n"), (0, without_dates(client[1]))
     finally:
         server.kill()
         said = server.communicate()

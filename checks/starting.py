@@ -147,7 +147,7 @@ def addresses_that_cannot_be_taken(root, program):
         for address, why in (
             (f"127.0.0.1:{taken.getsockname()[1]}", "Address already in use"),
             (SERVED[0], "Cannot assign requested address"),
-            ("127.0.0.1", "an address is a host and a port, as in 127.0.0.1:10000"),
+            ("127.0.0.1", "an address is a host and a port, as in 127.0.0.1:10800"),
         ):
             wanted = f"stamp: the address {address} cannot be taken: {why}\n"
             yield f"./stamp serve {address}", ended(start(root, NEVER_CALLED, program, ["serve", address, *SERVED[1:]])), (3, b"", wanted)

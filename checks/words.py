@@ -50,7 +50,7 @@ def why_not_taken(address):
     """Why no program can listen at the address, or None if it was free just now."""
     parts = ADDRESS.fullmatch(address)
     if not parts or int(parts[2]) > 65_535:
-        return "an address is a host and a port, as in 127.0.0.1:10000"
+        return "an address is a host and a port, as in 127.0.0.1:10800"
     try:
         found = socket.getaddrinfo(parts[1].strip("[]"), int(parts[2]), type=socket.SOCK_STREAM, flags=socket.AI_PASSIVE)
     except (OSError, UnicodeError) as error:

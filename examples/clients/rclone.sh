@@ -4,7 +4,7 @@
 # usage: examples/with-stamp examples/clients/rclone.sh
 #
 # STAMP_URL, STAMP_ACCOUNT and STAMP_KEY name the server; examples/with-stamp sets them. Each step prints a line. The session ends at the first step
-# that fails, with status 1. It makes two containers and deletes them at its end. No check of this repository needs rclone.
+# that fails, with status 1. It makes two containers and deletes them at its end. checks/clients runs it if rclone is here.
 #
 # rclone speaks a newer version of the service, so as-2012 stands between. A guest brings a token for one container, and the owner signs by the key.
 # rclone itself tries nothing twice here, so a request that fails is seen.
@@ -122,10 +122,10 @@ step "make it again" once mkdir "$second"
 step "copy up into a container that exists" once copy "$work/up" "$second"
 step "list the containers" has "$name
 $name-second" names_of_containers
-step "copy from one container to the other" once --disable copy copy "owner:$name" "$second/copied"
+step "copy from one container to the other" once --disable=copy copy "owner:$name" "$second/copied"
 step "check by download" once check --download "owner:$name" "$second/copied"
 step "a copy inside the service is refused" fails_by UnsupportedHeader once copyto "$second/a.txt" "$second/b.txt"
-step "copy through the client" once --disable copy copyto "$second/a.txt" "$second/b.txt"
+step "copy through the client" once --disable=copy copyto "$second/a.txt" "$second/b.txt"
 step "delete a container with its files" once purge "$second"
 step "delete the other" once purge "owner:$name"
 step "list no container" has "" names_of_containers
