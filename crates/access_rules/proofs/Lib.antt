@@ -3,6 +3,7 @@ pub mod JudgeLemmas
 pub mod KeyLemmas
 pub mod LetterLemmas
 pub mod RouteLaw
+pub mod SignatureLemmas
 pub mod TokenLaws
 pub mod TokenLemmas
 pub mod TokenRouteLaw

@@ -15,7 +15,7 @@ use Rattle.sas_token.specs.Tokens.{Sent}
 use Rattle.sas_token.specs.declared.token.Resource.{Resource}
 use Rattle.sas_token.specs.declared.token.Resource.TheVariants.{Container, Blob}
 use Rattle.sas_token.proofs.TokenLemmas.{one_token}
-use Rattle.container_acl.specs.JoinedFields.{fields_with}
+use Rattle.container_acl.specs.JoinedFields.{acl_or_closed, fields_with}
 use Rattle.container_acl.specs.declared.fields.Fields.{Fields}
 use Rattle.access_rules.specs.declared.keys.Keys.{Keys}
 use Rattle.access_rules.specs.declared.needs.Letter.{Letter}
@@ -24,7 +24,7 @@ use Rattle.access_rules.specs.Needs.{need_of}
 use Rattle.access_rules.specs.Openings.{is_about_containers, lists_blobs, names_operation, reads_blob, writes_blob, deletes_blob}
 use Rattle.access_rules.specs.Routes.{ByToken}
 use Rattle.access_rules.specs.Rules.{first_rule}
-use Rattle.access_rules.specs.TokenParts.{acl_or_closed, allows}
+use Rattle.access_rules.specs.TokenParts.{allows}
 use Rattle.access_rules.proofs.TokenRouteLaw.{by_token, given_by}
 
 -- ---- letters

@@ -12,14 +12,14 @@ use Rattle.stamp_types.specs.declared.rule.Rule.TheVariants.{S1, S2, S3, S4, S5,
 use Rattle.sas_token.specs.Tokens.{Sent}
 use Rattle.sas_token.specs.declared.token.Resource.{Resource}
 use Rattle.sas_token.specs.declared.token.Resource.TheVariants.{Container, Blob}
-use Rattle.container_acl.specs.JoinedFields.{policy_of, start_of, expiry_of, letters_of, both_give, neither_gives, names_unknown_policy, gives_twice, lacks_field, joined, whole, with_policy}
+use Rattle.container_acl.specs.JoinedFields.{acl_or_closed, policy_of, start_of, expiry_of, letters_of, both_give, neither_gives, names_unknown_policy, gives_twice, lacks_field, joined, whole, with_policy}
 use Rattle.container_acl.specs.declared.fields.FieldFault.TheVariants.{Absent, Both}
 use Rattle.access_rules.specs.declared.keys.Keys.{Keys}
 use Rattle.access_rules.specs.declared.needs.Letter.{Letter}
 use Rattle.access_rules.specs.Needs.{need_of}
 use Rattle.access_rules.specs.Parts.{keys_for, is_signed}
 use Rattle.access_rules.specs.Rules.{first_rule, some_passes}
-use Rattle.access_rules.specs.TokenParts.{token_in, is_named, names_resource, text_of, acl_or_closed, given_once, allows}
+use Rattle.access_rules.specs.TokenParts.{token_in, is_named, names_resource, text_of, given_once, allows}
 use Rattle.access_rules.specs.TokenRoute.{rule_of_given, token_rule}
 
 -- ---- what a request names

@@ -15,7 +15,7 @@ use Rattle.sas_token.specs.Tokens.{Sent}
 use Rattle.sas_token.specs.declared.token.Resource.{Resource}
 use Rattle.sas_token.specs.declared.token.Resource.TheVariants.{Container, Blob}
 use Rattle.sas_token.proofs.ReadingLemmas.{token_complete, token_sound}
-use Rattle.container_acl.specs.JoinedFields.{policy_with, policy_of, start_of, expiry_of, letters_of, names_unknown_policy, both_give, joined, whole, with_policy, fields_with, HasOneGiver, HaveOneGiver}
+use Rattle.container_acl.specs.JoinedFields.{acl_or_closed, policy_with, policy_of, start_of, expiry_of, letters_of, names_unknown_policy, both_give, joined, whole, with_policy, fields_with, HasOneGiver, HaveOneGiver}
 use Rattle.container_acl.specs.declared.fields.Fields.{Fields}
 use Rattle.container_acl.specs.declared.fields.FieldFault.{FieldFault}
 use Rattle.container_acl.specs.declared.fields.FieldFault.TheVariants.{Absent, Both, Lacks}
@@ -26,7 +26,7 @@ use Rattle.access_rules.specs.Needs.{need_of}
 use Rattle.access_rules.specs.Parts.{keys_for, is_signed}
 use Rattle.access_rules.specs.Routes.{ByToken, NamesPolicy}
 use Rattle.access_rules.specs.Rules.{first_rule, some_passes}
-use Rattle.access_rules.specs.TokenParts.{token_in, is_named, names_resource, text_of, acl_or_closed, allows}
+use Rattle.access_rules.specs.TokenParts.{token_in, is_named, names_resource, text_of, allows}
 use Rattle.access_rules.specs.TokenRoute.{rule_of_letter, rule_of_fields, rule_of_given, rule_of_token, token_rule}
 use Rattle.access_rules.proofs.KeyLemmas.{keys_found, found_keys, either, of_either}
 use Rattle.access_rules.proofs.TokenLemmas.{container_named, blob_named, first_token_rule}
@@ -215,7 +215,7 @@ is_some-there : {A : Type 0} (o : Option A) → IsSome o → is_some o ≡ true
 is_some-there None there = cc
 is_some-there (Some x) there = refl
 
-names_if : (q : Ask) (r : Resource) → q.key.container ≢ [] → (r ≡ Blob → IsSome q.blob) → names_resource q r ≡ true
+pub names_if : (q : Ask) (r : Resource) → q.key.container ≢ [] → (r ≡ Blob → IsSome q.blob) → names_resource q r ≡ true
 names_if q Container some blob = is_named-some q.key.container some
 names_if q Blob some blob = (λ i. is_named-some q.key.container some i && is_some-there q.blob (blob refl) i)
 

@@ -11,7 +11,7 @@ use Rattle.stamp_types.specs.declared.ask.Ask.{Ask}
 use Rattle.stamp_types.specs.declared.rule.Rule.{Rule}
 use Rattle.stamp_types.specs.declared.rule.Rule.TheVariants.{K1, K2, K3, K4, K5, S1, S2, S3, S4, S5, S6, S7, S8, S9, S10, S11, P1, P2}
 use Rattle.sas_token.specs.Tokens.{Sent}
-use Rattle.container_acl.specs.JoinedFields.{policy_of, start_of, expiry_of, letters_of, names_unknown_policy, gives_twice, lacks_field}
+use Rattle.container_acl.specs.JoinedFields.{acl_or_closed, policy_of, start_of, expiry_of, letters_of, names_unknown_policy, gives_twice, lacks_field}
 use Rattle.container_acl.specs.PublicAccess.{permits}
 use Rattle.access_rules.specs.declared.judgement.Verdict.{Verdict}
 use Rattle.access_rules.specs.declared.judgement.Verdict.TheVariants.{Allow, Deny}
@@ -20,7 +20,7 @@ use Rattle.access_rules.specs.declared.judgement.Way.TheVariants as way
 use Rattle.access_rules.specs.declared.keys.Keys.{Keys}
 use Rattle.access_rules.specs.Needs.{need_of}
 use Rattle.access_rules.specs.Parts.{claim_of, keys_for, date_in, string_of, is_far, is_signed}
-use Rattle.access_rules.specs.TokenParts.{token_in, names_resource, text_of, acl_or_closed, given_once, allows}
+use Rattle.access_rules.specs.TokenParts.{token_in, names_resource, text_of, given_once, allows}
 
 -- the request asks by the key of an account
 abbrev pub on_key : Credential → Bool

@@ -1,9 +1,7 @@
 -- The parts of a request that the rules of the signature route judge (Blob service REST reference, 2012-02-12, Delegating Access with
 -- a Shared Access Signature).
 use Rattle.std.specs.Prelude.{ℕ, Bool, true, false, ◌&&◌, is_some, List, [], ◌∷◌, Option, Some, None}
-use Rattle.stamp_values.specs.Acls.{closed_acl}
 use Rattle.stamp_values.specs.Letters.{Permissions}
-use Rattle.stamp_values.specs.declared.acl.Acl.{Acl}
 use Rattle.stamp_types.specs.declared.ask.Ask.{Ask}
 use Rattle.sas_token.specs.TokenReading.{token_of}
 use Rattle.sas_token.specs.Tokens.{Sent, token_string}
@@ -29,11 +27,6 @@ names_resource q Blob = is_named q.key.container && is_some q.blob
 -- the string that the maker of the token signed, if the token is for what the request names
 abbrev pub text_of : Ask → Sent → List ℕ
 text_of q token = token_string token q.key q.blob
-
--- what the container says; a container that does not exist says what a closed container says, and has no policies
-abbrev pub acl_or_closed : Option Acl → Acl
-acl_or_closed None = closed_acl
-acl_or_closed (Some acl) = acl
 
 -- the field that a token and its policy give together; a field that both give has no value
 abbrev pub given_once : {A : Type 0} → Option A → Option A → Option A

@@ -6,7 +6,7 @@ use Rattle.stamp_types.specs.declared.ask.Ask.{Ask}
 use Rattle.stamp_types.specs.declared.rule.Rule.{Rule}
 use Rattle.stamp_types.specs.declared.rule.Rule.TheVariants.{S1, S2, S3, S4, S5, S6, S7, S8, S9, S10, S11}
 use Rattle.sas_token.specs.Tokens.{Sent}
-use Rattle.container_acl.specs.JoinedFields.{fields_with}
+use Rattle.container_acl.specs.JoinedFields.{acl_or_closed, fields_with}
 use Rattle.container_acl.specs.declared.fields.Fields.{Fields}
 use Rattle.container_acl.specs.declared.fields.FieldFault.{FieldFault}
 use Rattle.container_acl.specs.declared.fields.FieldFault.TheVariants.{Absent, Both, Lacks}
@@ -15,7 +15,7 @@ use Rattle.access_rules.specs.declared.needs.Letter.{Letter}
 use Rattle.access_rules.specs.Needs.{need_of}
 use Rattle.access_rules.specs.Parts.{keys_for, is_signed}
 use Rattle.access_rules.specs.Rules.{some_passes}
-use Rattle.access_rules.specs.TokenParts.{names_resource, text_of, acl_or_closed, allows}
+use Rattle.access_rules.specs.TokenParts.{names_resource, text_of, allows}
 
 -- the rule on the letter that an operation needs, if these are the permissions
 abbrev pub rule_of_letter : Option Letter → Fields → Option Rule

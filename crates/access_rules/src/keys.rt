@@ -1,13 +1,13 @@
 //! The keys of accounts.
 
 use hmac_sign::SigningKey;
-use stamp_types::Text;
+use stamp_types::AccountName;
 use std::fmt;
 
 /// The pair of keys of an account. A signature by either key is accepted. `epoch` is how often the pair was replaced.
 #[derive(Clone, PartialEq, Eq, Drop)]
 pub struct Keys {
-    pub account: Text,
+    pub account: AccountName,
     pub first: SigningKey,
     pub second: SigningKey,
     pub epoch: u64,

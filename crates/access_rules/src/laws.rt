@@ -6,7 +6,7 @@ ghost use Rattle.stamp_values.specs.declared.signing.Credential.TheVariants.{Ano
 ghost use Rattle.stamp_types.specs.Operations.{writes};
 ghost use Rattle.stamp_types.specs.declared.ask.Ask.{Ask};
 ghost use Rattle.stamp_types.specs.declared.rule.Rule.TheVariants.{P1};
-ghost use Rattle.container_acl.specs.Acls.{closed_acl};
+ghost use Rattle.stamp_values.specs.Acls.{closed_acl};
 ghost use Rattle.access_rules.specs.declared.keys.Keys.{Keys};
 ghost use Rattle.access_rules.specs.Openings.{reads_blob_data, reads_container_data};
 ghost use Rattle.access_rules.specs.Rules.{first_rule};

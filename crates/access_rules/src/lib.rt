@@ -3,15 +3,17 @@
 
 mod judge;
 mod judgement;
+mod key_route;
 mod keys;
 mod laws;
 mod needs;
 mod parts;
+mod signatures;
 mod token_laws;
 mod token_parts;
 mod token_route;
 
-pub use judge::{has_false_signature, verdict};
+pub use judge::{verdict, verdict_judged, verdict_vouched};
 pub use judgement::{Verdict, Way};
 pub use keys::Keys;
 pub use laws::{
@@ -19,6 +21,7 @@ pub use laws::{
     no_rule_holds_if_and_only_if_the_own_route_admits, nobody_writes_by_public_access,
 };
 pub use needs::{Letter, Need, need_of};
+pub use signatures::{a_true_signature_is_the_routes_own, has_false_signature, has_true_signature};
 pub use token_laws::{
     a_token_has_one_time, each_letter_opens_what_it_names, no_token_reaches_a_container_itself,
 };

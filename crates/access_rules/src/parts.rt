@@ -7,6 +7,7 @@ use crate::keys::Keys;
 use hmac_sign::SigningKey;
 use moment_text::read_http;
 use shared_key::{Authorization, key_string, read_authorization};
+use stamp_types::header_names::{DATE, OWN_DATE};
 use stamp_types::{Ask, Bytes, FieldList, Moment, Text};
 use std::alloc::{AllocError, Global};
 
@@ -25,7 +26,7 @@ pub(crate) fn keys_for<'a>(keys: Option<&'a Keys>, account: &Text) -> Option<&'a
     ensures { option_copied result ≡ keys_for (option_copied keys.entry) account.now }
 {
     let pair = keys?;
-    if pair.account == *account {
+    if pair.account.as_str() == account.as_str() {
         Some(pair)
     } else {
         None
@@ -36,7 +37,9 @@ pub(crate) fn keys_for<'a>(keys: Option<&'a Keys>, account: &Text) -> Option<&'a
 fn date_text(headers: &FieldList) -> Option<&[u8]>
     ensures { option_map (λ text. text.now) result ≡ date_text headers.now }
 {
-    headers.first(b"x-ms-date").or(headers.first(b"date"))
+    headers
+        .first(OWN_DATE.as_bytes())
+        .or(headers.first(DATE.as_bytes()))
 }
 
 /// The moment that the request's date names. `None` if no date was sent, or if it is not a date of HTTP.

@@ -1,15 +1,13 @@
 //! The parts of a request that the rules of the signature route judge.
-ghost use Rattle.std.specs.Prelude.{◌≡◌, IfOk, IsTrue, option_copied};
+ghost use Rattle.std.specs.Prelude.{◌≡◌, IfOk, IsTrue};
 ghost use Rattle.access_rules.specs.Parts.{is_signed};
 ghost use Rattle.access_rules.specs.TokenParts as parts;
-ghost use Rattle.container_acl.specs.JoinedFields.{fields_with};
 
 use crate::keys::Keys;
 use crate::needs::Letter;
 use crate::parts::signs;
-use container_acl::{Acl, FieldFault, Fields, fields_with};
 use sas_token::{Resource, Token, read_token, token_string};
-use stamp_types::{Ask, Letters, Level, Policies, Text};
+use stamp_types::{Ask, Letters, Text};
 use std::alloc::{AllocError, Global};
 
 /// The token that the query of a request is, if the query is a token.
@@ -53,26 +51,6 @@ pub(crate) fn is_token_signed(
 {
     let string = token_string(alloc, token, &ask.key, ask.blob.as_ref())?;
     signs(alloc, keys, &string, token.signature)
-}
-
-/// What a token and the policy that it names give together. A container that does not exist has no policies.
-pub(crate) fn given_fields(
-    alloc: Global,
-    acl: Option<&Acl>,
-    token: &Token<'_>,
-) -> Result<Fields, FieldFault>
-    ensures { result ≡ fields_with (parts.acl_or_closed (option_copied acl.entry)) token.now }
-{
-    match acl {
-        Some(acl) => fields_with(acl, token),
-        None => {
-            let closed = Acl {
-                level: Level::Closed,
-                policies: Policies::empty(alloc),
-            };
-            fields_with(&closed, token)
-        }
-    }
 }
 
 /// Whether the permissions have the letter.

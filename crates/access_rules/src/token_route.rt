@@ -1,18 +1,24 @@
-//! The rules of the signature route.
-ghost use Rattle.std.specs.Prelude.{◌≡◌, IfOk, IsErr, IsTrue, Some, option_copied};
+//! The signature route: what is judged before the signature, the signature, and the rules after it.
+ghost use Rattle.std.specs.Prelude.{◌≡◌, ℕ, false, true, not, IfErr, IfOk, IsErr, IsTrue, if◌then◌else◌, Option, Some, option_copied};
+ghost use Rattle.stamp_values.specs.declared.acl.Acl.{Acl};
 ghost use Rattle.stamp_values.specs.declared.signing.Credential.TheVariants as credential;
+ghost use Rattle.stamp_types.specs.declared.rule.Rule.TheVariants.{S4};
+ghost use Rattle.access_rules.specs.declared.judgement.Way.TheVariants as way;
 ghost use Rattle.access_rules.specs.Needs.{need_of};
-ghost use Rattle.access_rules.specs.Rules.{has_false_token, has_signature, needs_signature};
+ghost use Rattle.access_rules.specs.Parts.{keys_for};
+ghost use Rattle.access_rules.specs.Rules.{has_false_signature, has_false_token, has_signature, needs_signature, some_passes, verdict_by, verdict_of};
+ghost use Rattle.access_rules.specs.Signatures.{has_true_token};
 ghost use Rattle.access_rules.specs.TokenParts as parts;
 ghost use Rattle.access_rules.specs.TokenRoute as route;
 
+use crate::judgement::{Verdict, Way};
 use crate::keys::Keys;
 use crate::needs::need_of;
 use crate::parts::keys_for;
-use crate::token_parts::{allows, given_fields, is_token_signed, names_resource, token_in};
-use container_acl::{Acl, FieldFault, Fields};
+use crate::token_parts::{allows, is_token_signed, names_resource, token_in};
+use container_acl::{FieldFault, Fields, fields_with};
 use sas_token::Token;
-use stamp_types::{Ask, Moment, Rule};
+use stamp_types::{Acl, Ask, Moment, Rule};
 use std::alloc::{AllocError, Global};
 
 // The rule on the letter that the operation needs.
@@ -50,7 +56,6 @@ fn rule_of_fields(ask: &Ask, now: Moment, fields: &Fields) -> Option<Rule>
 
 // The first rule after the signature that holds: what token and policy give together, the moment, and the letter.
 fn rule_after_signature(
-    alloc: Global,
     acl: Option<&Acl>,
     ask: &Ask,
     token: &Token<'_>,
@@ -59,7 +64,7 @@ fn rule_after_signature(
     ensures { result
         ≡ route.rule_after_signature (option_copied acl.entry) ask.now now token.now }
 {
-    match given_fields(alloc, acl, token) {
+    match fields_with(acl, token) {
         Ok(fields) => rule_of_fields(ask, now, &fields),
         Err(FieldFault::Absent) => Some(Rule::S5),
         Err(FieldFault::Both) => Some(Rule::S6),
@@ -67,35 +72,80 @@ fn rule_after_signature(
     }
 }
 
-/// Whether neither key of the path's account gives the signature of the request's token: rule S4 by itself.
+// What is left to judge after the rules before the signature: the token, and the keys of the path's account.
+#[derive(Drop)]
+struct Brought<'a> {
+    token: Token<'a>,
+    pair: &'a Keys,
+}
+
+// The token and the keys, or the first rule of S1 to S3 that holds.
+fn before_signature<'a>(keys: Option<&'a Keys>, ask: &'a Ask) -> Result<Brought<'a>, Rule>
+    requires { ask.now.credential ≡ credential.Token }
+    ensures brought { IfOk result (λ left.
+        (parts.token_in ask.now ≡ Some left.token)
+        × (keys_for (option_copied keys.entry) ask.now.key.account ≡ Some left.pair.now)
+        × (parts.names_resource ask.now left.token.resource ≡ true)) }
+    ensures refused { IfErr result (λ rule. (acl : Option Acl) (t : ℕ)
+        → route.token_rule (option_copied keys.entry) acl ask.now t (parts.token_in ask.now)
+        ≡ Some rule) }
+    ensures unsigned { IsErr result
+        → (has_true_token (option_copied keys.entry) ask.now ≡ false)
+        × (has_false_token (option_copied keys.entry) ask.now ≡ false) }
+{
+    let Some(token) = token_in(ask) else {
+        return Err(Rule::S1);
+    };
+    let Some(pair) = keys_for(keys, &ask.key.account) else {
+        return Err(Rule::S2);
+    };
+    if !names_resource(ask, token.resource) {
+        return Err(Rule::S3);
+    }
+    Ok(Brought { token, pair })
+}
+
+/// Whether one of the two keys gives the signature of the request's token. `None` if one of the rules S1 to S3 holds.
 ///
 /// `AllocError` if memory runs out for the string to sign or for a signature.
-pub(crate) fn is_false_token(
+pub(crate) fn is_true_token(
     alloc: Global,
     keys: Option<&Keys>,
     ask: &Ask,
-) -> Result<bool, AllocError>
+) -> Result<Option<bool>, AllocError>
     requires { ask.now.credential ≡ credential.Token }
-    ensures value { IfOk result (λ it. it ≡ has_false_token (option_copied keys.entry) ask.now) }
+    ensures true_one { IfOk result (λ it.
+        some_passes (λ is. is) it ≡ has_true_token (option_copied keys.entry) ask.now) }
+    ensures false_one { IfOk result (λ it.
+        some_passes (λ is. not is) it ≡ has_false_token (option_copied keys.entry) ask.now) }
     ensures memory { IsErr result → IsTrue (has_signature (option_copied keys.entry) ask.now) }
 {
-    let Some(token) = token_in(ask) else {
-        return Ok(false);
+    let Ok(left) = before_signature(keys, ask) else {
+        return Ok(None);
     };
-    let Some(pair) = keys_for(keys, &ask.key.account) else {
-        return Ok(false);
-    };
-    if !names_resource(ask, token.resource) {
-        return Ok(false);
-    }
-    let signed = is_token_signed(alloc, pair, ask, &token)?;
-    Ok(!signed)
+    let signed = is_token_signed(alloc, left.pair, ask, &left.token)?;
+    Ok(Some(signed))
 }
 
-/// The first rule of the signature route that holds.
-///
-/// `AllocError` if memory runs out for the string to sign or for a signature; then no rule before the signature holds.
-pub(crate) fn rule_by_token(
+// The first rule from S4 on that holds, if it is known whether the signature is false.
+fn rule_from_signature(
+    acl: Option<&Acl>,
+    ask: &Ask,
+    token: &Token<'_>,
+    now: Moment,
+    is_false: bool,
+) -> Option<Rule>
+    ensures { result ≡ if is_false then Some S4
+        else route.rule_after_signature (option_copied acl.entry) ask.now now token.now }
+{
+    if is_false {
+        return Some(Rule::S4);
+    }
+    rule_after_signature(acl, ask, token, now)
+}
+
+// The first rule of the signature route that holds.
+fn rule_by_token(
     alloc: Global,
     keys: Option<&Keys>,
     acl: Option<&Acl>,
@@ -107,18 +157,75 @@ pub(crate) fn rule_by_token(
         (option_copied acl.entry) ask.now now (parts.token_in ask.now)) }
     ensures memory { IsErr result → IsTrue (needs_signature (option_copied keys.entry) ask.now now) }
 {
-    let Some(token) = token_in(ask) else {
-        return Ok(Some(Rule::S1));
+    let left = match before_signature(keys, ask) {
+        Ok(left) => left,
+        Err(rule) => return Ok(Some(rule)),
     };
-    let Some(pair) = keys_for(keys, &ask.key.account) else {
-        return Ok(Some(Rule::S2));
-    };
-    if !names_resource(ask, token.resource) {
-        return Ok(Some(Rule::S3));
+    let signed = is_token_signed(alloc, left.pair, ask, &left.token)?;
+    Ok(rule_from_signature(acl, ask, &left.token, now, !signed))
+}
+
+// The same, if it is known whether the signature is false.
+fn rule_by_judged_token(
+    keys: Option<&Keys>,
+    acl: Option<&Acl>,
+    ask: &Ask,
+    now: Moment,
+    is_false: bool,
+) -> Option<Rule>
+    requires asks { ask.now.credential ≡ credential.Token }
+    requires judged { is_false ≡ has_false_signature (option_copied keys) ask.now }
+    ensures { result ≡ route.token_rule (option_copied keys.entry)
+        (option_copied acl.entry) ask.now now (parts.token_in ask.now) }
+{
+    match before_signature(keys, ask) {
+        Ok(left) => rule_from_signature(acl, ask, &left.token, now, is_false),
+        Err(rule) => Some(rule),
     }
-    let signed = is_token_signed(alloc, pair, ask, &token)?;
-    if !signed {
-        return Ok(Some(Rule::S4));
+}
+
+// The verdict by the first rule that holds.
+fn token_verdict(rule: Option<Rule>) -> Verdict
+    ensures { result ≡ verdict_by rule way.Token }
+{
+    match rule {
+        Some(rule) => Verdict::Deny(rule),
+        None => Verdict::Allow(Way::Token),
     }
-    Ok(rule_after_signature(alloc, acl, ask, &token, now))
+}
+
+/// The verdict on a request that asks by a token.
+///
+/// `AllocError` if memory runs out for the string to sign or for a signature; then no rule before the signature holds.
+#[tactic(auto, using(crate::proofs::TokenLemmas::first_token_rule))]
+pub(crate) fn by_token(
+    alloc: Global,
+    keys: Option<&Keys>,
+    acl: Option<&Acl>,
+    ask: &Ask,
+    now: Moment,
+) -> Result<Verdict, AllocError>
+    requires { ask.now.credential ≡ credential.Token }
+    ensures value { IfOk result (λ v.
+        v ≡ verdict_of (option_copied keys.entry) (option_copied acl.entry) ask.now now) }
+    ensures memory { IsErr result → IsTrue (needs_signature (option_copied keys.entry) ask.now now) }
+{
+    let rule = rule_by_token(alloc, keys, acl, ask, now)?;
+    Ok(token_verdict(rule))
+}
+
+/// The verdict on a request that asks by a token, if it is known whether its signature is false.
+#[tactic(auto, using(crate::proofs::TokenLemmas::first_token_rule))]
+pub(crate) fn by_judged_token(
+    keys: Option<&Keys>,
+    acl: Option<&Acl>,
+    ask: &Ask,
+    now: Moment,
+    is_false: bool,
+) -> Verdict
+    requires asks { ask.now.credential ≡ credential.Token }
+    requires judged { is_false ≡ has_false_signature (option_copied keys) ask.now }
+    ensures { result ≡ verdict_of (option_copied keys.entry) (option_copied acl.entry) ask.now now }
+{
+    token_verdict(rule_by_judged_token(keys, acl, ask, now, is_false))
 }

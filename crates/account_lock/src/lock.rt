@@ -1,7 +1,6 @@
 //! One lock for the rows of an account, and its connections.
-ghost use Rattle.std.specs.Prelude.{◌≡◌, ◌↔◌, IfSome, IsSome, IsTrue, [], ◌∷◌, ◌+◌, ◌++◌, ◌<◌, ◌≤◌, ◌^◌, IfOk, OnErr, OnOk, length};
+ghost use Rattle.std.specs.Prelude.{◌≡◌, [], ◌∷◌, ◌+◌, ◌++◌, ◌<◌, ◌≤◌, ◌^◌, IfOk, OnErr, OnOk, length};
 ghost use mathlib.Core.List.{IsPrefix};
-ghost use Rattle.stamp_values.specs.Names.{is_account};
 ghost use Rattle.range_rows.specs.Readings.{reading_of};
 ghost use Rattle.stamp_model.specs.Runs.{timed, reply_to_one};
 ghost use Rattle.account_service.specs.HeldRows.{held_of};
@@ -26,14 +25,17 @@ const MOST: u64 = 1 << 61;
 /// history.
 #[derive(Drop)]
 struct Locked<A: Account> {
-    plain: Plain,
+    // The service, or else a front that is longer than the front of the lock: then an entry came that the rows do not have. No
+    // thread makes such an entry, though no clause says so.
+    plain: Result<Plain, Front<A>>,
     front: Front<A>,
     made: Book<A>,
 }
 
 impl<A: Account> Model for Locked<A> {
-    ghost use Rattle.std.specs.Prelude.{◌≡◌, List, length};
+    ghost use Rattle.std.specs.Prelude.{◌≡◌, List, MatchResult, length};
     ghost use Rattle.account_service.specs.HeldRows.{held_of};
+    ghost use Rattle.account_lock.specs.Growth.{IsLonger};
     ghost use Rattle.account_lock.specs.Histories.{Entered, left_after};
 
     ghost Value = { List Entered };
@@ -41,7 +43,9 @@ impl<A: Account> Model for Locked<A> {
     ghost view = { λ l. l.front };
 
     // The rows hold what the history leaves, from a new stamp, and each entry was made by a connection.
-    ghost invariant = { λ l. (held_of l.plain ≡ left_after A.keys l.front) × (l.made.total ≡ length l.front) };
+    ghost invariant = { λ l. MatchResult l.plain (λ plain. held_of plain ≡ left_after A.keys l.front)
+        (λ longer. IsLonger l.front longer)
+        × (l.made.total ≡ length l.front) };
 }
 
 impl<A: Account> Locked<A> {
@@ -51,7 +55,11 @@ impl<A: Account> Locked<A> {
         requires made { made.total ≡ 0 }
         ensures { result ≡ [] }
     {
-        Locked { plain, front, made }
+        Locked {
+            plain: Ok(plain),
+            front,
+            made,
+        }
     }
 
     // A copy of the whole history, which begins with what the caller knows. `AllocError` if the history has as many entries as
@@ -69,11 +77,11 @@ impl<A: Account> Locked<A> {
     }
 
     // Answers a request whose body was read before. The request is then the next entry of the history, the caller knows the whole
-    // history, and its share counts one entry more. If memory runs out, there is no entry and no change.
+    // history, and its share counts one entry more. If memory runs out, there is no entry and no change. An entry that the lock does
+    // not know has the same answer: the connection ends, and so does each connection that sends a request after it.
     #[tactic(auto, using(crate::proofs::HistoryLemmas::left_more, crate::proofs::HistoryLemmas::length_more))]
-    fn answer<R: Wait>(
+    fn answer(
         &mut self,
-        rt: &R,
         alloc: Global,
         count: &EntryCount<A>,
         known: &mut Front<A>,
@@ -95,11 +103,15 @@ impl<A: Account> Locked<A> {
         ensures parts { share.new.parts ≡ share.old.parts }
     {
         let mut front = self.whole(known)?;
-        let reply = self.plain.answer_read(alloc, request, reading, moment)?;
+        let Ok(plain) = &mut self.plain else {
+            return Err(AllocError);
+        };
+        let reply = plain.answer_read(alloc, request, reading, moment)?;
         if !front.add(count, &mut self.made, share, request, moment) {
-            // No other thread adds an entry while the lock is held.
-            for _ in rt.forever() {}
-            unreachable!()
+            // The rows have a change that the history does not have, so nothing is answered by them again.
+            drop(reply);
+            self.plain = Err(front);
+            return Err(AllocError);
         }
         *known = front.again();
         self.front = front;
@@ -117,22 +129,19 @@ pub struct AccountLock<A: Account> {
 impl<A: Account> AccountLock<A> {
     /// The lock of the keys' account, which has no containers, with a history without entries, and all shares of the history in one.
     /// Takes no memory.
-    ///
-    /// `None` if the name in the keys is not the name of an account.
-    pub fn new(alloc: Global, keys: Keys, history: NewHistory) -> Option<(AccountLock<A>, Share<A>)>
+    pub fn new(alloc: Global, keys: Keys, history: NewHistory) -> (AccountLock<A>, Share<A>)
         requires keys { keys ≡ A.keys }
         requires history { history.seen.book ≡ A.history }
         requires shares { (history.shares.name ≡ A.name) × (history.shares.parts ≡ A.parts) }
-        ensures named { IsSome result ↔ IsTrue (is_account keys.account) }
-        ensures share { IfSome result (λ new. (new.1.parts ≡ A.parts) × (new.1.amount ≡ 0)) }
+        ensures share { (result.1.parts ≡ A.parts) × (result.1.amount ≡ 0) }
     {
-        let plain = Plain::new(alloc, keys)?;
+        let plain = Plain::new(alloc, keys);
         let (count, front, made, share) = history.of::<A>();
         let lock = AccountLock {
             count,
             locked: Mutex::new(Locked::new(plain, front, made)),
         };
-        Some((lock, share))
+        (lock, share)
     }
 
     /// The history as far as it has come. Waits for the lock.
@@ -215,7 +224,6 @@ impl<'a, A: Account, R: Wait> Service for Connection<'a, A, R> {
     ) -> Result<Reply, AllocError> {
         let reading = Reading::of(alloc, &request)?;
         let answered = self.lock.locked.lock(self.rt).answer(
-            self.rt,
             alloc,
             &self.lock.count,
             &mut self.known,

@@ -7,7 +7,7 @@ use crate::lock::{AccountLock, Connection};
 use access_rules::Keys;
 use hmac_sign::SigningKey;
 use http_front::{Clock, End, run};
-use stamp_types::{Moment, Text};
+use stamp_types::{AccountName, Moment, Text};
 use std::alloc::Global;
 use std::marker::Brand;
 use std::process::Abort;
@@ -91,7 +91,7 @@ fn two_share<A: Account + Send + Sync, R: Threads + Wait + Abort + Sync>(
     requires shares { (history.shares.name ≡ A.name) × (history.shares.parts ≡ A.parts) }
     requires four { history.shares.parts ≡ 4 }
 {
-    let (lock, mut shares) = AccountLock::<A>::new(alloc, keys, history).expect(rt, "an account");
+    let (lock, mut shares) = AccountLock::<A>::new(alloc, keys, history);
     let first = Connection::new(rt, &lock, shares.split_off(1, 0));
     let second = Connection::new(rt, &lock, shares.split_off(1, 0));
     let ((one, mut made), (two, also)) = thread::join(
@@ -123,7 +123,9 @@ fn key(rt: &impl Abort, alloc: Global, bytes: &[u8]) -> SigningKey {
 fn connections_that_share_a_lock_see_one_history(rt: HostRuntime) {
     let name = String::from_str(rt.alloc(), "devstoreaccount1").expect(&rt, "memory");
     let keys = Keys {
-        account: Text::new(name).expect(&rt, "a text"),
+        account: Text::new(name)
+            .and_then(AccountName::new)
+            .expect(&rt, "the name of an account"),
         first: key(&rt, rt.alloc(), b"key1"),
         second: key(&rt, rt.alloc(), b"key2"),
         epoch: 0,

@@ -12,6 +12,7 @@ use Rattle.stamp_values.specs.declared.op.Op.TheVariants as op
 use Rattle.stamp_types.specs.declared.act.Act.{Act}
 use Rattle.stamp_types.specs.declared.act.Act.TheVariants as act
 use Rattle.stamp_types.specs.declared.args.Kept.{Kept}
+use Rattle.stamp_types.specs.declared.committed.Block.{Block}
 use Rattle.stamp_types.specs.declared.piece.Piece.{Piece}
 use Rattle.stamp_types.specs.declared.piece.Piece.TheVariants as piece
 use Rattle.stamp_types.specs.declared.refusal.Refusal.{Refusal}
@@ -27,9 +28,13 @@ use Rattle.stamp_types.proofs.ContentReadings.{part_value-changed}
 use Rattle.stamp_types.proofs.EachContents.{EachContent-changed, EachContent-then, EachWorldContent-changed_in}
 use Rattle.access_rules.specs.declared.keys.Keys.{Keys}
 use Rattle.row_trees.specs.Fits.{fits}
-use Rattle.range_rows.specs.ObjectReplies.{ReadsWhole, byte_count, frame, reply_of, sizes, spans, with_content}
+use Rattle.range_rows.specs.Frames.{frame}
+use Rattle.range_rows.specs.SentContent.{ReadsWhole, byte_count, reply_of, sizes, spans, with_content}
+use Rattle.row_trees.specs.ListedBlocks.{AreFoundFor}
+use Rattle.range_rows.specs.Judgements.{blocks_found}
 use Rattle.range_rows.specs.RequestChanges.{delete_blob, put_blob, put_block, put_block_list, set_metadata, act_by, change_of, part_after}
 use Rattle.range_rows.proofs.ChangeLemmas.{change_fits}
+use Rattle.range_rows.proofs.FoundChanges.{found_for_change}
 use Rattle.range_rows.proofs.SpanLemmas.{length-read, reply_of-read}
 use Rattle.list_pages.specs.ListReplies.{blob_list_reply, containers_told, page_asked}
 use Rattle.list_pages.proofs.Shown.{page_of_read}
@@ -40,9 +45,9 @@ use Rattle.stamp_model.proofs.ContentLemmas.{sizes-read, world_value-effect}
 use Rattle.stamp_model.proofs.EffectLemmas.{on_key, effect-refused, part_at-effect}
 use Rattle.stamp_model.proofs.ReadLemmas.{effect-read}
 use Rattle.stamp_model.proofs.ReplyLemmas.{answer_of-rows, reply-admitted, unrefused}
-use Rattle.account_service.specs.Decisions.{found_reply, row_reply, row_reply_by}
+use Rattle.range_partition.specs.Decisions.{bytes_held, found_reply, row_reply, row_reply_by}
 use Rattle.stamp_model.specs.Runs.{timed, reply_to_one}
-use Rattle.account_service.specs.HeldRows.{HeldRows, empty_rows, AreHeld, bytes_held, held_of, row_refusal, rows_after, rows_with}
+use Rattle.account_service.specs.HeldRows.{HeldRows, empty_rows, AreHeld, held_of, row_refusal, rows_after, rows_with}
 use Rattle.account_service.specs.Services.{empty_held, AnswersAsModel, held_after}
 
 -- ---- the rows of a new stamp
@@ -54,23 +59,35 @@ held_of-empty_rows keys = ap (λ (w : World (List ℕ)). record { keys = keys; w
 -- ---- requests that nothing refuses
 
 module _ (h : HeldRows) (q : Asked) (t : ℕ) where
-  abbrev found : Part ℕ
-  found = part_value pieces_len (part_at h.rows q.ask.key)
+  abbrev found_sizes : Part ℕ
+  found_sizes = part_value pieces_len (part_at h.rows q.ask.key)
 
   -- the rows with the change of the request are the rows after the request
-  pub rows_with_change : row_refusal h q t ≡ None → rows_with (change_of found q t) h ≡ rows_after h q t
+  pub rows_with_change : row_refusal h q t ≡ None → rows_with (change_of found_sizes q t) h ≡ rows_after h q t
   rows_with_change free =
       ap (λ (w : World (List Piece)). record { keys = h.keys; rows = w })
-      (sym (ap (λ (o : Option Refusal). world_after same_pieces (unless_refused o (change_of found q t)) h.rows) free))
+      (sym (ap (λ (o : Option Refusal). world_after same_pieces (unless_refused o (change_of found_sizes q t)) h.rows) free))
 
-  fits_own : (c : KeyedAct) → (c.key ≡ q.ask.key) × IsTrue (fits found c.act) → IsTrue (fits (part_value pieces_len (part_at h.rows c.key)) c.act)
+  fits_own : (c : KeyedAct) → (c.key ≡ q.ask.key) × IsTrue (fits found_sizes c.act) → IsTrue (fits (part_value pieces_len (part_at h.rows c.key)) c.act)
   fits_own c own = subst (λ k. IsTrue (fits (part_value pieces_len (part_at h.rows k)) c.act)) (sym own.0) own.1
 
   -- the change of a request that nothing refuses fits
-  pub change_fits_rows : row_refusal h q t ≡ None → (o : Option KeyedAct) → change_of found q t ≡ o
+  pub change_fits_rows : row_refusal h q t ≡ None → (o : Option KeyedAct) → change_of found_sizes q t ≡ o
       → IfSome o (λ c. IsTrue (fits (part_value pieces_len (part_at h.rows c.key)) c.act))
   change_fits_rows free None e = tt
-  change_fits_rows free (Some c) e = fits_own c (change_fits found q t c (unrefused (Some h.keys) found q t free).unopposed e)
+  change_fits_rows free (Some c) e = fits_own c (change_fits found_sizes q t c (unrefused (Some h.keys) found_sizes q t free).unopposed e)
+
+  found_own : (c : KeyedAct) (p : Part (List Piece)) (found : List (Block (List Piece))) → p ≡ part_at h.rows q.ask.key → c.key ≡ q.ask.key → AreFoundFor p c.act found → AreFoundFor (part_at h.rows c.key) c.act found
+  found_own c p found own key are = subst (λ p. AreFoundFor p c.act found) (own ∙ ap (part_at h.rows) (sym key)) are
+
+  -- the blocks that were found for a request were found for its change
+  pub found_for_rows : (o : Option KeyedAct) (found : List (Block (List Piece))) → change_of found_sizes q t ≡ o → found ≡ (blocks_found (part_at h.rows q.ask.key) q).blocks
+      → IfSome o (λ c. AreFoundFor (part_at h.rows c.key) c.act found)
+  found_for_rows None found e is = tt
+  found_for_rows (Some c) found e is =
+      let p = part_at h.rows q.ask.key in
+      let own = found_for_change p q t c e in
+      found_own c p found refl own.0 (subst (λ bs. AreFoundFor p c.act bs) (sym is) own.1)
 
 -- ---- content in memory
 
@@ -206,7 +223,7 @@ module _ (h : HeldRows) (q : Asked) (t : ℕ) (all : AreHeld h.rows) where
   answer_of_list free reads = reply_free free ∙ ap (λ (v : World (List ℕ)). answer_of v q None) (effect-read (Some h.keys) held_world q t reads)
 
   -- the reply to a request that nothing refuses, by its operation
-  reply_by : (o : Op) → q.ask.op ≡ o → row_refusal h q t ≡ None → row_reply_by o h.rows part q t ≡ reply_to_one held_world (timed h.keys q t)
+  reply_by : (o : Op) → q.ask.op ≡ o → row_refusal h q t ≡ None → row_reply_by o h.rows part q t None ≡ reply_to_one held_world (timed h.keys q t)
   reply_by op.ListContainers is free =
       ap (containers_told (page_asked q)) (page_of_read held q.ask.key.account (page_asked q) None h.rows)
       ∙ sym (answer_of_list free (ap writes is) ∙ ap (λ (o : Op). answer_by o held_world q None) is)
@@ -217,7 +234,7 @@ module _ (h : HeldRows) (q : Asked) (t : ℕ) (all : AreHeld h.rows) where
   reply_by o is free = reply_with_spans (ap lists_names is) free
 
   -- the reply that is made from the rows is the model's
-  pub reply_made : row_refusal h q t ≡ None → row_reply h.rows part q t ≡ reply_to_one held_world (timed h.keys q t)
+  pub reply_made : row_refusal h q t ≡ None → row_reply h.rows part q t None ≡ reply_to_one held_world (timed h.keys q t)
   reply_made free = reply_by q.ask.op refl free
 
   -- the reply to a refused request
@@ -249,6 +266,6 @@ module _ (h : HeldRows) (q : Asked) (t : ℕ) (all : AreHeld h.rows) where
   answered_refused r (Ok reply) e is = answers_refused h q t all r reply e is
   answered_refused r (Err x) e is = is
 
-  pub answered_allowed : (reply : Reply) (h' : HeldRows) → row_refusal h q t ≡ None → reply ≡ row_reply h.rows (part_at h.rows q.ask.key) q t
+  pub answered_allowed : (reply : Reply) (h' : HeldRows) → row_refusal h q t ≡ None → reply ≡ row_reply h.rows (part_at h.rows q.ask.key) q t None
       → h' ≡ rows_with (change_of (part_value pieces_len (part_at h.rows q.ask.key)) q t) h → AnswersAsModel (held_of h) q t reply (held_of h')
   answered_allowed reply h' free made new = answers_allowed h q t all reply h' (made ∙ reply_made h q t all free) (new ∙ rows_with_change h q t free)

@@ -1,22 +1,21 @@
 -- What the rows of one account's service hold (Calder et al., SOSP 2011, section 5).
-use Rattle.std.specs.Prelude.{◌≡◌, ℕ, List, true, Option, Some, refl}
+use Rattle.std.specs.Prelude.{◌≡◌, ℕ, List, true, Option, Some, None, refl}
 use Rattle.std.specs.FinMap as finite
 use Rattle.std.specs.Coded.{Coded, code_by, coded_ℕ, coded×}
-use Rattle.std.specs.List.{flat_map}
 use Rattle.stamp_types.specs.declared.piece.Piece.{Piece}
 use Rattle.stamp_types.specs.declared.refusal.Refusal.{Refusal}
 use Rattle.stamp_types.specs.Changes.{KeyedAct}
 use Rattle.stamp_types.specs.Contents.{EachWorldContent}
-use Rattle.stamp_types.specs.Pieces.{held, is_held, piece_bytes, pieces_len}
+use Rattle.stamp_types.specs.Pieces.{held, is_held, pieces_len}
 use Rattle.stamp_types.specs.Requests.{Asked}
 use Rattle.stamp_types.specs.World.{World, part_at, part_value, world_value, same_pieces}
 use Rattle.stamp_types.specs.WorldCodes.{text_code}
 use Rattle.access_rules.specs.declared.keys.Keys.{Keys}
-use Rattle.range_rows.specs.declared.answer.Span.{Span}
 use Rattle.row_trees.specs.BlobRows.{rows_code}
-use Rattle.range_rows.specs.ObjectReplies.{span_bytes}
 use Rattle.stamp_model.specs.Effects.{effect_as, world_after}
 use Rattle.stamp_model.specs.Refusals.{refusal}
+use Rattle.range_partition.specs.Decisions.{decision_of}
+use Rattle.range_partition.specs.declared.decision.Decision.{Decision}
 use Rattle.account_service.specs.Services.{Held}
 
 -- an account's keys, and the containers as rows hold them, with content in pieces
@@ -58,6 +57,6 @@ rows_after h q t = record { keys = h.keys; rows = effect_as pieces_len same_piec
 abbrev pub rows_with : Option KeyedAct → HeldRows → HeldRows
 rows_with c h = record { keys = h.keys; rows = world_after same_pieces c h.rows }
 
--- the bytes of spans whose pieces are held in memory
-abbrev pub bytes_held : List Span → List ℕ
-bytes_held spans = flat_map (span_bytes piece_bytes) spans
+-- what is decided on a request, from the rows
+abbrev pub row_decision : HeldRows → Asked → ℕ → Decision
+row_decision h q t = decision_of (Some h.keys) h.rows (part_at h.rows q.ask.key) q t None

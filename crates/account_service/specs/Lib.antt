@@ -1,3 +1,2 @@
-pub mod Decisions
 pub mod HeldRows
 pub mod Services

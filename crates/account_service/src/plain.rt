@@ -1,20 +1,21 @@
 //! The service over the rows of one account.
-ghost use Rattle.std.specs.Prelude.{◌≡◌, ◌↔◌, IfOk, IfSome, IsSome, IsTrue, OnErr, OnOk};
-ghost use Rattle.stamp_values.specs.Names.{is_account};
+ghost use Rattle.std.specs.Prelude.{◌≡◌, IfOk, IfSome, IsTrue, OnErr, OnOk};
 ghost use Rattle.stamp_types.specs.Contents.{EachActContent};
 ghost use Rattle.stamp_types.specs.Pieces.{is_held, pieces_len};
 ghost use Rattle.stamp_types.specs.World.{part_at, part_value};
 ghost use Rattle.row_trees.specs.Fits.{fits};
+ghost use Rattle.row_trees.specs.ListedBlocks.{AreFoundFor};
 ghost use Rattle.range_rows.specs.Readings.{reading_of};
-ghost use Rattle.account_service.specs.Decisions.{row_decision};
+ghost use Rattle.account_service.specs.HeldRows.{row_decision};
 ghost use Rattle.account_service.specs.HeldRows.{AreHeld, empty_rows, held_of, rows_with};
 ghost use Rattle.account_service.specs.Services.{AnswersAsModel, Held, empty_held};
 
-use crate::decision::{Decision, decide};
 use access_rules::Keys;
+use block_blobs::FoundBlocks;
 use http_front::Service;
-use name_rules::account_ok;
-use range_rows::{Reading, Rows, Target};
+use range_partition::{Decision, decide};
+use range_rows::{Reading, Target};
+use row_trees::Rows;
 use stamp_types::{Change, Moment, Reply, Request};
 use std::alloc::{AllocError, Global};
 use std::marker::Model;
@@ -43,18 +44,12 @@ impl Model for Plain {
 
 impl Plain {
     /// The service of the keys' account, which has no containers. Takes no memory.
-    ///
-    /// `None` if the name in the keys is not the name of an account.
-    pub fn new(alloc: Global, keys: Keys) -> Option<Self>
-        ensures value { IfSome result (λ plain. plain ≡ empty_rows keys) }
-        ensures held { IfSome result (λ plain. held_of plain ≡ empty_held keys) }
-        ensures named { IsSome result ↔ IsTrue (is_account keys.account) }
+    pub fn new(alloc: Global, keys: Keys) -> Self
+        ensures value { result ≡ empty_rows keys }
+        ensures held { held_of result ≡ empty_held keys }
     {
-        if !account_ok(keys.account.as_str().as_bytes()) {
-            return None;
-        }
         let rows = Rows::new(alloc);
-        Some(Self { keys, rows })
+        Self { keys, rows }
     }
 
     // What is decided on a request. The request walks to its container and to its blob once.
@@ -73,20 +68,33 @@ impl Plain {
         let ask = request.ask();
         let target = Target::of(self.rows.find(&ask.key), ask);
         decide(
-            alloc, &self.keys, &self.rows, target, request, reading, moment,
+            alloc,
+            Some(&self.keys),
+            &self.rows,
+            target,
+            request,
+            reading,
+            moment,
+            None,
         )
     }
 
-    // Makes a change, if there is one.
-    fn keep(&mut self, alloc: Global, change: Option<Change>) -> Result<(), AllocError>
+    // Makes a change, if there is one, with the blocks that were found for it.
+    fn keep(
+        &mut self,
+        alloc: Global,
+        change: Option<Change>,
+        found: FoundBlocks,
+    ) -> Result<(), AllocError>
         requires held { IfSome change (λ c. EachActContent (λ ps. IsTrue (is_held ps)) c.act) }
         requires fits { IfSome change (λ c. IsTrue
             (fits (part_value pieces_len (part_at self.old.rows c.key)) c.act)) }
+        requires found { IfSome change (λ c. AreFoundFor (part_at self.old.rows c.key) c.act found) }
         ensures kept { OnOk result (self.new ≡ rows_with change self.old) }
         ensures refused { OnErr result (self.new ≡ self.old) }
     {
         match change {
-            Some(change) => self.rows.take(alloc, change),
+            Some(change) => self.rows.take_found(alloc, change, found),
             None => Ok(()),
         }
     }
@@ -111,7 +119,7 @@ impl Plain {
     {
         match self.decision(alloc, request, reading, moment)? {
             Decision::Refused(refusal) => Reply::denied(alloc, refusal),
-            Decision::Allowed(reply, change) => match self.keep(alloc, change) {
+            Decision::Allowed(reply, change, found) => match self.keep(alloc, change, found) {
                 Ok(()) => Ok(reply),
                 Err(fault) => {
                     drop(reply);

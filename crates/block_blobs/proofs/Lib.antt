@@ -7,5 +7,6 @@ pub mod ListLemmas
 pub mod StoredBlocks
 pub mod ListFaults
 pub mod NextLemmas
-pub mod WholeLists
+pub mod FoundLemmas
+pub mod CommitLemmas
 pub mod RowLemmas

@@ -24,7 +24,7 @@ use Rattle.stamp_types.specs.declared.piece.Piece.{Piece}
 use Rattle.stamp_types.specs.Pieces.{pieces_len}
 use Rattle.stamp_types.specs.Changes.{are_blocks, blocks_len, has_ids_or_one, is_block, is_committed, is_in_one_piece}
 use Rattle.stamp_types.specs.World.{Blob, block_of, committed_content, content_from, has_block_id, taken_blocks, whole_block}
-use Rattle.block_blobs.specs.BlockLists.{EachInOnePiece, wanted_len, entries_from, first_absent, first_missing, found_entries, found_sources, list_fault, named_at, named_blocks, source_of, sources_of, taken_fault, taken_from, unnamed_blocks, wanted_fault}
+use Rattle.block_blobs.specs.BlockLists.{EachInOnePiece, entries_from, first_absent, first_missing, found_entries, found_sources, list_fault, named_at, named_blocks, source_of, sources_of, taken_fault, taken_from, unnamed_blocks, wanted_fault}
 use Rattle.block_blobs.specs.UncommittedBlocks.{are_in_one_piece}
 
 both : (a b : Bool) → a ≡ true → b ≡ true → (a && b) ≡ true
@@ -245,33 +245,14 @@ module _ {C : Type 0} (b : Blob C) where
       let rest = taken_blocks-alike d ts (All-tail P t ts alike) in
       λ i. option_to_list (option_map (block_of t.id) (head i)) ++ rest i
 
--- ---- lengths of wanted blocks
+-- ---- lists without a fault
+
+-- if a list has no fault, none of its blocks is missing
+pub nothing_missing : (o : Option ℕ) (n len : ℕ) → list_fault o n len ≡ None → o ≡ None
+nothing_missing None n len fits = refl
+nothing_missing (Some i) n len fits = cc
 
 module _ (b : Blob (List Piece)) where
-  len_of_one : (w : Wanted) (o : Option Source)
-      → unwrap_or (option_map pieces_len (option_and_then (λ s. content_from s w.id b) o)) 0 ≡ blocks_len (taken_blocks b (option_to_list (option_map (taken_from w) o)))
-  len_of_one w None = refl
-  len_of_one w (Some s) =
-      elim (content_from s w.id b) as (λ c. unwrap_or (option_map pieces_len c) 0 ≡ blocks_len (option_to_list (option_map (block_of w.id) c) ++ [])) [
-        | None ↦ refl
-        | Some content ↦ sym (zero-add (pieces_len content))
-      ]
-
-  -- the lengths of wanted blocks are the length of the blocks that are found
-  pub listed_len_found : (ws : List Wanted) → sum_by (wanted_len b) ws ≡ blocks_len (taken_blocks b (found_entries b ws))
-  listed_len_found [] = refl
-  listed_len_found (w ∷ ws) =
-      let head = option_to_list (option_map (taken_from w) (source_of b w)) in
-      let size : Block (List Piece) → ℕ = λ block. pieces_len block.content in
-      let parts : blocks_len (taken_blocks b (head ++ found_entries b ws)) ≡ blocks_len (taken_blocks b head) + blocks_len (taken_blocks b (found_entries b ws)) =
-      ap blocks_len (flat_map-append (λ t. option_to_list (option_map (block_of t.id) (content_from t.from t.id b))) head (found_entries b ws))
-      ∙ sum_by-append size (taken_blocks b head) (taken_blocks b (found_entries b ws)) in
-      sum_by-cons (wanted_len b) w ws ∙ (λ i. len_of_one w (source_of b w) i + listed_len_found ws i) ∙ sym parts
-
-  nothing_missing : (o : Option ℕ) (n len : ℕ) → list_fault o n len ≡ None → o ≡ None
-  nothing_missing None n len fits = refl
-  nothing_missing (Some i) n len fits = cc
-
   -- if a list of wanted blocks has no fault, the list of the entries that are found has no fault
   pub taken_fault-found_entries : (ws : List Wanted) → wanted_fault b ws ≡ None → taken_fault b (found_entries b ws) ≡ None
   taken_fault-found_entries ws fits =

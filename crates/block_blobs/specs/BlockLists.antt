@@ -1,6 +1,5 @@
 -- Block lists: where their blocks are found, and what is wrong with a list ("Put Block List" of the Blob service REST reference, 2012-02-12).
-use Rattle.std.specs.Prelude.{◌≡◌, ◌+◌, ◌<◌, ℕ, zero, suc, IsTrue, IfSome, if◌then◌else◌, nat_lt, is_some, is_none, List, [], ◌∷◌, length, Option, Some, None, find, map, position, flat_map, unwrap_or}
-use Rattle.std.specs.FinMap as finite
+use Rattle.std.specs.Prelude.{ℕ, zero, suc, IsTrue, IfSome, if◌then◌else◌, nat_lt, is_some, is_none, List, [], ◌∷◌, length, Option, Some, None, find, position, flat_map}
 use Rattle.std.specs.Option.{option_map, option_and_then, option_to_list}
 use Rattle.stamp_values.specs.Limits.{entries_limit, blob_limit}
 use Rattle.stamp_values.specs.declared.block.Lookup.{Lookup}
@@ -10,7 +9,6 @@ use Rattle.stamp_values.specs.declared.block.Source.TheVariants as source
 use Rattle.stamp_values.specs.declared.block.Taken.{Taken}
 use Rattle.stamp_values.specs.declared.block.Wanted.{Wanted}
 use Rattle.stamp_types.specs.declared.piece.Piece.{Piece}
-use Rattle.stamp_types.specs.Pieces.{pieces_len}
 use Rattle.stamp_types.specs.Changes.{blocks_len, is_in_one_piece}
 use Rattle.stamp_types.specs.declared.committed.Block.{Block}
 use Rattle.stamp_types.specs.World.{Blob, block_of, content_from, taken_blocks, whole_block}
@@ -38,6 +36,14 @@ found_entries b ws = flat_map (λ w. option_to_list (option_map (taken_from w) (
 -- where the wanted blocks are found, in their order, without those that are not found
 abbrev pub found_sources : {C : Type 0} → Blob C → List Wanted → List Source
 found_sources b ws = flat_map (λ w. option_to_list (source_of b w)) ws
+
+-- the content of the wanted block, if it is found
+abbrev pub found_content : {C : Type 0} → Blob C → Wanted → Option C
+found_content b w = option_and_then (λ s. content_from s w.id b) (source_of b w)
+
+-- the wanted blocks that are found, in their order, without their ids
+abbrev pub found_blocks : {C : Type 0} → Blob C → List Wanted → List (Block C)
+found_blocks b ws = flat_map (λ w. option_to_list (option_map whole_block (found_content b w))) ws
 
 -- the entries of wanted blocks that are found in these sources, in their order
 unfoldable pub entries_from : List Wanted → List Source → List Taken
@@ -69,30 +75,9 @@ named_blocks [] blocks = blocks
 named_blocks (t ∷ ts) [] = []
 named_blocks (t ∷ ts) (block ∷ blocks) = block_of t.id block.content ∷ named_blocks ts blocks
 
--- the entry that takes an uncommitted block
-abbrev pub uncommitted_taken : {C : Type 0} → List ℕ × C → Taken
-uncommitted_taken e = record { id = e.0; from = source.Uncommitted }
-
--- the entries that take all uncommitted blocks, in the order of the ids
-abbrev pub all_entries : {C : Type 0} → Blob C → List Taken
-all_entries b = map uncommitted_taken (finite.entries b.uncommitted)
-
--- the block of content that an uncommitted block becomes, with its id
-abbrev pub block_of_entry : {C : Type 0} → List ℕ × C → Block C
-block_of_entry e = block_of e.0 e.1
-
 -- how many bytes the blocks of the entries have together, each block as often as it is listed
 abbrev pub listed_len : Blob (List Piece) → List Taken → ℕ
 listed_len b ts = blocks_len (taken_blocks b ts)
-
--- how many bytes the wanted block has; 0 if it is not found
-abbrev pub wanted_len : Blob (List Piece) → Wanted → ℕ
-wanted_len b w = unwrap_or (option_map pieces_len (option_and_then (λ s. content_from s w.id b) (source_of b w))) 0
-
--- blocks of so many bytes leave this room of the bytes that a blob may have; `None` says that they have more bytes than that
-abbrev pub Leaves : Option ℕ → ℕ → Type 0
-Leaves (Some room) len = room + len ≡ blob_limit
-Leaves None len = blob_limit < len
 
 -- the fault of a list from its first block that is not found, the number of its entries, and the bytes of its blocks: the first of the
 -- three faults whose cause exists

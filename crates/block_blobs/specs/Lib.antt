@@ -4,5 +4,6 @@ pub mod NextBlocks
 pub mod FirstBlocks
 pub mod IdTrees
 pub mod BlockLists
+pub mod ResolvedLists
 pub mod BlobChanges
 pub mod StoredRows

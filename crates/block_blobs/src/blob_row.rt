@@ -11,14 +11,14 @@ ghost use Rattle.block_blobs.specs.StoredRows.{is_left, row_of};
 ghost use Rattle.stamp_values.specs.Names.{is_blob};
 
 use crate::block_fault::BlockFault;
-use crate::block_lists::total_len;
+use crate::found_blocks::total_len;
 use crate::uncommitted::Uncommitted;
 use stamp_types::{
     Block, BlockId, Committed, Items, Moment, Pieces, PutBlob, SetMetadata, StoredBlob, Text,
     UncommittedBlock,
 };
 use std::alloc::{AllocError, Global};
-use std::collections::btree_map::{IntoIter, Iter};
+use std::collections::btree_map::Iter;
 use std::marker::Model;
 
 /// A blob: its committed part, if it has a committed part, and its uncommitted blocks. Contracts see
@@ -218,15 +218,6 @@ impl BlobRow {
         ensures { result.now ≡ self.now.uncommitted }
     {
         &self.uncommitted
-    }
-
-    /// Takes all uncommitted blocks out of the blob, in the order of their ids. Takes no memory.
-    pub(crate) fn take_uncommitted(&mut self, alloc: Global) -> IntoIter<BlockId, Pieces>
-        ensures blocks { result ≡ finite.entries self.old.uncommitted }
-        ensures left { self.new
-            ≡ record { committed = self.old.committed; uncommitted = finite.empty } }
-    {
-        self.uncommitted.take(alloc)
     }
 
     /// Writes a committed part of so many bytes. Nothing of the old committed part stays.

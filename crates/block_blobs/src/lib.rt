@@ -3,17 +3,22 @@
 
 mod blob_row;
 mod block_fault;
-mod block_lists;
+mod commits;
 mod committed_blocks;
 mod content_by_id;
 mod first_blocks;
+mod found_blocks;
 mod laws;
-mod list_faults;
+mod lookups;
 mod next_blocks;
+mod resolved;
+mod taken_lists;
 mod uncommitted;
-mod whole_lists;
+mod wanted_lists;
 
 pub use blob_row::BlobRow;
 pub use block_fault::BlockFault;
-pub use block_lists::entries_from;
+pub use found_blocks::FoundBlocks;
 pub use laws::{a_commit_is_its_list, a_container_changes_by_its_blob, a_row_makes_its_blob_again};
+pub use resolved::Resolved;
+pub use wanted_lists::entries_from;

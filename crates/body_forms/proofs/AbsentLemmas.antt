@@ -5,8 +5,8 @@ use Rattle.body_forms.specs.declared.access_policy.Given as code_given
 use Rattle.body_forms.specs.declared.sent_policies.Part as code_part
 use Rattle.body_forms.specs.Policies.{at_most_one, values, Given, Access, no_access, Part, accesses}
 use Rattle.body_forms.specs.PolicyReading.{given_view, part_view}
-use Rattle.body_forms.specs.ElementReading.{value_of}
-use Rattle.body_forms.proofs.UnescapeLemmas.{no_value}
+use Rattle.xml_text.specs.ElementReading.{value_of}
+use Rattle.xml_text.proofs.UnescapeLemmas.{no_value}
 
 -- if no field is left, the field is absent
 pub no_field : (field : Field) (left : List code_given.Given) (whole : List Given) → values field (map given_view left) ≡ values field whole → length left < 1

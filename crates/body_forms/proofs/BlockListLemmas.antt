@@ -5,17 +5,16 @@ use Rattle.std.proofs.lemmas.Option.{option_and_then_some, same_Some}
 use Rattle.std.proofs.lemmas.Slice.Eq.{bytes_eq-Decides}
 use Rattle.stamp_values.specs.declared.block.Lookup.{Lookup}
 use Rattle.stamp_values.specs.declared.block.Lookup.TheVariants.{Committed, Uncommitted, Latest}
-use Rattle.body_forms.specs.declared.tokens.Kind.TheVariants.{Closing}
-use Rattle.body_forms.specs.Tokens.{Tag, IsTag}
-use Rattle.body_forms.specs.Texts.{Token, AreTokens}
-use Rattle.body_forms.specs.Bodies.{IsBlockListBody}
-use Rattle.body_forms.specs.FrontReading.{body_entries}
-use Rattle.body_forms.specs.BlockLists.{lookup_name, list_name, Entry, IsEntry, IsBlockListText}
-use Rattle.body_forms.specs.ElementReading.{is_kind, lookup_of, content_at, entry_at, inner_at, entries_of}
-use Rattle.body_forms.proofs.Sound.{mapped_some}
-use Rattle.body_forms.proofs.FrontLemmas.{body_sound, body_read}
-use Rattle.body_forms.proofs.ElementsSound.{content_sound, inner_sound, root_sound}
-use Rattle.body_forms.proofs.ElementsComplete.{content_read, inner_read, root_read}
+use Rattle.xml_text.specs.declared.tokens.Kind.TheVariants.{Closing}
+use Rattle.xml_text.specs.Tokens.{Tag, IsTag}
+use Rattle.xml_text.specs.Texts.{Token, AreTokens}
+use Rattle.body_forms.specs.BlockLists.{IsBlockListBody, lookup_name, list_name, Entry, IsEntry, IsBlockListText}
+use Rattle.body_forms.specs.BlockListReading.{body_entries, lookup_of, entry_at, entries_of}
+use Rattle.xml_text.specs.ElementReading.{is_kind, content_at, inner_at}
+use Rattle.xml_text.proofs.Sound.{mapped_some}
+use Rattle.xml_text.proofs.FrontLemmas.{body_sound, body_read}
+use Rattle.xml_text.proofs.ElementsSound.{content_sound, inner_sound, root_sound}
+use Rattle.xml_text.proofs.ElementsComplete.{content_read, inner_read, root_read}
 
 lookup_sound : (name : List ℕ) (s : Lookup) → lookup_of name ≡ Some s → name ≡ lookup_name s
 lookup_sound name s e =

@@ -8,9 +8,8 @@ use Rattle.stamp_values.specs.declared.block.Wanted.{Wanted}
 use Rattle.base64_text.specs.Base64.{standard, decoded_of, is_base64_within}
 use Rattle.body_forms.specs.declared.body_fault.BodyFault.{BodyFault}
 use Rattle.body_forms.specs.declared.body_fault.BodyFault.TheVariants as fault
-use Rattle.body_forms.specs.Bodies.{IsBlockListBody}
-use Rattle.body_forms.specs.BlockLists.{Entry}
-use Rattle.body_forms.specs.FrontReading.{body_entries}
+use Rattle.body_forms.specs.BlockLists.{IsBlockListBody, Entry}
+use Rattle.body_forms.specs.BlockListReading.{body_entries}
 use Rattle.body_forms.specs.Ids.{has_bad_id, if_id, id_of, wanted_of, wanted_list, listed_ids, listed_blocks, block_list_reading}
 use Rattle.body_forms.specs.Outcomes.{FaultOf}
 use Rattle.body_forms.proofs.BlockListLemmas.{entries_sound, not_a_body}

@@ -14,9 +14,8 @@ use Rattle.base64_text.proofs.AlphabetLemmas.{encode_of-decoded}
 use Rattle.base64_text.proofs.DecodingLemmas.{decoded_some}
 use Rattle.body_forms.specs.declared.body_fault.BodyFault.{BodyFault}
 use Rattle.body_forms.specs.declared.body_fault.BodyFault.TheVariants as fault
-use Rattle.body_forms.specs.Bodies.{IsBlockListBody}
-use Rattle.body_forms.specs.BlockLists.{Entry}
-use Rattle.body_forms.specs.FrontReading.{body_entries}
+use Rattle.body_forms.specs.BlockLists.{IsBlockListBody, Entry}
+use Rattle.body_forms.specs.BlockListReading.{body_entries}
 use Rattle.body_forms.specs.Ids.{has_bad_id, wanted_entry, if_id, id_of, wanted_of, wanted_list, listed_ids, listed_blocks, block_list_reading, IsBlockId, HaveBlockIds}
 use Rattle.body_forms.specs.PolicyReading.{body_policies}
 use Rattle.body_forms.specs.Policies.{Sent, ArePoliciesBody}
@@ -24,8 +23,8 @@ use Rattle.body_forms.specs.PolicyValues.{judged_form, policies_reading, IsFirst
 use Rattle.body_forms.proofs.BlockListLemmas.{entries_read, entries_sound}
 use Rattle.body_forms.proofs.PolicyFaults.{says_fault, reading_is, good_judged, fault_judged}
 use Rattle.body_forms.proofs.PolicyLemmas.{policies_read, policies_sound}
-use Rattle.body_forms.proofs.Runs.{if_none}
-use Rattle.body_forms.proofs.Sound.{mapped_some}
+use Rattle.xml_text.proofs.Runs.{if_none}
+use Rattle.xml_text.proofs.Sound.{mapped_some}
 use Rattle.body_forms.proofs.TextBytes.{body_is_bytes}
 
 -- ---- ids

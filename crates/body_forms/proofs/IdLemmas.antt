@@ -9,9 +9,9 @@ use Rattle.std.proofs.lemmas.List.{reverse-append}
 use Rattle.stamp_values.specs.Ascii.{ampersand, quote}
 use Rattle.base64_text.specs.Base64.{IsBytes}
 use Rattle.base64_text.proofs.AlphabetLemmas.{decoded_of-other}
-use Rattle.body_forms.specs.Markup.{less_than, greater_than, apostrophe, is_white}
-use Rattle.body_forms.specs.Elements.{without_white_front, without_white_ends}
-use Rattle.body_forms.specs.ElementReading.{unescaped, value_of, reference_value, reference_len}
+use Rattle.xml_text.specs.Markup.{less_than, greater_than, apostrophe, is_white}
+use Rattle.xml_text.specs.Elements.{without_white_front, without_white_ends}
+use Rattle.xml_text.specs.ElementReading.{unescaped, value_of, reference_value, reference_len}
 use Rattle.body_forms.specs.Ids.{if_id, id_of}
 
 neither : (a b : Bool) → (a || b) ≡ false → (a ≡ false) × (b ≡ false)

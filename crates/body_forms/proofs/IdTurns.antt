@@ -5,7 +5,7 @@ use Rattle.std.proofs.lemmas.List.{at_drop_more, map-append}
 use Rattle.stamp_values.specs.declared.block.Wanted.{Wanted}
 use Rattle.body_forms.specs.declared.elements.Element as code
 use Rattle.body_forms.specs.BlockLists.{Entry}
-use Rattle.body_forms.specs.ElementReading.{entry_view}
+use Rattle.body_forms.specs.BlockListReading.{entry_view}
 use Rattle.body_forms.specs.Ids.{wanted_entry, wanted_of, wanted_list}
 
 -- these blocks before the blocks that are read

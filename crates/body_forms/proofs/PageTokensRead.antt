@@ -13,16 +13,16 @@ use Rattle.stamp_types.specs.declared.args.Page.{Page}
 use Rattle.moment_text.specs.Http.{http_text}
 use Rattle.body_forms.specs.KeptPolicies.{IsMoment}
 use Rattle.body_forms.specs.ListEntries.{Entry, ShownBlob, ShownContainer}
-use Rattle.body_forms.specs.Markup.{is_name_start, is_name_byte}
-use Rattle.body_forms.specs.Texts.{Token}
-use Rattle.body_forms.specs.Tokens.{is_name}
-use Rattle.body_forms.specs.TokenReading.{body_tokens}
-use Rattle.body_forms.specs.PageTokens.{element_tokens, field_tokens, given_tokens, meta_tokens, metadata_tokens, dates_tokens, blob_properties_tokens, blob_tokens, group_tokens, container_tokens, entry_tokens, asked_tokens, next_tokens, blob_list_tokens, container_list_tokens, IsCleanText, IsCleanMeta, IsCleanBlob, IsCleanContainer, IsCleanEntry, IsCleanPage}
-use Rattle.body_forms.specs.WrittenLists.{opening_text, closing_text, prolog_text}
-use Rattle.body_forms.specs.WrittenPages.{filled_text, meta_text, metadata_text, dates_text, content_text, blob_properties_text, blob_text, group_text, container_properties_text, container_text, entry_text, page_asked_text, next_text, blobs_text, containers_text, blob_list_text, container_list_text}
-use Rattle.body_forms.specs.WrittenPolicies.{element_text, given_text}
-use Rattle.body_forms.proofs.PlainTexts.{plain_decimal, plain_etag, plain_date}
-use Rattle.body_forms.proofs.TokensRead.{IsWrittenAs, written-nil, written-append, element_as, field_as, filled_as, all_as, body_as}
+use Rattle.xml_text.specs.Markup.{is_name_start, is_name_byte}
+use Rattle.xml_text.specs.Texts.{Token}
+use Rattle.xml_text.specs.Tokens.{is_name}
+use Rattle.xml_text.specs.TokenReading.{body_tokens}
+use Rattle.xml_text.specs.WrittenTokens.{element_tokens, field_tokens, given_tokens, IsCleanText}
+use Rattle.body_forms.specs.PageTokens.{meta_tokens, metadata_tokens, dates_tokens, blob_properties_tokens, blob_tokens, group_tokens, container_tokens, entry_tokens, asked_tokens, next_tokens, blob_list_tokens, container_list_tokens, IsCleanMeta, IsCleanBlob, IsCleanContainer, IsCleanEntry, IsCleanPage}
+use Rattle.xml_text.specs.WrittenElements.{opening_text, closing_text, prolog_text, filled_text, element_text, given_text}
+use Rattle.body_forms.specs.WrittenPages.{meta_text, metadata_text, dates_text, content_text, blob_properties_text, blob_text, group_text, container_properties_text, container_text, entry_text, page_asked_text, next_text, blobs_text, containers_text, blob_list_text, container_list_text}
+use Rattle.body_forms.proofs.PlainValues.{plain_decimal, plain_etag, plain_date}
+use Rattle.xml_text.proofs.TokensRead.{IsWrittenAs, written-nil, written-append, element_as, field_as, filled_as, all_as, body_as}
 
 -- ---- names of metadata
 

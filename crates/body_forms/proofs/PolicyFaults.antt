@@ -3,10 +3,10 @@ use Rattle.std.proofs.Common.{◌≡◌, ◌≢◌, inl, inr, ℕ, Bool, true, f
 use Rattle.std.specs.Prelude.{option_and_then}
 use Rattle.std.proofs.lemmas.Option.{none-some}
 use Rattle.stamp_values.specs.Texts.{is_utf8}
-use Rattle.body_forms.specs.Bodies.{are_controls_white}
-use Rattle.body_forms.specs.FrontReading.{after_mark, after_prolog}
-use Rattle.body_forms.specs.Reading.{tag_at}
-use Rattle.body_forms.specs.ElementReading.{root_of}
+use Rattle.xml_text.specs.Bodies.{are_controls_white}
+use Rattle.xml_text.specs.FrontReading.{after_mark, after_prolog}
+use Rattle.xml_text.specs.Reading.{tag_at}
+use Rattle.xml_text.specs.ElementReading.{root_of}
 use Rattle.std.specs.List.{list_any}
 use Rattle.stamp_values.specs.declared.policy.Policy.{Policy}
 use Rattle.stamp_values.specs.Limits.{policies_limit}

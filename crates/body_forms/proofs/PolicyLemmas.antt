@@ -5,17 +5,16 @@ use Rattle.std.proofs.lemmas.Option.{option_and_then_some, same_Some}
 use Rattle.std.proofs.lemmas.Slice.Eq.{bytes_eq-Decides}
 use Rattle.body_forms.specs.declared.access_policy.Field.{Field}
 use Rattle.body_forms.specs.declared.access_policy.Field.TheVariants.{Start, Expiry, Permission}
-use Rattle.body_forms.specs.Tokens.{Tag, IsTag}
-use Rattle.body_forms.specs.Texts.{Token, AreTokens}
-use Rattle.body_forms.specs.Elements.{IsElementOf}
+use Rattle.xml_text.specs.Tokens.{Tag, IsTag}
+use Rattle.xml_text.specs.Texts.{Token, AreTokens}
+use Rattle.xml_text.specs.Elements.{IsElementOf}
 use Rattle.body_forms.specs.Policies.{ArePoliciesBody, policies_name, policy_name, id_name, access_name, field_name, Given, IsGiven, Access, access_of, IsAccess, Part, id, access, IsPart, Sent, sent_of, IsSent, AreSent, AreSentText}
-use Rattle.body_forms.specs.ElementReading.{content_at, inner_at}
-use Rattle.body_forms.specs.PolicyReading.{field_of, given_at, access_at, part_at, sent_at, policies_of}
-use Rattle.body_forms.specs.PolicyReading.{body_policies}
-use Rattle.body_forms.proofs.Sound.{mapped_some}
-use Rattle.body_forms.proofs.FrontLemmas.{body_sound, body_read}
-use Rattle.body_forms.proofs.ElementsSound.{RestRead, content_sound, inner_sound, inner_name, made_sound, root_sound}
-use Rattle.body_forms.proofs.ElementsComplete.{IsRead, content_read, inner_read, made_read, root_read}
+use Rattle.xml_text.specs.ElementReading.{content_at, inner_at}
+use Rattle.body_forms.specs.PolicyReading.{field_of, given_at, access_at, part_at, sent_at, policies_of, body_policies}
+use Rattle.xml_text.proofs.Sound.{mapped_some}
+use Rattle.xml_text.proofs.FrontLemmas.{body_sound, body_read}
+use Rattle.xml_text.proofs.ElementsSound.{RestRead, content_sound, inner_sound, inner_name, made_sound, root_sound}
+use Rattle.xml_text.proofs.ElementsComplete.{IsRead, content_read, inner_read, made_read, root_read}
 
 -- ---- fields
 

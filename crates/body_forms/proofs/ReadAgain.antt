@@ -10,7 +10,7 @@ use Rattle.std.proofs.lemmas.Option.{option_and_then_some, same_Some}
 use Rattle.httpdate.specs.Calendar.{days_in_month, days_from_civil}
 use Rattle.httpdate.proofs.CalendarLemmas.{days_from_civil_bound}
 use Rattle.stamp_values.specs.declared.policy.Policy.{Policy}
-use Rattle.stamp_values.specs.Letters.{Permissions, has_permission, letters_text}
+use Rattle.stamp_values.specs.Letters.{Permissions, has_permission, letters_text, letters_of}
 use Rattle.stamp_values.specs.Limits.{policies_limit}
 use Rattle.stamp_values.specs.Names.{is_policy_id}
 use Rattle.stamp_values.specs.Policies.{has_distinct_ids, is_policies}
@@ -19,18 +19,18 @@ use Rattle.moment_text.specs.declared.fault.TimeFault.{TimeFault}
 use Rattle.moment_text.specs.IsoReader.{iso_time, iso_moment}
 use Rattle.moment_text.proofs.IsoMoment.{iso_moment_is}
 use Rattle.moment_text.proofs.TimeLemmas.{iso_moment-iso_text}
-use Rattle.body_forms.specs.Texts.{Token}
-use Rattle.body_forms.specs.Elements.{AreElements, IsElementOf, IsTextElement, HasNoWhiteEnds}
+use Rattle.xml_text.specs.Texts.{Token}
+use Rattle.xml_text.specs.Elements.{AreElements, IsElementOf, IsTextElement, HasNoWhiteEnds}
 use Rattle.body_forms.specs.Policies.{is_nil, at_most_one, exactly_one, id_name, policies_name, policy_name, ArePoliciesBody, Access, no_access, Part, id, access, IsPart, ids, accesses, Sent, sent_of, IsSent}
-use Rattle.body_forms.specs.PolicyValues.{is_good_id, moment_read, moment_of, letters_of, is_bad_time, are_bad_letters, policy_of, has_bad_id, has_bad_letters, has_bad_time, have_bad_ids, are_too_many, policies_reading, HasNoFault}
+use Rattle.body_forms.specs.PolicyValues.{is_good_id, moment_read, moment_of, is_bad_time, are_bad_letters, policy_of, has_bad_id, has_bad_letters, has_bad_time, have_bad_ids, are_too_many, policies_reading, HasNoFault}
 use Rattle.body_forms.specs.KeptPolicies.{last_moment, IsMoment, IsPolicy, ArePolicies}
 use Rattle.body_forms.specs.WrittenPolicies.{moment_text, policies_text}
-use Rattle.body_forms.proofs.LetterLemmas.{letters_of-letters_text, letters_taken}
+use Rattle.stamp_values.proofs.LetterLemmas.{letters_of-letters_text, letters_taken}
 use Rattle.body_forms.proofs.PolicyLemmas.{policies_read}
 use Rattle.body_forms.proofs.PolicyFaults.{says_policies, reading_is, good_judged}
 use Rattle.body_forms.proofs.PolicyValueLemmas.{mapped_length, not_false, ids_decide}
-use Rattle.body_forms.proofs.Sound.{mapped_some}
-use Rattle.body_forms.proofs.TrimmedTexts.{ends_cut_once}
+use Rattle.xml_text.proofs.Sound.{mapped_some}
+use Rattle.xml_text.proofs.TrimmedTexts.{ends_cut_once}
 use Rattle.body_forms.proofs.WrittenPolicyLemmas.{text_if, sent_by, HasGoodId, Trimmed, policies_written}
 
 and_false : (a b : Bool) → b ≡ false → (a && b) ≡ false

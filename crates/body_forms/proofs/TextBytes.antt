@@ -7,12 +7,11 @@ use Rattle.std.proofs.lemmas.Bool.Decides.{nat_tests}
 use Rattle.std.proofs.lemmas.List.Elements.{All-nil, All-cons}
 use Rattle.std.proofs.lemmas.List.Folds.{list_all-append}
 use Rattle.base64_text.specs.Base64.{IsBytes}
-use Rattle.body_forms.specs.Texts.{Token, tag, text, AreTokens, Piece, plain, amp, lt, gt, quot, apos, piece_value, piece_bytes}
-use Rattle.body_forms.specs.Elements.{opening, closing, IsTextElement, AreElements}
-use Rattle.body_forms.specs.BlockLists.{Entry, IsEntry, IsBlockList, lookup_name}
-use Rattle.body_forms.specs.Bodies.{IsBlockListBody}
+use Rattle.xml_text.specs.Texts.{Token, tag, text, AreTokens, Piece, plain, amp, lt, gt, quot, apos, piece_value, piece_bytes}
+use Rattle.xml_text.specs.Elements.{opening, closing, IsTextElement, AreElements}
+use Rattle.body_forms.specs.BlockLists.{Entry, IsEntry, IsBlockList, lookup_name, IsBlockListBody}
 use Rattle.body_forms.proofs.IdLemmas.{is_byte, are_bytes, trimmed_bytes}
-use Rattle.body_forms.proofs.Utf8Texts.{passes_text}
+use Rattle.xml_text.proofs.Utf8Texts.{passes_text}
 
 -- ---- UTF-8
 

@@ -1,7 +1,7 @@
 -- Parts of a body that are written one after the other.
 use Rattle.std.proofs.Common.{◌≡◌, ℕ, List, ◌++◌, append_assoc, refl, ap, ◌∙◌}
 use Rattle.stamp_values.specs.declared.policy.Policy.{Policy}
-use Rattle.body_forms.specs.WrittenLists.{closing_text, opening_text}
+use Rattle.xml_text.specs.WrittenElements.{closing_text, opening_text}
 use Rattle.body_forms.specs.Policies.{policy_name}
 use Rattle.body_forms.specs.WrittenPolicies.{identified_text, policy_text}
 

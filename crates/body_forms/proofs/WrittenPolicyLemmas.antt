@@ -13,18 +13,19 @@ use Rattle.stamp_values.specs.Texts.{char_count}
 use Rattle.stamp_values.proofs.Utf8Lemmas.{utf8_passes}
 use Rattle.body_forms.specs.declared.access_policy.Field.{Field}
 use Rattle.body_forms.specs.declared.access_policy.Field.TheVariants.{Start, Expiry, Permission}
-use Rattle.body_forms.specs.Bodies.{are_controls_white}
-use Rattle.body_forms.specs.Tokens.{is_name}
-use Rattle.body_forms.specs.Elements.{HasNoWhiteEnds}
+use Rattle.xml_text.specs.Bodies.{are_controls_white}
+use Rattle.xml_text.specs.Tokens.{is_name}
+use Rattle.xml_text.specs.Elements.{HasNoWhiteEnds}
 use Rattle.body_forms.specs.Policies.{ArePoliciesBody, policies_name, policy_name, id_name, access_name, field_name, Given, IsGiven, values, Access, access_of, IsAccess, Part, id, access, IsPart, ids, accesses, Sent, sent_of, IsSent, AreSent}
 use Rattle.body_forms.specs.PolicyValues.{is_good_id}
-use Rattle.body_forms.specs.WrittenLists.{opening_text, closing_text, prolog_text}
-use Rattle.body_forms.specs.WrittenPolicies.{moment_text, element_text, given_text, fields_text, access_text, identified_text, policy_text, policies_text}
-use Rattle.body_forms.proofs.Utf8Texts.{passes_text}
-use Rattle.body_forms.proofs.TrimmedTexts.{is_dark, dark_trimmed, dark_clean, all_visible, dark_moment, dark_letters}
-use Rattle.body_forms.proofs.SoundTexts.{IsSound, sound-nil, sound-append, is_shown_name, inner_sound, element_sound, prolog_sound}
-use Rattle.body_forms.proofs.WrittenTexts.{IsUtf8-visible}
-use Rattle.body_forms.proofs.WrittenElements.{IsWritten, AreWritten, text_written, none_written, one_written, element_written, root_written}
+use Rattle.xml_text.specs.WrittenElements.{opening_text, closing_text, prolog_text, element_text, given_text}
+use Rattle.body_forms.specs.WrittenPolicies.{moment_text, fields_text, access_text, identified_text, policy_text, policies_text}
+use Rattle.xml_text.proofs.Utf8Texts.{passes_text}
+use Rattle.xml_text.proofs.TrimmedTexts.{is_dark, dark_trimmed, dark_clean, all_visible}
+use Rattle.body_forms.proofs.TrimmedValues.{dark_moment, dark_letters}
+use Rattle.xml_text.proofs.SoundTexts.{IsSound, sound-nil, sound-append, is_shown_name, inner_sound, element_sound, prolog_sound}
+use Rattle.xml_text.proofs.WrittenTexts.{IsUtf8-visible}
+use Rattle.xml_text.proofs.WrittenElements.{IsWritten, AreWritten, text_written, none_written, one_written, element_written, root_written}
 
 -- ---- the texts of a policy
 

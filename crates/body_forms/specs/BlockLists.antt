@@ -3,8 +3,9 @@
 use Rattle.std.specs.Prelude.{ℕ, List, codes}
 use Rattle.stamp_values.specs.declared.block.Lookup.{Lookup}
 use Rattle.stamp_values.specs.declared.block.Lookup.TheVariants.{Latest, Committed, Uncommitted}
-use Rattle.body_forms.specs.Texts.{Token}
-use Rattle.body_forms.specs.Elements.{IsTextElement, IsElementOf, IsRoot}
+use Rattle.xml_text.specs.Texts.{Token}
+use Rattle.xml_text.specs.Elements.{IsTextElement, IsElementOf, IsRoot}
+use Rattle.xml_text.specs.Bodies.{IsBody}
 
 -- the name of an entry's element
 abbrev pub lookup_name : Lookup → List ℕ
@@ -32,3 +33,7 @@ IsBlockList es tokens = IsElementOf list_name IsEntry es tokens
 -- the text is a block list of these entries, with white space alone before and after the root
 abbrev pub IsBlockListText : List ℕ → List Entry → Type 0
 IsBlockListText s es = IsRoot (IsBlockList es) s
+
+-- the body is a block list of these entries
+abbrev pub IsBlockListBody : List ℕ → List Entry → Type 0
+IsBlockListBody body entries = IsBody (λ rest. IsBlockListText rest entries) body

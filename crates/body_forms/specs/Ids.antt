@@ -6,7 +6,7 @@ use Rattle.base64_text.specs.Base64.{standard, encode_of, decoded_of, is_base64_
 use Rattle.body_forms.specs.declared.body_fault.BodyFault.{BodyFault}
 use Rattle.body_forms.specs.declared.body_fault.BodyFault.TheVariants as fault
 use Rattle.body_forms.specs.BlockLists.{Entry}
-use Rattle.body_forms.specs.FrontReading.{body_entries}
+use Rattle.body_forms.specs.BlockListReading.{body_entries}
 
 -- the text of the entry is not the strict Base64 of 1 to 64 bytes
 abbrev pub has_bad_id : Entry → Bool

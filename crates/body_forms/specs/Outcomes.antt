@@ -2,7 +2,7 @@
 use Rattle.std.specs.Prelude.{◌≡◌, ℕ, List, Some, None, Result, Err, MatchResult}
 use Rattle.body_forms.specs.declared.body_fault.BodyFault.{BodyFault}
 use Rattle.body_forms.specs.declared.body_fault.BodyFault.TheVariants as fault
-use Rattle.body_forms.specs.Reading.{Read}
+use Rattle.xml_text.specs.Reading.{Read}
 
 -- the fault says this because the body does not have its form, unless memory ran out; no other fault comes
 abbrev pub OnForm : Type 0 → BodyFault → Type 0

@@ -3,32 +3,13 @@
 use Rattle.std.specs.Prelude.{◌≡◌, ℕ, Bool, true, List, [], ◌∷◌, ◌++◌, All, Option, Some, None, IfSome, codes, cond, decimal, flat_map, unwrap_or}
 use Rattle.stamp_values.specs.Etags.{etag_text}
 use Rattle.stamp_values.specs.Names.{is_metadata_name}
-use Rattle.stamp_values.specs.Texts.{is_clean, is_utf8}
 use Rattle.stamp_values.specs.declared.meta.Meta.{Meta}
 use Rattle.stamp_types.specs.declared.args.Page.{Page}
 use Rattle.moment_text.specs.Http.{http_text}
-use Rattle.body_forms.specs.Elements.{opening, closing}
 use Rattle.body_forms.specs.KeptPolicies.{IsMoment}
 use Rattle.body_forms.specs.ListEntries.{Entry, ShownBlob, ShownContainer}
-use Rattle.body_forms.specs.Texts.{Token, text}
-
--- the text as a token; a text without bytes is not a token
-abbrev pub text_tokens : List ℕ → List Token
-text_tokens [] = []
-text_tokens (c ∷ cs) = text (c ∷ cs) ∷ []
-
--- an element of this name with these tokens in it
-abbrev pub element_tokens : List ℕ → List Token → List Token
-element_tokens name inside = opening name ∷ (inside ++ closing name ∷ [])
-
--- an element of this name with this text alone
-abbrev pub field_tokens : List ℕ → List ℕ → List Token
-field_tokens name t = element_tokens name (text_tokens t)
-
--- the same if there is a text, and nothing otherwise
-abbrev pub given_tokens : List ℕ → Option (List ℕ) → List Token
-given_tokens name None = []
-given_tokens name (Some t) = field_tokens name t
+use Rattle.xml_text.specs.Texts.{Token}
+use Rattle.xml_text.specs.WrittenTokens.{element_tokens, field_tokens, given_tokens, IsCleanText}
 
 -- a name of metadata with its value
 abbrev pub meta_tokens : Meta → List Token
@@ -102,10 +83,6 @@ container_list_tokens q entries next =
     ++ next_tokens next)
 
 -- ---- what the types of the parts promise
-
--- the text is UTF-8 and has no control character
-abbrev pub IsCleanText : List ℕ → Type 0
-IsCleanText t = (is_utf8 t ≡ true) × (is_clean t ≡ true)
 
 -- the name is a name of metadata, and the value is a text
 pub record IsCleanMeta (m : Meta) : Type 0 where

@@ -3,9 +3,9 @@
 use Rattle.std.specs.Prelude.{ℕ, Bool, true, false, if◌then◌else◌, List, [], ◌∷◌, Option, Some, None, option_map, option_and_then, codes, ◌≡◌}
 use Rattle.body_forms.specs.declared.access_policy.Field.{Field}
 use Rattle.body_forms.specs.declared.access_policy.Field.TheVariants.{Start, Expiry, Permission}
-use Rattle.body_forms.specs.Bodies.{IsBody}
-use Rattle.body_forms.specs.Texts.{Token}
-use Rattle.body_forms.specs.Elements.{IsTextElement, IsElementOf, IsRoot}
+use Rattle.xml_text.specs.Bodies.{IsBody}
+use Rattle.xml_text.specs.Texts.{Token}
+use Rattle.xml_text.specs.Elements.{IsTextElement, IsElementOf, IsRoot}
 
 -- the name of the root
 abbrev pub policies_name : List ℕ

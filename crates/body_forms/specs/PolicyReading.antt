@@ -7,11 +7,11 @@ use Rattle.body_forms.specs.declared.access_policy.Given as code_given
 use Rattle.body_forms.specs.declared.sent_policies.Part as code_part
 use Rattle.body_forms.specs.declared.sent_policies.Part.TheVariants as part
 use Rattle.body_forms.specs.declared.sent_policies.Sent as code_sent
-use Rattle.body_forms.specs.Tokens.{Tag}
+use Rattle.xml_text.specs.Tokens.{Tag}
 use Rattle.body_forms.specs.Policies.{policies_name, policy_name, id_name, access_name, Given, Access, access_of, Part, id, access, Sent, sent_of}
-use Rattle.body_forms.specs.FrontReading.{body_of}
-use Rattle.body_forms.specs.Reading.{Read, ◌>>=◌}
-use Rattle.body_forms.specs.ElementReading.{value_of, content_at, inner_at, made_at, root_of}
+use Rattle.xml_text.specs.FrontReading.{body_of}
+use Rattle.xml_text.specs.Reading.{Read, ◌>>=◌}
+use Rattle.xml_text.specs.ElementReading.{value_of, content_at, inner_at, made_at, root_of}
 
 -- a field of the code, as a field
 abbrev pub given_view : code_given.Given → Given

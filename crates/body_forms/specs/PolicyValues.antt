@@ -1,9 +1,8 @@
 -- What the texts of stored policies say, and which texts are bad (Blob service REST reference, 2012-02-12, Set Container ACL).
-use Rattle.std.specs.Prelude.{◌≡◌, ◌≢◌, ◌⊎◌, ℕ, Bool, true, false, not, ◌&&◌, ◌||◌, ◌==◌, if◌then◌else◌, nat_lt, List, [], ◌∷◌, length, map, bytes_eq, Option, Some, None, is_none, Result, Ok, Err}
+use Rattle.std.specs.Prelude.{◌≡◌, ◌≢◌, ◌⊎◌, ℕ, Bool, true, false, not, ◌&&◌, ◌||◌, if◌then◌else◌, nat_lt, List, [], ◌∷◌, length, map, Option, Some, None, is_none, Result, Ok, Err}
 use Rattle.std.specs.List.{list_any}
 use Rattle.stamp_values.specs.declared.policy.Policy.{Policy}
-use Rattle.stamp_values.specs.Ascii.{lower_r, lower_w, lower_d, lower_l}
-use Rattle.stamp_values.specs.Letters.{Permissions, has_permission, letters_text}
+use Rattle.stamp_values.specs.Letters.{letters_of}
 use Rattle.stamp_values.specs.Limits.{policies_limit}
 use Rattle.stamp_values.specs.Names.{is_policy_id}
 use Rattle.stamp_values.specs.Policies.{has_distinct_ids}
@@ -33,16 +32,6 @@ moment_read (Err e) = None
 -- the moment that a text names
 unfoldable pub moment_of : List ℕ → Option ℕ
 moment_of t = moment_read (iso_moment t)
-
--- the permissions whose letters are in the text
-abbrev pub permissions_in : List ℕ → Permissions
-permissions_in t =
-    record { read = list_any (λ c. c == lower_r) t; write = list_any (λ c. c == lower_w) t; delete = list_any (λ c. c == lower_d) t; list = list_any (λ c. c == lower_l) t }
-
--- the permissions that the text gives: there is a permission, and the text is the letters of the permissions in their order
-unfoldable pub letters_of : List ℕ → Option Permissions
-letters_of t =
-    if has_permission (permissions_in t) && bytes_eq (letters_text (permissions_in t)) t then Some (permissions_in t) else None
 
 -- the text is given, and names no moment
 unfoldable pub is_bad_time : List ℕ → Bool

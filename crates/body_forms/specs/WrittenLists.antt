@@ -2,6 +2,7 @@
 -- 1.0, sections 2.8 and 3.1).
 use Rattle.std.specs.Prelude.{ℕ, List, [], ◌++◌, Option, Some, None, codes, decimal, flat_map}
 use Rattle.base64_text.specs.Base64.{standard, encode_of}
+use Rattle.xml_text.specs.WrittenElements.{opening_text, closing_text, prolog_text}
 use Rattle.body_forms.specs.BlockLists.{list_name}
 use Rattle.body_forms.specs.declared.written_list.ListedBlock as code
 
@@ -26,14 +27,6 @@ size_text len = codes "<Size>" ++ decimal len ++ codes "</Size>"
 unfoldable pub block_text : ListedBlock → List ℕ
 block_text b = codes "<Block>" ++ name_text b.id ++ size_text b.len ++ codes "</Block>"
 
--- the opening tag of this name as it is written
-unfoldable pub opening_text : List ℕ → List ℕ
-opening_text name = codes "<" ++ name ++ codes ">"
-
--- the closing tag of this name as it is written
-unfoldable pub closing_text : List ℕ → List ℕ
-closing_text name = codes "</" ++ name ++ codes ">"
-
 -- the blocks as they are written, in an element of this name
 unfoldable pub blocks_text : List ℕ → List ListedBlock → List ℕ
 blocks_text name blocks = opening_text name ++ flat_map block_text blocks ++ closing_text name
@@ -42,10 +35,6 @@ blocks_text name blocks = opening_text name ++ flat_map block_text blocks ++ clo
 abbrev pub asked_text : List ℕ → Option (List ListedBlock) → List ℕ
 asked_text name None = []
 asked_text name (Some blocks) = blocks_text name blocks
-
--- the prolog of a body that is written
-unfoldable pub prolog_text : List ℕ
-prolog_text = codes "<?xml version=\"1.0\" encoding=\"utf-8\"?>"
 
 -- both lists as they are written, if they were asked for: the committed blocks come first
 unfoldable pub lists_text : Option (List ListedBlock) → Option (List ListedBlock) → List ℕ

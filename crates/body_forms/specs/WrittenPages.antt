@@ -6,12 +6,7 @@ use Rattle.stamp_values.specs.declared.meta.Meta.{Meta}
 use Rattle.stamp_types.specs.declared.args.Page.{Page}
 use Rattle.moment_text.specs.Http.{http_text}
 use Rattle.body_forms.specs.ListEntries.{Entry, ShownBlob, ShownContainer}
-use Rattle.body_forms.specs.WrittenLists.{opening_text, closing_text, prolog_text}
-use Rattle.body_forms.specs.WrittenPolicies.{element_text, given_text}
-
--- an element of this name with these bytes in it, as they are
-unfoldable pub filled_text : List ℕ → List ℕ → List ℕ
-filled_text name inner = opening_text name ++ inner ++ closing_text name
+use Rattle.xml_text.specs.WrittenElements.{opening_text, closing_text, prolog_text, element_text, given_text, filled_text}
 
 -- a name of metadata with its value
 abbrev pub meta_text : Meta → List ℕ

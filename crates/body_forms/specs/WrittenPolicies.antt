@@ -1,26 +1,16 @@
 -- Stored policies as they are written (Blob service REST reference, 2012-02-12, Get Container ACL; Extensible Markup Language 1.0,
 -- sections 2.8 and 3.1).
-use Rattle.std.specs.Prelude.{ℕ, List, [], ◌++◌, Option, Some, None, codes, flat_map, option_map}
+use Rattle.std.specs.Prelude.{ℕ, List, ◌++◌, codes, flat_map, option_map}
 use Rattle.stamp_values.specs.Letters.{letters_text}
 use Rattle.stamp_values.specs.declared.policy.Policy.{Policy}
 use Rattle.moment_text.specs.Civil.{time_at}
 use Rattle.moment_text.specs.Iso.{to_fraction, iso_text}
-use Rattle.body_forms.specs.Escapes.{escaped}
+use Rattle.xml_text.specs.WrittenElements.{opening_text, closing_text, prolog_text, element_text, given_text}
 use Rattle.body_forms.specs.Policies.{policies_name, policy_name, access_name}
-use Rattle.body_forms.specs.WrittenLists.{opening_text, closing_text, prolog_text}
 
 -- a moment in UTC with seven decimals of the second
 abbrev pub moment_text : ℕ → List ℕ
 moment_text moment = iso_text (to_fraction 7) (time_at moment)
-
--- an element of this name with this text alone, as it is written
-unfoldable pub element_text : List ℕ → List ℕ → List ℕ
-element_text name t = opening_text name ++ escaped t ++ closing_text name
-
--- the same if there is a text, and nothing otherwise
-abbrev pub given_text : List ℕ → Option (List ℕ) → List ℕ
-given_text name None = []
-given_text name (Some t) = element_text name t
 
 -- what a policy gives, as it is written: the start, the expiry and the permissions
 unfoldable pub fields_text : Policy → List ℕ

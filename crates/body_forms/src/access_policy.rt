@@ -1,8 +1,8 @@
 //! The element of a stored policy that has the start, the expiry and the permissions.
 ghost use Rattle.std.specs.Prelude.{◌≡◌, ◌≤◌, ◌<◌, ℕ, List, [], length, map, not, Some, None, IfSome, IfOk, option_map, MatchResult};
-ghost use Rattle.body_forms.specs.Reading as tags;
-ghost use Rattle.body_forms.specs.ElementReading.{value_of};
-ghost use Rattle.body_forms.specs.ElementReading as elements;
+ghost use Rattle.xml_text.specs.Reading as tags;
+ghost use Rattle.xml_text.specs.ElementReading.{value_of};
+ghost use Rattle.xml_text.specs.ElementReading as elements;
 ghost use Rattle.body_forms.specs.Policies.{is_nil, at_most_one, values, access_name};
 ghost use Rattle.body_forms.specs.Policies as policies;
 ghost use Rattle.body_forms.specs.PolicyReading.{given_view, access_view};
@@ -10,9 +10,8 @@ ghost use Rattle.body_forms.specs.PolicyReading as reading;
 ghost use Rattle.body_forms.specs.Outcomes.{Finds, OnForm};
 
 use crate::body_fault::BodyFault;
-use crate::content::{content, is_tag};
-use crate::tokens::{Kind, Tag, Tokens};
 use std::alloc::Global;
+use xml_text::{Kind, Tag, Tokens, content, is_tag};
 
 /// The name of the element.
 const ACCESS_NAME: &[u8] = b"AccessPolicy";
@@ -68,7 +67,7 @@ fn given_from<'a>(text: &mut Tokens<'a>, tag: Tag<'a>) -> Option<Given<'a>>
 }
 
 // Takes one field, or the end of the element.
-#[tactic(auto, unfolding(crate::specs::ElementReading::next_at))]
+#[tactic(auto, unfolding(xml_text::specs::ElementReading::next_at))]
 fn next_given<'a>(text: &mut Tokens<'a>) -> Option<Option<Given<'a>>>
     ensures value { tags.Gives (λ g. option_map given_view g) result text.new.left.now
         (elements.next_at access_name reading.given_at text.old.left.now) }
@@ -106,7 +105,7 @@ fn all_given<'a>(alloc: Global, text: &mut Tokens<'a>) -> Result<Vec<Given<'a>>,
 }
 
 // Takes the rest of an element of this name after its first tag, and gives its fields.
-#[tactic(auto, unfolding(crate::specs::ElementReading::inner_at))]
+#[tactic(auto, unfolding(xml_text::specs::ElementReading::inner_at))]
 fn fields_inside<'a>(
     alloc: Global,
     text: &mut Tokens<'a>,

@@ -1,20 +1,18 @@
 //! Reading block lists.
 ghost use Rattle.std.specs.Prelude.{◌≡◌, ◌≢◌, List, map, true, Ok, Err, Some, None, IfErr, IfOk, MatchResult};
 ghost use Rattle.std.specs.List.{list_any};
-ghost use Rattle.body_forms.specs.Bodies.{IsBlockListBody};
-ghost use Rattle.body_forms.specs.BlockLists.{Entry};
-ghost use Rattle.body_forms.specs.ElementReading.{entry_view};
-ghost use Rattle.body_forms.specs.FrontReading.{body_entries};
+ghost use Rattle.body_forms.specs.BlockLists.{IsBlockListBody, Entry};
+ghost use Rattle.body_forms.specs.BlockListReading.{entry_view, body_entries};
 ghost use Rattle.body_forms.specs.Ids.{block_list_reading, has_bad_id, wanted_entry};
 ghost use Rattle.body_forms.specs.Outcomes.{FaultOf, OnForm};
 ghost use Rattle.body_forms.specs.declared.body_fault.BodyFault.TheVariants as fault;
 
 use crate::body_fault::BodyFault;
 use crate::elements::{Element, read_elements};
-use crate::front::{after_mark, after_prolog, is_clean_text};
 use crate::ids::read_ids;
 use stamp_values::{Items, Wanted};
 use std::alloc::Global;
+use xml_text::{after_mark, after_prolog, is_clean_text};
 
 // The elements of the block list that the body is.
 fn body_elements(alloc: Global, body: &[u8]) -> Result<Vec<Element<'_>>, BodyFault>

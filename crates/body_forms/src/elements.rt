@@ -1,16 +1,16 @@
 //! The elements of a block list, each with its text as it is written.
 ghost use Rattle.std.specs.Prelude.{◌≡◌, ◌≤◌, ◌<◌, ℕ, length, map, Some, None, IfSome, option_map, MatchResult};
-ghost use Rattle.body_forms.specs.Reading as tags;
+ghost use Rattle.xml_text.specs.Reading as tags;
 ghost use Rattle.body_forms.specs.BlockLists.{list_name};
 ghost use Rattle.body_forms.specs.Outcomes.{Finds, OnForm};
-ghost use Rattle.body_forms.specs.ElementReading.{entry_view};
-ghost use Rattle.body_forms.specs.ElementReading as reading;
+ghost use Rattle.body_forms.specs.BlockListReading.{entry_view};
+ghost use Rattle.xml_text.specs.ElementReading as reading;
+ghost use Rattle.body_forms.specs.BlockListReading as blocks;
 
 use crate::body_fault::BodyFault;
-use crate::content::{content, is_tag};
-use crate::tokens::{Kind, Tag, Tokens};
 use stamp_values::Lookup;
 use std::alloc::Global;
+use xml_text::{Kind, Tag, Tokens, content, is_tag};
 
 /// The name of the root.
 const LIST_NAME: &[u8] = b"BlockList";
@@ -24,7 +24,7 @@ pub(crate) struct Element<'a> {
 
 // Where an element of this name looks for its block. `None` if no element of a block list has the name.
 fn lookup_of(name: &[u8]) -> Option<Lookup>
-    ensures { result ≡ reading.lookup_of name.now }
+    ensures { result ≡ blocks.lookup_of name.now }
 {
     if name == b"Committed".as_slice() {
         Some(Lookup::Committed)
@@ -38,10 +38,10 @@ fn lookup_of(name: &[u8]) -> Option<Lookup>
 }
 
 // Takes the rest of the element that begins with this tag.
-#[tactic(auto, unfolding(crate::specs::ElementReading::entry_at))]
+#[tactic(auto, unfolding(crate::specs::BlockListReading::entry_at))]
 fn element_from<'a>(text: &mut Tokens<'a>, tag: Tag<'a>) -> Option<Element<'a>>
     ensures value { tags.Gives entry_view result text.new.left.now
-        (reading.entry_at (tags.tag_of tag.entry) text.old.left.now) }
+        (blocks.entry_at (tags.tag_of tag.entry) text.old.left.now) }
     ensures within { IfSome result (λ _. length text.new.left.now ≤ length text.old.left.now) }
 {
     let lookup = lookup_of(tag.name)?;
@@ -50,10 +50,10 @@ fn element_from<'a>(text: &mut Tokens<'a>, tag: Tag<'a>) -> Option<Element<'a>>
 }
 
 // Takes one element, or the end of the list.
-#[tactic(auto, unfolding(crate::specs::ElementReading::next_at))]
+#[tactic(auto, unfolding(xml_text::specs::ElementReading::next_at))]
 fn next_element<'a>(text: &mut Tokens<'a>) -> Option<Option<Element<'a>>>
     ensures value { tags.Gives (λ e. option_map entry_view e) result text.new.left.now
-        (reading.next_at list_name reading.entry_at text.old.left.now) }
+        (reading.next_at list_name blocks.entry_at text.old.left.now) }
     ensures shorter { IfSome result (λ _. length text.new.left.now < length text.old.left.now) }
 {
     text.skip_white();
@@ -68,9 +68,9 @@ fn next_element<'a>(text: &mut Tokens<'a>) -> Option<Option<Element<'a>>>
 // Takes the elements up to the end of the list.
 fn elements<'a>(alloc: Global, text: &mut Tokens<'a>) -> Result<Vec<Element<'a>>, BodyFault>
     ensures value { (n : ℕ) → length text.old.left.now < n → MatchResult result
-        (λ es. reading.elements_at list_name reading.entry_at n text.old.left.now
+        (λ es. reading.elements_at list_name blocks.entry_at n text.old.left.now
         ≡ Some (map entry_view es.items, text.new.left.now))
-        (OnForm (reading.elements_at list_name reading.entry_at n text.old.left.now ≡ None)) }
+        (OnForm (reading.elements_at list_name blocks.entry_at n text.old.left.now ≡ None)) }
 {
     let mut elements = Vec::new(alloc);
     'elements: loop {
@@ -87,14 +87,14 @@ fn elements<'a>(alloc: Global, text: &mut Tokens<'a>) -> Result<Vec<Element<'a>>
 }
 
 // Takes the rest of a root after its first tag.
-#[tactic(auto, unfolding(crate::specs::ElementReading::inner_at))]
+#[tactic(auto, unfolding(xml_text::specs::ElementReading::inner_at))]
 fn root<'a>(
     alloc: Global,
     text: &mut Tokens<'a>,
     tag: Tag<'a>,
 ) -> Result<Vec<Element<'a>>, BodyFault>
     ensures value { Finds (λ es. map entry_view es.items) result text.new.left.now
-        (reading.inner_at list_name reading.entry_at (tags.tag_of tag.entry) text.old.left.now) }
+        (reading.inner_at list_name blocks.entry_at (tags.tag_of tag.entry) text.old.left.now) }
 {
     if is_tag(Kind::Opening, LIST_NAME, tag) {
         elements(alloc, text)
@@ -108,11 +108,11 @@ fn root<'a>(
 /// The elements of a text that is a block list without a byte order mark and a prolog, in their order.
 ///
 /// `Form` if the text is not a block list, and `NoMemory` if memory runs out.
-#[tactic(auto, unfolding(crate::specs::ElementReading::root_of))]
+#[tactic(auto, unfolding(xml_text::specs::ElementReading::root_of))]
 pub(crate) fn read_elements(alloc: Global, text: &[u8]) -> Result<Vec<Element<'_>>, BodyFault>
     ensures { MatchResult result
-        (λ es. reading.entries_of text.now ≡ Some (map entry_view es.items))
-        (OnForm (reading.entries_of text.now ≡ None)) }
+        (λ es. blocks.entries_of text.now ≡ Some (map entry_view es.items))
+        (OnForm (blocks.entries_of text.now ≡ None)) }
 {
     let mut left = Tokens { left: text };
     left.skip_white();

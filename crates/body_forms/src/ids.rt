@@ -3,17 +3,18 @@ ghost use Rattle.std.specs.Prelude.{◌≡◌, ◌==◌, map, None, Some, IfOk, 
 ghost use Rattle.std.specs.List.{list_any};
 ghost use Rattle.stamp_values.specs.Ascii.{ampersand};
 ghost use Rattle.base64_text.specs.Base64.{standard, encode_of};
-ghost use Rattle.body_forms.specs.ElementReading.{value_of, entry_view};
+ghost use Rattle.xml_text.specs.ElementReading.{value_of};
+ghost use Rattle.body_forms.specs.BlockListReading.{entry_view};
 ghost use Rattle.body_forms.specs.Ids.{wanted_entry, wanted_list};
 ghost use Rattle.body_forms.specs.Ids as ids;
 ghost use Rattle.body_forms.specs.Outcomes.{OnId};
 
 use crate::body_fault::BodyFault;
 use crate::elements::Element;
-use crate::trimming::without_white_ends;
 use base64_text::decoded_base64;
 use stamp_values::{BlockId, Bytes, Wanted};
 use std::alloc::{AllocError, Global};
+use xml_text::without_white_ends;
 
 fn has_reference(written: &[u8]) -> bool
     ensures { result ≡ list_any (λ c. c == ampersand) written.now }

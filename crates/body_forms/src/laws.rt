@@ -4,20 +4,19 @@ ghost use Rattle.std.specs.List.{list_any};
 ghost use Rattle.stamp_values.specs.declared.block.Wanted.{Wanted};
 ghost use Rattle.stamp_values.specs.declared.policy.Policy.{Policy};
 ghost use Rattle.stamp_types.specs.declared.args.Page.{Page};
-ghost use Rattle.body_forms.specs.Bodies.{IsBlockListBody};
-ghost use Rattle.body_forms.specs.BlockLists.{Entry};
-ghost use Rattle.body_forms.specs.Elements.{HasNoWhiteEnds};
-ghost use Rattle.body_forms.specs.Escapes.{escaped, IsReadBack};
-ghost use Rattle.body_forms.specs.FrontReading.{body_entries};
+ghost use Rattle.body_forms.specs.BlockLists.{IsBlockListBody, Entry};
+ghost use Rattle.xml_text.specs.Elements.{HasNoWhiteEnds};
+ghost use Rattle.body_forms.specs.BlockListReading.{body_entries};
 ghost use Rattle.body_forms.specs.Ids.{block_list_reading, has_bad_id, wanted_entry, HaveBlockIds};
 ghost use Rattle.body_forms.specs.declared.body_fault.BodyFault.{BodyFault};
 ghost use Rattle.body_forms.specs.declared.body_fault.BodyFault.TheVariants as fault;
-ghost use Rattle.body_forms.specs.PageTokens.{BlobEntries, ContainerEntries, blob_list_tokens, container_list_tokens, IsCleanBlob, IsCleanContainer, IsCleanEntry, IsCleanPage, IsCleanText};
+ghost use Rattle.body_forms.specs.PageTokens.{BlobEntries, ContainerEntries, blob_list_tokens, container_list_tokens, IsCleanBlob, IsCleanContainer, IsCleanEntry, IsCleanPage};
+ghost use Rattle.xml_text.specs.WrittenTokens.{IsCleanText};
 ghost use Rattle.body_forms.specs.PolicyReading.{body_policies};
 ghost use Rattle.body_forms.specs.Policies.{Sent, ArePoliciesBody};
 ghost use Rattle.body_forms.specs.PolicyValues.{policies_reading, SaysPolicies, SaysFault};
 ghost use Rattle.body_forms.specs.KeptPolicies.{ArePolicies};
-ghost use Rattle.body_forms.specs.TokenReading.{body_tokens};
+ghost use Rattle.xml_text.specs.TokenReading.{body_tokens};
 ghost use Rattle.body_forms.specs.WrittenPages.{blob_list_text, container_list_text};
 ghost use Rattle.body_forms.specs.WrittenPolicies.{policies_text};
 
@@ -67,11 +66,6 @@ pub fn policies_are_read_as_the_grammar_says()
         → (policies_reading body ≡ Ok policies) ↔ SaysPolicies body policies }
     ensures fault { (body : List ℕ) (f : BodyFault) → f ≢ fault.NoMemory
         → (policies_reading body ≡ Err f) ↔ SaysFault body f }
-{}
-
-/// A text that is written with references is read back as itself, and as no other text.
-pub fn what_is_escaped_is_read_back()
-    ensures { (text : List ℕ) → IsReadBack text (escaped text) }
 {}
 
 /// Stored policies that were written are read as these policies: policies that were read before, and any policies that a container may

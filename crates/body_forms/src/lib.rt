@@ -4,20 +4,12 @@
 mod access_policy;
 mod block_list;
 mod body_fault;
-mod bytes;
-mod content;
 mod elements;
-mod escape;
-mod front;
 mod ids;
 mod laws;
 mod list_entries;
 mod policies;
 mod sent_policies;
-mod tokens;
-mod trimming;
-mod unescape;
-mod written_elements;
 mod written_list;
 mod written_pages;
 mod written_policies;
@@ -29,7 +21,6 @@ pub use laws::{
     block_lists_are_read_as_the_grammar_says, policies_are_read_as_the_grammar_says,
     policies_are_read_as_they_were_written, policies_are_read_in_one_way,
     the_reading_is_the_grammar, the_reading_of_policies_is_the_grammar,
-    what_is_escaped_is_read_back,
 };
 pub use list_entries::{BlobEntry, ContainerEntry, ListedBlob};
 pub use policies::read_policies;

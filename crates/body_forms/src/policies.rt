@@ -8,12 +8,11 @@ ghost use Rattle.body_forms.specs.PolicyValues as values;
 ghost use Rattle.body_forms.specs.Outcomes.{FaultOf, OnForm, OnId};
 
 use crate::body_fault::BodyFault;
-use crate::front::{after_mark, after_prolog, is_clean_text};
 use crate::sent_policies::{Sent, read_sent};
-use crate::unescape::value_of;
 use moment_text::read_iso;
 use stamp_values::{Items, Letters, Moment, POLICIES_LIMIT, Policies, Policy, Text, is_policy_id};
 use std::alloc::{AllocError, Global};
+use xml_text::{after_mark, after_prolog, is_clean_text, value_of};
 
 /// The texts of a policy, without references and without white space at their ends.
 #[derive(Drop)]
@@ -60,13 +59,6 @@ fn moment_of(text: &[u8]) -> Option<Moment>
     read_iso(text).ok()
 }
 
-// The permissions that have this text.
-fn letters_of(text: &[u8]) -> Option<Letters>
-    ensures { result ≡ values.letters_of text.now }
-{
-    Letters::read(text)
-}
-
 #[tactic(auto, unfolding(crate::specs::PolicyValues::is_bad_time))]
 fn is_bad_time(text: &[u8]) -> bool
     ensures { result ≡ values.is_bad_time text.now }
@@ -83,7 +75,7 @@ fn are_bad_letters(text: &[u8]) -> bool
 {
     match text {
         [] => false,
-        [_, ..] => letters_of(text).is_none(),
+        [_, ..] => Letters::read(text).is_none(),
     }
 }
 
@@ -167,7 +159,7 @@ fn policy(alloc: Global, texts: &Values) -> Result<Policy, BodyFault>
         id,
         start: moment_of(&texts.start),
         expiry: moment_of(&texts.expiry),
-        letters: letters_of(&texts.permission),
+        letters: Letters::read(&texts.permission),
     })
 }
 

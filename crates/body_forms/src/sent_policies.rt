@@ -1,8 +1,8 @@
 //! Stored policies as they were sent, each with its texts as they are written.
 ghost use Rattle.std.specs.Prelude.{◌≡◌, ◌≤◌, ◌<◌, ℕ, List, [], length, map, not, Some, None, IfOk, option_map, MatchResult};
-ghost use Rattle.body_forms.specs.Reading as tags;
-ghost use Rattle.body_forms.specs.ElementReading.{value_of};
-ghost use Rattle.body_forms.specs.ElementReading as elements;
+ghost use Rattle.xml_text.specs.Reading as tags;
+ghost use Rattle.xml_text.specs.ElementReading.{value_of};
+ghost use Rattle.xml_text.specs.ElementReading as elements;
 ghost use Rattle.body_forms.specs.Policies.{is_nil, at_most_one, exactly_one, no_access, policy_name, policies_name};
 ghost use Rattle.body_forms.specs.Policies as policies;
 ghost use Rattle.body_forms.specs.PolicyReading.{access_view, part_view, sent_view};
@@ -11,9 +11,8 @@ ghost use Rattle.body_forms.specs.Outcomes.{Finds, OnForm};
 
 use crate::access_policy::{Access, access_from};
 use crate::body_fault::BodyFault;
-use crate::content::{content, is_tag};
-use crate::tokens::{Kind, Tag, Tokens};
 use std::alloc::Global;
+use xml_text::{Kind, Tag, Tokens, content, is_tag};
 
 /// The name of the root.
 const POLICIES_NAME: &[u8] = b"SignedIdentifiers";
@@ -56,7 +55,7 @@ fn part_from<'a>(alloc: Global, text: &mut Tokens<'a>, tag: Tag<'a>) -> Result<P
 }
 
 // Takes one part of a policy, or the end of the policy.
-#[tactic(auto, unfolding(crate::specs::ElementReading::next_at))]
+#[tactic(auto, unfolding(xml_text::specs::ElementReading::next_at))]
 fn next_part<'a>(alloc: Global, text: &mut Tokens<'a>) -> Result<Option<Part<'a>>, BodyFault>
     ensures value { Finds (λ p. option_map part_view p) result text.new.left.now
         (elements.next_at policy_name reading.part_at text.old.left.now) }
@@ -96,7 +95,7 @@ fn all_parts<'a>(alloc: Global, text: &mut Tokens<'a>) -> Result<Vec<Part<'a>>, 
 }
 
 // Takes the rest of a policy after its first tag, and gives its parts.
-#[tactic(auto, unfolding(crate::specs::ElementReading::inner_at))]
+#[tactic(auto, unfolding(xml_text::specs::ElementReading::inner_at))]
 fn parts_inside<'a>(
     alloc: Global,
     text: &mut Tokens<'a>,
@@ -206,7 +205,7 @@ fn sent_from<'a>(alloc: Global, text: &mut Tokens<'a>, tag: Tag<'a>) -> Result<S
 }
 
 // Takes one policy, or the end of the list.
-#[tactic(auto, unfolding(crate::specs::ElementReading::next_at))]
+#[tactic(auto, unfolding(xml_text::specs::ElementReading::next_at))]
 fn next_sent<'a>(alloc: Global, text: &mut Tokens<'a>) -> Result<Option<Sent<'a>>, BodyFault>
     ensures value { Finds (λ p. option_map sent_view p) result text.new.left.now
         (elements.next_at policies_name reading.sent_at text.old.left.now) }
@@ -245,7 +244,7 @@ fn all_sent<'a>(alloc: Global, text: &mut Tokens<'a>) -> Result<Vec<Sent<'a>>, B
 }
 
 // Takes the rest of the root after its first tag, and gives its policies.
-#[tactic(auto, unfolding(crate::specs::ElementReading::inner_at))]
+#[tactic(auto, unfolding(xml_text::specs::ElementReading::inner_at))]
 fn policies_inside<'a>(
     alloc: Global,
     text: &mut Tokens<'a>,
@@ -266,7 +265,7 @@ fn policies_inside<'a>(
 /// The policies of a text that is a list of policies without a byte order mark and a prolog, in their order.
 ///
 /// `Form` if the text is not such a list, and `NoMemory` if memory runs out.
-#[tactic(auto, unfolding(crate::specs::ElementReading::root_of))]
+#[tactic(auto, unfolding(xml_text::specs::ElementReading::root_of))]
 pub(crate) fn read_sent(alloc: Global, text: &[u8]) -> Result<Vec<Sent<'_>>, BodyFault>
     ensures { MatchResult result
         (λ ps. reading.policies_of text.now ≡ Some (map sent_view ps.items))

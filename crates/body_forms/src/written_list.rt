@@ -1,5 +1,6 @@
 //! Writing block lists.
 ghost use Rattle.std.specs.Prelude.{◌≡◌, ◌++◌, IfOk, OnOk, flat_map, map, option_map, string_bytes};
+ghost use Rattle.xml_text.specs.WrittenElements.{closing_text, opening_text, prolog_text};
 ghost use Rattle.body_forms.specs.WrittenLists.{block_view};
 ghost use Rattle.body_forms.specs.WrittenLists as written;
 
@@ -68,10 +69,10 @@ fn append_blocks(out: &mut String, blocks: &[ListedBlock<'_>]) -> Result<(), All
     Ok(())
 }
 
-#[tactic(auto, unfolding(crate::specs::WrittenLists::opening_text))]
+#[tactic(auto, unfolding(xml_text::specs::WrittenElements::opening_text))]
 fn append_opening(out: &mut String, name: &str) -> Result<(), AllocError>
     ensures { OnOk result
-        (string_bytes out.new ≡ string_bytes out.old ++ written.opening_text name.now) }
+        (string_bytes out.new ≡ string_bytes out.old ++ opening_text name.now) }
 {
     out.push_str("<")?;
     out.push_str(name)?;
@@ -79,10 +80,10 @@ fn append_opening(out: &mut String, name: &str) -> Result<(), AllocError>
     Ok(())
 }
 
-#[tactic(auto, unfolding(crate::specs::WrittenLists::closing_text))]
+#[tactic(auto, unfolding(xml_text::specs::WrittenElements::closing_text))]
 fn append_closing(out: &mut String, name: &str) -> Result<(), AllocError>
     ensures { OnOk result
-        (string_bytes out.new ≡ string_bytes out.old ++ written.closing_text name.now) }
+        (string_bytes out.new ≡ string_bytes out.old ++ closing_text name.now) }
 {
     out.push_str("</")?;
     out.push_str(name)?;
@@ -140,9 +141,9 @@ fn append_lists(
     Ok(())
 }
 
-#[tactic(auto, unfolding(crate::specs::WrittenLists::prolog_text))]
+#[tactic(auto, unfolding(xml_text::specs::WrittenElements::prolog_text))]
 fn append_prolog(out: &mut String) -> Result<(), AllocError>
-    ensures { OnOk result (string_bytes out.new ≡ string_bytes out.old ++ written.prolog_text) }
+    ensures { OnOk result (string_bytes out.new ≡ string_bytes out.old ++ prolog_text) }
 {
     out.push_str("<?xml version=\"1.0\" encoding=\"utf-8\"?>")
 }

@@ -4,17 +4,15 @@ ghost use Rattle.moment_text.specs.Http.{http_text};
 ghost use Rattle.stamp_values.specs.Etags.{etag_text};
 ghost use Rattle.body_forms.specs.ListEntries as lists;
 ghost use Rattle.body_forms.specs.WrittenPages as pages;
-ghost use Rattle.body_forms.specs.WrittenPolicies as written;
+ghost use Rattle.xml_text.specs.WrittenElements as written;
 
 use crate::list_entries::{BlobEntry, ContainerEntry, ListedBlob};
-use crate::written_elements::{
-    append_closing, append_element, append_filled, append_opening, append_prolog,
-};
 use itoa::Buffer;
 use moment_text::write_http;
 use stamp_types::{Metadata, Moment, Page, Standing};
 use stamp_values::{Meta, Text, Visible, write_etag};
 use std::alloc::{AllocError, Global};
+use xml_text::{append_closing, append_element, append_filled, append_opening, append_prolog};
 
 /// How many bytes a list without entries has at most, if what was asked for is short.
 const LIST_ROOM: usize = 512;
@@ -24,7 +22,7 @@ const ENTRY_ROOM: usize = 320;
 
 // The number of bytes, or the largest number of entries.
 fn append_number(out: &mut Vec<u8>, name: &str, number: u64) -> Result<(), AllocError>
-    ensures { OnOk result (out.new.items ≡ out.old.items ++ pages.filled_text name.now (decimal number)) }
+    ensures { OnOk result (out.new.items ≡ out.old.items ++ written.filled_text name.now (decimal number)) }
 {
     let mut digits = Buffer::new();
     append_filled(out, name, digits.format(number).as_bytes())
@@ -50,7 +48,7 @@ fn append_metas(out: &mut Vec<u8>, metas: &[Meta]) -> Result<(), AllocError>
 }
 
 // Nothing is written if the metadata were not asked for.
-#[tactic(auto, unfolding(crate::specs::WrittenPages::filled_text))]
+#[tactic(auto, unfolding(xml_text::specs::WrittenElements::filled_text))]
 fn append_metadata(out: &mut Vec<u8>, asked: bool, metadata: &Metadata) -> Result<(), AllocError>
     ensures { OnOk result (out.new.items ≡ out.old.items ++ pages.metadata_text asked metadata.now) }
 {
@@ -65,14 +63,14 @@ fn append_metadata(out: &mut Vec<u8>, asked: bool, metadata: &Metadata) -> Resul
 
 fn append_made(out: &mut Vec<u8>, made: Moment) -> Result<(), AllocError>
     ensures { OnOk result (out.new.items
-        ≡ out.old.items ++ pages.filled_text (codes "Last-Modified") (http_text made)) }
+        ≡ out.old.items ++ written.filled_text (codes "Last-Modified") (http_text made)) }
 {
     append_filled(out, "Last-Modified", &write_http(made))
 }
 
 fn append_etag(out: &mut Vec<u8>, etag: u64) -> Result<(), AllocError>
     ensures { OnOk result (out.new.items
-        ≡ out.old.items ++ pages.filled_text (codes "Etag") (etag_text etag)) }
+        ≡ out.old.items ++ written.filled_text (codes "Etag") (etag_text etag)) }
 {
     append_filled(out, "Etag", &write_etag(etag))
 }
@@ -88,7 +86,7 @@ fn append_dates(out: &mut Vec<u8>, made: Moment, etag: u64) -> Result<(), AllocE
 
 fn append_type(out: &mut Vec<u8>) -> Result<(), AllocError>
     ensures { OnOk result (out.new.items
-        ≡ out.old.items ++ pages.filled_text (codes "BlobType") (codes "BlockBlob")) }
+        ≡ out.old.items ++ written.filled_text (codes "BlobType") (codes "BlockBlob")) }
 {
     append_filled(out, "BlobType", b"BlockBlob")
 }
@@ -138,7 +136,7 @@ fn append_blob(
     Ok(())
 }
 
-#[tactic(auto, unfolding(crate::specs::WrittenPages::group_text, crate::specs::WrittenPages::filled_text))]
+#[tactic(auto, unfolding(crate::specs::WrittenPages::group_text, xml_text::specs::WrittenElements::filled_text))]
 fn append_group(out: &mut Vec<u8>, text: &[u8]) -> Result<(), AllocError>
     ensures { OnOk result (out.new.items ≡ out.old.items ++ pages.group_text text.now) }
 {
@@ -176,7 +174,7 @@ fn append_blob_entries(
     Ok(())
 }
 
-#[tactic(auto, unfolding(crate::specs::WrittenPages::container_properties_text, crate::specs::WrittenPages::filled_text))]
+#[tactic(auto, unfolding(crate::specs::WrittenPages::container_properties_text, xml_text::specs::WrittenElements::filled_text))]
 fn append_container_properties(out: &mut Vec<u8>, standing: &Standing) -> Result<(), AllocError>
     ensures { OnOk result (out.new.items
         ≡ out.old.items ++ pages.container_properties_text (lists.shown_standing standing.now)) }

@@ -2,15 +2,16 @@
 ghost use Rattle.std.specs.Prelude.{◌≡◌, ◌++◌, All, IfOk, IfSome, IsOk, OnOk, Ok, codes, flat_map, option_map, true};
 ghost use Rattle.stamp_values.specs.Letters.{has_permission, letters_text};
 ghost use Rattle.stamp_values.specs.Texts.{is_utf8};
-ghost use Rattle.body_forms.specs.Elements.{HasNoWhiteEnds};
+ghost use Rattle.xml_text.specs.Elements.{HasNoWhiteEnds};
+ghost use Rattle.xml_text.specs.WrittenElements.{element_text, given_text};
 ghost use Rattle.body_forms.specs.KeptPolicies.{IsMoment, HasKeptFields, IsPolicy};
 ghost use Rattle.body_forms.specs.PolicyValues.{policies_reading};
 ghost use Rattle.body_forms.specs.WrittenPolicies as written;
 
-use crate::written_elements::{append_closing, append_element, append_opening, append_prolog};
 use moment_text::write_iso;
 use stamp_values::{Letters, Moment, Policies, Policy, Text};
 use std::alloc::{AllocError, Global};
+use xml_text::{append_closing, append_element, append_opening, append_prolog};
 
 /// How many bytes most bodies have at most.
 const BODY_ROOM: usize = 1024;
@@ -23,7 +24,7 @@ fn append_moment(
     moment: Option<Moment>,
 ) -> Result<(), AllocError>
     ensures written { OnOk result (out.new.items
-        ≡ out.old.items ++ written.given_text name.now (option_map written.moment_text moment)) }
+        ≡ out.old.items ++ given_text name.now (option_map written.moment_text moment)) }
     ensures kept { IsOk result → IfSome moment IsMoment }
 {
     match moment {
@@ -40,7 +41,7 @@ fn append_moment(
 // Nothing is written for permissions that are absent.
 fn append_letters(out: &mut Vec<u8>, letters: Option<Letters>) -> Result<(), AllocError>
     ensures written { OnOk result (out.new.items
-        ≡ out.old.items ++ written.given_text (codes "Permission") (option_map letters_text letters)) }
+        ≡ out.old.items ++ given_text (codes "Permission") (option_map letters_text letters)) }
     ensures kept { IsOk result → IfSome letters (λ l. has_permission l ≡ true) }
 {
     match letters {
@@ -73,7 +74,7 @@ fn append_access(alloc: Global, out: &mut Vec<u8>, policy: &Policy) -> Result<()
 
 fn append_id(out: &mut Vec<u8>, id: &Text) -> Result<(), AllocError>
     ensures written { OnOk result (out.new.items
-        ≡ out.old.items ++ written.element_text (codes "Id") id.now) }
+        ≡ out.old.items ++ element_text (codes "Id") id.now) }
     ensures kept { IsOk result → is_utf8 id.now ≡ true }
 {
     append_element(out, "Id", id.as_str().as_bytes())

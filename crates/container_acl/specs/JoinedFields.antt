@@ -2,6 +2,7 @@
 -- Shared Access Signature).
 use Rattle.std.specs.Prelude.{◌≡◌, ◌⊎◌, ℕ, Bool, false, not, ◌&&◌, ◌||◌, is_some, is_none, if◌then◌else◌, List, [], Option, Some, None, bytes_eq, find, Result, Ok, Err}
 use Rattle.std.specs.Option.{option_and_then}
+use Rattle.stamp_values.specs.Acls.{closed_acl}
 use Rattle.stamp_values.specs.Letters.{Permissions}
 use Rattle.stamp_values.specs.declared.acl.Acl.{Acl}
 use Rattle.stamp_values.specs.declared.policy.Policy.{Policy}
@@ -9,6 +10,11 @@ use Rattle.sas_token.specs.Tokens.{Sent}
 use Rattle.container_acl.specs.declared.fields.Fields.{Fields}
 use Rattle.container_acl.specs.declared.fields.FieldFault.{FieldFault}
 use Rattle.container_acl.specs.declared.fields.FieldFault.TheVariants.{Absent, Both, Lacks}
+
+-- what the container says; a container that does not exist says what a closed container says, and has no policies
+abbrev pub acl_or_closed : Option Acl → Acl
+acl_or_closed None = closed_acl
+acl_or_closed (Some acl) = acl
 
 -- the id of the policy has exactly these bytes
 abbrev pub has_same_id : List ℕ → Policy → Bool

@@ -80,15 +80,24 @@ fn with_policy(token: &Token<'_>, policy: &Policy) -> Result<Fields, FieldFault>
     )
 }
 
-/// What a token and the policy that it names in the container give together. A token without an id has no policy. The call takes
-/// no memory, and looks at no signature.
-pub fn fields_with(acl: &Acl, token: &Token<'_>) -> Result<Fields, FieldFault>
-    ensures { result ≡ specs.fields_with acl.now token.now }
+// The stored policy whose id has exactly these bytes. A container that does not exist has no policies.
+fn find_in<'a>(acl: Option<&'a Acl>, id: &[u8]) -> Option<&'a Policy>
+    ensures { option_copied result
+        ≡ specs.policy_with (specs.acl_or_closed (option_copied acl.entry)) id.now }
+{
+    find(acl?, id)
+}
+
+/// What a token and the policy that it names in the container give together. A token without an id has no policy, and neither has a
+/// container that does not exist (`None`). The call takes no memory, and looks at no signature.
+pub fn fields_with(acl: Option<&Acl>, token: &Token<'_>) -> Result<Fields, FieldFault>
+    ensures { result
+        ≡ specs.fields_with (specs.acl_or_closed (option_copied acl.entry)) token.now }
 {
     if token.id.is_empty() {
         return whole(token.start, token.expiry, token.letters);
     }
-    match find(acl, token.id) {
+    match find_in(acl, token.id) {
         Some(policy) => with_policy(token, policy),
         None => Err(FieldFault::Absent),
     }

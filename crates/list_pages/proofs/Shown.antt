@@ -17,7 +17,7 @@ use Rattle.stamp_types.specs.declared.act.PutBlock.{PutBlock}
 use Rattle.stamp_types.specs.declared.args.Page.{Page}
 use Rattle.stamp_types.specs.declared.piece.Piece.{Piece}
 use Rattle.stamp_types.specs.World.{Blob, Part, World, blob_in, changed, changed_in, no_blob, no_part, part_at, part_value, world_value}
-use Rattle.range_rows.proofs.ListLemmas.{entries-map_values}
+use Rattle.stamp_types.proofs.MapEntries.{entries-map_values}
 use Rattle.list_pages.specs.Containers.{before_end, end_of, of_account, page_to}
 use Rattle.list_pages.specs.Laws.{shown_at}
 use Rattle.list_pages.specs.Lists.{given, page_of_blobs, page_of_containers, shown_blob, shown_container, shown_part, shown_standing}

@@ -8,7 +8,7 @@ use Rattle.stamp_types.specs.Requests.{Asked}
 use Rattle.stamp_types.specs.World.{Part, World}
 use Rattle.body_forms.specs.ListEntries.{ShownBlob, ShownContainer}
 use Rattle.body_forms.specs.WrittenPages.{blob_list_text, container_list_text}
-use Rattle.range_rows.specs.ObjectReplies.{text_reply, xml_header}
+use Rattle.stamp_types.specs.Replies.{text_reply, xml_header}
 use Rattle.list_pages.specs.Lists.{page_of_blobs, page_of_containers}
 use Rattle.list_pages.specs.Pages.{PageOf}
 

@@ -10,7 +10,6 @@ mod replies;
 mod worked_pages;
 
 pub use blobs::blob_page;
-pub use body_forms::{BlobEntry, ContainerEntry, ListedBlob};
 pub use containers::container_page;
 pub use entries::{BlobPage, ContainerPage};
 pub use laws::{

@@ -2,17 +2,16 @@
 ghost use Rattle.std.specs.Prelude.{◌≡◌, [], ◌∷◌, IfOk, IsTrue, true};
 ghost use Rattle.std.specs.Option.{option_copied};
 ghost use Rattle.stamp_values.specs.Operations.{lists_names};
+ghost use Rattle.stamp_types.specs.Replies as texts;
 ghost use Rattle.row_trees.specs.FoundParts.{sizes_found};
-ghost use Rattle.range_rows.specs.ObjectReplies as frames;
 ghost use Rattle.list_pages.specs.ListReplies as replies;
 
 use crate::blobs::blob_page;
 use crate::containers::container_page;
 use crate::entries::{BlobPage, ContainerPage};
 use body_forms::{write_blob_list, write_container_list};
-use range_rows::text_reply;
 use row_trees::{Found, Rows};
-use stamp_types::{Header, Key, Page, Reply, Request, Visible};
+use stamp_types::{Header, Key, Page, Reply, Request, Visible, text_reply};
 use std::alloc::{AllocError, Global};
 
 // The page that a request asks for.
@@ -29,7 +28,7 @@ fn page_asked(request: &Request) -> &Page
 // The reply with this text in XML.
 fn xml_reply(alloc: Global, text: Vec<u8>) -> Result<Reply, AllocError>
     ensures { IfOk result (λ reply.
-        reply ≡ frames.text_reply (frames.xml_header ∷ []) text.items) }
+        reply ≡ texts.text_reply (texts.xml_header ∷ []) text.items) }
 {
     let mut headers = Vec::with_capacity(alloc, 1)?;
     headers.push(Header::ContentType(Visible::xml(alloc)?))?;

@@ -5,7 +5,8 @@ use Rattle.std.proofs.lemmas.Bool.{eqb-true}
 use Rattle.std.proofs.lemmas.Bool.Decides.{nat_tests}
 use Rattle.stamp_values.specs.Texts.{is_visible}
 use Rattle.stamp_values.specs.Levels.{level_number}
-use Rattle.stamp_values.specs.Letters.{Permissions, letters_text}
+use Rattle.stamp_values.specs.Letters.{Permissions, letters_text, letters_of}
+use Rattle.stamp_values.proofs.LetterLemmas.{letters_of-letters_text, letters_taken}
 use Rattle.stamp_values.specs.MetadataLists.{is_metadata}
 use Rattle.stamp_values.specs.Policies.{is_policies}
 use Rattle.stamp_values.specs.declared.level.Level.{Level}
@@ -21,9 +22,8 @@ use Rattle.log_record.specs.Forms.{string_bytes, option_bytes, list_bytes, FitsO
 use Rattle.log_record.specs.Fits.{last_moment, is_text, FitsMoment, FitsLevel, FitsSource, FitsId, FitsText, FitsVisible, FitsMeta, FitsMetadata, FitsMd5, FitsProps, FitsLetters, FitsPolicy, FitsPolicies, FitsAcl, FitsPlaced, FitsPiece, FitsPieces, FitsBlock, FitsCommitted, FitsUncommitted, FitsStanding, FitsTaken, FitsKey}
 use Rattle.log_record.specs.Reading.{Read, string_at, option_at, list_at, both_at, tested_at, made_at, parsed_at}
 use Rattle.log_record.specs.Records.{moment_bytes, level_bytes, source_number, source_bytes, meta_bytes, metadata_bytes, md5_text, props_bytes, letters_bytes, policy_bytes, policies_bytes, acl_bytes, placed_bytes, piece_bytes, pieces_bytes, id_text, block_bytes, committed_bytes, uncommitted_bytes, standing_bytes, taken_bytes, key_bytes}
-use Rattle.log_record.specs.ReadFields.{is_id, moment_at, level_at, source_at, text_at, visible_at, id_at, optional_id_of, optional_id_at, meta_of, meta_at, metadata_at, md5_of, md5_at, props_of, props_at, letters_of, letters_at, policy_of, policy_at, policies_at, acl_of, acl_at, placed_of, placed_at, piece_at, pieces_at, block_of, block_at, committed_of, committed_at, uncommitted_of, uncommitted_at, standing_of, standing_at, taken_of, taken_at, key_of, key_at}
+use Rattle.log_record.specs.ReadFields.{is_id, moment_at, level_at, source_at, text_at, visible_at, id_at, optional_id_of, optional_id_at, meta_of, meta_at, metadata_at, md5_of, md5_at, props_of, props_at, letters_at, policy_of, policy_at, policies_at, acl_of, acl_at, placed_of, placed_at, piece_at, pieces_at, block_of, block_at, committed_of, committed_at, uncommitted_of, uncommitted_at, standing_of, standing_at, taken_of, taken_at, key_of, key_at}
 use Rattle.log_record.proofs.FormLemmas.{IsBytes, IsForm, some_is, bind_some, short_form, long_form, string_form, option_form as the_option, list_form as the_list, tested_form as the_tested, made_form as the_made, parsed_form as the_parsed, both_form as the_both}
-use Rattle.log_record.proofs.LetterLemmas.{letters_of-letters_text, letters_taken}
 use Rattle.log_record.proofs.SumLemmas.{md5_of-md5_text, md5_taken, string_within}
 
 -- ---- the forms of lists, pairs and the others, with what each argument says left out

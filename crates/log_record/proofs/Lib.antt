@@ -3,7 +3,6 @@ pub mod FieldForms
 pub mod FormLemmas
 pub mod ItemTurns
 pub mod LengthLemmas
-pub mod LetterLemmas
 pub mod RecordLemmas
 pub mod SizeLemmas
 pub mod SumLemmas

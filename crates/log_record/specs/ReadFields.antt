@@ -1,12 +1,10 @@
 -- The values of which changes are made, read from the front of bytes (docs/formats/records.md).
-use Rattle.std.specs.Prelude.{ℕ, zero, suc, Bool, ◌==◌, ◌&&◌, nat_le, List, [], ◌∷◌, length, Option, Some, None, option_and_then, option_map, bytes_eq, if◌then◌else◌}
-use Rattle.std.specs.List.{list_any}
+use Rattle.std.specs.Prelude.{ℕ, zero, suc, Bool, ◌==◌, ◌&&◌, nat_le, List, [], ◌∷◌, length, Option, Some, None, option_and_then, option_map, if◌then◌else◌}
 use Rattle.std.specs.Int.{w32, w64}
 use Rattle.base64_text.specs.Base64.{standard, decoded_of}
-use Rattle.stamp_values.specs.Ascii.{lower_r, lower_w, lower_d, lower_l}
 use Rattle.stamp_values.specs.Texts.{is_visible}
 use Rattle.stamp_values.specs.MetadataLists.{is_metadata}
-use Rattle.stamp_values.specs.Letters.{Permissions, has_permission, letters_text}
+use Rattle.stamp_values.specs.Letters.{Permissions, letters_of}
 use Rattle.stamp_values.specs.Policies.{is_policies}
 use Rattle.stamp_values.specs.declared.level.Level.{Level}
 use Rattle.stamp_values.specs.declared.level.Level.TheVariants as level
@@ -96,19 +94,6 @@ props_of p = record { content_type = p.0; encoding = p.1.0; language = p.1.1.0; 
 unfoldable pub props_at : List ℕ → Read PropsFields
 props_at =
     tested_at is_props (made_at props_of (both_at visible_at (both_at visible_at (both_at visible_at (both_at md5_at visible_at)))))
-
--- the byte is in the text
-abbrev pub has : ℕ → List ℕ → Bool
-has b t = list_any (λ c. c == b) t
-
--- the permissions whose letters are in the text
-abbrev pub permissions_in : List ℕ → Permissions
-permissions_in t = record { read = has lower_r t; write = has lower_w t; delete = has lower_d t; list = has lower_l t }
-
--- the permissions whose letters the text is
-abbrev pub letters_of : List ℕ → Option Permissions
-letters_of t =
-    if has_permission (permissions_in t) && bytes_eq (letters_text (permissions_in t)) t then Some (permissions_in t) else None
 
 unfoldable pub letters_at : List ℕ → Read Permissions
 letters_at = parsed_at letters_of string_at

@@ -1,5 +1,4 @@
 //! Stored policies, and who may read a container, in records.
-ghost use Rattle.std.specs.Prelude.{◌≡◌};
 ghost use Rattle.log_record.specs.Fits as fits;
 ghost use Rattle.log_record.specs.Records as records;
 ghost use Rattle.log_record.specs.ReadFields as reading;
@@ -10,13 +9,6 @@ use crate::lists::{append_list, read_list};
 use crate::record_fault::RecordFault;
 use stamp_values::{Acl, Items, Letters, Level, Policies, Policy, Text};
 use std::alloc::{AllocError, Global};
-
-// The permissions whose letters the text is.
-fn letters_of(text: &[u8]) -> Option<Letters>
-    ensures { result ≡ reading.letters_of text.now }
-{
-    Letters::read(text)
-}
 
 impl Recorded for Letters {
     ghost bytes = { records.letters_bytes };
@@ -32,7 +24,7 @@ impl Recorded for Letters {
 
     #[tactic(auto, unfolding(crate::specs::ReadFields::letters_at))]
     fn read(_alloc: Global, left: &mut Left<'_>) -> Result<Self, RecordFault> {
-        match letters_of(left.string()?) {
+        match Letters::read(left.string()?) {
             Some(letters) => Ok(letters),
             None => Err(RecordFault::Form),
         }

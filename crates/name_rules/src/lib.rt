@@ -3,8 +3,7 @@
 
 mod blob_names;
 mod escapes;
-mod names;
 
 pub use blob_names::{NameFault, blob_name, blob_text};
 pub use escapes::decoded;
-pub use names::{account_ok, container_ok};
+pub use stamp_values::{account_ok, container_ok};

@@ -19,7 +19,7 @@ use Rattle.stamp_types.specs.Changes.{blocks_len}
 use Rattle.stamp_types.specs.Pieces.{pieces_len}
 use Rattle.stamp_types.specs.World.{Part, Blob, no_blob, blob_in, block_value, committed_value, part_value, changed, taken_blocks, whole_block}
 use Rattle.stamp_types.proofs.WorldLemmas.{blob_in-part_value}
-use Rattle.range_rows.specs.ObjectReplies.{whole_span}
+use Rattle.range_rows.specs.SentContent.{whole_span}
 use Rattle.range_rows.specs.ObjectRules.{named_blob}
 
 -- ---- sizes and spans of blocks

@@ -22,7 +22,8 @@ use Rattle.stamp_types.proofs.EffectLemmas.{blob_in-set_metadata}
 use Rattle.range_rows.specs.NamedBlobs.{target_blob}
 use Rattle.row_trees.specs.FoundParts.{sizes_found}
 use Rattle.range_rows.specs.FoundParts.{pieces_found_after, sizes_found_after}
-use Rattle.range_rows.specs.ObjectReplies.{acl_frame, blob_content, blob_read, date_headers, empty_blob, empty_standing, frame, frame_by, get_frame, list_frame, metadata_headers, put_reply, ranged_frame, ranged_spans, spans, spans_by, standing_read, success_reply, write_frame}
+use Rattle.range_rows.specs.Frames.{acl_frame, blob_read, date_headers, empty_blob, empty_standing, frame, frame_by, get_frame, list_frame, metadata_headers, put_reply, ranged_frame, standing_read, success_reply, write_frame}
+use Rattle.range_rows.specs.SentContent.{blob_content, ranged_spans, spans, spans_by}
 use Rattle.range_rows.specs.ObjectRules.{needs_blob, needs_container, object_refusal}
 use Rattle.range_rows.specs.RequestChanges.{act_by, change_of, part_after, put_blob, put_block_list, set_acl, set_container_metadata, set_metadata}
 use Rattle.range_rows.proofs.Unrefused.{needed_blob, needed_container}

@@ -3,7 +3,6 @@ use Rattle.std.proofs.Common.{◌≡◌, ℕ, Bool, true, false, cond, List, [],
 use Rattle.std.specs.Prelude.{IsSome, Result, Ok, Err, find, is_some}
 use Rattle.std.specs.Option.{option_and_then, option_map, option_map_or}
 use Rattle.stamp_values.specs.Limits.{blob_limit, entries_limit}
-use Rattle.stamp_values.specs.declared.block.Source.{Source}
 use Rattle.stamp_values.specs.declared.block.Wanted.{Wanted}
 use Rattle.stamp_values.specs.declared.op.Op.{Op}
 use Rattle.stamp_values.specs.declared.op.Op.TheVariants as op
@@ -18,9 +17,10 @@ use Rattle.body_forms.specs.declared.body_fault.BodyFault.{BodyFault}
 use Rattle.block_blobs.specs.BlockLists.{first_missing, found_entries, list_fault, wanted_fault}
 use Rattle.block_blobs.specs.UncommittedBlocks.{block_fault, has_other_length, is_one_too_many}
 use Rattle.block_blobs.specs.declared.block_fault.BlockFault.TheVariants as fault
+use Rattle.block_blobs.specs.declared.resolved.Resolved.{Resolved}
 use Rattle.range_rows.specs.CauseGroups.{name_causes, condition_causes, body_causes, early_causes, block_causes, last_causes, group_refusal, id_refusal, list_refusal}
 use Rattle.row_trees.specs.ListedBlocks.{listed_size}
-use Rattle.range_rows.specs.JudgedBlocks.{blocks_by}
+use Rattle.range_rows.specs.JudgedBlocks.{blocks_by, nothing_resolved}
 use Rattle.range_rows.specs.NamedBlobs.{target_blob}
 use Rattle.range_rows.specs.ObjectRules.{Cause, cause_holds, cause_refusal, object_refusal}
 use Rattle.range_rows.specs.ObjectRules.Cause.{BlockIsMissing, ListIsTooLong, IdHasOtherLength, BlocksAreFull, ListIsTooLarge}
@@ -30,7 +30,7 @@ use Rattle.range_rows.specs.declared.block_rules.Blocks.TheVariants as blocks
 use Rattle.range_rows.specs.declared.reading.Reading.{Reading}
 use Rattle.range_rows.specs.declared.reading.Reading.TheVariants as reading
 use Rattle.range_rows.proofs.Unrefused.{none_mapped}
-use Rattle.range_rows.proofs.BlockLemmas.{block_fault-map_values, wanted_fault-blob_value}
+use Rattle.row_trees.proofs.BlockFits.{block_fault-map_values, wanted_fault-blob_value}
 
 -- ---- groups that follow each other
 
@@ -100,11 +100,11 @@ module _ (p : Part ℕ) (q : Asked) where
 
 abbrev refusal_told : Blocks → Option Refusal
 refusal_told (blocks.Refused r) = Some r
-refusal_told (blocks.Found ss) = None
+refusal_told (blocks.Found found) = None
 
-abbrev sources_told : Blocks → List Source
-sources_told (blocks.Refused r) = []
-sources_told (blocks.Found ss) = ss
+abbrev found_told : Blocks → Resolved
+found_told (blocks.Refused r) = nothing_resolved
+found_told (blocks.Found found) = found
 
 -- the refusal because of blocks, from the blob, the blocks that are wanted and the id of a block
 abbrev block_group : Blob ℕ → List Wanted → Option (List ℕ) → Option Refusal
@@ -143,14 +143,14 @@ by_id b None = refl
 by_id b (Some id) = by_faults (has_other_length id b.uncommitted) (is_one_too_many id b.uncommitted)
 
 -- blocks that were judged as refused are refused by this
-pub refusal_of_blocks : (g : Option Refusal) (ss : List Source) (r : Refusal) → blocks.Refused r ≡ blocks_by g ss → g ≡ Some r
-refusal_of_blocks (Some other) ss r h = ap (λ b. refusal_told b) (sym h)
-refusal_of_blocks None ss r h = cc
+pub refusal_of_blocks : (g : Option Refusal) (found : Resolved) (r : Refusal) → blocks.Refused r ≡ blocks_by g found → g ≡ Some r
+refusal_of_blocks (Some other) found r h = ap (λ b. refusal_told b) (sym h)
+refusal_of_blocks None found r h = cc
 
--- blocks that were found are not refused, and are in these sources
-pub sources_of_blocks : (g : Option Refusal) (ss found : List Source) → blocks.Found found ≡ blocks_by g ss → (g ≡ None) × (found ≡ ss)
-sources_of_blocks None ss found h = (refl, ap (λ b. sources_told b) h)
-sources_of_blocks (Some r) ss found h = cc
+-- blocks that were found are not refused, and this was found
+pub found_of_blocks : (g : Option Refusal) (resolved found : Resolved) → blocks.Found found ≡ blocks_by g resolved → (g ≡ None) × (found ≡ resolved)
+found_of_blocks None resolved found h = (refl, ap (λ b. found_told b) h)
+found_of_blocks (Some r) resolved found h = cc
 
 -- ---- what a reading says of its request
 

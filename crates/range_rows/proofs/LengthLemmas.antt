@@ -18,7 +18,10 @@ use Rattle.stamp_types.specs.Requests.{Asked}
 use Rattle.stamp_types.specs.World.{Blob, Part, block_value, committed_value}
 use Rattle.body_forms.specs.WrittenPolicies.{policies_text}
 use Rattle.range_rows.specs.NamedBlobs.{target_blob}
-use Rattle.range_rows.specs.ObjectReplies.{blob_content, blob_read, byte_count, bytes_by, bytes_sent, empty_blob, frame_by, list_text, range_end, ranged_bytes, ranged_frame, reply_of, sizes, standing_read}
+use Rattle.range_rows.specs.Frames.{blob_read, empty_blob, frame_by, ranged_frame, standing_read}
+use Rattle.range_rows.specs.Ranges.{range_end}
+use Rattle.range_rows.specs.SentContent.{blob_content, byte_count, bytes_by, bytes_sent, ranged_bytes, reply_of, sizes}
+use Rattle.range_rows.specs.ShownBlocks.{list_text}
 use Rattle.range_rows.specs.ObjectRules.{blob_size, named_blob}
 use Rattle.range_rows.proofs.AnswerLemmas.{named_blob-part_value}
 

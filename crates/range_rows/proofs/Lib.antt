@@ -1,6 +1,7 @@
 pub mod AnswerLemmas
 pub mod BlockLemmas
 pub mod ChangeLemmas
+pub mod FoundChanges
 pub mod FrameLemmas
 pub mod GroupLemmas
 pub mod JudgementLemmas

@@ -13,7 +13,8 @@ use Rattle.stamp_types.specs.declared.committed.Block.{Block}
 use Rattle.stamp_types.specs.declared.piece.Piece.{Piece}
 use Rattle.stamp_types.specs.Pieces.{piece_len, pieces_len}
 use Rattle.range_rows.specs.declared.answer.Span.{Span}
-use Rattle.range_rows.specs.ObjectReplies.{ReadsWhole, is_within, part_spans, piece_spans, span_bytes, spans_len}
+use Rattle.range_rows.specs.Ranges.{part_spans, piece_spans}
+use Rattle.range_rows.specs.SentContent.{ReadsWhole, is_within, span_bytes, spans_len}
 
 -- ---- pieces that have none of the bytes
 

@@ -22,7 +22,9 @@ use Rattle.stamp_types.specs.World.{Part, blob_in, block_value, committed_value,
 use Rattle.stamp_types.proofs.ContentReadings.{part_value-sizes}
 use Rattle.stamp_types.proofs.EachContents.{EachContent-then}
 use Rattle.range_rows.specs.declared.answer.Span.{Span}
-use Rattle.range_rows.specs.ObjectReplies.{ReadsWhole, blob_content, bytes_by, bytes_sent, empty_blob, frame, is_within, part_spans, range_end, ranged_bytes, ranged_spans, reply_of, span_bytes, spans, spans_by, spans_len, whole_span, with_content}
+use Rattle.range_rows.specs.Frames.{empty_blob, frame}
+use Rattle.range_rows.specs.Ranges.{part_spans, range_end}
+use Rattle.range_rows.specs.SentContent.{ReadsWhole, blob_content, bytes_by, bytes_sent, is_within, ranged_bytes, ranged_spans, reply_of, span_bytes, spans, spans_by, spans_len, whole_span, with_content}
 use Rattle.range_rows.specs.ObjectRules.{named_blob}
 use Rattle.range_rows.proofs.AnswerLemmas.{named_blob-part_value}
 use Rattle.range_rows.proofs.RangeLemmas.{bytes_of_part, part_short}

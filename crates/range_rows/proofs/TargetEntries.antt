@@ -11,12 +11,13 @@ use Rattle.stamp_types.specs.World.{Blob, Part}
 use Rattle.block_blobs.specs.BlockLists.{entries_from, first_missing, found_entries, listed_len}
 use Rattle.block_blobs.proofs.ListLemmas.{entries_from_found}
 use Rattle.row_trees.specs.FoundParts.{sizes_found}
-use Rattle.range_rows.specs.Judgements.{sources_found}
+use Rattle.range_rows.specs.Judgements.{blocks_found}
 use Rattle.range_rows.specs.NamedBlobs.{target_blob}
 use Rattle.range_rows.specs.ObjectRules.{object_refusal}
 use Rattle.range_rows.specs.Readings.{wanted_blocks}
 use Rattle.range_rows.proofs.Unrefused.{allowed_list}
-use Rattle.range_rows.proofs.BlockLemmas.{found_entries-blob_value, target_blob-part_value}
+use Rattle.row_trees.proofs.BlockFits.{found_entries-blob_value}
+use Rattle.range_rows.proofs.BlockLemmas.{target_blob-part_value}
 use Rattle.range_rows.proofs.PutParts.{all_found, few_entries}
 
 module _ (p : Part (List Piece)) (q : Asked) (free : object_refusal (sizes_found p) q ≡ None) where
@@ -27,7 +28,7 @@ module _ (p : Part (List Piece)) (q : Asked) (free : object_refusal (sizes_found
       ∙ ap (λ (b : Blob ℕ). found_entries b (wanted_blocks q)) (sym (target_blob-part_value pieces_len p q.ask))
 
   -- the sources that were found give the entries of the list
-  entries_of_target : (sources : List Source) → sources ≡ sources_found p q
+  entries_of_target : (sources : List Source) → sources ≡ (blocks_found p q).sources
       → entries_from (wanted_blocks q) sources ≡ found_entries (target_blob (sizes_found p) q.ask) (wanted_blocks q)
   entries_of_target sources is =
       let b = target_blob p q.ask in
@@ -36,7 +37,7 @@ module _ (p : Part (List Piece)) (q : Asked) (free : object_refusal (sizes_found
       ap (entries_from ws) is ∙ entries_from_found b ws all ∙ entries_of_sizes
 
   -- the same if the list of entries was made, or else memory ran out
-  pub made_entries : (sources : List Source) (made : Result (List Taken) AllocError) → sources ≡ sources_found p q
+  pub made_entries : (sources : List Source) (made : Result (List Taken) AllocError) → sources ≡ (blocks_found p q).sources
       → IfOk made (λ entries. entries ≡ entries_from (wanted_blocks q) sources)
       → IfOk made (λ entries. entries ≡ found_entries (target_blob (sizes_found p) q.ask) (wanted_blocks q))
   made_entries sources (Ok entries) is made = made ∙ entries_of_target sources is

@@ -22,7 +22,8 @@ use Rattle.range_rows.specs.ObjectRules.{needs_container, needs_blob, named_blob
 use Rattle.range_rows.specs.ObjectRules.Cause.{ContainerIsAbsent, BlobIsAbsent, BlockIsMissing, ListIsTooLong, IdHasOtherLength, BlocksAreFull, ListIsTooLarge, CountIsFull}
 use Rattle.range_rows.specs.Readings.{wanted_blocks}
 use Rattle.range_rows.proofs.AnswerLemmas.{named_blob-part_value}
-use Rattle.range_rows.proofs.BlockLemmas.{committed-target_blob, target_blob-part_value, wanted_fault-blob_value}
+use Rattle.row_trees.proofs.BlockFits.{wanted_fault-blob_value}
+use Rattle.range_rows.proofs.BlockLemmas.{committed-target_blob, target_blob-part_value}
 
 -- if no element is found, no element passes the test
 pub none_passes : {X : Type 0} (test : X → Bool) (xs : List X) → find test xs ≡ None → list_all (λ x. not (test x)) xs ≡ true

@@ -1,9 +1,12 @@
 pub mod CauseGroups
 pub mod FoundParts
+pub mod Frames
 pub mod JudgedBlocks
 pub mod Judgements
 pub mod NamedBlobs
-pub mod ObjectReplies
 pub mod ObjectRules
+pub mod Ranges
 pub mod Readings
 pub mod RequestChanges
+pub mod SentContent
+pub mod ShownBlocks

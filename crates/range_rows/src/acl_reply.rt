@@ -1,16 +1,17 @@
 //! Replies to Get Container ACL.
 ghost use Rattle.std.specs.Prelude.{◌≡◌, ◌∷◌, ◌++◌, IfOk, OnOk};
-ghost use Rattle.range_rows.specs.ObjectReplies as replies;
+ghost use Rattle.stamp_types.specs.Replies.{xml_header};
+ghost use Rattle.range_rows.specs.Frames as frames;
 
-use crate::replies::{push_dates, text_reply};
+use crate::frames::push_dates;
 use body_forms::write_policies;
-use stamp_types::{Header, Level, Reply, Standing, Visible};
+use stamp_types::{Header, Level, Reply, Standing, Visible, text_reply};
 use std::alloc::{AllocError, Global};
 
 // Puts the level of a container after the headers. A closed container has no such header.
 fn push_level(headers: &mut Vec<Header>, level: Level) -> Result<(), AllocError>
     ensures { OnOk result
-        (headers.new.items ≡ headers.old.items ++ replies.level_headers level) }
+        (headers.new.items ≡ headers.old.items ++ frames.level_headers level) }
 {
     if level != Level::Closed {
         headers.push(Header::PublicAccess(level))?;
@@ -22,8 +23,8 @@ fn push_level(headers: &mut Vec<Header>, level: Level) -> Result<(), AllocError>
 // when.
 fn acl_headers(alloc: Global, standing: &Standing) -> Result<Vec<Header>, AllocError>
     ensures { IfOk result (λ headers. headers.items
-        ≡ replies.xml_header ∷ replies.level_headers standing.now.acl.level
-        ++ replies.date_headers standing.now.etag standing.now.made) }
+        ≡ xml_header ∷ frames.level_headers standing.now.acl.level
+        ++ frames.date_headers standing.now.etag standing.now.made) }
 {
     let mut headers = Vec::with_capacity(alloc, 4)?;
     headers.push(Header::ContentType(Visible::xml(alloc)?))?;
@@ -36,7 +37,7 @@ fn acl_headers(alloc: Global, standing: &Standing) -> Result<Vec<Header>, AllocE
 ///
 /// `AllocError` if memory runs out.
 pub(crate) fn acl_reply(alloc: Global, standing: &Standing) -> Result<Reply, AllocError>
-    ensures { IfOk result (λ reply. reply ≡ replies.acl_frame standing.now) }
+    ensures { IfOk result (λ reply. reply ≡ frames.acl_frame standing.now) }
 {
     let headers = acl_headers(alloc, standing)?;
     let text = write_policies(alloc, &standing.acl.policies)?;

@@ -7,7 +7,8 @@ ghost use Rattle.stamp_types.specs.Pieces.{pieces_len};
 ghost use Rattle.stamp_types.specs.Requests.{Asked};
 ghost use Rattle.stamp_types.specs.World.{Part, part_value};
 ghost use Rattle.stamp_types.specs.declared.piece.Piece.{Piece};
-ghost use Rattle.range_rows.specs.ObjectReplies.{ReadsWhole, blob_content, blob_read, bytes_sent, frame, reply_of, span_bytes, spans, with_content};
+ghost use Rattle.range_rows.specs.Frames.{blob_read, frame};
+ghost use Rattle.range_rows.specs.SentContent.{ReadsWhole, blob_content, bytes_sent, reply_of, span_bytes, spans, with_content};
 
 /// If what is read for each piece has the piece's length, the spans give the bytes that go out,
 /// and the frame with the spans gives the reply. Both are what a container that holds the bytes

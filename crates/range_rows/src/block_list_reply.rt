@@ -2,16 +2,18 @@
 ghost use Rattle.std.specs.Prelude.{◌≡◌, ◌∷◌, ◌++◌, IfOk, None, OnOk, Some, map};
 ghost use Rattle.stamp_values.specs.Maps.{map_values};
 ghost use Rattle.stamp_types.specs.Pieces.{pieces_len};
+ghost use Rattle.stamp_types.specs.Replies.{xml_header};
 ghost use Rattle.stamp_types.specs.World.{block_value, blob_value};
 ghost use Rattle.body_forms.specs.WrittenLists.{block_list_text, block_view};
 ghost use Rattle.row_trees.specs.FoundParts.{sized};
-ghost use Rattle.range_rows.specs.ObjectReplies as replies;
+ghost use Rattle.range_rows.specs.Frames as frames;
+ghost use Rattle.range_rows.specs.ShownBlocks as shown;
 
-use crate::replies::{push_dates, text_reply};
+use crate::frames::push_dates;
 use block_blobs::BlobRow;
 use body_forms::{ListedBlock, write_block_list};
 use row_trees::FoundBlob;
-use stamp_types::{Block, BlockKinds, Header, Pieces, Reply, Visible};
+use stamp_types::{Block, BlockKinds, Header, Pieces, Reply, Visible, text_reply};
 use std::alloc::{AllocError, Global};
 
 // Puts a committed block after the list, if the block has an id.
@@ -20,7 +22,7 @@ fn push_block<'a>(
     block: &'a Block<Pieces>,
 ) -> Result<(), AllocError>
     ensures { OnOk result (map block_view list.new.items
-        ≡ map block_view list.old.items ++ replies.listed_block (block_value pieces_len block.now)) }
+        ≡ map block_view list.old.items ++ shown.listed_block (block_value pieces_len block.now)) }
 {
     if let Some(id) = &block.id {
         let len = block.content.len();
@@ -32,7 +34,7 @@ fn push_block<'a>(
 // The blocks that have an id, in their order.
 fn named_blocks(alloc: Global, blocks: &[Block<Pieces>]) -> Result<Vec<ListedBlock<'_>>, AllocError>
     ensures { IfOk result (λ list. map block_view list.items
-        ≡ replies.shown_blocks (map (block_value pieces_len) blocks.now)) }
+        ≡ shown.shown_blocks (map (block_value pieces_len) blocks.now)) }
 {
     let mut list = Vec::with_capacity(alloc, blocks.len())?;
     let mut left = blocks;
@@ -46,7 +48,7 @@ fn named_blocks(alloc: Global, blocks: &[Block<Pieces>]) -> Result<Vec<ListedBlo
 // The committed blocks that have an id, in their order.
 fn committed_blocks(alloc: Global, blob: &BlobRow) -> Result<Vec<ListedBlock<'_>>, AllocError>
     ensures { IfOk result (λ list. map block_view list.items
-        ≡ replies.listed_committed (sized blob.now.committed)) }
+        ≡ shown.listed_committed (sized blob.now.committed)) }
 {
     match blob.committed() {
         Some(committed) => named_blocks(alloc, committed.blocks.as_slice()),
@@ -57,7 +59,7 @@ fn committed_blocks(alloc: Global, blob: &BlobRow) -> Result<Vec<ListedBlock<'_>
 // The uncommitted blocks, in the order of their ids.
 fn uncommitted_blocks(alloc: Global, blob: &BlobRow) -> Result<Vec<ListedBlock<'_>>, AllocError>
     ensures { IfOk result (λ list. map block_view list.items
-        ≡ replies.listed_uncommitted (map_values pieces_len blob.now.uncommitted)) }
+        ≡ shown.listed_uncommitted (map_values pieces_len blob.now.uncommitted)) }
 {
     let mut list = Vec::with_capacity(alloc, blob.uncommitted_len())?;
     for (id, content) in blob.uncommitted() {
@@ -69,7 +71,7 @@ fn uncommitted_blocks(alloc: Global, blob: &BlobRow) -> Result<Vec<ListedBlock<'
 
 fn committed_text(alloc: Global, blob: &BlobRow) -> Result<Vec<u8>, AllocError>
     ensures { IfOk result (λ text. text.items
-        ≡ block_list_text (Some (replies.listed_committed (sized blob.now.committed))) None) }
+        ≡ block_list_text (Some (shown.listed_committed (sized blob.now.committed))) None) }
 {
     let committed = committed_blocks(alloc, blob)?;
     write_block_list(alloc, Some(&committed), None)
@@ -77,7 +79,7 @@ fn committed_text(alloc: Global, blob: &BlobRow) -> Result<Vec<u8>, AllocError>
 
 fn uncommitted_text(alloc: Global, blob: &BlobRow) -> Result<Vec<u8>, AllocError>
     ensures { IfOk result (λ text. text.items ≡ block_list_text None
-        (Some (replies.listed_uncommitted (map_values pieces_len blob.now.uncommitted)))) }
+        (Some (shown.listed_uncommitted (map_values pieces_len blob.now.uncommitted)))) }
 {
     let uncommitted = uncommitted_blocks(alloc, blob)?;
     write_block_list(alloc, None, Some(&uncommitted))
@@ -85,8 +87,8 @@ fn uncommitted_text(alloc: Global, blob: &BlobRow) -> Result<Vec<u8>, AllocError
 
 fn text_of_all(alloc: Global, blob: &BlobRow) -> Result<Vec<u8>, AllocError>
     ensures { IfOk result (λ text. text.items
-        ≡ block_list_text (Some (replies.listed_committed (sized blob.now.committed)))
-        (Some (replies.listed_uncommitted (map_values pieces_len blob.now.uncommitted)))) }
+        ≡ block_list_text (Some (shown.listed_committed (sized blob.now.committed)))
+        (Some (shown.listed_uncommitted (map_values pieces_len blob.now.uncommitted)))) }
 {
     let committed = committed_blocks(alloc, blob)?;
     let uncommitted = uncommitted_blocks(alloc, blob)?;
@@ -100,7 +102,7 @@ fn list_text(
     blob: &BlobRow,
 ) -> Result<Vec<u8>, AllocError>
     ensures { IfOk result (λ text.
-        text.items ≡ replies.list_text kinds (blob_value pieces_len blob.now)) }
+        text.items ≡ shown.list_text kinds (blob_value pieces_len blob.now)) }
 {
     match kinds {
         Some(BlockKinds::Uncommitted) => uncommitted_text(alloc, blob),
@@ -114,7 +116,7 @@ fn list_text(
 #[tactic(auto, using(crate::proofs::AnswerLemmas::sizes_of_blocks))]
 fn list_headers(alloc: Global, blob: &BlobRow) -> Result<Vec<Header>, AllocError>
     ensures { IfOk result (λ headers. headers.items
-        ≡ replies.xml_header ∷ replies.committed_headers (sized blob.now.committed)) }
+        ≡ xml_header ∷ frames.committed_headers (sized blob.now.committed)) }
 {
     let mut headers = Vec::with_capacity(alloc, 4)?;
     headers.push(Header::ContentType(Visible::xml(alloc)?))?;
@@ -128,7 +130,7 @@ fn list_headers(alloc: Global, blob: &BlobRow) -> Result<Vec<Header>, AllocError
 // The reply to Get Block List of these kinds, from the row of the blob.
 fn row_reply(alloc: Global, kinds: Option<BlockKinds>, blob: &BlobRow) -> Result<Reply, AllocError>
     ensures { IfOk result (λ reply.
-        reply ≡ replies.list_frame kinds (blob_value pieces_len blob.now)) }
+        reply ≡ frames.list_frame kinds (blob_value pieces_len blob.now)) }
 {
     let headers = list_headers(alloc, blob)?;
     let text = list_text(alloc, kinds, blob)?;
@@ -146,7 +148,7 @@ pub(crate) fn list_reply(
     blob: &FoundBlob<'_>,
 ) -> Result<Reply, AllocError>
     ensures { IfOk result (λ reply.
-        reply ≡ replies.list_frame kinds (blob_value pieces_len blob.now)) }
+        reply ≡ frames.list_frame kinds (blob_value pieces_len blob.now)) }
 {
     match blob.row() {
         Some(row) => row_reply(alloc, kinds, row),

@@ -3,7 +3,8 @@ ghost use Rattle.std.specs.Prelude.{◌≡◌};
 ghost use Rattle.range_rows.specs.Judgements.{refusal_in};
 
 use crate::target::Target;
-use stamp_types::{Items, Refusal, Source};
+use block_blobs::Resolved;
+use stamp_types::Refusal;
 
 /// What the object says of a request.
 #[derive(Drop)]
@@ -19,9 +20,9 @@ pub enum Judged<'a> {
 #[derive(Drop)]
 pub struct Allowed<'a> {
     pub target: Target<'a>,
-    /// Where each block is found that a Put Block List wants, in their order. Another request has no
-    /// sources.
-    pub sources: Items<Source>,
+    /// Where each block is found that a Put Block List wants, in their order, and the blocks. For another
+    /// request nothing is found.
+    pub found: Resolved,
 }
 
 impl<'a> Judged<'a> {

@@ -19,8 +19,9 @@ use crate::conditions::{fails_if_match, has_unwanted_etag, is_not_modified, must
 use crate::judged::{Allowed, Judged};
 use crate::reading::Reading;
 use crate::target::Target;
+use block_blobs::Resolved;
 use row_trees::FoundBlob;
-use stamp_types::{Ask, BlockKinds, ByteRange, Code, Items, Op, Refusal, Request, Rule, Source};
+use stamp_types::{Ask, BlockKinds, ByteRange, Code, Op, Refusal, Request, Rule};
 use std::alloc::{AllocError, Global};
 
 // Whether the container has to exist.
@@ -41,7 +42,7 @@ fn needs_blob(op: Op) -> bool
 }
 
 // Whether the blob has what Get Block List shows.
-#[tactic(auto, using(crate::proofs::BlockLemmas::has_uncommitted_read))]
+#[tactic(auto, using(row_trees::proofs::BlockFits::has_uncommitted_read))]
 fn has_listed(kinds: Option<BlockKinds>, seen: &FoundBlob<'_>) -> bool
     ensures { result ≡ blobs.has_listed kinds (blob_value pieces_len seen.now) }
 {
@@ -161,19 +162,19 @@ impl<'a> Target<'a> {
         None
     }
 
-    // What is judged last, if the blocks that the request wants are in these sources: the range, and
+    // What is judged last, if this was found of the blocks that the request wants: the range, and
     // whether the container takes a further change.
-    fn last_judged(self, request: &Request, sources: Items<Source>) -> Judged<'a>
+    fn last_judged(self, request: &Request, found: Resolved) -> Judged<'a>
         requires { IsTarget self request.now.ask }
         ensures { result ≡ judged_by (groups.group_refusal groups.last_causes
-            (sizes_found self.entry.container) request.now) self.entry sources }
+            (sizes_found self.entry.container) request.now) self.entry found }
     {
         let seen = self.named(request.ask());
         match self.last_refusal(request, seen) {
             Some(refusal) => Judged::Refused(refusal),
             None => Judged::Allowed(Allowed {
                 target: self,
-                sources,
+                found,
             }),
         }
     }
@@ -220,7 +221,7 @@ impl<'a> Target<'a> {
         let blocks = judged_blocks(alloc, request, reading, self.named(request.ask()))?;
         match blocks {
             Blocks::Refused(refusal) => Ok(Judged::Refused(refusal)),
-            Blocks::Found(sources) => Ok(self.last_judged(request, sources)),
+            Blocks::Found(found) => Ok(self.last_judged(request, found)),
         }
     }
 }

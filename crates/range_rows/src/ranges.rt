@@ -1,7 +1,7 @@
 //! The part of a blob that a range asks for.
 ghost use Rattle.std.specs.Prelude.{◌≡◌, ◌++◌, ◌<◌, ◌^◌, ◌≤◌, IfOk, OnOk};
 ghost use Rattle.std.specs.List.{flat_map};
-ghost use Rattle.range_rows.specs.ObjectReplies as replies;
+ghost use Rattle.range_rows.specs.Ranges as ranges;
 
 use crate::answer::Span;
 use stamp_types::{Block, ByteRange, Piece, Pieces, SentRange};
@@ -10,7 +10,7 @@ use std::alloc::{AllocError, Global};
 /// The bytes of a blob of `len` bytes that the range asks for end before this byte. A last byte
 /// that the blob does not have is cut to the blob's last byte.
 pub(crate) fn range_end(range: ByteRange, len: u64) -> u64
-    ensures { result ≡ replies.range_end range len }
+    ensures { result ≡ ranges.range_end range len }
 {
     match range.last {
         Some(last) if last < len => last + 1,
@@ -20,7 +20,7 @@ pub(crate) fn range_end(range: ByteRange, len: u64) -> u64
 
 /// The first and the last byte that go out, and how many bytes the blob has.
 pub(crate) fn sent_range(range: ByteRange, len: u64) -> SentRange
-    ensures { result ≡ replies.sent_range range len }
+    ensures { result ≡ ranges.sent_range range len }
 {
     SentRange {
         first: range.first,
@@ -33,7 +33,7 @@ pub(crate) fn sent_range(range: ByteRange, len: u64) -> SentRange
 // has one of them.
 fn push_piece(spans: &mut Vec<Span>, from: u64, end: u64, piece: &Piece) -> Result<(), AllocError>
     ensures { OnOk result
-        (spans.new.items ≡ spans.old.items ++ replies.piece_spans from end piece.now) }
+        (spans.new.items ≡ spans.old.items ++ ranges.piece_spans from end piece.now) }
 {
     let to = end.min(piece.len());
     if from < to {
@@ -49,7 +49,7 @@ fn push_piece(spans: &mut Vec<Span>, from: u64, end: u64, piece: &Piece) -> Resu
 // The same bytes of joined pieces. No byte is copied.
 fn push_part(spans: &mut Vec<Span>, from: u64, end: u64, pieces: &[Piece]) -> Result<(), AllocError>
     ensures { OnOk result
-        (spans.new.items ≡ spans.old.items ++ replies.part_spans from end pieces.now) }
+        (spans.new.items ≡ spans.old.items ++ ranges.part_spans from end pieces.now) }
 {
     let mut from = from;
     let mut end = end;
@@ -72,7 +72,7 @@ fn push_block(
     block: &Block<Pieces>,
 ) -> Result<(), AllocError>
     ensures { OnOk result
-        (spans.new.items ≡ spans.old.items ++ replies.part_spans from end block.now.content) }
+        (spans.new.items ≡ spans.old.items ++ ranges.part_spans from end block.now.content) }
 {
     if from < block.content.len() {
         push_part(spans, from, end, block.content.as_slice())?;
@@ -90,7 +90,7 @@ pub(crate) fn part_of(
     blocks: &[Block<Pieces>],
 ) -> Result<Vec<Span>, AllocError>
     ensures { IfOk result (λ spans.
-        spans.items ≡ replies.part_spans from end (flat_map (λ b. b.content) blocks.now)) }
+        spans.items ≡ ranges.part_spans from end (flat_map (λ b. b.content) blocks.now)) }
 {
     let mut spans = Vec::new(alloc);
     let mut from = from;

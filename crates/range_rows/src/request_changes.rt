@@ -202,6 +202,7 @@ fn put_block_list(
 
 impl<'a> Allowed<'a> {
     ghost use Rattle.row_trees.specs.Fits.{fits};
+    ghost use Rattle.row_trees.specs.ListedBlocks.{AreFoundFor};
 
     // The entries of the block list that the request wants. The ids move from the reading.
     fn entries(
@@ -217,7 +218,11 @@ impl<'a> Allowed<'a> {
             (wanted_blocks request.now)) }
         ensures few { IfOk result (λ entries. IsTrue (nat_le (length entries) entries_limit)) }
     {
-        entries_from(alloc, wanted_in(alloc, reading), self.sources.as_slice())
+        entries_from(
+            alloc,
+            wanted_in(alloc, reading),
+            self.found.sources.as_slice(),
+        )
     }
 
     // What the request does, if it writes.
@@ -287,7 +292,8 @@ impl<'a> Allowed<'a> {
 
     /// The change that the request makes at the moment, if its operation writes. Rows make this change.
     /// The request was judged with `reading`, whose ids or policies move into the change. The ETag is
-    /// given when the change is made.
+    /// given when the change is made. If the request is a Put Block List, the blocks of `found` are those
+    /// that the change commits.
     ///
     /// `AllocError` if memory runs out for the change, or if the body can have no further owner.
     pub fn change(
@@ -304,6 +310,8 @@ impl<'a> Allowed<'a> {
             (sizes_found self.now.target.container) request.now moment ≡ Some change) }
         ensures fits { IfOk result (λ change. (change.key ≡ request.now.ask.key)
             × IsTrue (fits (sizes_found self.now.target.container) change.act)) }
+        ensures found { IfOk result (λ change.
+            AreFoundFor self.now.target.container change.act self.now.found.blocks) }
     {
         self.change_made(alloc, request, reading, moment)
     }

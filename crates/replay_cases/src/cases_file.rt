@@ -9,7 +9,7 @@ use crate::lines::{
 use crate::texts::{add_text, add_times};
 use access_rules::Keys;
 use hmac_sign::SigningKey;
-use stamp_types::Text;
+use stamp_types::AccountName;
 use std::alloc::Global;
 
 /// A text that lines add by the name of the text.
@@ -22,7 +22,7 @@ struct NamedText {
 /// What holds for the cases after the lines that said it, until a line says something else.
 #[derive(Drop)]
 struct Setting {
-    account: Option<Text>,
+    account: Option<AccountName>,
     keys: Option<(SigningKey, SigningKey)>,
     made: Option<Made>,
 }
@@ -172,7 +172,7 @@ fn add_bytes(
     text: &str,
 ) -> Result<(), LineFault> {
     match form {
-        Form::Plain => add_text(bytes, text),
+        Form::Text => add_text(bytes, text),
         Form::Named => {
             let named = find_text(texts, text).ok_or(LineFault::UnknownText)?;
             Ok(bytes.extend_from_slice(named)?)

@@ -1,44 +1,17 @@
-//! The service of a case, and the container that is made before the case begins.
-ghost use Rattle.std.specs.Prelude.{◌≡◌};
-ghost use Rattle.replay_cases.specs.declared.creation.ServiceFault.TheVariants.{NoMemory};
+//! The container that is made before a case begins.
 
-use crate::case::Case;
 use crate::clock::Moments;
 use access_rules::Keys;
-use account_service::Plain;
-use http_front::{Connection, End, run};
+use http_front::{Connection, End, Service, run};
 use moment_text::write_http;
 use stamp_types::Moment;
 use std::alloc::{AllocError, Global};
-use thiserror::Error;
 
 /// How many reads are enough for the request that makes the container.
 const READS: u64 = 8;
 
 /// How the reply begins if the container was made.
 const CREATED: &[u8] = b"HTTP/1.1 201 Created\r\n";
-
-/// Why a case could not begin.
-#[derive(Clone, Copy, Debug, PartialEq, Eq, Error)]
-pub(crate) enum ServiceFault {
-    /// The name in the keys is not the name of an account.
-    #[error("the account has no good name")]
-    Account,
-    /// The reply to the request that makes the container is not 201.
-    #[error("the container was not made")]
-    Container,
-    /// Out of memory.
-    #[error("out of memory")]
-    NoMemory,
-}
-
-impl From<AllocError> for ServiceFault {
-    ghost from_gives = { λ _ fault. fault ≡ NoMemory };
-
-    fn from(_error: AllocError) -> Self {
-        ServiceFault::NoMemory
-    }
-}
 
 // The string to sign of the request that makes the container (docs/formats/strings-to-sign.md).
 fn string_to_sign(alloc: Global, account: &[u8], date: &[u8]) -> Result<Vec<u8>, AllocError> {
@@ -74,10 +47,10 @@ fn creation(alloc: Global, keys: &Keys, moment: Moment) -> Result<Vec<u8>, Alloc
     .concat(alloc)
 }
 
-// Sends the request that makes the container, and says whether the container was made.
-fn make_container(
+/// Sends the request that makes the container `pics`, and says whether the container was made.
+pub(crate) fn make_container<S: Service>(
     alloc: Global,
-    service: &mut Plain,
+    service: &mut S,
     keys: &Keys,
     moment: Moment,
 ) -> Result<bool, AllocError> {
@@ -90,22 +63,4 @@ fn make_container(
     let ended = run(alloc, &mut connection, &mut clock, service);
     let (_, written) = connection.into_parts();
     Ok(ended == Ok(End::Clean) && written.starts_with(CREATED))
-}
-
-/// A new service for a case, with the container `pics` if a line of the file says that it is made.
-/// `first` is the first moment of the case.
-pub(crate) fn make_service(
-    alloc: Global,
-    case: &Case,
-    first: Moment,
-) -> Result<Plain, ServiceFault> {
-    let mut service = Plain::new(alloc, case.keys.clone()?).ok_or(ServiceFault::Account)?;
-    let Some(moment) = case.made_at(first) else {
-        return Ok(service);
-    };
-    if make_container(alloc, &mut service, &case.keys, moment)? {
-        Ok(service)
-    } else {
-        Err(ServiceFault::Container)
-    }
 }

@@ -2,10 +2,10 @@
 
 use crate::case::Case;
 use crate::cases_file::CasesFile;
-use crate::creation::ServiceFault;
 use crate::line_fault::LineFault;
 use crate::report::write_difference;
 use crate::running::find_difference;
+use crate::service::ServiceFault;
 use crate::tally::Tally;
 use std::alloc::Global;
 use std::io::Write;

@@ -5,13 +5,13 @@ use crate::line_fault::LineFault;
 use hmac_sign::{SecretFault, SigningKey, read_key};
 use http_front::{End, FrontFault};
 use moment_text::read_iso;
-use stamp_types::{Moment, Text, is_account};
+use stamp_types::{AccountName, Moment, Text};
 use std::alloc::Global;
 
 /// How a line gives bytes: as a text, by the name of a text, or as a count and the text that is repeated.
 #[derive(Clone, Copy, PartialEq, Eq)]
 pub(crate) enum Form {
-    Plain,
+    Text,
     Named,
     Repeated,
 }
@@ -43,10 +43,10 @@ pub(crate) fn read_word(word: &str) -> Option<Word> {
         "is" => Some(Word::Is),
         "case" => Some(Word::Case),
         "moment" => Some(Word::Moment),
-        "send" => Some(Word::Send(Form::Plain)),
+        "send" => Some(Word::Send(Form::Text)),
         "send-text" => Some(Word::Send(Form::Named)),
         "send-repeat" => Some(Word::Send(Form::Repeated)),
-        "want" => Some(Word::Want(Form::Plain)),
+        "want" => Some(Word::Want(Form::Text)),
         "want-text" => Some(Word::Want(Form::Named)),
         "want-repeat" => Some(Word::Want(Form::Repeated)),
         "reads" => Some(Word::Reads),
@@ -80,12 +80,9 @@ pub(crate) fn read_made(text: &str) -> Result<Made, LineFault> {
 }
 
 /// The account that has this name.
-pub(crate) fn read_account(alloc: Global, text: &str) -> Result<Text, LineFault> {
-    if !is_account(text.as_bytes()) {
-        return Err(LineFault::Account);
-    }
-    let name = String::from_str(alloc, text)?;
-    Text::new(name).ok_or(LineFault::Account)
+pub(crate) fn read_account(alloc: Global, text: &str) -> Result<AccountName, LineFault> {
+    let name = Text::new(String::from_str(alloc, text)?).ok_or(LineFault::Account)?;
+    AccountName::new(name).ok_or(LineFault::Account)
 }
 
 // The key that is given in Base64, or as `-` if it has no bytes.

@@ -17,6 +17,7 @@ mod line_fault;
 mod lines;
 mod report;
 mod running;
+mod service;
 mod tally;
 mod texts;
 

@@ -3,7 +3,7 @@ ghost use Rattle.std.specs.Prelude.{◌≡◌, ◌↔◌, IsTrue};
 
 use crate::case::Case;
 use crate::clock::Moments;
-use crate::creation::{ServiceFault, make_service};
+use crate::service::{ServiceFault, make_service};
 use http_front::{Connection, End, FrontFault, run};
 use stamp_types::Moment;
 use std::alloc::Global;

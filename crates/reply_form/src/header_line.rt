@@ -3,14 +3,14 @@ ghost use Rattle.std.specs.Prelude.{◌≡◌, ◌++◌, OnOk, codes, decimal, f
 ghost use Rattle.base64_text.specs.Base64.{base64_of};
 ghost use Rattle.reply_form.specs.HeaderLines.{line, level_line, sent_range_text, reply_line};
 
-use crate::header_names::{
-    ACCEPT_RANGES, BLOB_LENGTH, BLOB_PUBLIC_ACCESS, BLOB_TYPE, CACHE_CONTROL, CONTENT_DISPOSITION,
-    CONTENT_ENCODING, CONTENT_LANGUAGE, CONTENT_MD5, CONTENT_TYPE, ETAG, LAST_MODIFIED,
-    META_PREFIX,
-};
 use base64_text::write_base64;
 use itoa::Buffer;
 use moment_text::write_http;
+use stamp_types::header_names::printed::{
+    ACCEPT_RANGES, CACHE_CONTROL, CONTENT_DISPOSITION, CONTENT_ENCODING, CONTENT_LANGUAGE,
+    CONTENT_MD5, CONTENT_TYPE, ETAG, LAST_MODIFIED,
+};
+use stamp_types::header_names::{BLOB_LENGTH, BLOB_PUBLIC_ACCESS, BLOB_TYPE, META_PREFIX};
 use stamp_types::{Header, Level, Meta, SentRange, write_etag};
 use std::alloc::{AllocError, Global};
 

@@ -3,7 +3,6 @@
 
 mod fixed_replies;
 mod header_line;
-mod header_names;
 mod reply_bytes;
 
 pub use fixed_replies::{interim_reply, out_of_memory_reply};

@@ -6,10 +6,11 @@ ghost use Rattle.reply_form.specs.HeaderLines.{line, reply_line};
 ghost use Rattle.reply_form.specs.ReplyBytes.{phrase, status_line, rule_line, connection_line, length_line, is_not_modified, is_head, sends_body, head_bytes, reply_bytes};
 
 use crate::header_line::{append_headers, append_line, append_number_line};
-use crate::header_names::{CONNECTION, CONTENT_LENGTH, DATE, RULE, VERSION};
 use http::StatusCode;
 use itoa::Buffer;
 use moment_text::write_http;
+use stamp_types::header_names::printed::{CONNECTION, CONTENT_LENGTH, DATE};
+use stamp_types::header_names::{RULE, VERSION};
 use stamp_types::{Moment, Reply, Rule, Share, Status, Verb};
 use std::alloc::{AllocError, Global};
 

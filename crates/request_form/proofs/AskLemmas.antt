@@ -23,9 +23,9 @@ use Rattle.request_form.specs.HeadRanges.{range_of, range_sent}
 use Rattle.request_form.specs.HeadReads.{AreFields, IsLine}
 use Rattle.request_form.specs.HeadRules.{body_len_of, has_bad_parameter}
 use Rattle.request_form.specs.Targets.{container_of, target_of}
-use Rattle.request_form.specs.declared.header_lines.Fields.{Fields}
+use Rattle.request_form.specs.declared.rules.header_lines.Fields.{Fields}
 use Rattle.request_form.specs.HeadParts.{HeadParts}
-use Rattle.request_form.specs.declared.request_line.Line.{Line}
+use Rattle.request_form.specs.declared.rules.request_line.Line.{Line}
 use Rattle.request_form.proofs.BlockLemmas.{IsShortId, id_there}
 use Rattle.request_form.proofs.PageLemmas.{all_short, good_page, query_short}
 use Rattle.request_form.proofs.RangeLemmas.{range_rising}

@@ -1,6 +1,6 @@
 -- The page of names in a query that no rule refuses: its number of names, and how long its texts are.
-use Rattle.std.proofs.Common.{◌≡◌, ℕ, ◌+◌, ◌≤◌, Bool, true, false, true≢false, not, ◌&&◌, ◌==◌, cond, List, [], ◌∷◌, length, map, filter, take, drop, sum_by, Option, Some, None, option_and_then, bytes_eq, codes, refl, sym, ap, ◌∙◌, arith, inl, inr}
-use Rattle.std.proofs.lemmas.Bool.{and_parts, cases_Bool, or_parts, not-false}
+use Rattle.std.proofs.Common.{◌≡◌, ℕ, ◌+◌, ◌≤◌, Bool, true, false, not, ◌&&◌, ◌==◌, cond, List, [], ◌∷◌, length, map, filter, take, drop, sum_by, Option, Some, None, option_and_then, bytes_eq, codes, refl, ap, ◌∙◌, arith}
+use Rattle.std.proofs.lemmas.Bool.{and_parts, or_parts, not-false}
 use Rattle.std.proofs.lemmas.Bool.Decides.{nat_tests}
 use Rattle.std.proofs.lemmas.List.{length-drop, length-map, length-take}
 use Rattle.std.proofs.lemmas.List.Sums.{sum_by-cons}
@@ -48,48 +48,14 @@ value_good : (query : List Field) (name : List ℕ) → is_bad_parameter query n
 unfolding is_bad_parameter
 value_good query name e = (or_parts _ _ e).1
 
--- the values of the parameters of a page are good
-record AreGood (query : List Field) : Type 0 where
-  prefix : is_bad_at query (codes "prefix") ≡ false
-  delimiter : is_bad_at query (codes "delimiter") ≡ false
-  marker : is_bad_at query (codes "marker") ≡ false
-  max : is_bad_at query (codes "maxresults") ≡ false
-
-are_good : (query : List Field) → has_bad_parameter query ≡ false → AreGood query
+-- the number of names is good if no parameter is bad
+good_number : (query : List Field) → has_bad_parameter query ≡ false → is_bad_at query (codes "maxresults") ≡ false
 unfolding has_bad_parameter
-are_good query good =
+good_number query good =
     let all = or_parts _ _ good in
     let named = or_parts _ _ all.0 in
     let each = each_fails (λ name. is_bad_parameter query name (is_value_of name)) parameter_names named.0 in
-    record {
-      prefix = value_good query (codes "prefix") each.1.1.0;
-      delimiter = value_good query (codes "delimiter") each.1.1.1.0;
-      marker = value_good query (codes "marker") each.1.1.1.1.0;
-      max = value_good query (codes "maxresults") each.1.1.1.1.1.0;
-    }
-
--- a parameter is bad if a test fails that passes if no parameter is bad
-bad_by : (query : List Field) (bad : Bool) → (has_bad_parameter query ≡ false → bad ≡ false) → bad ≡ true → has_bad_parameter query ≡ true
-bad_by query bad good is = elim (cases_Bool (has_bad_parameter query)) [
-  | inl some ↦ some
-  | inr none ↦ absurd (true≢false (sym is ∙ good none))
-]
-
--- a parameter is bad if the prefix is bad
-pub bad_prefix : (query : List Field) → is_bad query (codes "prefix") (is_good_value (is_value_of (codes "prefix"))) ≡ true → has_bad_parameter query ≡ true
-bad_prefix query is = bad_by query (is_bad_at query (codes "prefix")) (λ good. (are_good query good).prefix) is
-
--- a parameter is bad if the delimiter is bad
-pub bad_delimiter : (query : List Field) → is_bad query (codes "delimiter") (is_good_value (is_value_of (codes "delimiter"))) ≡ true → has_bad_parameter query ≡ true
-bad_delimiter query is = bad_by query (is_bad_at query (codes "delimiter")) (λ good. (are_good query good).delimiter) is
-
--- a parameter is bad if the marker is bad
-pub bad_marker : (query : List Field) → is_bad query (codes "marker") (is_good_value (is_value_of (codes "marker"))) ≡ true → has_bad_parameter query ≡ true
-bad_marker query is = bad_by query (is_bad_at query (codes "marker")) (λ good. (are_good query good).marker) is
-
--- a parameter is bad if the number of names is bad
-pub bad_max : (query : List Field) → is_bad query (codes "maxresults") (is_good_value (is_value_of (codes "maxresults"))) ≡ true → has_bad_parameter query ≡ true
-bad_max query is = bad_by query (is_bad_at query (codes "maxresults")) (λ good. (are_good query good).max) is
+    value_good query (codes "maxresults") each.1.1.1.1.1.0
 
 -- a text that is given is not empty
 given : (query : List Field) (name : List ℕ) → IsGiven (text_given query name)
@@ -143,7 +109,7 @@ some query good = by_value (first_value query (codes "maxresults")) good
 pub good_page : (op : Op) (query : List Field) → has_bad_parameter query ≡ false → IsPage (page_of op query)
 unfolding page_of
 good_page op query good = record {
-  some = some query (are_good query good).max;
+  some = some query (good_number query good);
   most = most query;
   prefix = given query (codes "prefix");
   delimiter = delimiter_given op query;

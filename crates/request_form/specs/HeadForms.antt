@@ -31,8 +31,8 @@ use Rattle.request_form.specs.HeadPages.{page_by}
 use Rattle.request_form.specs.HeadRanges.{range_by}
 use Rattle.request_form.specs.HeadRules.{verb_of, op_of, kept_value, body_len_of}
 use Rattle.request_form.specs.HeadParts.{HeadParts}
-use Rattle.request_form.specs.declared.parsed_head.Version.{Version}
-use Rattle.request_form.specs.declared.parsed_head.Version.TheVariants.{Http10, Http11}
+use Rattle.request_form.specs.declared.parse.parsed_head.Version.{Version}
+use Rattle.request_form.specs.declared.parse.parsed_head.Version.TheVariants.{Http10, Http11}
 
 -- what a head asks for: a request without its body, how many bytes the body has, whether the client waits for the interim
 -- reply before it sends the body, and whether the connection ends after the reply

@@ -1,7 +1,7 @@
 -- The parts of a request head (RFC 9112, sections 2 to 5).
 use Rattle.std.specs.Prelude.{ℕ, List}
 use Rattle.stamp_values.specs.declared.signing.Field.{Field}
-use Rattle.request_form.specs.declared.parsed_head.Version.{Version}
+use Rattle.request_form.specs.declared.parse.parsed_head.Version.{Version}
 
 -- the method, the target, the version, the header lines but Authorization, and the values of Authorization
 pub record HeadParts : Type 0 where

@@ -14,14 +14,14 @@ use Rattle.request_form.specs.HeadRules.{verb_of, op_at, op_of, has_bad_name, ha
 use Rattle.request_form.specs.HeadForms.{header_args_of, key_by, blob_by}
 use Rattle.request_form.specs.declared.denial.HeadFault.{HeadFault}
 use Rattle.request_form.specs.declared.denial.HeadFault.TheVariants as fault
-use Rattle.request_form.specs.declared.header_lines.Fields.{Fields}
-use Rattle.request_form.specs.declared.names.BlobName.{BlobName}
-use Rattle.request_form.specs.declared.names.BlobName.TheVariants as blob_name
-use Rattle.request_form.specs.declared.names.Names.{Names}
+use Rattle.request_form.specs.declared.rules.header_lines.Fields.{Fields}
+use Rattle.request_form.specs.declared.rules.f5_names.BlobName.{BlobName}
+use Rattle.request_form.specs.declared.rules.f5_names.BlobName.TheVariants as blob_name
+use Rattle.request_form.specs.declared.rules.f5_names.Names.{Names}
 use Rattle.request_form.specs.HeadParts.{HeadParts}
-use Rattle.request_form.specs.declared.operation.Operation.{Operation}
-use Rattle.request_form.specs.declared.request_line.Line.{Line}
-use Rattle.request_form.specs.declared.target.Target.{Target}
+use Rattle.request_form.specs.declared.rules.f3_operation.Operation.{Operation}
+use Rattle.request_form.specs.declared.rules.request_line.Line.{Line}
+use Rattle.request_form.specs.declared.rules.f1_target.Target.{Target}
 use Rattle.request_form.specs.declared.value_fault.ValueFault.{ValueFault}
 use Rattle.request_form.specs.declared.value_fault.ValueFault.TheVariants as value_fault
 

@@ -26,10 +26,10 @@ use Rattle.base64_text.specs.Base64.{is_base64_within}
 use Rattle.request_form.specs.HeadFields.{is_bad, has_bad, is_number, is_md5, is_own_name, is_meta}
 use Rattle.request_form.specs.HeadMetadata.{has_bad_metadata_by}
 use Rattle.request_form.specs.declared.denial.Denial.{Denial}
-use Rattle.request_form.specs.declared.target.Target.{Target}
+use Rattle.request_form.specs.declared.rules.f1_target.Target.{Target}
 use Rattle.request_form.specs.HeadParts.{HeadParts}
-use Rattle.request_form.specs.declared.path_kind.PathKind.{PathKind}
-use Rattle.request_form.specs.declared.path_kind.PathKind.TheVariants as path
+use Rattle.request_form.specs.declared.parse.path_kind.PathKind.{PathKind}
+use Rattle.request_form.specs.declared.parse.path_kind.PathKind.TheVariants as path
 
 -- the method, if the stamp serves it
 unfoldable pub verb_of : List ℕ → Option Verb
@@ -122,9 +122,13 @@ op_of p = option_and_then (λ verb. op_at verb (target_of p.target)) (verb_of p.
 abbrev pub asks_for : Op → HeadParts → Bool
 asks_for op p = option_map_or (is_op op) (op_of p) false
 
+-- the parameters of a page of names
+abbrev pub page_names : List (List ℕ)
+page_names = codes "prefix" ∷ codes "delimiter" ∷ codes "marker" ∷ codes "maxresults" ∷ codes "include" ∷ []
+
 -- the parameters that operations have, beside the two parameters of blocks; they are given at most once
 abbrev pub parameter_names : List (List ℕ)
-parameter_names = codes "restype" ∷ codes "comp" ∷ codes "prefix" ∷ codes "delimiter" ∷ codes "marker" ∷ codes "maxresults" ∷ codes "include" ∷ []
+parameter_names = codes "restype" ∷ codes "comp" ∷ page_names
 
 -- the value is the strict Base64 of the id of a block
 abbrev pub is_id : List ℕ → Bool
@@ -151,6 +155,10 @@ is_good_value test v = is_utf8 v && is_clean v && test v
 -- the parameter is given twice, or its value is bad by the test
 unfoldable pub is_bad_parameter : List Field → List ℕ → (List ℕ → Bool) → Bool
 is_bad_parameter query name test = is_sent_twice query name || is_bad query name (is_good_value test)
+
+-- a parameter of a page of names is bad
+unfoldable pub has_bad_page : List Field → Bool
+has_bad_page query = list_any (λ name. is_bad_parameter query name (is_value_of name)) page_names
 
 -- the id of a block is bad
 unfoldable pub has_bad_block_id : List Field → Bool

@@ -10,8 +10,8 @@ use Rattle.request_form.specs.HeadForms.{Form, form_of}
 use Rattle.request_form.specs.HeadRules.{denial_of, no_head}
 use Rattle.request_form.specs.declared.denial.Denial.{Denial}
 use Rattle.request_form.specs.HeadParts.{HeadParts}
-use Rattle.request_form.specs.declared.parsed_head.Version.{Version}
-use Rattle.request_form.specs.declared.parsed_head.Version.TheVariants.{Http10, Http11}
+use Rattle.request_form.specs.declared.parse.parsed_head.Version.{Version}
+use Rattle.request_form.specs.declared.parse.parsed_head.Version.TheVariants.{Http10, Http11}
 
 -- the most bytes that a head has
 abbrev pub head_limit : ℕ

@@ -8,9 +8,9 @@ use Rattle.stamp_values.specs.declared.signing.Field.{Field}
 -- passed on: in lower case
 pub use Rattle.stamp_values.specs.Fields.{lowered}
 use Rattle.stamp_values.specs.Ascii.{number_sign, ampersand, slash, equals_sign, question_mark}
-use Rattle.request_form.specs.declared.target.Target.{Target}
-use Rattle.request_form.specs.declared.path_kind.PathKind.{PathKind}
-use Rattle.request_form.specs.declared.path_kind.PathKind.TheVariants.{Root, Account, Container, Blob}
+use Rattle.request_form.specs.declared.rules.f1_target.Target.{Target}
+use Rattle.request_form.specs.declared.parse.path_kind.PathKind.{PathKind}
+use Rattle.request_form.specs.declared.parse.path_kind.PathKind.TheVariants.{Root, Account, Container, Blob}
 
 -- the most bytes of an address that the library reads
 abbrev pub address_limit : ℕ

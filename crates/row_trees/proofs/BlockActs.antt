@@ -9,10 +9,11 @@ use Rattle.stamp_values.proofs.TreeMaps.{insert_same}
 use Rattle.stamp_types.specs.declared.act.Act.TheVariants as act
 use Rattle.stamp_types.specs.declared.act.PutBlock.{PutBlock}
 use Rattle.stamp_types.specs.declared.act.PutBlockList.{PutBlockList}
+use Rattle.stamp_types.specs.declared.committed.Block.{Block}
 use Rattle.stamp_types.specs.declared.piece.Piece.{Piece}
 use Rattle.stamp_types.specs.World.{Blob, Part, blob_in, blobs_after, no_blob, same_pieces, with_blob}
 use Rattle.block_blobs.specs.BlobChanges.{blob_of_list, blob_with_block}
-use Rattle.block_blobs.specs.BlockLists.{taken_fault}
+use Rattle.block_blobs.specs.BlockLists.{taken_fault, unnamed_blocks}
 
 module _ (p : Part (List Piece)) (name : List ℕ) where
   -- the blob of a name that has a row
@@ -31,13 +32,10 @@ module _ (p : Part (List Piece)) (name : List ℕ) where
   pub list_fits_no_blob : (ts : List Taken) → get p.blobs name ≡ None → taken_fault (blob_in p name) ts ≡ None → taken_fault (no_blob {C = List Piece}) ts ≡ None
   list_fits_no_blob ts none fits = ap (λ b. taken_fault b ts) (sym (blob_without_row none)) ∙ fits
 
-  -- whether a list fits a new row is whether it fits the blob without a row
-  pub answer_of_new_row : (row : Blob (List Piece)) (us ts : List Taken) (answer : Result Bool AllocError) → us ≡ ts → get p.blobs name ≡ None → row ≡ no_blob
-      → IfOk answer (λ fits. fits ≡ is_none (taken_fault row us)) → IfOk answer (λ fits. fits ≡ is_none (taken_fault (blob_in p name) ts))
-  answer_of_new_row row us ts answer same none new given =
-      let fault : is_none (taken_fault row us) ≡ is_none (taken_fault (blob_in p name) ts) =
-      λ i. is_none (taken_fault ((new ∙ sym (blob_without_row none)) i) (same i)) in
-      subst (λ b. IfOk answer (λ fits. fits ≡ b)) fault given
+  -- blocks that were found in a blob without a row were found in a blob that never was
+  pub found_in_no_blob : (bs : List (Block (List Piece))) (ts : List Taken) → get p.blobs name ≡ None → bs ≡ unnamed_blocks (blob_in p name) ts
+      → bs ≡ unnamed_blocks (no_blob {C = List Piece}) ts
+  found_in_no_blob bs ts none found = found ∙ ap (λ b. unnamed_blocks b ts) (blob_without_row none)
 
 module _ (n : ℕ) (a : PutBlock) (p : Part (List Piece)) where
   -- a Put Block on a name that has a row changes this row's blob

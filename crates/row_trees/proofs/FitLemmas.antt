@@ -11,7 +11,7 @@ use Rattle.stamp_types.specs.ActKinds.{is_row}
 use Rattle.stamp_types.specs.Changes.{KeyedAct, is_act, is_change, is_committed, is_stored_blob, are_uncommitted}
 use Rattle.stamp_types.specs.Pieces.{pieces_len}
 use Rattle.stamp_types.specs.World.{Part, no_part, part_value}
-use Rattle.row_trees.specs.Fits.{fits, fits_blob, creates, deletes}
+use Rattle.row_trees.specs.Fits.{commits, fits, fits_blob, creates, deletes}
 use Rattle.row_trees.specs.Fits.{count_limit}
 
 -- a container takes one more change, if the change fits and is not a row of a checkpoint
@@ -35,6 +35,20 @@ no_deletion (act.PutBlock a) h = refl
 no_deletion (act.PutBlockList a) h = refl
 no_deletion (act.ContainerRow a) h = refl
 no_deletion (act.StoredBlob a) h = refl
+
+-- a deletion commits no list
+pub deletion_commits_nothing : (a : Act) → deletes a ≡ true → commits a ≡ false
+deletion_commits_nothing (act.PutBlockList a) h = cc
+deletion_commits_nothing act.DeleteContainer h = refl
+deletion_commits_nothing (act.DeleteBlob a) h = refl
+deletion_commits_nothing (act.CreateContainer a) h = refl
+deletion_commits_nothing (act.SetContainerMetadata a) h = refl
+deletion_commits_nothing (act.SetAcl a) h = refl
+deletion_commits_nothing (act.PutBlob a) h = refl
+deletion_commits_nothing (act.SetMetadata a) h = refl
+deletion_commits_nothing (act.PutBlock a) h = refl
+deletion_commits_nothing (act.ContainerRow a) h = refl
+deletion_commits_nothing (act.StoredBlob a) h = refl
 
 -- the act of a good change is good
 pub act_of_change : (c : KeyedAct) (a : Act) → is_change c ≡ true → a ≡ c.act → is_act a ≡ true

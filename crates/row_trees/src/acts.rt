@@ -5,10 +5,11 @@ ghost use Rattle.stamp_types.specs.Changes.{is_act, is_stored_blob};
 ghost use Rattle.stamp_types.specs.Pieces.{pieces_len};
 ghost use Rattle.stamp_types.specs.World.{changed, part_value, same_pieces};
 ghost use Rattle.row_trees.specs.Fits.{count_limit, deletes, fits};
+ghost use Rattle.row_trees.specs.ListedBlocks.{AreFoundFor};
 
 use crate::container::Container;
 use crate::row::Row;
-use block_blobs::BlobRow;
+use block_blobs::{BlobRow, FoundBlocks};
 use stamp_types::{
     Acl, Act, Bytes, ContainerRow, CreateContainer, DeleteBlob, Policies, PutBlob, SetAcl,
     SetContainerMetadata, SetMetadata, Standing, StoredBlob, Text,
@@ -146,15 +147,21 @@ impl Container {
         Ok(())
     }
 
-    /// Makes a change that fits. What the change holds moves into the container.
+    /// Makes a change that fits. What the change holds moves into the container, and so do the blocks
+    /// that were found for it, if it commits a list.
     ///
     /// `AllocError` if memory runs out for a new row, its list of blocks or the tree of its
-    /// uncommitted blocks, or if the content of a listed block can have no further owner. The
-    /// container is then as it was.
+    /// uncommitted blocks. The container is then as it was.
     #[tactic(auto, using(crate::proofs::FitLemmas::room_for_change, crate::proofs::BlockFits::fits_block, crate::proofs::BlockFits::fits_list, crate::proofs::BlockFits::block_piece))]
-    pub(crate) fn take(&mut self, alloc: Global, act: Act) -> Result<(), AllocError>
+    pub(crate) fn take(
+        &mut self,
+        alloc: Global,
+        act: Act,
+        found: FoundBlocks,
+    ) -> Result<(), AllocError>
         requires fits { IsTrue (fits (part_value pieces_len self.old) act) }
         requires valid { IsTrue (is_act act) }
+        requires found { AreFoundFor self.old act found }
         ensures changed { OnOk result (self.new ≡ changed same_pieces act self.old) }
         ensures refused { OnErr result (self.new ≡ self.old) }
         ensures deletes { IsTrue (deletes act) → IsOk result }
@@ -168,7 +175,7 @@ impl Container {
             Act::SetMetadata(set) => self.set_metadata(set),
             Act::DeleteBlob(delete) => self.delete_blob(delete),
             Act::PutBlock(put) => self.put_block(alloc, put)?,
-            Act::PutBlockList(list) => self.put_block_list(alloc, list)?,
+            Act::PutBlockList(list) => self.put_block_list(alloc, list, found)?,
             Act::ContainerRow(row) => self.take_row(row),
             Act::StoredBlob(row) => self.store_blob(alloc, row)?,
         }

@@ -3,13 +3,14 @@ ghost use Rattle.std.specs.Prelude.{◌≡◌, ◌<◌, IsTrue, OnOk, OnErr, Non
 ghost use Rattle.stamp_types.specs.declared.act.Act.TheVariants as act;
 ghost use Rattle.stamp_types.specs.Changes.{is_in_one_piece};
 ghost use Rattle.stamp_types.specs.World.{blob_in, changed, same_pieces};
-ghost use Rattle.block_blobs.specs.BlockLists.{taken_fault};
+ghost use Rattle.block_blobs.specs.BlockLists.{taken_fault, unnamed_blocks};
 ghost use Rattle.block_blobs.specs.UncommittedBlocks.{block_fault};
 ghost use Rattle.row_trees.specs.Fits.{count_limit};
 
 use crate::acts::bytes_of;
 use crate::container::Container;
 use crate::row::Row;
+use block_blobs::FoundBlocks;
 use stamp_types::{PutBlock, PutBlockList, Text};
 use std::alloc::{AllocError, Global};
 
@@ -52,19 +53,20 @@ impl Container {
         Ok(())
     }
 
-    /// Makes the blocks of a list the content of the blob of its name. If the name has no row, the row
-    /// is made.
+    /// Makes the blocks that were found for a list the content of the blob of its name. If the name has
+    /// no row, the row is made.
     ///
-    /// `AllocError` if memory runs out, or if content can have no further owner. The container is then
-    /// as it was.
+    /// `AllocError` if memory runs out for a new row. The container is then as it was.
     #[tactic(auto, using(crate::proofs::BlockActs::list_on_row, crate::proofs::BlockActs::list_without_row, crate::proofs::BlockActs::blob_of_row, crate::proofs::BlockActs::blob_without_row, crate::proofs::BlockActs::same_row))]
     pub(crate) fn put_block_list(
         &mut self,
         alloc: Global,
         list: PutBlockList,
+        found: FoundBlocks,
     ) -> Result<(), AllocError>
         requires count { self.old.count < count_limit }
         requires fits { taken_fault (blob_in self.old list.blob) list.entries ≡ None }
+        requires found { found ≡ unnamed_blocks (blob_in self.old list.blob) list.entries }
         ensures changed { OnOk result
             (self.new ≡ changed same_pieces (act.PutBlockList list) self.old) }
         ensures refused { OnErr result (self.new ≡ self.old) }
@@ -78,11 +80,10 @@ impl Container {
         };
         match self.blobs.get_mut(name.as_str().as_bytes()) {
             Some(row) => {
-                let done = row.commit(alloc, unnamed, count);
+                row.commit(alloc, unnamed, found, count);
                 drop(name);
-                done?;
             }
-            None => match Row::of_list(alloc, unnamed, count) {
+            None => match Row::of_list(alloc, unnamed, found, count) {
                 Ok(row) => {
                     self.blobs.insert(bytes_of(name), row)?;
                 }

@@ -9,8 +9,9 @@ ghost use Rattle.row_trees.specs.Fits as fits;
 ghost use Rattle.row_trees.specs.Fits.{count_limit};
 
 use crate::container::Container;
+use crate::found_blob::FoundBlob;
 use crate::rows::Rows;
-use block_blobs::{BlobRow, BlockFault};
+use block_blobs::BlockFault;
 use stamp_types::{Act, Change, PutBlock, PutBlockList, Taken};
 use std::alloc::{AllocError, Global};
 
@@ -27,11 +28,11 @@ fn creates(act: &Act) -> bool
 }
 
 // Whether a blob has the blocks of the entries, within the limits of a list.
-fn takes(alloc: Global, row: &BlobRow, entries: &[Taken]) -> Result<bool, AllocError>
-    ensures { IfOk result (λ answer. answer ≡ is_none (taken_fault row.now entries.now)) }
+fn takes(alloc: Global, seen: &FoundBlob<'_>, entries: &[Taken]) -> Result<bool, AllocError>
+    ensures { IfOk result (λ answer. answer ≡ is_none (taken_fault seen.now entries.now)) }
 {
-    match row.list_fault(alloc, entries) {
-        Ok(()) => Ok(true),
+    match seen.listed(alloc, entries) {
+        Ok(_found) => Ok(true),
         Err(BlockFault::NoMemory) => Err(AllocError),
         Err(_) => Ok(false),
     }
@@ -39,37 +40,19 @@ fn takes(alloc: Global, row: &BlobRow, entries: &[Taken]) -> Result<bool, AllocE
 
 impl Container {
     // Whether the blob of a Put Block takes the block.
-    #[tactic(auto, using(crate::proofs::BlockActs::blob_of_row, crate::proofs::BlockActs::blob_without_row))]
-    fn fits_block(&self, alloc: Global, put: &PutBlock) -> bool
+    fn fits_block(&self, put: &PutBlock) -> bool
         ensures { result ≡ is_none (block_fault put.now.id (blob_in self.now put.now.blob).uncommitted) }
     {
-        match self.blobs.get(put.blob.as_str().as_bytes()) {
-            Some(row) => row.blob().block_fault(&put.id).is_none(),
-            None => {
-                let row = BlobRow::new(alloc);
-                let fault = row.block_fault(&put.id);
-                drop(row);
-                fault.is_none()
-            }
-        }
+        self.seen(&put.blob).block_fault(&put.id).is_none()
     }
 
     // Whether the blob of a Put Block List has the blocks of its entries, within the limits.
-    #[tactic(auto, using(crate::proofs::BlockActs::blob_of_row, crate::proofs::BlockActs::blob_without_row))]
     fn fits_list(&self, alloc: Global, list: &PutBlockList) -> Result<bool, AllocError>
         ensures { IfOk result (λ answer. answer
             ≡ is_none (taken_fault (blob_in self.now list.now.blob) list.now.entries)) }
     {
-        let entries = list.entries.as_slice();
-        match self.blobs.get(list.blob.as_str().as_bytes()) {
-            Some(row) => takes(alloc, row.blob(), entries),
-            None => {
-                let row = BlobRow::new(alloc);
-                let answer = takes(alloc, &row, entries);
-                drop(row);
-                answer
-            }
-        }
+        let seen = self.seen(&list.blob);
+        takes(alloc, &seen, list.entries.as_slice())
     }
 
     // Whether a change fits its blob, if it is a change of blocks.
@@ -80,7 +63,7 @@ impl Container {
         ensures memory { IsErr result → IsTrue (fits.commits act.now) }
     {
         match act {
-            Act::PutBlock(put) => Ok(self.fits_block(alloc, put)),
+            Act::PutBlock(put) => Ok(self.fits_block(put)),
             Act::PutBlockList(list) => self.fits_list(alloc, list),
             _ => Ok(true),
         }

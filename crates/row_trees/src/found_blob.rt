@@ -7,8 +7,8 @@ ghost use Rattle.block_blobs.specs.BlobChanges.{content_len};
 ghost use Rattle.block_blobs.specs.Faults.{IsFault};
 ghost use Rattle.row_trees.specs.FoundParts.{blob_found, has_uncommitted};
 
-use block_blobs::{BlobRow, BlockFault};
-use stamp_types::{BlockId, Committed, Items, Pieces, Source, Wanted};
+use block_blobs::{BlobRow, BlockFault, FoundBlocks, Resolved};
+use stamp_types::{BlockId, Committed, Pieces, Taken, Wanted};
 use std::alloc::Global;
 use std::marker::Model;
 
@@ -40,6 +40,7 @@ impl<'a> Model for FoundBlob<'a> {
 
 impl<'a> FoundBlob<'a> {
     ghost use Rattle.block_blobs.specs.BlockLists as lists;
+    ghost use Rattle.block_blobs.specs.ResolvedLists.{resolved};
     ghost use Rattle.block_blobs.specs.UncommittedBlocks as blocks;
 
     /// A blob of a name that was never used.
@@ -106,16 +107,28 @@ impl<'a> FoundBlob<'a> {
         }
     }
 
-    /// Where each wanted block is found, as `BlobRow::resolve` says it. A blob without a row has no
-    /// block.
-    pub fn resolve(&self, alloc: Global, wanted: &[Wanted]) -> Result<Items<Source>, BlockFault>
-        ensures value { IfOk result (λ found. found ≡ lists.found_sources self.now wanted.now) }
+    /// Where each wanted block is found, and the blocks, as `BlobRow::resolve` says it. A blob without
+    /// a row has no block.
+    pub fn resolve(&self, alloc: Global, wanted: &[Wanted]) -> Result<Resolved, BlockFault>
+        ensures value { IfOk result (λ found. found ≡ resolved self.now wanted.now) }
         ensures fits { OnOk result (lists.wanted_fault self.now wanted.now ≡ None) }
         ensures fault { IfErr result (IsFault (lists.wanted_fault self.now wanted.now)) }
     {
         match self.row {
             Some(row) => row.resolve(alloc, wanted),
             None => BlobRow::new(alloc).resolve(alloc, wanted),
+        }
+    }
+
+    /// The blocks of a list whose entries say where they are, as `BlobRow::listed` says it.
+    pub fn listed(&self, alloc: Global, entries: &[Taken]) -> Result<FoundBlocks, BlockFault>
+        ensures value { IfOk result (λ found. found ≡ lists.unnamed_blocks self.now entries.now) }
+        ensures fits { OnOk result (lists.taken_fault self.now entries.now ≡ None) }
+        ensures fault { IfErr result (IsFault (lists.taken_fault self.now entries.now)) }
+    {
+        match self.row {
+            Some(row) => row.listed(alloc, entries),
+            None => BlobRow::new(alloc).listed(alloc, entries),
         }
     }
 }

@@ -8,6 +8,7 @@ mod checkpoint_laws;
 mod container;
 mod found;
 mod found_blob;
+mod found_lists;
 mod row;
 mod rows;
 mod walks;

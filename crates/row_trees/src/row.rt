@@ -3,10 +3,10 @@ ghost use Rattle.std.specs.Prelude.{◌≡◌, IfOk, IsTrue, OnOk, OnErr, None};
 ghost use Rattle.stamp_types.specs.Changes.{is_in_one_piece};
 ghost use Rattle.stamp_types.specs.World.{no_blob};
 ghost use Rattle.block_blobs.specs.BlobChanges.{blob_of_list, blob_with_block, blob_with_metadata};
-ghost use Rattle.block_blobs.specs.BlockLists.{taken_fault};
+ghost use Rattle.block_blobs.specs.BlockLists.{taken_fault, unnamed_blocks};
 ghost use Rattle.block_blobs.specs.UncommittedBlocks.{block_fault};
 
-use block_blobs::{BlobRow, BlockFault};
+use block_blobs::{BlobRow, BlockFault, FoundBlocks};
 use stamp_types::{BlockId, Pieces, PutBlockList, SetMetadata};
 use std::alloc::{AllocError, Global};
 use std::marker::Model;
@@ -75,24 +75,26 @@ impl Row {
     }
 
     /// A blob that a list makes of nothing, in a box.
-    pub(crate) fn of_list(alloc: Global, list: PutBlockList, count: u64) -> Result<Self, AllocError>
-        requires { taken_fault no_blob list.entries ≡ None }
+    pub(crate) fn of_list(
+        alloc: Global,
+        list: PutBlockList,
+        found: FoundBlocks,
+        count: u64,
+    ) -> Result<Self, AllocError>
+        requires fits { taken_fault no_blob list.entries ≡ None }
+        requires found { found ≡ unnamed_blocks no_blob list.entries }
         ensures { IfOk result (λ row. row ≡ blob_of_list count list no_blob) }
     {
         let mut row = match Self::empty(alloc) {
             Ok(row) => row,
             Err(fault) => {
+                drop(found);
                 drop(list);
                 return Err(fault);
             }
         };
-        match row.commit(alloc, list, count) {
-            Ok(()) => Ok(row),
-            Err(fault) => {
-                drop(row);
-                Err(fault)
-            }
-        }
+        row.commit(alloc, list, found, count);
+        Ok(row)
     }
 
     pub(crate) fn blob(&self) -> &BlobRow
@@ -123,22 +125,18 @@ impl Row {
         }
     }
 
-    /// Makes the blocks of a list that fits the content, as `BlobRow::commit` does. If memory runs out,
-    /// the blob is as it was.
+    /// Makes the blocks that were found for a list the content, as `BlobRow::commit` does.
     pub(crate) fn commit(
         &mut self,
         alloc: Global,
         list: PutBlockList,
+        found: FoundBlocks,
         count: u64,
-    ) -> Result<(), AllocError>
-        requires { taken_fault self.old list.entries ≡ None }
-        ensures committed { OnOk result (self.new ≡ blob_of_list count list self.old) }
-        ensures refused { OnErr result (self.new ≡ self.old) }
+    )
+        requires fits { taken_fault self.old list.entries ≡ None }
+        requires found { found ≡ unnamed_blocks self.old list.entries }
+        ensures { self.new ≡ blob_of_list count list self.old }
     {
-        match self.blob.commit(alloc, list, count) {
-            Ok(()) => Ok(()),
-            Err(BlockFault::NoMemory) => Err(AllocError),
-            Err(_) => unreachable!(),
-        }
+        self.blob.commit(alloc, list, found, count);
     }
 }

@@ -4,6 +4,7 @@ ghost use Rattle.std.specs.Option.{option_copied};
 
 use crate::container::Container;
 use crate::found::Found;
+use block_blobs::FoundBlocks;
 use stamp_types::{Acl, Act, Change, Committed, Key, Pieces, Standing, Text};
 use stamp_values::Keyed;
 use std::alloc::{AllocError, Global};
@@ -45,6 +46,7 @@ impl Rows {
     ghost use Rattle.stamp_types.specs.World.{part_at, part_value, no_part, blob_in, changed, changed_in, same_pieces};
     ghost use Rattle.row_trees.specs.Access.{acl_of};
     ghost use Rattle.row_trees.specs.Fits.{deletes, fits};
+    ghost use Rattle.row_trees.specs.ListedBlocks.{AreFoundFor};
 
     /// No containers. Takes no memory.
     pub fn new(alloc: Global) -> Self
@@ -112,36 +114,68 @@ impl Rows {
     }
 
     // The first change of a container that never was.
-    fn add_changed(&mut self, alloc: Global, key: Key, act: Act) -> Result<(), AllocError>
+    fn add_changed(
+        &mut self,
+        alloc: Global,
+        key: Key,
+        act: Act,
+        found: FoundBlocks,
+    ) -> Result<(), AllocError>
         requires fits { IsTrue (fits (part_value pieces_len no_part) act) }
         requires valid { IsTrue (is_act act) }
+        requires found { AreFoundFor no_part act found }
         ensures changed { OnOk result
             (self.new ≡ finite.insert self.old key (changed same_pieces act no_part)) }
         ensures refused { OnErr result (self.new ≡ self.old) }
     {
         let mut container = Container::none(alloc);
-        container.take(alloc, act)?;
+        container.take(alloc, act, found)?;
         self.add(key, container)
     }
 
-    /// Makes a change that fits. The texts and the content of the change move into the rows, and
-    /// no byte of content is copied. A deletion takes no memory.
+    /// Makes a change that fits, with the blocks that were found for it in these rows, if it commits a
+    /// list. The texts and the content of the change and the blocks move into the rows, and no byte of
+    /// content is copied. No block is looked up. A deletion takes no memory.
     ///
     /// `AllocError` if memory runs out for a new row, its list of blocks or the tree of its
-    /// uncommitted blocks, or if the content of a listed block can have no further owner. The rows
-    /// are then as they were.
+    /// uncommitted blocks. The rows are then as they were.
     #[tactic(auto, using(crate::proofs::Parts::same_world, crate::proofs::FitLemmas::no_deletion, crate::proofs::FitLemmas::act_of_change))]
-    pub fn take(&mut self, alloc: Global, change: Change) -> Result<(), AllocError>
-        requires { IsTrue (fits (part_value pieces_len (part_at self.old change.key)) change.act) }
+    pub fn take_found(
+        &mut self,
+        alloc: Global,
+        change: Change,
+        found: FoundBlocks,
+    ) -> Result<(), AllocError>
+        requires fits { IsTrue
+            (fits (part_value pieces_len (part_at self.old change.key)) change.act) }
+        requires found { AreFoundFor (part_at self.old change.key) change.act found }
         ensures changed { OnOk result (self.new ≡ changed_in same_pieces self.old change) }
         ensures refused { OnErr result (self.new ≡ self.old) }
         ensures deletes { IsTrue (deletes change.act) → IsOk result }
     {
         let (key, act) = change.into_parts();
         match self.containers.get_mut(&key) {
-            Some(container) => container.take(alloc, act),
-            None => self.add_changed(alloc, key, act),
+            Some(container) => container.take(alloc, act, found),
+            None => self.add_changed(alloc, key, act, found),
         }
+    }
+
+    /// Makes a change that fits, as a log says it: if it commits a list, its blocks are looked up
+    /// first. The texts and the content of the change move into the rows, and no byte of content is
+    /// copied. A deletion takes no memory.
+    ///
+    /// `AllocError` if memory runs out for the look-ups, a new row, its list of blocks or the tree of
+    /// its uncommitted blocks, or if the content of a listed block can have no further owner. The rows
+    /// are then as they were.
+    #[tactic(auto, using(crate::proofs::FitLemmas::deletion_commits_nothing))]
+    pub fn take(&mut self, alloc: Global, change: Change) -> Result<(), AllocError>
+        requires { IsTrue (fits (part_value pieces_len (part_at self.old change.key)) change.act) }
+        ensures changed { OnOk result (self.new ≡ changed_in same_pieces self.old change) }
+        ensures refused { OnErr result (self.new ≡ self.old) }
+        ensures deletes { IsTrue (deletes change.act) → IsOk result }
+    {
+        let found = self.found_for(alloc, &change)?;
+        self.take_found(alloc, change, found)
     }
 
     /// Makes a copy of a change, as `take` makes the change itself. The copy has texts of its own,

@@ -5,7 +5,8 @@ use Rattle.std.specs.Prelude.{option_and_then, option_map}
 use Rattle.std.specs.List.{list_any}
 use Rattle.std.specs.Result.{result_ok}
 use Rattle.stamp_values.specs.Fields.{is_sent_twice, first_value}
-use Rattle.stamp_values.specs.Letters.{Permissions, letters_text}
+use Rattle.stamp_values.specs.Letters.{Permissions, letters_of}
+use Rattle.stamp_values.proofs.LetterLemmas.{letters_of-letters_text, letters_taken, permission_there}
 use Rattle.stamp_values.specs.declared.signing.Field.{Field}
 use Rattle.moment_text.specs.IsoReader.{iso_moment}
 use Rattle.moment_text.specs.declared.fault.TimeFault.{TimeFault}
@@ -13,8 +14,8 @@ use Rattle.sas_token.specs.declared.fault.TokenFault.{TokenFault}
 use Rattle.sas_token.specs.declared.token.Resource.{Resource}
 use Rattle.sas_token.specs.declared.token.Resource.TheVariants.{Container, Blob}
 use Rattle.sas_token.specs.Tokens.{Sent, IsToken, IsFault, GivesLetters, GivesTime, parameter_names, resource_letter, served_version, text_under}
-use Rattle.sas_token.specs.TokenReading.{if_served, resource_of, permissions_in, letters_given, time_given, token_by, token_of}
-use Rattle.sas_token.proofs.TokenLemmas.{no_token, permissions_in-letters_text}
+use Rattle.sas_token.specs.TokenReading.{if_served, resource_of, letters_given, time_given, token_by, token_of}
+use Rattle.sas_token.proofs.TokenLemmas.{no_token}
 
 -- ---- each part
 
@@ -51,23 +52,18 @@ letters_sound : (text : List ℕ) (p : Option Permissions) → letters_given tex
 unfolding letters_given
 letters_sound [] None e = refl
 letters_sound [] (Some p) e = cc
-letters_sound (b ∷ bs) p e =
-    elim (bytes_eq (b ∷ bs) (letters_text (permissions_in (b ∷ bs)))) as (λ c. bytes_eq (b ∷ bs) (letters_text (permissions_in (b ∷ bs))) ≡ c
-    → cond c (Some (Some (permissions_in (b ∷ bs)))) None ≡ Some p → GivesLetters (b ∷ bs) p) [
-      | true ↦ λ is h. let same : Some (permissions_in (b ∷ bs)) ≡ p = cc in
-          subst (GivesLetters (b ∷ bs)) same (λ none. cc, (bytes_eq-Decides (b ∷ bs) (letters_text (permissions_in (b ∷ bs)))).0 is)
-      | false ↦ λ is h. cc
-    ] refl e
+letters_sound (b ∷ bs) p e = by (letters_of (b ∷ bs)) refl e
+  where
+    by : (o : Option Permissions) → letters_of (b ∷ bs) ≡ o → option_map (λ l. Some l) o ≡ Some p → GivesLetters (b ∷ bs) p
+    by None is h = cc
+    by (Some l) is h = let same : Some l ≡ p = cc in subst (GivesLetters (b ∷ bs)) same (λ none. cc, (letters_taken (b ∷ bs) l is).0)
 
 letters_complete : (text : List ℕ) (p : Option Permissions) → GivesLetters text p → letters_given text ≡ Some p
 unfolding letters_given
 letters_complete text None empty = ap letters_given empty
 letters_complete [] (Some p) given = absurd (given.0 refl)
 letters_complete (b ∷ bs) (Some p) given =
-    let same : permissions_in (b ∷ bs) ≡ p = ap permissions_in given.1 ∙ permissions_in-letters_text p in
-    ap (λ c. cond c (Some (Some (permissions_in (b ∷ bs)))) None)
-    ((bytes_eq-Decides (b ∷ bs) (letters_text (permissions_in (b ∷ bs)))).1 (given.1 ∙ ap letters_text (sym same)))
-    ∙ ap (λ x. Some (Some x)) same
+    ap (option_map (λ l. Some l)) (ap letters_of given.1 ∙ letters_of-letters_text p (permission_there p (λ none. given.0 (given.1 ∙ none))))
 
 time_by : (text : List ℕ) (r : Result ℕ TimeFault) (m : Option ℕ) → text ≢ [] → iso_moment text ≡ r → option_map (λ moment. Some moment) (result_ok r) ≡ Some m → GivesTime text m
 time_by text (Ok t) None given is e = cc

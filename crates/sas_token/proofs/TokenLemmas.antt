@@ -1,34 +1,13 @@
 -- A query is one token at most, and not a token if it has a fault.
 use Rattle.std.proofs.Common.{◌≡◌, ℕ, Bool, true, false, List, [], ◌∷◌, Option, Some, None, Result, Ok, Err, MatchResult, codes, refl, sym, ap, ◌∙◌, inl, inr, unwrap_or, bytes_eq, if◌then◌else◌}
-use Rattle.stamp_values.specs.Letters.{Permissions, letters_text}
+use Rattle.stamp_values.specs.Letters.{Permissions, letters_text, permissions_in}
+use Rattle.stamp_values.proofs.LetterLemmas.{permissions_in-letters_text}
 use Rattle.stamp_values.specs.declared.signing.Field.{Field}
 use Rattle.sas_token.specs.declared.fault.TokenFault.{TokenFault}
 use Rattle.sas_token.specs.declared.fault.TokenFault.TheVariants.{Twice, Missing, Version, Resource as OtherResource, Letters, Time, NoMemory}
 use Rattle.sas_token.specs.declared.token.Resource.{Resource}
 use Rattle.sas_token.specs.declared.token.Resource.TheVariants.{Container, Blob}
-use Rattle.sas_token.specs.TokenReading.{permissions_in}
 use Rattle.sas_token.specs.Tokens.{Sent, IsToken, HasCause, fault_order, IsFirst, IsFault, GivesLetters, GivesTime, resource_letter}
-
-by_bools : (r w d l : Bool) → permissions_in (letters_text (record { read = r; write = w; delete = d; list = l })) ≡ record { read = r; write = w; delete = d; list = l }
-by_bools true true true true = refl
-by_bools true true true false = refl
-by_bools true true false true = refl
-by_bools true true false false = refl
-by_bools true false true true = refl
-by_bools true false true false = refl
-by_bools true false false true = refl
-by_bools true false false false = refl
-by_bools false true true true = refl
-by_bools false true true false = refl
-by_bools false true false true = refl
-by_bools false true false false = refl
-by_bools false false true true = refl
-by_bools false false true false = refl
-by_bools false false false true = refl
-by_bools false false false false = refl
-
-pub permissions_in-letters_text : (p : Permissions) → permissions_in (letters_text p) ≡ p
-permissions_in-letters_text p = by_bools p.read p.write p.delete p.list
 
 pub same_letters : (text : List ℕ) (a b : Option Permissions) → GivesLetters text a → GivesLetters text b → a ≡ b
 same_letters text None None h k = refl

@@ -1,11 +1,10 @@
 -- The token that a query is, as a function (Blob service REST reference, 2012-02-12, Delegating Access with a Shared Access Signature).
 -- A law says that it gives the tokens of the definition, and nothing else.
-use Rattle.std.specs.Prelude.{ℕ, ◌==◌, cond, List, [], ◌∷◌, Option, Some, None, option_and_then, option_map, bytes_eq, codes}
+use Rattle.std.specs.Prelude.{ℕ, cond, List, [], ◌∷◌, Option, Some, None, option_and_then, option_map, bytes_eq, codes}
 use Rattle.std.specs.List.{list_any}
 use Rattle.std.specs.Result.{result_ok}
-use Rattle.stamp_values.specs.Ascii.{lower_r, lower_w, lower_d, lower_l}
 use Rattle.stamp_values.specs.Fields.{is_sent_twice, first_value}
-use Rattle.stamp_values.specs.Letters.{Permissions, letters_text}
+use Rattle.stamp_values.specs.Letters.{Permissions, letters_of}
 use Rattle.stamp_values.specs.declared.signing.Field.{Field}
 use Rattle.moment_text.specs.IsoReader.{iso_moment}
 use Rattle.sas_token.specs.declared.token.Resource.{Resource}
@@ -20,19 +19,10 @@ if_served version = cond (bytes_eq version served_version) (Some version) None
 abbrev pub resource_of : List ℕ → Option Resource
 resource_of letter = cond (bytes_eq letter (codes "b")) (Some Blob) (cond (bytes_eq letter (codes "c")) (Some Container) None)
 
--- the permissions whose letters are in a text
-abbrev pub permissions_in : List ℕ → Permissions
-permissions_in text = record {
-  read = list_any (λ b. b == lower_r) text;
-  write = list_any (λ b. b == lower_w) text;
-  delete = list_any (λ b. b == lower_d) text;
-  list = list_any (λ b. b == lower_l) text;
-}
-
 -- the permissions that a text gives, if it is empty or is the letters of permissions; an empty text gives no permissions
 unfoldable pub letters_given : List ℕ → Option (Option Permissions)
 letters_given [] = Some None
-letters_given (b ∷ bs) = cond (bytes_eq (b ∷ bs) (letters_text (permissions_in (b ∷ bs)))) (Some (Some (permissions_in (b ∷ bs)))) None
+letters_given (b ∷ bs) = option_map (λ permissions. Some permissions) (letters_of (b ∷ bs))
 
 -- the moment that a text names, if it is empty or is a time; an empty text names no moment
 unfoldable pub time_given : List ℕ → Option (Option ℕ)

@@ -5,7 +5,8 @@ ghost use Rattle.std.specs.Map.Iter.{deref_pair};
 ghost use Rattle.stamp_values.specs.Fields.{standard_names};
 ghost use Rattle.shared_key.specs.Strings.{standard_value, standard_lines, is_ms, by_name, header_line, canonicalized_headers};
 
-use stamp_values::{FieldList, FieldRef, STANDARD_NAMES, trimmed};
+use stamp_values::header_names::{DATE, OWN_DATE, OWN_PREFIX, STANDARD_NAMES};
+use stamp_values::{FieldList, FieldRef, trimmed};
 use std::alloc::{AllocError, Global};
 use std::collections::BTreeMap;
 
@@ -13,7 +14,7 @@ use std::collections::BTreeMap;
 fn standard_value<'a>(headers: &'a FieldList, name: &[u8]) -> &'a [u8]
     ensures { result.now ≡ standard_value headers.now name.now }
 {
-    if name == b"date".as_slice() && headers.is_sent(b"x-ms-date") {
+    if name == DATE.as_bytes() && headers.is_sent(OWN_DATE.as_bytes()) {
         return &[];
     }
     match headers.first(name) {
@@ -44,7 +45,7 @@ pub(crate) fn write_standard(out: &mut Vec<u8>, headers: &FieldList) -> Result<(
 fn is_ms(header: &FieldRef<'_>) -> bool
     ensures { result ≡ is_ms header.now }
 {
-    header.name.starts_with(b"x-ms-".as_slice())
+    header.name.starts_with(OWN_PREFIX)
 }
 
 // The headers of the service by their names. They are inserted from the last to the first, so if a name was sent twice, its

@@ -25,7 +25,6 @@ use std::{env, io};
 
 mod command;
 mod ending;
-mod gate;
 mod machine;
 #[cfg(test)]
 mod pieces;
@@ -36,9 +35,11 @@ mod replay_tests;
 mod serving;
 #[cfg(test)]
 mod serving_tests;
+mod shares;
 mod signing;
 #[cfg(test)]
 mod signing_tests;
+mod sockets;
 mod words;
 
 /// The most reads that the program makes of its input.

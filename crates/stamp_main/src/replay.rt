@@ -1,6 +1,5 @@
 //! `stamp replay`: one connection over a whole input, answered at one moment.
 ghost use Rattle.std.specs.Prelude.{◌≡◌, ◌≢◌, ◌⊎◌, Err, IfSome, IsTrue};
-ghost use Rattle.stamp_values.specs.Names.{is_account};
 ghost use Rattle.http_front.specs.Connections.{IsFresh};
 ghost use Rattle.http_front.specs.Conversations.{LeavesRun};
 ghost use Rattle.http_front.specs.Outcomes.{IsOfWholeInput, UnlessWriteFailed, UnlessWriteOrMemoryFailed};
@@ -44,7 +43,6 @@ pub(crate) fn replay_on<R: Read, W: Write>(
     keys: Keys,
 ) -> Result<End, FrontFault>
     requires fresh { IsFresh connection.old }
-    requires named { IsTrue (is_account keys.account) }
     // What is written is a function of the bytes that were read, the moment, the account and the keys.
     ensures replayed { UnlessWriteOrMemoryFailed result (ReplaysReceived
         keys moment connection.old connection.new result) }
@@ -65,9 +63,7 @@ pub(crate) fn replay_on<R: Read, W: Write>(
     ensures flushed { UnlessWriteFailed result
         (connection.new.writer.output ≡ outputs.Flushed) }
 {
-    let Some(mut service) = Plain::new(alloc, keys) else {
-        unreachable!()
-    };
+    let mut service = Plain::new(alloc, keys);
     run(alloc, connection, &mut Still { moment }, &mut service)
 }
 

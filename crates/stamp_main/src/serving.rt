@@ -1,6 +1,5 @@
 //! `stamp serve`: the connections that come to an address, served by a fixed number of workers.
 ghost use Rattle.std.specs.Prelude.{◌≡◌, ◌⊎◌, IfOk, IsTrue, string_bytes};
-ghost use Rattle.stamp_values.specs.Names.{is_account};
 ghost use Rattle.http_front.specs.Connections.{IsFresh};
 ghost use Rattle.http_front.specs.declared.counted.Output.TheVariants as outputs;
 ghost use Rattle.stamp_main.specs.declared.ending.Ending.TheVariants.{ListenerFault, NoMemory, Usage, WriteFault};
@@ -8,8 +7,8 @@ ghost use Rattle.stamp_main.specs.Ending.{ends_serving};
 ghost use Rattle.stamp_main.specs.Serving.{HasListened, IsServe, listening_line, serve_line};
 
 use crate::ending::Ending;
-use crate::gate::serve_on;
 use crate::signing::send;
+use crate::sockets::serve_on;
 use crate::words::{Served, read_served};
 use account_lock::NewHistory;
 use http_front::Connection;
@@ -96,7 +95,6 @@ fn serve_all<R: Threads + Wait + Clock + Sync>(
     listener: &TcpListener,
     served: Served<'_>,
 ) -> Ending
-    requires { IsTrue (is_account served.keys.account) }
     ensures { (result ≡ ListenerFault) ⊎ (result ≡ NoMemory) }
 {
     let patience = Duration::from_secs(PATIENCE);

@@ -1,10 +1,9 @@
 //! Both ends of connections in one process, on a port that the system gives. A client gives up after ten seconds, so each test ends by itself.
 //! Signatures, sums and replies were made outside of this repository's code.
-ghost use Rattle.std.specs.Prelude.{◌≡◌, ◌≤◌, IfOk, IsTrue};
-ghost use Rattle.stamp_values.specs.Names.{is_account};
+ghost use Rattle.std.specs.Prelude.{◌≡◌, ◌≤◌};
 
-use crate::gate::serve_on;
 use crate::machine::Machine;
+use crate::sockets::serve_on;
 use crate::words::{Served, read_served};
 use access_rules::Keys;
 use account_lock::{Account, NewHistory};
@@ -158,9 +157,7 @@ fn play<R: Net<Stream = TcpStream>>(
 }
 
 // The account `devstoreaccount1` with the keys `key1` and `key2`.
-fn keys(alloc: Global) -> Result<Keys, AllocError>
-    ensures { IfOk result (λ keys. IsTrue (is_account keys.account)) }
-{
+fn keys(alloc: Global) -> Result<Keys, AllocError> {
     let served = read_served(alloc, "", "1", "devstoreaccount1", "a2V5MQ==", "a2V5Mg==");
     let Served { keys, .. } = served.map_err(|_| AllocError)?;
     Ok(keys)
@@ -185,7 +182,6 @@ fn both_ends<
     requires shares { (history.shares.name ≡ A.name) × (history.shares.parts ≡ A.parts) }
     requires one_each { connections ≤ history.shares.parts }
     requires keys { keys ≡ A.keys }
-    requires named { IsTrue (is_account keys.account) }
 {
     let listener = TcpListener::bind(rt, "127.0.0.1:0")?;
     let address = listener.local_addr()?;
@@ -194,7 +190,7 @@ fn both_ends<
         || -> bool
             requires { (history.seen.book ≡ A.history) × (keys ≡ A.keys)
                 × (history.shares.name ≡ A.name) × (history.shares.parts ≡ A.parts)
-                × (connections ≤ history.shares.parts) × IsTrue (is_account keys.account) }
+                × (connections ≤ history.shares.parts) }
         {
             serve_on::<A, R, Noon>(
                 rt,

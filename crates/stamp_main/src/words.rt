@@ -1,5 +1,5 @@
 //! The words of commands, read as values.
-ghost use Rattle.std.specs.Prelude.{◌≡◌, ◌≢◌, ◌≤◌, ◌⊎◌, ℕ, List, IfOk, IfErr, IsTrue, Err, Ok, decimal, true};
+ghost use Rattle.std.specs.Prelude.{◌≡◌, ◌≢◌, ◌≤◌, ◌⊎◌, ℕ, List, IfOk, IfErr, Err, Ok, decimal, true};
 ghost use Rattle.stamp_values.specs.Names as names;
 ghost use Rattle.moment_text.specs.IsoReader.{iso_moment};
 ghost use Rattle.hmac_sign.specs.Signature.{IsBytes, base64_of};
@@ -11,7 +11,7 @@ use crate::ending::Ending;
 use access_rules::Keys;
 use hmac_sign::{SecretFault, SigningKey, read_key};
 use moment_text::{TimeFault, read_iso};
-use stamp_types::{Moment, Text, is_account};
+use stamp_types::{AccountName, Moment, Text};
 use std::alloc::Global;
 
 /// The most workers that serve at once.
@@ -70,7 +70,6 @@ pub(crate) fn read_served<'a>(
     ensures read { IfOk result (λ served.
         AsksToServe (serve_line address.now workers.now account.now first.now second.now)
         served.address.now served.workers served.keys) }
-    ensures named { IfOk result (λ served. IsTrue (names.is_account served.keys.account)) }
     ensures refused { IfErr result (λ ending. ending ≡ Usage →
         ¬ IsServe (serve_line address.now workers.now account.now first.now second.now)) }
     ensures failed { IfErr result (λ ending. (ending ≡ Usage) ⊎ (ending ≡ NoMemory)) }
@@ -146,22 +145,19 @@ fn read_keys(alloc: Global, account: &str, first: &str, second: &str) -> Result<
 
 // An account's name.
 #[tactic(auto, using(crate::proofs::ReplayLemmas::account_clean))]
-fn read_account(alloc: Global, name: &str) -> Result<Text, Ending>
-    ensures read { IfOk result (λ text.
-        (text ≡ name.now) × (names.is_account name.now ≡ true)) }
+fn read_account(alloc: Global, name: &str) -> Result<AccountName, Ending>
+    ensures read { IfOk result (λ account.
+        (account ≡ name.now) × (names.is_account name.now ≡ true)) }
     ensures refused { result ≡ Err Usage → names.is_account name.now ≢ true }
     ensures failed { IfErr result (λ ending. (ending ≡ Usage) ⊎ (ending ≡ NoMemory)) }
 {
-    if !is_account(name.as_bytes()) {
-        return Err(Ending::Usage);
-    }
     let Ok(name) = String::from_str(alloc, name) else {
         return Err(Ending::NoMemory);
     };
-    match Text::new(name) {
-        Some(text) => Ok(text),
-        None => unreachable!(),
-    }
+    let Some(text) = Text::new(name) else {
+        return Err(Ending::Usage);
+    };
+    AccountName::new(text).ok_or(Ending::Usage)
 }
 
 /// Reads a key that is given in Base64.

@@ -13,7 +13,7 @@ use Rattle.stamp_types.specs.Pieces.{held}
 use Rattle.stamp_types.specs.World.{Part, World, part_at}
 use Rattle.stamp_types.proofs.WorldLemmas.{equal_if_is_eq}
 use Rattle.access_rules.specs.declared.keys.Keys.{Keys}
-use Rattle.range_rows.specs.ObjectReplies.{byte_count, sizes}
+use Rattle.range_rows.specs.SentContent.{byte_count, sizes}
 use Rattle.range_rows.specs.RequestChanges.{change_of, part_after}
 use Rattle.stamp_model.specs.Effects.{accepted, unless_refused}
 use Rattle.stamp_model.specs.Histories.{IsAccepted, IsEntryAfter, IsLegalFrom, after_entry, pair_of, replay_from}

@@ -24,7 +24,9 @@ use Rattle.body_forms.specs.WrittenPolicies.{policies_text}
 use Rattle.body_forms.specs.declared.body_fault.BodyFault.{BodyFault}
 use Rattle.body_forms.proofs.PolicyFaults.{says_policies}
 use Rattle.body_forms.proofs.ReadAgain.{read_again}
-use Rattle.range_rows.specs.ObjectReplies.{acl_frame, byte_count, date_headers, empty_standing, level_headers, sizes, with_content, xml_header}
+use Rattle.stamp_types.specs.Replies.{xml_header}
+use Rattle.range_rows.specs.Frames.{acl_frame, date_headers, empty_standing, level_headers}
+use Rattle.range_rows.specs.SentContent.{byte_count, sizes, with_content}
 use Rattle.range_rows.specs.ObjectRules.{needs_container}
 use Rattle.range_rows.specs.ObjectRules.Cause.{BodyIsMalformed}
 use Rattle.range_rows.specs.Readings.{is_malformed, policies_in, reading_by, reading_from, sent_policies}

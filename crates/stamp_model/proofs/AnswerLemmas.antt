@@ -23,7 +23,8 @@ use Rattle.stamp_types.specs.Requests.{Asked, IsAsk}
 use Rattle.stamp_types.specs.World.{Blob, Part, World, blob_in, blob_value, committed_value, committed_with_metadata, part_at, standing_with_acl, standing_with_metadata}
 use Rattle.stamp_types.proofs.EffectLemmas.{blob_in-set_metadata}
 use Rattle.access_rules.specs.declared.keys.Keys.{Keys}
-use Rattle.range_rows.specs.ObjectReplies.{byte_count, sizes, standing_read, blob_read, frame_by, bytes_by, with_content, reply_of}
+use Rattle.range_rows.specs.Frames.{blob_read, frame_by, standing_read}
+use Rattle.range_rows.specs.SentContent.{byte_count, bytes_by, reply_of, sizes, with_content}
 use Rattle.row_trees.specs.FoundParts.{has_uncommitted}
 use Rattle.range_rows.specs.NamedBlobs.{has_listed, target_blob}
 use Rattle.range_rows.specs.ObjectRules.{needs_container, needs_blob, named_blob, object_refusal}
@@ -31,7 +32,7 @@ use Rattle.range_rows.specs.ObjectRules.Cause.{BlobIsAbsent}
 use Rattle.range_rows.specs.RequestChanges.{put_blob, put_block_list, set_acl, set_container_metadata, set_metadata, act_by, change_of, part_after}
 use Rattle.range_rows.proofs.AnswerLemmas.{blob_in-put_list, blob_in-put}
 use Rattle.range_rows.proofs.BlockLemmas.{target_blob-part_value}
-use Rattle.range_rows.proofs.ListLemmas.{entries-map_values}
+use Rattle.stamp_types.proofs.MapEntries.{entries-map_values}
 use Rattle.stamp_model.specs.Refusals.{refusal}
 use Rattle.stamp_model.specs.Effects.{unless_refused, change, effect}
 use Rattle.stamp_model.specs.Responses.{answer_of, tells_container, tells_blob, tells_nothing}

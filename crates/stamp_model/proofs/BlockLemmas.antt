@@ -40,7 +40,9 @@ use Rattle.stamp_types.proofs.EffectLemmas.{blob_in-insert, get-remove_same}
 use Rattle.stamp_types.proofs.WorldLemmas.{blob_in-part_value, blob_value-no_blob, taken_blocks-blob_value}
 use Rattle.block_blobs.specs.BlockLists.{first_missing, found_entries, source_of, sources_of, taken_from}
 use Rattle.range_rows.specs.NamedBlobs.{has_listed, target_blob}
-use Rattle.range_rows.specs.ObjectReplies.{blob_content, byte_count, date_headers, kept_lines, list_text, ranged_bytes, ranged_frame, sizes, with_content}
+use Rattle.range_rows.specs.Frames.{date_headers, kept_lines, ranged_frame}
+use Rattle.range_rows.specs.SentContent.{blob_content, byte_count, ranged_bytes, sizes, with_content}
+use Rattle.range_rows.specs.ShownBlocks.{list_text}
 use Rattle.range_rows.specs.ObjectRules.{cause_holds, cause_refusal, causes, lacks_blob, named_blob, needs_blob, needs_container, object_refusal}
 use Rattle.range_rows.specs.ObjectRules.Cause.{ContainerIsAbsent, ContainerExists, BlobIsAbsent, BlockIsMissing}
 use Rattle.range_rows.specs.Readings.{wanted_blocks}

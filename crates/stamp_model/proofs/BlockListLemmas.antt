@@ -28,7 +28,8 @@ use Rattle.stamp_types.specs.World.{Blob, World, blob_in, block_of, block_value,
 use Rattle.stamp_types.proofs.WorldLemmas.{blob_in-part_value, equal_if_is_eq}
 use Rattle.block_blobs.specs.BlockLists.{found_entries, source_of, sources_of, taken_from}
 use Rattle.body_forms.specs.WrittenLists.{ListedBlock, block_list_text}
-use Rattle.range_rows.specs.ObjectReplies.{byte_count, if_shown, list_text, listed_committed, listed_entry, listed_uncommitted, shown_blocks, shows_committed, shows_uncommitted}
+use Rattle.range_rows.specs.SentContent.{byte_count}
+use Rattle.range_rows.specs.ShownBlocks.{if_shown, list_text, listed_committed, listed_entry, listed_uncommitted, shown_blocks, shows_committed, shows_uncommitted}
 use Rattle.range_rows.specs.Readings.{wanted_blocks}
 use Rattle.stamp_model.specs.Blocks.{IsListed, ListsUncommitted, wanted_listed}
 use Rattle.stamp_model.specs.Runs.{Timed, IsOn, world_after_one, reply_to_one}

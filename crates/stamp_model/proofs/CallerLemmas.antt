@@ -20,7 +20,7 @@ use Rattle.stamp_types.specs.World.{Part, World, part_at}
 use Rattle.sas_token.specs.Tokens.{Sent}
 use Rattle.sas_token.specs.declared.token.Resource.{Resource}
 use Rattle.sas_token.specs.declared.token.Resource.TheVariants.{Container, Blob}
-use Rattle.container_acl.specs.JoinedFields.{fields_with}
+use Rattle.container_acl.specs.JoinedFields.{acl_or_closed, fields_with}
 use Rattle.container_acl.specs.declared.fields.Fields.{Fields}
 use Rattle.container_acl.specs.declared.fields.FieldFault.{FieldFault}
 use Rattle.container_acl.specs.declared.fields.FieldFault.TheVariants.{Absent, Both, Lacks}
@@ -30,12 +30,12 @@ use Rattle.access_rules.specs.Needs.{need_of}
 use Rattle.access_rules.specs.Parts.{is_signed, keys_for}
 use Rattle.access_rules.specs.Routes.{Admits}
 use Rattle.access_rules.specs.Rules.{access_rules, allows_less, first_rule, holds, on_public, some_passes}
-use Rattle.access_rules.specs.TokenParts.{acl_or_closed, allows, is_named, names_resource, text_of, token_in}
+use Rattle.access_rules.specs.TokenParts.{allows, is_named, names_resource, text_of, token_in}
 use Rattle.access_rules.specs.TokenRoute.{rule_after_signature, rule_of_given, token_rule}
 use Rattle.access_rules.proofs.RouteLaw.{asking, by_route}
 use Rattle.access_rules.proofs.TokenLemmas.{first_token_rule}
 use Rattle.row_trees.specs.Access.{acl_of}
-use Rattle.range_rows.specs.ObjectReplies.{sizes}
+use Rattle.range_rows.specs.SentContent.{sizes}
 use Rattle.range_rows.specs.ObjectRules.{object_holds, object_refusal, object_rules}
 use Rattle.stamp_model.specs.Effects.{effect}
 use Rattle.stamp_model.specs.Refusals.{access_refusal, is_object_rule, sees_no_container}

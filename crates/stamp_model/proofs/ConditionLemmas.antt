@@ -22,7 +22,8 @@ use Rattle.stamp_types.specs.Pieces.{held}
 use Rattle.stamp_types.specs.Requests.{Asked, IsAsk}
 use Rattle.stamp_types.specs.World.{Blob, Part, World, blob_in, committed_value, part_at}
 use Rattle.access_rules.specs.declared.keys.Keys.{Keys}
-use Rattle.range_rows.specs.ObjectReplies.{byte_count, sizes, standing_read, blob_read, bytes_by, frame_by, reply_of, with_content}
+use Rattle.range_rows.specs.Frames.{blob_read, frame_by, standing_read}
+use Rattle.range_rows.specs.SentContent.{byte_count, bytes_by, reply_of, sizes, with_content}
 use Rattle.range_rows.specs.NamedBlobs.{target_blob}
 use Rattle.range_rows.specs.ObjectRules.{Cause, cause_holds, fails_if_match, fails_if_none_match, is_any, matches, meets, misses, named_blob}
 use Rattle.range_rows.specs.ObjectRules.Cause.{BlobExists, IsNotModified, MatchFails, NoneMatchFails}

@@ -18,7 +18,7 @@ use Rattle.stamp_types.specs.World.{Part, World, part_at, changed}
 use Rattle.stamp_types.proofs.ActLaws.{count-changed}
 use Rattle.stamp_types.proofs.EffectLemmas.{etags_bounded}
 use Rattle.access_rules.specs.declared.keys.Keys.{Keys}
-use Rattle.range_rows.specs.ObjectReplies.{byte_count, sizes}
+use Rattle.range_rows.specs.SentContent.{byte_count, sizes}
 use Rattle.range_rows.specs.RequestChanges.{create_container, delete_blob, set_acl, set_container_metadata, set_metadata, act_by, change_of, part_after}
 use Rattle.stamp_model.specs.Effects.{unless_refused, effect}
 use Rattle.stamp_model.specs.Histories.{pair_of, after_entry, replay_from, IsAccepted, IsLegalFrom}

@@ -21,7 +21,7 @@ use Rattle.stamp_types.specs.World.{Blob, Part, World, no_blob, no_part, blob_in
 use Rattle.stamp_types.proofs.ActLaws.{count-changed}
 use Rattle.stamp_types.proofs.WorldLemmas.{equal_if_is_eq}
 use Rattle.access_rules.specs.declared.keys.Keys.{Keys}
-use Rattle.range_rows.specs.ObjectReplies.{byte_count, sizes}
+use Rattle.range_rows.specs.SentContent.{byte_count, sizes}
 use Rattle.range_rows.specs.RequestChanges.{act_by, change_of, part_after}
 use Rattle.stamp_model.specs.Effects.{effect}
 use Rattle.stamp_model.specs.Etags.{IsSeenBeforeOrNewer, WasSeenOrIsNewer}

@@ -14,7 +14,7 @@ use Rattle.stamp_types.specs.Requests.{Asked}
 use Rattle.stamp_types.specs.World.{Part, World, committed_value, part_at}
 use Rattle.access_rules.specs.declared.keys.Keys.{Keys}
 use Rattle.range_rows.specs.NamedBlobs.{has_listed, target_blob}
-use Rattle.range_rows.specs.ObjectReplies.{byte_count, sizes}
+use Rattle.range_rows.specs.SentContent.{byte_count, sizes}
 use Rattle.range_rows.specs.ObjectRules.{Cause, cause_holds, cause_refusal, causes, fails_if_match, fails_if_none_match, is_any, misses, named_blob, needs_blob, needs_container, object_refusal}
 use Rattle.range_rows.specs.ObjectRules.Cause.{BlobExists, BlobIsAbsent, ContainerExists, ContainerIsAbsent, IsNotModified, MatchFails, NoneMatchFails}
 use Rattle.range_rows.proofs.AnswerLemmas.{named_blob-part_value}

@@ -7,7 +7,7 @@ use Rattle.stamp_types.specs.declared.past.Past.{Past}
 use Rattle.stamp_types.specs.Pieces.{held}
 use Rattle.stamp_types.specs.World.{Part, World, part_at}
 use Rattle.access_rules.specs.declared.keys.Keys.{Keys}
-use Rattle.range_rows.specs.ObjectReplies.{byte_count}
+use Rattle.range_rows.specs.SentContent.{byte_count}
 use Rattle.stamp_model.specs.Effects.{effect}
 use Rattle.stamp_model.specs.Histories.{pair_of, after_entry, replay_from, IsEntryAfter, NoneIsLater, IsAccepted, IsLegalFrom}
 use Rattle.stamp_model.proofs.EffectLemmas.{part_at-effect}

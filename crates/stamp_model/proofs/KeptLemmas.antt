@@ -20,7 +20,7 @@ use Rattle.stamp_types.specs.World.{Blob, Part, World, no_blob, blob_in, part_at
 use Rattle.stamp_types.proofs.EffectLemmas.{blob_in-set_metadata, get-remove_same, same_kept, same_others}
 use Rattle.stamp_types.proofs.WorldLemmas.{equal_if_is_eq}
 use Rattle.access_rules.specs.declared.keys.Keys.{Keys}
-use Rattle.range_rows.specs.ObjectReplies.{byte_count}
+use Rattle.range_rows.specs.SentContent.{byte_count}
 use Rattle.range_rows.specs.RequestChanges.{delete_blob, put_blob, put_block, put_block_list, set_metadata, act_by}
 use Rattle.stamp_model.specs.Blocks.{takes_blocks}
 use Rattle.stamp_model.specs.Effects.{effect}

@@ -28,7 +28,8 @@ use Rattle.stamp_types.proofs.EffectLemmas.{get-remove_same}
 use Rattle.stamp_types.proofs.WorldLemmas.{blob_in-part_value}
 use Rattle.access_rules.specs.declared.keys.Keys.{Keys}
 use Rattle.range_rows.specs.NamedBlobs.{target_blob}
-use Rattle.range_rows.specs.ObjectReplies.{blob_content, blob_read, byte_count, date_headers, empty_blob, kept_lines, ranged_bytes, ranged_frame, reply_of, sizes, standing_read, with_content}
+use Rattle.range_rows.specs.Frames.{blob_read, date_headers, empty_blob, kept_lines, ranged_frame, standing_read}
+use Rattle.range_rows.specs.SentContent.{blob_content, byte_count, ranged_bytes, reply_of, sizes, with_content}
 use Rattle.range_rows.specs.ObjectRules.{cause_refusal, named_blob, needs_blob, needs_container}
 use Rattle.range_rows.specs.ObjectRules.Cause.{BlobIsAbsent, ContainerIsAbsent}
 use Rattle.range_rows.specs.Readings.{wanted_blocks}

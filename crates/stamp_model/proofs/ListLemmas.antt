@@ -28,7 +28,7 @@ use Rattle.access_rules.specs.Needs.{need_of}
 use Rattle.access_rules.specs.Routes.{Admits, ByKey, ByToken}
 use Rattle.access_rules.specs.TokenParts.{allows}
 use Rattle.row_trees.specs.Access.{acl_of}
-use Rattle.range_rows.specs.ObjectReplies.{sizes}
+use Rattle.range_rows.specs.SentContent.{sizes}
 use Rattle.block_blobs.specs.UncommittedBlocks.{has_other_length, is_one_too_many}
 use Rattle.range_rows.specs.NamedBlobs.{target_blob}
 use Rattle.range_rows.specs.ObjectRules.{Cause, cause_holds, cause_refusal, causes, has_other_md5, is_damaged, kept_md5, object_refusal, of_its_block}

@@ -21,7 +21,8 @@ use Rattle.stamp_types.specs.Requests.{IsAsk}
 use Rattle.stamp_types.specs.World.{Blob, Part, World, blob_in, committed_value, part_at}
 use Rattle.stamp_types.proofs.WorldLemmas.{blob_in-part_value}
 use Rattle.body_forms.specs.ListEntries.{ShownBlob, ShownContainer}
-use Rattle.range_rows.specs.ObjectReplies.{blob_content, byte_count, date_headers, get_frame, kept_lines, ranged_bytes, ranged_frame, sizes, with_content}
+use Rattle.range_rows.specs.Frames.{date_headers, get_frame, kept_lines, ranged_frame}
+use Rattle.range_rows.specs.SentContent.{blob_content, byte_count, ranged_bytes, sizes, with_content}
 use Rattle.list_pages.specs.Containers.{before_end, end_of, of_account, or_else}
 use Rattle.list_pages.specs.Laws.{own_entry, shown_at}
 use Rattle.list_pages.specs.ListReplies.{blob_list_reply, containers_told, page_asked}

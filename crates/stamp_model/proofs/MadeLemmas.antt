@@ -21,7 +21,9 @@ use Rattle.stamp_types.specs.Requests.{IsAsk}
 use Rattle.stamp_types.specs.World.{Blob, Part, World, no_blob, blob_in, part_at, committed_value}
 use Rattle.stamp_types.proofs.WorldLemmas.{blob_in-part_value}
 use Rattle.body_forms.specs.WrittenLists.{ListedBlock, block_list_text}
-use Rattle.range_rows.specs.ObjectReplies.{byte_count, committed_headers, date_headers, empty_standing, list_text, listed_committed, listed_uncommitted, metadata_headers, sizes}
+use Rattle.range_rows.specs.Frames.{committed_headers, date_headers, empty_standing, metadata_headers}
+use Rattle.range_rows.specs.SentContent.{byte_count, sizes}
+use Rattle.range_rows.specs.ShownBlocks.{list_text, listed_committed, listed_uncommitted}
 use Rattle.range_rows.specs.ObjectRules.{cause_holds, cause_refusal, causes, needs_container, object_refusal}
 use Rattle.range_rows.specs.ObjectRules.Cause.{ContainerIsAbsent, ContainerExists}
 use Rattle.range_rows.specs.RequestChanges.{act_by, create_container}

@@ -15,7 +15,7 @@ use Rattle.stamp_types.specs.Pieces.{held}
 use Rattle.stamp_types.specs.Requests.{Asked}
 use Rattle.stamp_types.specs.World.{Part, no_part, standing_with_acl, standing_with_metadata}
 use Rattle.access_rules.specs.declared.keys.Keys.{Keys}
-use Rattle.range_rows.specs.ObjectReplies.{sizes}
+use Rattle.range_rows.specs.SentContent.{sizes}
 use Rattle.range_rows.specs.ObjectRules.{needs_container, object_refusal}
 use Rattle.range_rows.specs.RequestChanges.{set_acl, set_container_metadata, act_by, change_of, part_after}
 use Rattle.stamp_model.specs.Effects.{unless_refused}

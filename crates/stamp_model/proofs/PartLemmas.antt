@@ -23,7 +23,9 @@ use Rattle.stamp_types.specs.PropsFields.{PropsFields}
 use Rattle.stamp_types.specs.Requests.{Asked, IsAsk}
 use Rattle.stamp_types.specs.World.{Part, World, block_value, committed_value, part_at}
 use Rattle.access_rules.specs.declared.keys.Keys.{Keys}
-use Rattle.range_rows.specs.ObjectReplies.{blob_content, byte_count, bytes_by, date_headers, empty_blob, frame_by, get_frame, kept_lines, line_of, part_frame, part_headers, range_end, ranged_bytes, ranged_frame, read_headers, reply_of, sent_range, sizes, standing_read, with_content, without_md5}
+use Rattle.range_rows.specs.Frames.{date_headers, empty_blob, frame_by, get_frame, kept_lines, line_of, part_frame, part_headers, ranged_frame, read_headers, standing_read, without_md5}
+use Rattle.range_rows.specs.Ranges.{range_end, sent_range}
+use Rattle.range_rows.specs.SentContent.{blob_content, byte_count, bytes_by, ranged_bytes, reply_of, sizes, with_content}
 use Rattle.range_rows.specs.NamedBlobs.{target_blob}
 use Rattle.range_rows.specs.ObjectRules.{Cause, blob_size, cause_holds, named_blob, needs_blob, starts_past}
 use Rattle.range_rows.specs.ObjectRules.Cause.{BlobIsAbsent, RangeIsPastTheEnd}

@@ -25,7 +25,7 @@ use Rattle.stamp_types.specs.Requests.{Asked}
 use Rattle.stamp_types.specs.World.{Part, World, no_part, part_at, standing_with_acl}
 use Rattle.sas_token.specs.Tokens.{IsToken, Sent}
 use Rattle.sas_token.proofs.ReadingLemmas.{token_complete}
-use Rattle.container_acl.specs.JoinedFields.{fields_with, names_unknown_policy, policy_of, policy_with, with_policy}
+use Rattle.container_acl.specs.JoinedFields.{acl_or_closed, fields_with, names_unknown_policy, policy_of, policy_with, with_policy}
 use Rattle.container_acl.specs.declared.fields.FieldFault.TheVariants.{Absent}
 use Rattle.access_rules.specs.declared.keys.Keys.{Keys}
 use Rattle.access_rules.specs.declared.needs.Letter.{Letter}
@@ -34,12 +34,12 @@ use Rattle.access_rules.specs.Needs.{need_of}
 use Rattle.access_rules.specs.Parts.{is_signed, keys_for}
 use Rattle.access_rules.specs.Routes.{Admits, ByToken}
 use Rattle.access_rules.specs.Rules.{first_rule, some_passes}
-use Rattle.access_rules.specs.TokenParts.{acl_or_closed, allows, names_resource, text_of}
+use Rattle.access_rules.specs.TokenParts.{allows, names_resource, text_of}
 use Rattle.access_rules.specs.TokenRoute.{rule_of_given, token_rule}
 use Rattle.access_rules.proofs.RouteLaw.{by_route}
 use Rattle.access_rules.proofs.TokenLemmas.{first_token_rule}
 use Rattle.row_trees.specs.Access.{acl_of}
-use Rattle.range_rows.specs.ObjectReplies.{byte_count, sizes}
+use Rattle.range_rows.specs.SentContent.{byte_count, sizes}
 use Rattle.range_rows.specs.ObjectRules.{needs_container}
 use Rattle.range_rows.specs.RequestChanges.{act_by, change_of, part_after, set_acl}
 use Rattle.stamp_model.specs.Effects.{alters_access, effect, unless_refused}

@@ -32,7 +32,7 @@ use Rattle.access_rules.specs.Needs.{need_of}
 use Rattle.access_rules.specs.Routes.{ByPublic, Admits}
 use Rattle.access_rules.specs.Rules.{allows_less, first_rule, some_passes}
 use Rattle.access_rules.proofs.RouteLaw.{asking, by_route}
-use Rattle.range_rows.specs.ObjectReplies.{byte_count, sizes}
+use Rattle.range_rows.specs.SentContent.{byte_count, sizes}
 use Rattle.range_rows.specs.ObjectRules.{object_refusal}
 use Rattle.row_trees.specs.Access.{acl_of}
 use Rattle.range_rows.specs.RequestChanges.{act_by}

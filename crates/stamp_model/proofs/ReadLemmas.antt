@@ -17,7 +17,8 @@ use Rattle.access_rules.specs.declared.keys.Keys.{Keys}
 use Rattle.access_rules.specs.Routes.{Admits}
 use Rattle.access_rules.proofs.RouteLaw.{by_route}
 use Rattle.row_trees.specs.Access.{acl_of}
-use Rattle.range_rows.specs.ObjectReplies.{byte_count, sizes, standing_read, empty_blob, frame_by, bytes_by, bytes_sent, with_content, reply_of}
+use Rattle.range_rows.specs.Frames.{empty_blob, frame_by, standing_read}
+use Rattle.range_rows.specs.SentContent.{byte_count, bytes_by, bytes_sent, reply_of, sizes, with_content}
 use Rattle.range_rows.specs.NamedBlobs.{target_blob}
 use Rattle.range_rows.specs.ObjectRules.{object_refusal}
 use Rattle.range_rows.specs.RequestChanges.{act_by, change_of, part_after}

@@ -20,7 +20,8 @@ use Rattle.access_rules.specs.declared.keys.Keys.{Keys}
 use Rattle.access_rules.specs.Routes.{Admits}
 use Rattle.access_rules.specs.Rules.{first_rule}
 use Rattle.access_rules.proofs.RouteLaw.{by_route}
-use Rattle.range_rows.specs.ObjectReplies.{byte_count, sizes, standing_read, blob_read, frame_by, ranged_frame, reply_of}
+use Rattle.range_rows.specs.Frames.{blob_read, frame_by, ranged_frame, standing_read}
+use Rattle.range_rows.specs.SentContent.{byte_count, reply_of, sizes}
 use Rattle.range_rows.specs.NamedBlobs.{target_blob}
 use Rattle.range_rows.specs.ObjectRules.{object_refusal}
 use Rattle.row_trees.specs.Access.{acl_of}

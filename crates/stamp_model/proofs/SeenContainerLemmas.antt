@@ -30,7 +30,7 @@ use Rattle.row_trees.specs.Access.{acl_of}
 use Rattle.row_trees.specs.Fits.{count_limit}
 use Rattle.row_trees.specs.ListedBlocks.{listed_size}
 use Rattle.range_rows.specs.NamedBlobs.{has_listed, target_blob}
-use Rattle.range_rows.specs.ObjectReplies.{sizes}
+use Rattle.range_rows.specs.SentContent.{sizes}
 use Rattle.range_rows.specs.ObjectRules.{Cause, cause_holds, cause_refusal, causes, is_any, meets, misses, named_blob, needs_blob, needs_container, starts_past}
 use Rattle.range_rows.specs.ObjectRules.Cause.{ContainerIsAbsent, ContainerExists, BlobIsAbsent, MatchFails, IsNotModified, BlobExists, NoneMatchFails, BodyIsDamaged, BodyIsMalformed, IdIsBad, BlockIsMissing, ListIsTooLong, IdHasOtherLength, BlocksAreFull, ListIsTooLarge, RangeIsPastTheEnd, CountIsFull}
 use Rattle.range_rows.specs.Readings.{wanted_blocks}

@@ -32,7 +32,9 @@ use Rattle.block_blobs.specs.BlockLists.{first_missing, found_entries}
 use Rattle.block_blobs.specs.UncommittedBlocks.{has_other_length, is_one_too_many}
 use Rattle.row_trees.specs.ListedBlocks.{listed_size}
 use Rattle.range_rows.specs.NamedBlobs.{has_listed, target_blob}
-use Rattle.range_rows.specs.ObjectReplies.{blob_content, blob_read, byte_count, bytes_by, empty_blob, empty_standing, frame_by, get_frame, list_frame, ranged_bytes, ranged_frame, reply_of, shows_uncommitted, sizes, standing_read, with_content}
+use Rattle.range_rows.specs.Frames.{blob_read, empty_blob, empty_standing, frame_by, get_frame, list_frame, ranged_frame, standing_read}
+use Rattle.range_rows.specs.SentContent.{blob_content, byte_count, bytes_by, ranged_bytes, reply_of, sizes, with_content}
+use Rattle.range_rows.specs.ShownBlocks.{shows_uncommitted}
 use Rattle.row_trees.specs.Fits.{count_limit}
 use Rattle.range_rows.specs.ObjectRules.{Cause, cause_holds, cause_refusal, causes, is_any, meets, misses, named_blob, needs_blob, needs_container, starts_past}
 use Rattle.range_rows.specs.ObjectRules.Cause.{ContainerIsAbsent, ContainerExists, BlobIsAbsent, MatchFails, IsNotModified, BlobExists, NoneMatchFails, BodyIsDamaged, BodyIsMalformed, IdIsBad, BlockIsMissing, ListIsTooLong, IdHasOtherLength, BlocksAreFull, ListIsTooLarge, RangeIsPastTheEnd, CountIsFull}

@@ -25,7 +25,8 @@ use Rattle.access_rules.specs.declared.keys.Keys.{Keys}
 use Rattle.access_rules.specs.Rules.{first_rule}
 use Rattle.row_trees.specs.Access.{acl_of}
 use Rattle.range_rows.specs.NamedBlobs.{target_blob}
-use Rattle.range_rows.specs.ObjectReplies.{blob_content, blob_read, byte_count, frame_by, ranged_bytes, ranged_frame, sizes, standing_read, with_content, date_headers, kept_lines, line_of}
+use Rattle.range_rows.specs.Frames.{blob_read, date_headers, frame_by, kept_lines, line_of, ranged_frame, standing_read}
+use Rattle.range_rows.specs.SentContent.{blob_content, byte_count, ranged_bytes, sizes, with_content}
 use Rattle.range_rows.specs.ObjectRules.{Cause, cause_holds, cause_refusal, causes, has_other_md5, is_damaged, kept_md5, named_blob, needs_blob, object_refusal, starts_past}
 use Rattle.range_rows.specs.ObjectRules.Cause.{BodyIsDamaged, RangeIsPastTheEnd}
 use Rattle.range_rows.specs.RequestChanges.{put_props}

@@ -22,7 +22,8 @@ use Rattle.stamp_types.specs.Requests.{Asked, IsAsk}
 use Rattle.stamp_types.specs.World.{Blob, Part, World, no_blob, blob_in, part_at, committed_value, committed_with_metadata, standing_with_metadata, changed}
 use Rattle.stamp_types.proofs.Cuts.{held-cut}
 use Rattle.stamp_types.proofs.EffectLemmas.{blob_in-set_metadata, get-remove_same}
-use Rattle.range_rows.specs.ObjectReplies.{blob_content, byte_count, date_headers, metadata_headers, get_frame, kept_lines, ranged_bytes, ranged_frame, sizes, empty_standing, with_content}
+use Rattle.range_rows.specs.Frames.{date_headers, empty_standing, get_frame, kept_lines, metadata_headers, ranged_frame}
+use Rattle.range_rows.specs.SentContent.{blob_content, byte_count, ranged_bytes, sizes, with_content}
 use Rattle.range_rows.specs.ObjectRules.{needs_blob, needs_container, named_blob, cause_refusal}
 use Rattle.range_rows.specs.ObjectRules.Cause.{ContainerIsAbsent, BlobIsAbsent}
 use Rattle.range_rows.specs.RequestChanges.{create_container, delete_blob, put_blob, put_props, set_container_metadata, set_metadata, act_by}

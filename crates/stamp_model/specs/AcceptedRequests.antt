@@ -8,7 +8,7 @@ use Rattle.stamp_types.specs.declared.past.Past.{Past}
 use Rattle.stamp_types.specs.Requests.{Asked}
 use Rattle.stamp_types.specs.World.{Part, World, part_at}
 use Rattle.access_rules.specs.declared.keys.Keys.{Keys}
-use Rattle.range_rows.specs.ObjectReplies.{sizes}
+use Rattle.range_rows.specs.SentContent.{sizes}
 use Rattle.stamp_model.specs.Effects.{accepted}
 use Rattle.stamp_model.specs.Histories.{IsEntryAfter, pair_of}
 use Rattle.stamp_model.specs.Runs.{Timed, world_after_one}

@@ -14,7 +14,7 @@ use Rattle.stamp_values.specs.Order.{name_cmp}
 use Rattle.stamp_values.specs.declared.block.Source.TheVariants as source
 use Rattle.stamp_types.specs.World.{Blob, content_from}
 use Rattle.body_forms.specs.WrittenLists.{ListedBlock}
-use Rattle.range_rows.specs.ObjectReplies.{shows_uncommitted}
+use Rattle.range_rows.specs.ShownBlocks.{shows_uncommitted}
 
 -- the operation, with these kinds of blocks, reads only what is committed of a blob: it reads the blob, its properties or its
 -- metadata, or it lists blocks of kinds that do not have the uncommitted blocks

@@ -11,7 +11,7 @@ use Rattle.stamp_types.specs.Pieces.{held}
 use Rattle.stamp_types.specs.Requests.{Asked}
 use Rattle.stamp_types.specs.World.{Part, World, part_at, part_value, changed_in}
 use Rattle.access_rules.specs.declared.keys.Keys.{Keys}
-use Rattle.range_rows.specs.ObjectReplies.{byte_count}
+use Rattle.range_rows.specs.SentContent.{byte_count}
 use Rattle.range_rows.specs.RequestChanges.{change_of, part_after}
 use Rattle.stamp_model.specs.Refusals.{refusal}
 

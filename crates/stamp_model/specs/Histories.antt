@@ -8,7 +8,7 @@ use Rattle.stamp_values.specs.declared.op.Op.TheVariants as op
 use Rattle.stamp_types.specs.declared.past.Past.{Past}
 use Rattle.stamp_types.specs.World.{Part, no_part}
 use Rattle.access_rules.specs.declared.keys.Keys.{Keys}
-use Rattle.range_rows.specs.ObjectReplies.{sizes}
+use Rattle.range_rows.specs.SentContent.{sizes}
 use Rattle.range_rows.specs.RequestChanges.{change_of}
 use Rattle.stamp_model.specs.Refusals.{refusal}
 use Rattle.stamp_model.specs.Effects.{change}

@@ -9,7 +9,7 @@ use Rattle.stamp_types.specs.Replies.{denied}
 use Rattle.stamp_types.specs.Requests.{Asked}
 use Rattle.stamp_types.specs.World.{Part, World, part_at}
 use Rattle.access_rules.specs.declared.keys.Keys.{Keys}
-use Rattle.range_rows.specs.ObjectReplies.{reply_of, sizes}
+use Rattle.range_rows.specs.SentContent.{reply_of, sizes}
 use Rattle.list_pages.specs.ListReplies.{blob_list_reply, container_list_reply}
 use Rattle.stamp_model.specs.Refusals.{refusal}
 use Rattle.stamp_model.specs.Effects.{effect}

@@ -7,7 +7,8 @@ use Rattle.stamp_types.specs.declared.reply.Reply.{Reply}
 use Rattle.stamp_types.specs.Requests.{Asked}
 use Rattle.body_forms.specs.PolicyValues.{SaysPolicies}
 use Rattle.body_forms.specs.WrittenPolicies.{policies_text}
-use Rattle.range_rows.specs.ObjectReplies.{level_headers, xml_header}
+use Rattle.stamp_types.specs.Replies.{xml_header}
+use Rattle.range_rows.specs.Frames.{level_headers}
 
 -- the reply shows the level that this Set Container ACL asked for, or no level if it asked for none, with the ETag and the moment of
 -- its answer; and it shows the policies that its body says, so whoever reads the body of the reply reads the same policies

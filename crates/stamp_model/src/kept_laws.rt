@@ -15,7 +15,7 @@ ghost use Rattle.stamp_types.specs.Replies.{denied};
 ghost use Rattle.stamp_types.specs.Requests.{Asked, IsAsk};
 ghost use Rattle.stamp_types.specs.World.{World, blob_in, part_at};
 ghost use Rattle.access_rules.specs.declared.keys.Keys.{Keys};
-ghost use Rattle.range_rows.specs.ObjectReplies.{date_headers, kept_lines};
+ghost use Rattle.range_rows.specs.Frames.{date_headers, kept_lines};
 ghost use Rattle.range_rows.specs.ObjectRules.{needs_blob};
 ghost use Rattle.range_rows.specs.Readings.{wanted_blocks};
 ghost use Rattle.range_rows.specs.RequestChanges.{put_props};

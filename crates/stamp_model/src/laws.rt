@@ -20,7 +20,7 @@ ghost use Rattle.access_rules.specs.Needs.{need_of};
 ghost use Rattle.access_rules.specs.Routes.{Admits};
 ghost use Rattle.range_rows.specs.NamedBlobs.{has_listed, target_blob};
 ghost use Rattle.range_rows.specs.ObjectRules.{named_blob, object_refusal};
-ghost use Rattle.range_rows.specs.ObjectReplies.{sizes};
+ghost use Rattle.range_rows.specs.SentContent.{sizes};
 ghost use Rattle.row_trees.specs.Access.{acl_of};
 ghost use Rattle.stamp_model.specs.Refusals.{refusing_rule, refuses, rules_in_order};
 ghost use Rattle.stamp_model.specs.Effects.{alters_access, alters_container, change, effect, effect_as};

@@ -13,7 +13,7 @@ ghost use Rattle.stamp_types.specs.declared.rule.Rule.TheVariants.{O1, O3};
 ghost use Rattle.stamp_types.specs.Replies.{denied};
 ghost use Rattle.stamp_types.specs.Requests.{IsAsk};
 ghost use Rattle.stamp_types.specs.World.{World, part_at};
-ghost use Rattle.range_rows.specs.ObjectReplies.{date_headers, kept_lines};
+ghost use Rattle.range_rows.specs.Frames.{date_headers, kept_lines};
 ghost use Rattle.range_rows.specs.ObjectRules.{needs_blob, needs_container};
 ghost use Rattle.range_rows.specs.RequestChanges.{put_props};
 ghost use Rattle.stamp_model.specs.Runs.{Timed, AreAnswered, IsAdmitted, IsIn, IsOn, world_after_one, world_after_all, reply_to_one, replies_to};

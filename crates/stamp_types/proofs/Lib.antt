@@ -5,6 +5,7 @@ pub mod ContentReadings
 pub mod Cuts
 pub mod EachContents
 pub mod EffectLemmas
+pub mod MapEntries
 pub mod PieceLengths
 pub mod Same
 pub mod WorldLemmas

@@ -1,5 +1,5 @@
--- Refusals ("Status and Error Codes" of the Blob service REST reference, 2012-02-12; RFC 9110, sections 15.4.5 and 15.5).
-use Rattle.std.specs.Prelude.{ℕ, Some, List, [], ◌∷◌, ◌++◌, length, codes, if◌then◌else◌}
+-- Refusals, and replies with a text ("Status and Error Codes" of the Blob service REST reference, 2012-02-12; RFC 9110, sections 15.3.1, 15.4.5 and 15.5).
+use Rattle.std.specs.Prelude.{ℕ, Some, None, List, [], ◌∷◌, ◌++◌, length, codes, if◌then◌else◌}
 use Rattle.stamp_types.specs.Codes.{code_text, code_status, has_error_body}
 use Rattle.stamp_types.specs.Rules.{rule_label}
 use Rattle.stamp_types.specs.declared.code.Code.{Code}
@@ -8,6 +8,7 @@ use Rattle.stamp_types.specs.declared.header.Header.TheVariants.{ContentType}
 use Rattle.stamp_types.specs.declared.refusal.Refusal.{Refusal}
 use Rattle.stamp_types.specs.declared.reply.Reply.{Reply}
 use Rattle.stamp_types.specs.declared.rule.Rule.{Rule}
+use Rattle.stamp_types.specs.declared.status.Status.TheVariants.{Success}
 
 -- the XML that names the code, and the rule in its message
 unfoldable pub error_body : Code → Rule → List ℕ
@@ -31,3 +32,11 @@ abbrev pub denied : Refusal → Reply
 denied r =
     if has_error_body r.code then refusal_reply r (ContentType (codes "application/xml") ∷ []) (error_body r.code r.rule)
     else refusal_reply r [] []
+
+-- the header of a body in XML
+abbrev pub xml_header : Header
+xml_header = ContentType (codes "application/xml")
+
+-- a reply that refuses nothing, with this text as its body
+abbrev pub text_reply : List Header → List ℕ → Reply
+text_reply headers text = record { status = Success; code = None; rule = None; headers = headers; length = length text; body = text }

@@ -9,7 +9,7 @@ use crate::act::{Act, StoredBlob};
 use crate::committed::{Block, Committed, UncommittedBlock};
 use crate::pieces::Pieces;
 use stamp_values::{
-    BLOB_LIMIT, ENTRIES_LIMIT, Key, Text, UNCOMMITTED_LIMIT, is_account, is_blob, is_container,
+    BLOB_LIMIT, ENTRIES_LIMIT, Key, Text, UNCOMMITTED_LIMIT, account_ok, container_ok, is_blob,
 };
 
 fn is_in_one_piece(content: &Pieces) -> bool
@@ -167,7 +167,7 @@ fn is_act(act: &Act) -> bool
 pub(crate) fn is_change(key: &Key, act: &Act) -> bool
     ensures { result ≡ is_change (record { key = key.now; act = act.now }) }
 {
-    is_account(key.account.as_str().as_bytes())
-        && is_container(key.container.as_str().as_bytes())
+    account_ok(key.account.as_str().as_bytes())
+        && container_ok(key.container.as_str().as_bytes())
         && is_act(act)
 }

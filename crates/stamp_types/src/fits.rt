@@ -9,8 +9,8 @@ use crate::args::Page;
 use crate::args_len::are_args_short;
 use crate::ask::Ask;
 use stamp_values::{
-    BlockId, BlockKinds, ByteRange, Condition, Metadata, Op, PAGE_LIMIT, Text, is_account, is_blob,
-    is_container,
+    BlockId, BlockKinds, ByteRange, Condition, Metadata, Op, PAGE_LIMIT, Text, account_ok,
+    container_ok, is_blob,
 };
 
 fn is_container_there(op: Op, container: &Text) -> bool
@@ -23,7 +23,7 @@ fn is_container_good(op: Op, container: &Text) -> bool
     ensures { IsTrue result
         ↔ (IsTrue (names_container op) → IsTrue (names.is_container container.now)) }
 {
-    !op.names_container() || is_container(container.as_str().as_bytes())
+    !op.names_container() || container_ok(container.as_str().as_bytes())
 }
 
 fn is_blob_good(blob: &Option<Text>) -> bool
@@ -123,7 +123,7 @@ fn are_kinds_there(op: Op, kinds: Option<BlockKinds>) -> bool
 fn is_named(ask: &Ask) -> bool
     ensures { IsTrue result ↔ IsNamed ask.now }
 {
-    is_account(ask.key.account.as_str().as_bytes())
+    account_ok(ask.key.account.as_str().as_bytes())
         && is_container_there(ask.op, &ask.key.container)
         && is_container_good(ask.op, &ask.key.container)
         && ask.blob.is_some() == ask.op.names_blob()

@@ -1,5 +1,6 @@
 //! Replies to requests.
 ghost use Rattle.std.specs.Prelude.{◌≡◌, ◌↔◌, IfOk, IsTrue};
+ghost use Rattle.stamp_types.specs.Replies as replies;
 
 use crate::code::Code;
 use crate::error_body::write_error;
@@ -30,6 +31,25 @@ fn same_headers(headers: &[Header], others: &[Header]) -> bool
     ensures { IsTrue result ↔ (headers.now ≡ others.now) }
 {
     headers == others
+}
+
+/// A reply that refuses nothing, with this text as its body. No byte of the text is copied.
+///
+/// `AllocError` if memory runs out for the owner of the text.
+pub fn text_reply(alloc: Global, headers: Vec<Header>, text: Vec<u8>) -> Result<Reply, AllocError>
+    ensures { IfOk result (λ reply. reply ≡ replies.text_reply headers.items text.items) }
+{
+    let length = text.len() as u64;
+    let mut body = Shares::empty(alloc);
+    body.push(Share::new(alloc, text)?)?;
+    Ok(Reply {
+        status: Status::Success,
+        code: None,
+        rule: None,
+        headers: Items::new(headers),
+        length,
+        body,
+    })
 }
 
 impl Reply {

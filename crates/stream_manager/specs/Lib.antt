@@ -2,6 +2,7 @@ pub mod Counting
 pub mod Extents
 pub mod Handles
 pub mod Outcomes
+pub mod Parts
 pub mod Places
 pub mod Runs
 pub mod Sizes

@@ -46,9 +46,10 @@ impl Parts {
     ghost use Rattle.extent_seal.specs.declared.sealed.ReadFault.TheVariants.{Unreachable};
     ghost use Rattle.stamp_values.specs.declared.place.Place.{Place};
     ghost use Rattle.stream_manager.specs.Counting.{CallsAtMost, Grows, CallsTry, FailsTry, CallsAppend, FailsAppend, CallsSettle, FailsSettle, CallsSeal, FailsSeal, kept_in};
-    ghost use Rattle.stream_manager.specs.Extents.{closed_blocks, extents};
+    ghost use Rattle.stream_manager.specs.Extents.{closed_blocks};
     ghost use Rattle.stream_manager.specs.Outcomes.{IsTried, IsPut, IsAppend, IsRefused, IsSettled, IsSealed};
-    ghost use Rattle.stream_manager.specs.Places.{Decides, Follows, IsLastAt, block_at, next_place};
+    ghost use Rattle.stream_manager.specs.Parts.{EndsDoubt, IsReadyFor, IsSame, IsUnanswered, IsWhole, SealsAtMostOne, SealsLast, StaysWhole, extents_of};
+    ghost use Rattle.stream_manager.specs.Places.{IsLastAt, block_at, next_place};
     ghost use Rattle.stream_manager.specs.Sizes.{IsWithin, AreSized, AreCounted};
     ghost use Rattle.stream_manager.specs.declared.faults.AppendFault.TheVariants.{TooLarge, Busy};
     ghost use Rattle.stream_manager.specs.declared.parts.Tried.TheVariants.{Excluded};
@@ -59,21 +60,12 @@ impl Parts {
         ensures limit { self.new.limit ≡ self.old.limit }
         ensures moved { IfOk result (λ kept. map closed_blocks self.new.sealed.items
             ≡ map closed_blocks self.old.sealed.items ++ (self.old.last.extent.blocks ++ held kept self.old.last.extent.tried) ∷ []) }
-        ensures blocks { IfOk result (λ kept. self.new.last.extent.blocks ≡ []) }
-        ensures tried { IfOk result (λ kept. self.new.last.extent.tried ≡ None) }
-        ensures same_sealed { OnErr result (self.new.sealed.items ≡ self.old.sealed.items) }
-        ensures same_len { OnErr result (vec_len self.new.sealed ≡ vec_len self.old.sealed) }
-        ensures same_last { OnErr result (self.new.last.extent ≡ self.old.last.extent) }
+        ensures sealed { IfOk result (λ kept. SealsLast self.old self.new (W.faults wire.old) (W.faults wire.new)) }
+        ensures same { OnErr result (IsUnanswered self.old self.new (W.faults wire.old) (W.faults wire.new)) }
         ensures called { CallsEach (W.calls wire.old) (W.calls wire.new) }
-        ensures counted { IfOk result (λ kept. Grows (W.faults wire.old) (W.faults wire.new)) }
-        ensures unanswered { OnErr result (FailsEach (W.faults wire.old) (W.faults wire.new)) }
-        ensures one_more { vec_len self.new.sealed ≤ vec_len self.old.sealed + 1 }
-        ensures capacity { vec_capacity self.new.sealed ≡ vec_capacity self.old.sealed }
+        ensures room { SealsAtMostOne self.old self.new }
         ensures bytes { IfOk result (λ kept. self.new.bytes ≡ 0) }
         ensures same_bytes { OnErr result (self.new.bytes ≡ self.old.bytes) }
-        ensures longer { IfOk result (λ kept. vec_len self.new.sealed ≡ vec_len self.old.sealed + 1) }
-        ensures last_room { IfOk result (λ kept. self.new.last.room ≡ self.old.spares.next) }
-        ensures next_room { IfOk result (λ kept. self.new.spares.next ≡ self.old.spares.after) }
     {
         let len = self.last.len();
         let next = self.spares.take(self.alloc);
@@ -94,33 +86,17 @@ impl Parts {
 
     // The extents after a seal follow those before it.
     fn close_last<W: Wire>(&mut self, wire: &mut W) -> Result<bool, NoReplica>
-        requires sized { AreSized self.old.limit self.old.sealed.items self.old.last.extent }
-        requires bytes { AreCounted self.old.bytes self.old.last.extent }
+        requires whole { IsWhole self.old }
         requires room { vec_len self.old.sealed < vec_capacity self.old.sealed }
-        ensures follows { IfOk result (λ kept. Follows (extents self.old.sealed.items self.old.last.extent)
-            (held kept self.old.last.extent.tried) (extents self.new.sealed.items self.new.last.extent)) }
+        ensures ended { IfOk result (λ kept. EndsDoubt kept self.old self.new) }
         ensures at { IfOk result (λ kept. (b : Block) → (p : Place) → held kept self.old.last.extent.tried ≡ b ∷ []
             → p.extent ≡ length self.old.sealed.items → p.index ≡ length self.old.last.extent.blocks
-            → IsLastAt (extents self.new.sealed.items self.new.last.extent) p b) }
-        ensures decided { IfOk result (λ kept. is_some self.old.last.extent.tried ≡ true
-            → Decides kept (length self.old.sealed.items) self.old.last.extent (extents self.new.sealed.items self.new.last.extent)) }
-        ensures blocks { IfOk result (λ kept. self.new.last.extent.blocks ≡ []) }
-        ensures tried { IfOk result (λ kept. self.new.last.extent.tried ≡ None) }
-        ensures same { OnErr result (extents self.new.sealed.items self.new.last.extent ≡ extents self.old.sealed.items self.old.last.extent) }
-        ensures same_sealed { OnErr result (self.new.sealed.items ≡ self.old.sealed.items) }
-        ensures same_len { OnErr result (vec_len self.new.sealed ≡ vec_len self.old.sealed) }
-        ensures same_last { OnErr result (self.new.last.extent ≡ self.old.last.extent) }
+            → IsLastAt (extents_of self.new) p b) }
+        ensures sealed { IfOk result (λ kept. SealsLast self.old self.new (W.faults wire.old) (W.faults wire.new)) }
+        ensures same { OnErr result (IsUnanswered self.old self.new (W.faults wire.old) (W.faults wire.new)) }
         ensures called { CallsEach (W.calls wire.old) (W.calls wire.new) }
-        ensures counted { IfOk result (λ kept. Grows (W.faults wire.old) (W.faults wire.new)) }
-        ensures unanswered { OnErr result (FailsEach (W.faults wire.old) (W.faults wire.new)) }
-        ensures one_more { vec_len self.new.sealed ≤ vec_len self.old.sealed + 1 }
-        ensures capacity { vec_capacity self.new.sealed ≡ vec_capacity self.old.sealed }
-        ensures sized { AreSized self.new.limit self.new.sealed.items self.new.last.extent }
-        ensures bytes { AreCounted self.new.bytes self.new.last.extent }
-        ensures limit { self.new.limit ≡ self.old.limit }
-        ensures longer { IfOk result (λ kept. vec_len self.new.sealed ≡ vec_len self.old.sealed + 1) }
-        ensures last_room { IfOk result (λ kept. self.new.last.room ≡ self.old.spares.next) }
-        ensures next_room { IfOk result (λ kept. self.new.spares.next ≡ self.old.spares.after) }
+        ensures room { SealsAtMostOne self.old self.new }
+        ensures whole { StaysWhole self.old self.new }
     {
         self.close(wire)
     }
@@ -128,21 +104,15 @@ impl Parts {
     // Tries the block on the last extent. Takes no memory.
     #[tactic(auto, using(crate::proofs::SizeLemmas::short_sized, crate::proofs::SizeLemmas::whole_sized, crate::proofs::CountLemmas::one_more_bound))]
     fn try_once<W: Wire>(&mut self, block: Shares, wire: &mut W) -> Tried
-        requires sized { AreSized self.old.limit self.old.sealed.items self.old.last.extent }
-        requires bytes { AreCounted self.old.bytes self.old.last.extent }
-        requires fits { IsWithin self.old.limit (self.old.last.extent.blocks ++ block ∷ []) }
-        requires clear { self.old.last.extent.tried ≡ None }
+        requires whole { IsWhole self.old }
+        requires ready { IsReadyFor self.old block }
         requires room { vec_len self.old.sealed < vec_capacity self.old.sealed }
-        requires last_room { 0 < self.old.last.room }
-        ensures tried { IsTried result (extents self.old.sealed.items self.old.last.extent) block
-            (extents self.new.sealed.items self.new.last.extent) self.new.last.extent }
+        ensures tried { IsTried result (extents_of self.old) block
+            (extents_of self.new) self.new.last.extent }
         ensures called { CallsTry result (vec_len self.old.sealed) (vec_len self.new.sealed) (W.calls wire.old) (W.calls wire.new) }
         ensures counted { FailsTry result (W.faults wire.old) (W.faults wire.new) }
-        ensures one_more { vec_len self.new.sealed ≤ vec_len self.old.sealed + 1 }
-        ensures capacity { vec_capacity self.new.sealed ≡ vec_capacity self.old.sealed }
-        ensures sized { AreSized self.new.limit self.new.sealed.items self.new.last.extent }
-        ensures bytes { AreCounted self.new.bytes self.new.last.extent }
-        ensures limit { self.new.limit ≡ self.old.limit }
+        ensures room { SealsAtMostOne self.old self.new }
+        ensures whole { StaysWhole self.old self.new }
         ensures once { (result ≡ Excluded) → vec_len self.new.sealed ≡ vec_len self.old.sealed + 1 }
         ensures last_room { (result ≡ Excluded) → self.new.last.room ≡ self.old.spares.next }
     {
@@ -172,21 +142,16 @@ impl Parts {
         again: Shares,
         wire: &mut W,
     ) -> Result<Place, AppendFault>
-        requires sized { AreSized self.old.limit self.old.sealed.items self.old.last.extent }
-        requires bytes { AreCounted self.old.bytes self.old.last.extent }
-        requires fits { IsWithin self.old.limit (self.old.last.extent.blocks ++ block ∷ []) }
-        requires clear { self.old.last.extent.tried ≡ None }
+        requires whole { IsWhole self.old }
+        requires ready { IsReadyFor self.old block }
         requires room { vec_len self.old.sealed + 1 < vec_capacity self.old.sealed }
-        requires last_room { 0 < self.old.last.room }
         requires next_room { 0 < self.old.spares.next }
         requires again { again ≡ block }
-        ensures put { IsPut result (extents self.old.sealed.items self.old.last.extent) block
-            (extents self.new.sealed.items self.new.last.extent) self.new.last.extent }
+        ensures put { IsPut result (extents_of self.old) block
+            (extents_of self.new) self.new.last.extent }
         ensures called { CallsAppend result (vec_len self.old.sealed) (vec_len self.new.sealed) (W.calls wire.old) (W.calls wire.new) }
         ensures counted { FailsAppend result (W.faults wire.old) (W.faults wire.new) }
-        ensures sized { AreSized self.new.limit self.new.sealed.items self.new.last.extent }
-        ensures bytes { AreCounted self.new.bytes self.new.last.extent }
-        ensures limit { self.new.limit ≡ self.old.limit }
+        ensures whole { StaysWhole self.old self.new }
         ensures twice { (result ≡ Err Busy) → vec_len self.new.sealed ≡ vec_len self.old.sealed + 2 }
     {
         match self.try_once(block, wire) {
@@ -216,11 +181,7 @@ impl Parts {
 
     // Makes all room that an append may need: for three seals, in two extents that follow, and in the last one if it is not sealed first.
     fn make_room(&mut self, seals: bool) -> Result<(), AllocError>
-        ensures same_sealed { self.new.sealed.items ≡ self.old.sealed.items }
-        ensures same_last { self.new.last.extent ≡ self.old.last.extent }
-        ensures same_limit { self.new.limit ≡ self.old.limit }
-        ensures same_bytes { self.new.bytes ≡ self.old.bytes }
-        ensures len { vec_len self.new.sealed ≡ vec_len self.old.sealed }
+        ensures same { IsSame self.old self.new }
         ensures room { OnOk result (vec_len self.new.sealed + 2 < vec_capacity self.new.sealed) }
         ensures last_room { OnOk result ((seals ≡ false) → 0 < self.new.last.room) }
         ensures next_room { OnOk result (0 < self.new.spares.next) }
@@ -237,31 +198,20 @@ impl Parts {
     // Seals the last extent, if it is to be sealed before a block is tried. Takes no memory.
     #[tactic(auto, using(crate::proofs::SizeLemmas::first_within, crate::proofs::CountLemmas::one_more_bound))]
     fn make_ready<W: Wire>(&mut self, seals: bool, wire: &mut W) -> Result<bool, NoReplica>
-        requires sized { AreSized self.old.limit self.old.sealed.items self.old.last.extent }
-        requires bytes { AreCounted self.old.bytes self.old.last.extent }
+        requires whole { IsWhole self.old }
         requires room { vec_len self.old.sealed < vec_capacity self.old.sealed }
         requires clear { (seals ≡ false) → self.old.last.extent.tried ≡ None }
         requires last_room { (seals ≡ false) → 0 < self.old.last.room }
         requires next_room { 0 < self.old.spares.next }
         requires after_room { 0 < self.old.spares.after }
-        ensures follows { IfOk result (λ kept. Follows (extents self.old.sealed.items self.old.last.extent)
-            (held kept self.old.last.extent.tried) (extents self.new.sealed.items self.new.last.extent)) }
-        ensures decided { IfOk result (λ kept. is_some self.old.last.extent.tried ≡ true
-            → Decides kept (length self.old.sealed.items) self.old.last.extent (extents self.new.sealed.items self.new.last.extent)) }
+        ensures ended { IfOk result (λ kept. EndsDoubt kept self.old self.new) }
         ensures tried { IfOk result (λ kept. self.new.last.extent.tried ≡ None) }
-        ensures same { OnErr result (extents self.new.sealed.items self.new.last.extent ≡ extents self.old.sealed.items self.old.last.extent) }
-        ensures same_sealed { OnErr result (self.new.sealed.items ≡ self.old.sealed.items) }
-        ensures same_len { OnErr result (vec_len self.new.sealed ≡ vec_len self.old.sealed) }
-        ensures same_last { OnErr result (self.new.last.extent ≡ self.old.last.extent) }
+        ensures same { OnErr result (IsUnanswered self.old self.new (W.faults wire.old) (W.faults wire.new)) }
         ensures called { IfOk result (λ kept. CallsAtMost 0 (vec_len self.old.sealed) (vec_len self.new.sealed) (W.calls wire.old) (W.calls wire.new)) }
         ensures unanswered_calls { OnErr result (CallsEach (W.calls wire.old) (W.calls wire.new)) }
         ensures counted { IfOk result (λ kept. Grows (W.faults wire.old) (W.faults wire.new)) }
-        ensures unanswered { OnErr result (FailsEach (W.faults wire.old) (W.faults wire.new)) }
-        ensures one_more { vec_len self.new.sealed ≤ vec_len self.old.sealed + 1 }
-        ensures capacity { vec_capacity self.new.sealed ≡ vec_capacity self.old.sealed }
-        ensures sized { AreSized self.new.limit self.new.sealed.items self.new.last.extent }
-        ensures bytes { AreCounted self.new.bytes self.new.last.extent }
-        ensures limit { self.new.limit ≡ self.old.limit }
+        ensures room { SealsAtMostOne self.old self.new }
+        ensures whole { StaysWhole self.old self.new }
         ensures fits { IfOk result (λ kept. (b : Block)
             → ((seals ≡ false) → IsWithin self.old.limit (self.old.last.extent.blocks ++ b ∷ []))
             → IsWithin self.new.limit (self.new.last.extent.blocks ++ b ∷ [])) }
@@ -278,19 +228,16 @@ impl Parts {
     /// Appends the block, after a doubt is settled. All memory that this may need is taken before a node is called.
     #[tactic(auto, using(crate::proofs::CountLemmas::one_more_bound))]
     pub fn append<W: Wire>(&mut self, block: &Share, wire: &mut W) -> Result<Place, AppendFault>
-        requires sized { AreSized self.old.limit self.old.sealed.items self.old.last.extent }
-        requires bytes { AreCounted self.old.bytes self.old.last.extent }
-        ensures appended { IsAppend result (extents self.old.sealed.items self.old.last.extent) self.old.last.extent block.now
-            (extents self.new.sealed.items self.new.last.extent) self.new.last.extent }
+        requires whole { IsWhole self.old }
+        ensures appended { IsAppend result (extents_of self.old) self.old.last.extent block.now
+            (extents_of self.new) self.new.last.extent }
         ensures called { CallsAppend result (vec_len self.old.sealed) (vec_len self.new.sealed) (W.calls wire.old) (W.calls wire.new) }
         ensures counted { FailsAppend result (W.faults wire.old) (W.faults wire.new) }
         ensures large { (result ≡ Err TooLarge) ↔ (16_777_216 < length block.now) }
         ensures unheard { IsRefused result → wire.new ≡ wire.old }
         ensures same_sealed { IsRefused result → self.new.sealed.items ≡ self.old.sealed.items }
         ensures same_last { IsRefused result → self.new.last.extent ≡ self.old.last.extent }
-        ensures sized { AreSized self.new.limit self.new.sealed.items self.new.last.extent }
-        ensures bytes { AreCounted self.new.bytes self.new.last.extent }
-        ensures limit { self.new.limit ≡ self.old.limit }
+        ensures whole { StaysWhole self.old self.new }
         ensures busy { (result ≡ Err Busy) → ((self.new.sealed.items ≡ self.old.sealed.items) × FailsEach (W.faults wire.old) (W.faults wire.new))
             ⊎ (length self.old.sealed.items + 2 ≤ length self.new.sealed.items) }
     {
@@ -313,15 +260,12 @@ impl Parts {
 
     /// Settles a doubt, if there is one.
     pub fn settle<W: Wire>(&mut self, wire: &mut W) -> Result<Settled, SettleFault>
-        requires sized { AreSized self.old.limit self.old.sealed.items self.old.last.extent }
-        requires bytes { AreCounted self.old.bytes self.old.last.extent }
-        ensures settled { IsSettled result (extents self.old.sealed.items self.old.last.extent) self.old.last.extent
-            (extents self.new.sealed.items self.new.last.extent) self.new.last.extent }
+        requires whole { IsWhole self.old }
+        ensures settled { IsSettled result (extents_of self.old) self.old.last.extent
+            (extents_of self.new) self.new.last.extent }
         ensures called { CallsSettle result (W.calls wire.old) (W.calls wire.new) }
         ensures counted { FailsSettle result (W.faults wire.old) (W.faults wire.new) }
-        ensures sized { AreSized self.new.limit self.new.sealed.items self.new.last.extent }
-        ensures bytes { AreCounted self.new.bytes self.new.last.extent }
-        ensures limit { self.new.limit ≡ self.old.limit }
+        ensures whole { StaysWhole self.old self.new }
     {
         if !self.last.is_short() {
             return Ok(Settled::Clean);
@@ -340,17 +284,14 @@ impl Parts {
 
     /// Seals the last extent if it holds a block or a doubt.
     pub fn seal<W: Wire>(&mut self, wire: &mut W) -> Result<(), SettleFault>
-        requires sized { AreSized self.old.limit self.old.sealed.items self.old.last.extent }
-        requires bytes { AreCounted self.old.bytes self.old.last.extent }
-        ensures sealed { IsSealed result (extents self.old.sealed.items self.old.last.extent) self.old.last.extent
-            (extents self.new.sealed.items self.new.last.extent) self.new.last.extent }
+        requires whole { IsWhole self.old }
+        ensures sealed { IsSealed result (extents_of self.old) self.old.last.extent
+            (extents_of self.new) self.new.last.extent }
         ensures called { CallsSeal result (vec_len self.old.sealed) (vec_len self.new.sealed) (W.calls wire.old) (W.calls wire.new) }
         ensures counted { FailsSeal result (W.faults wire.old) (W.faults wire.new) }
         ensures unused { self.old.last.extent.blocks ≡ [] → self.old.last.extent.tried ≡ None → wire.new ≡ wire.old }
         ensures same_sealed { self.old.last.extent.blocks ≡ [] → self.old.last.extent.tried ≡ None → self.new.sealed.items ≡ self.old.sealed.items }
-        ensures sized { AreSized self.new.limit self.new.sealed.items self.new.last.extent }
-        ensures bytes { AreCounted self.new.bytes self.new.last.extent }
-        ensures limit { self.new.limit ≡ self.old.limit }
+        ensures whole { StaysWhole self.old self.new }
     {
         if !self.last.is_short() && self.last.len() == 0 {
             return Ok(());
@@ -365,8 +306,7 @@ impl Parts {
     /// No extents but an empty one. Takes no memory.
     pub fn new(alloc: Global, limit: u32) -> Self
         ensures limit { result.limit ≡ limit }
-        ensures sized { AreSized result.limit result.sealed.items result.last.extent }
-        ensures bytes { AreCounted result.bytes result.last.extent }
+        ensures whole { IsWhole result }
         ensures sealed { result.sealed.items ≡ [] }
         ensures blocks { result.last.extent.blocks ≡ [] }
         ensures tried { result.last.extent.tried ≡ None }
@@ -384,8 +324,8 @@ impl Parts {
     /// The block at a place.
     #[tactic(auto, using(crate::proofs::ReadLemmas::in_sealed, crate::proofs::ReadLemmas::in_last))]
     pub fn read<W: Wire>(&self, place: Place, wire: &mut W) -> Result<Share, ReadFault>
-        requires { IsSome (block_at (extents self.now.sealed.items self.now.last.extent) place) }
-        ensures read { IfOk result (λ b. block_at (extents self.now.sealed.items self.now.last.extent) place ≡ Some b) }
+        requires { IsSome (block_at (extents_of self.now) place) }
+        ensures read { IfOk result (λ b. block_at (extents_of self.now) place ≡ Some b) }
         ensures called { result ≡ Err Unreachable → CallsCopies (kept_in self.now.sealed.items place.extent) (W.calls wire.old) (W.calls wire.new) }
         ensures unreachable { result ≡ Err Unreachable → FailsCopies (kept_in self.now.sealed.items place.extent) (W.faults wire.old) (W.faults wire.new) }
         ensures faulty { result ≡ Err Unreachable → all_faults (W.faults wire.old) < all_faults (W.faults wire.new) }
@@ -401,7 +341,7 @@ impl Parts {
     /// Whether there is an acknowledged block at the place.
     #[tactic(auto, using(crate::proofs::ReadLemmas::has_sealed, crate::proofs::ReadLemmas::has_last))]
     pub fn has_block(&self, place: Place) -> bool
-        ensures { result ≡ is_some (block_at (extents self.now.sealed.items self.now.last.extent) place) }
+        ensures { result ≡ is_some (block_at (extents_of self.now) place) }
     {
         let extent = place.extent as usize;
         let index = place.index as usize;
@@ -414,7 +354,7 @@ impl Parts {
     /// The place after the last acknowledged block.
     #[tactic(auto, using(crate::proofs::PlaceLemmas::last_number))]
     pub fn next_place(&self) -> Place
-        ensures { result ≡ next_place (extents self.now.sealed.items self.now.last.extent) self.now.last.extent }
+        ensures { result ≡ next_place (extents_of self.now) self.now.last.extent }
     {
         Place {
             extent: self.sealed.len() as u64,
@@ -425,7 +365,7 @@ impl Parts {
     /// How many extents there are, with the last one.
     #[tactic(auto, using(crate::proofs::ReadLemmas::count_of_extents))]
     pub fn extent_count(&self) -> usize
-        ensures { result ≡ length (extents self.now.sealed.items self.now.last.extent) }
+        ensures { result ≡ length (extents_of self.now) }
     {
         self.sealed.len() + 1
     }
@@ -433,8 +373,8 @@ impl Parts {
     /// How many acknowledged blocks an extent has.
     #[tactic(auto, using(crate::proofs::ReadLemmas::sealed_extent, crate::proofs::ReadLemmas::last_extent))]
     pub fn extent_len(&self, extent: usize) -> usize
-        requires { extent < length (extents self.now.sealed.items self.now.last.extent) }
-        ensures { IsSomeAnd (slice_get (extents self.now.sealed.items self.now.last.extent) extent) (λ blocks. result ≡ length blocks) }
+        requires { extent < length (extents_of self.now) }
+        ensures { IsSomeAnd (slice_get (extents_of self.now) extent) (λ blocks. result ≡ length blocks) }
     {
         match self.sealed.get(extent) {
             Some(handle) => handle.extent().commit_len(),
@@ -446,17 +386,11 @@ impl Parts {
     #[tactic(auto, using(crate::proofs::SizeLemmas::none_sized))]
     pub fn share(&mut self) -> Result<Self, AllocError>
         requires sized { AreSized self.old.limit self.old.sealed.items self.old.last.extent }
-        ensures same { extents self.new.sealed.items self.new.last.extent ≡ extents self.old.sealed.items self.old.last.extent }
-        ensures same_sealed { self.new.sealed.items ≡ self.old.sealed.items }
-        ensures same_last { self.new.last.extent ≡ self.old.last.extent }
-        ensures same_limit { self.new.limit ≡ self.old.limit }
-        ensures same_bytes { self.new.bytes ≡ self.old.bytes }
+        ensures same { IsSame self.old self.new }
         ensures sealed { IfOk result (λ s. s.sealed.items ≡ self.old.sealed.items) }
         ensures blocks { IfOk result (λ s. s.last.extent.blocks ≡ []) }
         ensures tried { IfOk result (λ s. s.last.extent.tried ≡ None) }
-        ensures limit { IfOk result (λ s. s.limit ≡ self.old.limit) }
-        ensures sized { IfOk result (λ s. AreSized s.limit s.sealed.items s.last.extent) }
-        ensures bytes { IfOk result (λ s. AreCounted s.bytes s.last.extent) }
+        ensures whole { IfOk result (λ s. StaysWhole self.old s) }
     {
         let sealed = share_all(&mut self.sealed, self.alloc)?;
         Ok(Self {

@@ -16,14 +16,14 @@ pub struct Stream {
 }
 
 impl Model for Stream {
+    ghost use Rattle.stream_manager.specs.Parts.{IsWhole};
     ghost use Rattle.stream_manager.specs.Streams.{Streamed};
-    ghost use Rattle.stream_manager.specs.Sizes.{AreSized, AreCounted};
 
     ghost Value = { Streamed };
 
     ghost view = { λ s. record { limit = s.parts.limit; sealed = s.parts.sealed.items; last = s.parts.last.extent } };
 
-    ghost invariant = { λ s. AreSized s.parts.limit s.parts.sealed.items s.parts.last.extent × AreCounted s.parts.bytes s.parts.last.extent };
+    ghost invariant = { λ s. IsWhole s.parts };
 }
 
 impl Stream {

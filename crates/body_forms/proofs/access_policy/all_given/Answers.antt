@@ -1,9 +1,8 @@
 use Rattle.std.proofs.Common.{◌≡◌, ◌++◌, ◌∷◌, [], map, le_refl, arith}
 use Rattle.std.proofs.lemmas.Grind.{common_steps}
-use Rattle.body_forms.specs.PolicyReading.{given_view}
+use Rattle.body_forms.specs.PolicyReading.{given_view, given_at}
 use Rattle.body_forms.specs.Policies.{access_name}
-use Rattle.body_forms.specs.PolicyReading.{given_at}
-use Rattle.body_forms.proofs.ElementTurns.{start, no_more, at_end, one_more}
+use Rattle.xml_text.proofs.ElementTurns.{start, no_more, at_end, one_more}
 use Rattle.body_forms.proofs.access_policy.all_given.Goals as goal
 
 pub fields-init : goal.fields-init

@@ -1,8 +1,7 @@
 use Rattle.std.proofs.Common.{◌≤◌, length, map}
-use Rattle.body_forms.specs.PolicyReading.{given_view}
+use Rattle.body_forms.specs.PolicyReading.{given_view, given_at}
 use Rattle.body_forms.specs.Policies.{access_name}
-use Rattle.body_forms.specs.PolicyReading.{given_at}
-use Rattle.body_forms.proofs.ElementTurns.{Lists}
+use Rattle.xml_text.proofs.ElementTurns.{Lists}
 use Rattle.body_forms.proofs.access_policy.all_given.Given as goal
 
 abbrev pub invariant-fields : goal.invariant-fields

@@ -1,9 +1,8 @@
 use Rattle.std.proofs.Common.{◌≡◌, ◌++◌, ◌∷◌, [], map, le_refl, arith}
 use Rattle.std.proofs.lemmas.Grind.{common_steps}
-use Rattle.body_forms.specs.ElementReading.{entry_view}
+use Rattle.body_forms.specs.BlockListReading.{entry_view, entry_at}
 use Rattle.body_forms.specs.BlockLists.{list_name}
-use Rattle.body_forms.specs.ElementReading.{entry_at}
-use Rattle.body_forms.proofs.ElementTurns.{start, no_more, at_end, one_more}
+use Rattle.xml_text.proofs.ElementTurns.{start, no_more, at_end, one_more}
 use Rattle.body_forms.proofs.elements.elements.Goals as goal
 
 pub elements-init : goal.elements-init

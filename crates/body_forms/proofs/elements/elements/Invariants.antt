@@ -1,8 +1,7 @@
 use Rattle.std.proofs.Common.{◌≤◌, length, map}
-use Rattle.body_forms.specs.ElementReading.{entry_view}
+use Rattle.body_forms.specs.BlockListReading.{entry_view, entry_at}
 use Rattle.body_forms.specs.BlockLists.{list_name}
-use Rattle.body_forms.specs.ElementReading.{entry_at}
-use Rattle.body_forms.proofs.ElementTurns.{Lists}
+use Rattle.xml_text.proofs.ElementTurns.{Lists}
 use Rattle.body_forms.proofs.elements.elements.Given as goal
 
 abbrev pub invariant-elements : goal.invariant-elements

@@ -1,5 +1,5 @@
 use Rattle.std.proofs.Common.{◌≡◌, sym, ◌∙◌, arith}
-use Rattle.body_forms.specs.ElementReading.{value_of}
+use Rattle.xml_text.specs.ElementReading.{value_of}
 use Rattle.body_forms.proofs.IdLemmas.{plain_value_of, reference_no_id}
 use Rattle.body_forms.proofs.ids.id.Goals as goal
 

@@ -2,7 +2,7 @@ use Rattle.std.proofs.Common.{◌≡◌, ◌++◌, ◌∷◌, [], map, le_refl, 
 use Rattle.std.proofs.lemmas.Grind.{common_steps}
 use Rattle.body_forms.specs.Policies.{policy_name}
 use Rattle.body_forms.specs.PolicyReading.{part_view, part_at}
-use Rattle.body_forms.proofs.ElementTurns.{start, no_more, at_end, one_more}
+use Rattle.xml_text.proofs.ElementTurns.{start, no_more, at_end, one_more}
 use Rattle.body_forms.proofs.Readings.{form_says}
 use Rattle.body_forms.proofs.sent_policies.all_parts.Goals as goal
 

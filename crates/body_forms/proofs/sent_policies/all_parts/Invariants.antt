@@ -1,8 +1,7 @@
 use Rattle.std.proofs.Common.{◌≤◌, length, map}
-use Rattle.body_forms.specs.PolicyReading.{part_view}
+use Rattle.body_forms.specs.PolicyReading.{part_view, part_at}
 use Rattle.body_forms.specs.Policies.{policy_name}
-use Rattle.body_forms.specs.PolicyReading.{part_at}
-use Rattle.body_forms.proofs.ElementTurns.{Lists}
+use Rattle.xml_text.proofs.ElementTurns.{Lists}
 use Rattle.body_forms.proofs.sent_policies.all_parts.Given as goal
 
 abbrev pub invariant-parts : goal.invariant-parts

@@ -1,8 +1,7 @@
 use Rattle.std.proofs.Common.{◌≤◌, length, map}
-use Rattle.body_forms.specs.PolicyReading.{sent_view}
+use Rattle.body_forms.specs.PolicyReading.{sent_view, sent_at}
 use Rattle.body_forms.specs.Policies.{policies_name}
-use Rattle.body_forms.specs.PolicyReading.{sent_at}
-use Rattle.body_forms.proofs.ElementTurns.{Lists}
+use Rattle.xml_text.proofs.ElementTurns.{Lists}
 use Rattle.body_forms.proofs.sent_policies.all_sent.Given as goal
 
 abbrev pub invariant-policies : goal.invariant-policies

@@ -2,7 +2,7 @@ use Rattle.std.proofs.Common.{◌≡◌, ◌++◌, length, map}
 use Rattle.stamp_types.specs.Pieces.{pieces_len}
 use Rattle.stamp_types.specs.World.{block_value}
 use Rattle.body_forms.specs.WrittenLists.{block_view}
-use Rattle.range_rows.specs.ObjectReplies.{shown_blocks}
+use Rattle.range_rows.specs.ShownBlocks.{shown_blocks}
 use Rattle.range_rows.proofs.block_list_reply.named_blocks.Given as goal
 
 -- what is listed and what is left make the whole list

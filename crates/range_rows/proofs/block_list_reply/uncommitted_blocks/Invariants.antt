@@ -3,7 +3,7 @@ use Rattle.std.specs.FinMap.{entries}
 use Rattle.stamp_types.specs.Pieces.{pieces_len}
 use Rattle.stamp_values.specs.Maps.{entry_value}
 use Rattle.body_forms.specs.WrittenLists.{block_view}
-use Rattle.range_rows.specs.ObjectReplies.{listed_entry}
+use Rattle.range_rows.specs.ShownBlocks.{listed_entry}
 use Rattle.range_rows.proofs.block_list_reply.uncommitted_blocks.Given as goal
 
 -- what is listed and what is left make the whole list

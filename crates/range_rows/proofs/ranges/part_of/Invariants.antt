@@ -1,6 +1,6 @@
 use Rattle.std.proofs.Common.{◌≡◌, ◌++◌, length}
 use Rattle.std.specs.List.{flat_map}
-use Rattle.range_rows.specs.ObjectReplies.{part_spans}
+use Rattle.range_rows.specs.Ranges.{part_spans}
 use Rattle.range_rows.proofs.RangeLemmas.{block_spans}
 use Rattle.range_rows.proofs.ranges.part_of.Given as goal
 

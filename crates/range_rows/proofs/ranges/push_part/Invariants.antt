@@ -1,5 +1,5 @@
 use Rattle.std.proofs.Common.{◌≡◌, ◌++◌, length}
-use Rattle.range_rows.specs.ObjectReplies.{part_spans}
+use Rattle.range_rows.specs.Ranges.{part_spans}
 use Rattle.range_rows.proofs.ranges.push_part.Given as goal
 
 -- what is there and what is left make the whole part

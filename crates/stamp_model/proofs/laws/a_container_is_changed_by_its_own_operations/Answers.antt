@@ -1,5 +1,5 @@
 use Rattle.stamp_types.specs.Pieces.{held}
-use Rattle.range_rows.specs.ObjectReplies.{byte_count}
+use Rattle.range_rows.specs.SentContent.{byte_count}
 use Rattle.stamp_model.proofs.AccessLemmas.{standing-effect, access-effect}
 use Rattle.stamp_model.proofs.laws.a_container_is_changed_by_its_own_operations.Goals as goal
 

@@ -2,7 +2,7 @@ use Rattle.std.proofs.Common.{◌∙◌, ap, List, ℕ}
 use Rattle.std.specs.Prelude.{is_some}
 use Rattle.stamp_types.specs.Pieces.{held}
 use Rattle.stamp_types.specs.World.{Part, part_at}
-use Rattle.range_rows.specs.ObjectReplies.{byte_count}
+use Rattle.range_rows.specs.SentContent.{byte_count}
 use Rattle.range_rows.specs.ObjectRules.{named_blob}
 use Rattle.stamp_model.proofs.AnswerLemmas.{standing-unrefused, named_blob-unrefused, blocks-unrefused, answer_of-nothing}
 use Rattle.stamp_model.proofs.EffectLemmas.{part_at-effect}

@@ -1,5 +1,5 @@
 use Rattle.stamp_types.specs.Pieces.{held}
-use Rattle.range_rows.specs.ObjectReplies.{byte_count}
+use Rattle.range_rows.specs.SentContent.{byte_count}
 use Rattle.stamp_model.proofs.EffectLemmas.{part_at-effect, part_at-effect_others}
 use Rattle.stamp_model.proofs.laws.an_effect_reaches_its_own_container_alone.Goals as goal
 

@@ -1,5 +1,5 @@
 use Rattle.stamp_types.specs.Pieces.{held}
-use Rattle.range_rows.specs.ObjectReplies.{byte_count}
+use Rattle.range_rows.specs.SentContent.{byte_count}
 use Rattle.stamp_model.proofs.EffectLemmas.{part_at-effect_agrees}
 use Rattle.stamp_model.proofs.SeenContainerLemmas.{reply-agrees}
 use Rattle.stamp_model.proofs.laws.an_own_container_decides_effect_and_reply.Goals as goal

@@ -2,7 +2,7 @@ use Rattle.std.proofs.Common.{◌∙◌, ap, Option}
 use Rattle.std.specs.Option.{option_map}
 use Rattle.stamp_types.specs.declared.refusal.Refusal.{Refusal}
 use Rattle.stamp_types.specs.World.{part_at}
-use Rattle.range_rows.specs.ObjectReplies.{sizes}
+use Rattle.range_rows.specs.SentContent.{sizes}
 use Rattle.stamp_model.proofs.ReplyLemmas.{rule-reply, reply-admits, reply-unrefused, refusal-admitted, reply-admitted, unrefused}
 use Rattle.stamp_model.proofs.laws.success_is_what_the_own_route_admits.Goals as goal
 

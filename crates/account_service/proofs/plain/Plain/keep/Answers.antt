@@ -9,4 +9,4 @@ use Rattle.account_service.proofs.plain.Plain.keep.Goals as goal
 pub invariant_of-self : goal.invariant_of-self
 invariant_of-self c =
     let brought = subst (λ (o : Option KeyedAct). IfSome o (λ c. EachActContent (λ ps. is_held ps ≡ true) c.act)) c.in-Some.is c.requires.held in
-    held_kept c.self.inside.rows c.take.result c.in-Some.change c.take.new.self brought c.self.invariant c.take.ensures.changed c.take.ensures.refused
+    held_kept c.self.inside.rows c.take_found.result c.in-Some.change c.take_found.new.self brought c.self.invariant c.take_found.ensures.changed c.take_found.ensures.refused

@@ -11,8 +11,8 @@ returns-in-Ok-clause-appended g c =
     (extents c.make_ready.new.self.sealed.items c.make_ready.new.self.last.extent)
     (extents c.put.new.self.sealed.items c.put.new.self.last.extent)
     c.args.self.now.last.extent c.put.new.self.last.extent c.in-Ok.field-0 c.args.block.now
-    (rw (← c.make_room.ensures.same_sealed) (rw (← c.make_room.ensures.same_last) c.in-Ok.ensures.follows))
-    (rw (← c.make_room.ensures.same_sealed) (rw (← c.make_room.ensures.same_last) c.in-Ok.ensures.decided))
+    (rw (← c.make_room.ensures.same.unsealed.same_sealed) (rw (← c.make_room.ensures.same.unsealed.same_last) c.in-Ok.ensures.ended.follows))
+    (rw (← c.make_room.ensures.same.unsealed.same_sealed) (rw (← c.make_room.ensures.same.unsealed.same_last) c.in-Ok.ensures.ended.decided))
     (subst (λ b. IsPut c.put.result (extents c.make_ready.new.self.sealed.items c.make_ready.new.self.last.extent) b
     (extents c.put.new.self.sealed.items c.put.new.self.last.extent) c.put.new.self.last.extent) same c.put.ensures.put)
 

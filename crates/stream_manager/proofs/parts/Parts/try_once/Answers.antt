@@ -20,5 +20,5 @@ returns-in-Ok-true-clause-tried g c =
     let k = short_kept c.args.self.now.sealed.items c.args.self.now.last.extent c.append_reserved.new.self.extent
     (extents c.close_last.new.self.sealed.items c.close_last.new.self.last.extent) c.args.block
     (record { extent = c.len.result; index = c.len-2.result }) c.in-Ok-true.field-0
-    a.0 a.1 (search rules) c.in-Ok-true.ensures.follows c.in-Ok-true.ensures.at e c.len-2.ensures in
-    (k.0, k.1, c.in-Ok-true.ensures.tried)
+    a.0 a.1 (search rules) c.in-Ok-true.ensures.ended.follows c.in-Ok-true.ensures.at e c.len-2.ensures in
+    (k.0, k.1, c.in-Ok-true.ensures.sealed.tried)

@@ -1,0 +1,135 @@
+//! The key route: what is judged before the signature, the signature, and the verdict after it.
+ghost use Rattle.std.specs.Prelude.{◌≡◌, ℕ, not, IfOk, IsErr, IsTrue, MatchResult, if◌then◌else◌, Option, Some, None, option_copied};
+ghost use Rattle.stamp_values.specs.declared.acl.Acl.{Acl};
+ghost use Rattle.stamp_values.specs.declared.signing.Credential.TheVariants as credential;
+ghost use Rattle.stamp_types.specs.declared.rule.Rule.TheVariants.{K5};
+ghost use Rattle.access_rules.specs.declared.judgement.Way.TheVariants as way;
+ghost use Rattle.access_rules.specs.Parts as parts;
+ghost use Rattle.access_rules.specs.Rules.{has_false_claim, has_false_signature, has_signature, needs_signature, rule_before_signature, some_passes, verdict_by, verdict_of};
+ghost use Rattle.access_rules.specs.Signatures.{has_true_claim};
+
+use crate::judgement::{Verdict, Way};
+use crate::keys::Keys;
+use crate::parts::{claim_in, date_in, is_far, is_signed, keys_for};
+use shared_key::Authorization;
+use stamp_types::{Ask, Bytes, Moment, Rule};
+use std::alloc::{AllocError, Global};
+
+// What is left to judge after the rules before the signature: the claim of Authorization, and the keys of the path's account.
+#[derive(Drop)]
+struct Claimed<'a> {
+    claim: Authorization<'a>,
+    pair: &'a Keys,
+}
+
+// The claim and the keys, or the first rule of K1 to K4 that holds: each early return names it, since the rules before it were
+// judged and do not hold.
+fn before_signature<'a>(
+    keys: Option<&'a Keys>,
+    ask: &Ask,
+    values: &'a [Bytes],
+    now: Moment,
+) -> Result<Claimed<'a>, Rule>
+    requires { ask.now.credential ≡ credential.Shared values.now }
+    ensures { MatchResult result
+        (λ left. (rule_before_signature (option_copied keys.entry) ask.now now ≡ None)
+        × (parts.claim_of ask.now.credential ≡ Some left.claim)
+        × (parts.keys_for (option_copied keys.entry) ask.now.key.account ≡ Some left.pair.now))
+        (λ rule. rule_before_signature (option_copied keys.entry) ask.now now ≡ Some rule) }
+{
+    let Some(claim) = claim_in(values) else {
+        return Err(Rule::K1);
+    };
+    let Some(pair) = keys_for(keys, &ask.key.account) else {
+        return Err(Rule::K2);
+    };
+    if claim.account != ask.key.account.as_str().as_bytes() {
+        return Err(Rule::K2);
+    }
+    let Some(date) = date_in(&ask.signing.headers) else {
+        return Err(Rule::K3);
+    };
+    if is_far(now, date) {
+        return Err(Rule::K4);
+    }
+    Ok(Claimed { claim, pair })
+}
+
+/// Whether one of the two keys gives the signature that the values of Authorization claim. `None` if there is no claim, or if the
+/// stamp does not have the keys of the path's account.
+///
+/// `AllocError` if memory runs out for the string to sign or for a signature.
+pub(crate) fn is_true_claim(
+    alloc: Global,
+    keys: Option<&Keys>,
+    ask: &Ask,
+    values: &[Bytes],
+) -> Result<Option<bool>, AllocError>
+    requires { ask.now.credential ≡ credential.Shared values.now }
+    ensures true_one { IfOk result (λ it.
+        some_passes (λ is. is) it ≡ has_true_claim (option_copied keys.entry) ask.now) }
+    ensures false_one { IfOk result (λ it.
+        some_passes (λ is. not is) it ≡ has_false_claim (option_copied keys.entry) ask.now) }
+    ensures memory { IsErr result → IsTrue (has_signature (option_copied keys.entry) ask.now) }
+{
+    let Some(claim) = claim_in(values) else {
+        return Ok(None);
+    };
+    let Some(pair) = keys_for(keys, &ask.key.account) else {
+        return Ok(None);
+    };
+    let signed = is_signed(alloc, pair, ask, claim.signature)?;
+    Ok(Some(signed))
+}
+
+// The verdict after the signature was judged.
+fn after_signature(is_false: bool) -> Verdict
+    ensures { result ≡ verdict_by (if is_false then Some K5 else None) way.Shared }
+{
+    if is_false {
+        Verdict::Deny(Rule::K5)
+    } else {
+        Verdict::Allow(Way::Shared)
+    }
+}
+
+/// The verdict on a request that asks by a key.
+///
+/// `AllocError` if memory runs out for the string to sign or for a signature; then no rule before the signature holds.
+pub(crate) fn by_key(
+    alloc: Global,
+    keys: Option<&Keys>,
+    ask: &Ask,
+    values: &[Bytes],
+    now: Moment,
+) -> Result<Verdict, AllocError>
+    requires { ask.now.credential ≡ credential.Shared values.now }
+    ensures value { (acl : Option Acl) → IfOk result (λ v.
+        v ≡ verdict_of (option_copied keys.entry) acl ask.now now) }
+    ensures memory { IsErr result → IsTrue (needs_signature (option_copied keys.entry) ask.now now) }
+{
+    let left = match before_signature(keys, ask, values, now) {
+        Ok(left) => left,
+        Err(rule) => return Ok(Verdict::Deny(rule)),
+    };
+    let signed = is_signed(alloc, left.pair, ask, left.claim.signature)?;
+    Ok(after_signature(!signed))
+}
+
+/// The verdict on a request that asks by a key, if it is known whether its signature is false.
+pub(crate) fn by_judged_key(
+    keys: Option<&Keys>,
+    ask: &Ask,
+    values: &[Bytes],
+    now: Moment,
+    is_false: bool,
+) -> Verdict
+    requires asks { ask.now.credential ≡ credential.Shared values.now }
+    requires judged { is_false ≡ has_false_signature (option_copied keys) ask.now }
+    ensures { (acl : Option Acl) → result ≡ verdict_of (option_copied keys.entry) acl ask.now now }
+{
+    match before_signature(keys, ask, values, now) {
+        Ok(_left) => after_signature(is_false),
+        Err(rule) => Verdict::Deny(rule),
+    }
+}

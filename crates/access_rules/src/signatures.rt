@@ -1,0 +1,88 @@
+//! The signature that a request brings, judged by itself.
+ghost use Rattle.std.specs.Prelude.{◌≡◌, ◌↔◌, not, IfOk, IsErr, IsTrue, Some, option_copied};
+ghost use Rattle.stamp_types.specs.declared.ask.Ask.{Ask};
+ghost use Rattle.access_rules.specs.declared.keys.Keys.{Keys};
+ghost use Rattle.access_rules.specs.Rules.{has_false_signature, has_signature, some_passes};
+ghost use Rattle.access_rules.specs.Signatures.{has_true_signature, IsSigned};
+
+use crate::key_route::is_true_claim;
+use crate::keys::Keys;
+use crate::token_route::is_true_token;
+use stamp_types::{Credential, Request};
+use std::alloc::{AllocError, Global};
+
+// Whether the signature that the request brings is true. `None` if there is no signature to judge.
+fn is_true(
+    alloc: Global,
+    keys: Option<&Keys>,
+    request: &Request,
+) -> Result<Option<bool>, AllocError>
+    ensures true_one { IfOk result (λ it.
+        some_passes (λ is. is) it ≡ has_true_signature (option_copied keys.entry) request.now.ask) }
+    ensures false_one { IfOk result (λ it.
+        some_passes (λ is. not is) it
+        ≡ has_false_signature (option_copied keys.entry) request.now.ask) }
+    ensures memory { IsErr result
+        → IsTrue (has_signature (option_copied keys.entry) request.now.ask) }
+{
+    let ask = request.ask();
+    match &ask.credential {
+        Credential::Shared(values) => is_true_claim(alloc, keys, ask, values.as_slice()),
+        Credential::Token => is_true_token(alloc, keys, ask),
+        Credential::Anonymous => Ok(None),
+    }
+}
+
+/// Whether the signature that the request brings, by the key of an account or by a token, is true under these keys.
+///
+/// The claim or the token has to be in its form, `keys` have to be the keys of the path's account, and a token has to be for what
+/// the request names; else the answer is no. Keys and request alone decide: the answer is the same for any container and at any
+/// moment, so it can be asked for before a lock is taken.
+///
+/// `AllocError` if memory runs out for the string to sign or for a signature.
+pub fn has_true_signature(
+    alloc: Global,
+    keys: Option<&Keys>,
+    request: &Request,
+) -> Result<bool, AllocError>
+    ensures value { IfOk result (λ it.
+        it ≡ has_true_signature (option_copied keys.entry) request.now.ask) }
+    ensures memory { IsErr result
+        → IsTrue (has_signature (option_copied keys.entry) request.now.ask) }
+{
+    match is_true(alloc, keys, request)? {
+        Some(is_true) => Ok(is_true),
+        None => Ok(false),
+    }
+}
+
+/// Whether the signature that the request brings, by the key of an account or by a token, is false: the rules K5 and S4 by
+/// themselves.
+///
+/// The claim or the token has to be in its form, `keys` have to be the keys of the path's account, and a token has to be for what
+/// the request names; else the answer is no, and a rule before K5 or S4 refuses the request. Keys and request alone decide: the
+/// answer is the same for any container and at any moment, so it can be asked for before a lock is taken.
+///
+/// `AllocError` if memory runs out for the string to sign or for a signature.
+pub fn has_false_signature(
+    alloc: Global,
+    keys: Option<&Keys>,
+    request: &Request,
+) -> Result<bool, AllocError>
+    ensures value { IfOk result (λ it.
+        it ≡ has_false_signature (option_copied keys.entry) request.now.ask) }
+    ensures memory { IsErr result
+        → IsTrue (has_signature (option_copied keys.entry) request.now.ask) }
+{
+    match is_true(alloc, keys, request)? {
+        Some(is_true) => Ok(!is_true),
+        None => Ok(false),
+    }
+}
+
+/// A signature is true if and only if the signature part of the request's own route holds: the claim or the token can be read, the
+/// pair is of the path's account, a token is for what the request names, and one of the two keys gives the signature.
+pub fn a_true_signature_is_the_routes_own()
+    ensures { (pair : Keys) (q : Ask)
+        → IsTrue (has_true_signature (Some pair) q) ↔ IsSigned pair q }
+{}

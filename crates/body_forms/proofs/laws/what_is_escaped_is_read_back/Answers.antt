@@ -1,5 +1,0 @@
-use Rattle.body_forms.proofs.EscapeLemmas.{read_back}
-use Rattle.body_forms.proofs.laws.what_is_escaped_is_read_back.Goals as goal
-
-pub returns : goal.returns
-returns c = read_back

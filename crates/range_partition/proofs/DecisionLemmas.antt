@@ -1,0 +1,175 @@
+-- What is decided on a request.
+use Rattle.std.proofs.Common.{◌≡◌, ◌≤◌, ◌<◌, ◌⊎◌, inl, inr, ℕ, ◌-◌, arith, false, List, [], ◌∷◌, ◌++◌, length, length-append, take, drop, Option, Some, None, refl, sym, ap, ◌∙◌, subst}
+use Rattle.std.proofs.lemmas.List.{append-nil, length-take}
+use Rattle.std.proofs.lemmas.List.Sums.{sum_by-cons}
+use Rattle.std.specs.Prelude.{Result, Ok, Err, IfOk}
+use Rattle.std.specs.Option.{option_map, option_or}
+use Rattle.std.specs.declared.alloc.AllocError.{AllocError}
+use Rattle.stamp_values.specs.Operations.{writes}
+use Rattle.stamp_values.specs.declared.key.Key.{Key}
+use Rattle.stamp_values.specs.declared.condition.ByteRange.{ByteRange}
+use Rattle.stamp_values.specs.declared.op.Op.{Op}
+use Rattle.stamp_values.specs.declared.op.Op.TheVariants as op
+use Rattle.stamp_types.specs.declared.committed.Block.{Block}
+use Rattle.stamp_types.specs.declared.committed.Committed.{Committed}
+use Rattle.stamp_types.specs.declared.piece.Piece.{Piece}
+use Rattle.stamp_types.specs.declared.refusal.Refusal.{Refusal}
+use Rattle.stamp_types.specs.declared.reply.Reply.{Reply}
+use Rattle.stamp_types.specs.declared.rule.Rule.{Rule}
+use Rattle.stamp_types.specs.declared.standing.Standing.{Standing}
+use Rattle.stamp_types.specs.Changes.{KeyedAct}
+use Rattle.stamp_types.specs.Pieces.{piece_bytes}
+use Rattle.stamp_types.specs.Requests.{Asked}
+use Rattle.stamp_types.specs.World.{Blob, Part, World}
+use Rattle.access_rules.specs.declared.judgement.Verdict.TheVariants.{Allow, Deny}
+use Rattle.access_rules.specs.declared.judgement.Way.{Way}
+use Rattle.access_rules.specs.declared.keys.Keys.{Keys}
+use Rattle.access_rules.specs.Rules.{first_rule, verdict_by, verdict_of, way_of}
+use Rattle.row_trees.specs.Access.{acl_of}
+use Rattle.range_rows.specs.declared.answer.Span.{Span}
+use Rattle.row_trees.specs.FoundParts.{sizes_found}
+use Rattle.range_rows.specs.Judgements.{IsAllowed, blocks_found}
+use Rattle.range_rows.specs.NamedBlobs.{target_blob}
+use Rattle.range_rows.specs.declared.judged.Allowed.{Allowed}
+use Rattle.range_rows.specs.declared.target.Target.{Target}
+use Rattle.range_rows.specs.Frames.{blob_read, frame, frame_by, ranged_frame, standing_read}
+use Rattle.range_rows.specs.SentContent.{span_bytes, spans, spans_by, spans_len}
+use Rattle.range_rows.specs.ObjectRules.{object_refusal}
+use Rattle.range_rows.specs.RequestChanges.{change_of}
+use Rattle.range_rows.proofs.FrameLemmas.{act_by-read}
+use Rattle.stamp_model.specs.Refusals.{access_refusal}
+use Rattle.stamp_model.proofs.EffectLemmas.{on_key}
+use Rattle.stamp_model.proofs.ReplyLemmas.{unrefused}
+use Rattle.range_partition.specs.Decisions.{bytes_held, decided_by, found_refusal, row_reply}
+use Rattle.range_partition.specs.declared.decision.Decision.{Decision}
+use Rattle.range_partition.specs.declared.decision.Decision.TheVariants as decision
+
+-- ---- the verdict
+
+denied_by : (rule : Option Rule) (way : Way) (r : Rule) → verdict_by rule way ≡ Deny r → rule ≡ Some r
+denied_by None way r e = cc
+denied_by (Some x) way r e = let same : x ≡ r = cc in ap Some same
+
+allowed_by : (rule : Option Rule) (way w : Way) → verdict_by rule way ≡ Allow w → rule ≡ None
+allowed_by None way w e = refl
+allowed_by (Some x) way w e = cc
+
+module _ (keys : Option Keys) (p : Part (List Piece)) (q : Asked) (t : ℕ) where
+  by_first : (o : Option Rule) → first_rule keys (acl_of p) q.ask t ≡ o → option_or (option_map access_refusal o) (object_refusal (sizes_found p) q) ≡ found_refusal keys p q t
+  by_first o e = sym (ap (λ (o : Option Rule). option_or (option_map access_refusal o) (object_refusal (sizes_found p) q)) e)
+
+  -- a verdict that denies gives the refusal
+  pub refusal_denied : (r : Rule) → Deny r ≡ verdict_of keys (acl_of p) q.ask t → Some (access_refusal r) ≡ found_refusal keys p q t
+  refusal_denied r e = by_first (Some r) (denied_by _ (way_of q.ask.credential) r (sym e))
+
+  -- a verdict that allows leaves the refusal to the object
+  pub refusal_allowed : (way : Way) → Allow way ≡ verdict_of keys (acl_of p) q.ask t → object_refusal (sizes_found p) q ≡ found_refusal keys p q t
+  refusal_allowed way e = by_first None (allowed_by _ (way_of q.ask.credential) way (sym e))
+
+  -- if nothing refuses a request, the object does not refuse it
+  pub unopposed : None ≡ found_refusal keys p q t → object_refusal (sizes_found p) q ≡ None
+  unopposed free = (unrefused keys (sizes_found p) q t (sym free)).unopposed
+
+-- ---- the decision
+
+-- a request that is decided to be refused has this refusal
+pub refused_by : (o : Option Refusal) (reply : Reply) (change : Option KeyedAct) (found : List (Block (List Piece))) (r : Refusal) → decision.Refused r ≡ decided_by o reply change found → o ≡ Some r
+refused_by None reply change found r e = cc
+refused_by (Some x) reply change found r e = let same : x ≡ r = cc in ap Some same
+
+-- nothing refuses a request that is decided to be allowed, and it has this reply, this change and these blocks
+pub allowed_with : (o : Option Refusal) (reply given : Reply) (change made : Option KeyedAct) (found blocks : List (Block (List Piece)))
+    → decision.Allowed given made blocks ≡ decided_by o reply change found → (o ≡ None) × (given ≡ reply) × (made ≡ change) × (blocks ≡ found)
+allowed_with None reply given change made found blocks e = (refl, ap reply_told e, ap change_told e, ap found_told e)
+  where
+    reply_told : Decision → Reply
+    reply_told (decision.Allowed r c bs) = r
+    reply_told (decision.Refused r) = reply
+
+    change_told : Decision → Option KeyedAct
+    change_told (decision.Allowed r c bs) = c
+    change_told (decision.Refused r) = None
+
+    found_told : Decision → List (Block (List Piece))
+    found_told (decision.Allowed r c bs) = bs
+    found_told (decision.Refused r) = []
+allowed_with (Some x) reply given change made found blocks e = cc
+
+module _ (w : World (List Piece)) (q : Asked) (t : ℕ) (bound : Option Key) where
+  -- what is decided on a permitted request, from its container
+  abbrev permitted : Part (List Piece) → Decision
+  permitted p = decided_by (object_refusal (sizes_found p) q) (row_reply w p q t bound) (change_of (sizes_found p) q t) (blocks_found p q).blocks
+
+  -- a request that the object refuses is refused by this
+  pub object_refused : (p : Part (List Piece)) (r : Refusal) → Some r ≡ object_refusal (sizes_found p) q → decision.Refused r ≡ permitted p
+  object_refused p r is = ap (λ o. decided_by o (row_reply w p q t bound) (change_of (sizes_found p) q t) (blocks_found p q).blocks) is
+
+  -- a request that nothing refuses has its reply, its change and its blocks
+  allowed_decided : (a : Allowed) (target : Target) → IsAllowed a q → a.target ≡ target
+      → decision.Allowed (row_reply w a.target.container q t bound) (change_of (sizes_found a.target.container) q t) a.found.blocks ≡ permitted target.container
+  allowed_decided a target is same =
+      (λ i. decided_by (sym is.1 i) (row_reply w a.target.container q t bound) (change_of (sizes_found a.target.container) q t) (is.2 i).blocks)
+      ∙ ap (λ (target : Target). permitted target.container) same
+
+  pub given_allowed : (a : Allowed) (target : Target) (given : Result Decision AllocError) → IsAllowed a q → a.target ≡ target
+      → IfOk given (λ given. given ≡ decision.Allowed (row_reply w a.target.container q t bound) (change_of (sizes_found a.target.container) q t) a.found.blocks)
+      → IfOk given (λ given. given ≡ permitted target.container)
+  given_allowed a target (Ok given) is same made = made ∙ allowed_decided a target is same
+  given_allowed a target (Err fault) is same made = tt
+
+-- ---- memory
+
+shortened : (n : ℕ) (bs : List ℕ) (from : ℕ) → length (take n (drop from bs)) ≤ n
+shortened n bs from = omega (arith, length-take n (drop from bs))
+
+length-bytes_held : (ss : List Span) → length (bytes_held ss) ≤ spans_len ss
+length-bytes_held [] = omega arith
+length-bytes_held (s ∷ ss) =
+    omega (arith, length-append (span_bytes piece_bytes s) (bytes_held ss), shortened (s.to - s.from) (piece_bytes s.piece) s.from, length-bytes_held ss, sum_by-cons (λ (s : Span). s.to - s.from) s ss)
+
+ranged_body : (range : Option ByteRange) (c : Committed ℕ) → (ranged_frame range c).body ≡ []
+ranged_body None c = refl
+ranged_body (Some r) c = refl
+
+-- a frame has no body of its own, or nothing goes out after it
+one_body : (o : Op) (q : Asked) (s : Standing) (c : Committed ℕ) (b : Blob ℕ) (range : Option ByteRange) (d : Committed (List Piece))
+    → ((frame_by o q s c b).body ≡ []) ⊎ (spans_by o range d ≡ [])
+one_body op.CreateContainer q s c b range d = inl refl
+one_body op.ContainerProperties q s c b range d = inl refl
+one_body op.SetContainerMetadata q s c b range d = inl refl
+one_body op.DeleteContainer q s c b range d = inl refl
+one_body op.PutBlob q s c b range d = inl refl
+one_body op.GetBlob q s c b range d = inl (ranged_body q.ask.args.range c)
+one_body op.BlobProperties q s c b range d = inl refl
+one_body op.GetMetadata q s c b range d = inl refl
+one_body op.SetMetadata q s c b range d = inl refl
+one_body op.DeleteBlob q s c b range d = inl refl
+one_body op.PutBlock q s c b range d = inl refl
+one_body op.PutBlockList q s c b range d = inl refl
+one_body op.GetAcl q s c b range d = inr refl
+one_body op.GetBlockList q s c b range d = inr refl
+one_body other q s c b range d = inl refl
+
+fits_by : (body : List ℕ) (ss : List Span) → (body ≡ []) ⊎ (ss ≡ []) → length body < 18446744073709551616 → spans_len ss ≤ 268435456
+    → length (body ++ bytes_held ss) < 18446744073709551616
+fits_by body ss (inl none) held short =
+    subst (λ (bs : List ℕ). length (bs ++ bytes_held ss) < 18446744073709551616) (sym none) (omega (arith, length-bytes_held ss, short))
+fits_by body ss (inr none) held short =
+    subst (λ (ss : List Span). length (body ++ bytes_held ss) < 18446744073709551616) (sym none) (subst (λ (bs : List ℕ). length bs < 18446744073709551616) (sym (append-nil body)) held)
+
+-- a reply with its content fits in memory
+pub fits_memory : (r : Reply) (p : Part ℕ) (d : Part (List Piece)) (q : Asked) (ss : List Span) (n : ℕ) → r ≡ frame p q → ss ≡ spans d q
+    → n ≡ length r.body → n < 18446744073709551616 → spans_len ss ≤ 268435456 → length (r.body ++ bytes_held ss) < 18446744073709551616
+fits_memory r p d q ss n is out counted held short =
+    fits_by r.body ss
+    (subst (λ (r : Reply). (r.body ≡ []) ⊎ (ss ≡ [])) (sym is)
+    (subst (λ (ss : List Span). ((frame p q).body ≡ []) ⊎ (ss ≡ [])) (sym out)
+    (one_body q.ask.op q (standing_read p) (blob_read p q.ask) (target_blob p q.ask) q.ask.args.range (blob_read d q.ask))))
+    (subst (λ n. n < 18446744073709551616) counted held)
+    short
+
+-- ---- the change
+
+-- a request that reads has no change
+pub no_change : (z : Part ℕ) (q : Asked) (t : ℕ) → writes q.ask.op ≡ false → None ≡ change_of z q t
+no_change z q t reads = sym (ap (option_map (on_key q.ask.key)) (act_by-read z q t q.ask.op reads))

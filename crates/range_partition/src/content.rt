@@ -1,0 +1,41 @@
+//! The content that a reply sends.
+ghost use Rattle.std.specs.Prelude.{◌≡◌, ◌+◌, ◌^◌, ◌<◌, ◌++◌, IfOk, IsTrue, OnOk, length};
+ghost use Rattle.std.specs.List.{list_all};
+ghost use Rattle.range_rows.specs.SentContent.{is_within, with_content};
+ghost use Rattle.range_partition.specs.Decisions.{bytes_held};
+
+use range_rows::{Answer, Span};
+use stamp_types::{Piece, Reply, Shares};
+use std::alloc::AllocError;
+
+// Puts the bytes of the spans after the bytes of the body, and copies no byte. A piece that is a place in a stream has no
+// bytes in memory.
+fn push_spans(body: &mut Shares, spans: &[Span]) -> Result<(), AllocError>
+    requires within { IsTrue (list_all is_within spans.now) }
+    requires short { length (body.old ++ bytes_held spans.now) < 2 ^ 64 }
+    ensures { OnOk result (body.new ≡ body.old ++ bytes_held spans.now) }
+{
+    let mut left = spans;
+    while let [first, rest @ ..] = left {
+        if let Piece::Bytes(share) = &first.piece {
+            body.push(share.slice(first.from as usize, first.to as usize)?)?;
+        }
+        left = rest;
+    }
+    Ok(())
+}
+
+/// The reply of an answer: its frame with the bytes of its spans, which are held in memory.
+///
+/// `AllocError` if memory runs out for the list of shares, or if an allocation can have no further owner.
+pub(crate) fn reply_with_content(answer: Answer) -> Result<Reply, AllocError>
+    requires within { IsTrue (list_all is_within answer.spans) }
+    requires short { length (answer.frame.body ++ bytes_held answer.spans) < 2 ^ 64 }
+    ensures { IfOk result (λ reply.
+        reply ≡ with_content answer.frame (bytes_held answer.spans)) }
+{
+    let Answer { frame, spans } = answer;
+    let mut reply = frame;
+    push_spans(&mut reply.body, spans.as_slice())?;
+    Ok(reply)
+}

@@ -1,0 +1,46 @@
+//! Tests of extents, streams, records and the streams of a partition, by their public calls, over written deliveries.
+#![tactic(auto)]
+
+#[cfg(test)]
+mod append_tests;
+#[cfg(test)]
+mod call_tests;
+#[cfg(test)]
+mod data_tests;
+#[cfg(test)]
+mod every_delivery_tests;
+#[cfg(test)]
+mod extent_tests;
+#[cfg(test)]
+mod log_tests;
+#[cfg(test)]
+mod partition_samples;
+#[cfg(test)]
+mod partition_share_tests;
+#[cfg(test)]
+mod plain_stream;
+mod put_first;
+#[cfg(test)]
+mod record_byte_tests;
+#[cfg(test)]
+mod record_read_tests;
+#[cfg(test)]
+mod record_row_tests;
+#[cfg(test)]
+mod record_values;
+#[cfg(test)]
+mod record_write_tests;
+#[cfg(test)]
+mod sample_acts;
+#[cfg(test)]
+mod sample_fields;
+#[cfg(test)]
+mod sample_places;
+#[cfg(test)]
+mod sample_records;
+#[cfg(test)]
+mod sample_wires;
+#[cfg(test)]
+mod stream_samples;
+#[cfg(test)]
+mod stream_share_tests;

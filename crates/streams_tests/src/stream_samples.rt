@@ -1,0 +1,74 @@
+//! Blocks of a stream, and the answers of its calls, for tests.
+use crate::sample_places::place;
+use extent_node::Script;
+use extent_seal::ReadFault;
+use stamp_values::{Place, Share};
+use std::alloc::Global;
+use std::process::Abort;
+use stream_manager::{AppendFault, SettleFault, Settled, Stream};
+
+/// What a call answered.
+#[derive(Clone, Copy, Debug, PartialEq, Eq)]
+pub(crate) enum Told {
+    /// The block is at this extent and this index.
+    At(u64, u64),
+    TooLarge,
+    NoMemory,
+    Busy,
+    Doubt,
+    Clean,
+    Dropped,
+    /// The first byte of the block that was read, and how many bytes it has.
+    Read(u8, usize),
+    Unreachable,
+    /// There is no block to read.
+    Nothing,
+}
+
+/// A block of so many equal bytes.
+pub(crate) fn block(rt: &impl Abort, alloc: Global, byte: u8, len: usize) -> Share {
+    let bytes = vec![in alloc; byte; len].expect(rt, "memory");
+    Share::new(alloc, bytes).expect(rt, "memory")
+}
+
+fn at(place: Place) -> Told {
+    Told::At(place.extent, place.index)
+}
+
+/// Appends a block.
+pub(crate) fn append(stream: &mut Stream, block: &Share, wire: &mut Script) -> Told {
+    match stream.append(block, wire) {
+        Ok(place) => at(place),
+        Err(AppendFault::TooLarge) => Told::TooLarge,
+        Err(AppendFault::NoMemory) => Told::NoMemory,
+        Err(AppendFault::Busy) => Told::Busy,
+        Err(AppendFault::Doubt) => Told::Doubt,
+    }
+}
+
+/// Settles a doubt.
+pub(crate) fn settle(stream: &mut Stream, wire: &mut Script) -> Told {
+    match stream.settle(wire) {
+        Ok(Settled::Clean) => Told::Clean,
+        Ok(Settled::Kept(place)) => at(place),
+        Ok(Settled::Dropped) => Told::Dropped,
+        Err(SettleFault::Busy) => Told::Busy,
+        Err(SettleFault::NoMemory) => Told::NoMemory,
+    }
+}
+
+/// Reads the block at a place, if there is one.
+pub(crate) fn read(stream: &Stream, extent: u64, index: u64, wire: &mut Script) -> Told {
+    let place = place(extent, index);
+    if !stream.has_block(place) {
+        return Told::Nothing;
+    }
+    match stream.read(place, wire) {
+        Ok(block) => match block.as_slice() {
+            [] => Told::Read(0, 0),
+            [first, ..] => Told::Read(*first, block.len()),
+        },
+        Err(ReadFault::Unreachable) => Told::Unreachable,
+        Err(ReadFault::NoMemory) => Told::NoMemory,
+    }
+}

@@ -1,0 +1,12 @@
+pub mod Bodies
+pub mod ElementReading
+pub mod Elements
+pub mod Escapes
+pub mod FrontReading
+pub mod Markup
+pub mod Reading
+pub mod Texts
+pub mod TokenReading
+pub mod Tokens
+pub mod WrittenElements
+pub mod WrittenTokens
