@@ -94,3 +94,28 @@ fn a_read_that_fails_passes_no_change(rt: HostRuntime) {
     let mut streams = streams(&rt, rt.alloc(), 1_000_000);
     fail_a_read(&rt, rt.alloc(), &mut *streams);
 }
+
+// A hundred thousand names, of which every third is another one.
+fn many_names(rt: &impl Abort, alloc: Global) -> Vec<&'static str> {
+    let mut names = Vec::with_capacity(alloc, 100_000).expect(rt, "memory");
+    for at in 0..100_000 {
+        let name = if at % 3 == 0 { "one" } else { "two" };
+        names.push(name).expect(rt, "memory");
+    }
+    names
+}
+
+fn log_many(rt: &impl Abort, alloc: Global, streams: &mut Streams) {
+    let names = many_names(rt, alloc);
+    let mut wire = script(rt, alloc, &[], &[]);
+    for name in names.as_slice() {
+        assert!(rt; log(rt, alloc, streams, name, &mut wire) == Told::Done);
+    }
+    assert!(rt; keeps(rt, alloc, streams, names.as_slice()));
+}
+
+#[test]
+fn a_hundred_thousand_changes_come_back_in_their_order(rt: HostRuntime) {
+    let mut streams = streams(&rt, rt.alloc(), 1_000_000);
+    log_many(&rt, rt.alloc(), &mut *streams);
+}

@@ -1,8 +1,10 @@
 //! Bytes that are not records: records without their end or with more bytes, and other versions.
 
 use crate::sample_records::{
-    container_row, create_container, delete_blob, delete_container, put_blob, put_block,
-    put_block_list, set_acl, set_container_metadata, set_metadata, stored_blob,
+    committed_blob, container_row, create_container, delete_blob, delete_container,
+    deleted_container_row, put_blob, put_blob_of_no_pieces, put_blob_of_two_pieces, put_block,
+    put_block_list, set_acl, set_acl_with_expiries, set_container_metadata, set_metadata,
+    stored_blob, uncommitted_blob,
 };
 use log_record::{RecordFault, read_change};
 use std::alloc::Global;
@@ -36,6 +38,17 @@ fn a_record_without_its_end_is_refused(rt: HostRuntime) {
     assert!(rt; are_cuts_refused(alloc, put_block_list()));
     assert!(rt; are_cuts_refused(alloc, container_row()));
     assert!(rt; are_cuts_refused(alloc, stored_blob()));
+}
+
+#[test]
+fn a_record_of_another_form_without_its_end_is_refused(rt: HostRuntime) {
+    let alloc = rt.alloc();
+    assert!(rt; are_cuts_refused(alloc, set_acl_with_expiries()));
+    assert!(rt; are_cuts_refused(alloc, put_blob_of_no_pieces()));
+    assert!(rt; are_cuts_refused(alloc, put_blob_of_two_pieces()));
+    assert!(rt; are_cuts_refused(alloc, deleted_container_row()));
+    assert!(rt; are_cuts_refused(alloc, committed_blob()));
+    assert!(rt; are_cuts_refused(alloc, uncommitted_blob()));
 }
 
 #[test]

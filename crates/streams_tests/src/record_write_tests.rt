@@ -1,4 +1,4 @@
-//! That a change of each kind is written as its record, and that the record is read as the change.
+//! That changes of each kind are written as their records, and that the records are read as these changes.
 //! The bytes are from outside.
 
 use crate::sample_fields::key;
@@ -107,4 +107,88 @@ fn a_row_of_a_container_is_written_and_read(rt: HostRuntime) {
 fn a_row_of_a_blob_is_written_and_read(rt: HostRuntime) {
     let act = sample_acts::stored_blob(&rt, rt.alloc());
     assert!(rt; both_ways(&rt, rt.alloc(), act, sample_records::stored_blob()));
+}
+
+#[test]
+fn a_policy_with_an_expiry_is_written_and_read(rt: HostRuntime) {
+    let act = sample_acts::set_acl_with_expiries(&rt, rt.alloc());
+    assert!(rt;
+        both_ways(
+            &rt,
+            rt.alloc(),
+            act,
+            sample_records::set_acl_with_expiries()
+        )
+    );
+}
+
+#[test]
+fn content_of_no_pieces_is_written_and_read(rt: HostRuntime) {
+    let act = sample_acts::put_blob_of_no_pieces(&rt, rt.alloc());
+    assert!(rt;
+        both_ways(
+            &rt,
+            rt.alloc(),
+            act,
+            sample_records::put_blob_of_no_pieces()
+        )
+    );
+}
+
+#[test]
+fn content_of_two_pieces_is_written_and_read(rt: HostRuntime) {
+    let act = sample_acts::put_blob_of_two_pieces(&rt, rt.alloc());
+    assert!(rt;
+        both_ways(
+            &rt,
+            rt.alloc(),
+            act,
+            sample_records::put_blob_of_two_pieces()
+        )
+    );
+}
+
+#[test]
+fn a_row_of_a_deleted_container_is_written_and_read(rt: HostRuntime) {
+    let act = sample_acts::deleted_container_row();
+    assert!(rt;
+        both_ways(
+            &rt,
+            rt.alloc(),
+            act,
+            sample_records::deleted_container_row()
+        )
+    );
+}
+
+#[test]
+fn a_row_of_committed_blocks_alone_is_written_and_read(rt: HostRuntime) {
+    let act = sample_acts::committed_blob(&rt, rt.alloc());
+    assert!(rt; both_ways(&rt, rt.alloc(), act, sample_records::committed_blob()));
+}
+
+#[test]
+fn a_row_of_uncommitted_blocks_alone_is_written_and_read(rt: HostRuntime) {
+    let act = sample_acts::uncommitted_blob(&rt, rt.alloc());
+    assert!(rt; both_ways(&rt, rt.alloc(), act, sample_records::uncommitted_blob()));
+}
+
+// The record of a Put Block List with as many entries as a list may have.
+fn longest_list(rt: &impl Abort, alloc: Global) -> Vec<u8> {
+    let mut record = sample_records::before_longest_list()
+        .to_vec(alloc)
+        .expect(rt, "memory");
+    for _ in 0..50_000 {
+        record
+            .extend_from_slice(sample_records::entry_of_longest_list())
+            .expect(rt, "memory");
+    }
+    record
+}
+
+#[test]
+fn a_block_list_of_50000_entries_is_written_and_read(rt: HostRuntime) {
+    let act = sample_acts::put_longest_list(&rt, rt.alloc());
+    let record = longest_list(&rt, rt.alloc());
+    assert!(rt; both_ways(&rt, rt.alloc(), act, &record));
 }

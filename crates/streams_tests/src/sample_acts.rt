@@ -1,6 +1,9 @@
 //! What a change of each kind does, for tests.
 
-use crate::sample_fields::{acl, bare, five, hello, id, meta, metadata, noon, plain, red, text};
+use crate::sample_fields::{
+    acl, acl_with_expiries, bare, five, hello, id, meta, metadata, noon, plain, red, text,
+    two_pieces,
+};
 use stamp_types::{
     Act, Block, Committed, ContainerRow, CreateContainer, DeleteBlob, Items, Level, Pieces,
     PutBlob, PutBlock, PutBlockList, SetAcl, SetContainerMetadata, SetMetadata, Source, Standing,
@@ -8,6 +11,8 @@ use stamp_types::{
 };
 use std::alloc::Global;
 use std::process::Abort;
+
+const LONGEST_ID: &[u8] = b"iiiiiiiiiiiiiiiiiiiiiiiiiiiiiiiiiiiiiiiiiiiiiiiiiiiiiiiiiiiiiiii";
 
 pub(crate) fn create_container(rt: &impl Abort, alloc: Global) -> Act {
     Act::CreateContainer(CreateContainer {
@@ -34,14 +39,33 @@ pub(crate) fn set_acl(rt: &impl Abort, alloc: Global) -> Act {
     })
 }
 
-pub(crate) fn put_blob(rt: &impl Abort, alloc: Global) -> Act {
+pub(crate) fn set_acl_with_expiries(rt: &impl Abort, alloc: Global) -> Act {
+    Act::SetAcl(SetAcl {
+        moment: noon(rt),
+        acl: acl_with_expiries(rt, alloc, Level::Closed),
+    })
+}
+
+fn put_blob_of(rt: &impl Abort, alloc: Global, content: Pieces) -> Act {
     Act::PutBlob(PutBlob {
         blob: text(rt, alloc, "a.txt"),
         moment: noon(rt),
         props: plain(rt, alloc),
         metadata: red(rt, alloc),
-        content: five(rt, alloc),
+        content,
     })
+}
+
+pub(crate) fn put_blob(rt: &impl Abort, alloc: Global) -> Act {
+    put_blob_of(rt, alloc, five(rt, alloc))
+}
+
+pub(crate) fn put_blob_of_no_pieces(rt: &impl Abort, alloc: Global) -> Act {
+    put_blob_of(rt, alloc, Pieces::empty(alloc))
+}
+
+pub(crate) fn put_blob_of_two_pieces(rt: &impl Abort, alloc: Global) -> Act {
+    put_blob_of(rt, alloc, two_pieces(rt, alloc))
 }
 
 pub(crate) fn set_metadata(rt: &impl Abort, alloc: Global) -> Act {
@@ -78,14 +102,35 @@ fn entries(rt: &impl Abort, alloc: Global) -> Items<Taken> {
     Items::new(vec![in alloc; first, second].expect(rt, "memory"))
 }
 
-pub(crate) fn put_block_list(rt: &impl Abort, alloc: Global) -> Act {
+// As many entries as a list may have, each with an id of 64 bytes.
+fn most_entries(rt: &impl Abort, alloc: Global) -> Items<Taken> {
+    let mut entries = Vec::with_capacity(alloc, 50_000).expect(rt, "memory");
+    for _ in 0..50_000 {
+        let entry = Taken {
+            id: id(rt, alloc, LONGEST_ID),
+            from: Source::Uncommitted,
+        };
+        entries.push(entry).expect(rt, "memory");
+    }
+    Items::new(entries)
+}
+
+fn put_block_list_of(rt: &impl Abort, alloc: Global, entries: Items<Taken>) -> Act {
     Act::PutBlockList(PutBlockList {
         blob: text(rt, alloc, "a.txt"),
         moment: noon(rt),
         props: bare(rt, alloc),
         metadata: red(rt, alloc),
-        entries: entries(rt, alloc),
+        entries,
     })
+}
+
+pub(crate) fn put_block_list(rt: &impl Abort, alloc: Global) -> Act {
+    put_block_list_of(rt, alloc, entries(rt, alloc))
+}
+
+pub(crate) fn put_longest_list(rt: &impl Abort, alloc: Global) -> Act {
+    put_block_list_of(rt, alloc, most_entries(rt, alloc))
 }
 
 pub(crate) fn container_row(rt: &impl Abort, alloc: Global) -> Act {
@@ -98,25 +143,75 @@ pub(crate) fn container_row(rt: &impl Abort, alloc: Global) -> Act {
     Act::ContainerRow(ContainerRow { count: 7, standing })
 }
 
-// A committed part of one block, which has no id.
-fn committed(rt: &impl Abort, alloc: Global) -> Committed<Pieces> {
-    let content = five(rt, alloc);
+pub(crate) fn deleted_container_row() -> Act {
+    Act::ContainerRow(ContainerRow {
+        count: 7,
+        standing: None,
+    })
+}
+
+fn committed(rt: &impl Abort, alloc: Global, blocks: Vec<Block<Pieces>>) -> Committed<Pieces> {
     Committed {
         etag: 5,
         made: noon(rt),
         props: plain(rt, alloc),
         metadata: red(rt, alloc),
-        blocks: Items::new(vec![in alloc; Block { id: None, content }].expect(rt, "memory")),
+        blocks: Items::new(blocks),
     }
 }
 
+fn blob_row(
+    rt: &impl Abort,
+    alloc: Global,
+    committed: Option<Committed<Pieces>>,
+    uncommitted: Vec<UncommittedBlock>,
+) -> Act {
+    Act::StoredBlob(StoredBlob {
+        blob: text(rt, alloc, "a.txt"),
+        committed,
+        uncommitted: Items::new(uncommitted),
+    })
+}
+
+// A blob whose one committed block has no id, with one uncommitted block.
 pub(crate) fn stored_blob(rt: &impl Abort, alloc: Global) -> Act {
+    let content = five(rt, alloc);
+    let blocks = vec![in alloc; Block { id: None, content }].expect(rt, "memory");
     let id = id(rt, alloc, b"one");
     let content = five(rt, alloc);
     let uncommitted = vec![in alloc; UncommittedBlock { id, content }].expect(rt, "memory");
-    Act::StoredBlob(StoredBlob {
-        blob: text(rt, alloc, "a.txt"),
-        committed: Some(committed(rt, alloc)),
-        uncommitted: Items::new(uncommitted),
-    })
+    blob_row(rt, alloc, Some(committed(rt, alloc, blocks)), uncommitted)
+}
+
+// A blob of two committed blocks, of which the second has no bytes.
+pub(crate) fn committed_blob(rt: &impl Abort, alloc: Global) -> Act {
+    let first = Block {
+        id: Some(id(rt, alloc, b"one")),
+        content: five(rt, alloc),
+    };
+    let second = Block {
+        id: Some(id(rt, alloc, b"two")),
+        content: Pieces::empty(alloc),
+    };
+    let blocks = vec![in alloc; first, second].expect(rt, "memory");
+    blob_row(
+        rt,
+        alloc,
+        Some(committed(rt, alloc, blocks)),
+        Vec::new(alloc),
+    )
+}
+
+// A blob of two uncommitted blocks, of which the second has no bytes.
+pub(crate) fn uncommitted_blob(rt: &impl Abort, alloc: Global) -> Act {
+    let first = UncommittedBlock {
+        id: id(rt, alloc, b"one"),
+        content: five(rt, alloc),
+    };
+    let second = UncommittedBlock {
+        id: id(rt, alloc, b"two"),
+        content: Pieces::empty(alloc),
+    };
+    let uncommitted = vec![in alloc; first, second].expect(rt, "memory");
+    blob_row(rt, alloc, None, uncommitted)
 }

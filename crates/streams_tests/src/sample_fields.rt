@@ -23,6 +23,11 @@ pub(crate) fn noon(rt: &impl Abort) -> Moment {
     Moment::new(13_490_928_000_000_000).expect(rt, "a moment")
 }
 
+// An hour later.
+fn one(rt: &impl Abort) -> Moment {
+    Moment::new(13_490_964_000_000_000).expect(rt, "a moment")
+}
+
 pub(crate) fn key(rt: &impl Abort, alloc: Global) -> Key {
     Key {
         account: text(rt, alloc, "devstoreaccount1"),
@@ -65,12 +70,38 @@ fn all(rt: &impl Abort, alloc: Global) -> Policy {
     }
 }
 
-// The level, and two stored policies.
-pub(crate) fn acl(rt: &impl Abort, alloc: Global, level: Level) -> Acl {
-    let first = readers(rt, alloc);
-    let second = all(rt, alloc);
+fn late(rt: &impl Abort, alloc: Global) -> Policy {
+    Policy {
+        id: text(rt, alloc, "late"),
+        start: None,
+        expiry: Some(one(rt)),
+        letters: Letters::new(false, true, false, false),
+    }
+}
+
+fn hour(rt: &impl Abort, alloc: Global) -> Policy {
+    Policy {
+        id: text(rt, alloc, "hour"),
+        start: Some(noon(rt)),
+        expiry: Some(one(rt)),
+        letters: Letters::new(true, true, true, true),
+    }
+}
+
+fn policies(rt: &impl Abort, alloc: Global, first: Policy, second: Policy) -> Policies {
     let policies = vec![in alloc; first, second].expect(rt, "memory");
-    let policies = Policies::new(Items::new(policies)).expect(rt, "good policies");
+    Policies::new(Items::new(policies)).expect(rt, "good policies")
+}
+
+// The level, and two stored policies without an expiry.
+pub(crate) fn acl(rt: &impl Abort, alloc: Global, level: Level) -> Acl {
+    let policies = policies(rt, alloc, readers(rt, alloc), all(rt, alloc));
+    Acl { level, policies }
+}
+
+// The level, and two stored policies with an expiry.
+pub(crate) fn acl_with_expiries(rt: &impl Abort, alloc: Global, level: Level) -> Acl {
+    let policies = policies(rt, alloc, late(rt, alloc), hour(rt, alloc));
     Acl { level, policies }
 }
 
@@ -108,6 +139,21 @@ pub(crate) fn five(rt: &impl Abort, alloc: Global) -> Pieces {
     let place = place(1, 258);
     let pieces = vec![in alloc; Piece::At { place, length: 5 }].expect(rt, "memory");
     Pieces::new(pieces).expect(rt, "a good piece")
+}
+
+// 4,194,305 bytes at two places.
+pub(crate) fn two_pieces(rt: &impl Abort, alloc: Global) -> Pieces {
+    let (first, last) = (place(1, 258), place(2, 0));
+    let first = Piece::At {
+        place: first,
+        length: 4_194_304,
+    };
+    let last = Piece::At {
+        place: last,
+        length: 1,
+    };
+    let pieces = vec![in alloc; first, last].expect(rt, "memory");
+    Pieces::new(pieces).expect(rt, "two good pieces")
 }
 
 // Five bytes that the piece holds.
