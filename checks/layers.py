@@ -126,7 +126,7 @@ def untold_tests(page):
     """Crates of tests that the table of crates names and that do not exist, or that it does not name."""
     named = {it for _, tests in rows_by_hand(table_of(page)).values() for it in re.findall(r"`(\w+)`", tests)}
     tests = {*tree.crates_of_tests()}
-    yield from (f"docs/architecture.md: {it} is no crate of tests" for it in sorted(named - tests))
+    yield from (f"docs/architecture.md: {it} is not a crate of tests" for it in sorted(named - tests))
     yield from (f"docs/architecture.md: no crate has its tests in {it}" for it in sorted(tests - named))
 
 

@@ -22,7 +22,7 @@ PART = re.compile(
     r"""|"(?:\\.|[^"\\])*"|/\*.*?\*/|//[^\n]*""",
     re.S,
 )
-# What stands for the end of a line inside of a text, so that no line of the text is taken for a blank one.
+# What replaces the end of a line inside of a text, so that no line of the text is taken for a blank one.
 LINE_OF_TEXT = "\0"
 
 

@@ -4,7 +4,7 @@
 usage: examples/with-stamp examples/clients/library.py
 
 STAMP_URL, STAMP_ACCOUNT and STAMP_KEY name the server; examples/with-stamp sets them. Each check prints a line. Status 1 if a check failed. If no
-python3 of this machine has the library, a line says so. The library speaks a newer version, so as-2012 stands between.
+python3 of this machine has the library, a line says so. The library speaks a newer version, so as-2012 goes between.
 """
 import logging
 import os

@@ -6,7 +6,7 @@
 # STAMP_URL, STAMP_ACCOUNT and STAMP_KEY name the server; examples/with-stamp sets them. Each step prints a line. The session ends at the first step
 # that fails, with status 1. It makes two containers and deletes them at its end. checks/clients runs it if rclone is here.
 #
-# rclone speaks a newer version of the service, so as-2012 stands between. A guest brings a token for one container, and the owner signs by the key.
+# rclone speaks a newer version of the service, so as-2012 goes between. A guest brings a token for one container, and the owner signs by the key.
 # rclone itself tries nothing twice here, so a request that fails is seen.
 . "$(dirname "$(readlink -f "$0")")/steps.sh"
 need rclone python3 cmp diff

@@ -6,7 +6,7 @@
 # STAMP_URL and STAMP_KEY name the server, whose account has to be devstoreaccount1; examples/with-stamp sets them. Each step prints a line. The session
 # ends at the first step that fails, with status 1. checks/clients runs it if restic is here.
 #
-# restic speaks a newer version of the service, so as-2012 stands between. For devstoreaccount1 restic goes to port 10000 of 127.0.0.1 by HTTP, whatever
+# restic speaks a newer version of the service, so as-2012 goes between. For devstoreaccount1 restic goes to port 10000 of 127.0.0.1 by HTTP, whatever
 # else is set. So that port has to be free. It signs by the emulator's key, whatever AZURE_ACCOUNT_KEY is; as-2012 signs again by the server's key.
 . "$(dirname "$(readlink -f "$0")")/steps.sh"
 need restic python3 diff
