@@ -1,9 +1,12 @@
 pub mod ClaimLemmas
+pub mod DateLemmas
 pub mod JudgeLemmas
 pub mod KeyLemmas
 pub mod LetterLemmas
+pub mod OrderLemmas
 pub mod RouteLaw
 pub mod SignatureLemmas
+pub mod StringLemmas
 pub mod TokenLaws
 pub mod TokenLemmas
 pub mod TokenRouteLaw

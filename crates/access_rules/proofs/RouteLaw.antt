@@ -17,9 +17,11 @@ use Rattle.shared_key.specs.Authorizations.{Claim}
 use Rattle.access_rules.specs.declared.keys.Keys.{Keys}
 use Rattle.access_rules.proofs.ClaimLemmas.{claimed, claims}
 use Rattle.access_rules.proofs.KeyLemmas.{keys_found, found_keys, either, of_either}
+use Rattle.access_rules.proofs.DateLemmas.{date_text_is, is_date_text}
+use Rattle.access_rules.specs.Dates.{AreWithin}
 use Rattle.access_rules.specs.Needs.{need_of}
 use Rattle.moment_text.specs.Http.{http_moment}
-use Rattle.access_rules.specs.Parts.{claim_in, keys_for, date_text, date_in, string_of, leeway, is_far, is_signed}
+use Rattle.access_rules.specs.Parts.{claim_in, keys_for, date_text, date_in, string_of, is_far, is_signed}
 use Rattle.access_rules.specs.Rules.{first_rule, some_passes, allows_less}
 use Rattle.access_rules.specs.Routes.{ByKey, ByPublic, Admits}
 use Rattle.access_rules.proofs.TokenRouteLaw.{by_token}
@@ -40,11 +42,11 @@ found_date text t date is named = ap (λ o. option_and_then (λ t. result_ok (ht
 
 -- ---- the tests of the key route
 
-near : (t date : ℕ) → is_far t date ≡ false → (t ≤ date + leeway) × (date ≤ t + leeway)
+near : (t date : ℕ) → is_far t date ≡ false → AreWithin 900 t date
 near t date h = (grind (arith, nat_tests), grind (arith, nat_tests))
 
-is_near : (t date : ℕ) → t ≤ date + leeway → date ≤ t + leeway → is_far t date ≡ false
-is_near t date p q = grind (arith, nat_tests)
+is_near : (t date : ℕ) → AreWithin 900 t date → is_far t date ≡ false
+is_near t date (p, q) = grind (arith, nat_tests)
 
 -- the rules of the key route, over what they look at: the claim, the test that its account is the path's account, the keys,
 -- the date, the test that the date is far, and the test that a pair of keys gives the signature of the claim
@@ -121,7 +123,6 @@ module _ (keys : Option Keys) (q : Ask) (t : ℕ) where
       let given = claimed values p.the_claim p.claimed in
       let found = keys_found keys q.key.account p.the_pair p.paired in
       let day = date_found (date_text q.signing.headers) p.the_date p.dated in
-      let close = near t p.the_date p.not_far in
       record {
         value = given.0;
         once = asks ∙ ap Shared given.1;
@@ -132,11 +133,10 @@ module _ (keys : Option Keys) (q : Ask) (t : ℕ) where
         given = found.0;
         known = found.1;
         text = day.0;
-        dated = day.1;
+        dated = is_date_text q.signing.headers day.0 day.1;
         date = p.the_date;
         names = day.2;
-        not_early = close.0;
-        not_late = close.1;
+        near = near t p.the_date p.not_far;
         signed = either p.the_claim.signature (signature_of p.the_pair.first string) (signature_of p.the_pair.second string) p.signs;
       }
 
@@ -150,8 +150,8 @@ module _ (keys : Option Keys) (q : Ask) (t : ℕ) where
         the_pair = b.pair;
         paired = found_keys keys q.key.account b.pair b.given b.known;
         the_date = b.date;
-        dated = found_date (date_text q.signing.headers) b.text b.date b.dated b.names;
-        not_far = is_near t b.date b.not_early b.not_late;
+        dated = found_date (date_text q.signing.headers) b.text b.date (date_text_is q.signing.headers b.text b.dated) b.names;
+        not_far = is_near t b.date b.near;
         signs = of_either b.claim.signature (signature_of b.pair.first string) (signature_of b.pair.second string) b.signed;
       }
 

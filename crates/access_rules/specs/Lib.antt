@@ -1,7 +1,9 @@
+pub mod Dates
 pub mod Needs
 pub mod Openings
 pub mod Parts
 pub mod Routes
+pub mod RuleOrder
 pub mod Rules
 pub mod Signatures
 pub mod TokenParts

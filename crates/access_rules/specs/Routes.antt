@@ -17,8 +17,9 @@ use Rattle.moment_text.specs.Http.{http_moment}
 use Rattle.shared_key.specs.Authorizations.{Claim, Authorizes}
 use Rattle.access_rules.specs.declared.keys.Keys.{Keys}
 use Rattle.access_rules.specs.declared.needs.Letter.{Letter}
+use Rattle.access_rules.specs.Dates.{AreWithin, IsDateText}
 use Rattle.access_rules.specs.Needs.{need_of}
-use Rattle.access_rules.specs.Parts.{date_text, string_of, leeway}
+use Rattle.access_rules.specs.Parts.{string_of}
 use Rattle.access_rules.specs.TokenParts.{text_of, allows}
 
 -- Authorization was sent once and claims the path's account; the stamp has the keys of this account; the date of the request
@@ -33,11 +34,10 @@ pub record ByKey (keys : Option Keys) (q : Ask) (t : ℕ) : Type 0 where
   pub given : keys ≡ Some pair
   pub known : pair.account ≡ q.key.account
   pub text : List ℕ
-  pub dated : date_text q.signing.headers ≡ Some text
+  pub dated : IsDateText q.signing.headers text
   pub date : ℕ
   pub names : http_moment text ≡ Ok date
-  pub not_early : t ≤ date + leeway
-  pub not_late : date ≤ t + leeway
+  pub near : AreWithin 900 t date
   pub signed : (claim.signature ≡ signature_of pair.first (string_of q))
       ⊎ (claim.signature ≡ signature_of pair.second (string_of q))
 

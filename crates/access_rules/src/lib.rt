@@ -7,8 +7,10 @@ mod key_route;
 mod keys;
 mod laws;
 mod needs;
+mod order_laws;
 mod parts;
 mod signatures;
+mod string_laws;
 mod token_laws;
 mod token_parts;
 mod token_route;
@@ -21,7 +23,9 @@ pub use laws::{
     no_rule_holds_if_and_only_if_the_own_route_admits, nobody_writes_by_public_access,
 };
 pub use needs::{Letter, Need, need_of};
+pub use order_laws::the_refusal_names_the_first_rule_that_holds;
 pub use signatures::{a_true_signature_is_the_routes_own, has_false_signature, has_true_signature};
+pub use string_laws::a_token_signs_what_no_key_signs;
 pub use token_laws::{
     a_token_has_one_time, each_letter_opens_what_it_names, no_token_reaches_a_container_itself,
 };
