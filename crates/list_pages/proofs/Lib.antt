@@ -4,6 +4,7 @@ pub mod Depends
 pub mod Ends
 pub mod Followed
 pub mod Following
+pub mod FullPages
 pub mod Groups
 pub mod Keys
 pub mod Lists

@@ -1,4 +1,5 @@
 pub mod Containers
+pub mod FullPages
 pub mod Laws
 pub mod ListReplies
 pub mod Lists
