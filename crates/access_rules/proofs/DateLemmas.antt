@@ -1,5 +1,5 @@
 -- The text of the date of a request.
-use Rattle.std.proofs.Common.{◌≡◌, ℕ, ◌⊎◌, inl, inr, Bool, true, false, cond, ◌||◌, List, [], ◌∷◌, Option, Some, None, refl, sym, ap, ◌∙◌}
+use Rattle.std.proofs.Common.{◌≡◌, ℕ, inl, inr, Bool, true, false, cond, ◌||◌, List, [], ◌∷◌, Option, Some, None, refl, ap, ◌∙◌}
 use Rattle.std.specs.Prelude.{codes, find}
 use Rattle.std.specs.Option.{option_map, option_or}
 use Rattle.stamp_values.specs.Fields.{first_value, has_name, is_sent}

@@ -1,5 +1,5 @@
 -- The first of the rules that hold.
-use Rattle.std.proofs.Common.{◌≡◌, ℕ, zero, suc, ◌≤◌, arith, Bool, true, false, cond, List, [], ◌∷◌, Option, Some, None, refl, sym, ap, ◌∙◌, subst}
+use Rattle.std.proofs.Common.{◌≡◌, ℕ, zero, suc, ◌≤◌, arith, Bool, true, false, cond, List, [], ◌∷◌, Option, Some, refl, sym, ap, ◌∙◌}
 use Rattle.std.specs.Prelude.{find}
 use Rattle.std.specs.List.{slice_get}
 use Rattle.stamp_values.specs.declared.acl.Acl.{Acl}

@@ -1,6 +1,6 @@
 -- Who may do what, as each route says it (Blob service REST reference, 2012-02-12, Authentication for the Azure Storage
 -- Services: by an account's key; Delegating Access with a Shared Access Signature: by a token; Set Container ACL: by public access).
-use Rattle.std.specs.Prelude.{◌≡◌, ◌≢◌, ℕ, ◌+◌, ◌≤◌, ◌<◌, List, [], ◌∷◌, Option, Some, None, Ok, ◌⊎◌, IfSome, IsSome, IsTrue}
+use Rattle.std.specs.Prelude.{◌≡◌, ◌≢◌, ℕ, ◌≤◌, ◌<◌, List, [], ◌∷◌, Option, Some, None, Ok, ◌⊎◌, IfSome, IsSome, IsTrue}
 use Rattle.stamp_values.specs.declared.acl.Acl.{Acl}
 use Rattle.stamp_values.specs.declared.level.Level.{Level}
 use Rattle.stamp_values.specs.declared.signing.Credential.{Credential}
