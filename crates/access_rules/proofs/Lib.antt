@@ -4,6 +4,7 @@ pub mod JudgeLemmas
 pub mod KeyLemmas
 pub mod LetterLemmas
 pub mod OrderLemmas
+pub mod RotationLemmas
 pub mod RouteLaw
 pub mod SignatureLemmas
 pub mod StringLemmas

@@ -2,6 +2,7 @@ pub mod Dates
 pub mod Needs
 pub mod Openings
 pub mod Parts
+pub mod Rotation
 pub mod Routes
 pub mod RuleOrder
 pub mod Rules

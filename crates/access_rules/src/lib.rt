@@ -9,6 +9,8 @@ mod laws;
 mod needs;
 mod order_laws;
 mod parts;
+mod rotation;
+mod rotation_laws;
 mod signatures;
 mod string_laws;
 mod token_laws;
@@ -24,6 +26,8 @@ pub use laws::{
 };
 pub use needs::{Letter, Need, need_of};
 pub use order_laws::the_refusal_names_the_first_rule_that_holds;
+pub use rotation::{KeysFault, Which};
+pub use rotation_laws::each_pair_has_its_place_as_epoch;
 pub use signatures::{a_true_signature_is_the_routes_own, has_false_signature, has_true_signature};
 pub use string_laws::a_token_signs_what_no_key_signs;
 pub use token_laws::{
