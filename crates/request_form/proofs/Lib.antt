@@ -8,6 +8,7 @@ pub mod HeadLemmas
 pub mod MetadataLemmas
 pub mod NumberLemmas
 pub mod OrderLemmas
+pub mod PageNames
 pub mod PageLemmas
 pub mod RangeLemmas
 pub mod TargetLemmas

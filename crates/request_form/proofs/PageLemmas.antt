@@ -27,18 +27,8 @@ use Rattle.request_form.specs.HeadPages.{delimiter_by, max_given, max_named, pag
 use Rattle.request_form.specs.HeadRules.{has_bad_parameter, is_bad_parameter, is_count, is_good_value, is_value_of, parameter_names}
 use Rattle.request_form.specs.Targets.{is_absolute, is_equals, is_nothing, is_question_mark, origin_of, authority_len, parameter_of, query_of, query_text, target_of}
 use Rattle.request_form.proofs.BlockLemmas.{IsShortId}
+use Rattle.request_form.proofs.PageNames.{each_fails}
 use Rattle.request_form.proofs.ValueLemmas.{args_short, under_short}
-
--- the test fails at each name
-abbrev EachFails : (List ℕ → Bool) → List (List ℕ) → Type 0
-EachFails test [] = Unit {0}
-EachFails test (name ∷ names) = (test name ≡ false) × EachFails test names
-
-each_fails : (test : List ℕ → Bool) (names : List (List ℕ)) → list_any test names ≡ false → EachFails test names
-each_fails test [] e = tt
-each_fails test (name ∷ names) e =
-    let both = or_parts (test name) (list_any test names) e in
-    (both.0, each_fails test names both.1)
 
 -- the value of the parameter is bad
 abbrev is_bad_at : List Field → List ℕ → Bool

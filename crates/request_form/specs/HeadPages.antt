@@ -45,6 +45,10 @@ page_of op query = record {
   metadata = asks_for_metadata query;
 }
 
+-- the page of a query without parameters of a page: its first names, as many as a page may have, without metadata
+abbrev pub first_page : Page
+first_page = record { prefix = None; delimiter = None; marker = None; max = page_limit; metadata = false }
+
 -- which names a request asks for, if the operation lists names
 abbrev pub page_by : Op → List Field → Option Page
 page_by op query = if lists_names op then Some (page_of op query) else None

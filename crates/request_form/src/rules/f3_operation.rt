@@ -11,7 +11,7 @@ use crate::parse::path::kind;
 use crate::parse::path_kind::PathKind;
 use crate::rules::f1_target::Target;
 use crate::rules::f3_block_parameters::{block_by, kinds_by, read_id, read_kinds};
-use crate::rules::f3_page_parameters::{page_by, read_page};
+use crate::rules::f3_page_parameters::read_page;
 use crate::rules::f3_parameters::is_bad_text;
 use crate::value_fault::ValueFault;
 use stamp_types::{BlockId, BlockKinds, Code, Op, Page, Verb};
@@ -159,6 +159,6 @@ pub(crate) fn read_operation(
         op,
         block: block_by(op, id),
         kinds: kinds_by(op, kinds),
-        page: page_by(op, page),
+        page,
     })
 }

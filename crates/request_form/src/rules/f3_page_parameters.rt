@@ -1,5 +1,6 @@
 //! Rule F3: the parameters of a page of names (Blob service REST reference, 2012-02-12, List Containers, List Blobs).
 ghost use Rattle.std.specs.Prelude.{◌≡◌, MatchOption, MatchResult, None, Some, bytes_eq, codes, cond, false, min, true};
+ghost use Rattle.std.specs.List.{list_any};
 ghost use Rattle.stamp_types.specs.declared.code.Code.TheVariants.{InvalidQueryParameterValue};
 ghost use Rattle.stamp_values.specs.Limits.{page_limit};
 ghost use Rattle.stamp_values.specs.Operations.{lists_names};
@@ -141,11 +142,45 @@ fn read_include(query: &FieldList) -> Result<bool, ValueFault>
     }
 }
 
-/// Which names a query asks for. The delimiter counts if the operation is List Blobs.
-///
-/// `Refused` if a parameter of a page is given twice or has a bad value, whatever the operation is.
+// Whether the name is that of a parameter of a page.
+fn is_page_name(name: &[u8]) -> bool
+    ensures { result ≡ list_any (bytes_eq name.now) heads.page_names }
+{
+    name == b"prefix".as_slice()
+        || name == b"delimiter".as_slice()
+        || name == b"marker".as_slice()
+        || name == b"maxresults".as_slice()
+        || name == b"include".as_slice()
+}
+
+// Whether a query has a parameter of a page. Few queries have one, so this is looked at first.
+fn has_page_name(query: &FieldList) -> bool
+    ensures { result ≡ list_any (λ f. list_any (bytes_eq f.name) heads.page_names) query.now }
+{
+    for field in query.fields() {
+        if is_page_name(field.name) {
+            return true;
+        }
+    }
+    false
+}
+
+// The page of a query without parameters of a page.
+fn first_page() -> Page
+    ensures { result ≡ pages.first_page }
+{
+    Page {
+        prefix: None,
+        delimiter: None,
+        marker: None,
+        max: PAGE_LIMIT,
+        metadata: false,
+    }
+}
+
+// Which names a query with parameters of a page asks for.
 #[tactic(auto, unfolding(crate::specs::HeadPages::page_of, crate::specs::HeadRules::has_bad_page))]
-pub(crate) fn read_page(alloc: Global, op: Op, query: &FieldList) -> Result<Page, ValueFault>
+fn read_names(alloc: Global, op: Op, query: &FieldList) -> Result<Page, ValueFault>
     ensures { MatchResult result
         (λ page. (heads.has_bad_page query.now ≡ false) × (page ≡ pages.page_of op query.now))
         (RefusesValue (heads.has_bad_page query.now) InvalidQueryParameterValue) }
@@ -165,9 +200,28 @@ pub(crate) fn read_page(alloc: Global, op: Op, query: &FieldList) -> Result<Page
     })
 }
 
-/// The page that was asked for, if the operation lists names.
-pub(crate) fn page_by(op: Op, page: Page) -> Option<Page>
+// The page that was asked for, if the operation lists names.
+fn page_by(op: Op, page: Page) -> Option<Page>
     ensures { result ≡ cond (lists_names op) (Some page) None }
 {
     if op.lists_names() { Some(page) } else { None }
+}
+
+/// Which names a query asks for, if the operation lists names. The delimiter counts if the operation is List Blobs.
+///
+/// `Refused` if a parameter of a page is given twice or has a bad value, whatever the operation is.
+pub(crate) fn read_page(
+    alloc: Global,
+    op: Op,
+    query: &FieldList,
+) -> Result<Option<Page>, ValueFault>
+    ensures { MatchResult result
+        (λ page. (heads.has_bad_page query.now ≡ false) × (page ≡ pages.page_by op query.now))
+        (RefusesValue (heads.has_bad_page query.now) InvalidQueryParameterValue) }
+{
+    if !has_page_name(query) {
+        return Ok(page_by(op, first_page()));
+    }
+    let page = read_names(alloc, op, query)?;
+    Ok(page_by(op, page))
 }
