@@ -7,6 +7,8 @@ pub mod ListLemmas
 pub mod StoredBlocks
 pub mod ListFaults
 pub mod NextLemmas
+pub mod UnnamedBlocks
+pub mod WholeLists
 pub mod FoundLemmas
 pub mod CommitLemmas
 pub mod RowLemmas

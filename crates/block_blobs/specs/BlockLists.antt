@@ -1,5 +1,7 @@
 -- Block lists: where their blocks are found, and what is wrong with a list ("Put Block List" of the Blob service REST reference, 2012-02-12).
-use Rattle.std.specs.Prelude.{ℕ, zero, suc, IsTrue, IfSome, if◌then◌else◌, nat_lt, is_some, is_none, List, [], ◌∷◌, length, Option, Some, None, find, position, flat_map}
+use Rattle.std.specs.Prelude.{ℕ, zero, suc, Bool, true, false, ◌&&◌, IsTrue, IfSome, if◌then◌else◌, nat_lt, is_some, is_none, bytes_eq, sum_by, List, [], ◌∷◌, length, Option, Some, None, find, map, position, flat_map}
+use Rattle.std.specs.Cmp.Lexicographic.{pointwise}
+use Rattle.std.specs.FinMap as finite
 use Rattle.std.specs.Option.{option_map, option_and_then, option_to_list}
 use Rattle.stamp_values.specs.Limits.{entries_limit, blob_limit}
 use Rattle.stamp_values.specs.declared.block.Lookup.{Lookup}
@@ -10,6 +12,7 @@ use Rattle.stamp_values.specs.declared.block.Taken.{Taken}
 use Rattle.stamp_values.specs.declared.block.Wanted.{Wanted}
 use Rattle.stamp_types.specs.declared.piece.Piece.{Piece}
 use Rattle.stamp_types.specs.Changes.{blocks_len, is_in_one_piece}
+use Rattle.stamp_types.specs.Pieces.{pieces_len}
 use Rattle.stamp_types.specs.declared.committed.Block.{Block}
 use Rattle.stamp_types.specs.World.{Blob, block_of, content_from, taken_blocks, whole_block}
 use Rattle.block_blobs.specs.declared.block_fault.BlockFault.{BlockFault}
@@ -58,6 +61,40 @@ first_missing b ws = position (λ w. is_none (source_of b w)) ws
 -- the position of the first entry whose block is not where the entry says
 abbrev pub first_absent : {C : Type 0} → Blob C → List Taken → Option ℕ
 first_absent b ts = position (λ t. is_none (content_from t.from t.id b)) ts
+
+-- the entry that takes an uncommitted block
+abbrev pub uncommitted_taken : {C : Type 0} → List ℕ × C → Taken
+uncommitted_taken e = record { id = e.0; from = source.Uncommitted }
+
+-- the entries that take all uncommitted blocks, in the order of their ids
+abbrev pub all_entries : {C : Type 0} → Blob C → List Taken
+all_entries b = map uncommitted_taken (finite.entries b.uncommitted)
+
+-- the block of content that an uncommitted block becomes, with its id
+abbrev pub block_of_entry : {C : Type 0} → List ℕ × C → Block C
+block_of_entry e = block_of e.0 e.1
+
+-- the block is looked for among the uncommitted blocks first
+abbrev pub is_uncommitted_first : Lookup → Bool
+is_uncommitted_first lookup.Committed = false
+is_uncommitted_first other = true
+
+-- the wanted block is the uncommitted block of this id, if there is one
+abbrev pub wants_id : Wanted → List ℕ → Bool
+wants_id w id = is_uncommitted_first w.lookup && bytes_eq w.id id
+
+-- the list wants these uncommitted blocks, in this order
+abbrev pub want_each : {C : Type 0} → List Wanted → List (List ℕ × C) → Bool
+want_each ws es = pointwise (λ w e. wants_id w e.0) ws es
+
+-- the list wants all uncommitted blocks, at least one, in the order of their ids
+abbrev pub wants_all : {C : Type 0} → Blob C → List Wanted → Bool
+wants_all b [] = false
+wants_all b (w ∷ ws) = want_each (w ∷ ws) (finite.entries b.uncommitted)
+
+-- how many bytes uncommitted blocks have together
+abbrev pub entries_len : List (List ℕ × List Piece) → ℕ
+entries_len es = sum_by (λ e. pieces_len e.1) es
 
 -- the blocks of the entries that are found, in their order, without their ids
 abbrev pub unnamed_blocks : {C : Type 0} → Blob C → List Taken → List (Block C)

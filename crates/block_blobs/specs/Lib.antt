@@ -4,6 +4,7 @@ pub mod NextBlocks
 pub mod FirstBlocks
 pub mod IdTrees
 pub mod BlockLists
+pub mod FoundBlocks
 pub mod ResolvedLists
 pub mod BlobChanges
 pub mod StoredRows

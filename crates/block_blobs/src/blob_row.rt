@@ -18,7 +18,7 @@ use stamp_types::{
     UncommittedBlock,
 };
 use std::alloc::{AllocError, Global};
-use std::collections::btree_map::Iter;
+use std::collections::btree_map::{IntoIter, Iter};
 use std::marker::Model;
 
 /// A blob: its committed part, if it has a committed part, and its uncommitted blocks. Contracts see
@@ -218,6 +218,15 @@ impl BlobRow {
         ensures { result.now ≡ self.now.uncommitted }
     {
         &self.uncommitted
+    }
+
+    /// Takes all uncommitted blocks out of the blob, in the order of their ids. Takes no memory.
+    pub(crate) fn take_uncommitted(&mut self, alloc: Global) -> IntoIter<BlockId, Pieces>
+        ensures blocks { result ≡ finite.entries self.old.uncommitted }
+        ensures left { self.new
+            ≡ record { committed = self.old.committed; uncommitted = finite.empty } }
+    {
+        self.uncommitted.take(alloc)
     }
 
     /// Writes a committed part of so many bytes. Nothing of the old committed part stays.

@@ -4,9 +4,10 @@ ghost use Rattle.stamp_types.specs.Changes.{are_blocks, blocks_len};
 ghost use Rattle.stamp_types.specs.World.{taken_blocks};
 ghost use Rattle.block_blobs.specs.BlobChanges.{blob_of_list};
 ghost use Rattle.block_blobs.specs.BlockLists as lists;
+ghost use Rattle.block_blobs.specs.FoundBlocks.{AreBlocksOf};
 
 use crate::blob_row::BlobRow;
-use crate::found_blocks::FoundBlocks;
+use crate::found_blocks::{FoundBlocks, ListContent};
 use stamp_types::{Block, BlockId, Committed, Items, Pieces, PutBlockList, Taken};
 use std::alloc::Global;
 
@@ -33,18 +34,29 @@ fn named(entries: Vec<Taken>, blocks: Vec<Block<Pieces>>) -> Vec<Block<Pieces>>
 
 impl BlobRow {
     // The blocks that a list of these entries takes, with how many bytes they have together. The ids
-    // and the content move.
-    #[tactic(auto, using(crate::proofs::CommitLemmas::named_are_taken, crate::proofs::CommitLemmas::named_len, crate::proofs::CommitLemmas::named_are_blocks))]
-    fn taken(&self, entries: Vec<Taken>, found: FoundBlocks) -> (Vec<Block<Pieces>>, u64)
-        requires fits { lists.taken_fault self.now entries.items ≡ None }
-        requires found { found ≡ lists.unnamed_blocks self.now entries.items }
-        ensures value { result.0.items ≡ taken_blocks self.now entries.items }
+    // and the content move. If the list takes all uncommitted blocks, none of them stays.
+    #[tactic(auto, using(crate::proofs::CommitLemmas::named_are_taken, crate::proofs::CommitLemmas::taken_are_blocks, crate::proofs::CommitLemmas::room_for_all, crate::proofs::CommitLemmas::moved_are_taken))]
+    fn taken(
+        &mut self,
+        alloc: Global,
+        entries: Vec<Taken>,
+        found: FoundBlocks,
+    ) -> (Vec<Block<Pieces>>, u64)
+        requires fits { lists.taken_fault self.old entries.items ≡ None }
+        requires found { AreBlocksOf self.old entries.items found }
+        ensures value { result.0.items ≡ taken_blocks self.old entries.items }
         ensures len { result.1 ≡ blocks_len result.0.items }
         ensures valid { IsTrue (are_blocks result.0.items) }
     {
         self.keeps_pieces();
-        let (blocks, len) = found.into_parts();
-        (named(entries, blocks), len)
+        let FoundBlocks { content, len } = found;
+        match content {
+            ListContent::AllUncommitted(room) => {
+                drop(entries);
+                (room.filled(self.take_uncommitted(alloc)), len)
+            }
+            ListContent::Blocks(blocks) => (named(entries, blocks.into_vec()), len),
+        }
     }
 
     /// Makes the blocks of a list the content, in their order, with kept headers and metadata of the
@@ -55,7 +67,7 @@ impl BlobRow {
     /// `found` is what `resolve` or `listed` found for the entries of the list in this blob.
     pub fn commit(&mut self, alloc: Global, list: PutBlockList, found: FoundBlocks, count: u64)
         requires fits { lists.taken_fault self.old list.entries ≡ None }
-        requires found { found ≡ lists.unnamed_blocks self.old list.entries }
+        requires found { AreBlocksOf self.old list.entries found }
         ensures { self.new ≡ blob_of_list count list self.old }
     {
         let PutBlockList {
@@ -65,7 +77,7 @@ impl BlobRow {
             metadata,
             entries,
         } = list;
-        let (blocks, len) = self.taken(entries.into_vec(), found);
+        let (blocks, len) = self.taken(alloc, entries.into_vec(), found);
         let committed = Committed {
             etag: count,
             made: moment,

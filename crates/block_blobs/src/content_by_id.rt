@@ -6,7 +6,7 @@ ghost use Rattle.std.specs.FinMap as finite;
 use stamp_types::{BlockId, Pieces};
 use std::alloc::{AllocError, Global};
 use std::collections::BTreeMap;
-use std::collections::btree_map::Iter;
+use std::collections::btree_map::{IntoIter, Iter};
 use std::marker::Model;
 
 /// Content by ids in a tree, seen as the map from the ids to the content. A call takes time with the
@@ -63,6 +63,14 @@ impl ContentById {
         ensures { result ≡ finite.entries self.now }
     {
         self.tree.iter()
+    }
+
+    /// The ids with their content, in the order of the ids. Both move.
+    #[tactic(auto, using(crate::proofs::IdTreeLemmas::listed))]
+    pub(crate) fn into_iter(self) -> IntoIter<BlockId, Pieces>
+        ensures { result ≡ finite.entries self }
+    {
+        self.tree.into_iter()
     }
 
     /// Replaces the content of an id. If the id has no content, the new content is given back.

@@ -1,40 +1,33 @@
-//! The content of a block list: the blocks that were found for its entries.
-ghost use Rattle.std.specs.Prelude.{◌≡◌, ◌<◌, ◌≤◌, [], IfOk, IfErr, OnOk, MatchOption, None};
+//! The content of a block list: what was found for its entries.
+ghost use Rattle.std.specs.Prelude.{◌≡◌, ◌<◌, ◌≤◌, IfOk, IfErr, OnOk, MatchOption, None};
 ghost use Rattle.stamp_values.specs.Limits.{blob_limit};
 ghost use Rattle.stamp_types.specs.Changes.{blocks_len};
 ghost use Rattle.block_blobs.specs.BlockLists as lists;
 ghost use Rattle.block_blobs.specs.Faults.{IsFault};
+ghost use Rattle.block_blobs.specs.FoundBlocks as found;
 
 use crate::block_fault::BlockFault;
-use stamp_types::{BLOB_LIMIT, Block, ENTRIES_LIMIT, Pieces};
-use std::alloc::Global;
-use std::marker::Model;
+use crate::block_room::BlockRoom;
+use stamp_types::{BLOB_LIMIT, Block, ENTRIES_LIMIT, Items, Pieces};
+use std::alloc::{AllocError, Global};
 
-/// The blocks that were found for the entries of a block list, in their order, without their ids. A
-/// commit makes them the content. Contracts see the blocks.
+/// Where the blocks of a block list are.
 #[derive(Drop)]
-pub struct FoundBlocks {
-    blocks: Vec<Block<Pieces>>,
-    // how many bytes the blocks have together
-    len: u64,
+pub enum ListContent {
+    /// The list takes all uncommitted blocks, in the order of their ids. They are in the blob, and a
+    /// commit moves them into this room.
+    AllUncommitted(BlockRoom),
+    /// These blocks, in the order of the list and without their ids. Their content is shared with the
+    /// blob.
+    Blocks(Items<Block<Pieces>>),
 }
 
-impl Model for FoundBlocks {
-    ghost use Rattle.std.specs.Prelude.{◌≡◌, List};
-    ghost use Rattle.std.specs.Coded.{coded_list};
-    ghost use Rattle.stamp_types.specs.Changes.{blocks_len};
-    ghost use Rattle.stamp_types.specs.ContentCodes.{content_code};
-    ghost use Rattle.stamp_types.specs.WorldCodes.{block_code};
-    ghost use Rattle.stamp_types.specs.declared.committed.Block.{Block};
-    ghost use Rattle.stamp_types.specs.declared.piece.Piece.{Piece};
-
-    ghost Value = { List (Block (List Piece)) };
-
-    ghost coded = { coded_list (block_code content_code) };
-
-    ghost view = { λ f. f.blocks.items };
-
-    ghost invariant = { λ f. f.len ≡ blocks_len f.blocks.items };
+/// What was found for the entries of a block list. A commit makes it the content.
+#[derive(Drop)]
+pub struct FoundBlocks {
+    pub content: ListContent,
+    /// How many bytes the blocks have together.
+    pub len: u64,
 }
 
 /// How many bytes the blocks have together, or `None` if they have more than 268,435,456 bytes.
@@ -56,18 +49,30 @@ pub(crate) fn total_len(blocks: &[Block<Pieces>]) -> Option<u64>
 impl FoundBlocks {
     /// No blocks. Takes no memory.
     pub fn nothing(alloc: Global) -> Self
-        ensures { result ≡ [] }
+        ensures { result ≡ found.nothing_found }
     {
         Self {
-            blocks: Vec::new(alloc),
+            content: ListContent::Blocks(Items::new(Vec::new(alloc))),
             len: 0,
         }
     }
 
-    /// The blocks of a list of so many entries. `TooMany` for more than 50,000 entries, or else
+    /// All uncommitted blocks, which are so many and have so many bytes together.
+    ///
+    /// `AllocError` if memory runs out for the room of the list.
+    pub(crate) fn all(alloc: Global, count: usize, len: u64) -> Result<Self, AllocError>
+        ensures { IfOk result (λ made. made ≡ found.all_uncommitted count len) }
+    {
+        Ok(Self {
+            content: ListContent::AllUncommitted(BlockRoom::new(alloc, count)?),
+            len,
+        })
+    }
+
+    /// These blocks, for a list of so many entries. `TooMany` for more than 50,000 entries, or else
     /// `TooLarge` if the blocks have more than 268,435,456 bytes together.
     pub(crate) fn new(blocks: Vec<Block<Pieces>>, count: usize) -> Result<Self, BlockFault>
-        ensures value { IfOk result (λ found. found ≡ blocks.items) }
+        ensures value { IfOk result (λ made. made ≡ found.these_blocks blocks.items) }
         ensures fits { OnOk result (lists.list_fault None count (blocks_len blocks.items) ≡ None) }
         ensures fault { IfErr result
             (IsFault (lists.list_fault None count (blocks_len blocks.items))) }
@@ -76,17 +81,11 @@ impl FoundBlocks {
             return Err(BlockFault::TooMany);
         }
         match total_len(&blocks) {
-            Some(len) => Ok(Self { blocks, len }),
+            Some(len) => Ok(Self {
+                content: ListContent::Blocks(Items::new(blocks)),
+                len,
+            }),
             None => Err(BlockFault::TooLarge),
         }
-    }
-
-    /// The blocks, with how many bytes they have together.
-    pub(crate) fn into_parts(self) -> (Vec<Block<Pieces>>, u64)
-        ensures blocks { result.0.items ≡ self }
-        ensures len { result.1 ≡ blocks_len self }
-    {
-        let Self { blocks, len } = self;
-        (blocks, len)
     }
 }

@@ -8,5 +8,6 @@ use stamp_types::{Items, Source};
 pub struct Resolved {
     /// The source of each block, in the order of the list.
     pub sources: Items<Source>,
+    /// The blocks, for the commit of the list.
     pub blocks: FoundBlocks,
 }

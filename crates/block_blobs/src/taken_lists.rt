@@ -3,6 +3,7 @@ ghost use Rattle.std.specs.Prelude.{◌≡◌, IfOk, IfErr, OnOk, None};
 ghost use Rattle.std.specs.Option.{option_map};
 ghost use Rattle.block_blobs.specs.BlockLists as lists;
 ghost use Rattle.block_blobs.specs.Faults.{IsFault};
+ghost use Rattle.block_blobs.specs.FoundBlocks.{AreBlocksOf};
 
 use crate::blob_row::BlobRow;
 use crate::block_fault::BlockFault;
@@ -47,9 +48,9 @@ impl BlobRow {
     /// `TooMany` for more than 50,000 entries, or else `TooLarge` if the blocks, each as often as it is
     /// listed, have more than 268,435,456 bytes together. `NoMemory` if memory runs out, or if content
     /// can have no further owner.
-    #[tactic(auto, using(crate::proofs::ListFaults::unnamed_len))]
+    #[tactic(auto, using(crate::proofs::ListFaults::unnamed_len, crate::proofs::ListFaults::each_listed))]
     pub fn listed(&self, alloc: Global, entries: &[Taken]) -> Result<FoundBlocks, BlockFault>
-        ensures value { IfOk result (λ found. found ≡ lists.unnamed_blocks self.now entries.now) }
+        ensures value { IfOk result (λ found. AreBlocksOf self.now entries.now found) }
         ensures fits { OnOk result (lists.taken_fault self.now entries.now ≡ None) }
         ensures fault { IfErr result (IsFault (lists.taken_fault self.now entries.now)) }
     {

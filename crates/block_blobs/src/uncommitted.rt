@@ -15,8 +15,9 @@ use crate::block_fault::BlockFault;
 use crate::content_by_id::ContentById;
 use stamp_types::{BlockId, Items, Pieces, UNCOMMITTED_LIMIT, UncommittedBlock};
 use std::alloc::{AllocError, Global};
-use std::collections::btree_map::Iter;
+use std::collections::btree_map::{IntoIter, Iter};
 use std::marker::Model;
+use std::mem;
 
 /// At most 50,000 blocks, each in one piece, under ids of one length. Contracts see the map from
 /// the ids to the content.
@@ -172,6 +173,15 @@ impl Uncommitted {
     {
         let _id_len = self.id_len;
         Ok(Items::new(copied(alloc, &self.blocks)?))
+    }
+
+    /// Takes the blocks, in the order of their ids. No block stays. Takes no memory.
+    pub(crate) fn take(&mut self, alloc: Global) -> IntoIter<BlockId, Pieces>
+        ensures blocks { result ≡ finite.entries self.old }
+        ensures left { self.new ≡ finite.empty }
+    {
+        let Self { blocks, .. } = mem::replace(self, Self::new(alloc));
+        blocks.into_iter()
     }
 
     // Whether the blocks have ids of another length than this id.

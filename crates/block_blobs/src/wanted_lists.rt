@@ -1,5 +1,5 @@
 //! Lists of wanted blocks: where a Put Block List finds them.
-ghost use Rattle.std.specs.Prelude.{◌≡◌, IfOk, IfErr, OnOk, MatchOption, Some, None};
+ghost use Rattle.std.specs.Prelude.{◌≡◌, IfOk, IfErr, OnOk, MatchOption, Some, None, false};
 ghost use Rattle.std.specs.Option.{option_map};
 ghost use Rattle.block_blobs.specs.BlockLists as lists;
 ghost use Rattle.block_blobs.specs.Faults.{IsFault};
@@ -110,20 +110,15 @@ impl BlobRow {
         Ok((sources, blocks))
     }
 
-    /// Where the block of each entry of a Put Block List is found, in their order, and the blocks
-    /// ("Put Block List"). Of committed blocks of one id the first counts. Content of a Put Blob has no
-    /// id and is never found. The content of each block has one more owner.
-    ///
-    /// `NotFound` with the position of the first entry whose block is not found, or else `TooMany`
-    /// for more than 50,000 entries, or else `TooLarge` if the blocks found, each as often as it is
-    /// listed, have more than 268,435,456 bytes together. `NoMemory` if memory runs out, or if content
-    /// can have no further owner.
-    #[tactic(auto, using(crate::proofs::FoundLemmas::found_len))]
-    pub fn resolve<'a>(
+    // What resolving a list gives that does not want all uncommitted blocks in the order of their ids.
+    // The content of each block has one more owner. The faults are those of `resolve`.
+    #[tactic(auto, using(crate::proofs::UnnamedBlocks::found_len, crate::proofs::WholeLists::each_are_found))]
+    fn resolve_each<'a>(
         &'a self,
         alloc: Global,
         wanted: &'a [Wanted],
     ) -> Result<Resolved, BlockFault>
+        requires { lists.wants_all self.now wanted.now ≡ false }
         ensures value { IfOk result (λ found. found ≡ resolved self.now wanted.now) }
         ensures fits { OnOk result (lists.wanted_fault self.now wanted.now ≡ None) }
         ensures fault { IfErr result (IsFault (lists.wanted_fault self.now wanted.now)) }
@@ -134,5 +129,30 @@ impl BlobRow {
             sources: Items::new(sources),
             blocks,
         })
+    }
+
+    /// Where the block of each entry of a Put Block List is found, in their order, and the blocks
+    /// ("Put Block List"). Of committed blocks of one id the first counts. Content of a Put Blob has no
+    /// id and is never found. The content of each block has one more owner, unless the list wants all
+    /// uncommitted blocks in the order of their ids: these stay in the blob until the commit.
+    ///
+    /// `NotFound` with the position of the first entry whose block is not found, or else `TooMany`
+    /// for more than 50,000 entries, or else `TooLarge` if the blocks found, each as often as it is
+    /// listed, have more than 268,435,456 bytes together. `NoMemory` if memory runs out, or if content
+    /// can have no further owner.
+    pub fn resolve<'a>(
+        &'a self,
+        alloc: Global,
+        wanted: &'a [Wanted],
+    ) -> Result<Resolved, BlockFault>
+        ensures value { IfOk result (λ found. found ≡ resolved self.now wanted.now) }
+        ensures fits { OnOk result (lists.wanted_fault self.now wanted.now ≡ None) }
+        ensures fault { IfErr result (IsFault (lists.wanted_fault self.now wanted.now)) }
+    {
+        if self.wants_all(wanted) {
+            self.resolve_all(alloc, wanted)
+        } else {
+            self.resolve_each(alloc, wanted)
+        }
     }
 }

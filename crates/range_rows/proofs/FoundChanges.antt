@@ -3,6 +3,7 @@ use Rattle.std.proofs.Common.{◌≡◌, ℕ, List, Option, Some, None, unwrap_o
 use Rattle.std.specs.Prelude.{IfSome, IfOk, Result, Ok, Err}
 use Rattle.std.specs.declared.alloc.AllocError.{AllocError}
 use Rattle.std.specs.Option.{option_map, option_and_then}
+use Rattle.stamp_values.specs.declared.block.Taken.{Taken}
 use Rattle.stamp_values.specs.declared.op.Op.{Op}
 use Rattle.stamp_values.specs.declared.op.Op.TheVariants as op
 use Rattle.stamp_types.specs.declared.act.Act.{Act}
@@ -13,9 +14,11 @@ use Rattle.stamp_types.specs.Changes.{KeyedAct}
 use Rattle.stamp_types.specs.Pieces.{pieces_len}
 use Rattle.stamp_types.specs.Requests.{Asked}
 use Rattle.stamp_types.specs.World.{Blob, Part, blob_in, no_blob}
-use Rattle.block_blobs.specs.BlockLists.{found_blocks, found_entries, unnamed_blocks}
+use Rattle.block_blobs.specs.BlockLists.{found_entries}
+use Rattle.block_blobs.specs.FoundBlocks.{AreBlocksOf}
+use Rattle.block_blobs.specs.ResolvedLists.{found_for}
 use Rattle.block_blobs.specs.declared.resolved.Resolved.{Resolved}
-use Rattle.block_blobs.proofs.FoundLemmas.{found_unnamed}
+use Rattle.block_blobs.proofs.WholeLists.{found_are_blocks}
 use Rattle.row_trees.specs.FoundParts.{sizes_found}
 use Rattle.row_trees.specs.ListedBlocks.{AreFoundFor}
 use Rattle.row_trees.proofs.BlockFits.{found_entries-blob_value}
@@ -31,7 +34,7 @@ module _ (p : Part (List Piece)) (q : Asked) (t : ℕ) where
 
   -- the blocks that were found are those of the entries, in the blob of this name
   found_in_blob : (name : List ℕ) → q.ask.blob ≡ Some name
-      → found_blocks (target_blob p q.ask) (wanted_blocks q) ≡ unnamed_blocks (blob_in p name) (found_entries (blob_in (sizes_found p) name) (wanted_blocks q))
+      → AreBlocksOf (blob_in p name) (found_entries (blob_in (sizes_found p) name) (wanted_blocks q)) (found_for (target_blob p q.ask) (wanted_blocks q))
   found_in_blob name named =
       let ws = wanted_blocks q in
       let blob : target_blob p q.ask ≡ blob_in p name = ap (λ (o : Option (List ℕ)). unwrap_or (option_map (blob_in p) o) no_blob) named in
@@ -39,7 +42,7 @@ module _ (p : Part (List Piece)) (q : Asked) (t : ℕ) where
       ap (λ (b : Blob (List Piece)). found_entries b ws) blob
       ∙ sym (found_entries-blob_value pieces_len (blob_in p name) ws)
       ∙ ap (λ (b : Blob ℕ). found_entries b ws) (sym (sizes_of_blob p name)) in
-      found_unnamed (target_blob p q.ask) ws ∙ (λ i. unnamed_blocks (blob i) (entries i))
+      subst (λ (s : Blob (List Piece) × List Taken). AreBlocksOf s.0 s.1 (found_for (target_blob p q.ask) ws)) (λ i. (blob i, entries i)) (found_are_blocks (target_blob p q.ask) ws)
 
   found_for_list : (blob : Option (List ℕ)) (kept : Option Kept) → q.ask.blob ≡ blob
       → FoundForAct (option_and_then (λ name. option_map (λ kept. act.PutBlockList (put_block_list (blob_in (sizes_found p) name) q t name kept)) kept) blob)

@@ -9,11 +9,12 @@ use Rattle.stamp_values.proofs.TreeMaps.{insert_same}
 use Rattle.stamp_types.specs.declared.act.Act.TheVariants as act
 use Rattle.stamp_types.specs.declared.act.PutBlock.{PutBlock}
 use Rattle.stamp_types.specs.declared.act.PutBlockList.{PutBlockList}
-use Rattle.stamp_types.specs.declared.committed.Block.{Block}
 use Rattle.stamp_types.specs.declared.piece.Piece.{Piece}
 use Rattle.stamp_types.specs.World.{Blob, Part, blob_in, blobs_after, no_blob, same_pieces, with_blob}
 use Rattle.block_blobs.specs.BlobChanges.{blob_of_list, blob_with_block}
-use Rattle.block_blobs.specs.BlockLists.{taken_fault, unnamed_blocks}
+use Rattle.block_blobs.specs.BlockLists.{taken_fault}
+use Rattle.block_blobs.specs.FoundBlocks.{AreBlocksOf}
+use Rattle.block_blobs.specs.declared.found_blocks.FoundBlocks.{FoundBlocks}
 
 module _ (p : Part (List Piece)) (name : List ℕ) where
   -- the blob of a name that has a row
@@ -32,10 +33,13 @@ module _ (p : Part (List Piece)) (name : List ℕ) where
   pub list_fits_no_blob : (ts : List Taken) → get p.blobs name ≡ None → taken_fault (blob_in p name) ts ≡ None → taken_fault (no_blob {C = List Piece}) ts ≡ None
   list_fits_no_blob ts none fits = ap (λ b. taken_fault b ts) (sym (blob_without_row none)) ∙ fits
 
+  -- blocks that were found in the blob of a name were found in the blob of its row
+  pub found_in_row : (b : Blob (List Piece)) (f : FoundBlocks) (ts : List Taken) → get p.blobs name ≡ Some b → AreBlocksOf (blob_in p name) ts f → AreBlocksOf b ts f
+  found_in_row b f ts has found = subst (λ b. AreBlocksOf b ts f) (blob_of_row b has) found
+
   -- blocks that were found in a blob without a row were found in a blob that never was
-  pub found_in_no_blob : (bs : List (Block (List Piece))) (ts : List Taken) → get p.blobs name ≡ None → bs ≡ unnamed_blocks (blob_in p name) ts
-      → bs ≡ unnamed_blocks (no_blob {C = List Piece}) ts
-  found_in_no_blob bs ts none found = found ∙ ap (λ b. unnamed_blocks b ts) (blob_without_row none)
+  pub found_in_no_blob : (f : FoundBlocks) (ts : List Taken) → get p.blobs name ≡ None → AreBlocksOf (blob_in p name) ts f → AreBlocksOf no_blob ts f
+  found_in_no_blob f ts none found = subst (λ b. AreBlocksOf b ts f) (blob_without_row none) found
 
 module _ (n : ℕ) (a : PutBlock) (p : Part (List Piece)) where
   -- a Put Block on a name that has a row changes this row's blob

@@ -27,10 +27,12 @@ use Rattle.stamp_types.specs.Changes.{blocks_len, is_act, is_in_one_piece}
 use Rattle.stamp_types.specs.Pieces.{pieces_len}
 use Rattle.stamp_types.specs.World.{Blob, Part, blob_in, blob_value, block_of, block_value, content_from, part_value, taken_blocks}
 use Rattle.stamp_types.proofs.WorldLemmas.{blob_in-part_value, taken_blocks-blob_value}
-use Rattle.block_blobs.specs.BlockLists.{first_missing, found_entries, list_fault, listed_len, source_of, sources_of, taken_fault, taken_from, unnamed_blocks, wanted_fault}
+use Rattle.block_blobs.specs.BlockLists.{first_missing, found_entries, list_fault, listed_len, source_of, sources_of, taken_fault, taken_from, wanted_fault}
+use Rattle.block_blobs.specs.FoundBlocks.{AreBlocksOf}
 use Rattle.block_blobs.specs.UncommittedBlocks.{block_count, block_fault, has_other_length, is_one_too_many}
 use Rattle.block_blobs.specs.declared.block_fault.BlockFault.{BlockFault}
 use Rattle.block_blobs.specs.declared.block_fault.BlockFault.TheVariants as fault
+use Rattle.block_blobs.specs.declared.found_blocks.FoundBlocks.{FoundBlocks}
 use Rattle.row_trees.specs.Fits.{fits, fits_blob}
 use Rattle.row_trees.specs.FoundParts.{has_uncommitted}
 use Rattle.row_trees.specs.ListedBlocks.{AreFoundFor, entries_fault, listed_size}
@@ -198,8 +200,8 @@ module _ (p : Part (List Piece)) (a : Act) (l : PutBlockList) (b : Blob (List Pi
   list_of_change h = (λ i. taken_fault (blob i) (same i)) ∙ fits_list p l (subst (λ a. fits (part_value pieces_len p) a ≡ true) (sym is) h)
 
   -- the blocks that were found for the entries of the list were found for the change
-  pub found_for_list : (made : Result (List (Block (List Piece))) AllocError) → IfOk made (λ bs. bs ≡ unnamed_blocks b ts) → IfOk made (λ bs. AreFoundFor p a bs)
-  found_for_list (Ok bs) found = subst (λ a. AreFoundFor p a bs) is (found ∙ (λ i. unnamed_blocks (blob i) (same i)))
+  pub found_for_list : (made : Result FoundBlocks AllocError) → IfOk made (λ f. AreBlocksOf b ts f) → IfOk made (λ f. AreFoundFor p a f)
+  found_for_list (Ok f) found = subst (λ a. AreFoundFor p a f) is (subst (λ (s : Blob (List Piece) × List Taken). AreBlocksOf s.0 s.1 f) (λ i. (blob i, same i)) found)
   found_for_list (Err fault) found = tt
 
 -- the block of a good Put Block is in one piece

@@ -3,7 +3,8 @@ ghost use Rattle.std.specs.Prelude.{◌≡◌, ◌<◌, IsTrue, OnOk, OnErr, Non
 ghost use Rattle.stamp_types.specs.declared.act.Act.TheVariants as act;
 ghost use Rattle.stamp_types.specs.Changes.{is_in_one_piece};
 ghost use Rattle.stamp_types.specs.World.{blob_in, changed, same_pieces};
-ghost use Rattle.block_blobs.specs.BlockLists.{taken_fault, unnamed_blocks};
+ghost use Rattle.block_blobs.specs.BlockLists.{taken_fault};
+ghost use Rattle.block_blobs.specs.FoundBlocks.{AreBlocksOf};
 ghost use Rattle.block_blobs.specs.UncommittedBlocks.{block_fault};
 ghost use Rattle.row_trees.specs.Fits.{count_limit};
 
@@ -57,7 +58,7 @@ impl Container {
     /// no row, the row is made.
     ///
     /// `AllocError` if memory runs out for a new row. The container is then as it was.
-    #[tactic(auto, using(crate::proofs::BlockActs::list_on_row, crate::proofs::BlockActs::list_without_row, crate::proofs::BlockActs::blob_of_row, crate::proofs::BlockActs::blob_without_row, crate::proofs::BlockActs::same_row))]
+    #[tactic(auto, using(crate::proofs::BlockActs::list_on_row, crate::proofs::BlockActs::list_without_row, crate::proofs::BlockActs::blob_of_row, crate::proofs::BlockActs::blob_without_row, crate::proofs::BlockActs::same_row, crate::proofs::BlockActs::found_in_row))]
     pub(crate) fn put_block_list(
         &mut self,
         alloc: Global,
@@ -66,7 +67,7 @@ impl Container {
     ) -> Result<(), AllocError>
         requires count { self.old.count < count_limit }
         requires fits { taken_fault (blob_in self.old list.blob) list.entries ≡ None }
-        requires found { found ≡ unnamed_blocks (blob_in self.old list.blob) list.entries }
+        requires found { AreBlocksOf (blob_in self.old list.blob) list.entries found }
         ensures changed { OnOk result
             (self.new ≡ changed same_pieces (act.PutBlockList list) self.old) }
         ensures refused { OnErr result (self.new ≡ self.old) }

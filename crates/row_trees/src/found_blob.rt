@@ -40,6 +40,7 @@ impl<'a> Model for FoundBlob<'a> {
 
 impl<'a> FoundBlob<'a> {
     ghost use Rattle.block_blobs.specs.BlockLists as lists;
+    ghost use Rattle.block_blobs.specs.FoundBlocks.{AreBlocksOf};
     ghost use Rattle.block_blobs.specs.ResolvedLists.{resolved};
     ghost use Rattle.block_blobs.specs.UncommittedBlocks as blocks;
 
@@ -122,7 +123,7 @@ impl<'a> FoundBlob<'a> {
 
     /// The blocks of a list whose entries say where they are, as `BlobRow::listed` says it.
     pub fn listed(&self, alloc: Global, entries: &[Taken]) -> Result<FoundBlocks, BlockFault>
-        ensures value { IfOk result (λ found. found ≡ lists.unnamed_blocks self.now entries.now) }
+        ensures value { IfOk result (λ found. AreBlocksOf self.now entries.now found) }
         ensures fits { OnOk result (lists.taken_fault self.now entries.now ≡ None) }
         ensures fault { IfErr result (IsFault (lists.taken_fault self.now entries.now)) }
     {

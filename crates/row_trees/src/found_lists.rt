@@ -2,7 +2,8 @@
 ghost use Rattle.std.specs.Prelude.{◌≡◌, IfOk, IsErr, IsTrue, None};
 ghost use Rattle.stamp_types.specs.Pieces.{pieces_len};
 ghost use Rattle.stamp_types.specs.World.{part_at, part_value};
-ghost use Rattle.block_blobs.specs.BlockLists.{taken_fault, unnamed_blocks};
+ghost use Rattle.block_blobs.specs.BlockLists.{taken_fault};
+ghost use Rattle.block_blobs.specs.FoundBlocks.{AreBlocksOf};
 ghost use Rattle.row_trees.specs.Fits.{commits, fits};
 ghost use Rattle.row_trees.specs.ListedBlocks.{AreFoundFor};
 
@@ -19,7 +20,7 @@ fn found_in(
     entries: &[Taken],
 ) -> Result<FoundBlocks, AllocError>
     requires { taken_fault seen.now entries.now ≡ None }
-    ensures { IfOk result (λ found. found ≡ unnamed_blocks seen.now entries.now) }
+    ensures { IfOk result (λ found. AreBlocksOf seen.now entries.now found) }
 {
     match seen.listed(alloc, entries) {
         Ok(found) => Ok(found),

@@ -3,7 +3,8 @@ ghost use Rattle.std.specs.Prelude.{◌≡◌, IfOk, IsTrue, OnOk, OnErr, None};
 ghost use Rattle.stamp_types.specs.Changes.{is_in_one_piece};
 ghost use Rattle.stamp_types.specs.World.{no_blob};
 ghost use Rattle.block_blobs.specs.BlobChanges.{blob_of_list, blob_with_block, blob_with_metadata};
-ghost use Rattle.block_blobs.specs.BlockLists.{taken_fault, unnamed_blocks};
+ghost use Rattle.block_blobs.specs.BlockLists.{taken_fault};
+ghost use Rattle.block_blobs.specs.FoundBlocks.{AreBlocksOf};
 ghost use Rattle.block_blobs.specs.UncommittedBlocks.{block_fault};
 
 use block_blobs::{BlobRow, BlockFault, FoundBlocks};
@@ -82,7 +83,7 @@ impl Row {
         count: u64,
     ) -> Result<Self, AllocError>
         requires fits { taken_fault no_blob list.entries ≡ None }
-        requires found { found ≡ unnamed_blocks no_blob list.entries }
+        requires found { AreBlocksOf no_blob list.entries found }
         ensures { IfOk result (λ row. row ≡ blob_of_list count list no_blob) }
     {
         let mut row = match Self::empty(alloc) {
@@ -134,7 +135,7 @@ impl Row {
         count: u64,
     )
         requires fits { taken_fault self.old list.entries ≡ None }
-        requires found { found ≡ unnamed_blocks self.old list.entries }
+        requires found { AreBlocksOf self.old list.entries found }
         ensures { self.new ≡ blob_of_list count list self.old }
     {
         self.blob.commit(alloc, list, found, count);
