@@ -12,7 +12,6 @@ use Rattle.stamp_values.specs.declared.op.Op.TheVariants as op
 use Rattle.stamp_types.specs.declared.act.Act.{Act}
 use Rattle.stamp_types.specs.declared.act.Act.TheVariants as act
 use Rattle.stamp_types.specs.declared.args.Kept.{Kept}
-use Rattle.stamp_types.specs.declared.committed.Block.{Block}
 use Rattle.stamp_types.specs.declared.piece.Piece.{Piece}
 use Rattle.stamp_types.specs.declared.piece.Piece.TheVariants as piece
 use Rattle.stamp_types.specs.declared.refusal.Refusal.{Refusal}
@@ -27,6 +26,7 @@ use Rattle.stamp_types.proofs.WorldLemmas.{part_at-world_value}
 use Rattle.stamp_types.proofs.ContentReadings.{part_value-changed}
 use Rattle.stamp_types.proofs.EachContents.{EachContent-changed, EachContent-then, EachWorldContent-changed_in}
 use Rattle.access_rules.specs.declared.keys.Keys.{Keys}
+use Rattle.block_blobs.specs.declared.found_blocks.FoundBlocks.{FoundBlocks}
 use Rattle.row_trees.specs.Fits.{fits}
 use Rattle.range_rows.specs.Frames.{frame}
 use Rattle.range_rows.specs.SentContent.{ReadsWhole, byte_count, reply_of, sizes, spans, with_content}
@@ -77,11 +77,11 @@ module _ (h : HeldRows) (q : Asked) (t : ℕ) where
   change_fits_rows free None e = tt
   change_fits_rows free (Some c) e = fits_own c (change_fits found_sizes q t c (unrefused (Some h.keys) found_sizes q t free).unopposed e)
 
-  found_own : (c : KeyedAct) (p : Part (List Piece)) (found : List (Block (List Piece))) → p ≡ part_at h.rows q.ask.key → c.key ≡ q.ask.key → AreFoundFor p c.act found → AreFoundFor (part_at h.rows c.key) c.act found
+  found_own : (c : KeyedAct) (p : Part (List Piece)) (found : FoundBlocks) → p ≡ part_at h.rows q.ask.key → c.key ≡ q.ask.key → AreFoundFor p c.act found → AreFoundFor (part_at h.rows c.key) c.act found
   found_own c p found own key are = subst (λ p. AreFoundFor p c.act found) (own ∙ ap (part_at h.rows) (sym key)) are
 
   -- the blocks that were found for a request were found for its change
-  pub found_for_rows : (o : Option KeyedAct) (found : List (Block (List Piece))) → change_of found_sizes q t ≡ o → found ≡ (blocks_found (part_at h.rows q.ask.key) q).blocks
+  pub found_for_rows : (o : Option KeyedAct) (found : FoundBlocks) → change_of found_sizes q t ≡ o → found ≡ (blocks_found (part_at h.rows q.ask.key) q).blocks
       → IfSome o (λ c. AreFoundFor (part_at h.rows c.key) c.act found)
   found_for_rows None found e is = tt
   found_for_rows (Some c) found e is =

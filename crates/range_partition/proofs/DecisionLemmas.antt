@@ -10,7 +10,6 @@ use Rattle.stamp_values.specs.declared.key.Key.{Key}
 use Rattle.stamp_values.specs.declared.condition.ByteRange.{ByteRange}
 use Rattle.stamp_values.specs.declared.op.Op.{Op}
 use Rattle.stamp_values.specs.declared.op.Op.TheVariants as op
-use Rattle.stamp_types.specs.declared.committed.Block.{Block}
 use Rattle.stamp_types.specs.declared.committed.Committed.{Committed}
 use Rattle.stamp_types.specs.declared.piece.Piece.{Piece}
 use Rattle.stamp_types.specs.declared.refusal.Refusal.{Refusal}
@@ -25,6 +24,7 @@ use Rattle.access_rules.specs.declared.judgement.Verdict.TheVariants.{Allow, Den
 use Rattle.access_rules.specs.declared.judgement.Way.{Way}
 use Rattle.access_rules.specs.declared.keys.Keys.{Keys}
 use Rattle.access_rules.specs.Rules.{first_rule, verdict_by, verdict_of, way_of}
+use Rattle.block_blobs.specs.declared.found_blocks.FoundBlocks.{FoundBlocks}
 use Rattle.row_trees.specs.Access.{acl_of}
 use Rattle.range_rows.specs.declared.answer.Span.{Span}
 use Rattle.row_trees.specs.FoundParts.{sizes_found}
@@ -73,12 +73,12 @@ module _ (keys : Option Keys) (p : Part (List Piece)) (q : Asked) (t : ℕ) wher
 -- ---- the decision
 
 -- a request that is decided to be refused has this refusal
-pub refused_by : (o : Option Refusal) (reply : Reply) (change : Option KeyedAct) (found : List (Block (List Piece))) (r : Refusal) → decision.Refused r ≡ decided_by o reply change found → o ≡ Some r
+pub refused_by : (o : Option Refusal) (reply : Reply) (change : Option KeyedAct) (found : FoundBlocks) (r : Refusal) → decision.Refused r ≡ decided_by o reply change found → o ≡ Some r
 refused_by None reply change found r e = cc
 refused_by (Some x) reply change found r e = let same : x ≡ r = cc in ap Some same
 
 -- nothing refuses a request that is decided to be allowed, and it has this reply, this change and these blocks
-pub allowed_with : (o : Option Refusal) (reply given : Reply) (change made : Option KeyedAct) (found blocks : List (Block (List Piece)))
+pub allowed_with : (o : Option Refusal) (reply given : Reply) (change made : Option KeyedAct) (found blocks : FoundBlocks)
     → decision.Allowed given made blocks ≡ decided_by o reply change found → (o ≡ None) × (given ≡ reply) × (made ≡ change) × (blocks ≡ found)
 allowed_with None reply given change made found blocks e = (refl, ap reply_told e, ap change_told e, ap found_told e)
   where
@@ -90,9 +90,9 @@ allowed_with None reply given change made found blocks e = (refl, ap reply_told 
     change_told (decision.Allowed r c bs) = c
     change_told (decision.Refused r) = None
 
-    found_told : Decision → List (Block (List Piece))
+    found_told : Decision → FoundBlocks
     found_told (decision.Allowed r c bs) = bs
-    found_told (decision.Refused r) = []
+    found_told (decision.Refused r) = found
 allowed_with (Some x) reply given change made found blocks e = cc
 
 module _ (w : World (List Piece)) (q : Asked) (t : ℕ) (bound : Option Key) where

@@ -6,7 +6,6 @@ use Rattle.stamp_values.specs.declared.key.Key.{Key}
 use Rattle.stamp_values.specs.declared.op.Op.{Op}
 use Rattle.stamp_values.specs.declared.op.Op.TheVariants as op
 use Rattle.stamp_types.specs.Changes.{KeyedAct}
-use Rattle.stamp_types.specs.declared.committed.Block.{Block}
 use Rattle.stamp_types.specs.declared.piece.Piece.{Piece}
 use Rattle.stamp_types.specs.declared.refusal.Refusal.{Refusal}
 use Rattle.stamp_types.specs.declared.reply.Reply.{Reply}
@@ -14,6 +13,7 @@ use Rattle.stamp_types.specs.Pieces.{piece_bytes}
 use Rattle.stamp_types.specs.Requests.{Asked}
 use Rattle.stamp_types.specs.World.{Part, World}
 use Rattle.access_rules.specs.declared.keys.Keys.{Keys}
+use Rattle.block_blobs.specs.declared.found_blocks.FoundBlocks.{FoundBlocks}
 use Rattle.row_trees.specs.FoundParts.{sizes_found}
 use Rattle.range_rows.specs.declared.answer.Span.{Span}
 use Rattle.range_rows.specs.FoundParts.{pieces_found_after, sizes_found_after}
@@ -49,7 +49,7 @@ abbrev pub row_reply : World (List Piece) → Part (List Piece) → Asked → �
 row_reply w p q t bound = row_reply_by q.ask.op w p q t bound
 
 -- a request is refused, or else these are its reply, its change and the blocks that were found for it
-abbrev pub decided_by : Option Refusal → Reply → Option KeyedAct → List (Block (List Piece)) → Decision
+abbrev pub decided_by : Option Refusal → Reply → Option KeyedAct → FoundBlocks → Decision
 decided_by (Some r) reply change found = decision.Refused r
 decided_by None reply change found = decision.Allowed reply change found
 
