@@ -1,13 +1,13 @@
 -- One string to sign has one meaning.
-use Rattle.std.proofs.Common.{◌≡◌, ℕ, IsTrue, List, ◌∷◌, ◌++◌, drop, Option, Some, None, IsSomeAnd, refl, sym, ap, ◌∙◌, append_assoc}
+use Rattle.std.proofs.Common.{◌≡◌, ℕ, Bool, true, false, cond, IsTrue, List, [], ◌∷◌, ◌++◌, drop, Option, Some, None, IsSomeAnd, refl, sym, ap, ◌∙◌, append_assoc}
 use Rattle.std.proofs.lemmas.List.{append-nil, append_cancel_right}
 use Rattle.stamp_values.specs.Names.{is_blob}
 use Rattle.stamp_values.specs.declared.key.Key.{Key}
 use Rattle.stamp_values.specs.declared.signing.Field.{Field}
 use Rattle.sas_token.specs.declared.token.Resource.{Resource}
 use Rattle.sas_token.specs.declared.token.Resource.TheVariants.{Container, Blob}
-use Rattle.sas_token.specs.Tokens.{Sent, IsToken, blob_text, resource_text, token_string, HasGoodNames, MeanTheSame}
-use Rattle.sas_token.proofs.StringLemmas.{Lacks, Lacks-nil, Lacks-cons, Lacks-append, cut, never, time_lacks, permissions_lack, account_lacks, container_lacks, blob_lacks}
+use Rattle.sas_token.specs.Tokens.{Sent, IsToken, Overridden, are_visible, blob_text, front_string, has_overrides, no_overrides, overrides_in, overrides_text, resource_text, token_string, HasGoodNames, MeanTheSame}
+use Rattle.sas_token.proofs.StringLemmas.{are_visible-each, cut_back, Lacks, Lacks-nil, Lacks-cons, Lacks-append, cut, never, time_lacks, permissions_lack, account_lacks, container_lacks, blob_lacks}
 use Rattle.sas_token.proofs.TokenLemmas.{same_letters, same_time}
 
 -- a blob is named if the token is for a blob
@@ -60,10 +60,53 @@ same_resources t u k l a b g o e =
     let (account, rest) = cut 47 k.account l.account (k.container ++ blob_text t.resource a) (l.container ++ blob_text u.resource b) (account_lacks 47 k.account refl g.account) (account_lacks 47 l.account refl o.account) (ap (drop 1) grouped) in
     record { account = account; place = same_place k.container l.container t.resource u.resource a b (container_lacks 47 k.container refl g.container) (container_lacks 47 l.container refl o.container) g.blob o.blob rest }
 
+-- what comes before the texts that replace headers, and these texts
+record SameEnds (a b : List ℕ) (o p : Overridden) : Type 0 where
+  front : a ≡ b
+  these : o ≡ p
+
+same_ends : (a b : List ℕ) (o p : Overridden) → are_visible o ≡ true → are_visible p ≡ true → a ++ overrides_text o ≡ b ++ overrides_text p → SameEnds a b o p
+unfolding overrides_text
+same_ends a b o p h k e =
+    let x = are_visible-each o h in
+    let y = are_visible-each p k in
+    let o₁ = 10 ∷ o.cache_control in
+    let p₁ = 10 ∷ p.cache_control in
+    let o₂ = o₁ ++ 10 ∷ o.disposition in
+    let p₂ = p₁ ++ 10 ∷ p.disposition in
+    let o₃ = o₂ ++ 10 ∷ o.encoding in
+    let p₃ = p₂ ++ 10 ∷ p.encoding in
+    let o₄ = o₃ ++ 10 ∷ o.language in
+    let p₄ = p₃ ++ 10 ∷ p.language in
+    let (e₁, content_type) = cut_back 10 (a ++ o₄) (b ++ p₄) o.content_type p.content_type x.content_type y.content_type (append_assoc a o₄ (10 ∷ o.content_type) ∙ e ∙ sym (append_assoc b p₄ (10 ∷ p.content_type))) in
+    let (e₂, language) = cut_back 10 (a ++ o₃) (b ++ p₃) o.language p.language x.language y.language (append_assoc a o₃ (10 ∷ o.language) ∙ e₁ ∙ sym (append_assoc b p₃ (10 ∷ p.language))) in
+    let (e₃, encoding) = cut_back 10 (a ++ o₂) (b ++ p₂) o.encoding p.encoding x.encoding y.encoding (append_assoc a o₂ (10 ∷ o.encoding) ∙ e₂ ∙ sym (append_assoc b p₂ (10 ∷ p.encoding))) in
+    let (e₄, disposition) = cut_back 10 (a ++ o₁) (b ++ p₁) o.disposition p.disposition x.disposition y.disposition (append_assoc a o₁ (10 ∷ o.disposition) ∙ e₃ ∙ sym (append_assoc b p₁ (10 ∷ p.disposition))) in
+    let (front, cache_control) = cut_back 10 a b o.cache_control p.cache_control x.cache_control y.cache_control e₄ in
+    record {
+      front = front;
+      these = λ i. record { cache_control = cache_control i; disposition = disposition i; encoding = encoding i; language = language i; content_type = content_type i };
+    }
+
+-- the same, by a version: in the first version nothing is replaced, and nothing follows
+same_ends_by : (newer : Bool) (a b : List ℕ) (o p : Overridden) → are_visible o ≡ true → are_visible p ≡ true → (newer ≡ false → o ≡ p)
+    → a ++ cond newer (overrides_text o) [] ≡ b ++ cond newer (overrides_text p) [] → SameEnds a b o p
+same_ends_by true a b o p h k none e = same_ends a b o p h k e
+same_ends_by false a b o p h k none e = record { front = sym (append-nil a) ∙ e ∙ append-nil b; these = none refl }
+
+nothing_for : (q : List Field) (t : Sent) → IsToken q t → has_overrides t.version ≡ false → t.overrides ≡ no_overrides
+nothing_for q t h off = h.overrides ∙ ap (λ b. cond b (overrides_in q) no_overrides) off
+
 pub one_meaning : (q r : List Field) (t u : Sent) (k l : Key) (a b : Option (List ℕ)) → IsToken q t → IsToken r u → t.version ≡ u.version → HasGoodNames t k a → HasGoodNames u l b → token_string t k a ≡ token_string u l b → MeanTheSame t u k l a b
-unfolding token_string
+unfolding token_string front_string
 one_meaning q r t u k l a b h j version g o e =
-    let (permissions, e₁) = cut 10 t.permissions u.permissions _ _ (permissions_lack t.permissions t.letters h.letters) (permissions_lack u.permissions u.letters j.letters) e in
+    let newer : has_overrides u.version ≡ has_overrides t.version = ap has_overrides (sym version) in
+    let ends = same_ends_by (has_overrides t.version)
+        (t.permissions ++ 10 ∷ (t.start_text ++ 10 ∷ (t.expiry_text ++ 10 ∷ (resource_text t.resource k a ++ 10 ∷ (t.id ++ 10 ∷ t.version)))))
+        (u.permissions ++ 10 ∷ (u.start_text ++ 10 ∷ (u.expiry_text ++ 10 ∷ (resource_text u.resource l b ++ 10 ∷ (u.id ++ 10 ∷ u.version)))))
+        t.overrides u.overrides h.visible j.visible (λ off. nothing_for q t h off ∙ sym (nothing_for r u j (newer ∙ off)))
+        (e ∙ ap (λ n. (u.permissions ++ 10 ∷ (u.start_text ++ 10 ∷ (u.expiry_text ++ 10 ∷ (resource_text u.resource l b ++ 10 ∷ (u.id ++ 10 ∷ u.version))))) ++ cond n (overrides_text u.overrides) []) newer) in
+    let (permissions, e₁) = cut 10 t.permissions u.permissions _ _ (permissions_lack t.permissions t.letters h.letters) (permissions_lack u.permissions u.letters j.letters) ends.front in
     let (start, e₂) = cut 10 t.start_text u.start_text _ _ (time_lacks t.start_text t.start h.start) (time_lacks u.start_text u.start j.start) e₁ in
     let (expiry, e₃) = cut 10 t.expiry_text u.expiry_text _ _ (time_lacks t.expiry_text t.expiry h.expiry) (time_lacks u.expiry_text u.expiry j.expiry) e₂ in
     let (resource, e₄) = cut 10 (resource_text t.resource k a) (resource_text u.resource l b) _ _ (resource_lacks t k a g) (resource_lacks u l b o) e₃ in
@@ -81,4 +124,5 @@ one_meaning q r t u k l a b h j version g o e =
       account = same.account;
       container = same.place.container;
       blob = same.place.blob;
+      overrides = ends.these;
     }

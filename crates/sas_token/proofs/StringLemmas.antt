@@ -3,9 +3,9 @@ use Rattle.std.proofs.Common.{◌≡◌, ℕ, Bool, true, false, not, ◌&&◌, 
 use Rattle.std.specs.List.{list_any, list_all}
 use Rattle.stamp_values.specs.Letters.{Permissions, letters_text}
 use Rattle.stamp_values.specs.Names.{is_account, is_container, is_blob, is_lower_or_digit, is_container_byte}
-use Rattle.stamp_values.specs.Texts.{is_clean, begins_with_control}
+use Rattle.stamp_values.specs.Texts.{is_clean, is_visible, is_visible_byte, begins_with_control}
 use Rattle.moment_text.proofs.TimeBytes.{time_bytes}
-use Rattle.sas_token.specs.Tokens.{GivesLetters, GivesTime}
+use Rattle.sas_token.specs.Tokens.{GivesLetters, GivesTime, Overridden, are_visible}
 
 -- the list does not have the byte
 pub record Lacks (c : ℕ) (xs : List ℕ) : Type 0 where
@@ -61,6 +61,17 @@ never c (a ∷ front) [] x h e =
 never c (a ∷ front) (b ∷ bs) x h e =
     let (first, rest) = neither (a == c) (list_any (λ z. z == c) front) h.none in
     never c front bs x (record { none = rest }) (cc)
+
+-- two lists that lack a byte begin at the same place if the byte comes before both
+pub cut_back : (c : ℕ) (a b x y : List ℕ) → Lacks c x → Lacks c y → a ++ c ∷ x ≡ b ++ c ∷ y → (a ≡ b) × (x ≡ y)
+cut_back c [] [] x y h k e = (refl, cc)
+cut_back c [] (z ∷ bs) x y h k e = absurd (never c x bs y h cc)
+cut_back c (w ∷ ws) [] x y h k e = absurd (never c y ws x k cc)
+cut_back c (w ∷ ws) (z ∷ bs) x y h k e =
+    let same : w ≡ z = cc in
+    let left : ws ++ c ∷ x ≡ bs ++ c ∷ y = cc in
+    let (before, after) = cut_back c ws bs x y h k left in
+    ((λ i. same i ∷ before i), after)
 
 -- one more byte, which is not the byte, or which does not pass
 more_lack : (p : ℕ → Bool) (c x : ℕ) (xs : List ℕ) (t : Bool) → p c ≡ false → p x ≡ true → Lacks c xs → (x == c) ≡ t → Lacks c (x ∷ xs)
@@ -124,3 +135,29 @@ container_lacks c t out h = all_lack is_container_byte c t out (both _ _ (both _
 -- a good name of a blob has no line feed
 pub blob_lacks : (t : List ℕ) → is_blob t ≡ true → Lacks 10 t
 blob_lacks t h = clean_lacks t (both _ _ h).1
+
+-- a text of printable ASCII has no line feed
+pub visible_lacks : (t : List ℕ) → is_visible t ≡ true → Lacks 10 t
+visible_lacks t h = all_lack is_visible_byte 10 t refl h
+
+-- whether texts are of printable ASCII, one by one
+pub record AreVisible (o : Overridden) : Type 0 where
+  pub cache_control : Lacks 10 o.cache_control
+  pub disposition : Lacks 10 o.disposition
+  pub encoding : Lacks 10 o.encoding
+  pub language : Lacks 10 o.language
+  pub content_type : Lacks 10 o.content_type
+
+pub are_visible-each : (o : Overridden) → are_visible o ≡ true → AreVisible o
+are_visible-each o h =
+    let (four, e) = both (is_visible o.cache_control && is_visible o.disposition && is_visible o.encoding && is_visible o.language) (is_visible o.content_type) h in
+    let (three, d) = both (is_visible o.cache_control && is_visible o.disposition && is_visible o.encoding) (is_visible o.language) four in
+    let (two, c) = both (is_visible o.cache_control && is_visible o.disposition) (is_visible o.encoding) three in
+    let (a, b) = both (is_visible o.cache_control) (is_visible o.disposition) two in
+    record {
+      cache_control = visible_lacks o.cache_control a;
+      disposition = visible_lacks o.disposition b;
+      encoding = visible_lacks o.encoding c;
+      language = visible_lacks o.language d;
+      content_type = visible_lacks o.content_type e;
+    }

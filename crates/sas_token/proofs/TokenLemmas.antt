@@ -1,13 +1,14 @@
 -- A query is one token at most, and not a token if it has a fault.
-use Rattle.std.proofs.Common.{◌≡◌, ℕ, Bool, true, false, List, [], ◌∷◌, Option, Some, None, Result, Ok, Err, MatchResult, codes, refl, sym, ap, ◌∙◌, inl, inr, unwrap_or, bytes_eq, if◌then◌else◌}
+use Rattle.std.proofs.Common.{◌≡◌, ℕ, Bool, true, false, ◌||◌, List, [], ◌∷◌, Option, Some, None, Result, Ok, Err, MatchResult, codes, refl, sym, ap, ◌∙◌, inl, inr, unwrap_or, bytes_eq, if◌then◌else◌}
+use Rattle.stamp_values.specs.Fields.{first_value}
 use Rattle.stamp_values.specs.Letters.{Permissions, letters_text, permissions_in}
 use Rattle.stamp_values.proofs.LetterLemmas.{permissions_in-letters_text}
 use Rattle.stamp_values.specs.declared.signing.Field.{Field}
 use Rattle.sas_token.specs.declared.fault.TokenFault.{TokenFault}
-use Rattle.sas_token.specs.declared.fault.TokenFault.TheVariants.{Twice, Missing, Version, Resource as OtherResource, Letters, Time, NoMemory}
+use Rattle.sas_token.specs.declared.fault.TokenFault.TheVariants.{Twice, Missing, Version, Resource as OtherResource, Letters, Time, Header, NoMemory}
 use Rattle.sas_token.specs.declared.token.Resource.{Resource}
 use Rattle.sas_token.specs.declared.token.Resource.TheVariants.{Container, Blob}
-use Rattle.sas_token.specs.Tokens.{Sent, IsToken, HasCause, fault_order, IsFirst, IsFault, GivesLetters, GivesTime, resource_letter}
+use Rattle.sas_token.specs.Tokens.{Sent, IsToken, HasCause, fault_order, IsFirst, IsFault, GivesLetters, GivesTime, are_visible, is_served, overrides_for, overrides_twice, resource_letter}
 
 pub same_letters : (text : List ℕ) (a b : Option Permissions) → GivesLetters text a → GivesLetters text b → a ≡ b
 same_letters text None None h k = refl
@@ -49,6 +50,7 @@ one_token q t u a b =
     let start = same_time u.start_text t.start u.start (rw start_text at a.start) b.start in
     let expiry = same_time u.expiry_text t.expiry u.expiry (rw expiry_text at a.expiry) b.expiry in
     let id = a.id ∙ sym b.id in
+    let overrides = a.overrides ∙ ap (overrides_for q) version ∙ sym b.overrides in
     λ i. record {
       version = version i;
       resource = resource i;
@@ -60,19 +62,24 @@ one_token q t u a b =
       letters = letters i;
       start = start i;
       expiry = expiry i;
+      overrides = overrides i;
     }
 
 -- a token has no cause of a fault
 no_cause : (q : List Field) (t : Sent) → IsToken q t → (f : TokenFault) → ¬ HasCause q f
-no_cause q t a Twice h = let e = a.once in cc
+no_cause q t a Twice h =
+    let sent : overrides_twice q (unwrap_or (first_value q (codes "sv")) []) ≡ overrides_twice q t.version = ap (λ o. overrides_twice q (unwrap_or o [])) a.version in
+    let e : false ≡ true = sym (λ i. a.once i || (sent ∙ a.overrides_once) i) ∙ h in cc
 no_cause q t a Missing (inl h) = let e = a.version in cc
 no_cause q t a Missing (inr (inl h)) = let e = a.resource in cc
 no_cause q t a Missing (inr (inr h)) = let e = a.signature in cc
-no_cause q t a Version h = h (ap (λ o. unwrap_or o []) a.version ∙ a.served)
+no_cause q t a Version h = let e : true ≡ false = sym (ap (λ o. is_served (unwrap_or o [])) a.version ∙ a.served) ∙ h in cc
 no_cause q t a OtherResource h = h t.resource (ap (λ o. unwrap_or o []) a.resource)
 no_cause q t a Letters h = h t.letters (rw a.permissions at a.letters)
 no_cause q t a Time (inl h) = h t.start (rw a.start_text at a.start)
 no_cause q t a Time (inr h) = h t.expiry (rw a.expiry_text at a.expiry)
+no_cause q t a Header h =
+    let e : true ≡ false = sym (ap (λ o. are_visible (overrides_for q (unwrap_or o []))) a.version ∙ ap are_visible (sym a.overrides) ∙ a.visible) ∙ h in cc
 no_cause q t a NoMemory h = h
 
 no_first : (P : TokenFault → Type 0) → ((f : TokenFault) → ¬ P f) → (fs : List TokenFault) (f : TokenFault) → ¬ IsFirst P fs f

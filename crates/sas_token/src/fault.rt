@@ -10,7 +10,7 @@ pub enum TokenFault {
     /// `sv`, `sr` or `sig` was not sent.
     #[error("the version, the resource or the signature of the token is missing")]
     Missing,
-    /// `sv` is not the one version that is served, for example because it is empty.
+    /// `sv` is not a version that is served, for example because it is empty.
     #[error("the token has another version")]
     Version,
     /// `sr` is neither `b` nor `c`.
@@ -22,6 +22,9 @@ pub enum TokenFault {
     /// `st` or `se` is not empty, and is not a time.
     #[error("the start or the expiry of the token is not a time")]
     Time,
+    /// A parameter that replaces a header of the reply has a byte that is not printable ASCII.
+    #[error("a header that the token replaces has another byte than printable ASCII")]
+    Header,
     /// Memory ran out. `read_token` takes no memory, and never answers this.
     #[error("out of memory")]
     NoMemory,

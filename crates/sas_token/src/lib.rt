@@ -9,6 +9,6 @@ mod token;
 
 pub use fault::TokenFault;
 pub use laws::{a_query_is_one_token, one_string_has_one_meaning, the_reading_is_the_token};
-pub use reader::read_token;
+pub use reader::{read_token, replaced_headers};
 pub use strings::token_string;
-pub use token::{Resource, Token};
+pub use token::{Overrides, Resource, Token};

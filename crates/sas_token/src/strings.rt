@@ -3,9 +3,10 @@ ghost use Rattle.std.specs.Prelude.{◌≡◌, ◌≢◌, ◌++◌, ◌∷◌, [
 ghost use Rattle.std.specs.Option.{option_map};
 ghost use Rattle.stamp_values.specs.Ascii.{line_feed};
 ghost use Rattle.sas_token.specs.declared.token.Resource.TheVariants.{Blob};
-ghost use Rattle.sas_token.specs.Tokens.{blob_text, resource_text, token_string};
+ghost use Rattle.sas_token.specs.Tokens.{blob_text, front_string, overrides_of, overrides_text, resource_text, token_string};
 
-use crate::token::{Resource, Token};
+use crate::reader::has_overrides;
+use crate::token::{Overrides, Resource, Token};
 use stamp_values::{Key, Text};
 use std::alloc::{AllocError, Global};
 
@@ -66,11 +67,79 @@ fn append_times(out: &mut Vec<u8>, token: &Token<'_>) -> Result<(), AllocError>
     Ok(())
 }
 
+// Puts a line feed and the text at the end.
+fn append_after_line(out: &mut Vec<u8>, text: &[u8]) -> Result<(), AllocError>
+    ensures { OnOk result (out.new.items ≡ out.old.items ++ line_feed ∷ text.now) }
+{
+    out.push(b'\n')?;
+    out.extend_from_slice(text)?;
+    Ok(())
+}
+
+// Puts the lines of cache control, disposition and encoding at the end.
+fn append_first_overrides(
+    out: &mut Vec<u8>,
+    overrides: &Overrides<'_>,
+) -> Result<(), AllocError>
+    ensures { OnOk result (out.new.items
+        ≡ out.old.items ++ (line_feed ∷ overrides.now.cache_control
+        ++ line_feed ∷ overrides.now.disposition ++ line_feed ∷ overrides.now.encoding)) }
+{
+    append_after_line(out, overrides.cache_control)?;
+    append_after_line(out, overrides.disposition)?;
+    append_after_line(out, overrides.encoding)?;
+    Ok(())
+}
+
+// Puts the texts that replace headers at the end, each after a line feed.
+#[tactic(auto, unfolding(crate::specs::Tokens::overrides_text))]
+fn append_overrides(out: &mut Vec<u8>, overrides: &Overrides<'_>) -> Result<(), AllocError>
+    ensures { OnOk result (out.new.items ≡ out.old.items ++ overrides_text overrides.now) }
+{
+    append_first_overrides(out, overrides)?;
+    append_after_line(out, overrides.language)?;
+    append_after_line(out, overrides.content_type)?;
+    Ok(())
+}
+
+// Puts what the string has after its version at the end.
+fn append_by_version(out: &mut Vec<u8>, token: &Token<'_>) -> Result<(), AllocError>
+    ensures { OnOk result (out.new.items ≡ out.old.items ++ overrides_of token.now) }
+{
+    if has_overrides(token.version) {
+        append_overrides(out, &token.overrides)
+    } else {
+        Ok(())
+    }
+}
+
+// The lines that the strings of both versions have.
+#[tactic(auto, unfolding(crate::specs::Tokens::front_string))]
+fn front_string(
+    alloc: Global,
+    token: &Token<'_>,
+    key: &Key,
+    blob: Option<&Text>,
+) -> Result<Vec<u8>, AllocError>
+    requires container { key.now.container ≢ [] }
+    requires name { token.now.resource ≡ Blob → IsSome blob }
+    ensures { IfOk result (λ string.
+        string.items ≡ front_string token.now key.now (option_map (λ b. b.now) blob.entry)) }
+{
+    let mut out = Vec::new(alloc);
+    append_times(&mut out, token)?;
+    append_resource(&mut out, token.resource, key, blob)?;
+    out.push(b'\n')?;
+    append_line(&mut out, token.id)?;
+    out.extend_from_slice(token.version)?;
+    Ok(out)
+}
+
 /// The string that the maker of a token signed: permissions, start, expiry, resource, id and version, each as it was sent, decoded,
-/// with a line feed between two.
+/// with a line feed between two. In the newer version the texts that replace headers follow, each after a line feed.
 ///
 /// The resource is the container of the key, or if the token is for a blob, the blob of this name in the container. `AllocError` if
-/// memory runs out. Blob service REST reference, 2012-02-12, Delegating Access with a Shared Access Signature.
+/// memory runs out. Blob service REST reference, 2012-02-12 and 2013-08-15, Delegating Access with a Shared Access Signature.
 #[tactic(auto, unfolding(crate::specs::Tokens::token_string))]
 pub fn token_string(
     alloc: Global,
@@ -83,11 +152,7 @@ pub fn token_string(
     ensures { IfOk result (λ string.
         string.items ≡ token_string token.now key.now (option_map (λ b. b.now) blob.entry)) }
 {
-    let mut out = Vec::new(alloc);
-    append_times(&mut out, token)?;
-    append_resource(&mut out, token.resource, key, blob)?;
-    out.push(b'\n')?;
-    append_line(&mut out, token.id)?;
-    out.extend_from_slice(token.version)?;
+    let mut out = front_string(alloc, token, key, blob)?;
+    append_by_version(&mut out, token)?;
     Ok(out)
 }

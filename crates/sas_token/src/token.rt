@@ -12,6 +12,31 @@ pub enum Resource {
     Blob,
 }
 
+/// The headers of the reply that a token replaces (`rscc`, `rscd`, `rsce`, `rscl`, `rsct`), decoded. An empty text replaces nothing, and
+/// a token of the first version replaces nothing.
+#[derive(Drop)]
+pub struct Overrides<'a> {
+    pub cache_control: &'a [u8],
+    pub disposition: &'a [u8],
+    pub encoding: &'a [u8],
+    pub language: &'a [u8],
+    pub content_type: &'a [u8],
+}
+
+impl<'a> Model for Overrides<'a> {
+    ghost use Rattle.sas_token.specs.Tokens.{Overridden};
+
+    ghost Value = { Overridden };
+
+    ghost view = { λ o. record {
+      cache_control = o.cache_control.now;
+      disposition = o.disposition.now;
+      encoding = o.encoding.now;
+      language = o.language.now;
+      content_type = o.content_type.now;
+    } };
+}
+
 /// A shared access signature: its parameters as they were sent, decoded, and what they say. A parameter that was not sent is an
 /// empty text. Blob service REST reference, 2012-02-12, Delegating Access with a Shared Access Signature.
 #[derive(Drop)]
@@ -36,6 +61,8 @@ pub struct Token<'a> {
     pub start: Option<Moment>,
     /// The moment that `se` names. `None` if it is empty.
     pub expiry: Option<Moment>,
+    /// The headers of the reply that the token replaces.
+    pub overrides: Overrides<'a>,
 }
 
 impl<'a> Model for Token<'a> {
@@ -54,5 +81,6 @@ impl<'a> Model for Token<'a> {
       letters = t.letters;
       start = t.start;
       expiry = t.expiry;
+      overrides = t.overrides;
     } };
 }
