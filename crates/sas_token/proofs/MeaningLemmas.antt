@@ -102,10 +102,10 @@ unfolding token_string front_string
 one_meaning q r t u k l a b h j version g o e =
     let newer : has_overrides u.version ≡ has_overrides t.version = ap has_overrides (sym version) in
     let ends = same_ends_by (has_overrides t.version)
-        (t.permissions ++ 10 ∷ (t.start_text ++ 10 ∷ (t.expiry_text ++ 10 ∷ (resource_text t.resource k a ++ 10 ∷ (t.id ++ 10 ∷ t.version)))))
-        (u.permissions ++ 10 ∷ (u.start_text ++ 10 ∷ (u.expiry_text ++ 10 ∷ (resource_text u.resource l b ++ 10 ∷ (u.id ++ 10 ∷ u.version)))))
-        t.overrides u.overrides h.visible j.visible (λ off. nothing_for q t h off ∙ sym (nothing_for r u j (newer ∙ off)))
-        (e ∙ ap (λ n. (u.permissions ++ 10 ∷ (u.start_text ++ 10 ∷ (u.expiry_text ++ 10 ∷ (resource_text u.resource l b ++ 10 ∷ (u.id ++ 10 ∷ u.version))))) ++ cond n (overrides_text u.overrides) []) newer) in
+    (t.permissions ++ 10 ∷ (t.start_text ++ 10 ∷ (t.expiry_text ++ 10 ∷ (resource_text t.resource k a ++ 10 ∷ (t.id ++ 10 ∷ t.version)))))
+    (u.permissions ++ 10 ∷ (u.start_text ++ 10 ∷ (u.expiry_text ++ 10 ∷ (resource_text u.resource l b ++ 10 ∷ (u.id ++ 10 ∷ u.version)))))
+    t.overrides u.overrides h.visible j.visible (λ off. nothing_for q t h off ∙ sym (nothing_for r u j (newer ∙ off)))
+    (e ∙ ap (λ n. (u.permissions ++ 10 ∷ (u.start_text ++ 10 ∷ (u.expiry_text ++ 10 ∷ (resource_text u.resource l b ++ 10 ∷ (u.id ++ 10 ∷ u.version))))) ++ cond n (overrides_text u.overrides) []) newer) in
     let (permissions, e₁) = cut 10 t.permissions u.permissions _ _ (permissions_lack t.permissions t.letters h.letters) (permissions_lack u.permissions u.letters j.letters) ends.front in
     let (start, e₂) = cut 10 t.start_text u.start_text _ _ (time_lacks t.start_text t.start h.start) (time_lacks u.start_text u.start j.start) e₁ in
     let (expiry, e₃) = cut 10 t.expiry_text u.expiry_text _ _ (time_lacks t.expiry_text t.expiry h.expiry) (time_lacks u.expiry_text u.expiry j.expiry) e₂ in

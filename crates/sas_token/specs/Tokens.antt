@@ -172,8 +172,8 @@ overrides_text o =
     line_feed ∷ o.cache_control ++ line_feed ∷ o.disposition ++ line_feed ∷ o.encoding ++ line_feed ∷ o.language ++ line_feed ∷ o.content_type
 
 -- what the string of a token has after its version
-abbrev pub overrides_of : Sent → List ℕ
-overrides_of t = cond (has_overrides t.version) (overrides_text t.overrides) []
+abbrev pub back_string : Sent → List ℕ
+back_string t = cond (has_overrides t.version) (overrides_text t.overrides) []
 
 -- permissions, start, expiry, resource, id and version as they were sent, with a line feed between two
 unfoldable pub front_string : Sent → Key → Option (List ℕ) → List ℕ
@@ -183,7 +183,7 @@ front_string t key blob =
 
 -- the string to sign: in the newer version the texts that replace headers follow, each after a line feed, also if it is empty
 unfoldable pub token_string : Sent → Key → Option (List ℕ) → List ℕ
-token_string t key blob = front_string t key blob ++ overrides_of t
+token_string t key blob = front_string t key blob ++ back_string t
 
 -- the names are good, as those of a request are, and if the token is for a blob, the blob is named
 pub record HasGoodNames (t : Sent) (key : Key) (name : Option (List ℕ)) : Type 0 where

@@ -3,7 +3,7 @@ ghost use Rattle.std.specs.Prelude.{◌≡◌, ◌≢◌, ◌++◌, ◌∷◌, [
 ghost use Rattle.std.specs.Option.{option_map};
 ghost use Rattle.stamp_values.specs.Ascii.{line_feed};
 ghost use Rattle.sas_token.specs.declared.token.Resource.TheVariants.{Blob};
-ghost use Rattle.sas_token.specs.Tokens.{blob_text, front_string, overrides_of, overrides_text, resource_text, token_string};
+ghost use Rattle.sas_token.specs.Tokens.{blob_text, front_string, back_string, overrides_text, resource_text, token_string};
 
 use crate::reader::has_overrides;
 use crate::token::{Overrides, Resource, Token};
@@ -77,10 +77,7 @@ fn append_after_line(out: &mut Vec<u8>, text: &[u8]) -> Result<(), AllocError>
 }
 
 // Puts the lines of cache control, disposition and encoding at the end.
-fn append_first_overrides(
-    out: &mut Vec<u8>,
-    overrides: &Overrides<'_>,
-) -> Result<(), AllocError>
+fn append_first_overrides(out: &mut Vec<u8>, overrides: &Overrides<'_>) -> Result<(), AllocError>
     ensures { OnOk result (out.new.items
         ≡ out.old.items ++ (line_feed ∷ overrides.now.cache_control
         ++ line_feed ∷ overrides.now.disposition ++ line_feed ∷ overrides.now.encoding)) }
@@ -104,7 +101,7 @@ fn append_overrides(out: &mut Vec<u8>, overrides: &Overrides<'_>) -> Result<(), 
 
 // Puts what the string has after its version at the end.
 fn append_by_version(out: &mut Vec<u8>, token: &Token<'_>) -> Result<(), AllocError>
-    ensures { OnOk result (out.new.items ≡ out.old.items ++ overrides_of token.now) }
+    ensures { OnOk result (out.new.items ≡ out.old.items ++ back_string token.now) }
 {
     if has_overrides(token.version) {
         append_overrides(out, &token.overrides)
