@@ -2,7 +2,7 @@
 use crate::sample_values::text;
 use container_acl::{FieldFault, fields_with, find};
 use moment_text::read_iso;
-use sas_token::{Resource, Token};
+use sas_token::{Overrides, Resource, Token};
 use stamp_types::{Acl, Items, Letters, Level, Moment, Policies, Policy};
 use std::alloc::Global;
 use std::process::Abort;
@@ -24,6 +24,13 @@ fn token<'a>(id: &'a str, start: &'a str, expiry: &'a str, letters: &'a str) -> 
         letters: Letters::read(letters.as_bytes()),
         start: moment(start),
         expiry: moment(expiry),
+        overrides: Overrides {
+            cache_control: b"",
+            disposition: b"",
+            encoding: b"",
+            language: b"",
+            content_type: b"",
+        },
     }
 }
 

@@ -80,6 +80,9 @@ fn values_are_read_beside_their_neighbours(rt: HostRuntime) {
     for (name, value, fault) in [
         ("sv", "2011-08-18", Some(TokenFault::Version)),
         ("sv", "2012-02-12 ", Some(TokenFault::Version)),
+        ("sv", "2013-08-15", None),
+        ("sv", "2014-02-14", Some(TokenFault::Version)),
+        ("rsct", "a\nb", None),
         ("sr", "c", None),
         ("sr", "B", Some(TokenFault::Resource)),
         ("sr", "bc", Some(TokenFault::Resource)),
@@ -110,7 +113,7 @@ fn values_are_read_beside_their_neighbours(rt: HostRuntime) {
 type Query = &'static [(&'static str, &'static str)];
 
 // Queries with two faults or more, and the fault that is named: the first of them in the order of docs/formats/tokens.md.
-fn faulty() -> [(Query, TokenFault); 5] {
+fn faulty() -> [(Query, TokenFault); 7] {
     [
         (&[("sr", "a"), ("sr", "a")], TokenFault::Twice),
         (&[("sv", ""), ("sr", "a")], TokenFault::Missing),
@@ -128,6 +131,25 @@ fn faulty() -> [(Query, TokenFault); 5] {
                 ("st", "a"),
             ],
             TokenFault::Letters,
+        ),
+        (
+            &[
+                ("sv", "2013-08-15"),
+                ("sr", "a"),
+                ("sig", ""),
+                ("rsct", "a"),
+                ("rsct", ""),
+            ],
+            TokenFault::Twice,
+        ),
+        (
+            &[
+                ("sv", "2013-08-15"),
+                ("sr", "b"),
+                ("sig", ""),
+                ("rscl", "a\nb"),
+            ],
+            TokenFault::Header,
         ),
     ]
 }
@@ -161,7 +183,7 @@ fn the_fifteen_texts_of_letters_are_read(rt: HostRuntime) {
     }
 }
 
-/// A token, the resource that it is for, the key in Base64, and the signature of its string.
+/// A token, the resource that it is for, the key in Base64, the version with what it overrides, and the signature of the string.
 #[derive(Clone, Copy)]
 struct Signed {
     secret: &'static str,
@@ -172,6 +194,7 @@ struct Signed {
     start: &'static str,
     expiry: &'static str,
     id: &'static str,
+    version: &'static [(&'static str, &'static str)],
     signature: &'static str,
 }
 
@@ -193,11 +216,12 @@ const PICS: Signed = Signed {
     start: "",
     expiry: "",
     id: "",
+    version: &[("sv", "2012-02-12")],
     signature: "",
 };
 
 // The first rows were signed with openssl, and the last three by Azure's clients.
-fn rows() -> [Signed; 8] {
+fn rows() -> [Signed; 11] {
     [
         Signed {
             blob: Some("a.txt"),
@@ -228,6 +252,39 @@ fn rows() -> [Signed; 8] {
             id: "read-only",
             start: "2012-10-01T11:00:00Z",
             signature: "kwmhrIQl9WR+Ncr5FkVzKDmpXMtgPdPmBhc0+5taMmc=",
+            ..PICS
+        },
+        Signed {
+            blob: Some("a.txt"),
+            permissions: "r",
+            expiry: EXPIRY,
+            version: &[("sv", "2013-08-15")],
+            signature: "lMkd16+A6PKKSTcUPhTuDvyCAzs6SjCQ3av88/rgCY0=",
+            ..PICS
+        },
+        Signed {
+            blob: Some("a.txt"),
+            permissions: "r",
+            expiry: EXPIRY,
+            version: &[
+                ("sv", "2013-08-15"),
+                ("rscd", "attachment"),
+                ("rsct", "text/plain"),
+            ],
+            signature: "hc+B0rnkvoPs2L2tzREa/RN8R0vrKdQ/unMiKEeyJp8=",
+            ..PICS
+        },
+        Signed {
+            id: "read-only",
+            version: &[
+                ("sv", "2013-08-15"),
+                ("rscc", "no-cache"),
+                ("rscd", "inline"),
+                ("rsce", "gzip"),
+                ("rscl", "de"),
+                ("rsct", "text/css"),
+            ],
+            signature: "4nUiKcfsC2f2XeixMREbwmr9HhkrSye5v2Ba6x0VQCU=",
             ..PICS
         },
         Signed {
@@ -263,7 +320,6 @@ fn rows() -> [Signed; 8] {
 fn signature_of(rt: &impl Abort, alloc: Global, row: &Signed) -> String {
     let mut query = FieldList::new(alloc);
     for (name, value) in [
-        ("sv", "2012-02-12"),
         ("sr", if row.blob.is_some() { "b" } else { "c" }),
         ("sp", row.permissions),
         ("st", row.start),
@@ -271,6 +327,11 @@ fn signature_of(rt: &impl Abort, alloc: Global, row: &Signed) -> String {
         ("si", row.id),
         ("sig", ""),
     ] {
+        query
+            .push(name.as_bytes(), value.as_bytes())
+            .expect(rt, "memory");
+    }
+    for (name, value) in row.version {
         query
             .push(name.as_bytes(), value.as_bytes())
             .expect(rt, "memory");
