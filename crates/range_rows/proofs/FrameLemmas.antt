@@ -23,6 +23,7 @@ use Rattle.range_rows.specs.NamedBlobs.{target_blob}
 use Rattle.row_trees.specs.FoundParts.{sizes_found}
 use Rattle.range_rows.specs.FoundParts.{pieces_found_after, sizes_found_after}
 use Rattle.range_rows.specs.Frames.{acl_frame, blob_read, date_headers, empty_blob, empty_standing, frame, frame_by, get_frame, list_frame, metadata_headers, put_reply, ranged_frame, standing_read, success_reply, write_frame}
+use Rattle.range_rows.specs.Replaced.{Replaced, nothing_replaced}
 use Rattle.range_rows.specs.SentContent.{blob_content, ranged_spans, spans, spans_by}
 use Rattle.range_rows.specs.ObjectRules.{needs_blob, needs_container, object_refusal}
 use Rattle.range_rows.specs.RequestChanges.{act_by, change_of, part_after, put_blob, put_block_list, set_acl, set_container_metadata, set_metadata}
@@ -32,17 +33,17 @@ use Rattle.range_rows.proofs.BlockLemmas.{committed-target_blob, target_blob-par
 
 -- ---- requests that write
 
-module _ (p : Part ℕ) (q : Asked) (t : ℕ) where
+module _ (v : Replaced) (p : Part ℕ) (q : Asked) (t : ℕ) where
   abbrev after : Option Act → Part ℕ
   after o = part_after pieces_len (option_map (λ a. record { key = q.ask.key; act = a }) o) p
 
   -- the frame of the operation, from the container after the operation's change
   abbrev frame_after : Op → Reply
-  frame_after o = frame_by o q (standing_read (after (act_by o p q t))) (blob_read (after (act_by o p q t)) q.ask) (target_blob (after (act_by o p q t)) q.ask)
+  frame_after o = frame_by v o q (standing_read (after (act_by o p q t))) (blob_read (after (act_by o p q t)) q.ask) (target_blob (after (act_by o p q t)) q.ask)
 
   -- the frame of the operation, from the number and the moment of its change
   abbrev dated_frame : Op → Reply
-  dated_frame o = frame_by o q (record empty_standing { etag = p.count + 1; made = t }) (record empty_blob { etag = p.count + 1; made = t }) no_blob
+  dated_frame o = frame_by v o q (record empty_standing { etag = p.count + 1; made = t }) (record empty_blob { etag = p.count + 1; made = t }) no_blob
 
   standing_with_metadata-frame : (o : Option Standing) → IsSome o
       → success_reply status.Success (date_headers (unwrap_or (option_map (standing_with_metadata (p.count + 1) (set_container_metadata q t)) o) empty_standing).etag (unwrap_or (option_map (standing_with_metadata (p.count + 1) (set_container_metadata q t)) o) empty_standing).made) 0
@@ -113,9 +114,16 @@ module _ (p : Part ℕ) (q : Asked) (t : ℕ) where
         put_block_list-frame q.ask.blob q.ask.args.kept (valid.ask.names.blob ∙ ap names_blob is) (valid.ask.own.kept ∙ ap keeps_headers is)
     write_frame_by other is writing = cc
 
+    -- a request that writes replaces no header
+    frame_by_write : (o : Op) → writes o ≡ true → dated_frame o ≡ frame_by nothing_replaced o q (record empty_standing { etag = p.count + 1; made = t }) (record empty_blob { etag = p.count + 1; made = t }) no_blob
+    frame_by_write op.GetBlob writing = cc
+    frame_by_write op.BlobProperties writing = cc
+    frame_by_write op.CreateContainer writing = refl
+    frame_by_write other writing = refl
+
     -- the frame of a request that writes is the frame of the number and the moment of its change
-    pub frame_of_write : writes q.ask.op ≡ true → frame (part_after pieces_len (change_of p q t) p) q ≡ write_frame q (p.count + 1) t
-    frame_of_write writing = write_frame_by q.ask.op refl writing
+    pub frame_of_write : writes q.ask.op ≡ true → frame v (part_after pieces_len (change_of p q t) p) q ≡ write_frame q (p.count + 1) t
+    frame_of_write writing = write_frame_by q.ask.op refl writing ∙ frame_by_write q.ask.op writing
 
 spans_by-others : (o : Op) (range : Option ByteRange) (c : Committed (List Piece)) → (o ≡ op.GetBlob → ⊥) → spans_by o range c ≡ []
 spans_by-others op.GetBlob range c other = absurd (other refl)
@@ -149,45 +157,45 @@ module _ (z : Part ℕ) (q : Asked) (t : ℕ) where
   pub part_after_read : {C : Type 0} (f : List Piece → C) (r : Part C) → writes q.ask.op ≡ false → part_after f (change_of z q t) r ≡ r
   part_after_read f r reads = ap (λ (o : Option Act). part_after f (option_map (λ a. record { key = q.ask.key; act = a }) o) r) (act_by-read q.ask.op reads)
 
-module _ (p : Part (List Piece)) (q : Asked) where
+module _ (v : Replaced) (p : Part (List Piece)) (q : Asked) where
   abbrev sized : Part ℕ
   sized = part_value pieces_len p
 
   -- the frame of a request that reads a blob is the frame of the blob that it names
   frame_of_read : (o : Op) (c : Committed (List Piece)) → q.ask.op ≡ o → (target_blob p q.ask).committed ≡ Some c
-      → frame sized q ≡ frame_by o q (standing_read sized) (committed_value pieces_len c) (target_blob sized q.ask)
+      → frame v sized q ≡ frame_by v o q (standing_read sized) (committed_value pieces_len c) (target_blob sized q.ask)
   frame_of_read o c is there =
-      ap (λ (o : Op). frame_by o q (standing_read sized) (blob_read sized q.ask) (target_blob sized q.ask)) is
-      ∙ ap (λ (b : Option (Committed ℕ)). frame_by o q (standing_read sized) (unwrap_or b empty_blob) (target_blob sized q.ask))
+      ap (λ (o : Op). frame_by v o q (standing_read sized) (blob_read sized q.ask) (target_blob sized q.ask)) is
+      ∙ ap (λ (b : Option (Committed ℕ)). frame_by v o q (standing_read sized) (unwrap_or b empty_blob) (target_blob sized q.ask))
       (named_blob-part_value pieces_len p q.ask ∙ ap (option_map (committed_value pieces_len)) (sym (committed-target_blob p q.ask) ∙ there))
 
-  pub frame_of_get_blob : (c : Committed (List Piece)) → q.ask.op ≡ op.GetBlob → (target_blob p q.ask).committed ≡ Some c → frame sized q ≡ ranged_frame q.ask.args.range (committed_value pieces_len c)
+  pub frame_of_get_blob : (c : Committed (List Piece)) → q.ask.op ≡ op.GetBlob → (target_blob p q.ask).committed ≡ Some c → frame v sized q ≡ ranged_frame v q.ask.args.range (committed_value pieces_len c)
   frame_of_get_blob c = frame_of_read op.GetBlob c
 
-  pub frame_of_blob_properties : (c : Committed (List Piece)) → q.ask.op ≡ op.BlobProperties → (target_blob p q.ask).committed ≡ Some c → frame sized q ≡ get_frame (committed_value pieces_len c)
+  pub frame_of_blob_properties : (c : Committed (List Piece)) → q.ask.op ≡ op.BlobProperties → (target_blob p q.ask).committed ≡ Some c → frame v sized q ≡ get_frame v (committed_value pieces_len c)
   frame_of_blob_properties c = frame_of_read op.BlobProperties c
 
   pub frame_of_get_metadata : (c : Committed (List Piece)) → q.ask.op ≡ op.GetMetadata → (target_blob p q.ask).committed ≡ Some c
-      → frame sized q ≡ success_reply status.Success (metadata_headers c.metadata c.etag c.made) 0
+      → frame v sized q ≡ success_reply status.Success (metadata_headers c.metadata c.etag c.made) 0
   frame_of_get_metadata c = frame_of_read op.GetMetadata c
 
   -- the frame of Get Container Properties is the frame of what the container has beside its blobs
   pub frame_of_container_properties : (s : Standing) → q.ask.op ≡ op.ContainerProperties → p.standing ≡ Some s
-      → frame sized q ≡ success_reply status.Success (metadata_headers s.metadata s.etag s.made) 0
+      → frame v sized q ≡ success_reply status.Success (metadata_headers s.metadata s.etag s.made) 0
   frame_of_container_properties s is there =
-      ap (λ (o : Op). frame_by o q (standing_read sized) (blob_read sized q.ask) (target_blob sized q.ask)) is
-      ∙ ap (λ (o : Option Standing). frame_by op.ContainerProperties q (unwrap_or o empty_standing) (blob_read sized q.ask) (target_blob sized q.ask)) there
+      ap (λ (o : Op). frame_by v o q (standing_read sized) (blob_read sized q.ask) (target_blob sized q.ask)) is
+      ∙ ap (λ (o : Option Standing). frame_by v op.ContainerProperties q (unwrap_or o empty_standing) (blob_read sized q.ask) (target_blob sized q.ask)) there
 
   -- the frame of Get Container ACL is the frame of what the container has beside its blobs
-  pub frame_of_acl : (s : Standing) → q.ask.op ≡ op.GetAcl → p.standing ≡ Some s → frame sized q ≡ acl_frame s
+  pub frame_of_acl : (s : Standing) → q.ask.op ≡ op.GetAcl → p.standing ≡ Some s → frame v sized q ≡ acl_frame s
   frame_of_acl s is there =
-      ap (λ (o : Op). frame_by o q (standing_read sized) (blob_read sized q.ask) (target_blob sized q.ask)) is
-      ∙ ap (λ (o : Option Standing). frame_by op.GetAcl q (unwrap_or o empty_standing) (blob_read sized q.ask) (target_blob sized q.ask)) there
+      ap (λ (o : Op). frame_by v o q (standing_read sized) (blob_read sized q.ask) (target_blob sized q.ask)) is
+      ∙ ap (λ (o : Option Standing). frame_by v op.GetAcl q (unwrap_or o empty_standing) (blob_read sized q.ask) (target_blob sized q.ask)) there
 
   -- the frame of Get Block List is the frame of the whole blob that it names
-  pub frame_of_block_list : (b : Blob (List Piece)) → q.ask.op ≡ op.GetBlockList → b ≡ target_blob p q.ask → frame sized q ≡ list_frame q.ask.args.kinds (blob_value pieces_len b)
+  pub frame_of_block_list : (b : Blob (List Piece)) → q.ask.op ≡ op.GetBlockList → b ≡ target_blob p q.ask → frame v sized q ≡ list_frame q.ask.args.kinds (blob_value pieces_len b)
   frame_of_block_list b is found =
-      ap (λ (o : Op). frame_by o q (standing_read sized) (blob_read sized q.ask) (target_blob sized q.ask)) is
+      ap (λ (o : Op). frame_by v o q (standing_read sized) (blob_read sized q.ask) (target_blob sized q.ask)) is
       ∙ ap (list_frame q.ask.args.kinds) (target_blob-part_value pieces_len p q.ask ∙ ap (blob_value pieces_len) (sym found))
 
 -- on a Get Blob the pieces of the blob go out, or what the range asks for

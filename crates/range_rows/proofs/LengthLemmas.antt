@@ -20,6 +20,7 @@ use Rattle.body_forms.specs.WrittenPolicies.{policies_text}
 use Rattle.range_rows.specs.NamedBlobs.{target_blob}
 use Rattle.range_rows.specs.Frames.{blob_read, empty_blob, frame_by, ranged_frame, standing_read}
 use Rattle.range_rows.specs.Ranges.{range_end}
+use Rattle.range_rows.specs.Replaced.{Replaced}
 use Rattle.range_rows.specs.SentContent.{blob_content, byte_count, bytes_by, bytes_sent, ranged_bytes, reply_of, sizes}
 use Rattle.range_rows.specs.ShownBlocks.{list_text}
 use Rattle.range_rows.specs.ObjectRules.{blob_size, named_blob}
@@ -66,31 +67,31 @@ length_of_range r bytes =
 
 -- ---- lengths of replies
 
-length_of_ranged : (range : Option ByteRange) (c : Committed (List ℕ))
-    → (ranged_frame range (committed_value byte_count c)).length ≡ length ((ranged_frame range (committed_value byte_count c)).body ++ ranged_bytes range (blob_content c))
-length_of_ranged None c = size_of_content c.blocks
-length_of_ranged (Some r) c = ap (λ n. range_end r n - r.first) (size_of_content c.blocks) ∙ length_of_range r (blob_content c)
+length_of_ranged : (v : Replaced) (range : Option ByteRange) (c : Committed (List ℕ))
+    → (ranged_frame v range (committed_value byte_count c)).length ≡ length ((ranged_frame v range (committed_value byte_count c)).body ++ ranged_bytes range (blob_content c))
+length_of_ranged v None c = size_of_content c.blocks
+length_of_ranged v (Some r) c = ap (λ n. range_end r n - r.first) (size_of_content c.blocks) ∙ length_of_range r (blob_content c)
 
-length_by_op : (o : Op) (q : Asked) (s : Standing) (c : Committed (List ℕ)) (b : Blob ℕ) → (o ≡ op.BlobProperties → ⊥)
-    → (frame_by o q s (committed_value byte_count c) b).length ≡ length ((frame_by o q s (committed_value byte_count c) b).body ++ bytes_by o q.ask.args.range c)
-length_by_op op.GetBlob q s c b other = length_of_ranged q.ask.args.range c
-length_by_op op.GetBlockList q s c b other = ap (λ (bytes : List ℕ). length bytes) (sym (append-nil (list_text q.ask.args.kinds b)))
-length_by_op op.GetAcl q s c b other = ap (λ (bytes : List ℕ). length bytes) (sym (append-nil (policies_text s.acl.policies)))
-length_by_op op.BlobProperties q s c b other = absurd (other refl)
-length_by_op other q s c b apart = refl
+length_by_op : (v : Replaced) (o : Op) (q : Asked) (s : Standing) (c : Committed (List ℕ)) (b : Blob ℕ) → (o ≡ op.BlobProperties → ⊥)
+    → (frame_by v o q s (committed_value byte_count c) b).length ≡ length ((frame_by v o q s (committed_value byte_count c) b).body ++ bytes_by o q.ask.args.range c)
+length_by_op v op.GetBlob q s c b other = length_of_ranged v q.ask.args.range c
+length_by_op v op.GetBlockList q s c b other = ap (λ (bytes : List ℕ). length bytes) (sym (append-nil (list_text q.ask.args.kinds b)))
+length_by_op v op.GetAcl q s c b other = ap (λ (bytes : List ℕ). length bytes) (sym (append-nil (policies_text s.acl.policies)))
+length_by_op v op.BlobProperties q s c b other = absurd (other refl)
+length_by_op v other q s c b apart = refl
 
-module _ (p : Part (List ℕ)) (q : Asked) where
+module _ (v : Replaced) (p : Part (List ℕ)) (q : Asked) where
   abbrev framed : Op → Committed ℕ → Reply
-  framed o c = frame_by o q (standing_read (sizes p)) c (target_blob (sizes p) q.ask)
+  framed o c = frame_by v o q (standing_read (sizes p)) c (target_blob (sizes p) q.ask)
 
   -- the length is the number of bytes of the body
-  pub length_of_body : (q.ask.op ≡ op.BlobProperties → ⊥) → (reply_of p q).length ≡ length (reply_of p q).body
+  pub length_of_body : (q.ask.op ≡ op.BlobProperties → ⊥) → (reply_of v p q).length ≡ length (reply_of v p q).body
   length_of_body other =
       subst (λ (c : Committed ℕ). (framed q.ask.op c).length ≡ length ((framed q.ask.op c).body ++ bytes_sent p q)) (sym (sized_blob p q))
-      (length_by_op q.ask.op q (standing_read (sizes p)) (blob_read p q.ask) (target_blob (sizes p) q.ask) other)
+      (length_by_op v q.ask.op q (standing_read (sizes p)) (blob_read p q.ask) (target_blob (sizes p) q.ask) other)
 
   -- on Get Blob Properties the length is the number of bytes of the blob
-  pub length_of_blob : q.ask.op ≡ op.BlobProperties → (reply_of p q).length ≡ length (blob_content (blob_read p q.ask))
+  pub length_of_blob : q.ask.op ≡ op.BlobProperties → (reply_of v p q).length ≡ length (blob_content (blob_read p q.ask))
   length_of_blob is =
       ap (λ (o : Op). (framed o (blob_read (sizes p) q.ask)).length) is
       ∙ ap (λ (c : Committed ℕ). blob_size c) (sized_blob p q)

@@ -12,3 +12,4 @@ pub mod RangeLemmas
 pub mod SpanLemmas
 pub mod TargetEntries
 pub mod Unrefused
+pub mod VisibleLemmas

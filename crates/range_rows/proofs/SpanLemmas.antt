@@ -24,6 +24,7 @@ use Rattle.stamp_types.proofs.EachContents.{EachContent-then}
 use Rattle.range_rows.specs.declared.answer.Span.{Span}
 use Rattle.range_rows.specs.Frames.{empty_blob, frame}
 use Rattle.range_rows.specs.Ranges.{part_spans, range_end}
+use Rattle.range_rows.specs.Replaced.{Replaced}
 use Rattle.range_rows.specs.SentContent.{ReadsWhole, blob_content, bytes_by, bytes_sent, is_within, ranged_bytes, ranged_spans, reply_of, span_bytes, spans, spans_by, spans_len, whole_span, with_content}
 use Rattle.range_rows.specs.ObjectRules.{named_blob}
 use Rattle.range_rows.proofs.AnswerLemmas.{named_blob-part_value}
@@ -133,7 +134,7 @@ module _ (read : Piece → List ℕ) where
         ∙ ap (λ (o : Option (Committed (List ℕ))). bytes_by q.ask.op q.ask.args.range (unwrap_or o empty_blob)) (sym (named_blob-part_value (flat_map read) p q.ask))
 
     -- with them the frame is the reply
-    pub reply_of-read : with_content (frame (part_value pieces_len p) q) (flat_map (span_bytes read) (spans p q)) ≡ reply_of (part_value (flat_map read) p) q
-    reply_of-read =
+    pub reply_of-read : (v : Replaced) → with_content (frame v (part_value pieces_len p) q) (flat_map (span_bytes read) (spans p q)) ≡ reply_of v (part_value (flat_map read) p) q
+    reply_of-read v =
         let sized = part_value-sizes (flat_map read) p (EachContent-then (ReadsWhole read) (λ ps. length (flat_map read ps) ≡ pieces_len ps) length-read p whole) in
-        λ i. with_content (frame (sym sized i) q) (bytes_sent-read i)
+        λ i. with_content (frame v (sym sized i) q) (bytes_sent-read i)

@@ -28,6 +28,7 @@ use Rattle.body_forms.specs.WrittenPolicies.{policies_text}
 use Rattle.range_rows.specs.NamedBlobs.{target_blob}
 use Rattle.range_rows.specs.ObjectRules.{blob_size, named_blob}
 use Rattle.range_rows.specs.Ranges.{range_end, sent_range}
+use Rattle.range_rows.specs.Replaced.{Replaced, nothing_replaced, or_own}
 use Rattle.range_rows.specs.ShownBlocks.{list_text}
 
 -- a header of a text, which has no line if the text is empty
@@ -39,11 +40,12 @@ line_of make (b ∷ bs) = make (b ∷ bs) ∷ []
 abbrev pub date_headers : ℕ → ℕ → List Header
 date_headers etag made = header.Etag etag ∷ header.LastModified made ∷ []
 
--- the kept headers of a blob
-abbrev pub kept_lines : PropsFields → List Header
-kept_lines k =
-    header.ContentType k.content_type ∷ line_of header.ContentEncoding k.encoding ++ line_of header.ContentLanguage k.language
-    ++ map header.ContentMd5 (option_to_list k.md5) ++ line_of header.CacheControl k.cache_control
+-- the kept headers of a blob, of which the request may replace some; a blob keeps no Content-Disposition, so only a request gives it
+abbrev pub kept_lines : Replaced → PropsFields → List Header
+kept_lines v k =
+    header.ContentType (or_own v.content_type k.content_type) ∷ line_of header.ContentEncoding (or_own v.encoding k.encoding)
+    ++ line_of header.ContentLanguage (or_own v.language k.language) ++ map header.ContentMd5 (option_to_list k.md5)
+    ++ line_of header.CacheControl (or_own v.cache_control k.cache_control) ++ line_of header.ContentDisposition v.disposition
 
 -- the same kept headers, and no MD5
 abbrev pub without_md5 : PropsFields → PropsFields
@@ -54,13 +56,13 @@ abbrev pub metadata_headers : List Meta → ℕ → ℕ → List Header
 metadata_headers metas etag made = map header.Meta metas ++ date_headers etag made
 
 -- the headers of a blob that is read, or whose properties are read
-abbrev pub read_headers : {C : Type 0} → Committed C → List Header
-read_headers c = kept_lines c.props ++ map header.Meta c.metadata ++ header.BlobType ∷ header.AcceptRanges ∷ date_headers c.etag c.made
+abbrev pub read_headers : {C : Type 0} → Replaced → Committed C → List Header
+read_headers v c = kept_lines v c.props ++ map header.Meta c.metadata ++ header.BlobType ∷ header.AcceptRanges ∷ date_headers c.etag c.made
 
 -- the headers of a part of a blob: no MD5, since the MD5 is that of all bytes, and which part it is
-abbrev pub part_headers : {C : Type 0} → SentRange → Committed C → List Header
-part_headers sent c =
-    kept_lines (without_md5 c.props) ++ header.ContentRange sent ∷ map header.Meta c.metadata
+abbrev pub part_headers : {C : Type 0} → Replaced → SentRange → Committed C → List Header
+part_headers v sent c =
+    kept_lines v (without_md5 c.props) ++ header.ContentRange sent ∷ map header.Meta c.metadata
     ++ header.BlobType ∷ header.AcceptRanges ∷ date_headers c.etag c.made
 
 -- a reply that refuses nothing, with an empty body
@@ -94,17 +96,17 @@ abbrev pub acl_frame : Standing → Reply
 acl_frame s = text_reply (xml_header ∷ level_headers s.acl.level ++ date_headers s.etag s.made) (policies_text s.acl.policies)
 
 -- the frame of the reply to Get Blob without a range, and to Get Blob Properties: its length is the length of all blocks together
-abbrev pub get_frame : Committed ℕ → Reply
-get_frame c = success_reply status.Success (read_headers c) (blob_size c)
+abbrev pub get_frame : Replaced → Committed ℕ → Reply
+get_frame v c = success_reply status.Success (read_headers v c) (blob_size c)
 
 -- the frame of the reply to Get Blob with a range: its length is the length of the part
-abbrev pub part_frame : ByteRange → Committed ℕ → Reply
-part_frame r c = success_reply status.Partial (part_headers (sent_range r (blob_size c)) c) (range_end r (blob_size c) - r.first)
+abbrev pub part_frame : Replaced → ByteRange → Committed ℕ → Reply
+part_frame v r c = success_reply status.Partial (part_headers v (sent_range r (blob_size c)) c) (range_end r (blob_size c) - r.first)
 
 -- the frame of the reply to Get Blob, with the range or without one
-abbrev pub ranged_frame : Option ByteRange → Committed ℕ → Reply
-ranged_frame None c = get_frame c
-ranged_frame (Some r) c = part_frame r c
+abbrev pub ranged_frame : Replaced → Option ByteRange → Committed ℕ → Reply
+ranged_frame v None c = get_frame v c
+ranged_frame v (Some r) c = part_frame v r c
 
 -- A container and a blob without anything. They take the part of what does not exist in the reply to a request that no rule
 -- refuses. If its operation lists no names, no request is answered in this way: what a request answers from is made by its
@@ -129,30 +131,30 @@ standing_read p = unwrap_or p.standing empty_standing
 abbrev pub blob_read : {C : Type 0} → Part C → Ask → Committed C
 blob_read p a = unwrap_or (named_blob p a) empty_blob
 
--- the frame of the reply to an operation, if this is what the container has beside its blobs, this is what readers see of the blob, and
--- this is the whole blob, after the operation. A list of names is not answered in this way (list_pages has the replies to the two lists)
-abbrev pub frame_by : Op → Asked → Standing → Committed ℕ → Blob ℕ → Reply
-frame_by op.CreateContainer q s c b = success_reply status.Created (date_headers s.etag s.made) 0
-frame_by op.ContainerProperties q s c b = success_reply status.Success (metadata_headers s.metadata s.etag s.made) 0
-frame_by op.SetContainerMetadata q s c b = success_reply status.Success (date_headers s.etag s.made) 0
-frame_by op.GetAcl q s c b = acl_frame s
-frame_by op.SetAcl q s c b = success_reply status.Success (date_headers s.etag s.made) 0
-frame_by op.DeleteContainer q s c b = success_reply status.Accepted [] 0
-frame_by op.PutBlob q s c b = put_reply (md5 q.body) c.etag c.made
-frame_by op.GetBlob q s c b = ranged_frame q.ask.args.range c
-frame_by op.BlobProperties q s c b = get_frame c
-frame_by op.GetMetadata q s c b = success_reply status.Success (metadata_headers c.metadata c.etag c.made) 0
-frame_by op.SetMetadata q s c b = success_reply status.Success (date_headers c.etag c.made) 0
-frame_by op.DeleteBlob q s c b = success_reply status.Accepted [] 0
-frame_by op.PutBlock q s c b = block_reply (md5 q.body)
-frame_by op.PutBlockList q s c b = put_reply (md5 q.body) c.etag c.made
-frame_by op.GetBlockList q s c b = list_frame q.ask.args.kinds b
-frame_by _ q s c b = success_reply status.Success [] 0
+-- the frame of the reply to an operation, if the request replaces these headers, this is what the container has beside its blobs, this is
+-- what readers see of the blob, and this is the whole blob, after the operation. A list of names is not answered in this way (list_pages has the replies to the two lists)
+abbrev pub frame_by : Replaced → Op → Asked → Standing → Committed ℕ → Blob ℕ → Reply
+frame_by v op.CreateContainer q s c b = success_reply status.Created (date_headers s.etag s.made) 0
+frame_by v op.ContainerProperties q s c b = success_reply status.Success (metadata_headers s.metadata s.etag s.made) 0
+frame_by v op.SetContainerMetadata q s c b = success_reply status.Success (date_headers s.etag s.made) 0
+frame_by v op.GetAcl q s c b = acl_frame s
+frame_by v op.SetAcl q s c b = success_reply status.Success (date_headers s.etag s.made) 0
+frame_by v op.DeleteContainer q s c b = success_reply status.Accepted [] 0
+frame_by v op.PutBlob q s c b = put_reply (md5 q.body) c.etag c.made
+frame_by v op.GetBlob q s c b = ranged_frame v q.ask.args.range c
+frame_by v op.BlobProperties q s c b = get_frame v c
+frame_by v op.GetMetadata q s c b = success_reply status.Success (metadata_headers c.metadata c.etag c.made) 0
+frame_by v op.SetMetadata q s c b = success_reply status.Success (date_headers c.etag c.made) 0
+frame_by v op.DeleteBlob q s c b = success_reply status.Accepted [] 0
+frame_by v op.PutBlock q s c b = block_reply (md5 q.body)
+frame_by v op.PutBlockList q s c b = put_reply (md5 q.body) c.etag c.made
+frame_by v op.GetBlockList q s c b = list_frame q.ask.args.kinds b
+frame_by v _ q s c b = success_reply status.Success [] 0
 
--- the frame of the reply to an allowed request, from the container after the request's change
-abbrev pub frame : Part ℕ → Asked → Reply
-frame p q = frame_by q.ask.op q (standing_read p) (blob_read p q.ask) (target_blob p q.ask)
+-- the frame of the reply to an allowed request that replaces these headers, from the container after the request's change
+abbrev pub frame : Replaced → Part ℕ → Asked → Reply
+frame v p q = frame_by v q.ask.op q (standing_read p) (blob_read p q.ask) (target_blob p q.ask)
 
 -- the frame of the reply to an allowed request that writes, from the number and the moment of its change
 abbrev pub write_frame : Asked → ℕ → ℕ → Reply
-write_frame q n t = frame_by q.ask.op q (record empty_standing { etag = n; made = t }) (record empty_blob { etag = n; made = t }) no_blob
+write_frame q n t = frame_by nothing_replaced q.ask.op q (record empty_standing { etag = n; made = t }) (record empty_blob { etag = n; made = t }) no_blob

@@ -7,6 +7,7 @@ pub mod NamedBlobs
 pub mod ObjectRules
 pub mod Ranges
 pub mod Readings
+pub mod Replaced
 pub mod RequestChanges
 pub mod SentContent
 pub mod ShownBlocks

@@ -13,6 +13,7 @@ use Rattle.stamp_types.specs.World.{Part, part_value}
 use Rattle.range_rows.specs.declared.answer.Span.{Span}
 use Rattle.range_rows.specs.Frames.{blob_read, frame}
 use Rattle.range_rows.specs.Ranges.{range_end, part_spans}
+use Rattle.range_rows.specs.Replaced.{Replaced}
 
 -- all content of a blob
 abbrev pub blob_content : {C : Type 0} → Committed (List C) → List C
@@ -44,9 +45,9 @@ sizes p = part_value byte_count p
 abbrev pub with_content : Reply → List ℕ → Reply
 with_content r bytes = record r { body = r.body ++ bytes }
 
--- the reply to an allowed request, from the container after the request's change
-abbrev pub reply_of : Part (List ℕ) → Asked → Reply
-reply_of p q = with_content (frame (sizes p) q) (bytes_sent p q)
+-- the reply to an allowed request that replaces these headers, from the container after the request's change
+abbrev pub reply_of : Replaced → Part (List ℕ) → Asked → Reply
+reply_of v p q = with_content (frame v (sizes p) q) (bytes_sent p q)
 
 -- a piece from its first byte to its last
 abbrev pub whole_span : Piece → Span

@@ -12,6 +12,7 @@ ghost use Rattle.range_rows.specs.Frames as frames;
 ghost use Rattle.range_rows.specs.Judgements.{IsAllowed};
 ghost use Rattle.range_rows.specs.NamedBlobs.{IsTarget};
 ghost use Rattle.range_rows.specs.ObjectRules.{object_refusal};
+ghost use Rattle.range_rows.specs.Replaced.{Replaced};
 ghost use Rattle.range_rows.specs.SentContent as content;
 
 use crate::acl_reply::acl_reply;
@@ -20,6 +21,7 @@ use crate::block_list_reply::list_reply;
 use crate::frames::{get_frame, metadata_reply, part_frame, write_frame};
 use crate::judged::Allowed;
 use crate::ranges::{part_of, range_end};
+use crate::replacements::Replacements;
 use crate::target::Target;
 use row_trees::Found;
 use stamp_types::{Block, ByteRange, Committed, Items, Moment, Op, Piece, Pieces, Reply, Request};
@@ -66,17 +68,22 @@ fn without_content(alloc: Global, frame: Reply) -> Answer
 
 // The answer to a Get Blob without a range: all of the blob.
 #[tactic(auto, using(crate::proofs::AnswerLemmas::spans_of_blocks, crate::proofs::SpanLemmas::whole_within, crate::proofs::SpanLemmas::spans_len_of_blocks, crate::proofs::PutParts::within_blob))]
-fn get_answer(alloc: Global, blob: &Committed<Pieces>, len: u64) -> Result<Answer, AllocError>
+fn get_answer(
+    alloc: Global,
+    blob: &Committed<Pieces>,
+    len: u64,
+    replaced: &Replacements<'_>,
+) -> Result<Answer, AllocError>
     requires blocks { IsTrue (are_blocks blob.now.blocks) }
     requires len { len ≡ blocks_len blob.now.blocks }
     ensures frame { IfOk result (λ answer.
-        answer.frame ≡ frames.get_frame (committed_value pieces_len blob.now)) }
+        answer.frame ≡ frames.get_frame replaced.now (committed_value pieces_len blob.now)) }
     ensures spans { IfOk result (λ answer.
         answer.spans ≡ map content.whole_span (content.blob_content blob.now)) }
     ensures within { IfOk result (λ answer. IsTrue (list_all content.is_within answer.spans)) }
     ensures short { IfOk result (λ answer. content.spans_len answer.spans ≤ blob_limit) }
 {
-    let frame = get_frame(alloc, blob, len)?;
+    let frame = get_frame(alloc, blob, len, replaced)?;
     let spans = spans_of(alloc, blob.blocks.as_slice())?;
     Ok(Answer {
         frame,
@@ -91,17 +98,18 @@ fn part_answer(
     range: ByteRange,
     blob: &Committed<Pieces>,
     len: u64,
+    replaced: &Replacements<'_>,
 ) -> Result<Answer, AllocError>
     requires blocks { IsTrue (are_blocks blob.now.blocks) }
     requires len { len ≡ blocks_len blob.now.blocks }
     ensures frame { IfOk result (λ answer.
-        answer.frame ≡ frames.part_frame range (committed_value pieces_len blob.now)) }
+        answer.frame ≡ frames.part_frame replaced.now range (committed_value pieces_len blob.now)) }
     ensures spans { IfOk result (λ answer.
         answer.spans ≡ content.ranged_spans (Some range) (content.blob_content blob.now)) }
     ensures within { IfOk result (λ answer. IsTrue (list_all content.is_within answer.spans)) }
     ensures short { IfOk result (λ answer. content.spans_len answer.spans ≤ blob_limit) }
 {
-    let frame = part_frame(alloc, range, blob, len)?;
+    let frame = part_frame(alloc, range, blob, len, replaced)?;
     let end = range_end(range, len);
     let spans = part_of(alloc, range.first, end, blob.blocks.as_slice())?;
     Ok(Answer {
@@ -116,19 +124,20 @@ fn ranged_answer(
     range: Option<ByteRange>,
     blob: &Committed<Pieces>,
     len: u64,
+    replaced: &Replacements<'_>,
 ) -> Result<Answer, AllocError>
     requires blocks { IsTrue (are_blocks blob.now.blocks) }
     requires len { len ≡ blocks_len blob.now.blocks }
     ensures frame { IfOk result (λ answer.
-        answer.frame ≡ frames.ranged_frame range (committed_value pieces_len blob.now)) }
+        answer.frame ≡ frames.ranged_frame replaced.now range (committed_value pieces_len blob.now)) }
     ensures spans { IfOk result (λ answer.
         answer.spans ≡ content.ranged_spans range (content.blob_content blob.now)) }
     ensures within { IfOk result (λ answer. IsTrue (list_all content.is_within answer.spans)) }
     ensures short { IfOk result (λ answer. content.spans_len answer.spans ≤ blob_limit) }
 {
     match range {
-        Some(range) => part_answer(alloc, range, blob, len),
-        None => get_answer(alloc, blob, len),
+        Some(range) => part_answer(alloc, range, blob, len, replaced),
+        None => get_answer(alloc, blob, len, replaced),
     }
 }
 
@@ -143,8 +152,8 @@ fn write_answer(
 ) -> Result<Answer, AllocError>
     requires writes { IsTrue (writes request.now.ask.op) }
     requires allowed { object_refusal (sizes_found found.now) request.now ≡ None }
-    ensures frame { IfOk result (λ answer. answer.frame
-        ≡ frames.frame (sizes_found_after found.now request.now moment) request.now) }
+    ensures frame { (v : Replaced) → IfOk result (λ answer. answer.frame
+        ≡ frames.frame v (sizes_found_after found.now request.now moment) request.now) }
     ensures spans { IfOk result (λ answer. answer.spans ≡ []) }
 {
     let frame = write_frame(alloc, request, found.count() + 1, moment)?;
@@ -153,13 +162,18 @@ fn write_answer(
 
 // The answer to an allowed request that reads.
 #[tactic(auto, using(crate::proofs::Unrefused::allowed_blob, crate::proofs::Unrefused::allowed_container, crate::proofs::FrameLemmas::frame_of_container_properties, crate::proofs::FrameLemmas::frame_of_acl, crate::proofs::FrameLemmas::frame_of_get_blob, crate::proofs::FrameLemmas::frame_of_blob_properties, crate::proofs::FrameLemmas::frame_of_get_metadata, crate::proofs::FrameLemmas::frame_of_block_list, crate::proofs::FrameLemmas::spans_of_get, crate::proofs::FrameLemmas::spans_of_others))]
-fn read_answer(alloc: Global, target: &Target<'_>, request: &Request) -> Result<Answer, AllocError>
+fn read_answer(
+    alloc: Global,
+    target: &Target<'_>,
+    request: &Request,
+    replaced: &Replacements<'_>,
+) -> Result<Answer, AllocError>
     requires target { IsTarget target.now request.now.ask }
     requires names { lists_names request.now.ask.op ≡ false }
     requires reads { writes request.now.ask.op ≡ false }
     requires allowed { object_refusal (sizes_found target.now.container) request.now ≡ None }
     ensures frame { IfOk result (λ answer.
-        answer.frame ≡ frames.frame (sizes_found target.now.container) request.now) }
+        answer.frame ≡ frames.frame replaced.now (sizes_found target.now.container) request.now) }
     ensures within { IfOk result (λ answer. IsTrue (list_all content.is_within answer.spans)) }
     ensures short { IfOk result (λ answer. content.spans_len answer.spans ≤ blob_limit) }
     ensures spans { IfOk result (λ answer.
@@ -177,7 +191,7 @@ fn read_answer(alloc: Global, target: &Target<'_>, request: &Request) -> Result<
             Ok(without_content(alloc, frame))
         }
         (Op::BlobProperties, _, Some(blob)) => {
-            let frame = get_frame(alloc, blob, seen.len())?;
+            let frame = get_frame(alloc, blob, seen.len(), replaced)?;
             Ok(without_content(alloc, frame))
         }
         (Op::GetMetadata, _, Some(blob)) => {
@@ -185,7 +199,7 @@ fn read_answer(alloc: Global, target: &Target<'_>, request: &Request) -> Result<
             Ok(without_content(alloc, frame))
         }
         (Op::GetBlob, _, Some(blob)) => {
-            let answer = ranged_answer(alloc, ask.args.range, blob, seen.len())?;
+            let answer = ranged_answer(alloc, ask.args.range, blob, seen.len(), replaced)?;
             Ok(answer)
         }
         (Op::GetBlockList, _, _) => {
@@ -199,7 +213,7 @@ fn read_answer(alloc: Global, target: &Target<'_>, request: &Request) -> Result<
 impl<'a> Allowed<'a> {
     /// The answer to the request at the moment. A list of names has another reply (`list_pages`). If the
     /// request makes a change, the answer is made from the container as it is after that change, which
-    /// is not applied yet.
+    /// is not applied yet. The reply to a Get Blob or a Get Blob Properties has the replaced headers.
     ///
     /// The answer has shares of the content, of which no byte is copied, or the content's places in
     /// streams: whoever sends the answer reads the content there.
@@ -212,11 +226,12 @@ impl<'a> Allowed<'a> {
         alloc: Global,
         request: &Request,
         moment: Moment,
+        replaced: &Replacements<'_>,
     ) -> Result<Answer, AllocError>
         requires allowed { IsAllowed self.now request.now }
         requires names { lists_names request.now.ask.op ≡ false }
         ensures frame { IfOk result (λ answer.
-            answer.frame ≡ frames.frame (sizes_found_after self.now.target.container request.now moment) request.now) }
+            answer.frame ≡ frames.frame replaced.now (sizes_found_after self.now.target.container request.now moment) request.now) }
         ensures within { IfOk result (λ answer. IsTrue (list_all content.is_within answer.spans)) }
         ensures short { IfOk result (λ answer. content.spans_len answer.spans ≤ blob_limit) }
         ensures spans { IfOk result (λ answer.
@@ -226,7 +241,7 @@ impl<'a> Allowed<'a> {
             let answer = write_answer(alloc, &self.target.container, request, moment)?;
             return Ok(answer);
         }
-        let answer = read_answer(alloc, &self.target, request)?;
+        let answer = read_answer(alloc, &self.target, request, replaced)?;
         Ok(answer)
     }
 }

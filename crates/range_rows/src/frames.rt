@@ -2,6 +2,7 @@
 ghost use Rattle.std.specs.Prelude.{◌≡◌, ◌∷◌, ◌++◌, IfOk, IsTrue, OnOk, map};
 ghost use Rattle.std.specs.Option.{option_to_list};
 ghost use Rattle.stamp_values.specs.Operations.{writes};
+ghost use Rattle.stamp_values.specs.Texts.{is_visible};
 ghost use Rattle.stamp_types.specs.declared.header.Header.TheVariants as header;
 ghost use Rattle.stamp_types.specs.Changes.{blocks_len};
 ghost use Rattle.stamp_types.specs.Pieces.{pieces_len};
@@ -9,42 +10,75 @@ ghost use Rattle.stamp_types.specs.Requests.{IsRequest};
 ghost use Rattle.stamp_types.specs.World.{committed_value};
 ghost use Rattle.stamp_types.specs.declared.status.Status.TheVariants as status;
 ghost use Rattle.range_rows.specs.Frames as frames;
+ghost use Rattle.range_rows.specs.Replaced.{or_own};
 
 use crate::ranges::{range_end, sent_range};
+use crate::replacements::{Replacements, shown, visible};
 use stamp_types::{
     ByteRange, Committed, Header, Items, Meta, Metadata, Moment, Op, Pieces, Props, Reply, Request,
     SentRange, Shares, Status, Visible,
 };
 use std::alloc::{AllocError, Global};
 
-fn push_encoding(headers: &mut Vec<Header>, encoding: &Visible) -> Result<(), AllocError>
-    ensures { OnOk result
-        (headers.new.items
-        ≡ headers.old.items ++ frames.line_of header.ContentEncoding encoding.now) }
+fn push_encoding(
+    alloc: Global,
+    headers: &mut Vec<Header>,
+    replacement: &[u8],
+    own: &Visible,
+) -> Result<(), AllocError>
+    requires { IsTrue (is_visible replacement.now) }
+    ensures { OnOk result (headers.new.items ≡ headers.old.items
+        ++ frames.line_of header.ContentEncoding (or_own replacement.now own.now)) }
 {
-    if !encoding.as_str().is_empty() {
-        headers.push(Header::ContentEncoding(encoding.clone()?))?;
+    if !replacement.is_empty() || !own.as_str().is_empty() {
+        headers.push(Header::ContentEncoding(shown(alloc, replacement, own)?))?;
     }
     Ok(())
 }
 
-fn push_language(headers: &mut Vec<Header>, language: &Visible) -> Result<(), AllocError>
-    ensures { OnOk result
-        (headers.new.items
-        ≡ headers.old.items ++ frames.line_of header.ContentLanguage language.now) }
+fn push_language(
+    alloc: Global,
+    headers: &mut Vec<Header>,
+    replacement: &[u8],
+    own: &Visible,
+) -> Result<(), AllocError>
+    requires { IsTrue (is_visible replacement.now) }
+    ensures { OnOk result (headers.new.items ≡ headers.old.items
+        ++ frames.line_of header.ContentLanguage (or_own replacement.now own.now)) }
 {
-    if !language.as_str().is_empty() {
-        headers.push(Header::ContentLanguage(language.clone()?))?;
+    if !replacement.is_empty() || !own.as_str().is_empty() {
+        headers.push(Header::ContentLanguage(shown(alloc, replacement, own)?))?;
     }
     Ok(())
 }
 
-fn push_cache_control(headers: &mut Vec<Header>, cache: &Visible) -> Result<(), AllocError>
-    ensures { OnOk result
-        (headers.new.items ≡ headers.old.items ++ frames.line_of header.CacheControl cache.now) }
+fn push_cache_control(
+    alloc: Global,
+    headers: &mut Vec<Header>,
+    replacement: &[u8],
+    own: &Visible,
+) -> Result<(), AllocError>
+    requires { IsTrue (is_visible replacement.now) }
+    ensures { OnOk result (headers.new.items ≡ headers.old.items
+        ++ frames.line_of header.CacheControl (or_own replacement.now own.now)) }
 {
-    if !cache.as_str().is_empty() {
-        headers.push(Header::CacheControl(cache.clone()?))?;
+    if !replacement.is_empty() || !own.as_str().is_empty() {
+        headers.push(Header::CacheControl(shown(alloc, replacement, own)?))?;
+    }
+    Ok(())
+}
+
+fn push_disposition(
+    alloc: Global,
+    headers: &mut Vec<Header>,
+    replacement: &[u8],
+) -> Result<(), AllocError>
+    requires { IsTrue (is_visible replacement.now) }
+    ensures { OnOk result (headers.new.items
+        ≡ headers.old.items ++ frames.line_of header.ContentDisposition replacement.now) }
+{
+    if !replacement.is_empty() {
+        headers.push(Header::ContentDisposition(visible(alloc, replacement)?))?;
     }
     Ok(())
 }
@@ -59,21 +93,26 @@ fn push_md5(headers: &mut Vec<Header>, sum: Option<[u8; 16]>) -> Result<(), Allo
     Ok(())
 }
 
-// Puts the lines of the kept headers after the headers, with this MD5. A kept header that is empty
-// has no line.
+// Puts the lines of the kept headers after the headers, with this MD5 and with what replaces some of
+// them. A header whose text is empty has no line.
 fn push_kept(
+    alloc: Global,
     headers: &mut Vec<Header>,
     props: &Props,
     md5: Option<[u8; 16]>,
+    replaced: &Replacements<'_>,
 ) -> Result<(), AllocError>
     ensures { OnOk result (headers.new.items
-        ≡ headers.old.items ++ frames.kept_lines (record props.now { md5 = md5 })) }
+        ≡ headers.old.items ++ frames.kept_lines replaced.now (record props.now { md5 = md5 })) }
 {
-    headers.push(Header::ContentType(props.content_type().clone()?))?;
-    push_encoding(headers, props.encoding())?;
-    push_language(headers, props.language())?;
+    let content_type = shown(alloc, replaced.content_type(), props.content_type())?;
+    headers.push(Header::ContentType(content_type))?;
+    push_encoding(alloc, headers, replaced.encoding(), props.encoding())?;
+    push_language(alloc, headers, replaced.language(), props.language())?;
     push_md5(headers, md5)?;
-    push_cache_control(headers, props.cache_control())?;
+    let cache_control = props.cache_control();
+    push_cache_control(alloc, headers, replaced.cache_control(), cache_control)?;
+    push_disposition(alloc, headers, replaced.disposition())?;
     Ok(())
 }
 
@@ -113,13 +152,19 @@ fn push_blob(headers: &mut Vec<Header>, blob: &Committed<Pieces>) -> Result<(), 
     Ok(())
 }
 
-fn read_headers(alloc: Global, blob: &Committed<Pieces>) -> Result<Vec<Header>, AllocError>
-    ensures { IfOk result (λ headers. headers.items ≡ frames.read_headers blob.now) }
+fn read_headers(
+    alloc: Global,
+    blob: &Committed<Pieces>,
+    replaced: &Replacements<'_>,
+) -> Result<Vec<Header>, AllocError>
+    ensures { IfOk result (λ headers.
+        headers.items ≡ frames.read_headers replaced.now blob.now) }
 {
     let metas = blob.metadata.as_slice();
-    // Room for the five kept headers, the metadata, and the last four lines.
+    // Room for the five kept headers, the metadata, and the last four lines. Few replies have a
+    // Content-Disposition.
     let mut headers = Vec::with_capacity(alloc, metas.len() + 9)?;
-    push_kept(&mut headers, &blob.props, blob.props.md5())?;
+    push_kept(alloc, &mut headers, &blob.props, blob.props.md5(), replaced)?;
     push_metadata(&mut headers, metas)?;
     push_blob(&mut headers, blob)?;
     Ok(headers)
@@ -130,13 +175,15 @@ fn part_headers(
     alloc: Global,
     sent: SentRange,
     blob: &Committed<Pieces>,
+    replaced: &Replacements<'_>,
 ) -> Result<Vec<Header>, AllocError>
-    ensures { IfOk result (λ headers. headers.items ≡ frames.part_headers sent blob.now) }
+    ensures { IfOk result (λ headers.
+        headers.items ≡ frames.part_headers replaced.now sent blob.now) }
 {
     let metas = blob.metadata.as_slice();
     // Room for four kept headers, the range, the metadata, and the last four lines.
     let mut headers = Vec::with_capacity(alloc, metas.len() + 9)?;
-    push_kept(&mut headers, &blob.props, None)?;
+    push_kept(alloc, &mut headers, &blob.props, None, replaced)?;
     headers.push(Header::ContentRange(sent))?;
     push_metadata(&mut headers, metas)?;
     push_blob(&mut headers, blob)?;
@@ -233,12 +280,13 @@ pub(crate) fn get_frame(
     alloc: Global,
     blob: &Committed<Pieces>,
     len: u64,
+    replaced: &Replacements<'_>,
 ) -> Result<Reply, AllocError>
     requires { len ≡ blocks_len blob.now.blocks }
     ensures { IfOk result (λ reply.
-        reply ≡ frames.get_frame (committed_value pieces_len blob.now)) }
+        reply ≡ frames.get_frame replaced.now (committed_value pieces_len blob.now)) }
 {
-    let headers = read_headers(alloc, blob)?;
+    let headers = read_headers(alloc, blob, replaced)?;
     Ok(success_reply(alloc, Status::Success, headers, len))
 }
 
@@ -249,12 +297,13 @@ pub(crate) fn part_frame(
     range: ByteRange,
     blob: &Committed<Pieces>,
     len: u64,
+    replaced: &Replacements<'_>,
 ) -> Result<Reply, AllocError>
     requires { len ≡ blocks_len blob.now.blocks }
     ensures { IfOk result (λ reply.
-        reply ≡ frames.part_frame range (committed_value pieces_len blob.now)) }
+        reply ≡ frames.part_frame replaced.now range (committed_value pieces_len blob.now)) }
 {
-    let headers = part_headers(alloc, sent_range(range, len), blob)?;
+    let headers = part_headers(alloc, sent_range(range, len), blob, replaced)?;
     let part = range_end(range, len).saturating_sub(range.first);
     Ok(success_reply(alloc, Status::Partial, headers, part))
 }

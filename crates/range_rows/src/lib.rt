@@ -15,6 +15,7 @@ mod judged;
 mod object_rules;
 mod ranges;
 mod reading;
+mod replacements;
 mod request_changes;
 mod rows_rules;
 mod target;
@@ -26,5 +27,6 @@ pub use answer_laws::{
 pub use change_laws::a_change_that_no_rule_refuses_fits;
 pub use judged::{Allowed, Judged};
 pub use reading::Reading;
+pub use replacements::Replacements;
 pub use rows_rules::ObjectRules;
 pub use target::Target;

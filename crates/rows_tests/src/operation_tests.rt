@@ -2,7 +2,7 @@
 //! length, the body and the content of each reply, against values that were written by hand.
 
 use crate::sample_requests::{allowed, body, four_names, make, moment_after, request_with};
-use range_rows::{Answer, Reading};
+use range_rows::{Answer, Reading, Replacements};
 use row_trees::Rows;
 use stamp_types::{Change, Header, Level, Moment, Op, Piece, Request, Status};
 use std::alloc::Global;
@@ -196,7 +196,7 @@ fn answer(
     assert!(rt; !request.ask().op.lists_names());
     let reading = Reading::of(alloc, request).expect(rt, "memory");
     let allowed = allowed(rt, alloc, rows, request, &reading);
-    let answer = allowed.reply(alloc, request, moment);
+    let answer = allowed.reply(alloc, request, moment, &Replacements::none());
     answer.expect(rt, "memory")
 }
 

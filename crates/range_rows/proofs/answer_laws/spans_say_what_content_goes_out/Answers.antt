@@ -5,4 +5,4 @@ pub returns-clause-content : goal.returns-clause-content
 returns-clause-content c = λ read p q whole. bytes_sent-read read p q whole
 
 pub returns-clause-reply : goal.returns-clause-reply
-returns-clause-reply c = λ read p q whole. reply_of-read read p q whole
+returns-clause-reply c = λ read v p q whole. reply_of-read read p q whole v
