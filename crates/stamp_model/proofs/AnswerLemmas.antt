@@ -24,7 +24,7 @@ use Rattle.stamp_types.specs.World.{Blob, Part, World, blob_in, blob_value, comm
 use Rattle.stamp_types.proofs.EffectLemmas.{blob_in-set_metadata}
 use Rattle.access_rules.specs.declared.keys.Keys.{Keys}
 use Rattle.range_rows.specs.Frames.{blob_read, frame_by, standing_read}
-use Rattle.range_rows.specs.SentContent.{byte_count, bytes_by, reply_of, sizes, with_content}
+use Rattle.range_rows.specs.SentContent.{byte_count, bytes_by, sizes, with_content}
 use Rattle.row_trees.specs.FoundParts.{has_uncommitted}
 use Rattle.range_rows.specs.NamedBlobs.{has_listed, target_blob}
 use Rattle.range_rows.specs.ObjectRules.{needs_container, needs_blob, named_blob, object_refusal}
@@ -35,12 +35,13 @@ use Rattle.range_rows.proofs.BlockLemmas.{target_blob-part_value}
 use Rattle.stamp_types.proofs.MapEntries.{entries-map_values}
 use Rattle.stamp_model.specs.Refusals.{refusal}
 use Rattle.stamp_model.specs.Effects.{unless_refused, change, effect}
-use Rattle.stamp_model.specs.Responses.{answer_of, tells_container, tells_blob, tells_nothing}
+use Rattle.stamp_model.specs.Responses.{answer_of, tells_container, tells_blob, tells_nothing, rows_answer}
 use Rattle.stamp_model.proofs.ArgumentLemmas.{no_cause}
 use Rattle.stamp_model.proofs.EffectLemmas.{on_key}
 use Rattle.stamp_model.proofs.ObjectLemmas.{is_some-mapped, container_needed, blob_needed}
 use Rattle.stamp_model.proofs.ReadLemmas.{effect-read}
 use Rattle.stamp_model.proofs.ReplyLemmas.{answer_of-rows, unrefused}
+use Rattle.stamp_model.specs.Overrides.{overrides_of}
 
 module _ (p : Part (List ℕ)) (q : Asked) (t : ℕ) where
   abbrev after_act : Option Act → Part (List ℕ)
@@ -148,14 +149,14 @@ module _ (keys : Option Keys) (w : World (List ℕ)) (q : Asked) (t : ℕ) (free
       ap (λ (v : World (List ℕ)). listed_in (part_at v q.ask.key)) (effect-read keys w q t (reads_by q.ask.op tells)) ∙ listed_by q.ask.op refl tells
 
 module _ (q : Asked) (s r : Standing) (c d : Committed ℕ) (b g : Blob ℕ) (e h : Committed (List ℕ)) where
-  nothing_told : (o : Op) → tells_nothing o ≡ true → with_content (frame_by o q s c b) (bytes_by o q.ask.args.range e) ≡ with_content (frame_by o q r d g) (bytes_by o q.ask.args.range h)
+  nothing_told : (o : Op) → tells_nothing o ≡ true → with_content (frame_by (overrides_of q.ask) o q s c b) (bytes_by o q.ask.args.range e) ≡ with_content (frame_by (overrides_of q.ask) o q r d g) (bytes_by o q.ask.args.range h)
   nothing_told op.DeleteContainer tells = refl
   nothing_told op.DeleteBlob tells = refl
   nothing_told op.PutBlock tells = refl
   nothing_told other tells = cc
 
 -- what rows answer is the same whatever the container is, if it tells nothing
-reply_of-nothing : (p r : Part (List ℕ)) (q : Asked) → tells_nothing q.ask.op ≡ true → reply_of p q ≡ reply_of r q
+reply_of-nothing : (p r : Part (List ℕ)) (q : Asked) → tells_nothing q.ask.op ≡ true → rows_answer p q ≡ rows_answer r q
 reply_of-nothing p r q tells =
     nothing_told q (standing_read (sizes p)) (standing_read (sizes r)) (blob_read (sizes p) q.ask) (blob_read (sizes r) q.ask)
     (target_blob (sizes p) q.ask) (target_blob (sizes r) q.ask) (blob_read p q.ask) (blob_read r q.ask) q.ask.op tells

@@ -57,6 +57,7 @@ use Rattle.stamp_model.proofs.ReadLemmas.{part_at-act, part_at-own_act, reply-re
 use Rattle.stamp_model.proofs.ReplyLemmas.{reply-unrefused}
 use Rattle.stamp_model.proofs.WrittenLemmas.{container_before, kept-put, part-deleted, put_act, some_of}
 use Rattle.stamp_model.proofs.SeenLemmas.{alike-put_block, with_block}
+use Rattle.stamp_model.specs.Overrides.{overrides_of}
 
 -- ---- Put Block
 
@@ -219,7 +220,7 @@ module _ (w : World (List ℕ)) (key : Key) (name : List ℕ) (list : Timed)
     body-list get gets whole free =
         ap (λ (r : Reply). r.body)
         (reply-read get.keys (world_after_one w list) get.request get.moment get.bound free op.GetBlob key name list_there refl refl gets committed-list
-        ∙ ap (λ (r : Option ByteRange). with_content (ranged_frame r (committed_value byte_count list_there)) (ranged_bytes r (blob_content list_there))) whole)
+        ∙ ap (λ (r : Option ByteRange). with_content (ranged_frame (overrides_of get.request.ask) r (committed_value byte_count list_there)) (ranged_bytes r (blob_content list_there))) whole)
         ∙ content-list
 
     -- the reply to a Get Blob Properties after the Put Block List has the length of that content
@@ -238,12 +239,12 @@ module _ (w : World (List ℕ)) (key : Key) (name : List ℕ) (list : Timed)
     pub headers-get_list : (get : Timed) → IsOn op.GetBlob key name get.request → get.request.ask.args.range ≡ None
         → (reply_to_one (world_after_one w list) get).rule ≡ None
         → (reply_to_one (world_after_one w list) get).headers
-        ≡ kept_lines (kept_fields kept None) ++ map header.Meta list.request.ask.args.metadata
+        ≡ kept_lines (overrides_of get.request.ask) (kept_fields kept None) ++ map header.Meta list.request.ask.args.metadata
         ++ header.BlobType ∷ header.AcceptRanges ∷ date_headers ((part_at w key).count + 1) list.moment
     headers-get_list get gets whole free =
         ap (λ (r : Reply). r.headers)
         (reply-read get.keys (world_after_one w list) get.request get.moment get.bound free op.GetBlob key name list_there refl refl gets committed-list
-        ∙ ap (λ (r : Option ByteRange). with_content (ranged_frame r (committed_value byte_count list_there)) (ranged_bytes r (blob_content list_there))) whole)
+        ∙ ap (λ (r : Option ByteRange). with_content (ranged_frame (overrides_of get.request.ask) r (committed_value byte_count list_there)) (ranged_bytes r (blob_content list_there))) whole)
 
 -- ---- a blob without uncommitted blocks
 

@@ -23,7 +23,7 @@ use Rattle.stamp_types.specs.Requests.{Asked, IsAsk}
 use Rattle.stamp_types.specs.World.{Blob, Part, World, blob_in, committed_value, part_at}
 use Rattle.access_rules.specs.declared.keys.Keys.{Keys}
 use Rattle.range_rows.specs.Frames.{blob_read, frame_by, standing_read}
-use Rattle.range_rows.specs.SentContent.{byte_count, bytes_by, reply_of, sizes, with_content}
+use Rattle.range_rows.specs.SentContent.{byte_count, bytes_by, sizes, with_content}
 use Rattle.range_rows.specs.NamedBlobs.{target_blob}
 use Rattle.range_rows.specs.ObjectRules.{Cause, cause_holds, fails_if_match, fails_if_none_match, is_any, matches, meets, misses, named_blob}
 use Rattle.range_rows.specs.ObjectRules.Cause.{BlobExists, IsNotModified, MatchFails, NoneMatchFails}
@@ -33,12 +33,13 @@ use Rattle.stamp_model.specs.Conditions.{MeetsConditions, MeetsIfMatch, MeetsIfN
 use Rattle.stamp_model.specs.Effects.{effect, unless_refused, world_after}
 use Rattle.stamp_model.specs.Histories.{IsAccepted, pair_of, replay}
 use Rattle.stamp_model.specs.Refusals.{refusal}
-use Rattle.stamp_model.specs.Responses.{answer_by, answer_of, own_answer_by, reply, response}
+use Rattle.stamp_model.specs.Responses.{answer_by, answer_of, own_answer_by, reply, response, rows_answer}
 use Rattle.stamp_model.specs.Runs.{Timed, world_after_all, reply_to_one}
 use Rattle.stamp_model.proofs.ArgumentLemmas.{free-with_args, no_cause, refusal-with_args}
 use Rattle.stamp_model.proofs.EffectLemmas.{effect-refused, on_key}
 use Rattle.stamp_model.proofs.EtagLemmas.{one_state-replayed, one_state-run}
 use Rattle.stamp_model.proofs.ReplyLemmas.{reply-unrefused}
+use Rattle.stamp_model.specs.Overrides.{overrides_of}
 
 -- ---- what a condition says of a blob
 
@@ -270,11 +271,11 @@ module _ (q : Asked) where
   change_of-bare : (z : Part ℕ) (t : ℕ) → change_of z bare t ≡ change_of z q t
   change_of-bare z t = ap (λ (a : Option Act). option_map (on_key q.ask.key) a) (act_by-bare q.ask.op z t)
 
-  frame_by-bare : (o : Op) (s : Standing) (c : Committed ℕ) (b : Blob ℕ) → frame_by o bare s c b ≡ frame_by o q s c b
+  frame_by-bare : (o : Op) (s : Standing) (c : Committed ℕ) (b : Blob ℕ) → frame_by (overrides_of q.ask) o bare s c b ≡ frame_by (overrides_of q.ask) o q s c b
   frame_by-bare op.CreateContainer s c b = refl
   frame_by-bare other s c b = refl
 
-  reply_of-bare : (p : Part (List ℕ)) → reply_of p bare ≡ reply_of p q
+  reply_of-bare : (p : Part (List ℕ)) → rows_answer p bare ≡ rows_answer p q
   reply_of-bare p =
       ap (λ (r : Reply). with_content r (bytes_by q.ask.op q.ask.args.range (blob_read p q.ask)))
       (frame_by-bare q.ask.op (standing_read (sizes p)) (blob_read (sizes p) q.ask) (target_blob (sizes p) q.ask))

@@ -29,14 +29,14 @@ use Rattle.stamp_types.proofs.WorldLemmas.{blob_in-part_value}
 use Rattle.access_rules.specs.declared.keys.Keys.{Keys}
 use Rattle.range_rows.specs.NamedBlobs.{target_blob}
 use Rattle.range_rows.specs.Frames.{blob_read, date_headers, empty_blob, kept_lines, ranged_frame, standing_read}
-use Rattle.range_rows.specs.SentContent.{blob_content, byte_count, ranged_bytes, reply_of, sizes, with_content}
+use Rattle.range_rows.specs.SentContent.{blob_content, byte_count, ranged_bytes, sizes, with_content}
 use Rattle.range_rows.specs.ObjectRules.{cause_refusal, named_blob, needs_blob, needs_container}
 use Rattle.range_rows.specs.ObjectRules.Cause.{BlobIsAbsent, ContainerIsAbsent}
 use Rattle.range_rows.specs.Readings.{wanted_blocks}
 use Rattle.range_rows.specs.RequestChanges.{put_props}
 use Rattle.stamp_model.specs.Blocks.{reads_committed, wanted_bytes}
 use Rattle.stamp_model.specs.Kept.{GivesNoContent, LeavesContent, LeavesSeen}
-use Rattle.stamp_model.specs.Responses.{reply}
+use Rattle.stamp_model.specs.Responses.{reply, rows_answer}
 use Rattle.stamp_model.specs.Runs.{Timed, IsAdmitted, IsOn, world_after_one, world_after_all, reply_to_one}
 use Rattle.stamp_model.proofs.BlockLemmas.{committed-list, content-list, list_there}
 use Rattle.stamp_model.proofs.KeptLemmas.{committed-left, content-left, unseen-left, left-in_turn, so-in_turn}
@@ -44,6 +44,7 @@ use Rattle.stamp_model.proofs.ObjectLemmas.{object_refusal-container}
 use Rattle.stamp_model.proofs.ReadLemmas.{read_before, reply-read, reply-refused}
 use Rattle.stamp_model.proofs.SeenLemmas.{answers_alike, lists_nothing, writes_nothing}
 use Rattle.stamp_model.proofs.WrittenLemmas.{committed-put, committed-set, headers-set, part-deleted, put_there, reply-absent_blob, set_there}
+use Rattle.stamp_model.specs.Overrides.{overrides_of}
 
 -- if an option is mapped to what a value is mapped to, it has a value that is mapped to the same
 from_mapped : {X Y : Type 0} (g : X → Y) (o : Option X) (y : Y) → option_map g o ≡ Some y → (x : X) × (o ≡ Some x) × (g x ≡ y)
@@ -63,22 +64,22 @@ module _ (later : World (List ℕ)) (key : Key) (name : List ℕ) (c : Committed
   still = from_mapped blocks_and_props (blob_in (part_at later key) name).committed (blocks_and_props c) left
 
   module _ (keys : Option Keys) (get : Asked) (t : ℕ) (bound : Option Key) (gets : IsOn op.GetBlob key name get) (whole : get.ask.args.range ≡ None) (free : (reply keys later get t bound).rule ≡ None) where
-    read : reply keys later get t bound ≡ with_content (ranged_frame None (committed_value byte_count still.0)) (ranged_bytes None (blob_content still.0))
+    read : reply keys later get t bound ≡ with_content (ranged_frame (overrides_of get.ask) None (committed_value byte_count still.0)) (ranged_bytes None (blob_content still.0))
     read =
         reply-read keys later get t bound free op.GetBlob key name still.0 refl refl gets still.1
-        ∙ ap (λ (r : Option ByteRange). with_content (ranged_frame r (committed_value byte_count still.0)) (ranged_bytes r (blob_content still.0))) whole
+        ∙ ap (λ (r : Option ByteRange). with_content (ranged_frame (overrides_of get.ask) r (committed_value byte_count still.0)) (ranged_bytes r (blob_content still.0))) whole
 
     pub body-later : (reply keys later get t bound).body ≡ joined c.blocks
     body-later = ap (λ (r : Reply). r.body) read ∙ ap (λ (kept : List (Block (List ℕ)) × Props). joined kept.0) still.2
 
     pub headers-later : (metadata : List Meta) × (etag : ℕ) × (made : ℕ) × ((reply keys later get t bound).headers
-        ≡ kept_lines c.props ++ map header.Meta metadata ++ header.BlobType ∷ header.AcceptRanges ∷ date_headers etag made)
+        ≡ kept_lines (overrides_of get.ask) c.props ++ map header.Meta metadata ++ header.BlobType ∷ header.AcceptRanges ∷ date_headers etag made)
     headers-later = (
       still.0.metadata,
       still.0.etag,
       still.0.made,
       ap (λ (r : Reply). r.headers) read
-          ∙ ap (λ (kept : List (Block (List ℕ)) × Props). kept_lines kept.1 ++ map header.Meta still.0.metadata ++ header.BlobType ∷ header.AcceptRanges ∷ date_headers still.0.etag still.0.made) still.2,
+          ∙ ap (λ (kept : List (Block (List ℕ)) × Props). kept_lines (overrides_of get.ask) kept.1 ++ map header.Meta still.0.metadata ++ header.BlobType ∷ header.AcceptRanges ∷ date_headers still.0.etag still.0.made) still.2,
     )
 
 module _ (w : World (List ℕ)) (key : Key) (name : List ℕ) (c : Committed (List ℕ)) (seen : (blob_in (part_at w key) name).committed ≡ Some c) where
@@ -110,7 +111,7 @@ module _ (w : World (List ℕ)) (key : Key) (name : List ℕ) (kept : Kept) (put
         ∙ append-nil (held (cut put.request.body)) ∙ held-cut put.request.body
 
     pub headers-put_last : (metadata : List Meta) × (etag : ℕ) × (made : ℕ) × ((reply_to_one (world_after_all w (put ∷ middle)) get).headers
-        ≡ kept_lines (put_props put.request kept) ++ map header.Meta metadata ++ header.BlobType ∷ header.AcceptRanges ∷ date_headers etag made)
+        ≡ kept_lines (overrides_of get.request.ask) (put_props put.request kept) ++ map header.Meta metadata ++ header.BlobType ∷ header.AcceptRanges ∷ date_headers etag made)
     headers-put_last =
         headers-later (world_after_all w (put ∷ middle)) key name stored (content_after (world_after_one w put) key name stored stored_seen middle all) get.keys get.request get.moment get.bound gets whole free
 
@@ -131,7 +132,7 @@ module _ (w : World (List ℕ)) (key : Key) (name : List ℕ) (list : Timed)
         ∙ content-list w key name list lists none kept keeps
 
     pub headers-list_last : (metadata : List Meta) × (etag : ℕ) × (made : ℕ) × ((reply_to_one (world_after_all w (list ∷ middle)) get).headers
-        ≡ kept_lines (kept_fields kept None) ++ map header.Meta metadata ++ header.BlobType ∷ header.AcceptRanges ∷ date_headers etag made)
+        ≡ kept_lines (overrides_of get.request.ask) (kept_fields kept None) ++ map header.Meta metadata ++ header.BlobType ∷ header.AcceptRanges ∷ date_headers etag made)
     headers-list_last =
         headers-later (world_after_all w (list ∷ middle)) key name listed (content_after (world_after_one w list) key name listed listed_seen middle all) get.keys get.request get.moment get.bound gets whole free
 
@@ -171,7 +172,7 @@ module _ (p r : Part (List ℕ)) (q : Asked) (name : List ℕ) (on : q.ask.blob 
       ap (λ (o : Option (List ℕ)). (unwrap_or (option_map (blob_in (sizes p)) o) no_blob).committed) on ∙ same_size
       ∙ sym (ap (λ (o : Option (List ℕ)). (unwrap_or (option_map (blob_in (sizes r)) o) no_blob).committed) on)
 
-  pub reply_of-alike : reads_committed q.ask.op q.ask.args.kinds ≡ true → reply_of p q ≡ reply_of r q
+  pub reply_of-alike : reads_committed q.ask.op q.ask.args.kinds ≡ true → rows_answer p q ≡ rows_answer r q
   reply_of-alike reads =
       answers_alike q (standing_read (sizes p)) (standing_read (sizes r)) (blob_read (sizes p) q.ask) (blob_read (sizes r) q.ask) (target_blob (sizes p) q.ask) (target_blob (sizes r) q.ask)
       (blob_read p q.ask) (blob_read r q.ask)

@@ -20,6 +20,7 @@ pub mod ListedLemmas
 pub mod MadeLemmas
 pub mod MakingLemmas
 pub mod ObjectLemmas
+pub mod OverrideLemmas
 pub mod PartLemmas
 pub mod PolicyLemmas
 pub mod PublicLemmas

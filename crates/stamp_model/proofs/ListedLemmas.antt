@@ -43,6 +43,8 @@ use Rattle.stamp_model.proofs.ReplyLemmas.{reply-admitted, reply-unrefused}
 use Rattle.stamp_model.proofs.SeenContainerLemmas.{answer-listing, before_bound}
 use Rattle.stamp_model.proofs.SuccessLemmas.{seen-before}
 use Rattle.stamp_model.proofs.WrittenLemmas.{committed-deleted, committed-put, committed-set, kept-put}
+use Rattle.stamp_model.specs.Overrides.{overrides_of}
+use Rattle.range_rows.specs.Replaced.{nothing_replaced}
 
 -- ---- the next marker of a page
 
@@ -150,28 +152,28 @@ module _ (c : Committed ℕ) where
   last_lines = header.BlobType ∷ header.AcceptRanges ∷ date_headers c.etag c.made
 
   abbrev first_lines : List Header
-  first_lines = kept_lines c.props ++ map header.Meta c.metadata
+  first_lines = kept_lines nothing_replaced c.props ++ map header.Meta c.metadata
 
   -- the reply to a Get Blob tells what a list shows of its blob
-  told-get : (bytes : List ℕ) → IsTold (with_content (get_frame c) bytes) (shown_part c)
+  told-get : (bytes : List ℕ) → IsTold (with_content (get_frame nothing_replaced c) bytes) (shown_part c)
   told-get bytes = record {
     etag = Contains-append_right first_lines last_lines (header.Etag c.etag) (2, omega arith, refl);
     made = Contains-append_right first_lines last_lines (header.LastModified c.made) (3, omega arith, refl);
     content_type = Contains-append_left first_lines last_lines (header.ContentType c.props.content_type)
-        (Contains-append_left (kept_lines c.props) (map header.Meta c.metadata) (header.ContentType c.props.content_type) (0, omega arith, refl));
+        (Contains-append_left (kept_lines nothing_replaced c.props) (map header.Meta c.metadata) (header.ContentType c.props.content_type) (0, omega arith, refl));
     len = refl;
   }
 
 -- the page of a list tells of a blob what a Get Blob tells
 pub listed-told : (w : World (List ℕ)) (key : Key) (name : List ℕ) (list : Timed) → ListsNames key list.request → (reply_to_one w list).rule ≡ None
-    → (get : Timed) → IsOn op.GetBlob key name get.request → get.request.ask.args.range ≡ None → (reply_to_one w get).rule ≡ None
-    → ListsOnce list.request name (reply_to_one w list) (IsTold (reply_to_one w get))
-listed-told w key name list lists none get gets whole free =
+    → (get : Timed) → IsOn op.GetBlob key name get.request → get.request.ask.args.range ≡ None → overrides_of get.request.ask ≡ nothing_replaced
+    → (reply_to_one w get).rule ≡ None → ListsOnce list.request name (reply_to_one w list) (IsTold (reply_to_one w get))
+listed-told w key name list lists none get gets whole own free =
     let there = seen-before w key name op.GetBlob get refl gets free in
     let sized : Committed ℕ = committed_value byte_count there.0 in
-    let got : reply_to_one w get ≡ with_content (get_frame sized) (blob_content there.0) =
+    let got : reply_to_one w get ≡ with_content (get_frame nothing_replaced sized) (blob_content there.0) =
     reply-read get.keys w get.request get.moment get.bound free op.GetBlob key name there.0 refl refl gets there.1
-    ∙ ap (λ (r : Option ByteRange). with_content (ranged_frame r sized) (ranged_bytes r (blob_content there.0))) whole in
+    ∙ (λ i. with_content (ranged_frame (own i) (whole i) sized) (ranged_bytes (whole i) (blob_content there.0))) in
     lists-once w key list lists none name (IsTold (reply_to_one w get)) there.0 there.1
     (subst (λ (r : Reply). IsTold r (shown_part sized)) (sym got) (told-get sized (blob_content there.0)))
 

@@ -25,7 +25,7 @@ use Rattle.stamp_types.specs.World.{Part, World, block_value, committed_value, p
 use Rattle.access_rules.specs.declared.keys.Keys.{Keys}
 use Rattle.range_rows.specs.Frames.{date_headers, empty_blob, frame_by, get_frame, kept_lines, line_of, part_frame, part_headers, ranged_frame, read_headers, standing_read, without_md5}
 use Rattle.range_rows.specs.Ranges.{range_end, sent_range}
-use Rattle.range_rows.specs.SentContent.{blob_content, byte_count, bytes_by, ranged_bytes, reply_of, sizes, with_content}
+use Rattle.range_rows.specs.SentContent.{blob_content, byte_count, bytes_by, ranged_bytes, sizes, with_content}
 use Rattle.range_rows.specs.NamedBlobs.{target_blob}
 use Rattle.range_rows.specs.ObjectRules.{Cause, blob_size, cause_holds, named_blob, needs_blob, starts_past}
 use Rattle.range_rows.specs.ObjectRules.Cause.{BlobIsAbsent, RangeIsPastTheEnd}
@@ -33,11 +33,13 @@ use Rattle.range_rows.proofs.AnswerLemmas.{named_blob-part_value}
 use Rattle.stamp_model.specs.Ranges.{IsPartOf, is_md5, is_of_both, without_range}
 use Rattle.stamp_model.specs.Effects.{effect}
 use Rattle.stamp_model.specs.Refusals.{refusal}
-use Rattle.stamp_model.specs.Responses.{reply}
+use Rattle.stamp_model.specs.Responses.{reply, rows_answer}
 use Rattle.stamp_model.proofs.ObjectLemmas.{left_false}
 use Rattle.stamp_model.proofs.ArgumentLemmas.{free-with_args, no_cause}
 use Rattle.stamp_model.proofs.ReadLemmas.{effect-read}
 use Rattle.stamp_model.proofs.ReplyLemmas.{answer_of-rows, reply-admitted, reply-unrefused}
+use Rattle.stamp_model.specs.Overrides.{overrides_of}
+use Rattle.range_rows.specs.Replaced.{Replaced, or_own}
 
 -- ---- the end of a range
 
@@ -76,10 +78,10 @@ length-slice bytes from end within =
     length-take-le (end - from) (drop from bytes) (omega (arith, left))
 
 -- Content-Range is among the headers of a part
-range_said : (sent : SentRange) (c : Committed ℕ) → Contains (part_headers sent c) (header.ContentRange sent)
-range_said sent c =
-    Contains-append_left (kept_lines (without_md5 c.props) ++ header.ContentRange sent ∷ map header.Meta c.metadata) (header.BlobType ∷ header.AcceptRanges ∷ date_headers c.etag c.made) (header.ContentRange sent)
-    (Contains-append_right (kept_lines (without_md5 c.props)) (header.ContentRange sent ∷ map header.Meta c.metadata) (header.ContentRange sent) (0, omega arith, refl))
+range_said : (v : Replaced) (sent : SentRange) (c : Committed ℕ) → Contains (part_headers v sent c) (header.ContentRange sent)
+range_said v sent c =
+    Contains-append_left (kept_lines v (without_md5 c.props) ++ header.ContentRange sent ∷ map header.Meta c.metadata) (header.BlobType ∷ header.AcceptRanges ∷ date_headers c.etag c.made) (header.ContentRange sent)
+    (Contains-append_right (kept_lines v (without_md5 c.props)) (header.ContentRange sent ∷ map header.Meta c.metadata) (header.ContentRange sent) (0, omega arith, refl))
 
 -- ---- a part has no Content-MD5
 
@@ -94,19 +96,22 @@ no_md5_metadata (m ∷ ms) = no_md5_metadata ms
 no_md5_both : (xs ys : List Header) → list_any is_md5 xs ≡ false → list_any is_md5 ys ≡ false → list_any is_md5 (xs ++ ys) ≡ false
 no_md5_both xs ys first second = list_any-append is_md5 xs ys ∙ (λ i. first i || second i)
 
-no_md5_kept : (k : PropsFields) → list_any is_md5 (kept_lines (without_md5 k)) ≡ false
-no_md5_kept k =
-    let type : List Header = header.ContentType k.content_type ∷ line_of header.ContentEncoding k.encoding in
-    let language : List Header = line_of header.ContentLanguage k.language in
-    no_md5_both (type ++ language ++ []) (line_of header.CacheControl k.cache_control)
+no_md5_kept : (v : Replaced) (k : PropsFields) → list_any is_md5 (kept_lines v (without_md5 k)) ≡ false
+no_md5_kept v k =
+    let type : List Header = header.ContentType (or_own v.content_type k.content_type) ∷ line_of header.ContentEncoding (or_own v.encoding k.encoding) in
+    let language : List Header = line_of header.ContentLanguage (or_own v.language k.language) in
+    let cache : List Header = line_of header.CacheControl (or_own v.cache_control k.cache_control) in
+    no_md5_both (type ++ language ++ [] ++ cache) (line_of header.ContentDisposition v.disposition)
+    (no_md5_both (type ++ language ++ []) cache
     (no_md5_both (type ++ language) []
-    (no_md5_both type language (no_md5_line header.ContentEncoding (λ text. refl) k.encoding) (no_md5_line header.ContentLanguage (λ text. refl) k.language)) refl)
-    (no_md5_line header.CacheControl (λ text. refl) k.cache_control)
+    (no_md5_both type language (no_md5_line header.ContentEncoding (λ text. refl) (or_own v.encoding k.encoding)) (no_md5_line header.ContentLanguage (λ text. refl) (or_own v.language k.language))) refl)
+    (no_md5_line header.CacheControl (λ text. refl) (or_own v.cache_control k.cache_control)))
+    (no_md5_line header.ContentDisposition (λ text. refl) v.disposition)
 
-no_md5_part : (sent : SentRange) (c : Committed ℕ) → list_any is_md5 (part_headers sent c) ≡ false
-no_md5_part sent c =
-    no_md5_both (kept_lines (without_md5 c.props) ++ header.ContentRange sent ∷ map header.Meta c.metadata) (header.BlobType ∷ header.AcceptRanges ∷ date_headers c.etag c.made)
-    (no_md5_both (kept_lines (without_md5 c.props)) (header.ContentRange sent ∷ map header.Meta c.metadata) (no_md5_kept c.props) (no_md5_metadata c.metadata)) refl
+no_md5_part : (v : Replaced) (sent : SentRange) (c : Committed ℕ) → list_any is_md5 (part_headers v sent c) ≡ false
+no_md5_part v sent c =
+    no_md5_both (kept_lines v (without_md5 c.props) ++ header.ContentRange sent ∷ map header.Meta c.metadata) (header.BlobType ∷ header.AcceptRanges ∷ date_headers c.etag c.made)
+    (no_md5_both (kept_lines v (without_md5 c.props)) (header.ContentRange sent ∷ map header.Meta c.metadata) (no_md5_kept v c.props) (no_md5_metadata c.metadata)) refl
 
 -- ---- the other headers of a part
 
@@ -114,27 +119,30 @@ md5_apart : (front : List Header) (sum : Option (List ℕ)) → filter is_of_bot
 md5_apart front None = ap (λ (hs : List Header). filter is_of_both hs) (append-nil front)
 md5_apart front (Some sum) = filter-append is_of_both front (header.ContentMd5 sum ∷ []) ∙ append-nil (filter is_of_both front)
 
-same_kept_lines : (k : PropsFields) → filter is_of_both (kept_lines (without_md5 k)) ≡ filter is_of_both (kept_lines k)
-same_kept_lines k =
-    let front : List Header = header.ContentType k.content_type ∷ line_of header.ContentEncoding k.encoding ++ line_of header.ContentLanguage k.language in
-    let cache : List Header = line_of header.CacheControl k.cache_control in
-    let each : (sum : Option (List ℕ)) → filter is_of_both (front ++ map header.ContentMd5 (option_to_list sum) ++ cache) ≡ filter is_of_both front ++ filter is_of_both cache =
-    λ sum. filter-append is_of_both (front ++ map header.ContentMd5 (option_to_list sum)) cache ∙ ap (λ (hs : List Header). hs ++ filter is_of_both cache) (md5_apart front sum) in
+same_kept_lines : (v : Replaced) (k : PropsFields) → filter is_of_both (kept_lines v (without_md5 k)) ≡ filter is_of_both (kept_lines v k)
+same_kept_lines v k =
+    let front : List Header = header.ContentType (or_own v.content_type k.content_type) ∷ line_of header.ContentEncoding (or_own v.encoding k.encoding) ++ line_of header.ContentLanguage (or_own v.language k.language) in
+    let cache : List Header = line_of header.CacheControl (or_own v.cache_control k.cache_control) in
+    let shown : List Header = line_of header.ContentDisposition v.disposition in
+    let each : (sum : Option (List ℕ)) → filter is_of_both (front ++ map header.ContentMd5 (option_to_list sum) ++ cache ++ shown) ≡ filter is_of_both front ++ filter is_of_both cache ++ filter is_of_both shown =
+    λ sum. filter-append is_of_both (front ++ map header.ContentMd5 (option_to_list sum) ++ cache) shown
+    ∙ ap (λ (hs : List Header). hs ++ filter is_of_both shown)
+    (filter-append is_of_both (front ++ map header.ContentMd5 (option_to_list sum)) cache ∙ ap (λ (hs : List Header). hs ++ filter is_of_both cache) (md5_apart front sum)) in
     each None ∙ sym (each k.md5)
 
 -- beside Content-MD5 and Content-Range, a part has the headers of the whole
-same_headers : (sent : SentRange) (c : Committed ℕ) → filter is_of_both (part_headers sent c) ≡ filter is_of_both (read_headers c)
-same_headers sent c =
+same_headers : (v : Replaced) (sent : SentRange) (c : Committed ℕ) → filter is_of_both (part_headers v sent c) ≡ filter is_of_both (read_headers v c)
+same_headers v sent c =
     let metas : List Header = map header.Meta c.metadata in
     let last : List Header = header.BlobType ∷ header.AcceptRanges ∷ date_headers c.etag c.made in
-    filter-append is_of_both (kept_lines (without_md5 c.props) ++ header.ContentRange sent ∷ metas) last
+    filter-append is_of_both (kept_lines v (without_md5 c.props) ++ header.ContentRange sent ∷ metas) last
     ∙ ap (λ (hs : List Header). hs ++ filter is_of_both last)
-    (filter-append is_of_both (kept_lines (without_md5 c.props)) (header.ContentRange sent ∷ metas)
-    ∙ ap (λ (hs : List Header). hs ++ filter is_of_both metas) (same_kept_lines c.props)
-    ∙ sym (filter-append is_of_both (kept_lines c.props) metas))
-    ∙ sym (filter-append is_of_both (kept_lines c.props ++ metas) last)
+    (filter-append is_of_both (kept_lines v (without_md5 c.props)) (header.ContentRange sent ∷ metas)
+    ∙ ap (λ (hs : List Header). hs ++ filter is_of_both metas) (same_kept_lines v c.props)
+    ∙ sym (filter-append is_of_both (kept_lines v c.props) metas))
+    ∙ sym (filter-append is_of_both (kept_lines v c.props ++ metas) last)
 
-module _ (r : ByteRange) (d : Committed (List ℕ)) (start : r.first < length (blob_content d)) (order : IfSome r.last (λ last. r.first ≤ last)) where
+module _ (v : Replaced) (r : ByteRange) (d : Committed (List ℕ)) (start : r.first < length (blob_content d)) (order : IfSome r.last (λ last. r.first ≤ last)) where
   abbrev bytes : List ℕ
   bytes = blob_content d
 
@@ -150,7 +158,7 @@ module _ (r : ByteRange) (d : Committed (List ℕ)) (start : r.first < length (b
   last_byte : end - 1 + 1 ≡ end
   last_byte = let some = is_end.some in omega arith
 
-  is_part : IsPartOf r (with_content (part_frame r sized) (ranged_bytes (Some r) bytes)) (with_content (get_frame sized) bytes)
+  is_part : IsPartOf r (with_content (part_frame v r sized) (ranged_bytes (Some r) bytes)) (with_content (get_frame v sized) bytes)
   is_part =
       let some : r.first < end = is_end.some in
       let within : end ≤ length bytes = is_end.within in
@@ -166,8 +174,8 @@ module _ (r : ByteRange) (d : Committed (List ℕ)) (start : r.first < length (b
         order = omega arith;
         within = subst (λ n. n ≤ length bytes) (sym last_byte) within;
         body = ap (λ n. slice_range bytes r.first n) (sym last_byte);
-        said = subst (λ n. Contains (part_headers (sent_range r n) sized) (header.ContentRange (sent_range r (length bytes)))) (sym (sizes_of_bytes d.blocks)) (range_said (sent_range r (length bytes)) sized);
-        no_md5 = no_md5_part (sent_range r (blob_size sized)) sized;
+        said = subst (λ n. Contains (part_headers v (sent_range r n) sized) (header.ContentRange (sent_range r (length bytes)))) (sym (sizes_of_bytes d.blocks)) (range_said v (sent_range r (length bytes)) sized);
+        no_md5 = no_md5_part v (sent_range r (blob_size sized)) sized;
         counted = ap (λ n. range_end r n - r.first) (sizes_of_bytes d.blocks) ∙ sym (length-slice bytes r.first end within);
       }
 
@@ -180,13 +188,13 @@ module _ (keys : Option Keys) (w : World (List ℕ)) (q : Asked) (t : ℕ) (boun
   named-sized = named_blob-part_value byte_count (part_at w q.ask.key) q.ask ∙ ap (option_map (committed_value byte_count)) there
 
   -- the reply to a Get Blob, by its range
-  pub reply-get : (range : Option ByteRange) → q.ask.args.range ≡ range → reply keys w q t bound ≡ with_content (ranged_frame range (committed_value byte_count d)) (ranged_bytes range (blob_content d))
+  pub reply-get : (range : Option ByteRange) → q.ask.args.range ≡ range → reply keys w q t bound ≡ with_content (ranged_frame (overrides_of q.ask) range (committed_value byte_count d)) (ranged_bytes range (blob_content d))
   reply-get range asks =
       reply-admitted keys w q t bound free
       ∙ answer_of-rows (effect keys w q t) q bound (ap lists_names gets)
-      ∙ ap (λ (v : World (List ℕ)). reply_of (part_at v q.ask.key) q) (effect-read keys w q t (ap writes gets))
-      ∙ (λ i. with_content (frame_by (gets i) q (standing_read (sizes (part_at w q.ask.key))) (unwrap_or (named-sized i) empty_blob) (target_blob (sizes (part_at w q.ask.key)) q.ask)) (bytes_by (gets i) q.ask.args.range (unwrap_or (there i) empty_blob)))
-      ∙ ap (λ (range : Option ByteRange). with_content (ranged_frame range (committed_value byte_count d)) (ranged_bytes range (blob_content d))) asks
+      ∙ ap (λ (v : World (List ℕ)). rows_answer (part_at v q.ask.key) q) (effect-read keys w q t (ap writes gets))
+      ∙ (λ i. with_content (frame_by (overrides_of q.ask) (gets i) q (standing_read (sizes (part_at w q.ask.key))) (unwrap_or (named-sized i) empty_blob) (target_blob (sizes (part_at w q.ask.key)) q.ask)) (bytes_by (gets i) q.ask.args.range (unwrap_or (there i) empty_blob)))
+      ∙ ap (λ (range : Option ByteRange). with_content (ranged_frame (overrides_of q.ask) range (committed_value byte_count d)) (ranged_bytes range (blob_content d))) asks
 
   -- the first byte of the range is a byte of the blob
   starts_within : (r : ByteRange) → q.ask.args.range ≡ Some r → r.first < length (blob_content d)
@@ -230,14 +238,14 @@ module _ (keys : Option Keys) (w : World (List ℕ)) (q : Asked) (t : ℕ) (boun
   pub part-of_whole : IsPartOf r (reply keys w q t bound) (reply keys w (without_range q) t bound)
   part-of_whole =
       subst (λ (x : Reply). IsPartOf r x (reply keys w (without_range q) t bound)) (sym (reply-get keys w q t bound free gets named.0 named.1 (Some r) asks))
-      (subst (λ (x : Reply). IsPartOf r (with_content (part_frame r (committed_value byte_count named.0)) (ranged_bytes (Some r) (blob_content named.0))) x)
+      (subst (λ (x : Reply). IsPartOf r (with_content (part_frame (overrides_of q.ask) r (committed_value byte_count named.0)) (ranged_bytes (Some r) (blob_content named.0))) x)
       (sym (reply-get keys w (without_range q) t bound free-whole gets named.0 named.1 None refl))
-      (is_part r named.0 (starts_within keys w q t bound free gets named.0 named.1 r asks) (subst (λ (o : Option ByteRange). IfSome o (λ r. IfSome r.last (λ last. r.first ≤ last))) asks fits.no_more.range_order)))
+      (is_part (overrides_of q.ask) r named.0 (starts_within keys w q t bound free gets named.0 named.1 r asks) (subst (λ (o : Option ByteRange). IfSome o (λ r. IfSome r.last (λ last. r.first ≤ last))) asks fits.no_more.range_order)))
 
   -- what is answered with the range has the other headers of what is answered without it
   pub headers-of_both : filter is_of_both (reply keys w q t bound).headers ≡ filter is_of_both (reply keys w (without_range q) t bound).headers
   headers-of_both =
       let sized : Committed ℕ = committed_value byte_count named.0 in
       ap (λ (x : Reply). filter is_of_both x.headers) (reply-get keys w q t bound free gets named.0 named.1 (Some r) asks)
-      ∙ same_headers (sent_range r (blob_size sized)) sized
+      ∙ same_headers (overrides_of q.ask) (sent_range r (blob_size sized)) sized
       ∙ sym (ap (λ (x : Reply). filter is_of_both x.headers) (reply-get keys w (without_range q) t bound free-whole gets named.0 named.1 None refl))

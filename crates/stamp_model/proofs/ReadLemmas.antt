@@ -18,7 +18,7 @@ use Rattle.access_rules.specs.Routes.{Admits}
 use Rattle.access_rules.proofs.RouteLaw.{by_route}
 use Rattle.row_trees.specs.Access.{acl_of}
 use Rattle.range_rows.specs.Frames.{empty_blob, frame_by, standing_read}
-use Rattle.range_rows.specs.SentContent.{byte_count, bytes_by, bytes_sent, reply_of, sizes, with_content}
+use Rattle.range_rows.specs.SentContent.{byte_count, bytes_by, bytes_sent, sizes, with_content}
 use Rattle.range_rows.specs.NamedBlobs.{target_blob}
 use Rattle.range_rows.specs.ObjectRules.{object_refusal}
 use Rattle.range_rows.specs.RequestChanges.{act_by, change_of, part_after}
@@ -26,10 +26,11 @@ use Rattle.range_rows.proofs.AnswerLemmas.{named_blob-part_value}
 use Rattle.range_rows.proofs.FrameLemmas.{act_by-read}
 use Rattle.stamp_model.specs.Refusals.{access_refusal, refusal}
 use Rattle.stamp_model.specs.Effects.{unless_refused, world_after, effect}
-use Rattle.stamp_model.specs.Responses.{answer_of, response, reply}
+use Rattle.stamp_model.specs.Responses.{answer_of, response, reply, rows_answer}
 use Rattle.stamp_model.specs.Runs.{IsIn, IsOn}
 use Rattle.stamp_model.proofs.EffectLemmas.{on_key, part_at-effect}
 use Rattle.stamp_model.proofs.ReplyLemmas.{answer_of-rows, reply-unrefused, reply-admitted}
+use Rattle.stamp_model.specs.Overrides.{overrides_of}
 
 -- ---- what a request leaves
 
@@ -66,29 +67,29 @@ module _ (v : World (List ℕ)) (q : Asked) where
   -- the answer to the operation in this container, if this is what readers see of the blob
   abbrev pub answer : Op → Key → Option (Committed (List ℕ)) → Reply
   answer o k c =
-      with_content (frame_by o q (standing_read (part_at v k)) (unwrap_or (option_map (committed_value byte_count) c) empty_blob) (target_blob (sizes (part_at v k)) q.ask)) (bytes_by o q.ask.args.range (unwrap_or c empty_blob))
+      with_content (frame_by (overrides_of q.ask) o q (standing_read (part_at v k)) (unwrap_or (option_map (committed_value byte_count) c) empty_blob) (target_blob (sizes (part_at v k)) q.ask)) (bytes_by o q.ask.args.range (unwrap_or c empty_blob))
 
   abbrev seen : Key → Option (List ℕ) → Option (Committed (List ℕ))
   seen k blob = option_and_then (λ name. (blob_in (part_at v k) name).committed) blob
 
-  reply_of-seen : reply_of (part_at v q.ask.key) q ≡ answer q.ask.op q.ask.key (seen q.ask.key q.ask.blob)
+  reply_of-seen : rows_answer (part_at v q.ask.key) q ≡ answer q.ask.op q.ask.key (seen q.ask.key q.ask.blob)
   reply_of-seen =
-      ap (λ (c : Option (Committed ℕ)). with_content (frame_by q.ask.op q (standing_read (part_at v q.ask.key)) (unwrap_or c empty_blob) (target_blob (sizes (part_at v q.ask.key)) q.ask)) (bytes_sent (part_at v q.ask.key) q))
+      ap (λ (c : Option (Committed ℕ)). with_content (frame_by (overrides_of q.ask) q.ask.op q (standing_read (part_at v q.ask.key)) (unwrap_or c empty_blob) (target_blob (sizes (part_at v q.ask.key)) q.ask)) (bytes_sent (part_at v q.ask.key) q))
       (named_blob-part_value byte_count (part_at v q.ask.key) q.ask)
 
-  reply_of-on : (o : Op) (key : Key) (name : List ℕ) → IsOn o key name q → reply_of (part_at v q.ask.key) q ≡ answer o key (blob_in (part_at v key) name).committed
+  reply_of-on : (o : Op) (key : Key) (name : List ℕ) → IsOn o key name q → rows_answer (part_at v q.ask.key) q ≡ answer o key (blob_in (part_at v key) name).committed
   reply_of-on o key name on = reply_of-seen ∙ (λ i. answer (on.op i) (on.container i) (seen (on.container i) (on.blob i)))
 
-  reply_of-in : (o : Op) (key : Key) → IsIn o key q → reply_of (part_at v q.ask.key) q ≡ answer o key (seen key q.ask.blob)
+  reply_of-in : (o : Op) (key : Key) → IsIn o key q → rows_answer (part_at v q.ask.key) q ≡ answer o key (seen key q.ask.blob)
   reply_of-in o key is_in = reply_of-seen ∙ (λ i. answer (is_in.op i) (is_in.container i) (seen (is_in.container i) q.ask.blob))
 
 module _ (keys : Option Keys) (w : World (List ℕ)) (q : Asked) (t : ℕ) (bound : Option Key) (none : (reply keys w q t bound).rule ≡ None) where
-  answered : lists_names q.ask.op ≡ false → reply keys w q t bound ≡ reply_of (part_at (effect keys w q t) q.ask.key) q
+  answered : lists_names q.ask.op ≡ false → reply keys w q t bound ≡ rows_answer (part_at (effect keys w q t) q.ask.key) q
   answered other = reply-admitted keys w q t bound (reply-unrefused keys w q t bound none) ∙ answer_of-rows (effect keys w q t) q bound other
 
   -- the reply to a request that reads is what the operation answers from the container as it is
-  pub read_before : (o : Op) → q.ask.op ≡ o → lists_names o ≡ false → writes o ≡ false → reply keys w q t bound ≡ reply_of (part_at w q.ask.key) q
-  read_before o is other reads = answered (ap lists_names is ∙ other) ∙ ap (λ (v : World (List ℕ)). reply_of (part_at v q.ask.key) q) (effect-read keys w q t (ap writes is ∙ reads))
+  pub read_before : (o : Op) → q.ask.op ≡ o → lists_names o ≡ false → writes o ≡ false → reply keys w q t bound ≡ rows_answer (part_at w q.ask.key) q
+  read_before o is other reads = answered (ap lists_names is ∙ other) ∙ ap (λ (v : World (List ℕ)). rows_answer (part_at v q.ask.key) q) (effect-read keys w q t (ap writes is ∙ reads))
 
   -- the reply to a request that writes is about the blob as it is after the request
   pub reply-write : (o : Op) (key : Key) (name : List ℕ) (c : Committed (List ℕ)) → lists_names o ≡ false → IsOn o key name q → (blob_in (part_at (effect keys w q t) key) name).committed ≡ Some c

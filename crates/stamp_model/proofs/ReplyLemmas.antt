@@ -21,14 +21,16 @@ use Rattle.access_rules.specs.Routes.{Admits}
 use Rattle.access_rules.specs.Rules.{first_rule}
 use Rattle.access_rules.proofs.RouteLaw.{by_route}
 use Rattle.range_rows.specs.Frames.{blob_read, frame_by, ranged_frame, standing_read}
-use Rattle.range_rows.specs.SentContent.{byte_count, reply_of, sizes}
+use Rattle.range_rows.specs.SentContent.{byte_count, sizes}
 use Rattle.range_rows.specs.NamedBlobs.{target_blob}
 use Rattle.range_rows.specs.ObjectRules.{object_refusal}
 use Rattle.row_trees.specs.Access.{acl_of}
 use Rattle.stamp_model.specs.Refusals.{access_refusal, refusal, refusing_rule}
 use Rattle.stamp_model.specs.Effects.{change, effect}
-use Rattle.stamp_model.specs.Responses.{answer_by, answer_of, own_answer, own_answer_by, response, reply}
+use Rattle.stamp_model.specs.Responses.{answer_by, answer_of, own_answer, own_answer_by, response, reply, rows_answer}
 use Rattle.stamp_model.proofs.EffectLemmas.{part_at-effect, effect-refused}
+use Rattle.stamp_model.specs.Overrides.{overrides_of}
+use Rattle.range_rows.specs.Replaced.{Replaced}
 
 either_names : (b : Bool) (x y : Reply) (rule : Option Rule) → x.rule ≡ rule → y.rule ≡ rule → (if b then x else y).rule ≡ rule
 either_names true x y rule first second = first
@@ -38,13 +40,13 @@ either_names false x y rule first second = second
 pub denied-names : (r : Refusal) → (denied r).rule ≡ Some r.rule
 denied-names r = either_names (has_error_body r.code) _ _ (Some r.rule) refl refl
 
-ranged_names_none : (range : Option ByteRange) (c : Committed ℕ) → (ranged_frame range c).rule ≡ None
-ranged_names_none None c = refl
-ranged_names_none (Some r) c = refl
+ranged_names_none : (v : Replaced) (range : Option ByteRange) (c : Committed ℕ) → (ranged_frame v range c).rule ≡ None
+ranged_names_none v None c = refl
+ranged_names_none v (Some r) c = refl
 
-frame_names_none : (o : Op) (q : Asked) (s : Standing) (c : Committed ℕ) (b : Blob ℕ) → (frame_by o q s c b).rule ≡ None
+frame_names_none : (o : Op) (q : Asked) (s : Standing) (c : Committed ℕ) (b : Blob ℕ) → (frame_by (overrides_of q.ask) o q s c b).rule ≡ None
 frame_names_none op.CreateContainer q s c b = refl
-frame_names_none op.GetBlob q s c b = ranged_names_none q.ask.args.range c
+frame_names_none op.GetBlob q s c b = ranged_names_none (overrides_of q.ask) q.ask.args.range c
 frame_names_none other q s c b = refl
 
 -- what the operation answers from its own container names no rule
@@ -62,13 +64,13 @@ names (Some r) w q bound = denied-names r
 
 -- ---- what is answered from one container
 
-own_answer_by-rows : (o : Op) (p : Part (List ℕ)) (q : Asked) → lists_names o ≡ false → own_answer_by o p q ≡ reply_of p q
+own_answer_by-rows : (o : Op) (p : Part (List ℕ)) (q : Asked) → lists_names o ≡ false → own_answer_by o p q ≡ rows_answer p q
 own_answer_by-rows op.ListBlobs p q other = cc
 own_answer_by-rows op.ListContainers p q other = cc
 own_answer_by-rows o p q other = refl
 
 -- an operation that lists no names is answered by what rows have of the container
-pub own_answer-rows : (p : Part (List ℕ)) (q : Asked) → lists_names q.ask.op ≡ false → own_answer p q ≡ reply_of p q
+pub own_answer-rows : (p : Part (List ℕ)) (q : Asked) → lists_names q.ask.op ≡ false → own_answer p q ≡ rows_answer p q
 own_answer-rows p q other = own_answer_by-rows q.ask.op p q other
 
 answer_by-own : (o : Op) (w : World (List ℕ)) (q : Asked) (bound : Option Key) → names_container o ≡ true → answer_by o w q bound ≡ own_answer (part_at w q.ask.key) q
@@ -85,7 +87,7 @@ names_one op.ListBlobs other = refl
 names_one o other = refl
 
 -- an operation that lists no names is answered by what rows have of its container
-pub answer_of-rows : (w : World (List ℕ)) (q : Asked) (bound : Option Key) → lists_names q.ask.op ≡ false → answer_of w q bound ≡ reply_of (part_at w q.ask.key) q
+pub answer_of-rows : (w : World (List ℕ)) (q : Asked) (bound : Option Key) → lists_names q.ask.op ≡ false → answer_of w q bound ≡ rows_answer (part_at w q.ask.key) q
 answer_of-rows w q bound other = answer_of-own w q bound (names_one q.ask.op other) ∙ own_answer-rows (part_at w q.ask.key) q other
 
 -- if two options have no first refusal, each of the two is `None`

@@ -33,7 +33,7 @@ use Rattle.block_blobs.specs.UncommittedBlocks.{has_other_length, is_one_too_man
 use Rattle.row_trees.specs.ListedBlocks.{listed_size}
 use Rattle.range_rows.specs.NamedBlobs.{has_listed, target_blob}
 use Rattle.range_rows.specs.Frames.{blob_read, empty_blob, empty_standing, frame_by, get_frame, list_frame, ranged_frame, standing_read}
-use Rattle.range_rows.specs.SentContent.{blob_content, byte_count, bytes_by, ranged_bytes, reply_of, sizes, with_content}
+use Rattle.range_rows.specs.SentContent.{blob_content, byte_count, bytes_by, ranged_bytes, sizes, with_content}
 use Rattle.range_rows.specs.ShownBlocks.{shows_uncommitted}
 use Rattle.row_trees.specs.Fits.{count_limit}
 use Rattle.range_rows.specs.ObjectRules.{Cause, cause_holds, cause_refusal, causes, is_any, meets, misses, named_blob, needs_blob, needs_container, starts_past}
@@ -45,11 +45,12 @@ use Rattle.list_pages.proofs.Shown.{page_by_committed}
 use Rattle.stamp_model.specs.Blocks.{reads_committed}
 use Rattle.stamp_model.specs.Effects.{effect}
 use Rattle.stamp_model.specs.Refusals.{access_refusal, refusal}
-use Rattle.stamp_model.specs.Responses.{answer_of, own_answer, own_answer_by, response, reply}
+use Rattle.stamp_model.specs.Responses.{answer_of, own_answer, own_answer_by, response, reply, rows_answer}
 use Rattle.stamp_model.specs.Runs.{Timed, world_after_one, world_after_all, reply_to_one}
 use Rattle.stamp_model.proofs.EffectLemmas.{related-after_act, related-effect, said_of_block}
 use Rattle.stamp_model.proofs.ReadLemmas.{effect-read}
 use Rattle.stamp_model.proofs.ReplyLemmas.{answer_of-own}
+use Rattle.stamp_model.specs.Overrides.{overrides_of}
 
 -- ---- containers in which readers see the same
 
@@ -234,19 +235,19 @@ lists_frame (Some kinds.Uncommitted) b g reads same = cc
 lists_frame (Some kinds.All) b g reads same = cc
 
 module _ (q : Asked) (s u : Standing) (c d : Committed ℕ) (b g : Blob ℕ) (e h : Committed (List ℕ)) (seen : c ≡ d) (listed : b.committed ≡ g.committed) (sent : e ≡ h) where
-  pub answers_alike : (o : Op) → reads_committed o q.ask.args.kinds ≡ true → with_content (frame_by o q s c b) (bytes_by o q.ask.args.range e) ≡ with_content (frame_by o q u d g) (bytes_by o q.ask.args.range h)
-  answers_alike op.GetBlob reads = λ i. with_content (ranged_frame q.ask.args.range (seen i)) (ranged_bytes q.ask.args.range (blob_content (sent i)))
-  answers_alike op.BlobProperties reads = λ i. with_content (get_frame (seen i)) []
-  answers_alike op.GetMetadata reads = λ i. with_content (frame_by op.GetMetadata q s (seen i) b) []
+  pub answers_alike : (o : Op) → reads_committed o q.ask.args.kinds ≡ true → with_content (frame_by (overrides_of q.ask) o q s c b) (bytes_by o q.ask.args.range e) ≡ with_content (frame_by (overrides_of q.ask) o q u d g) (bytes_by o q.ask.args.range h)
+  answers_alike op.GetBlob reads = λ i. with_content (ranged_frame (overrides_of q.ask) q.ask.args.range (seen i)) (ranged_bytes q.ask.args.range (blob_content (sent i)))
+  answers_alike op.BlobProperties reads = λ i. with_content (get_frame (overrides_of q.ask) (seen i)) []
+  answers_alike op.GetMetadata reads = λ i. with_content (frame_by (overrides_of q.ask) op.GetMetadata q s (seen i) b) []
   answers_alike op.GetBlockList reads = ap (λ (f : Reply). with_content f []) (lists_frame q.ask.args.kinds b g reads listed)
   answers_alike other reads = cc
 
   -- the same of a request that reads only what readers see, if the containers have the same beside their blobs
-  answers_seen : s ≡ u → (o : Op) → reads_seen o q.ask.args.kinds ≡ true → with_content (frame_by o q s c b) (bytes_by o q.ask.args.range e) ≡ with_content (frame_by o q u d g) (bytes_by o q.ask.args.range h)
+  answers_seen : s ≡ u → (o : Op) → reads_seen o q.ask.args.kinds ≡ true → with_content (frame_by (overrides_of q.ask) o q s c b) (bytes_by o q.ask.args.range e) ≡ with_content (frame_by (overrides_of q.ask) o q u d g) (bytes_by o q.ask.args.range h)
   answers_seen same op.CreateContainer reads = cc
-  answers_seen same op.ContainerProperties reads = λ i. with_content (frame_by op.ContainerProperties q (same i) c b) []
+  answers_seen same op.ContainerProperties reads = λ i. with_content (frame_by (overrides_of q.ask) op.ContainerProperties q (same i) c b) []
   answers_seen same op.SetContainerMetadata reads = cc
-  answers_seen same op.GetAcl reads = λ i. with_content (frame_by op.GetAcl q (same i) c b) []
+  answers_seen same op.GetAcl reads = λ i. with_content (frame_by (overrides_of q.ask) op.GetAcl q (same i) c b) []
   answers_seen same op.SetAcl reads = cc
   answers_seen same op.DeleteContainer reads = cc
   answers_seen same op.PutBlob reads = cc
@@ -261,7 +262,7 @@ module _ (q : Asked) (s u : Standing) (c d : Committed ℕ) (b g : Blob ℕ) (e 
   answers_seen same other reads = refl
 
 module _ (p r : Part (List ℕ)) (alike : IsSeenAlike p r) (q : Asked) (reads : reads_seen q.ask.op q.ask.args.kinds ≡ true) where
-  rows_alike : reply_of p q ≡ reply_of r q
+  rows_alike : rows_answer p q ≡ rows_answer r q
   rows_alike =
       let by_size = alike-read byte_count p r alike in
       answers_seen q (standing_read (sizes p)) (standing_read (sizes r)) (blob_read (sizes p) q.ask) (blob_read (sizes r) q.ask)

@@ -43,6 +43,8 @@ use Rattle.stamp_model.proofs.PartLemmas.{named-sized, reply-get, sizes_of_bytes
 use Rattle.stamp_model.proofs.ReadLemmas.{reply-read}
 use Rattle.stamp_model.proofs.ReplyLemmas.{answer_of-rows, reply-admitted, reply-unrefused, unrefused}
 use Rattle.stamp_model.proofs.WrittenLemmas.{body-get, headers-get, kept-put, some_of}
+use Rattle.stamp_model.specs.Overrides.{overrides_of}
+use Rattle.range_rows.specs.Replaced.{Replaced, or_own}
 
 -- ---- the MD5 of a body
 
@@ -116,13 +118,15 @@ module _ (w : World (List ℕ)) (key : Key) (name : List ℕ) (put : Timed) (fit
       by_given None is = refl
       by_given (Some sum) is = ap (λ (bytes : List ℕ). Some bytes) (sym (md5-kept put.keys w put.request put.moment put.bound none kept sum puts.op keeps is))
 
-  kept_md5_line : (k : PropsFields) (sum : List ℕ) → k.md5 ≡ Some sum → Contains (kept_lines k) (header.ContentMd5 sum)
-  kept_md5_line k sum is =
-      let front : List Header = header.ContentType k.content_type ∷ line_of header.ContentEncoding k.encoding ++ line_of header.ContentLanguage k.language in
+  kept_md5_line : (v : Replaced) (k : PropsFields) (sum : List ℕ) → k.md5 ≡ Some sum → Contains (kept_lines v k) (header.ContentMd5 sum)
+  kept_md5_line v k sum is =
+      let front : List Header = header.ContentType (or_own v.content_type k.content_type) ∷ line_of header.ContentEncoding (or_own v.encoding k.encoding) ++ line_of header.ContentLanguage (or_own v.language k.language) in
       let sums : List Header = map header.ContentMd5 (option_to_list k.md5) in
-      Contains-append_left (front ++ sums) (line_of header.CacheControl k.cache_control) (header.ContentMd5 sum)
+      let cache : List Header = line_of header.CacheControl (or_own v.cache_control k.cache_control) in
+      Contains-append_left (front ++ sums ++ cache) (line_of header.ContentDisposition v.disposition) (header.ContentMd5 sum)
+      (Contains-append_left (front ++ sums) cache (header.ContentMd5 sum)
       (Contains-append_right front sums (header.ContentMd5 sum)
-      (subst (λ (o : Option (List ℕ)). Contains (map header.ContentMd5 (option_to_list o)) (header.ContentMd5 sum)) (sym is) (0, omega arith, refl)))
+      (subst (λ (o : Option (List ℕ)). Contains (map header.ContentMd5 (option_to_list o)) (header.ContentMd5 sum)) (sym is) (0, omega arith, refl))))
 
   -- the reply to the Get Blob that comes next has the MD5 of its own body
   pub md5-get : (get : Timed) → IsOn op.GetBlob key name get.request → get.request.ask.args.range ≡ None → (reply_to_one (world_after_one w put) get).rule ≡ None
@@ -130,25 +134,26 @@ module _ (w : World (List ℕ)) (key : Key) (name : List ℕ) (put : Timed) (fit
   md5-get get gets whole free =
       let keeps = kept-put put.request key name fits puts in
       let props : PropsFields = put_props put.request keeps.0 in
+      let v : Replaced = overrides_of get.request.ask in
       let metas : List Header = map header.Meta put.request.ask.args.metadata in
       let last : List Header = header.BlobType ∷ header.AcceptRanges ∷ date_headers ((part_at w key).count + 1) put.moment in
-      let said : Contains (kept_lines props ++ metas ++ last) (header.ContentMd5 sum_put) =
-      Contains-append_left (kept_lines props ++ metas) last (header.ContentMd5 sum_put)
-      (Contains-append_left (kept_lines props) metas (header.ContentMd5 sum_put) (kept_md5_line props sum_put (md5-props keeps.0 keeps.1))) in
+      let said : Contains (kept_lines v props ++ metas ++ last) (header.ContentMd5 sum_put) =
+      Contains-append_left (kept_lines v props ++ metas) last (header.ContentMd5 sum_put)
+      (Contains-append_left (kept_lines v props) metas (header.ContentMd5 sum_put) (kept_md5_line v props sum_put (md5-props keeps.0 keeps.1))) in
       subst (λ (bytes : List ℕ). Contains (reply_to_one (world_after_one w put) get).headers (header.ContentMd5 (md5 bytes))) (sym (body-get w key name keeps.0 put puts keeps.1 none get gets whole free))
       (subst (λ (hs : List Header). Contains hs (header.ContentMd5 sum_put)) (sym (headers-get w key name keeps.0 put puts keeps.1 none get gets whole free)) said)
 
 -- ---- the status of a success
 
-status-ranged : (range : Option ByteRange) (c : Committed ℕ) → (ranged_frame range c).status ≡ success_status op.GetBlob range
-status-ranged None c = refl
-status-ranged (Some r) c = refl
+status-ranged : (v : Replaced) (range : Option ByteRange) (c : Committed ℕ) → (ranged_frame v range c).status ≡ success_status op.GetBlob range
+status-ranged v None c = refl
+status-ranged v (Some r) c = refl
 
-status-frame : (o : Op) (q : Asked) (s : Standing) (c : Committed ℕ) (b : Blob ℕ) → (frame_by o q s c b).status ≡ success_status o q.ask.args.range
+status-frame : (o : Op) (q : Asked) (s : Standing) (c : Committed ℕ) (b : Blob ℕ) → (frame_by (overrides_of q.ask) o q s c b).status ≡ success_status o q.ask.args.range
 status-frame op.CreateContainer q s c b = refl
 status-frame op.DeleteContainer q s c b = refl
 status-frame op.PutBlob q s c b = refl
-status-frame op.GetBlob q s c b = status-ranged q.ask.args.range c
+status-frame op.GetBlob q s c b = status-ranged (overrides_of q.ask) q.ask.args.range c
 status-frame op.DeleteBlob q s c b = refl
 status-frame op.PutBlock q s c b = refl
 status-frame op.PutBlockList q s c b = refl
@@ -183,17 +188,18 @@ module _ (w : World (List ℕ)) (key : Key) (name : List ℕ) where
       (unrefused r.keys (sizes (part_at w r.request.ask.key)) r.request r.moment (reply-unrefused r.keys w r.request r.moment r.bound none)).unopposed (ap needs_blob on.op ∙ needs))
 
   module _ (properties get : Timed) (asks : IsOn op.BlobProperties key name properties.request) (gets : IsOn op.GetBlob key name get.request)
-      (whole : get.request.ask.args.range ≡ None) (free : (reply_to_one w properties).rule ≡ None) (none : (reply_to_one w get).rule ≡ None) where
-    -- the reply to a Get Blob Properties is the reply to a Get Blob without a range of the same blob, without its body
+      (whole : get.request.ask.args.range ≡ None) (alike : overrides_of get.request.ask ≡ overrides_of properties.request.ask)
+      (free : (reply_to_one w properties).rule ≡ None) (none : (reply_to_one w get).rule ≡ None) where
+    -- if both replace the same headers, the reply to a Get Blob Properties is the reply to a Get Blob without a range of the same blob, without its body
     pub reply-properties : reply_to_one w get ≡ with_content (reply_to_one w properties) (reply_to_one w get).body
     reply-properties =
         let there = seen-before op.GetBlob get refl gets none in
         let sized : Committed ℕ = committed_value byte_count there.0 in
-        let got : reply_to_one w get ≡ with_content (ranged_frame None sized) (blob_content there.0) =
+        let got : reply_to_one w get ≡ with_content (ranged_frame (overrides_of properties.request.ask) None sized) (blob_content there.0) =
         reply-read get.keys w get.request get.moment get.bound none op.GetBlob key name there.0 refl refl gets there.1
-        ∙ ap (λ (r : Option ByteRange). with_content (ranged_frame r sized) (ranged_bytes r (blob_content there.0))) whole in
+        ∙ (λ i. with_content (ranged_frame (alike i) (whole i) sized) (ranged_bytes (whole i) (blob_content there.0))) in
         let nothing : List ℕ = [] in
-        let said : reply_to_one w properties ≡ with_content (ranged_frame None sized) nothing =
+        let said : reply_to_one w properties ≡ with_content (ranged_frame (overrides_of properties.request.ask) None sized) nothing =
         reply-read properties.keys w properties.request properties.moment properties.bound free op.BlobProperties key name there.0 refl refl asks there.1 in
         got ∙ (λ i. with_content (sym said i) (ap (λ (r : Reply). r.body) (sym got) i))
 
@@ -246,8 +252,8 @@ module _ (keys : Option Keys) (w : World (List ℕ)) (q : Asked) (t : ℕ) (boun
       ap (λ (x : Reply). x.rule) (reply-admitted keys w q t bound
       (free-with_args keys own (without_range q) t free q.ask.args refl (more_causes q own (past-range ∙ lt-leb (length whole_body) r.first within))))
       ∙ ap (λ (x : Reply). x.rule) (answer_of-rows (effect keys w q t) q bound (ap lists_names gets))
-      ∙ ap (λ (o : Op). (frame_by o q (standing_read (sizes (part_at (effect keys w q t) q.ask.key))) (blob_read (sizes (part_at (effect keys w q t) q.ask.key)) q.ask) (target_blob (sizes (part_at (effect keys w q t) q.ask.key)) q.ask)).rule) gets
-      ∙ ap (λ (range : Option ByteRange). (ranged_frame range (blob_read (sizes (part_at (effect keys w q t) q.ask.key)) q.ask)).rule) asks
+      ∙ ap (λ (o : Op). (frame_by (overrides_of q.ask) o q (standing_read (sizes (part_at (effect keys w q t) q.ask.key))) (blob_read (sizes (part_at (effect keys w q t) q.ask.key)) q.ask) (target_blob (sizes (part_at (effect keys w q t) q.ask.key)) q.ask)).rule) gets
+      ∙ ap (λ (range : Option ByteRange). (ranged_frame (overrides_of q.ask) range (blob_read (sizes (part_at (effect keys w q t) q.ask.key)) q.ask)).rule) asks
 
   -- a range whose first byte comes after them does
   pub reply-past : length whole_body ≤ r.first → reply keys w q t bound ≡ denied (cause_refusal RangeIsPastTheEnd)

@@ -32,6 +32,7 @@ use Rattle.stamp_model.specs.Runs.{Timed, IsAdmitted, IsIn, IsOn, world_after_on
 use Rattle.stamp_model.proofs.ObjectLemmas.{container_needed, blob_needed, object_refusal-container, object_refusal-blob, named_blob-empty}
 use Rattle.stamp_model.proofs.ReadLemmas.{part_at-act, reply-write, reply-read, reply-write_in, reply-read_in, reply-refused}
 use Rattle.stamp_model.proofs.ReplyLemmas.{reply-unrefused, unrefused}
+use Rattle.stamp_model.specs.Overrides.{overrides_of}
 
 none_before : (bytes : List ℕ) → 0 + length bytes ≡ length bytes
 none_before bytes = omega arith
@@ -67,14 +68,14 @@ module _ (w : World (List ℕ)) (key : Key) (name : List ℕ) (kept : Kept) (put
 
   module _ (get : Timed) (gets : IsOn op.GetBlob key name get.request) (whole : get.request.ask.args.range ≡ None)
       (free : (reply_to_one (world_after_one w put) get).rule ≡ None) where
-    read : reply_to_one (world_after_one w put) get ≡ with_content (get_frame (committed_value byte_count put_there)) (blob_content put_there)
+    read : reply_to_one (world_after_one w put) get ≡ with_content (get_frame (overrides_of get.request.ask) (committed_value byte_count put_there)) (blob_content put_there)
     read =
         reply-read get.keys (world_after_one w put) get.request get.moment get.bound free op.GetBlob key name put_there refl refl gets committed-put
-        ∙ ap (λ (r : Option ByteRange). with_content (ranged_frame r (committed_value byte_count put_there)) (ranged_bytes r (blob_content put_there))) whole
+        ∙ ap (λ (r : Option ByteRange). with_content (ranged_frame (overrides_of get.request.ask) r (committed_value byte_count put_there)) (ranged_bytes r (blob_content put_there))) whole
 
     -- the reply to a Get Blob after the Put Blob has the same ETag and the same moment
     pub headers-get : (reply_to_one (world_after_one w put) get).headers
-        ≡ kept_lines (put_props put.request kept) ++ map header.Meta put.request.ask.args.metadata
+        ≡ kept_lines (overrides_of get.request.ask) (put_props put.request kept) ++ map header.Meta put.request.ask.args.metadata
         ++ header.BlobType ∷ header.AcceptRanges ∷ date_headers ((part_at w key).count + 1) put.moment
     headers-get = ap (λ (r : Reply). r.headers) read
 

@@ -6,6 +6,7 @@ pub mod Etags
 pub mod Histories
 pub mod Kept
 pub mod Listed
+pub mod Overrides
 pub mod Ranges
 pub mod Refusals
 pub mod Responses

@@ -11,6 +11,7 @@ use Rattle.stamp_types.specs.World.{Part, World, part_at}
 use Rattle.access_rules.specs.declared.keys.Keys.{Keys}
 use Rattle.range_rows.specs.SentContent.{reply_of, sizes}
 use Rattle.list_pages.specs.ListReplies.{blob_list_reply, container_list_reply}
+use Rattle.stamp_model.specs.Overrides.{overrides_of}
 use Rattle.stamp_model.specs.Refusals.{refusal}
 use Rattle.stamp_model.specs.Effects.{effect}
 
@@ -40,11 +41,15 @@ tells_nothing op.DeleteBlob = true
 tells_nothing op.PutBlock = true
 tells_nothing _ = false
 
+-- what rows answer to a request from the container that it names, with the headers that the request replaces
+abbrev pub rows_answer : Part (List ℕ) → Asked → Reply
+rows_answer p q = reply_of (overrides_of q.ask) p q
+
 -- what the operation answers from the container that the request names, as it is after the request's change. A List Containers names no
 -- container
 abbrev pub own_answer_by : Op → Part (List ℕ) → Asked → Reply
 own_answer_by op.ListBlobs p q = blob_list_reply (sizes p) q
-own_answer_by _ p q = reply_of p q
+own_answer_by _ p q = rows_answer p q
 
 -- what an allowed request is answered from the container that it names
 abbrev pub own_answer : Part (List ℕ) → Asked → Reply

@@ -23,6 +23,7 @@ ghost use Rattle.range_rows.specs.ShownBlocks.{if_shown, shows_committed, shows_
 ghost use Rattle.range_rows.specs.Readings.{wanted_blocks};
 ghost use Rattle.stamp_model.specs.Blocks.{ListsUncommitted, reads_committed, takes_blocks, wanted_bytes, wanted_listed};
 ghost use Rattle.stamp_model.specs.Runs.{Timed, IsAdmitted, IsOn, world_after_one, world_after_all, reply_to_one};
+ghost use Rattle.stamp_model.specs.Overrides.{overrides_of};
 
 /// A commit is seen whole or not at all. A Put Block, accepted or refused, changes no reply to a
 /// request that reads only what is committed: such a request has the reply that it would have had
@@ -106,7 +107,7 @@ pub fn a_commit_is_seen_whole_or_not_at_all()
         → (reply_to_one w list).rule ≡ None
         → (reply_to_one (world_after_one w list) get).rule ≡ None
         → (reply_to_one (world_after_one w list) get).headers
-        ≡ kept_lines (kept_fields kept None)
+        ≡ kept_lines (overrides_of get.request.ask) (kept_fields kept None)
         ++ map header.Meta list.request.ask.args.metadata
         ++ header.BlobType ∷ header.AcceptRanges
         ∷ date_headers ((part_at w key).count + 1) list.moment }

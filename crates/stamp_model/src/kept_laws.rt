@@ -23,6 +23,7 @@ ghost use Rattle.stamp_model.specs.Blocks.{reads_committed, wanted_bytes};
 ghost use Rattle.stamp_model.specs.Effects.{effect};
 ghost use Rattle.stamp_model.specs.Kept.{GivesNoContent, LeavesBlob, LeavesContent, LeavesSeen};
 ghost use Rattle.stamp_model.specs.Runs.{Timed, IsAdmitted, IsOn, world_after_all, reply_to_one};
+ghost use Rattle.stamp_model.specs.Overrides.{overrides_of};
 
 /// A blob is changed by its own requests. A request leaves a blob as it was, with its uncommitted
 /// blocks, unless it writes this very blob, or makes or deletes its container. Put Block leaves what
@@ -74,7 +75,7 @@ pub fn what_was_written_last_is_read()
         → (reply_to_one (world_after_all w (put ∷ middle)) get).rule ≡ None
         → (metadata : List Meta) × (etag : ℕ) × (made : ℕ)
         × ((reply_to_one (world_after_all w (put ∷ middle)) get).headers
-        ≡ kept_lines (put_props put.request kept) ++ map header.Meta metadata
+        ≡ kept_lines (overrides_of get.request.ask) (put_props put.request kept) ++ map header.Meta metadata
         ++ header.BlobType ∷ header.AcceptRanges ∷ date_headers etag made) }
     ensures list { (w : World (List ℕ)) (key : Key) (name : List ℕ)
         (list : Timed) (middle : List Timed) (get : Timed)
@@ -94,7 +95,7 @@ pub fn what_was_written_last_is_read()
         → (reply_to_one (world_after_all w (list ∷ middle)) get).rule ≡ None
         → (metadata : List Meta) × (etag : ℕ) × (made : ℕ)
         × ((reply_to_one (world_after_all w (list ∷ middle)) get).headers
-        ≡ kept_lines (kept_fields kept None) ++ map header.Meta metadata
+        ≡ kept_lines (overrides_of get.request.ask) (kept_fields kept None) ++ map header.Meta metadata
         ++ header.BlobType ∷ header.AcceptRanges ∷ date_headers etag made) }
     ensures metadata { (w : World (List ℕ)) (key : Key) (name : List ℕ)
         (set : Timed) (middle : List Timed) (get : Timed)

@@ -22,17 +22,20 @@ ghost use Rattle.stamp_model.specs.Listed.{IsTold, ListsContainer, ListsNames, L
 ghost use Rattle.stamp_model.specs.Responses.{reply};
 ghost use Rattle.stamp_model.specs.SeenContainers.{is_under};
 ghost use Rattle.stamp_model.specs.Runs.{Timed, IsOn, reply_to_one, world_after_one};
+ghost use Rattle.stamp_model.specs.Overrides.{overrides_of};
+ghost use Rattle.range_rows.specs.Replaced.{nothing_replaced};
 
 /// What is written is listed. Let a List Blobs without a delimiter be refused by no rule. If the page of
 /// its reply reaches the name of a blob that a Get Blob reads, the page has one entry of the name, with
-/// the ETag, the moment, the content type and the length that the Get Blob tells. So it is after each
+/// the ETag, the moment, the content type and the length that the Get Blob tells, if its token overrides
+/// no header. So it is after each
 /// Put Blob, Put Block List and Set Blob Metadata that is accepted: the entry has the number and the
 /// moment of that change. After an accepted Delete Blob no page has the name.
 pub fn what_is_written_is_listed()
     ensures told { (w : World (List ℕ)) (key : Key) (name : List ℕ) (list get : Timed)
         → ListsNames key list.request → (reply_to_one w list).rule ≡ None
         → IsOn GetBlob key name get.request → get.request.ask.args.range ≡ None
-        → (reply_to_one w get).rule ≡ None
+        → overrides_of get.request.ask ≡ nothing_replaced → (reply_to_one w get).rule ≡ None
         → ListsOnce list.request name (reply_to_one w list) (IsTold (reply_to_one w get)) }
     ensures written { (w : World (List ℕ)) (key : Key) (name : List ℕ) (o : Op)
         (write list : Timed)

@@ -18,6 +18,7 @@ ghost use Rattle.range_rows.specs.ObjectRules.{needs_blob, needs_container};
 ghost use Rattle.range_rows.specs.RequestChanges.{put_props};
 ghost use Rattle.stamp_model.specs.Runs.{Timed, AreAnswered, IsAdmitted, IsIn, IsOn, world_after_one, world_after_all, reply_to_one, replies_to};
 ghost use Rattle.stamp_model.specs.ShownAcls.{ShowsAcl};
+ghost use Rattle.stamp_model.specs.Overrides.{overrides_of};
 
 /// Each request has one reply, which follows from what the requests before it left. So the replies
 /// to the first requests do not depend on what comes after these requests.
@@ -95,7 +96,7 @@ pub fn what_is_written_is_read()
         → (reply_to_one w put).rule ≡ None
         → (reply_to_one (world_after_one w put) get).rule ≡ None
         → (reply_to_one (world_after_one w put) get).headers
-        ≡ kept_lines (put_props put.request kept)
+        ≡ kept_lines (overrides_of get.request.ask) (put_props put.request kept)
         ++ map header.Meta put.request.ask.args.metadata
         ++ header.BlobType ∷ header.AcceptRanges
         ∷ date_headers ((part_at w key).count + 1) put.moment }

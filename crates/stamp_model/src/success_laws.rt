@@ -25,6 +25,7 @@ ghost use Rattle.stamp_model.specs.Ranges.{is_of_both, without_range};
 ghost use Rattle.stamp_model.specs.Responses.{reply};
 ghost use Rattle.stamp_model.specs.Runs.{Timed, IsAdmitted, IsIn, IsOn, world_after_one, reply_to_one};
 ghost use Rattle.stamp_model.specs.Statuses.{success_status};
+ghost use Rattle.stamp_model.specs.Overrides.{overrides_of};
 
 /// A damaged body is refused. If no rule refuses a request that has a Content-MD5, its body has this
 /// MD5. If no rule refuses a Put Blob that has an x-ms-blob-content-md5, its body has this MD5 too. If no
@@ -66,14 +67,16 @@ pub fn a_success_has_the_status_of_its_operation()
         → (reply keys w q t bound).status ≡ success_status q.ask.op q.ask.args.range }
 {}
 
-/// Get Blob Properties tells what Get Blob tells. If no rule refuses either of the two, and the Get
-/// Blob has no range, the second reply is the first reply with its body: the status, the headers and
-/// the length are the same.
+/// Get Blob Properties tells what Get Blob tells. If no rule refuses either of the two, the Get Blob
+/// has no range, and their tokens override the same headers with the same texts, the second reply is
+/// the first reply with its body: the status, the headers and the length are the same. A request
+/// without a token overrides no header.
 pub fn properties_are_what_get_blob_tells()
     ensures { (w : World (List ℕ)) (key : Key) (name : List ℕ) (properties get : Timed)
         → IsOn BlobProperties key name properties.request → IsOn GetBlob key name get.request
-        → get.request.ask.args.range ≡ None → (reply_to_one w properties).rule ≡ None
-        → (reply_to_one w get).rule ≡ None
+        → get.request.ask.args.range ≡ None
+        → overrides_of get.request.ask ≡ overrides_of properties.request.ask
+        → (reply_to_one w properties).rule ≡ None → (reply_to_one w get).rule ≡ None
         → reply_to_one w get ≡ with_content (reply_to_one w properties) (reply_to_one w get).body }
 {}
 
