@@ -33,6 +33,7 @@ use Rattle.range_rows.specs.NamedBlobs.{target_blob}
 use Rattle.range_rows.specs.declared.judged.Allowed.{Allowed}
 use Rattle.range_rows.specs.declared.target.Target.{Target}
 use Rattle.range_rows.specs.Frames.{blob_read, frame, frame_by, ranged_frame, standing_read}
+use Rattle.range_rows.specs.Replaced.{Replaced}
 use Rattle.range_rows.specs.SentContent.{span_bytes, spans, spans_by, spans_len}
 use Rattle.range_rows.specs.ObjectRules.{object_refusal}
 use Rattle.range_rows.specs.RequestChanges.{change_of}
@@ -127,28 +128,28 @@ length-bytes_held [] = omega arith
 length-bytes_held (s ∷ ss) =
     omega (arith, length-append (span_bytes piece_bytes s) (bytes_held ss), shortened (s.to - s.from) (piece_bytes s.piece) s.from, length-bytes_held ss, sum_by-cons (λ (s : Span). s.to - s.from) s ss)
 
-ranged_body : (range : Option ByteRange) (c : Committed ℕ) → (ranged_frame range c).body ≡ []
-ranged_body None c = refl
-ranged_body (Some r) c = refl
+ranged_body : (v : Replaced) (range : Option ByteRange) (c : Committed ℕ) → (ranged_frame v range c).body ≡ []
+ranged_body v None c = refl
+ranged_body v (Some r) c = refl
 
 -- a frame has no body of its own, or nothing goes out after it
-one_body : (o : Op) (q : Asked) (s : Standing) (c : Committed ℕ) (b : Blob ℕ) (range : Option ByteRange) (d : Committed (List Piece))
-    → ((frame_by o q s c b).body ≡ []) ⊎ (spans_by o range d ≡ [])
-one_body op.CreateContainer q s c b range d = inl refl
-one_body op.ContainerProperties q s c b range d = inl refl
-one_body op.SetContainerMetadata q s c b range d = inl refl
-one_body op.DeleteContainer q s c b range d = inl refl
-one_body op.PutBlob q s c b range d = inl refl
-one_body op.GetBlob q s c b range d = inl (ranged_body q.ask.args.range c)
-one_body op.BlobProperties q s c b range d = inl refl
-one_body op.GetMetadata q s c b range d = inl refl
-one_body op.SetMetadata q s c b range d = inl refl
-one_body op.DeleteBlob q s c b range d = inl refl
-one_body op.PutBlock q s c b range d = inl refl
-one_body op.PutBlockList q s c b range d = inl refl
-one_body op.GetAcl q s c b range d = inr refl
-one_body op.GetBlockList q s c b range d = inr refl
-one_body other q s c b range d = inl refl
+one_body : (v : Replaced) (o : Op) (q : Asked) (s : Standing) (c : Committed ℕ) (b : Blob ℕ) (range : Option ByteRange) (d : Committed (List Piece))
+    → ((frame_by v o q s c b).body ≡ []) ⊎ (spans_by o range d ≡ [])
+one_body v op.CreateContainer q s c b range d = inl refl
+one_body v op.ContainerProperties q s c b range d = inl refl
+one_body v op.SetContainerMetadata q s c b range d = inl refl
+one_body v op.DeleteContainer q s c b range d = inl refl
+one_body v op.PutBlob q s c b range d = inl refl
+one_body v op.GetBlob q s c b range d = inl (ranged_body v q.ask.args.range c)
+one_body v op.BlobProperties q s c b range d = inl refl
+one_body v op.GetMetadata q s c b range d = inl refl
+one_body v op.SetMetadata q s c b range d = inl refl
+one_body v op.DeleteBlob q s c b range d = inl refl
+one_body v op.PutBlock q s c b range d = inl refl
+one_body v op.PutBlockList q s c b range d = inl refl
+one_body v op.GetAcl q s c b range d = inr refl
+one_body v op.GetBlockList q s c b range d = inr refl
+one_body v other q s c b range d = inl refl
 
 fits_by : (body : List ℕ) (ss : List Span) → (body ≡ []) ⊎ (ss ≡ []) → length body < 18446744073709551616 → spans_len ss ≤ 268435456
     → length (body ++ bytes_held ss) < 18446744073709551616
@@ -158,13 +159,13 @@ fits_by body ss (inr none) held short =
     subst (λ (ss : List Span). length (body ++ bytes_held ss) < 18446744073709551616) (sym none) (subst (λ (bs : List ℕ). length bs < 18446744073709551616) (sym (append-nil body)) held)
 
 -- a reply with its content fits in memory
-pub fits_memory : (r : Reply) (p : Part ℕ) (d : Part (List Piece)) (q : Asked) (ss : List Span) (n : ℕ) → r ≡ frame p q → ss ≡ spans d q
+pub fits_memory : (v : Replaced) (r : Reply) (p : Part ℕ) (d : Part (List Piece)) (q : Asked) (ss : List Span) (n : ℕ) → r ≡ frame v p q → ss ≡ spans d q
     → n ≡ length r.body → n < 18446744073709551616 → spans_len ss ≤ 268435456 → length (r.body ++ bytes_held ss) < 18446744073709551616
-fits_memory r p d q ss n is out counted held short =
+fits_memory v r p d q ss n is out counted held short =
     fits_by r.body ss
     (subst (λ (r : Reply). (r.body ≡ []) ⊎ (ss ≡ [])) (sym is)
-    (subst (λ (ss : List Span). ((frame p q).body ≡ []) ⊎ (ss ≡ [])) (sym out)
-    (one_body q.ask.op q (standing_read p) (blob_read p q.ask) (target_blob p q.ask) q.ask.args.range (blob_read d q.ask))))
+    (subst (λ (ss : List Span). ((frame v p q).body ≡ []) ⊎ (ss ≡ [])) (sym out)
+    (one_body v q.ask.op q (standing_read p) (blob_read p q.ask) (target_blob p q.ask) q.ask.args.range (blob_read d q.ask))))
     (subst (λ n. n < 18446744073709551616) counted held)
     short
 

@@ -22,6 +22,7 @@ use Rattle.range_rows.specs.SentContent.{span_bytes, spans, with_content}
 use Rattle.range_rows.specs.RequestChanges.{change_of}
 use Rattle.range_rows.specs.Judgements.{blocks_found}
 use Rattle.list_pages.specs.ListReplies.{blob_list_reply, container_list_reply}
+use Rattle.stamp_model.specs.Overrides.{overrides_of}
 use Rattle.stamp_model.specs.Refusals.{refusal}
 use Rattle.range_partition.specs.declared.decision.Decision.{Decision}
 use Rattle.range_partition.specs.declared.decision.Decision.TheVariants as decision
@@ -34,9 +35,9 @@ bytes_held spans = flat_map (span_bytes piece_bytes) spans
 abbrev pub found_refusal : Option Keys → Part (List Piece) → Asked → ℕ → Option Refusal
 found_refusal keys p q t = refusal keys (sizes_found p) q t
 
--- the frame of a request's answer from its container, with the bytes of its spans
+-- the frame of a request's answer from its container, with the headers that the request overrides and the bytes of its spans
 abbrev pub found_reply : Part (List Piece) → Asked → ℕ → Reply
-found_reply p q t = with_content (frame (sizes_found_after p q t) q) (bytes_held (spans (pieces_found_after p q t) q))
+found_reply p q t = with_content (frame (overrides_of q.ask) (sizes_found_after p q t) q) (bytes_held (spans (pieces_found_after p q t) q))
 
 -- the reply to a request of the operation that nothing refuses, from all rows, its container, and the bound of a list of containers
 abbrev pub row_reply_by : Op → World (List Piece) → Part (List Piece) → Asked → ℕ → Option Key → Reply

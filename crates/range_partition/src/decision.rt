@@ -15,6 +15,7 @@ ghost use Rattle.range_partition.specs.Decisions.{decided_by, decision_of, found
 ghost use Rattle.range_partition.specs.declared.decision.Decision.TheVariants as decision;
 
 use crate::content::reply_with_content;
+use crate::overrides::replacements;
 use access_rules::{Keys, Verdict, verdict};
 use block_blobs::FoundBlocks;
 use list_pages::{blob_list_reply, container_list_reply};
@@ -75,7 +76,8 @@ fn reply_found(
     ensures { IfOk result (λ reply.
         reply ≡ found_reply allowed.now.target.container request.now moment) }
 {
-    let answer = allowed.reply(alloc, request, moment)?;
+    let replaced = replacements(request.ask());
+    let answer = allowed.reply(alloc, request, moment, &replaced)?;
     // What the body of the frame has fits in memory.
     let _held = answer.frame.body.len();
     reply_with_content(answer)

@@ -3,5 +3,6 @@
 
 mod content;
 mod decision;
+mod overrides;
 
 pub use decision::{Decision, decide};
