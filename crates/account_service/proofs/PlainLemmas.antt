@@ -29,7 +29,7 @@ use Rattle.access_rules.specs.declared.keys.Keys.{Keys}
 use Rattle.block_blobs.specs.declared.found_blocks.FoundBlocks.{FoundBlocks}
 use Rattle.row_trees.specs.Fits.{fits}
 use Rattle.range_rows.specs.Frames.{frame}
-use Rattle.range_rows.specs.SentContent.{ReadsWhole, byte_count, reply_of, sizes, spans, with_content}
+use Rattle.range_rows.specs.SentContent.{ReadsWhole, byte_count, sizes, spans, with_content}
 use Rattle.row_trees.specs.ListedBlocks.{AreFoundFor}
 use Rattle.range_rows.specs.Judgements.{blocks_found}
 use Rattle.range_rows.specs.RequestChanges.{delete_blob, put_blob, put_block, put_block_list, set_metadata, act_by, change_of, part_after}
@@ -39,8 +39,9 @@ use Rattle.range_rows.proofs.SpanLemmas.{length-read, reply_of-read}
 use Rattle.list_pages.specs.ListReplies.{blob_list_reply, containers_told, page_asked}
 use Rattle.list_pages.proofs.Shown.{page_of_read}
 use Rattle.stamp_model.specs.Effects.{effect, unless_refused, world_after}
+use Rattle.stamp_model.specs.Overrides.{overrides_of}
 use Rattle.stamp_model.specs.Refusals.{refusal}
-use Rattle.stamp_model.specs.Responses.{answer_by, answer_of, own_answer_by, response}
+use Rattle.stamp_model.specs.Responses.{answer_by, answer_of, own_answer_by, response, rows_answer}
 use Rattle.stamp_model.proofs.ContentLemmas.{sizes-read, world_value-effect}
 use Rattle.stamp_model.proofs.EffectLemmas.{on_key, effect-refused, part_at-effect}
 use Rattle.stamp_model.proofs.ReadLemmas.{effect-read}
@@ -213,9 +214,9 @@ module _ (h : HeldRows) (q : Asked) (t : ℕ) (all : AreHeld h.rows) where
   reply_with_spans other free =
       let after = part_after same_pieces change part in
       let whole = EachContent-then (λ ps. is_held ps ≡ true) (ReadsWhole piece_bytes) held_whole after (after_whole change refl) in
-      ap (λ (z : Part ℕ). with_content (frame z q) (bytes_held (spans after q))) (sym (part_value-after pieces_len change))
-      ∙ reply_of-read piece_bytes after q whole
-      ∙ ap (λ (p : Part (List ℕ)). reply_of p q) (part_value-after held change ∙ sym (part_after_free free))
+      ap (λ (z : Part ℕ). with_content (frame (overrides_of q.ask) z q) (bytes_held (spans after q))) (sym (part_value-after pieces_len change))
+      ∙ reply_of-read piece_bytes after q whole (overrides_of q.ask)
+      ∙ ap (λ (p : Part (List ℕ)). rows_answer p q) (part_value-after held change ∙ sym (part_after_free free))
       ∙ sym (reply_free free ∙ answer_of-rows (effect (Some h.keys) held_world q t) q None other)
 
   -- a list is made from what is held as it is
