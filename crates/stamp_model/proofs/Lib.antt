@@ -14,6 +14,7 @@ pub mod EtagLemmas
 pub mod FailedConditionLemmas
 pub mod HistoryLemmas
 pub mod KeptLemmas
+pub mod KeyPairLemmas
 pub mod LastLemmas
 pub mod ListLemmas
 pub mod ListedLemmas

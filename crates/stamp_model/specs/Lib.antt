@@ -5,6 +5,7 @@ pub mod Effects
 pub mod Etags
 pub mod Histories
 pub mod Kept
+pub mod KeyPairs
 pub mod Listed
 pub mod Overrides
 pub mod Ranges

@@ -10,6 +10,7 @@ mod condition_laws;
 mod etag_laws;
 mod history_laws;
 mod kept_laws;
+mod key_laws;
 mod laws;
 mod list_laws;
 mod override_laws;
@@ -37,6 +38,7 @@ pub use history_laws::{
     each_entry_is_one_change,
 };
 pub use kept_laws::{a_blob_is_changed_by_its_own_requests, what_was_written_last_is_read};
+pub use key_laws::{a_history_does_not_see_later_pairs, each_epoch_has_its_pair};
 pub use laws::{
     a_container_is_changed_by_its_own_operations, a_refused_request_changes_nothing,
     a_reply_depends_on_what_its_request_sees, an_answer_is_of_what_exists,
