@@ -47,7 +47,8 @@ pub(crate) struct Case {
     pub now: i64,
 }
 
-fn key(rt: &impl Abort, alloc: Global, text: &str) -> SigningKey {
+/// The key of these bytes.
+pub(crate) fn key(rt: &impl Abort, alloc: Global, text: &str) -> SigningKey {
     SigningKey::new(text.as_bytes().to_vec(alloc).expect(rt, "memory"))
 }
 
@@ -141,6 +142,12 @@ fn request(rt: &impl Abort, alloc: Global, case: &Case) -> Request {
 
 /// The verdict on a case.
 pub(crate) fn case_verdict(rt: &impl Abort, alloc: Global, case: &Case) -> Verdict {
+    let keys = keys(rt, alloc, case.account);
+    verdict_under(rt, alloc, case, &keys)
+}
+
+/// The verdict on a case, if the stamp has these keys.
+pub(crate) fn verdict_under(rt: &impl Abort, alloc: Global, case: &Case, keys: &Keys) -> Verdict {
     let policies = Policies::empty(alloc);
     let level = case.level.unwrap_or(Level::Closed);
     let acl = Acl { level, policies };
@@ -149,10 +156,9 @@ pub(crate) fn case_verdict(rt: &impl Abort, alloc: Global, case: &Case) -> Verdi
     } else {
         None
     };
-    let keys = keys(rt, alloc, case.account);
     let request = request(rt, alloc, case);
     let now = Moment::new(case.now).expect(rt, "a moment");
-    verdict(alloc, Some(&keys), acl, &request, now).expect(rt, "memory")
+    verdict(alloc, Some(keys), acl, &request, now).expect(rt, "memory")
 }
 
 // A Get Blob of `a.txt` in `pics` whose query has these parameters.

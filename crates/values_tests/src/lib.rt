@@ -26,6 +26,8 @@ mod request_tests;
 #[cfg(test)]
 mod resident;
 #[cfg(test)]
+mod rotation_tests;
+#[cfg(test)]
 mod rule_tests;
 #[cfg(test)]
 mod sample_changes;

@@ -12,14 +12,16 @@ use std::alloc::Global;
 use std::process::Abort;
 
 // 2012-10-01T12:00:00Z
-const NOON: i64 = 13_490_928_000_000_000;
+pub(crate) const NOON: i64 = 13_490_928_000_000_000;
 
 const DATE: &str = "Mon, 01 Oct 2012 12:00:00 GMT";
 
 // The signatures were computed with Python's hmac, from the strings that the reference gives for these headers.
-const FIRST: &str = "SharedKey devstoreaccount1:d6Z+te/s0/4E59HxWmnrHiDmMywuU/tdYZOanDvfbmU=";
+pub(crate) const FIRST: &str =
+    "SharedKey devstoreaccount1:d6Z+te/s0/4E59HxWmnrHiDmMywuU/tdYZOanDvfbmU=";
 
-const SECOND: &str = "SharedKey devstoreaccount1:O9UZNW452QDPdLw1F6p3ZC4NHU5qWVzYuTPZoHu3yXw=";
+pub(crate) const SECOND: &str =
+    "SharedKey devstoreaccount1:O9UZNW452QDPdLw1F6p3ZC4NHU5qWVzYuTPZoHu3yXw=";
 
 const FIRST_OF_PLAIN: &str =
     "SharedKey devstoreaccount1:ePRVCZLPt7I+xXfjP5/XGitY47nxn8CnHH9IT3/CirM=";
@@ -27,7 +29,7 @@ const FIRST_OF_PLAIN: &str =
 const SECOND_OF_PLAIN: &str =
     "SharedKey devstoreaccount1:Q0voD+n40xNLU5uGUgXexCY4DVjCzZJKH97vt5u+Vwc=";
 
-const DATED: Dated = Dated {
+pub(crate) const DATED: Dated = Dated {
     name: "x-ms-date",
     date: DATE,
     by_first: FIRST,
