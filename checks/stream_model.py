@@ -161,11 +161,11 @@ class Stream:
 
 
 class Change:
-    """A change: the container's name, and the content of a blob that is put, if it is such a change, as places with lengths."""
+    """A change: the container's name, and the content of a blob that is put, if it is such a change, as places with lengths; and its epoch."""
 
-    def __init__(self, name, pieces=None):
-        self.name, self.pieces = name, pieces
-        length = 2 + 4 + len(ACCOUNT) + 4 + len(name)
+    def __init__(self, name, pieces=None, epoch=0):
+        self.name, self.pieces, self.epoch = name, pieces, epoch
+        length = 2 + 8 + 4 + len(ACCOUNT) + 4 + len(name)
         if pieces is not None:
             length += 4 + len(BLOB) + 8 + 4 + len(TYPE) + 4 * 4 + 4 + 4 + 21 * len(pieces)
         # The model keeps a record as the change itself, with the length that its bytes have.
@@ -175,7 +175,8 @@ class Change:
         return self.length
 
     def __str__(self):
-        return self.name if self.pieces is None else f"{self.name} ={said_pieces(self.pieces)}"
+        named = f"{self.name}@{self.epoch}"
+        return named if self.pieces is None else f"{named} ={said_pieces(self.pieces)}"
 
 
 def said_pieces(pieces):
@@ -293,9 +294,10 @@ class Run:
         self.all[self.at].check()
         self.lines.call(self.wire, name, words, answer)
 
-    def name(self):
+    def change(self, pieces=None):
+        """A change of the next name. The epoch rises with every fourth name."""
         self.names += 1
-        return f"name-{self.names}"
+        return Change(f"name-{self.names}", pieces, self.names // 4)
 
     def put(self, *lengths):
         number = len(self.puts)
@@ -308,14 +310,14 @@ class Run:
         self.made("put", lengths, "busy" if placed is None else said_pieces(placed).strip())
 
     def log(self):
-        change = Change(self.name())
+        change = self.change()
         self.wire.begin()
-        self.made("log", [change.name], self.all[self.at].log_change(change, self.wire))
+        self.made("log", [change.name, change.epoch], self.all[self.at].log_change(change, self.wire))
 
     def blob(self, number):
-        change = Change(self.name(), self.puts[number])
+        change = self.change(self.puts[number])
         self.wire.begin()
-        self.made("blob", [change.name, number], self.all[self.at].log_change(change, self.wire))
+        self.made("blob", [change.name, number, change.epoch], self.all[self.at].log_change(change, self.wire))
 
     def settle(self):
         self.wire.begin()

@@ -1,5 +1,5 @@
 -- The record of a change whose content is at places fits one block of a stream.
-use Rattle.std.proofs.Common.{◌≡◌, ℕ, ◌+◌, ◌*◌, ◌≤◌, ◌==◌, ◌&&◌, ◌||◌, Bool, true, false, List, [], ◌∷◌, length, replicate, Option, Some, None, All, IfSome, IsTrue, refl, ap, subst, ◌∙◌, arith, nat_le, is_some, is_none}
+use Rattle.std.proofs.Common.{◌≡◌, ℕ, ◌+◌, ◌*◌, ◌≤◌, ◌==◌, ◌&&◌, ◌||◌, Bool, true, false, cond, List, [], ◌∷◌, ◌++◌, length, replicate, Option, Some, None, All, IfSome, IsTrue, refl, ap, subst, ◌∙◌, arith, nat_le, is_some, is_none}
 use Rattle.std.specs.List.{flat_map, list_all}
 use Rattle.std.proofs.lemmas.Bool.{eqb-true}
 use Rattle.std.proofs.lemmas.List.{length-append, length-replicate}
@@ -40,7 +40,7 @@ use Rattle.stamp_types.specs.Changes.{KeyedAct, is_in_one_piece, is_block, has_i
 use Rattle.stamp_types.specs.Contents.{EachCommittedContent, EachActContent}
 use Rattle.log_record.specs.Fits.{FitsText, FitsMetadata, FitsMd5, FitsProps, FitsPolicies, FitsPolicy, FitsId, FitsBlock, FitsCommitted, FitsUncommitted, FitsStanding, FitsTaken, FitsPieces, FitsCreateContainer, FitsSetContainerMetadata, FitsSetAcl, FitsPutBlob, FitsSetMetadata, FitsPutBlock, FitsPutBlockList, FitsContainerRow, FitsStoredBlob, FitsAct, IsRecorded}
 use Rattle.log_record.specs.Forms.{short_bytes, long_bytes, string_bytes, option_bytes, list_bytes, FitsOption}
-use Rattle.log_record.specs.Records.{moment_bytes, level_bytes, meta_bytes, metadata_bytes, md5_text, props_bytes, letters_bytes, policy_bytes, policies_bytes, piece_bytes, pieces_bytes, id_text, block_bytes, committed_bytes, uncommitted_bytes, standing_bytes, source_bytes, taken_bytes, create_container_bytes, set_container_metadata_bytes, set_acl_bytes, put_blob_bytes, set_metadata_bytes, put_block_bytes, put_block_list_bytes, container_row_bytes, stored_blob_bytes, act_bytes, key_bytes, record_bytes}
+use Rattle.log_record.specs.Records.{moment_bytes, level_bytes, meta_bytes, metadata_bytes, md5_text, props_bytes, letters_bytes, policy_bytes, policies_bytes, piece_bytes, pieces_bytes, id_text, block_bytes, committed_bytes, uncommitted_bytes, standing_bytes, source_bytes, taken_bytes, create_container_bytes, set_container_metadata_bytes, set_acl_bytes, put_blob_bytes, set_metadata_bytes, put_block_bytes, put_block_list_bytes, container_row_bytes, stored_blob_bytes, act_bytes, epoch_bytes, key_bytes, record_bytes}
 use Rattle.log_record.specs.Sizes.{IsPlacedChange, PlacedRecordsFit}
 use Rattle.log_record.proofs.LengthLemmas.{both_true, at_most, length-short_bytes, long_within, short_within, string_within, then_within, option_within, list_within, text_within}
 
@@ -358,11 +358,19 @@ key_within c good =
 act_good : (c : KeyedAct) → is_change c ≡ true → is_act c.act ≡ true
 act_good c good = (both_true _ _ good).1
 
+epoch_within : (v epoch : ℕ) → length (epoch_bytes v epoch) ≤ 8
+epoch_within v epoch = by (v == 1)
+  where
+    by : (b : Bool) → length (cond b [] (long_bytes epoch)) ≤ 8
+    by true = omega arith
+    by false = long_within epoch
+
 pub record_within : PlacedRecordsFit
-record_within c recorded placed =
+record_within v c epoch recorded placed =
     let all = then_within (key_bytes c.key) (act_bytes c.act) 95 9443437 (key_within c recorded.good) (act_within c.act recorded.act (act_good c recorded.good) placed) in
-    omega (arith, all)
+    let more = then_within (epoch_bytes v epoch) (key_bytes c.key ++ act_bytes c.act) 8 9443532 (epoch_within v epoch) all in
+    omega (arith, more)
 
 -- the same, of the bytes that a writer gave
-pub written_within : (c : KeyedAct) (bytes : List ℕ) → bytes ≡ record_bytes c → IsRecorded c → IsPlacedChange c → length bytes ≤ 16777216
-written_within c bytes is recorded placed = omega (arith, ap length is, record_within c recorded placed)
+pub written_within : (c : KeyedAct) (epoch : ℕ) (bytes : List ℕ) → bytes ≡ record_bytes 2 c epoch → IsRecorded c → IsPlacedChange c → length bytes ≤ 16777216
+written_within c epoch bytes is recorded placed = omega (arith, ap length is, record_within 2 c epoch recorded placed)

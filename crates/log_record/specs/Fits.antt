@@ -1,5 +1,5 @@
 -- Which plain values are values of the program's types, with lengths that four bytes can write (docs/formats/records.md).
-use Rattle.std.specs.Prelude.{◌≡◌, ℕ, ◌<◌, ◌≤◌, ◌^◌, Bool, true, ◌&&◌, List, length, Option}
+use Rattle.std.specs.Prelude.{◌≡◌, ◌==◌, ℕ, ◌<◌, ◌≤◌, ◌^◌, Bool, true, ◌&&◌, List, length, Option}
 use Rattle.base64_text.specs.Base64.{IsBytes}
 use Rattle.stamp_values.specs.Texts.{is_utf8, is_clean, is_visible}
 use Rattle.stamp_values.specs.MetadataLists.{is_metadata}
@@ -174,3 +174,7 @@ pub record IsRecorded (c : KeyedAct) : Type 0 where
   pub key : FitsKey c.key
   pub act : FitsAct c.act
   pub good : is_change c ≡ true
+
+-- the epoch is a number of eight bytes, and in version 1 it is 0
+abbrev pub FitsEpoch : ℕ → ℕ → Type 0
+FitsEpoch v epoch = (epoch < 2 ^ 64) × ((v == 1) ≡ true → epoch ≡ 0)

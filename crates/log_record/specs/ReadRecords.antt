@@ -1,5 +1,5 @@
 -- The change whose record bytes are (docs/formats/records.md).
-use Rattle.std.specs.Prelude.{◌≡◌, ℕ, ◌==◌, List, [], ◌∷◌, ◌++◌, Option, Some, None, Result, Ok, Err, if◌then◌else◌}
+use Rattle.std.specs.Prelude.{◌≡◌, ◌<◌, ◌^◌, ℕ, true, ◌==◌, List, [], ◌∷◌, ◌++◌, Option, Some, None, Result, Ok, Err, if◌then◌else◌}
 use Rattle.std.specs.Int.{w64}
 use Rattle.stamp_values.specs.declared.level.Level.{Level}
 use Rattle.stamp_values.specs.declared.meta.Meta.{Meta}
@@ -26,11 +26,11 @@ use Rattle.stamp_types.specs.declared.act.Act.TheVariants as acts
 use Rattle.stamp_types.specs.Changes.{KeyedAct, is_change}
 use Rattle.log_record.specs.declared.record_fault.RecordFault.{RecordFault}
 use Rattle.log_record.specs.declared.record_fault.RecordFault.TheVariants as fault
-use Rattle.log_record.specs.Fits.{IsRecorded}
+use Rattle.log_record.specs.Fits.{FitsEpoch, IsRecorded}
 use Rattle.log_record.specs.Outcomes.{Tells}
 use Rattle.log_record.specs.Reading.{Read, ◌>>=◌, number_at, option_at, list_at, both_at, made_at}
 use Rattle.log_record.specs.ReadFields.{moment_at, level_at, text_at, id_at, metadata_at, props_at, acl_at, pieces_at, committed_at, uncommitted_at, standing_at, taken_at, key_at}
-use Rattle.log_record.specs.Records.{record_bytes}
+use Rattle.log_record.specs.Records.{IsRecordOf, is_version, record_bytes}
 
 -- ---- the fields of each kind
 
@@ -125,33 +125,44 @@ keyed key act = record { key = key; act = act }
 unfoldable pub keyed_at : ℕ → List ℕ → Read KeyedAct
 keyed_at k t = key_at t >>= (λ key. act_at k key.1 >>= (λ act. Some (keyed key.0 act.0, act.1)))
 
--- the kind, the account and the container, the fields, and no byte after them
-unfoldable pub fields_of : List ℕ → Option KeyedAct
-fields_of [] = None
-fields_of (k ∷ t) = whole (keyed_at k t)
+-- the epoch, which records of version 1 do not have
+abbrev pub epoch_at : ℕ → List ℕ → Read ℕ
+epoch_at v t = if v == 1 then Some (0, t) else number_at w64 t
 
--- the change that the bytes after the version say
-unfoldable pub change_of : List ℕ → Option KeyedAct
-change_of t = fields_of t >>= (λ c. if is_change c then Some c else None)
+-- the epoch, the account and the container, and the fields of the kind
+unfoldable pub parts_at : ℕ → ℕ → List ℕ → Read (KeyedAct × ℕ)
+parts_at v k t = epoch_at v t >>= (λ e. keyed_at k e.1 >>= (λ c. Some ((c.0, e.0), c.1)))
 
--- the change with the epoch 0, since version 1 has no epoch; Form if there is no change
-abbrev pub ok_or_form : Option KeyedAct → Result (KeyedAct × ℕ) RecordFault
-ok_or_form (Some c) = Ok (c, 0)
+-- the kind, the epoch, the account and the container, the fields, and no byte after them
+unfoldable pub fields_of : ℕ → List ℕ → Option (KeyedAct × ℕ)
+fields_of v [] = None
+fields_of v (k ∷ t) = whole (parts_at v k t)
+
+-- the change and the epoch that the bytes after the version say
+unfoldable pub change_of : ℕ → List ℕ → Option (KeyedAct × ℕ)
+change_of v t = fields_of v t >>= (λ c. if is_change c.0 then Some c else None)
+
+-- the change with its epoch; Form if there is no change
+abbrev pub ok_or_form : Option (KeyedAct × ℕ) → Result (KeyedAct × ℕ) RecordFault
+ok_or_form (Some c) = Ok c
 ok_or_form None = Err fault.Form
 
 -- the change and the epoch whose record the bytes are, or why the bytes are not a record
 unfoldable pub record_of : List ℕ → Result (KeyedAct × ℕ) RecordFault
 record_of [] = Err fault.Form
-record_of (v ∷ t) = if v == 1 then ok_or_form (change_of t) else Err fault.Version
+record_of (v ∷ t) = if is_version v then ok_or_form (change_of v t) else Err fault.Version
 
--- if the bytes are the record of a change of the program's types, then that change is read, unless memory ran out
+-- if the bytes are a record of a change of the program's types, then that change and its epoch are read, unless memory ran out
 abbrev pub ReadsAgain : List ℕ → Result (KeyedAct × ℕ) RecordFault → Type 0
-ReadsAgain bytes result = (c : KeyedAct) → IsRecorded c → bytes ≡ record_bytes c → Tells result (Ok (c, 0))
+ReadsAgain bytes result = (c : KeyedAct) (epoch : ℕ) → IsRecorded c → epoch < 2 ^ 64 → IsRecordOf bytes c epoch → Tells result (Ok (c, epoch))
 
--- if two records are at the front of the same bytes, then they are records of one change, and the same bytes are after them
+-- if two records are at the front of the same bytes, then they are records of one change and of one epoch, and the same bytes are after
+-- them; the versions may be any
 abbrev pub IsPrefixFree : Type 0
-IsPrefixFree = (c d : KeyedAct) (x y : List ℕ) → IsRecorded c → IsRecorded d → record_bytes c ++ x ≡ record_bytes d ++ y → (c ≡ d) × (x ≡ y)
+IsPrefixFree = (v w : ℕ) (c d : KeyedAct) (m n : ℕ) (x y : List ℕ) → is_version v ≡ true → IsRecorded c → IsRecorded d → FitsEpoch v m → FitsEpoch w n
+    → record_bytes v c m ++ x ≡ record_bytes w d n ++ y → (c ≡ d) × (m ≡ n) × (x ≡ y)
 
--- two changes with the same record are the same change
+-- two changes with the same record are the same change, of the same epoch
 abbrev pub SaysOneChange : Type 0
-SaysOneChange = (c d : KeyedAct) → IsRecorded c → IsRecorded d → record_bytes c ≡ record_bytes d → c ≡ d
+SaysOneChange = (v w : ℕ) (c d : KeyedAct) (m n : ℕ) → is_version v ≡ true → IsRecorded c → IsRecorded d → FitsEpoch v m → FitsEpoch w n
+    → record_bytes v c m ≡ record_bytes w d n → (c ≡ d) × (m ≡ n)

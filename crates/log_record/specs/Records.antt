@@ -1,5 +1,5 @@
--- The records of a log in version 1: the bytes of each change (the profile's own form: docs/formats/records.md).
-use Rattle.std.specs.Prelude.{ℕ, List, [], ◌∷◌, ◌++◌, Option, Some, None}
+-- The records of a log in versions 1 and 2: the bytes of each change (the profile's own form: docs/formats/records.md).
+use Rattle.std.specs.Prelude.{◌≡◌, ◌==◌, ◌||◌, ℕ, Bool, true, if◌then◌else◌, List, [], ◌∷◌, ◌++◌, Option, Some, None}
 use Rattle.base64_text.specs.Base64.{standard, encode_of}
 use Rattle.stamp_values.specs.Levels.{level_number}
 use Rattle.stamp_values.specs.Letters.{Permissions, letters_text}
@@ -198,6 +198,22 @@ act_bytes (acts.PutBlockList a) = put_block_list_bytes a
 act_bytes (acts.ContainerRow a) = container_row_bytes a
 act_bytes (acts.StoredBlob a) = stored_blob_bytes a
 
--- the record of a change: the version, the kind, the account and the container, and then the fields of the kind
-abbrev pub record_bytes : KeyedAct → List ℕ
-record_bytes c = 1 ∷ kind_of c.act ∷ (key_bytes c.key ++ act_bytes c.act)
+-- the versions of records that are read; the second one is written
+abbrev pub is_version : ℕ → Bool
+is_version v = v == 1 || v == 2
+
+-- the epoch, which records of version 1 do not have
+abbrev pub epoch_bytes : ℕ → ℕ → List ℕ
+epoch_bytes v epoch = if v == 1 then [] else long_bytes epoch
+
+-- the record of a change and of its epoch in a version: the version, the kind, the epoch, the account and the container, and then the
+-- fields of the kind
+abbrev pub record_bytes : ℕ → KeyedAct → ℕ → List ℕ
+record_bytes v c epoch = v ∷ kind_of c.act ∷ (epoch_bytes v epoch ++ (key_bytes c.key ++ act_bytes c.act))
+
+-- the bytes are a record of this change and of this epoch, in one of the versions that are read; in version 1 the epoch is 0
+pub record IsRecordOf (bytes : List ℕ) (c : KeyedAct) (epoch : ℕ) : Type 0 where
+  pub version : ℕ
+  pub known : is_version version ≡ true
+  pub zero : (version == 1) ≡ true → epoch ≡ 0
+  pub written : bytes ≡ record_bytes version c epoch

@@ -1,5 +1,5 @@
 -- How many bytes a record has at most (docs/formats/limits.md).
-use Rattle.std.specs.Prelude.{◌≤◌, length, IsTrue}
+use Rattle.std.specs.Prelude.{◌≤◌, ℕ, length, IsTrue}
 use Rattle.stamp_types.specs.Changes.{KeyedAct}
 use Rattle.stamp_types.specs.Contents.{EachActContent}
 use Rattle.stamp_types.specs.Pieces.{is_placed}
@@ -12,4 +12,4 @@ IsPlacedChange c = EachActContent (λ ps. IsTrue (is_placed ps)) c.act
 
 -- the record of a change whose content is at places fits one block of a stream: at most 16,777,216 bytes
 abbrev pub PlacedRecordsFit : Type 0
-PlacedRecordsFit = (c : KeyedAct) → IsRecorded c → IsPlacedChange c → length (record_bytes c) ≤ 16777216
+PlacedRecordsFit = (v : ℕ) (c : KeyedAct) (epoch : ℕ) → IsRecorded c → IsPlacedChange c → length (record_bytes v c epoch) ≤ 16777216

@@ -1,4 +1,4 @@
-//! Changes of containers as bytes and back: the records of a log, version 1.
+//! Changes of containers as bytes and back: the records of a log, of which version 2 is written and versions 1 and 2 are read.
 #![tactic(auto)]
 
 mod access;

@@ -7,7 +7,7 @@ use std::alloc::{AllocError, AllocFailed};
 /// Why no change is read from bytes.
 #[derive(Clone, Copy, Debug, PartialEq, Eq)]
 pub enum RecordFault {
-    /// No writer gives the bytes.
+    /// The bytes are not a record of a version that is read.
     Form,
     /// The first byte is of a version that is not read.
     Version,

@@ -1,5 +1,5 @@
 -- The changes of blocks.
-use Rattle.std.proofs.Common.{◌≡◌, ◌∙◌, ℕ, Bool, true, false, Option, Some, None, Ok, List, [], ◌∷◌, ◌++◌, All, map, ap, sym, refl}
+use Rattle.std.proofs.Common.{◌≡◌, ◌∙◌, ◌<◌, ◌^◌, ℕ, Bool, true, false, Option, Some, None, Ok, List, [], ◌∷◌, ◌++◌, All, map, ap, refl}
 use Rattle.std.specs.List.{cons_option}
 use Rattle.std.specs.Option.{option_and_then, option_to_list}
 use Rattle.std.specs.Result.{result_ok}
@@ -10,22 +10,19 @@ use Rattle.stamp_types.specs.Changes.{KeyedAct}
 use Rattle.log_record.specs.Fits.{IsRecorded}
 use Rattle.log_record.specs.Records.{record_bytes}
 use Rattle.log_record.specs.ReadRecords.{record_of}
-use Rattle.log_record.proofs.RecordLemmas.{record_again}
+use Rattle.log_record.proofs.RecordLemmas.{bytes_again, record_again, second_version}
 use Rattle.partition_stream.specs.Changes.{Recorded, change_in, changes_of}
 use Rattle.partition_stream.specs.Storing.{IsRecord}
+use Rattle.partition_stream.specs.Written.{Written, IsWritten, said_of, written_bytes}
 
--- the record of a change is read as that change
-pub change_in-record : (c : KeyedAct) → IsRecorded c → change_in (record_bytes c) ≡ Some (c, 0)
-change_in-record c fits = ap result_ok (record_again c fits)
+-- a block that was written of a change and its epoch is read as these
+pub change_in-written : (block : Block) (c : KeyedAct) (epoch : ℕ) → IsRecorded c → epoch < 2 ^ 64 → block ≡ record_bytes 2 c epoch → change_in block ≡ Some (c, epoch)
+change_in-written block c epoch fits within bytes = ap result_ok (bytes_again block c epoch fits within (second_version block c epoch bytes))
 
--- a block that was written of a change is read as that change
-pub change_in-written : (block : Block) (c : KeyedAct) (epoch : ℕ) → IsRecorded c → block ≡ record_bytes c → epoch ≡ 0 → change_in block ≡ Some (c, epoch)
-change_in-written block c epoch fits bytes none = ap change_in bytes ∙ change_in-record c fits ∙ ap (λ n. Some (c, n)) (sym none)
+pub record_read : (block : Block) (r : IsRecord block) → record_of block ≡ Ok (r.change, r.epoch)
+record_read block r = bytes_again block r.change r.epoch r.fits r.within r.bytes
 
-pub record_read : (block : Block) (r : IsRecord block) → record_of block ≡ Ok (r.change, 0)
-record_read block r = ap record_of r.bytes ∙ record_again r.change r.fits
-
-pub change_in-block : (block : Block) (r : IsRecord block) → change_in block ≡ Some (r.change, 0)
+pub change_in-block : (block : Block) (r : IsRecord block) → change_in block ≡ Some (r.change, r.epoch)
 change_in-block block r = ap result_ok (record_read block r)
 
 one_of : (o : Option Recorded) → cons_option o [] ≡ option_to_list o
@@ -49,12 +46,15 @@ pub changes_of-next : (blocks more : List Block) (block : Block) (c : Recorded) 
 changes_of-next blocks more block c m e =
     ap changes_of m ∙ changes_of-more blocks (block ∷ []) ∙ ap (λ l. changes_of blocks ++ l) (changes_of-one block c e)
 
--- the records of changes are read as these changes
-changes_of-records : (cs : List KeyedAct) → All IsRecorded cs → changes_of (map record_bytes cs) ≡ map (λ c. (c, 0)) cs
-changes_of-records [] fit = refl
-changes_of-records (c ∷ cs) fit =
-    ap (λ o. cons_option o (changes_of (map record_bytes cs))) (change_in-record c (All-head IsRecorded c cs fit))
-    ∙ ap (λ l. (c, 0) ∷ l) (changes_of-records cs (All-tail IsRecorded c cs fit))
+-- a record that was written is read as what it was written of
+pub change_in-record : (w : Written) → IsWritten w → change_in (written_bytes w) ≡ Some (said_of w)
+change_in-record w is = ap result_ok (record_again w.version w.change w.epoch is.known is.fits is.epoch)
 
-pub changes_of-written : (blocks : List Block) (cs : List KeyedAct) → All IsRecorded cs → blocks ≡ map record_bytes cs → changes_of blocks ≡ map (λ c. (c, 0)) cs
-changes_of-written blocks cs fit bytes = ap changes_of bytes ∙ changes_of-records cs fit
+changes_of-records : (ws : List Written) → All IsWritten ws → changes_of (map written_bytes ws) ≡ map said_of ws
+changes_of-records [] fit = refl
+changes_of-records (w ∷ ws) fit =
+    ap (λ o. cons_option o (changes_of (map written_bytes ws))) (change_in-record w (All-head IsWritten w ws fit))
+    ∙ ap (λ l. said_of w ∷ l) (changes_of-records ws (All-tail IsWritten w ws fit))
+
+pub changes_of-written : (blocks : List Block) (ws : List Written) → All IsWritten ws → blocks ≡ map written_bytes ws → changes_of blocks ≡ map said_of ws
+changes_of-written blocks ws fit bytes = ap changes_of bytes ∙ changes_of-records ws fit

@@ -1,5 +1,5 @@
 -- The records that the streams of a partition keep, and the content that these records bring.
-use Rattle.std.proofs.Common.{◌≡◌, ◌∙◌, Bool, true, false, Option, Some, None, IfSome, Result, Ok, Err, List, [], ◌++◌, All, ap, sym, refl, subst, append-nil}
+use Rattle.std.proofs.Common.{◌≡◌, ◌∙◌, ◌<◌, ◌^◌, ℕ, Bool, true, false, Option, Some, None, IfSome, Result, Ok, Err, List, [], ◌++◌, All, ap, sym, refl, subst, append-nil}
 use Rattle.std.proofs.lemmas.List.Elements.{All-weaker}
 use Rattle.std.proofs.lemmas.Option.{IfSome_then}
 use Rattle.extent_node.specs.Copies.{Block}
@@ -7,6 +7,7 @@ use Rattle.extent_node.specs.Faults.{held}
 use Rattle.stamp_types.specs.Changes.{KeyedAct}
 use Rattle.log_record.specs.Fits.{IsRecorded}
 use Rattle.log_record.specs.Records.{record_bytes}
+use Rattle.log_record.proofs.RecordLemmas.{second_version}
 use Rattle.stream_manager.specs.Outcomes.{IsSettled, IsSealed}
 use Rattle.stream_manager.specs.Places.{block_at, blocks_of, is_kept, KeepsPlaces}
 use Rattle.stream_manager.specs.Streams.{Streamed, laid}
@@ -30,8 +31,10 @@ with_log : (s : ThreeStreams) (log : Streamed) → AreKept s → Each (IsStoredR
 with_log s log kept each = record { rows = kept.rows; whole = kept.whole; log = each.blocks; doubt = each.doubt }
 
 -- the record of a change whose contents are stored
-pub stored_record : (es : List (List Block)) (block : Block) (c : KeyedAct) → IsRecorded c → block ≡ record_bytes c → IsStoredChange es c → IsStoredRecord es block
-stored_record es block c fits bytes stored = record { change = c; fits = fits; bytes = bytes; stored = stored }
+pub stored_record : (es : List (List Block)) (block : Block) (c : KeyedAct) (epoch : ℕ) → IsRecorded c → epoch < 2 ^ 64 → block ≡ record_bytes 2 c epoch → IsStoredChange es c
+    → IsStoredRecord es block
+stored_record es block c epoch fits within bytes stored =
+    record { change = c; epoch = epoch; fits = fits; within = within; bytes = second_version block c epoch bytes; stored = stored }
 
 -- a record was appended to the log
 pub kept_appended : (r : Result (Unit {0}) LogFault) (s : ThreeStreams) (log : Streamed) (block : Block)
@@ -50,7 +53,7 @@ kept_log_sealed r s log kept h = with_log s log kept (each_sealed (IsStoredRecor
 
 -- a record whose contents are stored stays one
 record_stays : (es fs : List (List Block)) → KeepsPlaces es fs → (block : Block) → IsStoredRecord es block → IsStoredRecord fs block
-record_stays es fs keeps block r = record { change = r.change; fits = r.fits; bytes = r.bytes; stored = change_stays es fs keeps r.change r.stored }
+record_stays es fs keeps block r = record { change = r.change; epoch = r.epoch; fits = r.fits; within = r.within; bytes = r.bytes; stored = change_stays es fs keeps r.change r.stored }
 
 -- the blocks of the data stay at their places
 pub kept_blobs : (s : ThreeStreams) (blobs : Streamed) → AreKept s → KeepsPlaces (laid s.blobs) (laid blobs) → AreKept (streams s.log blobs s.rows)
@@ -114,7 +117,7 @@ kept_same s t kept log blobs rows sure whole = record {
 
 -- each block is a record
 pub record_of_stored : (es : List (List Block)) (block : Block) → IsStoredRecord es block → IsRecord block
-record_of_stored es block r = record { change = r.change; fits = r.fits; bytes = r.bytes }
+record_of_stored es block r = record { change = r.change; epoch = r.epoch; fits = r.fits; within = r.within; bytes = r.bytes }
 
 pub are_records : (es : List (List Block)) (blocks : List Block) → All (IsStoredRecord es) blocks → All IsRecord blocks
 are_records es blocks stored = All-weaker (IsStoredRecord es) IsRecord (record_of_stored es) blocks stored

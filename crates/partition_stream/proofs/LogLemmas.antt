@@ -56,7 +56,7 @@ is_log_sealed (Ok u) s t h = logs_none s t (more_sealed s.log t.log h.0 h.2)
 is_log_sealed (Err e) s t h = inr (record { blocks = h.0; last = h.1 })
 
 -- a doubt is a change
-doubt_is : (s : ThreeStreams) (block : Block) (r : IsRecord block) → s.log.last.tried ≡ Some block → (logged s).doubt ≡ Some (r.change, 0)
+doubt_is : (s : ThreeStreams) (block : Block) (r : IsRecord block) → s.log.last.tried ≡ Some block → (logged s).doubt ≡ Some (r.change, r.epoch)
 doubt_is s block r t = ap (option_and_then change_in) t ∙ change_in-block block r
 
 some_doubt : (o : Option Block) → IfSome o IsRecord → IsSome o → IsSome (option_and_then change_in o)
@@ -73,12 +73,12 @@ is_log_settled (Ok settled.Clean) s t d h = (no_doubt s h.0, record { blocks = h
 is_log_settled (Ok (settled.Kept p)) s t d h =
     let block = h.0.0 in
     let own : IsRecord block = subst (λ o. IfSome o IsRecord) h.0.1 d in (
-      (own.change, 0),
+      (own.change, own.epoch),
       (
         doubt_is s block own h.0.1,
         (
           ap changes_of h.0.2.order ∙ changes_of-more (blocks_of (laid s.log)) (block ∷ [])
-              ∙ ap (λ l. changes_of (blocks_of (laid s.log)) ++ l) (changes_of-one block (own.change, 0) (change_in-block block own)),
+              ∙ ap (λ l. changes_of (blocks_of (laid s.log)) ++ l) (changes_of-one block (own.change, own.epoch) (change_in-block block own)),
           no_doubt t h.1,
         ),
       ),

@@ -129,9 +129,9 @@ each_stored : (es : List (List Block)) (blocks : List Block) → All (IsStoredRe
 each_stored es [] all = All-nil (λ (c : Recorded). IsStoredChange es c.0)
 each_stored es (block ∷ blocks) all =
     let r = All-head (IsStoredRecord es) block blocks all in
-    let own : change_in block ≡ Some (r.change, 0) = change_in-block block (record { change = r.change; fits = r.fits; bytes = r.bytes }) in
+    let own : change_in block ≡ Some (r.change, r.epoch) = change_in-block block (record { change = r.change; epoch = r.epoch; fits = r.fits; within = r.within; bytes = r.bytes }) in
     subst (λ o. All (λ (c : Recorded). IsStoredChange es c.0) (cons_option o (changes_of blocks))) (sym own)
-    (All-cons (λ (c : Recorded). IsStoredChange es c.0) (r.change, 0) (changes_of blocks) r.stored (each_stored es blocks (All-tail (IsStoredRecord es) block blocks all)))
+    (All-cons (λ (c : Recorded). IsStoredChange es c.0) (r.change, r.epoch) (changes_of blocks) r.stored (each_stored es blocks (All-tail (IsStoredRecord es) block blocks all)))
 
 stored_next : (es : List (List Block)) (key : Key) (c : Recorded) (cs : List Recorded) (p : Part (List Piece)) (b : Bool) → is_on key c ≡ b
     → IsStoredChange es c.0 → EachContent (AreStored es) p

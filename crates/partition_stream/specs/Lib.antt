@@ -7,3 +7,4 @@ pub mod Outcomes
 pub mod Positions
 pub mod Storing
 pub mod Streams
+pub mod Written

@@ -1,12 +1,12 @@
 -- What is true of the streams of every partition (SOSP 2011, section 5).
-use Rattle.std.specs.Prelude.{◌≡◌, List, None, All, IfSome}
+use Rattle.std.specs.Prelude.{◌≡◌, ◌<◌, ◌^◌, ℕ, List, None, All, IfSome}
 use Rattle.extent_node.specs.Copies.{Block}
 use Rattle.stamp_types.specs.Changes.{KeyedAct}
 use Rattle.stamp_types.specs.Contents.{EachActContent}
 use Rattle.stream_manager.specs.Places.{blocks_of}
 use Rattle.stream_manager.specs.Streams.{laid}
 use Rattle.log_record.specs.Fits.{IsRecorded}
-use Rattle.log_record.specs.Records.{record_bytes}
+use Rattle.log_record.specs.Records.{IsRecordOf}
 use Rattle.partition_stream.specs.Contents.{AreStored}
 use Rattle.partition_stream.specs.Streams.{ThreeStreams}
 
@@ -14,17 +14,21 @@ use Rattle.partition_stream.specs.Streams.{ThreeStreams}
 abbrev pub IsStoredChange : List (List Block) → KeyedAct → Type 0
 IsStoredChange es c = EachActContent (AreStored es) c.act
 
--- the block is the record of a change
+-- the block is a record of a change with its epoch
 pub record IsRecord (block : Block) : Type 0 where
   pub change : KeyedAct
+  pub epoch : ℕ
   pub fits : IsRecorded change
-  pub bytes : block ≡ record_bytes change
+  pub within : epoch < 2 ^ 64
+  pub bytes : IsRecordOf block change epoch
 
--- the block is the record of a change whose contents are stored in this data
+-- the block is a record of a change with its epoch, and the change's contents are stored in this data
 pub record IsStoredRecord (es : List (List Block)) (block : Block) : Type 0 where
   pub change : KeyedAct
+  pub epoch : ℕ
   pub fits : IsRecorded change
-  pub bytes : block ≡ record_bytes change
+  pub within : epoch < 2 ^ 64
+  pub bytes : IsRecordOf block change epoch
   pub stored : IsStoredChange es change
 
 -- each block of the rows and of the log is such a record, and so is the block that is in doubt in the log; the rows have no doubt

@@ -8,8 +8,6 @@ ghost use Rattle.stamp_types.specs.Pieces.{cut, is_held};
 ghost use Rattle.stamp_types.specs.World.{Part, changed, no_part, part_value, same_pieces};
 ghost use Rattle.stamp_types.specs.declared.piece.Piece.{Piece};
 ghost use Rattle.stamp_values.specs.declared.key.Key.{Key};
-ghost use Rattle.log_record.specs.Fits.{IsRecorded};
-ghost use Rattle.log_record.specs.Records.{record_bytes};
 ghost use Rattle.stream_manager.specs.Places.{KeepsPlaces, blocks_of};
 ghost use Rattle.stream_manager.specs.Streams.{laid};
 ghost use Rattle.stream_manager.specs.declared.faults.SettleFault.{SettleFault};
@@ -20,6 +18,7 @@ ghost use Rattle.partition_stream.specs.Outcomes.{Logs, IsLogged, IsLogSealed};
 ghost use Rattle.partition_stream.specs.Positions.{IsFirstPart, all_changes, changes_before};
 ghost use Rattle.partition_stream.specs.Storing.{AreKept, IsStoredChange};
 ghost use Rattle.partition_stream.specs.Streams.{HaveSameBlocks, Logged, ThreeStreams, logged};
+ghost use Rattle.partition_stream.specs.Written.{IsWritten, Written, said_of, written_bytes};
 ghost use Rattle.partition_stream.specs.declared.faults.LogFault.{LogFault};
 ghost use Rattle.partition_stream.specs.declared.position.Position.{Position};
 
@@ -35,15 +34,16 @@ pub fn stored_content_stays()
     ensures each { (s : ThreeStreams) (key : Key) → AreKept s → EachContent (AreStored (laid s.blobs)) (held_of (logged s) key) }
 {}
 
-/// The changes of the rows and of the log are those whose records their blocks are, in the order of the blocks. The change that is in
-/// doubt is the one whose record is in doubt.
+/// The changes of the rows and of the log are those whose records their blocks are, each with its epoch, in the order of the blocks.
+/// The change that is in doubt is the one whose record is in doubt. One log may have records of both versions: what each record says
+/// does not depend on the records beside it.
 pub fn each_record_is_its_change()
-    ensures rows { (s : ThreeStreams) (cs : List KeyedAct) → All IsRecorded cs → blocks_of (laid s.rows) ≡ map record_bytes cs
-        → (logged s).rows ≡ map (λ c. (c, 0)) cs }
-    ensures log { (s : ThreeStreams) (cs : List KeyedAct) → All IsRecorded cs → blocks_of (laid s.log) ≡ map record_bytes cs
-        → (logged s).log ≡ map (λ c. (c, 0)) cs }
-    ensures doubt { (s : ThreeStreams) (c : KeyedAct) → IsRecorded c → s.log.last.tried ≡ Some (record_bytes c)
-        → (logged s).doubt ≡ Some (c, 0) }
+    ensures rows { (s : ThreeStreams) (ws : List Written) → All IsWritten ws → blocks_of (laid s.rows) ≡ map written_bytes ws
+        → (logged s).rows ≡ map said_of ws }
+    ensures log { (s : ThreeStreams) (ws : List Written) → All IsWritten ws → blocks_of (laid s.log) ≡ map written_bytes ws
+        → (logged s).log ≡ map said_of ws }
+    ensures doubt { (s : ThreeStreams) (w : Written) → IsWritten w → s.log.last.tried ≡ Some (written_bytes w)
+        → (logged s).doubt ≡ Some (said_of w) }
 {}
 
 /// Rows and a log without a change mean a container that never was, in pieces and in bytes, whatever is in doubt.

@@ -17,11 +17,10 @@ use stamp_values::Share;
 use std::alloc::Global;
 use stream_manager::{AppendFault, Stream};
 
-/// The record of a change.
+/// The record of a change with its epoch.
 pub(crate) fn record_of(alloc: Global, change: &Change, epoch: u64) -> Result<Share, LogFault>
-    requires epoch { epoch ≡ 0 }
-    requires placed { IsPlacedChange change.now }
-    ensures written { IfOk result (λ b. b ≡ record_bytes change.now) }
+    requires { IsPlacedChange change.now }
+    ensures written { IfOk result (λ b. b ≡ record_bytes 2 change.now epoch) }
     ensures fits { IfOk result (λ b. IsRecorded change.now) }
     ensures short { IfOk result (λ b. length b ≤ 16_777_216) }
     ensures refused { IsOkUnless result NoMemory }

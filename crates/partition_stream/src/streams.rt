@@ -87,7 +87,7 @@ impl Streams {
         put_content(self.alloc, &mut self.blobs, content, wire)
     }
 
-    /// Appends the record of a change to the log. An older doubt is settled first.
+    /// Appends the record of a change with its epoch to the log. An older doubt is settled first.
     ///
     /// NoMemory: no node was called, and the streams are as they were.
     pub fn log_change<W: Wire>(
@@ -96,7 +96,6 @@ impl Streams {
         epoch: u64,
         wire: &mut W,
     ) -> Result<(), LogFault>
-        requires epoch { epoch ≡ 0 }
         requires stored { IsStoredChange (laid self.old.blobs) change.now }
         ensures logged { IsLogged result self.old (change.now, epoch) self.new }
         ensures blobs { self.new.blobs ≡ self.old.blobs }

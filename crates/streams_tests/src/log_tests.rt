@@ -1,5 +1,5 @@
 //! Changes that are logged and read back under written deliveries (SOSP 2011, section 4.3).
-use crate::partition_samples::{Told, keeps, log, next, settle, streams};
+use crate::partition_samples::{Told, is_next, keeps, log, log_at, next, settle, streams};
 use crate::sample_wires::{D, R, YES, script};
 use partition_stream::{Position, Streams};
 use std::alloc::Global;
@@ -19,6 +19,24 @@ fn changes_come_back_in_their_order(rt: HostRuntime) {
     // Each extent has one record.
     let mut streams = streams(&rt, rt.alloc(), 1);
     log_three(&rt, rt.alloc(), &mut *streams);
+}
+
+fn log_epochs(rt: &impl Abort, alloc: Global, streams: &mut Streams) {
+    let mut wire = script(rt, alloc, &[], &[]);
+    assert!(rt; log_at(rt, alloc, streams, "one", 0, &mut wire) == Told::Done);
+    assert!(rt; log_at(rt, alloc, streams, "two", u64::MAX, &mut wire) == Told::Done);
+    assert!(rt; log_at(rt, alloc, streams, "one", 7, &mut wire) == Told::Done);
+    let mut position = Position::first();
+    assert!(rt; is_next(streams, &mut position, "one", 0, &mut wire));
+    assert!(rt; is_next(streams, &mut position, "two", u64::MAX, &mut wire));
+    assert!(rt; is_next(streams, &mut position, "one", 7, &mut wire));
+    assert!(rt; next(streams, &mut position, &mut wire) == Told::End);
+}
+
+#[test]
+fn changes_come_back_with_their_epochs(rt: HostRuntime) {
+    let mut streams = streams(&rt, rt.alloc(), 1_000_000);
+    log_epochs(&rt, rt.alloc(), &mut *streams);
 }
 
 fn keep_a_doubt(rt: &impl Abort, alloc: Global, streams: &mut Streams) {

@@ -72,7 +72,22 @@ fn logged(answer: Result<(), LogFault>) -> Told {
     }
 }
 
-/// Logs the change that deletes the container of this name.
+/// Logs the change that deletes the container of this name, with this epoch.
+pub(crate) fn log_at(
+    rt: &impl Abort,
+    alloc: Global,
+    streams: &mut Streams,
+    name: &str,
+    epoch: u64,
+    wire: &mut Script,
+) -> Told {
+    let change = change(rt, alloc, name);
+    let answer = streams.log_change(&change, epoch, wire);
+    drop(change);
+    logged(answer)
+}
+
+/// Logs the change that deletes the container of this name, with the epoch 0.
 pub(crate) fn log(
     rt: &impl Abort,
     alloc: Global,
@@ -80,10 +95,7 @@ pub(crate) fn log(
     name: &str,
     wire: &mut Script,
 ) -> Told {
-    let change = change(rt, alloc, name);
-    let answer = streams.log_change(&change, 0, wire);
-    drop(change);
-    logged(answer)
+    log_at(rt, alloc, streams, name, 0, wire)
 }
 
 /// Settles the doubt of the log.
@@ -97,17 +109,23 @@ pub(crate) fn settle(streams: &mut Streams, wire: &mut Script) -> Told {
     }
 }
 
-// Whether the change is the one that deletes the container of this name, of the epoch 0.
-fn is_named(change: &Change, epoch: u64, name: &str) -> bool {
+// Whether the change is the one that deletes the container of this name.
+fn is_named(change: &Change, name: &str) -> bool {
     let is_name = change.key().container.as_str() == name;
-    is_name && epoch == 0 && matches!(change.act(), Act::DeleteContainer)
+    is_name && matches!(change.act(), Act::DeleteContainer)
 }
 
-// Whether the next change is the one that deletes the container of this name.
-fn is_next(streams: &Streams, position: &mut Position, name: &str, wire: &mut Script) -> bool {
+/// Whether the next change is the one that deletes the container of this name, with this epoch.
+pub(crate) fn is_next(
+    streams: &Streams,
+    position: &mut Position,
+    name: &str,
+    epoch: u64,
+    wire: &mut Script,
+) -> bool {
     match streams.next_change(position, wire) {
         Ok(Some(read)) => {
-            let is = is_named(&read.0, read.1, name);
+            let is = is_named(&read.0, name) && read.1 == epoch;
             drop(read);
             is
         }
@@ -129,13 +147,13 @@ pub(crate) fn next(streams: &Streams, position: &mut Position, wire: &mut Script
     }
 }
 
-/// Whether the streams keep the changes that delete these containers, in this order, and no other change.
+/// Whether the streams keep the changes that delete these containers, in this order, with the epoch 0, and no other change.
 pub(crate) fn keeps(rt: &impl Abort, alloc: Global, streams: &Streams, names: &[&str]) -> bool {
     let mut wire = script(rt, alloc, &[], &[]);
     let mut position = Position::first();
     let mut keeps = true;
     for name in names {
-        keeps = keeps && is_next(streams, &mut position, name, &mut wire);
+        keeps = keeps && is_next(streams, &mut position, name, 0, &mut wire);
     }
     keeps && next(streams, &mut position, &mut wire) == Told::End
 }

@@ -1,9 +1,9 @@
 //! Records of the samples with one byte changed: which of them are records is from outside.
 
 use crate::record_read_tests::fault;
-use crate::record_write_tests::is_written;
+use crate::record_write_tests::{in_version_1, is_written};
 use crate::{record_values as values, sample_records as records};
-use log_record::{RecordFault, read_change};
+use log_record::{RecordFault, read_change, write_change};
 use std::alloc::Global;
 use std::ops::Range;
 use std::process::Abort;
@@ -11,7 +11,7 @@ use std::test::*;
 
 // The place at which the lists of blocks begin in the record of the row of a blob. That record is the longest:
 // two tests share its places, so that neither test is slow.
-const BLOCKS: usize = 144;
+const BLOCKS: usize = 152;
 
 // Whether a row of the table has this value at this place.
 fn has_value(rows: &[[u8; 4]], at: usize, value: u8) -> bool {
@@ -26,19 +26,24 @@ fn has_value(rows: &[[u8; 4]], at: usize, value: u8) -> bool {
     false
 }
 
-// What a record with another value at this place is refused with, if no row of the table has the value.
-fn fault_at(at: usize) -> RecordFault {
-    if at == 0 {
+// What a record with this value at this place is refused with, if no row of the table has the value.
+fn fault_at(at: usize, value: u8) -> RecordFault {
+    if at == 0 && value != 1 && value != 2 {
         RecordFault::Version
     } else {
         RecordFault::Form
     }
 }
 
-// Whether a record is the record of the change that is read of it.
+// Whether a record is the record of the change and of the epoch that are read of it. Of a record of version 1 the
+// change is written in version 2, with the epoch 0.
 fn is_written_again(rt: &impl Abort, alloc: Global, record: &[u8]) -> bool {
-    let (change, _epoch) = read_change(alloc, record).expect(rt, "a record");
-    is_written(rt, alloc, &change, record)
+    let (change, epoch) = read_change(alloc, record).expect(rt, "a record");
+    if record.starts_with(&[2]) {
+        return is_written(rt, alloc, &change, epoch, record);
+    }
+    let written = write_change(alloc, &change, 0).expect(rt, "memory");
+    epoch == 0 && in_version_1(rt, alloc, &written).as_slice() == record
 }
 
 // Whether the bytes, which have this value at this place, are judged as the table says.
@@ -53,7 +58,7 @@ fn is_value_judged(
     if has_value(rows, at, value) {
         is_written_again(rt, alloc, bytes)
     } else {
-        fault(alloc, bytes) == Some(fault_at(at))
+        fault(alloc, bytes) == Some(fault_at(at, value))
     }
 }
 
@@ -126,6 +131,13 @@ fn other_bytes_of_changes_of_containers_are_judged(rt: HostRuntime) {
             values::delete_container()
         )
     );
+}
+
+#[test]
+fn other_bytes_of_a_record_of_version_1_are_judged(rt: HostRuntime) {
+    let record = records::delete_container_of_version_1();
+    let rows = values::delete_container_of_version_1();
+    assert!(rt; is_judged(&rt, rt.alloc(), record, rows));
 }
 
 #[test]

@@ -1,9 +1,10 @@
 //! Rows of a checkpoint: what is read from the record of a row gives this row again. The bytes are from
 //! outside.
 
+use crate::record_write_tests::{EPOCH, is_written};
 use crate::sample_fields::{key, text};
 use crate::sample_records::{container_row, stored_blob};
-use log_record::{read_change, write_change};
+use log_record::read_change;
 use row_trees::Rows;
 use stamp_types::{Act, Change};
 use std::alloc::Global;
@@ -27,10 +28,9 @@ fn rows(rt: &impl Abort, alloc: Global) -> Rows {
 }
 
 // Whether the record of a change of the container is these bytes.
-fn is_written(rt: &impl Abort, alloc: Global, act: Act, record: &[u8]) -> bool {
+fn is_row(rt: &impl Abort, alloc: Global, act: Act, record: &[u8]) -> bool {
     let change = Change::new(key(rt, alloc), act).expect(rt, "a good change");
-    let written = write_change(alloc, &change, 0).expect(rt, "memory");
-    written.as_slice() == record
+    is_written(rt, alloc, &change, EPOCH, record)
 }
 
 #[test]
@@ -38,7 +38,7 @@ fn a_container_gives_the_row_of_which_it_was_made(rt: HostRuntime) {
     let alloc = rt.alloc();
     let rows = rows(&rt, alloc);
     let row = rows.find(&key(&rt, alloc)).row().expect(&rt, "memory");
-    assert!(rt; is_written(&rt, alloc, Act::ContainerRow(row), container_row()));
+    assert!(rt; is_row(&rt, alloc, Act::ContainerRow(row), container_row()));
 }
 
 #[test]
@@ -49,7 +49,7 @@ fn a_blob_gives_the_row_of_which_it_was_made(rt: HostRuntime) {
     let found = rows.find(&key(&rt, alloc)).seen(&name);
     let blob = found.row().expect(&rt, "a blob");
     let row = blob.row(alloc, name).expect(&rt, "memory");
-    assert!(rt; is_written(&rt, alloc, Act::StoredBlob(row), stored_blob()));
+    assert!(rt; is_row(&rt, alloc, Act::StoredBlob(row), stored_blob()));
 }
 
 #[test]

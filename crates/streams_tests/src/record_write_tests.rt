@@ -1,5 +1,5 @@
-//! That changes of each kind are written as their records, and that the records are read as these changes.
-//! The bytes are from outside.
+//! That changes of each kind are written as their records with their epochs, and that the records are read as
+//! these changes, in both versions. The bytes are from outside.
 
 use crate::sample_fields::key;
 use crate::{sample_acts, sample_records};
@@ -13,20 +13,44 @@ fn change(rt: &impl Abort, alloc: Global, act: Act) -> Change {
     Change::new(key(rt, alloc), act).expect(rt, "a good change")
 }
 
-pub(crate) fn is_written(rt: &impl Abort, alloc: Global, change: &Change, record: &[u8]) -> bool {
-    let written = write_change(alloc, change, 0).expect(rt, "memory");
+/// The epoch of the samples.
+pub(crate) const EPOCH: u64 = 7;
+
+/// Whether the record of the change and of the epoch is these bytes.
+pub(crate) fn is_written(
+    rt: &impl Abort,
+    alloc: Global,
+    change: &Change,
+    epoch: u64,
+    record: &[u8],
+) -> bool {
+    let written = write_change(alloc, change, epoch).expect(rt, "memory");
     written.as_slice() == record
 }
 
-fn is_read(rt: &impl Abort, alloc: Global, change: &Change, record: &[u8]) -> bool {
-    let (read, epoch) = read_change(alloc, record).expect(rt, "a record");
-    epoch == 0 && read.same(change)
+fn is_read(rt: &impl Abort, alloc: Global, change: &Change, epoch: u64, record: &[u8]) -> bool {
+    let (read, number) = read_change(alloc, record).expect(rt, "a record");
+    number == epoch && read.same(change)
 }
 
-// Whether the change is written as the record, and the record is read as the change.
+/// The record of the same change in version 1: without the eight bytes of the epoch.
+pub(crate) fn in_version_1(rt: &impl Abort, alloc: Global, record: &[u8]) -> Vec<u8> {
+    assert!(rt; record.len() >= 10);
+    let mut first = Vec::new(alloc);
+    first.push(1).expect(rt, "memory");
+    first.extend_from_slice(&record[1..2]).expect(rt, "memory");
+    first.extend_from_slice(&record[10..]).expect(rt, "memory");
+    first
+}
+
+// Whether the change is written as the record and read again, and whether the record of version 1 is read as the
+// change with the epoch 0.
 fn both_ways(rt: &impl Abort, alloc: Global, act: Act, record: &[u8]) -> bool {
     let change = change(rt, alloc, act);
-    is_written(rt, alloc, &change, record) && is_read(rt, alloc, &change, record)
+    let first = in_version_1(rt, alloc, record);
+    is_written(rt, alloc, &change, EPOCH, record)
+        && is_read(rt, alloc, &change, EPOCH, record)
+        && is_read(rt, alloc, &change, 0, &first)
 }
 
 #[test]
@@ -40,6 +64,24 @@ fn a_deleted_container_is_written_and_read(rt: HostRuntime) {
             sample_records::delete_container()
         )
     );
+}
+
+#[test]
+fn a_record_of_version_1_is_read(rt: HostRuntime) {
+    let alloc = rt.alloc();
+    let record = sample_records::delete_container_of_version_1();
+    assert!(rt; in_version_1(&rt, alloc, sample_records::delete_container()).as_slice() == record);
+    let change = change(&rt, alloc, Act::DeleteContainer);
+    assert!(rt; is_read(&rt, alloc, &change, 0, record));
+}
+
+#[test]
+fn a_long_epoch_is_written_and_read(rt: HostRuntime) {
+    let alloc = rt.alloc();
+    let record = sample_records::delete_container_of_a_long_epoch();
+    let change = change(&rt, alloc, Act::DeleteContainer);
+    assert!(rt; is_written(&rt, alloc, &change, 0x0102_0304_0506_0708, record));
+    assert!(rt; is_read(&rt, alloc, &change, 0x0102_0304_0506_0708, record));
 }
 
 #[test]

@@ -2,4 +2,4 @@ use Rattle.log_record.proofs.RecordLemmas.{same_change}
 use Rattle.log_record.proofs.laws.a_record_says_one_change.Goals as goal
 
 pub returns : goal.returns
-returns c = λ x d good good' e. same_change x d good good' e
+returns c = same_change

@@ -7,10 +7,10 @@ use Rattle.partition_stream.proofs.ChangeLemmas.{change_in-record, changes_of-wr
 use Rattle.partition_stream.proofs.laws.each_record_is_its_change.Goals as goal
 
 pub returns-clause-rows : goal.returns-clause-rows
-returns-clause-rows c = λ s cs fit blocks. changes_of-written (blocks_of (laid s.rows)) cs fit blocks
+returns-clause-rows c = λ s ws is blocks. changes_of-written (blocks_of (laid s.rows)) ws is blocks
 
 pub returns-clause-log : goal.returns-clause-log
-returns-clause-log c = λ s cs fit blocks. changes_of-written (blocks_of (laid s.log)) cs fit blocks
+returns-clause-log c = λ s ws is blocks. changes_of-written (blocks_of (laid s.log)) ws is blocks
 
 pub returns-clause-doubt : goal.returns-clause-doubt
-returns-clause-doubt c = λ s change fit tried. ap (option_and_then change_in) tried ∙ change_in-record change fit
+returns-clause-doubt c = λ s w is tried. ap (option_and_then change_in) tried ∙ change_in-record w is

@@ -1,4 +1,4 @@
-use Rattle.std.proofs.Common.{refl, sym, subst}
+use Rattle.std.proofs.Common.{refl, sym, subst, arith}
 use Rattle.stream_manager.specs.Streams.{laid}
 use Rattle.partition_stream.specs.Outcomes.{IsLogged}
 use Rattle.partition_stream.specs.Storing.{IsStoredChange}
@@ -9,21 +9,21 @@ use Rattle.partition_stream.proofs.KeptLemmas.{kept_appended, stored_record}
 use Rattle.partition_stream.proofs.LogLemmas.{is_logged}
 use Rattle.partition_stream.proofs.streams.Streams.log_change.Goals as goal
 
-pub record_of-requires-clause-placed : goal.record_of-requires-clause-placed
-record_of-requires-clause-placed g c = change_placed (laid c.args.self.now.blobs) c.args.change.now c.requires.stored
+pub record_of-requires : goal.record_of-requires
+record_of-requires g c = change_placed (laid c.args.self.now.blobs) c.args.change.now c.requires.stored
 
 pub invariant_of-self : goal.invariant_of-self
 invariant_of-self g c =
     let stored : IsStoredChange (laid c.self.inside.blobs) c.args.change.now = subst (λ s. IsStoredChange (laid s.blobs) c.args.change.now) (sym c.self.view_is) c.requires.stored in
     kept_appended c.append_record.result (record { log = c.self.inside.log; blobs = c.self.inside.blobs; rows = c.self.inside.rows })
     c.append_record.new.log c.in_ok-block.block c.self.invariant
-    (stored_record (laid c.self.inside.blobs) c.in_ok-block.block c.args.change.now c.in_ok-block.ensures.fits c.in_ok-block.ensures.written stored)
+    (stored_record (laid c.self.inside.blobs) c.in_ok-block.block c.args.change.now c.args.epoch c.in_ok-block.ensures.fits (omega (arith, c.ranges.epoch)) c.in_ok-block.ensures.written stored)
     c.append_record.ensures.appended
 
 pub returns-clause-logged : goal.returns-clause-logged
 returns-clause-logged g c =
     let old : ThreeStreams = record { log = c.self.inside.log; blobs = c.self.inside.blobs; rows = c.self.inside.rows } in
     let new : ThreeStreams = record { log = c.append_record.new.log; blobs = c.self.inside.blobs; rows = c.self.inside.rows } in
-    let read = change_in-written c.in_ok-block.block c.args.change.now c.args.epoch c.in_ok-block.ensures.fits c.in_ok-block.ensures.written c.requires.epoch in
+    let read = change_in-written c.in_ok-block.block c.args.change.now c.args.epoch c.in_ok-block.ensures.fits (omega (arith, c.ranges.epoch)) c.in_ok-block.ensures.written in
     subst (λ s. IsLogged c.append_record.result s (c.args.change.now, c.args.epoch) new) c.self.view_is
     (is_logged c.append_record.result old new c.in_ok-block.block (c.args.change.now, c.args.epoch) read c.append_record.ensures.appended refl refl)
