@@ -1,14 +1,11 @@
 -- A key lies in the span of its slot, and in no other.
-use Rattle.std.proofs.Common.{◌≡◌, ◌≤◌, ◌+◌, ◌&&◌, ◌↔◌, ℕ, zero, suc, Bool, true, false, not, cond, List, [], ◌∷◌, length, refl, sym, ap, ◌∙◌, subst, arith}
+use Rattle.std.proofs.Common.{◌≡◌, ◌≤◌, ◌+◌, ◌↔◌, ℕ, zero, suc, Bool, true, false, not, cond, List, [], ◌∷◌, length, refl, sym, ap, ◌∙◌, subst, arith}
 use Rattle.std.proofs.lemmas.Bool.{and_parts}
 use Rattle.std.specs.Cmp.Derive.{both_true}
 use Rattle.std.specs.Prelude.{slice_get, slice_index_or}
-use Rattle.std.specs.List.{AllByRecursion}
 use Rattle.std.specs.List.Sorted.{IsStrictlySortedBy}
-use Rattle.std.specs.Ordering.{is_gt, is_le}
-use Rattle.std.specs.declared.cmp.Ordering.{Ordering}
-use Rattle.std.specs.declared.cmp.Ordering.TheVariants.{Less, Equal, Greater}
-use Rattle.stamp_values.specs.Order.{key_cmp, name_cmp, keys_total}
+use Rattle.std.specs.Ordering.{is_le}
+use Rattle.stamp_values.specs.Order.{key_cmp}
 use Rattle.stamp_values.specs.Trees.{is_below, is_from}
 use Rattle.stamp_values.specs.declared.key.Key.{Key}
 use Rattle.partition_map.specs.Spans.{AreSpans, is_before, is_in_span, least_key, slot_of, first_key, bound_of}
@@ -76,12 +73,14 @@ pub in_slot : (from : Key) (points : List Key) (key : Key) → is_from from key 
 in_slot from [] key first = (first, refl)
 in_slot from (p ∷ points) key first = in_by (is_below p key) from p points key refl first (λ e. in_slot p points key e)
 
+pub own_span : (points : List Key) (key : Key) → is_in_span points (slot_of points key) key ≡ true
+own_span points key =
+    let there = in_slot least_key points key (least_is_first key) in
+    both_true there.0 there.1
+
 -- and only that slot's span has the key
 pub one_span : (points : List Key) (key : Key) (i : ℕ) → AreSpans points → i ≤ length points → (is_in_span points i key ≡ true) ↔ (slot_of points key ≡ i)
 one_span points key i are within = (
   λ inside. slot_if_inside least_key points i key within are.rise (and_parts (is_from (first_key points i) key) (is_before (bound_of points i) key) inside),
-  λ slot.
-      let there = in_slot least_key points key (least_is_first key) in
-      subst (λ (n : ℕ). is_in_span points n key ≡ true) slot
-      (both_true there.0 there.1),
+  λ slot. subst (λ (n : ℕ). is_in_span points n key ≡ true) slot (own_span points key),
 )

@@ -1,5 +1,5 @@
 -- Which splits no cause refuses.
-use Rattle.std.proofs.Common.{◌≡◌, ◌≢◌, ◌≤◌, ◌<◌, ◌&&◌, ◌↔◌, ℕ, Bool, true, false, not, cond, nat_lt, List, length, Option, Some, None, refl, sym, ap, ◌∙◌, arith}
+use Rattle.std.proofs.Common.{◌≡◌, ◌≢◌, ◌≤◌, ◌<◌, ◌↔◌, ℕ, Bool, true, false, not, cond, nat_lt, List, length, Some, None, refl, sym, ap, ◌∙◌, arith}
 use Rattle.std.proofs.lemmas.Bool.{and_parts}
 use Rattle.std.proofs.lemmas.Bool.Decides.{nat_tests}
 use Rattle.std.specs.Cmp.Derive.{both_true}
@@ -76,9 +76,12 @@ allowed_is points i middle = (
   where
     not_past : nat_lt (length points) i ≡ false → i ≤ length points
     not_past is = grind (arith, nat_tests)
+
     past : i ≤ length points → nat_lt (length points) i ≡ false
     past within = grind (arith, nat_tests)
+
     has_room : nat_lt (length points) points_limit ≡ true → length points < points_limit
     has_room is = grind (arith, nat_tests)
+
     room : length points < points_limit → nat_lt (length points) points_limit ≡ true
     room few = grind (arith, nat_tests)

@@ -1,20 +1,18 @@
 -- Split points that rise.
-use Rattle.std.proofs.Common.{◌≡◌, ◌≢◌, ◌-◌, ◌≤◌, ◌<◌, ◌+◌, ◌&&◌, ◌==◌, ◌++◌, ℕ, zero, suc, Bool, true, false, not, cond, List, [], ◌∷◌, length, take, drop, Option, Some, None, refl, sym, ap, ◌∙◌, subst, arith}
+use Rattle.std.proofs.Common.{◌≡◌, ◌≢◌, ◌-◌, ◌≤◌, ◌<◌, ◌&&◌, ◌==◌, ℕ, zero, suc, Bool, true, false, not, cond, List, [], ◌∷◌, length, refl, sym, ap, ◌∙◌, subst, arith}
 use Rattle.std.specs.Prelude.{slice_get, slice_index_or}
 use Rattle.std.specs.List.{AllByRecursion, insert, remove}
 use Rattle.std.specs.List.Sorted.{IsStrictlySortedBy}
 use Rattle.std.proofs.lemmas.Bool.{and_parts}
 use Rattle.std.proofs.lemmas.Bool.Decides.{nat_tests}
 use Rattle.std.proofs.lemmas.List.Edits.{length-insert}
-use Rattle.std.specs.Ordering.{is_gt, is_lt, nat_cmp, ordering_then}
-use Rattle.std.specs.Cmp.Lexicographic.{slice_cmp}
-use Rattle.std.specs.declared.cmp.Ordering.{Ordering}
-use Rattle.std.specs.declared.cmp.Ordering.TheVariants.{Less, Equal, Greater}
-use Rattle.stamp_values.specs.Order.{key_cmp, name_cmp, keys_total}
-use Rattle.stamp_values.specs.Trees.{is_below, is_from}
+use Rattle.std.specs.Ordering.{is_gt}
+use Rattle.std.specs.declared.cmp.Ordering.TheVariants.{Less}
+use Rattle.stamp_values.specs.Order.{key_cmp, keys_total}
+use Rattle.stamp_values.specs.Trees.{is_below}
 use Rattle.stamp_values.specs.declared.key.Key.{Key}
-use Rattle.partition_map.specs.Spans.{AreSpans, is_before, is_inside, is_least, least_key, points_limit, bound_of, first_key, with_point, split_refusal}
-use Rattle.partition_map.proofs.KeyOrder.{from_below, below_below, less_of_below, below_of_less}
+use Rattle.partition_map.specs.Spans.{AreSpans, is_before, is_inside, is_least, least_key, points_limit, bound_of, first_key, with_point}
+use Rattle.partition_map.proofs.KeyOrder.{less_of_below}
 
 -- the least key alone rises
 pub no_points : (points : List Key) → points ≡ [] → AreSpans points

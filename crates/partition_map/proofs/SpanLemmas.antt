@@ -1,9 +1,9 @@
 -- Keys, and the spans that have them.
-use Rattle.std.proofs.Common.{◌≡◌, ◌+◌, ◌&&◌, ℕ, zero, suc, Bool, true, false, not, cond, List, [], ◌∷◌, length, Option, Some, None, refl, sym, ap, ◌∙◌, subst, arith}
+use Rattle.std.proofs.Common.{◌≡◌, ◌+◌, ℕ, suc, Bool, true, false, cond, List, [], ◌∷◌, Option, Some, refl, sym, ap, subst, arith}
 use Rattle.std.specs.Prelude.{slice_get}
 use Rattle.stamp_values.specs.Trees.{is_below, is_from}
 use Rattle.stamp_values.specs.declared.key.Key.{Key}
-use Rattle.partition_map.specs.Spans.{slot_of, bound_of, bound_at, is_before}
+use Rattle.partition_map.specs.Spans.{slot_of, bound_at, is_before}
 use Rattle.partition_map.proofs.KeyOrder.{differ, from_below}
 
 -- one more, written both ways

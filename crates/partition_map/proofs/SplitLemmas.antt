@@ -1,10 +1,9 @@
 -- The slot of a key after a split.
-use Rattle.std.proofs.Common.{◌≡◌, ◌≤◌, ◌<◌, ◌+◌, ◌&&◌, ◌++◌, ℕ, zero, suc, Bool, true, false, cond, List, [], ◌∷◌, length, take, drop, refl, sym, ap, ◌∙◌, subst, arith}
-use Rattle.std.specs.Prelude.{slice_get, slice_set, slice_index_or}
-use Rattle.std.specs.List.{insert}
+use Rattle.std.proofs.Common.{◌≡◌, ◌≤◌, ◌<◌, ◌+◌, ℕ, zero, suc, Bool, true, false, cond, List, [], ◌∷◌, length, refl, sym, ap, ◌∙◌, subst, arith}
+use Rattle.std.specs.Prelude.{slice_index_or}
 use Rattle.stamp_values.specs.Trees.{is_below}
 use Rattle.stamp_values.specs.declared.key.Key.{Key}
-use Rattle.partition_map.specs.Spans.{slot_of, is_before, is_inside, first_key, bound_of, with_point, with_two}
+use Rattle.partition_map.specs.Spans.{slot_of, is_before, bound_of, with_point, with_two}
 use Rattle.partition_map.proofs.KeyOrder.{below_below, differ}
 use Rattle.partition_map.proofs.SpanLemmas.{next}
 

@@ -1,6 +1,6 @@
 -- Spans of keys: the keys from one split point to the next (Calder et al., SOSP 2011, section 5.2: the partition map; section 5.5: splits
 -- and merges of partitions). The first span begins with the least key, and the last span has no end.
-use Rattle.std.specs.Prelude.{◌≡◌, ◌≤◌, ℕ, suc, ◌+◌, nat_lt, Bool, true, not, ◌&&◌, ◌==◌, if◌then◌else◌, List, [], ◌∷◌, length, Option, Some, None, slice_get, slice_index_or, slice_set}
+use Rattle.std.specs.Prelude.{◌≤◌, ℕ, suc, ◌+◌, nat_lt, Bool, true, not, ◌&&◌, ◌==◌, if◌then◌else◌, List, [], ◌∷◌, length, Option, Some, None, slice_get, slice_index_or, slice_set}
 use Rattle.std.specs.List.{insert}
 use Rattle.std.specs.List.Sorted.{IsStrictlySortedBy}
 use Rattle.stamp_values.specs.Order.{key_cmp}

@@ -11,10 +11,11 @@ pub fn each_key_has_one_span()
         → (is_in_span points i key ≡ true) ↔ (slot_of points key ≡ i) }
 {}
 
-/// A key comes before the bound of its span. Each key from that key on and before that bound has the
-/// same slot.
+/// A key lies in the span of its slot, so it comes before the bound of that span. Each key from that
+/// key on and before that bound has the same slot.
 pub fn keys_up_to_the_bound_have_one_slot()
-    ensures own { (points : List Key) (key : Key) → is_before (bound_at points key) key ≡ true }
+    ensures own { (points : List Key) (key : Key) → is_in_span points (slot_of points key) key ≡ true }
+    ensures under { (points : List Key) (key : Key) → is_before (bound_at points key) key ≡ true }
     ensures others { (points : List Key) (k key : Key)
         → is_from key k ≡ true → is_before (bound_at points key) k ≡ true
         → slot_of points k ≡ slot_of points key }

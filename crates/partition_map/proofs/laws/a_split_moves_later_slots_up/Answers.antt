@@ -1,4 +1,3 @@
-use Rattle.std.proofs.Common.{◌≡◌, not, sym, ap, ◌∙◌}
 use Rattle.partition_map.proofs.KeyOrder.{below_of_from}
 use Rattle.partition_map.proofs.SplitLemmas.{slot_of_lower, slot_of_upper, slot_of_earlier, slot_of_later}
 use Rattle.partition_map.proofs.laws.a_split_moves_later_slots_up.Goals as goal

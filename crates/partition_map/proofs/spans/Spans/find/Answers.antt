@@ -12,7 +12,7 @@ returns-clause-slot c =
     let key = c.args.key.now in
     let are : AreSpans points = subst AreSpans (sym c.as_slice.ensures.value) c.self.invariant in
     let point =
-        IsPartitionPoint-from_clause (λ (p : Key). is_from p key) points c.partition_point.result c.partition_point.ensures.partitioned
-        (are_parted points key are) (λ a r q k. search rules) in
+    IsPartitionPoint-from_clause (λ (p : Key). is_from p key) points c.partition_point.result c.partition_point.ensures.partitioned
+    (are_parted points key are) (λ a r q k. search rules) in
     subst (λ (ps : List Key). c.partition_point.result ≡ slot_of ps key) (c.as_slice.ensures.value ∙ c.self.view_is)
     (slot_at_point points key c.partition_point.result c.partition_point.ensures.bound point)
