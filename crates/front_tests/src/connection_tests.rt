@@ -2,7 +2,7 @@
 //! awaited.
 ghost use Rattle.std.specs.Prelude.{⊤};
 
-use http_front::{Clock, Connection, End, FrontFault, Service, run};
+use http_front::{Clock, Connection, End, FrontFault, Service, Stage, Step, advance, finish, run};
 use reply_form::out_of_memory_reply;
 use stamp_types::{Code, Moment, Refusal, Reply, Request, Rule};
 use std::alloc::{AllocError, Global};
@@ -231,6 +231,82 @@ fn is_between(count: usize) -> bool {
         left -= len;
     }
     left == 0
+}
+
+/// Has nothing at each other read, and gives at most `most` bytes at the reads between.
+#[derive(Drop)]
+struct Halting<'a> {
+    rest: &'a [u8],
+    most: usize,
+    halts: bool,
+}
+
+impl Read for Halting<'_> {
+    fn read(&mut self, buf: &mut [u8]) -> io::Result<usize> {
+        self.halts = !self.halts;
+        if self.halts {
+            return Err(io::Error::from(ErrorKind::WouldBlock));
+        }
+        let n = self.most.min(buf.len());
+        self.rest.read(&mut buf[..n])
+    }
+}
+
+// Goes on with a connection over these bytes as often as it waits. It may make one read for each byte, and one for the end. Returns how
+// it ended, how often it waited, and what was written.
+fn go_on(
+    alloc: Global,
+    bytes: &[u8],
+    most: usize,
+) -> (Option<Result<End, FrontFault>>, u64, Vec<u8>) {
+    let reader = Halting {
+        rest: bytes,
+        most,
+        halts: false,
+    };
+    let reads = (bytes.len() as u64).saturating_add(1);
+    let mut connection = Connection::new(alloc, reader, Vec::new(alloc), reads);
+    let mut service = Closed { starved: false };
+    let mut stage = Stage::new();
+    let mut ended = None;
+    let mut waits = 0;
+    for wait in 0..10_000 {
+        match advance(alloc, &mut connection, stage, &mut Start, &mut service) {
+            Ok(Step::Waits(next)) => stage = next,
+            Ok(Step::Ended(end)) => {
+                ended = Some(finish(&mut connection, Ok(end)));
+                waits = wait;
+                break;
+            }
+            Err(fault) => {
+                ended = Some(finish(&mut connection, Err(fault)));
+                waits = wait;
+                break;
+            }
+        }
+    }
+    let (_, written) = connection.into_parts();
+    (ended, waits, written)
+}
+
+// A connection that is left at each wait and gone on with has the output of one that is not.
+#[test]
+fn a_connection_that_waits_has_the_same_output(rt: HostRuntime) {
+    let input = whole_stream(rt.alloc()).expect(&rt, "memory");
+    for n in 0..=input.len() {
+        for most in [1, 7, 8192] {
+            let (ended, waits, written) = go_on(rt.alloc(), &input[..n], most);
+            let output = output_of(rt.alloc(), n).expect(&rt, "memory");
+            assert!(rt; written.as_slice() == output.as_slice(), "{n} {most}");
+            let wanted = if is_between(n) {
+                Ok(End::Clean)
+            } else {
+                Err(FrontFault::Read)
+            };
+            assert!(rt; ended == Some(wanted), "{n} {most}");
+            assert!(rt; waits as usize >= n / most, "{n} {most}");
+        }
+    }
 }
 
 // An input that ends after any byte has one output, however it is cut into reads.

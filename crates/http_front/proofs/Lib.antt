@@ -3,9 +3,11 @@ pub mod ConnectionLemmas
 pub mod Endings
 pub mod Ends
 pub mod Fronts
+pub mod Going
 pub mod HeadLines
 pub mod Items
 pub mod LineLemmas
 pub mod Readings
+pub mod Resumed
 pub mod StreamLemmas
 pub mod Talks

@@ -1,8 +1,9 @@
 -- What is known of a connection, and what a call does to it.
-use Rattle.std.specs.Prelude.{◌≡◌, ◌≢◌, ℕ, zero, suc, ◌+◌, ◌*◌, ◌<◌, ◌≤◌, Bool, true, false, List, [], ◌++◌, length, Option, Result, Ok, Err}
+use Rattle.std.specs.Prelude.{◌≡◌, ◌≢◌, ◌⊎◌, ℕ, zero, suc, ◌+◌, ◌*◌, ◌<◌, ◌≤◌, Bool, true, false, List, [], ◌++◌, length, Option, Result, Ok, Err}
 use Rattle.std.specs.Io.KnownBytes.{Consumes, Appends, IsAtEnd}
-use Rattle.stamp_values.specs.declared.gathering.GatherFault.{GatherFault}
-use Rattle.stamp_values.specs.declared.gathering.GatherFault.TheVariants as gather
+use Rattle.http_front.specs.Calls.{Reads, Writes, no_reads, no_writes, IsMarkedInput, IsMarkedOutput}
+use Rattle.http_front.specs.declared.counted.Came.{Came}
+use Rattle.http_front.specs.declared.counted.Came.TheVariants as comes
 use Rattle.http_front.specs.declared.counted.Input.{Input}
 use Rattle.http_front.specs.declared.counted.Input.TheVariants as inputs
 use Rattle.http_front.specs.declared.counted.Output.{Output}
@@ -14,15 +15,18 @@ use Rattle.http_front.specs.declared.end.FrontFault.TheVariants.{Read, Write, Tu
 abbrev pub read_size : ℕ
 read_size = 8192
 
--- a reader: the bytes that it still has, if they are known, the reads that may still be made, and how far the input has come
+-- a reader: the bytes that it still has, if they are known, its reads so far, the reads that may still be made, and how far the
+-- input has come
 pub record ReaderState : Type 0 where
   pub left : Option (List ℕ)
+  pub told : Reads
   pub turns : ℕ
   pub input : Input
 
--- a writer: the bytes that it holds, if they are known, and how far the output has come
+-- a writer: the bytes that it holds, if they are known, its writes and flushes so far, and how far the output has come
 pub record WriterState : Type 0 where
   pub held : Option (List ℕ)
+  pub told : Writes
   pub output : Output
 
 -- a connection: its reader, its writer, and the bytes that came and are not taken yet
@@ -35,10 +39,17 @@ pub record ConnectionState : Type 0 where
 -- may be made
 abbrev pub fresh_connection : Option (List ℕ) → ℕ → Option (List ℕ) → ConnectionState
 fresh_connection left turns held = record {
-  reader = record { left = left; turns = turns; input = inputs.Open };
-  writer = record { held = held; output = outputs.Flushed };
+  reader = record { left = left; told = no_reads; turns = turns; input = inputs.Open };
+  writer = record { held = held; told = no_writes; output = outputs.Flushed };
   bytes = [];
 }
+
+-- How far input and output have come is what the calls of the reader and the writer say. The input has ended if and only if one read
+-- found the end, and it has failed only if one read failed, or had nothing and was not waited for. The output is flushed only if no
+-- byte was taken after the last flush, and it has failed only if one write or flush failed, or had to wait.
+pub record IsTold (connection : ConnectionState) : Type 0 where
+  pub input : IsMarkedInput connection.reader.input connection.reader.told
+  pub output : IsMarkedOutput connection.writer.output connection.writer.told
 
 -- how many of the reads gave no byte: the one that found the end, or the one that failed
 abbrev pub idle_reads : Input → ℕ
@@ -46,12 +57,13 @@ idle_reads inputs.Open = 0
 idle_reads inputs.Ended = 1
 idle_reads inputs.Failed = 1
 
--- The reader gave these bytes. Each read gave at most 8,192 bytes, and at least one byte if it neither found the end nor failed. An
--- input that ended has no bytes left.
+-- The reader gave these bytes. Each read gave at most 8,192 bytes, and at least one byte if it neither found the end nor failed. Each
+-- turn that is gone was a read. An input that ended has no bytes left.
 pub record Receives (from to : ReaderState) (received : List ℕ) : Type 0 where
   pub consumed : Consumes from.left to.left received
   pub most : length received + (to.turns + idle_reads to.input) * read_size ≤ from.turns * read_size
   pub each : from.turns ≤ (to.turns + length received) + idle_reads to.input
+  pub calls : from.turns + from.told.gave ≡ (to.turns + to.told.gave) + idle_reads to.input
   pub ended : to.input ≡ inputs.Ended → IsAtEnd to.left
 
 -- what a writer holds of bytes that it was given: all of them, or, if a write failed, some bytes at their front
@@ -67,6 +79,11 @@ Sends from to sent = HoldsMore to.output from.held to.held sent
 -- a read may be made, and a reply may be written
 abbrev pub IsOpen : ConnectionState → Type 0
 IsOpen connection = (connection.reader.input ≡ inputs.Open) × (connection.writer.output ≢ outputs.Failed)
+
+-- all that was written is flushed, a read may be made, and the last read had nothing
+abbrev pub IsIdle : ConnectionState → Type 0
+IsIdle connection =
+    (connection.reader.input ≡ inputs.Open) × (connection.writer.output ≡ outputs.Flushed) × (0 < connection.reader.turns) × (connection.reader.told.waits ≡ true)
 
 -- the reader is at its end, and a reply may be written
 abbrev pub IsEnded : ConnectionState → Type 0
@@ -115,23 +132,36 @@ pub record ReadsOn (from to : ConnectionState) (bytes bytes' : List ℕ) : Type 
   pub kept : bytes' ≡ bytes ++ more
   pub unwritten : Sends from.writer to.writer []
 
--- what one read came to: a byte came, the input ended, or there is a fault and no byte came
-abbrev pub IsReadTo : Result Bool FrontFault → ReaderState → List ℕ → Type 0
-IsReadTo (Ok true) reader more = (0 < length more) × (reader.input ≡ inputs.Open)
-IsReadTo (Ok false) reader more = (more ≡ []) × (reader.input ≡ inputs.Ended)
+-- how a read that may have nothing now leaves the connection: open if bytes came, at the end of the input, or open with all that was
+-- written flushed, and a read may be made
+abbrev pub LeavesTry : Result Came FrontFault → ConnectionState → Type 0
+LeavesTry (Ok comes.Bytes) connection = IsOpen connection
+LeavesTry (Ok comes.End) connection = IsEnded connection
+LeavesTry (Ok comes.Nothing) connection = IsIdle connection
+LeavesTry (Err fault) connection = IsLeftBy fault connection
+
+-- bytes came after these bytes, or none did
+abbrev pub GivesBytes : Result Came FrontFault → List ℕ → List ℕ → Type 0
+GivesBytes (Ok comes.Bytes) bytes bytes' = length bytes < length bytes'
+GivesBytes (Ok comes.End) bytes bytes' = bytes' ≡ bytes
+GivesBytes (Ok comes.Nothing) bytes bytes' = bytes' ≡ bytes
+GivesBytes (Err fault) bytes bytes' = bytes' ≡ bytes
+
+-- what the reader has not now is not waited for
+abbrev pub GivesUp : ReaderState → ReaderState → Type 0
+GivesUp from to = (to.left ≡ from.left) × (to.input ≡ inputs.Failed) × (to.turns + 1 ≡ from.turns) × (to.told ≡ from.told)
+
+-- what one read came to: a byte came, the input ended, nothing came now, or there is a fault and no byte came
+abbrev pub IsReadTo : Result Came FrontFault → ReaderState → List ℕ → Type 0
+IsReadTo (Ok comes.Bytes) reader more = (0 < length more) × (reader.input ≡ inputs.Open)
+IsReadTo (Ok comes.End) reader more = (more ≡ []) × (reader.input ≡ inputs.Ended)
+IsReadTo (Ok comes.Nothing) reader more = (more ≡ []) × (reader.input ≡ inputs.Open) × (0 < reader.turns) × (reader.told.waits ≡ true)
 IsReadTo (Err Read) reader more = (more ≡ []) × (reader.input ≡ inputs.Failed)
 IsReadTo (Err NoMemory) reader more = (more ≡ []) × (reader.input ≡ inputs.Open)
 IsReadTo (Err fault) reader more = ⊥
 
--- what is noted of a read: how it ended, and that it was made, unless memory ran out before it
-abbrev pub IsNoted : Result ℕ GatherFault → Result Bool FrontFault → ReaderState → ReaderState → Type 0
-IsNoted (Ok zero) result from to = (result ≡ Ok false) × (to.input ≡ inputs.Ended) × (to.turns + 1 ≡ from.turns)
-IsNoted (Ok (suc n)) result from to = (result ≡ Ok true) × (to.input ≡ inputs.Open) × (to.turns + 1 ≡ from.turns)
-IsNoted (Err gather.Read) result from to = (result ≡ Err Read) × (to.input ≡ inputs.Failed) × (to.turns + 1 ≡ from.turns)
-IsNoted (Err gather.NoMemory) result from to = (result ≡ Err NoMemory) × (to.input ≡ inputs.Open) × (to.turns ≡ from.turns)
-
--- one read was made, or memory ran out before it, and what came was put after the bytes that were there before
-pub record ReadsOnce (result : Result Bool FrontFault) (from to : ReaderState) (bytes bytes' : List ℕ) : Type 0 where
+-- one read was made, or nothing came now, or memory ran out before the read; what came was put after the bytes that were there before
+pub record ReadsOnce (result : Result Came FrontFault) (from to : ReaderState) (bytes bytes' : List ℕ) : Type 0 where
   pub more : List ℕ
   pub received : Receives from to more
   pub kept : bytes' ≡ bytes ++ more

@@ -1,8 +1,12 @@
 pub mod Answers
+pub mod Calls
 pub mod Connections
 pub mod Conversations
 pub mod HeadEnds
 pub mod Inputs
 pub mod Links
 pub mod Outcomes
+pub mod Resumptions
+pub mod Stages
+pub mod Steps
 pub mod Streams

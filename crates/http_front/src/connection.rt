@@ -1,21 +1,28 @@
 //! One connection: what was read of it, and what was written to it.
-ghost use Rattle.std.specs.Prelude.{◌≡◌, ◌≢◌, true, None, Some, ◌+◌, ◌<◌, ◌≤◌, [], ◌++◌, Ok, Err, IfOk, OnOk, IfErr, OnErr, IsOkUnless, length, take, drop};
+ghost use Rattle.std.specs.Prelude.{◌≡◌, ◌≢◌, true, false, ◌+◌, ◌*◌, ◌<◌, ◌≤◌, [], ◌++◌, Ok, Err, IfOk, OnOk, IfErr, OnErr, IsOkUnless, length, take, drop};
 ghost use Rattle.request_form.specs.HeadForms.{with_body};
 ghost use Rattle.http_front.specs.Answers.{AnswersItem, LeavesItemUnanswered, found_closes};
-ghost use Rattle.http_front.specs.Connections.{fresh_connection, GivesByte, IsOpen, Leaves, LeavesRead, LeavesWriter, ReadsOn, Sends};
-ghost use Rattle.http_front.specs.Inputs.{IsCallOfBody, IsFoundInBuffer, LeavesAwaited, LeavesItem, ReadsBody, ReadsItem};
+ghost use Rattle.http_front.specs.Connections.{fresh_connection, IsTold, ConnectionState, GivesByte, GivesBytes, GivesUp, IsOpen, Leaves, LeavesRead, LeavesTry};
+ghost use Rattle.http_front.specs.Connections.{LeavesWriter, ReadsOn, Sends};
+ghost use Rattle.http_front.specs.HeadEnds.{IsSearched};
+ghost use Rattle.http_front.specs.Inputs.{IsFoundInBuffer, LeavesAwaited};
+ghost use Rattle.http_front.specs.Stages.{IsCallOf, IsShort, IsStaged, LeavesBody, LeavesFound, ReadsFound, Suspends, TakesWork, work};
 ghost use Rattle.http_front.specs.Outcomes.{UnlessMemoryFailed};
 ghost use Rattle.http_front.specs.Streams.{HasHead, interim};
 ghost use Rattle.http_front.specs.declared.counted.Input.{Input};
 ghost use Rattle.http_front.specs.declared.counted.Output.{Output};
+ghost use Rattle.http_front.specs.declared.counted.Came.{Came};
 ghost use Rattle.http_front.specs.declared.end.FrontFault.{FrontFault};
+ghost use Rattle.http_front.specs.declared.item.Awaited.{Awaited};
+ghost use Rattle.http_front.specs.declared.item.Stage.{Stage};
 
 use crate::answers::answer_item;
-use crate::buffer::{Buffer, READ_SIZE};
-use crate::counted::{CountedReader, CountedWriter};
+use crate::buffer::Buffer;
+use crate::counted::{Came, CountedReader, CountedWriter};
 use crate::end::FrontFault;
 use crate::head_end::Search;
-use crate::item::{Awaited, Call, NextItem};
+use crate::item::{Awaited, Begun, Call, Found, NextItem, Stage};
+use crate::library::{StdReader, StdWriter};
 use crate::service::{Clock, Service};
 use reply_form::interim_reply;
 use request_form::{HEAD_LIMIT, Head, HeadFault, no_head, read_head};
@@ -29,8 +36,8 @@ use std::marker::Model;
 /// Reads and writes are made by this type alone. So it knows why one of them was the last.
 #[derive(Drop)]
 pub struct Connection<R: Read, W: Write> {
-    reader: CountedReader<R>,
-    writer: CountedWriter<W>,
+    reader: CountedReader<StdReader<R>>,
+    writer: CountedWriter<StdWriter<W>>,
     buffer: Buffer,
 }
 
@@ -71,26 +78,15 @@ fn request_of(alloc: Global, head: Head, body: Gathering) -> Result<Request, Fro
     }
 }
 
-// The request that a head and its body make, as an item, or the fault that ended the body.
-fn join(
-    alloc: Global,
-    head: Head,
-    body: Result<Gathering, FrontFault>,
-) -> Result<Option<NextItem>, FrontFault>
-    requires { IfOk body (λ body. length body ≡ head.body_len) }
-    ensures { IsCallOfBody head body result }
+// The request that a head and its body make, as an item.
+fn join(alloc: Global, head: Head, body: Gathering) -> Result<Found, FrontFault>
+    requires { length body ≡ head.body_len }
+    ensures { IsCallOf head body result }
 {
     let verb = head.verb();
     let closes = head.closes();
-    let body = match body {
-        Ok(body) => body,
-        Err(fault) => {
-            drop(head);
-            return Err(fault);
-        }
-    };
     let request = request_of(alloc, head, body)?;
-    Ok(Some(NextItem::Called(Call {
+    Ok(Found::Whole(NextItem::Called(Call {
         request,
         verb,
         closes,
@@ -104,8 +100,8 @@ impl<R: Read, W: Write> Connection<R, W> {
         ensures { result ≡ fresh_connection (R.remaining reader) turns (W.contents writer) }
     {
         Self {
-            reader: CountedReader::new(reader, turns),
-            writer: CountedWriter::new(writer),
+            reader: CountedReader::new(StdReader::new(reader), turns),
+            writer: CountedWriter::new(StdWriter::new(writer)),
             buffer: Buffer::new(alloc),
         }
     }
@@ -114,7 +110,18 @@ impl<R: Read, W: Write> Connection<R, W> {
     pub fn into_parts(self) -> (R, W)
         ensures { (R.remaining result.0 ≡ self.reader.left) × (W.contents result.1 ≡ self.writer.held) }
     {
-        (self.reader.into_inner(), self.writer.into_inner())
+        (
+            self.reader.into_inner().into_inner(),
+            self.writer.into_inner().into_inner(),
+        )
+    }
+
+    /// Says that how far input and output have come is what the calls of the reader and of the writer say. Does nothing.
+    pub fn keeps_marks(&self)
+        ensures { IsTold self.now }
+    {
+        self.reader.keeps_mark();
+        self.writer.keeps_mark();
     }
 
     /// The bytes that came and are not taken yet.
@@ -169,10 +176,38 @@ impl<R: Read, W: Write> Connection<R, W> {
         self.flush()
     }
 
-    /// Reads once, and returns whether a byte came. It came after the bytes that are not taken yet.
+    /// Reads once, and returns what came. It came after the bytes that are not taken yet.
     ///
     /// `Turns` if all reads that are allowed were made, `Write` if a flush before the read fails, `Read` if the read fails, and
     /// `NoMemory` if memory runs out before the read.
+    pub fn try_fill(&mut self) -> Result<Came, FrontFault>
+        requires { IsOpen self.old }
+        ensures read { ReadsOn self.old self.new self.old.bytes self.new.bytes }
+        ensures came { GivesBytes result self.old.bytes self.new.bytes }
+        ensures still { self.old.writer.output ≡ Output.Flushed → self.new.writer ≡ self.old.writer }
+        ensures failed { result ≡ Err FrontFault.Read → self.new.reader.input ≡ Input.Failed }
+        ensures left { LeavesTry result self.new }
+    {
+        self.take_turn()?;
+        self.reader.read_to_buffer(&self.writer, &mut self.buffer)
+    }
+
+    /// Notes that what the reader has not now is not waited for. That is as if a read had failed.
+    pub fn give_up(&mut self)
+        requires open { (self.old.reader.input ≡ Input.Open) × (0 < self.old.reader.turns) }
+        requires waits { self.old.reader.told.waits ≡ true }
+        ensures gave_up { GivesUp self.old.reader self.new.reader }
+        ensures still { (self.new.writer ≡ self.old.writer) × (self.new.bytes ≡ self.old.bytes) }
+    {
+        self.reader.give_up();
+    }
+
+    /// Reads once, and returns whether a byte came. It came after the bytes that are not taken yet. If the reader has nothing now, that
+    /// is as if the read had failed.
+    ///
+    /// `Turns` if all reads that are allowed were made, `Write` if a flush before the read fails, `Read` if the read fails, and
+    /// `NoMemory` if memory runs out before the read.
+    #[tactic(auto, using(crate::proofs::ConnectionLemmas::given_up_on))]
     pub fn fill(&mut self) -> Result<bool, FrontFault>
         requires { IsOpen self.old }
         ensures read { ReadsOn self.old self.new self.old.bytes self.new.bytes }
@@ -181,20 +216,28 @@ impl<R: Read, W: Write> Connection<R, W> {
         ensures failed { result ≡ Err FrontFault.Read → self.new.reader.input ≡ Input.Failed }
         ensures left { LeavesRead result self.new }
     {
-        self.take_turn()?;
-        self.reader.read_to_buffer(&self.writer, &mut self.buffer)
+        match self.try_fill()? {
+            Came::Bytes => Ok(true),
+            Came::End => Ok(false),
+            Came::Nothing => {
+                self.give_up();
+                Err(FrontFault::Read)
+            }
+        }
     }
 
-    // Reads until a head is whole, or until no head can come. No byte is searched twice, however the bytes are cut into reads.
-    fn await_head(&mut self) -> Result<Awaited, FrontFault>
-        requires { IsOpen self.old }
+    // Reads until a head is whole, until no head can come, or until nothing comes now. No byte is searched twice, however the bytes are
+    // cut into reads.
+    fn await_head(&mut self, search: &mut Search) -> Result<Awaited, FrontFault>
+        requires open { IsOpen self.old }
+        requires searched { IsSearched search.old self.old.bytes }
         ensures read { ReadsOn self.old self.new self.old.bytes self.new.bytes }
         ensures head { IsFoundInBuffer result self.new.bytes }
+        ensures searched { result ≡ Ok Awaited.Nothing → IsSearched search.new self.new.bytes }
         ensures cut { result ≡ Err FrontFault.Read → self.new.reader.input ≡ Input.Ended →
             self.new.bytes ≢ [] }
         ensures left { LeavesAwaited result self.new }
     {
-        let mut search = Search::new();
         loop {
             if let Some(n) = search.look(self.buffer.as_slice()) {
                 return Ok(Awaited::Head(n));
@@ -202,75 +245,54 @@ impl<R: Read, W: Write> Connection<R, W> {
             if self.buffer.len() > HEAD_LIMIT {
                 return Ok(Awaited::TooLong);
             }
-            if !self.fill()? {
-                return if self.buffer.is_empty() {
-                    Ok(Awaited::End)
-                } else {
-                    Err(FrontFault::Read)
-                };
+            match self.try_fill()? {
+                Came::Bytes => {}
+                Came::End if self.buffer.is_empty() => return Ok(Awaited::End),
+                Came::End => return Err(FrontFault::Read),
+                Came::Nothing => return Ok(Awaited::Nothing),
             }
         }
     }
 
-    // Reads once for the last bytes of a body, and returns whether a byte came. The bytes after the body stay in the buffer.
-    fn gather_last(&mut self, body: &mut Gathering, missing: u64) -> Result<bool, FrontFault>
+    // Reads once for the body, and returns what came. The bytes after the body stay in the buffer.
+    fn gather(&mut self, body: &mut Gathering, missing: u64) -> Result<Came, FrontFault>
         requires open { IsOpen self.old }
         requires missing { 0 < missing }
         requires none { self.old.bytes ≡ [] }
         ensures read { ReadsOn self.old self.new (body.old ++ self.old.bytes) (body.new ++ self.new.bytes) }
-        ensures still { result ≢ Ok true → result ≢ Err FrontFault.NoMemory →
+        ensures still { result ≢ Ok Came.Bytes → result ≢ Err FrontFault.NoMemory →
             (body.new ≡ body.old) × (self.new.bytes ≡ []) }
-        ensures grown { result ≡ Ok true → length body.old < length body.new }
+        ensures grown { result ≡ Ok Came.Bytes → length body.old < length body.new }
         ensures size { OnOk result (length body.new ≤ length body.old + missing) }
         ensures waiting { OnOk result
             (length body.new < length body.old + missing → self.new.bytes ≡ []) }
-        ensures left { LeavesRead result self.new }
+        ensures left { LeavesTry result self.new }
     {
-        let came = self.fill()?;
+        let came = self.try_fill()?;
         deal(body, &mut self.buffer, missing)?;
         Ok(came)
     }
 
-    // Reads once for the body, and returns whether a byte came. The bytes go straight into the room of the body, unless bytes
-    // after the body can come with them.
-    fn gather(&mut self, body: &mut Gathering, missing: u64) -> Result<bool, FrontFault>
+    // Reads until the body is whole, and makes no read after that. Returns whether it is whole: if not, nothing comes now.
+    fn await_body(&mut self, body: &mut Gathering, body_len: u64) -> Result<bool, FrontFault>
         requires open { IsOpen self.old }
-        requires missing { 0 < missing }
-        requires none { self.old.bytes ≡ [] }
+        requires short { IsShort body_len body.old self.old.bytes }
         ensures read { ReadsOn self.old self.new (body.old ++ self.old.bytes) (body.new ++ self.new.bytes) }
-        ensures still { result ≢ Ok true → result ≢ Err FrontFault.NoMemory →
-            (body.new ≡ body.old) × (self.new.bytes ≡ []) }
-        ensures grown { result ≡ Ok true → length body.old < length body.new }
-        ensures size { OnOk result (length body.new ≤ length body.old + missing) }
-        ensures waiting { OnOk result
-            (length body.new < length body.old + missing → self.new.bytes ≡ []) }
-        ensures left { LeavesRead result self.new }
-    {
-        if missing < READ_SIZE as u64 {
-            return self.gather_last(body, missing);
-        }
-        self.take_turn()?;
-        self.reader.read_to_body(&self.writer, body)
-    }
-
-    // Reads until the body is whole, and makes no read after that.
-    fn await_body(&mut self, body: &mut Gathering, body_len: u64) -> Result<(), FrontFault>
-        requires open { IsOpen self.old }
-        requires short { length body.old ≤ body_len }
-        requires waiting { length body.old < body_len → self.old.bytes ≡ [] }
-        ensures read { ReadsOn self.old self.new (body.old ++ self.old.bytes) (body.new ++ self.new.bytes) }
-        ensures whole { OnOk result (length body.new ≡ body_len) }
+        ensures whole { result ≡ Ok true → length body.new ≡ body_len }
+        ensures short { result ≡ Ok false → (length body.new < body_len) × (self.new.bytes ≡ []) }
         ensures cut { IfErr result (λ fault. fault ≢ FrontFault.NoMemory →
             length (body.new ++ self.new.bytes) < body_len) }
-        ensures left { Leaves result self.new }
+        ensures left { LeavesBody result self.new }
     {
         loop {
             let missing = body_len - body.len() as u64;
             if missing == 0 {
-                return Ok(());
+                return Ok(true);
             }
-            if !self.gather(body, missing)? {
-                return Err(FrontFault::Read);
+            match self.gather(body, missing)? {
+                Came::Bytes => {}
+                Came::End => return Err(FrontFault::Read),
+                Came::Nothing => return Ok(false),
             }
         }
     }
@@ -311,44 +333,82 @@ impl<R: Read, W: Write> Connection<R, W> {
         }
     }
 
-    // Reads the body of a head that is at the front, and takes the head and the body off the buffer.
-    fn read_body(
-        &mut self,
-        alloc: Global,
-        head: &Head,
-        count: usize,
-    ) -> Result<Gathering, FrontFault>
+    // Takes a head off the buffer that is at the front, and what came of its body, and writes the interim reply if the head asks for it.
+    fn begin(&mut self, alloc: Global, head: Head, count: usize) -> Result<Begun, FrontFault>
         requires open { IsOpen self.old }
-        requires head { HasHead self.old.bytes count head.now }
-        ensures read { ReadsBody result head.now count self.old self.new }
+        requires head { HasHead self.old.bytes count head }
+        ensures begun { IfOk result (λ begun.
+            (begun.head ≡ head) × (begun.body ++ self.new.bytes ≡ drop count self.old.bytes)
+            × IsShort head.body_len begun.body self.new.bytes) }
+        ensures sent { Sends self.old.writer self.new.writer (interim head) }
+        ensures unread { self.new.reader ≡ self.old.reader }
+        ensures fault { IfErr result (λ fault. (fault ≢ FrontFault.Read) × (fault ≢ FrontFault.Turns)) }
         ensures left { Leaves result self.new }
     {
-        self.send_interim(head)?;
-        let body_len = head.body_len();
-        let mut body = self.take_start(alloc, count, body_len)?;
-        self.await_body(&mut body, body_len)?;
-        Ok(body)
+        self.send_interim(&head)?;
+        let body = self.take_start(alloc, count, head.body_len())?;
+        Ok(Begun { head, body })
     }
 
-    /// Reads the next item, and takes a request off the buffer. `None` if the stream ended before an item.
-    pub(crate) fn next_item(&mut self, alloc: Global) -> Result<Option<NextItem>, FrontFault>
-        requires { IsOpen self.old }
-        ensures read { ReadsItem result self.old self.new }
-        ensures left { LeavesItem result self.new }
+    // Reads the rest of a body.
+    fn next_in_body(&mut self, alloc: Global, begun: Begun) -> Result<Found, FrontFault>
+        requires open { IsOpen self.old }
+        requires short { IsShort begun.head.body_len begun.body self.old.bytes }
+        ensures read { (from : ConnectionState) → Suspends from (Stage.InBody begun) self.old → ReadsFound result from self.new }
+        ensures less { TakesWork result (work (Stage.InBody begun) self.old) self.new }
+        ensures left { LeavesFound result self.new }
     {
-        let count = match self.await_head()? {
+        let Begun { head, mut body } = begun;
+        let body_len = head.body_len();
+        match self.await_body(&mut body, body_len) {
+            Ok(true) => join(alloc, head, body),
+            Ok(false) => Ok(Found::Waits(Stage::InBody(Begun { head, body }))),
+            Err(fault) => {
+                drop(head);
+                Err(fault)
+            }
+        }
+    }
+
+    // Reads on in a head, and then in its body.
+    fn next_in_head(&mut self, alloc: Global, mut search: Search) -> Result<Found, FrontFault>
+        requires open { IsOpen self.old }
+        requires searched { IsSearched search self.old.bytes }
+        ensures read { (from : ConnectionState) → Suspends from (Stage.InHead search) self.old → ReadsFound result from self.new }
+        ensures less { TakesWork result (work (Stage.InHead search) self.old) self.new }
+        ensures left { LeavesFound result self.new }
+    {
+        let count = match self.await_head(&mut search)? {
             Awaited::Head(count) => count,
-            Awaited::TooLong => return Ok(Some(NextItem::Refused(no_head()))),
-            Awaited::End => return Ok(None),
+            Awaited::TooLong => return Ok(Found::Whole(NextItem::Refused(no_head()))),
+            Awaited::End => return Ok(Found::End),
+            Awaited::Nothing => return Ok(Found::Waits(Stage::InHead(search))),
         };
         let head = match read_head(alloc, &self.buffer.as_slice()[..count]) {
             Ok(head) => head,
-            Err(HeadFault::Denied(denial)) => return Ok(Some(NextItem::Refused(denial))),
+            Err(HeadFault::Denied(denial)) => {
+                return Ok(Found::Whole(NextItem::Refused(denial)));
+            }
             Err(HeadFault::NoMemory) => return Err(FrontFault::NoMemory),
         };
-        let body = self.read_body(alloc, &head, count);
-        join(alloc, head, body)
+        let begun = self.begin(alloc, head, count)?;
+        self.next_in_body(alloc, begun)
     }
+
+    /// Reads the next item from the stage on to which it has come, and takes a request off the buffer.
+    pub(crate) fn next_item(&mut self, alloc: Global, stage: Stage) -> Result<Found, FrontFault>
+        requires open { IsOpen self.old }
+        requires staged { IsStaged stage self.old }
+        ensures read { (from : ConnectionState) → Suspends from stage self.old → ReadsFound result from self.new }
+        ensures less { TakesWork result (work stage self.old) self.new }
+        ensures left { LeavesFound result self.new }
+    {
+        match stage {
+            Stage::InHead(search) => self.next_in_head(alloc, search),
+            Stage::InBody(begun) => self.next_in_body(alloc, begun),
+        }
+    }
+
     /// Answers an item at the one moment that the clock gives for it, and returns whether the item ends the connection.
     pub(crate) fn answer<C: Clock, S: Service>(
         &mut self,

@@ -1,7 +1,10 @@
 //! What is read, answered and written on one connection.
 ghost use Rattle.std.specs.Prelude.{◌≡◌, ◌≢◌, [], Err, IfSome};
 ghost use Rattle.reply_form.specs.FixedReplies.{out_of_memory_bytes};
-ghost use Rattle.http_front.specs.Connections.{IsFresh, Sends};
+ghost use Rattle.http_front.specs.Connections.{ConnectionState, IsFresh, IsOpen, IsTold, Sends};
+ghost use Rattle.http_front.specs.Resumptions.{Finishes};
+ghost use Rattle.http_front.specs.Stages.{IsStaged};
+ghost use Rattle.http_front.specs.Steps.{Comes, Conversing, LeavesStep};
 ghost use Rattle.http_front.specs.Conversations.{AnswersInput, AnswersReceived, EndsByWrite, EndsOutOfMemory};
 ghost use Rattle.http_front.specs.Conversations.{BreaksOff, LeavesRun};
 ghost use Rattle.http_front.specs.Outcomes.{IsOfWholeInput, UnlessWriteFailed, UnlessWriteOrMemoryFailed};
@@ -10,12 +13,47 @@ ghost use Rattle.http_front.specs.declared.end.FrontFault.{FrontFault};
 
 use crate::connection::Connection;
 use crate::end::{End, FrontFault};
+use crate::item::{Found, Stage, Step};
 use crate::service::{Clock, Service};
 use reply_form::out_of_memory_reply;
 use std::alloc::Global;
 use std::io::{Read, Write};
 
-// Reads, answers and writes until the connection ends.
+/// Goes on with a connection whose next item has come to a stage: reads, answers and writes until the connection ends, or until nothing
+/// comes now. Then the step says how far the next item has come, and the connection can be gone on with once the reader has more.
+///
+/// If memory runs out, no part of the answer to the item is written, and the fixed bytes that say so are not written either.
+pub fn advance<R: Read, W: Write, C: Clock, S: Service>(
+    alloc: Global,
+    connection: &mut Connection<R, W>,
+    stage: Stage,
+    clock: &mut C,
+    service: &mut S,
+) -> Result<Step, FrontFault>
+    requires open { IsOpen connection.old }
+    requires staged { IsStaged stage connection.old }
+    // Whatever the connection has said since it began, it has then said that and what this call adds.
+    ensures comes { (first : C) (start : S.World) (from : ConnectionState) →
+        Conversing C.gives S.answers first clock.old start (S.world service.old) from stage connection.old →
+        Comes C.gives S.answers S.starves first clock.new start (S.world service.new) from connection.new result }
+    ensures left { LeavesStep result connection.new }
+{
+    let mut stage = stage;
+    loop {
+        match connection.next_item(alloc, stage)? {
+            Found::End => return Ok(Step::Ended(End::Clean)),
+            Found::Waits(stage) => return Ok(Step::Waits(stage)),
+            Found::Whole(found) => {
+                if connection.answer(alloc, clock, service, found)? {
+                    return Ok(Step::Ended(End::Closed));
+                }
+            }
+        }
+        stage = Stage::new();
+    }
+}
+
+// Reads, answers and writes until the connection ends. A reader that has nothing now is not waited for.
 fn converse<R: Read, W: Write, C: Clock, S: Service>(
     alloc: Global,
     connection: &mut Connection<R, W>,
@@ -38,14 +76,13 @@ fn converse<R: Read, W: Write, C: Clock, S: Service>(
         connection.old connection.new }
     ensures left { LeavesRun result connection.new }
 {
-    loop {
-        match connection.next_item(alloc)? {
-            None => return Ok(End::Clean),
-            Some(found) => {
-                if connection.answer(alloc, clock, service, found)? {
-                    return Ok(End::Closed);
-                }
-            }
+    let step = advance(alloc, connection, Stage::new(), clock, service)?;
+    match step {
+        Step::Ended(end) => return Ok(end),
+        Step::Waits(stage) => {
+            drop(stage);
+            connection.give_up();
+            return Err(FrontFault::Read);
         }
     }
 }
@@ -67,6 +104,26 @@ fn end_out_of_memory<R: Read, W: Write>(connection: &mut Connection<R, W>) -> Fr
         return FrontFault::Write;
     }
     FrontFault::NoMemory
+}
+
+/// Finishes a connection that came to its end by [`advance`]: if memory ran out, the fixed bytes that say so are written, and what
+/// was written is flushed. Returns how the connection ended: `Write` if a write or the flush fails.
+#[tactic(auto, using(crate::proofs::Resumed::finished_broken, crate::proofs::Resumed::finished_starved, crate::proofs::Resumed::finished_flushed, crate::proofs::Resumed::finished_unflushed))]
+pub fn finish<R: Read, W: Write>(
+    connection: &mut Connection<R, W>,
+    ended: Result<End, FrontFault>,
+) -> Result<End, FrontFault>
+    requires { LeavesRun ended connection.old }
+    ensures { Finishes ended result connection.old connection.new }
+{
+    if ended == Err(FrontFault::Write) {
+        return ended;
+    }
+    if ended == Err(FrontFault::NoMemory) {
+        return Err(end_out_of_memory(connection));
+    }
+    connection.flush()?;
+    ended
 }
 
 /// Serves one connection, on which nothing was read or written yet: reads, answers and writes until it ends.
@@ -104,14 +161,11 @@ pub fn run<R: Read, W: Write, C: Clock, S: Service>(
     ensures left { LeavesRun result connection.new }
     // What was written is flushed.
     ensures flushed { UnlessWriteFailed result (connection.new.writer.output ≡ Output.Flushed) }
+    // How far input and output have come is what the calls of the reader and the writer say.
+    ensures told { IsTold connection.new }
 {
     let ended = converse(alloc, connection, clock, service);
-    if ended == Err(FrontFault::Write) {
-        return ended;
-    }
-    if ended == Err(FrontFault::NoMemory) {
-        return Err(end_out_of_memory(connection));
-    }
-    connection.flush()?;
-    ended
+    let end = finish(connection, ended);
+    connection.keeps_marks();
+    end
 }

@@ -1,19 +1,21 @@
 //! A reader whose reads are counted, and a writer. Each keeps in mind how its last call ended.
-ghost use Rattle.std.specs.Prelude.{◌≡◌, ◌≢◌, ◌↔◌, ◌<◌, ◌≤◌, [], Ok, IfOk, OnOk, OnErr, IsOkUnless, IsTrue, length, take};
-ghost use Rattle.std.specs.Io.KnownBytes.{Appends, IsAtEnd, Keeps};
-ghost use Rattle.http_front.specs.Connections.{IsNoted, ReadsOnce, Sends};
+ghost use Rattle.std.specs.Prelude.{◌≡◌, ◌≢◌, ◌↔◌, ◌<◌, ◌≤◌, true, [], Ok, Err, IfOk, OnOk, OnErr, IsOkUnless, IsTrue, length, take};
+ghost use Rattle.std.specs.Io.KnownBytes.{Appends, Keeps};
+ghost use Rattle.http_front.specs.Calls.{IsMarkedInput, IsMarkedOutput, no_reads, no_writes};
+ghost use Rattle.http_front.specs.Connections.{GivesUp, ReadsOnce, Sends};
+ghost use Rattle.http_front.specs.declared.incoming.Missed.{Missed};
 ghost use Rattle.http_front.specs.declared.counted.Input.{Input};
 ghost use Rattle.http_front.specs.declared.counted.Output.{Output};
 ghost use Rattle.http_front.specs.declared.end.FrontFault.{FrontFault};
 
-use crate::buffer::{Buffer, READ_SIZE};
+use crate::buffer::{Buffer, Unread};
 use crate::end::FrontFault;
-use stamp_types::{GatherFault, Gathering};
-use std::io::{ErrorKind, Read, Write};
+use crate::incoming::{Incoming, Missed};
+use crate::outgoing::Outgoing;
 use std::marker::Model;
 
-/// How many times a write that was interrupted is made again.
-const INTERRUPTIONS: u32 = 1024;
+/// How many times a write is made at most, if each is interrupted.
+const WRITES: u32 = 1024;
 
 /// How far the input of a connection has come.
 #[derive(Clone, Copy, PartialEq, Eq)]
@@ -37,41 +39,59 @@ pub enum Output {
     Failed,
 }
 
-/// A writer.
+/// What one read came to.
+#[derive(Clone, Copy, PartialEq, Eq)]
+pub enum Came {
+    /// At least one byte came.
+    Bytes,
+    /// The reader is at its end.
+    End,
+    /// The reader has nothing now, and may have bytes later.
+    Nothing,
+}
+
+/// A writer. How far the output has come is what its calls say.
 #[derive(Drop)]
-pub(crate) struct CountedWriter<W: Write> {
+pub(crate) struct CountedWriter<W: Outgoing> {
     writer: W,
     output: Output,
 }
 
-impl<W: Write> Model for CountedWriter<W> {
+impl<W: Outgoing> Model for CountedWriter<W> {
+    ghost use Rattle.http_front.specs.Calls.{IsMarkedOutput};
     ghost use Rattle.http_front.specs.Connections.{WriterState};
 
     ghost Value = { WriterState };
 
-    ghost view = { λ w. record { held = W.contents w.writer; output = w.output } };
+    ghost view = { λ w. record { held = W.held w.writer; told = W.told w.writer; output = w.output } };
+
+    ghost invariant = { λ w. IsMarkedOutput w.output (W.told w.writer) };
 }
 
-/// A reader. No read is made but those that it counts.
+/// A reader. No read is made but those that it counts. How far the input has come is what its reads say.
 #[derive(Drop)]
-pub(crate) struct CountedReader<R: Read> {
+pub(crate) struct CountedReader<R: Incoming> {
     reader: R,
     turns: u64,
     input: Input,
 }
 
-impl<R: Read> Model for CountedReader<R> {
+impl<R: Incoming> Model for CountedReader<R> {
+    ghost use Rattle.http_front.specs.Calls.{IsMarkedInput};
     ghost use Rattle.http_front.specs.Connections.{ReaderState};
 
     ghost Value = { ReaderState };
 
-    ghost view = { λ r. record { left = R.remaining r.reader; turns = r.turns; input = r.input } };
+    ghost view = { λ r. record { left = R.left r.reader; told = R.told r.reader; turns = r.turns; input = r.input } };
+
+    ghost invariant = { λ r. IsMarkedInput r.input (R.told r.reader) };
 }
 
-impl<R: Read> CountedReader<R> {
+impl<R: Incoming> CountedReader<R> {
     /// A reader of which at most `turns` reads are made.
     pub(crate) fn new(reader: R, turns: u64) -> Self
-        ensures { result ≡ record { left = R.remaining reader; turns = turns; input = Input.Open } }
+        requires { R.told reader ≡ no_reads }
+        ensures { result ≡ record { left = R.left reader; told = no_reads; turns = turns; input = Input.Open } }
     {
         Self {
             reader,
@@ -82,9 +102,16 @@ impl<R: Read> CountedReader<R> {
 
     /// Gives the reader back.
     pub(crate) fn into_inner(self) -> R
-        ensures { R.remaining result ≡ self.left }
+        ensures { R.left result ≡ self.left }
     {
         self.reader
+    }
+
+    /// Says that how far the input has come is what the reads say. Does nothing.
+    pub(crate) fn keeps_mark(&self)
+        ensures { IsMarkedInput self.now.input self.now.told }
+    {
+        let _input = self.input;
     }
 
     /// Whether a read may still be made.
@@ -94,65 +121,52 @@ impl<R: Read> CountedReader<R> {
         self.turns > 0
     }
 
-    // Notes how a read ended. If memory ran out, it was not made.
-    fn note(&mut self, came: Result<usize, GatherFault>) -> Result<bool, FrontFault>
+    /// Notes that what the reader has not now is not waited for. That is as if the last read had failed.
+    pub(crate) fn give_up(&mut self)
         requires open { (self.old.input ≡ Input.Open) × (0 < self.old.turns) }
-        requires end { came ≡ Ok 0 → IsAtEnd self.old.left }
-        ensures left { self.new.left ≡ self.old.left }
-        ensures ended { self.new.input ≡ Input.Ended → IsAtEnd self.new.left }
-        ensures noted { IsNoted came result self.old self.new }
+        requires waits { self.old.told.waits ≡ true }
+        ensures { GivesUp self.old self.new }
     {
-        match came {
-            Ok(0) => {
-                self.turns -= 1;
-                self.input = Input::Ended;
-                Ok(false)
-            }
-            Ok(_) => {
-                self.turns -= 1;
-                Ok(true)
-            }
-            Err(GatherFault::Read) => {
-                self.turns -= 1;
-                self.input = Input::Failed;
-                Err(FrontFault::Read)
-            }
-            Err(GatherFault::NoMemory) => Err(FrontFault::NoMemory),
-        }
+        self.turns -= 1;
+        self.input = Input::Failed;
     }
 
-    /// Reads once, and puts the bytes after those of the buffer.
-    pub(crate) fn read_to_buffer<W: Write>(
+    /// Reads once, and puts the bytes after those of the buffer. A read that has nothing now takes no turn.
+    pub(crate) fn read_to_buffer<W: Outgoing>(
         &mut self,
         written: &CountedWriter<W>,
         buffer: &mut Buffer,
-    ) -> Result<bool, FrontFault>
+    ) -> Result<Came, FrontFault>
         requires may_read { (self.old.input ≡ Input.Open) × (0 < self.old.turns) }
         requires flushed { written.now.output ≡ Output.Flushed }
         ensures { ReadsOnce result self.old self.new buffer.old buffer.new }
     {
-        let came = buffer.read_from(&mut self.reader);
-        self.note(came)
-    }
-    /// Reads once, straight into the room of the body, and puts the bytes after those of the body.
-    pub(crate) fn read_to_body<W: Write>(
-        &mut self,
-        written: &CountedWriter<W>,
-        body: &mut Gathering,
-    ) -> Result<bool, FrontFault>
-        requires may_read { (self.old.input ≡ Input.Open) × (0 < self.old.turns) }
-        requires flushed { written.now.output ≡ Output.Flushed }
-        ensures { ReadsOnce result self.old self.new body.old body.new }
-    {
-        let came = body.read_from(&mut self.reader, READ_SIZE);
-        self.note(came)
+        match buffer.read_from(&mut self.reader) {
+            Ok(0) => {
+                self.turns -= 1;
+                self.input = Input::Ended;
+                Ok(Came::End)
+            }
+            Ok(_) => {
+                self.turns -= 1;
+                Ok(Came::Bytes)
+            }
+            Err(Unread::Waits) => Ok(Came::Nothing),
+            Err(Unread::Failed) => {
+                self.turns -= 1;
+                self.input = Input::Failed;
+                Err(FrontFault::Read)
+            }
+            Err(Unread::NoMemory) => Err(FrontFault::NoMemory),
+        }
     }
 }
 
-impl<W: Write> CountedWriter<W> {
+impl<W: Outgoing> CountedWriter<W> {
     /// A writer to which nothing was written.
     pub(crate) fn new(writer: W) -> Self
-        ensures { result ≡ record { held = W.contents writer; output = Output.Flushed } }
+        requires { W.told writer ≡ no_writes }
+        ensures { result ≡ record { held = W.held writer; told = no_writes; output = Output.Flushed } }
     {
         Self {
             writer,
@@ -162,9 +176,16 @@ impl<W: Write> CountedWriter<W> {
 
     /// Gives the writer back.
     pub(crate) fn into_inner(self) -> W
-        ensures { W.contents result ≡ self.held }
+        ensures { W.held result ≡ self.held }
     {
         self.writer
+    }
+
+    /// Says that how far the output has come is what the writes and flushes say. Does nothing.
+    pub(crate) fn keeps_mark(&self)
+        ensures { IsMarkedOutput self.now.output self.now.told }
+    {
+        let _output = self.output;
     }
 
     /// Flushes the writer if bytes were written after the last flush.
@@ -186,6 +207,55 @@ impl<W: Write> CountedWriter<W> {
         Ok(())
     }
 
+    // Writes once, and returns how many bytes were taken: at least one. A write that was interrupted is not noted.
+    fn write_once(&mut self, bytes: &[u8]) -> Result<usize, Missed>
+        requires open { self.old.output ≢ Output.Failed }
+        requires some { 0 < length bytes.now }
+        ensures written { IfOk result (λ n. (0 < n) × (n ≤ length bytes.now)
+            × Appends self.old.held self.new.held (take n bytes.now)) }
+        ensures output { OnOk result (self.new.output ≡ Output.Pending) }
+        ensures unwritten { OnErr result (Keeps self.old.held self.new.held) }
+        ensures interrupted { result ≡ Err Missed.Interrupted →
+            (self.new.output ≡ self.old.output) × (self.new.told.waits ≡ true) }
+        ensures failed { OnErr result (result ≢ Err Missed.Interrupted → self.new.output ≡ Output.Failed) }
+    {
+        match self.writer.write(bytes) {
+            Ok(0) => {
+                self.output = Output::Failed;
+                Err(Missed::Failed)
+            }
+            Ok(n) => {
+                self.output = Output::Pending;
+                Ok(n)
+            }
+            Err(Missed::Interrupted) => Err(Missed::Interrupted),
+            Err(missed) => {
+                self.output = Output::Failed;
+                Err(missed)
+            }
+        }
+    }
+
+    // Writes once, and returns how many bytes were taken: at least one. A write that was interrupted has failed.
+    fn write_last(&mut self, bytes: &[u8]) -> Result<usize, FrontFault>
+        requires open { self.old.output ≢ Output.Failed }
+        requires some { 0 < length bytes.now }
+        ensures written { IfOk result (λ n. (0 < n) × (n ≤ length bytes.now)
+            × Appends self.old.held self.new.held (take n bytes.now)) }
+        ensures output { OnOk result (self.new.output ≡ Output.Pending) }
+        ensures unwritten { OnErr result (Keeps self.old.held self.new.held) }
+        ensures failed { OnErr result (self.new.output ≡ Output.Failed) }
+        ensures fault { IsOkUnless result FrontFault.Write }
+    {
+        match self.write_once(bytes) {
+            Ok(n) => Ok(n),
+            Err(_) => {
+                self.output = Output::Failed;
+                Err(FrontFault::Write)
+            }
+        }
+    }
+
     // Writes some of the bytes at least, and returns how many. An interrupted write is made again.
     fn write_some(&mut self, bytes: &[u8]) -> Result<usize, FrontFault>
         requires open { self.old.output ≢ Output.Failed }
@@ -197,19 +267,14 @@ impl<W: Write> CountedWriter<W> {
         ensures failed { OnErr result (self.new.output ≡ Output.Failed) }
         ensures fault { IsOkUnless result FrontFault.Write }
     {
-        for _ in 0..INTERRUPTIONS {
-            match self.writer.write(bytes) {
-                Ok(0) => break,
-                Ok(n) => {
-                    self.output = Output::Pending;
-                    return Ok(n);
-                }
-                Err(error) if error.kind() == ErrorKind::Interrupted => {}
-                Err(_) => break,
+        for _ in 1..WRITES {
+            match self.write_once(bytes) {
+                Ok(n) => return Ok(n),
+                Err(Missed::Interrupted) => {}
+                Err(_) => return Err(FrontFault::Write),
             }
         }
-        self.output = Output::Failed;
-        Err(FrontFault::Write)
+        self.write_last(bytes)
     }
 
     /// Writes all of the bytes. After a fault the writer has some of them, from their front.

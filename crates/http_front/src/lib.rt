@@ -4,20 +4,26 @@
 mod answers;
 mod buffer;
 mod connection;
+mod connection_laws;
 mod conversation;
 mod counted;
 mod end;
 mod head_end;
+mod incoming;
 mod item;
+mod library;
 mod link;
+mod outgoing;
 mod service;
 mod stream_laws;
 mod workers;
 
 pub use connection::Connection;
-pub use conversation::run;
-pub use counted::{Input, Output};
+pub use connection_laws::a_connection_left_and_resumed_answers_as_run;
+pub use conversation::{advance, finish, run};
+pub use counted::{Came, Input, Output};
 pub use end::{End, FrontFault};
+pub use item::{Stage, Step};
 pub use link::{Link, Source, serve_link};
 pub use service::{Clock, Service};
 pub use stream_laws::{
