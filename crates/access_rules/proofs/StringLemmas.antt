@@ -6,7 +6,7 @@ use Rattle.stamp_values.specs.declared.signing.Field.{Field}
 use Rattle.stamp_values.specs.declared.signing.Signing.{Signing}
 use Rattle.stamp_values.specs.declared.verb.Verb.{Verb}
 use Rattle.stamp_values.specs.declared.verb.Verb.TheVariants.{Get, Head, Put, Delete}
-use Rattle.sas_token.specs.Tokens.{GivesLetters, IsToken, Sent, token_string}
+use Rattle.sas_token.specs.Tokens.{GivesLetters, IsToken, Sent, front_string, token_string}
 use Rattle.shared_key.specs.Strings.{key_string}
 
 -- the text begins with the first letter of a method: D, G, H or P
@@ -29,7 +29,7 @@ module _ (t : Sent) (key : Key) (blob : Option (List ℕ)) where
 
   -- the string of a token begins with a letter of its permissions, or with the line feed after no permissions
   letters_begin : (read write delete list : Bool) → begins_as_method (string_with (letters_text (record { read = read; write = write; delete = delete; list = list }))) ≡ false
-  unfolding token_string
+  unfolding token_string front_string
   letters_begin true write delete list = refl
   letters_begin false true delete list = refl
   letters_begin false false true list = refl
@@ -37,7 +37,7 @@ module _ (t : Sent) (key : Key) (blob : Option (List ℕ)) where
   letters_begin false false false false = refl
 
   token_begins : (given : Option Permissions) → GivesLetters t.permissions given → begins_as_method (token_string t key blob) ≡ false
-  unfolding token_string
+  unfolding token_string front_string
   token_begins None empty = ap (λ x. begins_as_method (string_with x)) empty
   token_begins (Some p) letters = ap (λ x. begins_as_method (string_with x)) letters.1 ∙ letters_begin p.read p.write p.delete p.list
 
