@@ -18,6 +18,7 @@ pub mod KeyPairLemmas
 pub mod LastLemmas
 pub mod ListLemmas
 pub mod ListedLemmas
+pub mod ListedMetadataLemmas
 pub mod MadeLemmas
 pub mod MakingLemmas
 pub mod ObjectLemmas

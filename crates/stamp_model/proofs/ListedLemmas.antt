@@ -30,6 +30,7 @@ use Rattle.list_pages.specs.Lists.{blob_list, given, page_of_blobs, page_of_cont
 use Rattle.list_pages.specs.Pages.{Entry, from_marker, listed, with_value}
 use Rattle.list_pages.specs.Ranges.{key_of}
 use Rattle.list_pages.proofs.Bounds.{blobs_in_bounds, containers_in_bounds}
+use Rattle.list_pages.proofs.FullPages.{blobs_full, containers_full}
 use Rattle.list_pages.proofs.Keys.{same_account}
 use Rattle.list_pages.proofs.Reached.{container_reached, entry_none, entry_reached}
 use Rattle.list_pages.proofs.Shown.{shown_at-committed}
@@ -125,6 +126,7 @@ module _ (w : World (List ℕ)) (key : Key) (list : Timed) (lists : ListsNames k
       body = ap (λ (r : Reply). r.body) reply-listed;
       told = ap (λ (r : Reply). r.length) reply-listed ∙ sym (ap (λ (r : Reply). length r.body) reply-listed);
       marked = blobs-next (page_asked list.request) part_listed;
+      full = blobs_full (page_asked list.request) part_listed;
       once = λ reaches. (
         shown_part (committed_value byte_count c),
         entry_reached (page_asked list.request) part_listed name lists.plain reaches ∙ ap (own_entry name) (shown-seen c there),
@@ -209,7 +211,7 @@ listed-deleted w key name delete deletes free list lists none = lists-never (wor
 -- a page of containers shows each container of the account that it reaches before the bound
 pub listed-container : (w : World (List ℕ)) (name : List ℕ) (list : Timed) → IsAsk list.request.ask → list.request.ask.op ≡ op.ListContainers → (reply_to_one w list).rule ≡ None
     → is_under list.bound (key_of list.request.ask.key.account name) ≡ true
-    → ListsContainer list.request name (part_at w (key_of list.request.ask.key.account name)) (reply_to_one w list)
+    → ListsContainer list.request list.bound name (part_at w (key_of list.request.ask.key.account name)) (reply_to_one w list)
 listed-container w name list fits lists none under =
     let account : List ℕ = list.request.ask.key.account in
     let asked : Page = page_asked list.request in
@@ -221,5 +223,6 @@ listed-container w name list fits lists none under =
       body = ap (λ (r : Reply). r.body) listed;
       told = ap (λ (r : Reply). r.length) listed ∙ sym (ap (λ (r : Reply). length r.body) listed);
       marked = containers-next account asked list.bound w name before;
+      full = containers_full account asked list.bound w;
       once = λ reaches. container_reached account asked list.bound w name before reaches;
     }

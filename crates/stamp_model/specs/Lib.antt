@@ -7,6 +7,7 @@ pub mod Histories
 pub mod Kept
 pub mod KeyPairs
 pub mod Listed
+pub mod ListedMetadata
 pub mod Overrides
 pub mod Ranges
 pub mod Refusals

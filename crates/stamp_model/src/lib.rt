@@ -13,6 +13,7 @@ mod kept_laws;
 mod key_laws;
 mod laws;
 mod list_laws;
+mod metadata_laws;
 mod override_laws;
 mod policy_laws;
 mod run_laws;
@@ -51,6 +52,7 @@ pub use list_laws::{
     a_list_of_containers_is_of_its_account, a_list_shows_what_its_route_may_see,
     a_put_block_leaves_every_list, what_is_written_is_listed,
 };
+pub use metadata_laws::a_list_shows_the_metadata_that_a_blob_tells;
 pub use override_laws::{a_token_overrides_five_headers, other_requests_override_nothing};
 pub use policy_laws::{
     a_policy_is_as_it_was_set_last, a_token_writes_by_its_letters, a_withdrawn_policy_opens_nothing,

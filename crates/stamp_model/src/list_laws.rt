@@ -60,7 +60,7 @@ pub fn a_list_of_containers_is_of_its_account()
         → IsAsk list.request.ask → list.request.ask.op ≡ ListContainers
         → (reply_to_one w list).rule ≡ None
         → IsTrue (is_under list.bound (key_of list.request.ask.key.account name))
-        → ListsContainer list.request name
+        → ListsContainer list.request list.bound name
         (part_at w (key_of list.request.ask.key.account name)) (reply_to_one w list) }
     ensures own { (keys : Option Keys) (w v : World (List ℕ)) (q : Asked) (t : ℕ) (bound : Option Key)
         → IsAsk q.ask → q.ask.op ≡ ListContainers
