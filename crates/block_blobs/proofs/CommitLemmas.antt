@@ -10,8 +10,7 @@ use Rattle.stamp_types.specs.Changes.{are_blocks}
 use Rattle.stamp_types.specs.World.{Blob, taken_blocks}
 use Rattle.block_blobs.specs.BlockLists.{EachInOnePiece, all_entries, block_of_entry, first_absent, list_fault, listed_len, named_blocks, taken_fault, uncommitted_taken, unnamed_blocks}
 use Rattle.block_blobs.specs.declared.block_fault.BlockFault.TheVariants as fault
-use Rattle.block_blobs.specs.FoundBlocks.{AreBlocksOf, IsContentOf}
-use Rattle.block_blobs.specs.declared.found_blocks.FoundBlocks.{FoundBlocks}
+use Rattle.block_blobs.specs.FoundBlocks.{IsContentOf}
 use Rattle.block_blobs.specs.declared.found_blocks.ListContent.{ListContent}
 use Rattle.block_blobs.specs.declared.found_blocks.ListContent.TheVariants as content
 use Rattle.block_blobs.proofs.ListLemmas.{are_blocks_taken, named_unnamed, nothing_missing}
