@@ -39,6 +39,8 @@ mod share_tests;
 #[cfg(test)]
 mod slow_rules;
 #[cfg(test)]
+mod span_tests;
+#[cfg(test)]
 mod string_tests;
 #[cfg(test)]
 mod time_tests;
