@@ -1,5 +1,5 @@
 -- A connection that is gone on with.
-use Rattle.std.proofs.Common.{◌≡◌, ◌≢◌, ℕ, ◌<◌, Bool, true, false, List, [], ◌++◌, length, Some, None, IfSome, Ok, Err, refl, sym, ap, ◌∙◌, subst, arith, append-nil}
+use Rattle.std.proofs.Common.{◌≡◌, ◌≢◌, ℕ, ◌<◌, Bool, true, false, [], ◌++◌, length, Some, None, IfSome, Ok, Err, refl, sym, ap, ◌∙◌, subst, arith, append-nil}
 use Rattle.stamp_types.specs.Requests.{Asked}
 use Rattle.stamp_types.specs.declared.reply.Reply.{Reply}
 use Rattle.http_front.specs.declared.counted.Input.TheVariants as inputs

@@ -1,5 +1,5 @@
 -- A connection that is left while it waits, and gone on with.
-use Rattle.std.specs.Prelude.{◌≡◌, ◌≢◌, ℕ, List, [], ◌∷◌, ◌++◌, Result, Ok, Err, IfSome}
+use Rattle.std.specs.Prelude.{◌≡◌, ◌≢◌, ℕ, List, [], ◌∷◌, Result, Ok, Err, IfSome}
 use Rattle.std.specs.Io.KnownBytes.{Appends}
 use Rattle.stamp_types.specs.Requests.{Asked}
 use Rattle.stamp_types.specs.declared.reply.Reply.{Reply}

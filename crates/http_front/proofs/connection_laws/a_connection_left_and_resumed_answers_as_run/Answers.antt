@@ -1,4 +1,4 @@
-use Rattle.std.proofs.Common.{rules, Ok, Err}
+use Rattle.std.proofs.Common.{Ok, Err}
 use Rattle.http_front.specs.declared.end.FrontFault.TheVariants.{Read}
 use Rattle.http_front.specs.declared.item.Step.TheVariants.{Waits}
 use Rattle.http_front.specs.Stages.{fresh_stage}
