@@ -1,4 +1,4 @@
--- What counts as a fault of a wire, and what a node takes (SOSP 2011, section 4.3).
+-- What a wire counts, what is a fault of it, and what a node takes (SOSP 2011, section 4.3).
 use Rattle.std.specs.Prelude.{◌≡◌, ℕ, ◌+◌, min, Bool, true, false, Option, List, []}
 use Rattle.std.specs.Option.{option_to_list}
 use Rattle.extent_node.specs.declared.wire.Delivery.{Delivery}
@@ -29,6 +29,11 @@ pub record Counts : Type 0 where
   pub one : ℕ
   pub two : ℕ
 
+-- puts and asks, each of them counted for each node
+pub record Calls : Type 0 where
+  pub puts : Counts
+  pub asks : Counts
+
 -- a call is one fault unless it ended well: a put by Done, an ask by yes
 abbrev pub fault_unless : Bool → ℕ
 fault_unless true = 0
@@ -49,3 +54,23 @@ abbrev pub CountsFault : Node → Bool → Counts → Counts → Type 0
 CountsFault node.Zero good old new = (new.zero ≡ old.zero + fault_unless good) × (new.one ≡ old.one) × (new.two ≡ old.two)
 CountsFault node.One good old new = (new.zero ≡ old.zero) × (new.one ≡ old.one + fault_unless good) × (new.two ≡ old.two)
 CountsFault node.Two good old new = (new.zero ≡ old.zero) × (new.one ≡ old.one) × (new.two ≡ old.two + fault_unless good)
+
+-- nothing is counted
+abbrev pub CountsNone : Counts → Counts → Type 0
+CountsNone old new = (new.zero ≡ old.zero) × (new.one ≡ old.one) × (new.two ≡ old.two)
+
+-- one put to the node, and no ask
+abbrev pub CountsPut : Node → Calls → Calls → Type 0
+CountsPut node old new = CountsCall node old.puts new.puts × CountsNone old.asks new.asks
+
+-- one ask of the node, and no put
+abbrev pub CountsAsk : Node → Calls → Calls → Type 0
+CountsAsk node old new = CountsNone old.puts new.puts × CountsCall node old.asks new.asks
+
+-- how one put to the node ended; no ask failed
+abbrev pub CountsPutFault : Node → Bool → Calls → Calls → Type 0
+CountsPutFault node good old new = CountsFault node good old.puts new.puts × CountsNone old.asks new.asks
+
+-- how one ask of the node ended; no put failed
+abbrev pub CountsAskFault : Node → Bool → Calls → Calls → Type 0
+CountsAskFault node good old new = CountsNone old.puts new.puts × CountsFault node good old.asks new.asks

@@ -2,11 +2,11 @@
 use Rattle.std.specs.Prelude.{◌≡◌, ◌⊎◌, ℕ, ◌+◌, Bool, true, List, [], ◌∷◌, ◌++◌, length, min}
 use Rattle.std.specs.List.{slice_get}
 use Rattle.std.specs.Option.{unwrap_or}
-use Rattle.extent_node.specs.Faults.{Counts}
+use Rattle.extent_node.specs.Faults.{Calls, Counts}
 use Rattle.extent_node.specs.declared.script.Tally.{Tally}
 use Rattle.extent_node.specs.declared.wire.Delivery.{Delivery}
 use Rattle.extent_node.specs.declared.wire.Delivery.TheVariants as delivery
-use Rattle.extent_node.specs.declared.wire.Node.{Node}
+use Rattle.extent_node.specs.declared.wire.Call.{Call}
 
 -- the three numbers of a tally
 abbrev pub counts_of : Tally → Counts
@@ -20,19 +20,23 @@ total t = t.zero + t.one + t.two
 abbrev pub no_counts : Counts
 no_counts = record { zero = 0; one = 0; two = 0 }
 
--- the lists of a script and how much of each it gave, the nodes that were called, and what it counted
+-- no put and no ask was counted
+abbrev pub no_calls : Calls
+no_calls = record { puts = no_counts; asks = no_counts }
+
+-- the lists of a script and how much of each it gave, the calls that it kept, and what it counted
 pub record Scripted : Type 0 where
   pub puts : List Delivery
   pub put_count : ℕ
   pub asks : List Bool
   pub ask_count : ℕ
-  pub called : List Node
-  pub calls : Counts
-  pub faults : Counts
+  pub called : List Call
+  pub calls : Calls
+  pub faults : Calls
 
 -- a script that gave nothing yet
 abbrev pub new_script : List Delivery → List Bool → Scripted
-new_script puts asks = record { puts = puts; put_count = 0; asks = asks; ask_count = 0; called = []; calls = no_counts; faults = no_counts }
+new_script puts asks = record { puts = puts; put_count = 0; asks = asks; ask_count = 0; called = []; calls = no_calls; faults = no_calls }
 
 -- the delivery that is next in the list, or Done after its end
 abbrev pub next_put : Scripted → Delivery
@@ -46,6 +50,6 @@ next_ask s = unwrap_or (slice_get s.asks s.ask_count) true
 abbrev pub given_more : {X : Type 0} → List X → ℕ → ℕ
 given_more xs n = min (n + 1) (length xs)
 
--- the node was called last, or memory ran out for it
-abbrev pub IsNoted : Node → List Node → List Node → Type 0
-IsNoted node old new = (new ≡ old ++ node ∷ []) ⊎ (new ≡ old)
+-- the call is the last one of the list, or memory ran out for it
+abbrev pub IsNoted : Call → List Call → List Call → Type 0
+IsNoted call old new = (new ≡ old ++ call ∷ []) ⊎ (new ≡ old)

@@ -7,4 +7,4 @@ mod wire;
 
 pub use replica::Replica;
 pub use script::Script;
-pub use wire::{Delivery, Node, Wire};
+pub use wire::{Call, Delivery, Node, Wire};

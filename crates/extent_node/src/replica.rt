@@ -26,7 +26,7 @@ impl Model for Replica {
 }
 
 impl Replica {
-    ghost use Rattle.extent_node.specs.Faults.{CountsCall, CountsFault, is_done, is_taken, held};
+    ghost use Rattle.extent_node.specs.Faults.{CountsPut, CountsPutFault, is_done, is_taken, held};
 
     /// No blocks, and room for none. Takes no memory.
     pub fn new(alloc: Global) -> Self
@@ -61,12 +61,12 @@ impl Replica {
 
     /// Puts the block to the node that this is the replica of. Room was made for it before, so the call takes no memory.
     ///
-    /// The node has the block afterwards if and only if the delivery is Done or Lost.
+    /// The node has the block afterwards if and only if the delivery is Done or Lost. No node is asked.
     pub fn put<W: Wire>(&mut self, node: Node, block: Share, wire: &mut W) -> Delivery
         requires { 0 < self.old.room }
         ensures taken { self.new.blocks ≡ self.old.blocks ++ held (is_taken result) (Some block) }
-        ensures called { CountsCall node (W.calls wire.old) (W.calls wire.new) }
-        ensures counted { CountsFault node (is_done result) (W.faults wire.old) (W.faults wire.new) }
+        ensures called { CountsPut node (W.calls wire.old) (W.calls wire.new) }
+        ensures counted { CountsPutFault node (is_done result) (W.faults wire.old) (W.faults wire.new) }
     {
         let delivery = wire.put(node);
         match delivery {

@@ -3,7 +3,7 @@ ghost use Rattle.std.specs.Prelude.{◌≡◌, ◌+◌, ◌≤◌, ◌<◌};
 ghost use Rattle.extent_node.specs.Faults.{CountsCall, CountsFault, fault_unless};
 ghost use Rattle.extent_node.specs.Scripts.{counts_of, no_counts, total};
 
-use crate::wire::{Delivery, Node, Wire};
+use crate::wire::{Call, Delivery, Node, Wire};
 use std::alloc::Global;
 use std::marker::Model;
 
@@ -67,13 +67,15 @@ pub struct Script {
     // How many puts and asks were answered from the lists.
     put_count: usize,
     ask_count: usize,
-    called: Vec<Node>,
-    calls: Tally,
-    faults: Tally,
+    called: Vec<Call>,
+    put_calls: Tally,
+    ask_calls: Tally,
+    put_faults: Tally,
+    ask_faults: Tally,
 }
 
 impl Model for Script {
-    ghost use Rattle.std.specs.Prelude.{◌≤◌, ◌+◌, length};
+    ghost use Rattle.std.specs.Prelude.{◌≤◌, length};
     ghost use Rattle.extent_node.specs.Scripts.{Scripted, counts_of, total};
 
     ghost Value = { Scripted };
@@ -84,19 +86,18 @@ impl Model for Script {
       asks = s.asks.items;
       ask_count = s.ask_count;
       called = s.called.items;
-      calls = counts_of s.calls;
-      faults = counts_of s.faults;
+      calls = record { puts = counts_of s.put_calls; asks = counts_of s.ask_calls };
+      faults = record { puts = counts_of s.put_faults; asks = counts_of s.ask_faults };
     } };
 
     // Only an answer from a list is a fault, so these numbers never overflow.
     ghost invariant = { λ s.
-        (total s.faults ≤ s.put_count + s.ask_count)
+        ((total s.put_faults ≤ s.put_count) × (total s.ask_faults ≤ s.ask_count))
         × ((s.put_count ≤ length s.puts.items) × (s.ask_count ≤ length s.asks.items)) };
 }
 
 impl Script {
     ghost use Rattle.std.specs.Prelude.{◌≡◌};
-    ghost use Rattle.extent_node.specs.Faults.{CountsCall};
     ghost use Rattle.extent_node.specs.Scripts.{IsNoted, new_script};
 
     /// A wire that gives these deliveries and these answers in turn.
@@ -109,58 +110,61 @@ impl Script {
             put_count: 0,
             ask_count: 0,
             called: Vec::new(alloc),
-            calls: Tally::new(),
-            faults: Tally::new(),
+            put_calls: Tally::new(),
+            ask_calls: Tally::new(),
+            put_faults: Tally::new(),
+            ask_faults: Tally::new(),
         }
     }
 
-    /// The nodes that were called, in the order of the calls. A call is missing if memory ran out for it.
-    pub fn called(&self) -> &[Node]
+    /// The puts and the asks, in their order. A call is missing if memory ran out for it.
+    pub fn called(&self) -> &[Call]
         ensures { result.now ≡ self.now.called }
     {
         &self.called
     }
 
-    // Counts the call, and keeps its node in the list if there is memory for it.
-    fn note(&mut self, node: Node)
-        ensures called { CountsCall node self.old.calls self.new.calls }
-        ensures noted { IsNoted node self.old.called self.new.called }
+    // Keeps the call in the list, if there is memory for it.
+    fn note(&mut self, call: Call)
+        ensures noted { IsNoted call self.old.called self.new.called }
         ensures puts { self.new.puts ≡ self.old.puts }
         ensures asks { self.new.asks ≡ self.old.asks }
         ensures put_count { self.new.put_count ≡ self.old.put_count }
         ensures ask_count { self.new.ask_count ≡ self.old.ask_count }
+        ensures calls { self.new.calls ≡ self.old.calls }
         ensures faults { self.new.faults ≡ self.old.faults }
     {
-        self.calls.add_call(node);
-        let _kept = self.called.push(node);
+        let _kept = self.called.push(call);
     }
 }
 
 impl Wire for Script {
     ghost use Rattle.std.specs.Prelude.{◌≡◌};
-    ghost use Rattle.extent_node.specs.Faults.{CountsCall, CountsFault, is_done};
+    ghost use Rattle.extent_node.specs.Faults.{CountsAsk, CountsAskFault, CountsPut, CountsPutFault, is_done};
     ghost use Rattle.extent_node.specs.Scripts.{IsNoted, given_more, next_put, next_ask};
+    ghost use Rattle.extent_node.specs.declared.wire.Call.TheVariants.{Ask, Put};
 
     ghost calls = { λ s. s.calls };
 
     ghost faults = { λ s. s.faults };
 
     fn put(&mut self, node: Node) -> Delivery
-        ensures called { CountsCall node self.old.calls self.new.calls }
-        ensures counted { CountsFault node (is_done result) self.old.faults self.new.faults }
+        ensures called { CountsPut node self.old.calls self.new.calls }
+        ensures counted { CountsPutFault node (is_done result) self.old.faults self.new.faults }
         ensures told { result ≡ next_put self.old }
         ensures given { self.new.put_count ≡ given_more self.old.puts self.old.put_count }
         ensures ask_count { self.new.ask_count ≡ self.old.ask_count }
         ensures puts { self.new.puts ≡ self.old.puts }
         ensures asks { self.new.asks ≡ self.old.asks }
-        ensures noted { IsNoted node self.old.called self.new.called }
+        ensures noted { IsNoted (Put node) self.old.called self.new.called }
     {
-        self.note(node);
+        self.note(Call::Put(node));
+        self.put_calls.add_call(node);
         match self.puts.get(self.put_count) {
             Some(delivery) => {
                 let delivery = *delivery;
                 self.put_count += 1;
-                self.faults.add_fault_unless(node, delivery.is_done());
+                self.put_faults.add_fault_unless(node, delivery.is_done());
                 delivery
             }
             None => Delivery::Done,
@@ -168,21 +172,22 @@ impl Wire for Script {
     }
 
     fn ask(&mut self, node: Node) -> bool
-        ensures called { CountsCall node self.old.calls self.new.calls }
-        ensures counted { CountsFault node result self.old.faults self.new.faults }
+        ensures called { CountsAsk node self.old.calls self.new.calls }
+        ensures counted { CountsAskFault node result self.old.faults self.new.faults }
         ensures told { result ≡ next_ask self.old }
         ensures given { self.new.ask_count ≡ given_more self.old.asks self.old.ask_count }
         ensures put_count { self.new.put_count ≡ self.old.put_count }
         ensures puts { self.new.puts ≡ self.old.puts }
         ensures asks { self.new.asks ≡ self.old.asks }
-        ensures noted { IsNoted node self.old.called self.new.called }
+        ensures noted { IsNoted (Ask node) self.old.called self.new.called }
     {
-        self.note(node);
+        self.note(Call::Ask(node));
+        self.ask_calls.add_call(node);
         match self.asks.get(self.ask_count) {
             Some(answer) => {
                 let answer = *answer;
                 self.ask_count += 1;
-                self.faults.add_fault_unless(node, answer);
+                self.ask_faults.add_fault_unless(node, answer);
                 answer
             }
             None => true,

@@ -1,4 +1,4 @@
-//! The wire to the nodes, which counts its calls and its faults.
+//! The wire to the nodes, which counts its puts, its asks and the faults of both.
 ghost use Rattle.std.specs.Prelude.{◌≡◌};
 
 /// One of the three nodes.
@@ -7,6 +7,15 @@ pub enum Node {
     Zero,
     One,
     Two,
+}
+
+/// One call of a wire.
+#[derive(Clone, Copy, Debug, PartialEq, Eq)]
+pub enum Call {
+    /// A block was put to the node.
+    Put(Node),
+    /// The node was asked.
+    Ask(Node),
 }
 
 /// What became of a block that was put to a node.
@@ -43,21 +52,21 @@ impl Delivery {
 /// A wire may give any delivery and any answer at each call, since no clause says which of them it gives. So what is proved over a
 /// wire is proved for every delivery.
 pub trait Wire {
-    ghost use Rattle.extent_node.specs.Faults.{Counts, CountsCall, CountsFault, is_done};
+    ghost use Rattle.extent_node.specs.Faults.{Calls, CountsAsk, CountsAskFault, CountsPut, CountsPutFault, is_done};
 
-    /// How often each node was called so far, up to 2^128 - 1.
-    ghost calls: { Self → Counts };
+    /// How often a block was put to each node so far, and how often each node was asked: both up to 2^128 - 1.
+    ghost calls: { Self → Calls };
 
-    /// How many calls of each node failed so far: puts that were not Done, and asks that were answered no.
-    ghost faults: { Self → Counts };
+    /// How many puts to each node were not Done so far, and how many asks of each node were answered no.
+    ghost faults: { Self → Calls };
 
     /// Puts a block to the node.
     fn put(&mut self, node: Node) -> Delivery
-        ensures called { CountsCall node (calls self.old) (calls self.new) }
-        ensures counted { CountsFault node (is_done result) (faults self.old) (faults self.new) };
+        ensures called { CountsPut node (calls self.old) (calls self.new) }
+        ensures counted { CountsPutFault node (is_done result) (faults self.old) (faults self.new) };
 
     /// Asks whether the node can be reached.
     fn ask(&mut self, node: Node) -> bool
-        ensures called { CountsCall node (calls self.old) (calls self.new) }
-        ensures counted { CountsFault node result (faults self.old) (faults self.new) };
+        ensures called { CountsAsk node (calls self.old) (calls self.new) }
+        ensures counted { CountsAskFault node result (faults self.old) (faults self.new) };
 }

@@ -1,5 +1,5 @@
 -- Extents: what is seen of them, and what each replica of them has (SOSP 2011, sections 4.1 and 4.3).
-use Rattle.std.specs.Prelude.{ℕ, min, Bool, Option, Some, None, List, [], ◌++◌}
+use Rattle.std.specs.Prelude.{ℕ, min, Bool, true, Option, Some, None, List, [], ◌++◌}
 use Rattle.extent_node.specs.Copies.{Block, Copy}
 use Rattle.extent_node.specs.Faults.{held}
 use Rattle.extent_node.specs.declared.wire.Node.{Node}
@@ -10,6 +10,10 @@ pub record Three : Type 0 where
   pub zero : Bool
   pub one : Bool
   pub two : Bool
+
+-- yes, of each node
+abbrev pub all_three : Three
+all_three = record { zero = true; one = true; two = true }
 
 abbrev pub answer_of : Three → Node → Bool
 answer_of a node.Zero = a.zero

@@ -79,14 +79,15 @@ fn reserve(zero: &mut Replica, one: &mut Replica, two: &mut Replica) -> Result<(
 }
 
 impl OpenExtent {
-    ghost use Rattle.std.specs.Prelude.{◌≡◌, ◌<◌, [], Some, None, Err, length, OnOk, OnErr, IfOk, IfErr};
+    ghost use Rattle.std.specs.Prelude.{◌≡◌, ◌≢◌, ◌<◌, [], Some, None, Err, length, OnOk, OnErr, IfOk, IfErr};
     ghost use Rattle.std.specs.Option.{is_some};
     ghost use Rattle.std.specs.List.{slice_get};
     ghost use Rattle.extent_seal.specs.declared.sealed.ReadFault.TheVariants.{Unreachable};
-    ghost use Rattle.extent_seal.specs.Extents.{replica, answer_of};
+    ghost use Rattle.extent_node.specs.Faults.{CountsNone};
+    ghost use Rattle.extent_seal.specs.Extents.{all_three, answer_of, replica};
     ghost use Rattle.extent_seal.specs.Seals.{Seals, IsCommitted};
     ghost use Rattle.extent_seal.specs.Appends.{IsAppended};
-    ghost use Rattle.extent_seal.specs.Counting.{CallsEach, CountsAppend, FailsUnless, FailsEach};
+    ghost use Rattle.extent_seal.specs.Counting.{AsksEach, CountsAppend, FailsEach, FailsUnless, PutsEach, SomeAnswers};
 
     /// An extent without blocks, and with room for none. Takes no memory.
     pub fn new(alloc: Global) -> Self
@@ -126,7 +127,7 @@ impl OpenExtent {
     pub fn append<W: Wire>(&mut self, block: &Share, wire: &mut W) -> Result<Appended, AllocError>
         requires { self.old.extent.tried ≡ None }
         ensures appended { IfOk result (λ a. IsAppended a self.old.extent block.now self.new.extent) }
-        ensures called { IfOk result (λ a. CallsEach (W.calls wire.old) (W.calls wire.new)) }
+        ensures called { IfOk result (λ a. PutsEach (W.calls wire.old) (W.calls wire.new)) }
         ensures counted { IfOk result (λ a. CountsAppend a self.new.extent.took (W.faults wire.old) (W.faults wire.new)) }
         ensures refused { OnErr result (self.new ≡ self.old) }
         ensures unheard { OnErr result (wire.new ≡ wire.old) }
@@ -143,7 +144,7 @@ impl OpenExtent {
         requires clear { self.old.extent.tried ≡ None }
         requires room { 0 < self.old.room }
         ensures appended { IsAppended result self.old.extent block self.new.extent }
-        ensures called { CallsEach (W.calls wire.old) (W.calls wire.new) }
+        ensures called { PutsEach (W.calls wire.old) (W.calls wire.new) }
         ensures counted { CountsAppend result self.new.extent.took (W.faults wire.old) (W.faults wire.new) }
     {
         let zero = self.zero.put(Node::Zero, block.zero, wire);
@@ -166,7 +167,7 @@ impl OpenExtent {
     pub fn seal<W: Wire>(self, wire: &mut W) -> Result<Sealed, (Self, NoReplica)>
         ensures sealed { IfOk result (λ s. Seals self.extent s) }
         ensures committed { IfOk result (λ s. IsCommitted self.extent s.blocks) }
-        ensures called { CallsEach (W.calls wire.old) (W.calls wire.new) }
+        ensures called { AsksEach (W.calls wire.old) (W.calls wire.new) }
         ensures counted { IfOk result (λ s. FailsUnless s.kept (W.faults wire.old) (W.faults wire.new)) }
         ensures same { IfErr result (λ e. e.0 ≡ self) }
         ensures unanswered { IfErr result (λ e. FailsEach (W.faults wire.old) (W.faults wire.new)) }
@@ -205,8 +206,10 @@ impl OpenExtent {
     pub fn read<W: Wire>(&self, index: usize, wire: &mut W) -> Result<Share, ReadFault>
         requires { index < length self.now.extent.blocks }
         ensures read { IfOk result (λ b. slice_get self.now.extent.blocks index ≡ Some b) }
-        ensures called { result ≡ Err Unreachable → CallsEach (W.calls wire.old) (W.calls wire.new) }
+        ensures called { result ≡ Err Unreachable → AsksEach (W.calls wire.old) (W.calls wire.new) }
         ensures unreachable { result ≡ Err Unreachable → FailsEach (W.faults wire.old) (W.faults wire.new) }
+        ensures answered { result ≢ Err Unreachable → SomeAnswers all_three (W.calls wire.old) (W.calls wire.new) (W.faults wire.old) (W.faults wire.new) }
+        ensures unput { CountsNone (W.calls wire.old).puts (W.calls wire.new).puts }
     {
         if wire.ask(Node::Zero) {
             return shared(self.zero.block(index));

@@ -2,8 +2,8 @@
 ghost use Rattle.std.specs.Prelude.{◌≡◌, ◌≢◌, ◌||◌, ◌<◌, not, Some, Err, length, IfOk, IsSome, IfSome};
 ghost use Rattle.std.specs.List.{slice_get};
 ghost use Rattle.std.specs.Option.{is_some};
-ghost use Rattle.extent_node.specs.Faults.{CountsFault};
-ghost use Rattle.extent_seal.specs.Counting.{CallsIf};
+ghost use Rattle.extent_node.specs.Faults.{CountsAskFault};
+ghost use Rattle.extent_seal.specs.Counting.{AsksIf};
 ghost use Rattle.extent_seal.specs.declared.sealed.ReadFault.TheVariants.{Unreachable};
 
 use extent_node::{Node, Replica, Wire};
@@ -58,8 +58,8 @@ fn asked<'a, W: Wire>(
     requires { IfSome replica.now (λ r. index < length r.blocks) }
     ensures block { IfSome result (λ b. IfSome replica.now (λ r. slice_get r.blocks index ≡ Some b.now)) }
     ensures there { IsSome result → IsSome replica.now }
-    ensures called { CallsIf node (is_some replica.now) (W.calls wire.old) (W.calls wire.new) }
-    ensures counted { CountsFault node (is_some result || not (is_some replica.now)) (W.faults wire.old) (W.faults wire.new) }
+    ensures called { AsksIf node (is_some replica.now) (W.calls wire.old) (W.calls wire.new) }
+    ensures counted { CountsAskFault node (is_some result || not (is_some replica.now)) (W.faults wire.old) (W.faults wire.new) }
 {
     match replica {
         None => None,
@@ -82,10 +82,10 @@ pub(crate) fn shared(block: &Share) -> Result<Share, ReadFault>
 }
 
 impl Sealed {
-    ghost use Rattle.std.specs.Prelude.{◌≡◌, ◌<◌, Some, Err, length, IfOk, IfSome};
+    ghost use Rattle.std.specs.Prelude.{◌≡◌, ◌≢◌, ◌<◌, Some, Err, length, IfOk, IfSome};
     ghost use Rattle.std.specs.List.{slice_get};
     ghost use Rattle.std.specs.Option.{is_some};
-    ghost use Rattle.extent_seal.specs.Counting.{CallsCopies, CallsNoOther, FailsCopies, all_faults};
+    ghost use Rattle.extent_seal.specs.Counting.{AsksCopies, AsksNoOther, FailsCopies, SomeAnswers, all_faults};
     ghost use Rattle.extent_seal.specs.Extents.{answer_of};
     ghost use Rattle.extent_seal.specs.declared.sealed.ReadFault.TheVariants.{Unreachable};
 
@@ -108,10 +108,11 @@ impl Sealed {
     pub fn read<W: Wire>(&self, index: usize, wire: &mut W) -> Result<Share, ReadFault>
         requires { index < length self.now.blocks }
         ensures read { IfOk result (λ b. slice_get self.now.blocks index ≡ Some b) }
-        ensures called { result ≡ Err Unreachable → CallsCopies self.now.kept (W.calls wire.old) (W.calls wire.new) }
+        ensures called { result ≡ Err Unreachable → AsksCopies self.now.kept (W.calls wire.old) (W.calls wire.new) }
         ensures unreachable { result ≡ Err Unreachable → FailsCopies self.now.kept (W.faults wire.old) (W.faults wire.new) }
         ensures faulty { result ≡ Err Unreachable → all_faults (W.faults wire.old) < all_faults (W.faults wire.new) }
-        ensures discarded { CallsNoOther self.now.kept (W.calls wire.old) (W.calls wire.new) }
+        ensures answered { result ≢ Err Unreachable → SomeAnswers self.now.kept (W.calls wire.old) (W.calls wire.new) (W.faults wire.old) (W.faults wire.new) }
+        ensures discarded { AsksNoOther self.now.kept (W.calls wire.old) (W.calls wire.new) }
     {
         if let Some(block) = asked(&self.zero, Node::Zero, index, wire) {
             return shared(block);

@@ -7,9 +7,14 @@ use Rattle.std.proofs.lemmas.List.Elements.{All-nil, All-push}
 use Rattle.extent_node.specs.Copies.{Block}
 use Rattle.stamp_types.specs.Pieces.{cut, cut_at_most, piece_len, piece_bytes, held, is_held, is_held_piece, is_piece, is_pieces}
 use Rattle.stamp_types.specs.declared.piece.Piece.{Piece}
-use Rattle.stream_manager.specs.Places.{KeepsPlaces}
-use Rattle.partition_stream.specs.Contents.{ArePlaced, IsPlaced, IsStored, bytes_at}
+use Rattle.stamp_values.specs.declared.place.Place.{Place}
+use Rattle.stream_manager.specs.Places.{IsLastAt, KeepsPlaces}
+use Rattle.partition_stream.specs.Contents.{ArePlaced, EndsWithBlock, IsPlaced, IsStored, bytes_at}
 use Rattle.partition_stream.proofs.ContentLemmas.{content_stays, content_reads}
+
+-- a block that was appended is in one of the last two extents
+pub ends_here : (es : List (List Block)) (p : Place) (b : Block) → IsLastAt es p b → EndsWithBlock es
+ends_here es p b last = record { place = p; block = b; here = last.here; near = last.near }
 
 -- no piece is placed yet
 pub none_placed : (es : List (List Block)) → ArePlaced es [] []

@@ -1,10 +1,11 @@
 //! Content that is put into a stream of data, piece by piece.
-ghost use Rattle.std.specs.Prelude.{◌≡◌, ◌≤◌, IfOk, IsTrue, Some, length};
+ghost use Rattle.std.specs.Prelude.{◌≡◌, ◌≤◌, ◌⊎◌, Err, IfOk, IsTrue, Some, length};
 ghost use Rattle.stamp_types.specs.Pieces.{is_held, is_held_piece, is_pieces, piece_len};
 ghost use Rattle.stream_manager.specs.Places.{KeepsPlaces, block_at};
 ghost use Rattle.stream_manager.specs.Streams.{laid};
-ghost use Rattle.partition_stream.specs.Contents.{ArePlaced, IsPlaced};
+ghost use Rattle.partition_stream.specs.Contents.{ArePlaced, EndsWithBlock, IsPlaced};
 ghost use Rattle.partition_stream.specs.Counting.{CallsPut, FailsPut};
+ghost use Rattle.partition_stream.specs.declared.faults.PutFault.TheVariants.{NoMemory};
 
 use crate::faults::PutFault;
 use extent_node::Wire;
@@ -14,6 +15,7 @@ use std::alloc::Global;
 use stream_manager::{AppendFault, Stream};
 
 // Puts bytes into the data, as one block.
+#[tactic(auto, using(crate::proofs::CallLemmas::busy_faults, crate::proofs::DataLemmas::ends_here))]
 fn put_bytes<W: Wire>(blobs: &mut Stream, bytes: &Share, wire: &mut W) -> Result<Place, PutFault>
     requires { length bytes.now ≤ 4_194_304 }
     ensures placed { IfOk result (λ p. block_at (laid blobs.new) p ≡ Some bytes.now) }
@@ -21,6 +23,9 @@ fn put_bytes<W: Wire>(blobs: &mut Stream, bytes: &Share, wire: &mut W) -> Result
     ensures limit { blobs.new.limit ≡ blobs.old.limit }
     ensures called { CallsPut result 1 (length blobs.old.sealed) (length blobs.new.sealed) (W.calls wire.old) (W.calls wire.new) }
     ensures counted { FailsPut result (W.faults wire.old) (W.faults wire.new) }
+    ensures ends { IfOk result (λ p. EndsWithBlock (laid blobs.new)) }
+    ensures unchanged { result ≡ Err NoMemory → blobs.new ≡ blobs.old }
+    ensures unheard { result ≡ Err NoMemory → wire.new ≡ wire.old }
 {
     match blobs.append(bytes, wire) {
         Ok(place) => Ok(place),
@@ -40,6 +45,9 @@ fn put_piece<W: Wire>(blobs: &mut Stream, piece: &Piece, wire: &mut W) -> Result
     ensures limit { blobs.new.limit ≡ blobs.old.limit }
     ensures called { CallsPut result 1 (length blobs.old.sealed) (length blobs.new.sealed) (W.calls wire.old) (W.calls wire.new) }
     ensures counted { FailsPut result (W.faults wire.old) (W.faults wire.new) }
+    ensures ends { IfOk result (λ p. EndsWithBlock (laid blobs.new)) }
+    ensures unchanged { result ≡ Err NoMemory → blobs.new ≡ blobs.old }
+    ensures unheard { result ≡ Err NoMemory → wire.new ≡ wire.old }
 {
     match piece {
         Piece::Bytes(bytes) => {
@@ -67,6 +75,7 @@ fn put_pieces<W: Wire>(
     ensures limit { blobs.new.limit ≡ blobs.old.limit }
     ensures called { CallsPut result (length pieces.now) (length blobs.old.sealed) (length blobs.new.sealed) (W.calls wire.old) (W.calls wire.new) }
     ensures counted { FailsPut result (W.faults wire.old) (W.faults wire.new) }
+    ensures spent { result ≡ Err NoMemory → ((blobs.new ≡ blobs.old) × (wire.new ≡ wire.old)) ⊎ EndsWithBlock (laid blobs.new) }
 {
     let mut placed = Vec::with_capacity(alloc, pieces.len())?;
     for piece in pieces {
@@ -89,6 +98,7 @@ pub(crate) fn put_content<W: Wire>(
     ensures limit { blobs.new.limit ≡ blobs.old.limit }
     ensures called { CallsPut result (length content.now) (length blobs.old.sealed) (length blobs.new.sealed) (W.calls wire.old) (W.calls wire.new) }
     ensures counted { FailsPut result (W.faults wire.old) (W.faults wire.new) }
+    ensures spent { result ≡ Err NoMemory → ((blobs.new ≡ blobs.old) × (wire.new ≡ wire.old)) ⊎ EndsWithBlock (laid blobs.new) }
 {
     let placed = put_pieces(alloc, blobs, content.as_slice(), wire)?;
     match Pieces::new(placed) {

@@ -40,7 +40,7 @@ pub(crate) fn append_record<W: Wire>(
     ensures appended { IsRecordAppended result log.old block.now log.new }
     ensures limit { log.new.limit ≡ log.old.limit }
     ensures called { CallsLog result (length log.old.sealed) (length log.new.sealed) (W.calls wire.old) (W.calls wire.new) }
-    ensures counted { FailsLog result (W.faults wire.old) (W.faults wire.new) }
+    ensures counted { FailsLog result (length log.old.sealed) (length log.new.sealed) (W.faults wire.old) (W.faults wire.new) }
     ensures unheard { (result ≡ Err NoMemory) → wire.new ≡ wire.old }
 {
     match log.append(block, wire) {

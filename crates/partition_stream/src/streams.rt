@@ -37,20 +37,21 @@ impl Model for Streams {
 }
 
 impl Streams {
-    ghost use Rattle.std.specs.Prelude.{◌≡◌, ◌≤◌, ◌<◌, ◌+◌, ◌++◌, ◌∷◌, ⊤, [], true, false, None, Err, IfOk, OnOk, OnErr, IsTrue, MatchOption, length, slice_range};
-    ghost use Rattle.extent_seal.specs.Counting.{all_faults};
+    ghost use Rattle.std.specs.Prelude.{◌≡◌, ◌≢◌, ◌≤◌, ◌<◌, ◌⊎◌, ◌+◌, ◌++◌, ◌∷◌, ⊤, [], true, false, None, Err, IfOk, OnOk, OnErr, IsTrue, MatchOption, length, slice_range};
+    ghost use Rattle.extent_seal.specs.Counting.{AsksNoOther, SomeAnswers, all_faults};
     ghost use Rattle.extent_seal.specs.declared.sealed.ReadFault.TheVariants.{Unreachable};
     ghost use Rattle.stamp_types.specs.Pieces.{is_held, piece_len};
-    ghost use Rattle.stream_manager.specs.Counting.{CallsSettle, FailsSettle};
+    ghost use Rattle.stream_manager.specs.Counting.{CallsSettle, FailsSettle, kept_in};
     ghost use Rattle.stream_manager.specs.Places.{KeepsPlaces};
     ghost use Rattle.stream_manager.specs.Streams.{laid};
-    ghost use Rattle.partition_stream.specs.Contents.{ArePlaced, IsStored, bytes_at};
+    ghost use Rattle.partition_stream.specs.Contents.{ArePlaced, EndsWithBlock, IsStored, bytes_at, extent_of};
     ghost use Rattle.partition_stream.specs.Counting.{CallsLog, CallsPut, CallsSeals, FailsLog, FailsPut, FailsSeals, sealed_extents};
     ghost use Rattle.partition_stream.specs.Outcomes.{IsKeptAt, IsLogged, IsLogSettled, IsLogSealed};
     ghost use Rattle.partition_stream.specs.Positions.{all_changes, changes_before};
     ghost use Rattle.partition_stream.specs.Storing.{IsStoredChange};
     ghost use Rattle.partition_stream.specs.Streams.{AreSealed, HaveSameBlocks, HaveSameLimits, IsEmptyLast, logged};
     ghost use Rattle.partition_stream.specs.declared.faults.LogFault.TheVariants.{NoMemory};
+    ghost use Rattle.partition_stream.specs.declared.faults.PutFault.TheVariants as put_fault;
 
     /// Streams without a change and without data, whose extents of two or more blocks have at most `extent_bytes` bytes. Takes no memory.
     pub fn new(alloc: Global, extent_bytes: u32) -> Self
@@ -73,7 +74,8 @@ impl Streams {
 
     /// Puts content into the data, a block for each piece, and answers the pieces that say where these blocks are. No byte is copied.
     ///
-    /// After a fault blocks may be left in the data to which nothing refers.
+    /// After a fault blocks may be left in the data to which nothing refers. NoMemory: memory ran out before a node was called for a
+    /// block. No block before it was excluded twice, and no seal failed.
     pub fn put_data<W: Wire>(&mut self, content: &Pieces, wire: &mut W) -> Result<Pieces, PutFault>
         requires { IsTrue (is_held content.now) }
         ensures placed { IfOk result (λ ps. ArePlaced (laid self.new.blobs) content.now ps) }
@@ -83,6 +85,7 @@ impl Streams {
         ensures limit { self.new.blobs.limit ≡ self.old.blobs.limit }
         ensures called { CallsPut result (length content.now) (length self.old.blobs.sealed) (length self.new.blobs.sealed) (W.calls wire.old) (W.calls wire.new) }
         ensures counted { FailsPut result (W.faults wire.old) (W.faults wire.new) }
+        ensures spent { result ≡ Err put_fault.NoMemory → ((self.new.blobs ≡ self.old.blobs) × (wire.new ≡ wire.old)) ⊎ EndsWithBlock (laid self.new.blobs) }
     {
         put_content(self.alloc, &mut self.blobs, content, wire)
     }
@@ -102,7 +105,7 @@ impl Streams {
         ensures rows { self.new.rows ≡ self.old.rows }
         ensures limit { self.new.log.limit ≡ self.old.log.limit }
         ensures called { CallsLog result (length self.old.log.sealed) (length self.new.log.sealed) (W.calls wire.old) (W.calls wire.new) }
-        ensures counted { FailsLog result (W.faults wire.old) (W.faults wire.new) }
+        ensures counted { FailsLog result (length self.old.log.sealed) (length self.new.log.sealed) (W.faults wire.old) (W.faults wire.new) }
         ensures unheard { result ≡ Err NoMemory → wire.new ≡ wire.old }
     {
         let block = record_of(self.alloc, change, epoch)?;
@@ -223,6 +226,8 @@ impl Streams {
         requires within { end ≤ piece_len piece.now }
         ensures read { IfOk result (λ s. s ≡ slice_range (bytes_at (laid self.now.blobs) piece.now) start end) }
         ensures unreachable { result ≡ Err Unreachable → all_faults (W.faults wire.old) < all_faults (W.faults wire.new) }
+        ensures answered { result ≢ Err Unreachable → SomeAnswers (kept_in self.now.blobs.sealed (extent_of piece.now)) (W.calls wire.old) (W.calls wire.new) (W.faults wire.old) (W.faults wire.new) }
+        ensures discarded { AsksNoOther (kept_in self.now.blobs.sealed (extent_of piece.now)) (W.calls wire.old) (W.calls wire.new) }
     {
         match piece {
             Piece::At { place, .. } => {

@@ -1,5 +1,5 @@
 -- An append after a settle.
-use Rattle.std.proofs.Common.{◌≡◌, ◌∙◌, inl, ℕ, Bool, true, false, Option, Some, None, ◌∷◌, ◌++◌, length, map, sym, ap, refl, arith, Result, Ok, Err, List, [], append-nil, subst}
+use Rattle.std.proofs.Common.{◌≡◌, ◌≤◌, ◌+◌, ◌∙◌, inl, inr, ℕ, Bool, true, false, Option, Some, None, ◌∷◌, ◌++◌, length, map, sym, ap, refl, arith, Result, Ok, Err, List, [], append-nil, subst}
 use Rattle.std.specs.Option.{is_some}
 use Rattle.stamp_values.specs.declared.place.Place.{Place}
 use Rattle.extent_node.specs.Copies.{Block}
@@ -7,8 +7,8 @@ use Rattle.extent_node.specs.Faults.{held}
 use Rattle.extent_seal.specs.Extents.{Open, Closed}
 use Rattle.stream_manager.specs.Extents.{closed_blocks, extents}
 use Rattle.stream_manager.specs.Places.{Follows, IsLastAt, Decides, is_kept}
-use Rattle.extent_node.specs.Faults.{Counts}
-use Rattle.stream_manager.specs.Counting.{Grows, FailsAppend}
+use Rattle.extent_node.specs.Faults.{Calls, Counts, CountsNone, one_more}
+use Rattle.stream_manager.specs.Counting.{AsksAtMost, CallsAppend, FailsAppend, Grows, GrowsEach, PutsOnceOrTwice, PutsTwice}
 use Rattle.stream_manager.specs.Outcomes.{IsPut, IsAppend}
 use Rattle.stream_manager.specs.declared.faults.AppendFault.{AppendFault}
 use Rattle.stream_manager.specs.declared.faults.AppendFault.TheVariants as fault
@@ -58,11 +58,48 @@ short_kept sealed old mid fs block p kept n t k f a e i =
     let g : Follows (extents sealed old) (held kept mid.tried) fs = subst (λ bs. Follows (map closed_blocks sealed ++ bs ∷ []) (held kept mid.tried) fs) n f in
     (subst (λ l. Follows (extents sealed old) l fs) h g, a block p h e (i ∙ sym (ap length n)))
 
+-- numbers that grow twice
+grown_each : (a b c : Counts) → GrowsEach a b → GrowsEach b c → GrowsEach a c
+grown_each a b c g f = (omega (arith, g, f), omega (arith, g, f), omega (arith, g, f))
+
+grown_twice : (a b c : Calls) → Grows a b → Grows b c → Grows a c
+grown_twice a b c g f = (grown_each a.puts b.puts c.puts g.0 f.0, grown_each a.asks b.asks c.asks g.1 f.1)
+
 -- the faults of a put after those of a settle
-pub fails_after : (r : Result Place AppendFault) (mid fs : List (List Block)) (new : Open) (block : Block) (a b c : Counts)
-    → Grows a b → IsPut r mid block fs new → FailsAppend r b c → FailsAppend r a c
-fails_after (Ok p) mid fs new block a b c g i f = (omega (arith, g, f), omega (arith, g, f), omega (arith, g, f))
-fails_after (Err fault.Doubt) mid fs new block a b c g i f = (omega (arith, g, f), (omega (arith, g, f), omega (arith, g, f), omega (arith, g, f)))
-fails_after (Err fault.Busy) mid fs new block a b c g i f = (omega (arith, g, f), (omega (arith, g, f), omega (arith, g, f), omega (arith, g, f)))
-fails_after (Err fault.NoMemory) mid fs new block a b c g i f = absurd i
-fails_after (Err fault.TooLarge) mid fs new block a b c g i f = absurd i
+pub fails_after : (r : Result Place AppendFault) (mid fs : List (List Block)) (new : Open) (block : Block) (before m after : ℕ) (a b c : Calls)
+    → before ≤ m → (r ≡ Err fault.Busy → after ≡ m + 2) → Grows a b → IsPut r mid block fs new → FailsAppend r m after b c → FailsAppend r before after a c
+fails_after (Ok p) mid fs new block before m after a b c l t g i f = grown_twice a b c g f
+fails_after (Err fault.Doubt) mid fs new block before m after a b c l t g i f = (omega (arith, g, f), (grown_each a.puts b.puts c.puts g.0 f.1.0, omega (arith, g, f), omega (arith, g, f), omega (arith, g, f)))
+fails_after (Err fault.Busy) mid fs new block before m after a b c l t g i (inl f) = let e = t refl in let s = f.0 in absurd (omega (arith, e, s))
+fails_after (Err fault.Busy) mid fs new block before m after a b c l t g i (inr f) = inr (let e = t refl in omega (arith, e, l), (omega (arith, g, f), grown_twice a b c g f.1.1))
+fails_after (Err fault.NoMemory) mid fs new block before m after a b c l t g i f = absurd i
+fails_after (Err fault.TooLarge) mid fs new block before m after a b c l t g i f = absurd i
+
+-- two puts to each node, of which none came before
+twice_after : (a b c : Counts) → CountsNone a b → PutsTwice b c → PutsTwice a c
+twice_after a b c n p = (
+  p.0 ∙ ap (λ k. one_more (one_more k)) n.0,
+  p.1 ∙ ap (λ k. one_more (one_more k)) n.1,
+  p.2 ∙ ap (λ k. one_more (one_more k)) n.2,
+)
+
+-- the puts of an append, of which none came before
+puts_after : (before m after : ℕ) (a b c : Counts) → before ≤ m → CountsNone a b → PutsOnceOrTwice m after b c → PutsOnceOrTwice before after a c
+puts_after before m after a b c l n (inl p) = inl (p.0 ∙ ap one_more n.0, p.1 ∙ ap one_more n.1, p.2 ∙ ap one_more n.2)
+puts_after before m after a b c l n (inr p) = inr (let s = p.0 in omega (arith, s, l), twice_after a b c n p.1)
+
+-- the asks of an append, after those of a settle
+asks_after : (k before m after : ℕ) (a b c : Counts) → AsksAtMost 0 before m a b → AsksAtMost k m after b c → AsksAtMost k before after a c
+asks_after k before m after a b c h f = (omega (arith, h, f), omega (arith, h, f), omega (arith, h, f))
+
+-- the calls of a put after those of a settle
+pub calls_after : (r : Result Place AppendFault) (mid fs : List (List Block)) (new : Open) (block : Block) (before m after : ℕ) (a b c : Calls)
+    → before ≤ m → (r ≡ Err fault.Busy → after ≡ m + 2) → CountsNone a.puts b.puts → AsksAtMost 0 before m a.asks b.asks
+    → IsPut r mid block fs new → CallsAppend r m after b c → CallsAppend r before after a c
+calls_after (Ok p) mid fs new block before m after a b c l t n h i f = (puts_after before m after a.puts b.puts c.puts l n f.0, asks_after 0 before m after a.asks b.asks c.asks h f.1)
+calls_after (Err fault.Doubt) mid fs new block before m after a b c l t n h i f = (puts_after before m after a.puts b.puts c.puts l n f.0, asks_after 1 before m after a.asks b.asks c.asks h f.1)
+calls_after (Err fault.Busy) mid fs new block before m after a b c l t n h i (inl f) = let e = t refl in let s = f.0 in absurd (omega (arith, e, s))
+calls_after (Err fault.Busy) mid fs new block before m after a b c l t n h i (inr f) =
+    inr (let e = t refl in omega (arith, e, l), twice_after a.puts b.puts c.puts n f.1, asks_after 0 before m after a.asks b.asks c.asks h f.2)
+calls_after (Err fault.NoMemory) mid fs new block before m after a b c l t n h i f = absurd i
+calls_after (Err fault.TooLarge) mid fs new block before m after a b c l t n h i f = absurd i

@@ -1,7 +1,7 @@
 -- The parts of a stream after its last extent is sealed, or after no node answered.
 use Rattle.std.proofs.Common.{◌≡◌, Bool, true, None, Result, Ok, Err, IfOk, OnErr, [], ◌∷◌, ◌++◌, length, map}
 use Rattle.std.specs.Option.{is_some}
-use Rattle.extent_node.specs.Faults.{Counts, held}
+use Rattle.extent_node.specs.Faults.{Calls, held}
 use Rattle.stream_manager.specs.Extents.{closed_blocks}
 use Rattle.stream_manager.specs.Parts.{EndsDoubt, IsUnanswered, IsWhole, SealsLast, StaysWhole, extents_of}
 use Rattle.stream_manager.specs.Places.{Decides, Follows}
@@ -10,19 +10,19 @@ use Rattle.stream_manager.proofs.PlaceLemmas.{close_follows, close_decides}
 use Rattle.stream_manager.proofs.SizeLemmas.{close_sized, close_counted}
 
 -- what is known after the seal, part by part
-pub last_blocks : {E : Type 0} (r : Result Bool E) (p q : Parts) (from to : Counts) → IfOk r (λ kept. SealsLast p q from to) → IfOk r (λ kept. q.last.extent.blocks ≡ [])
+pub last_blocks : {E : Type 0} (r : Result Bool E) (p q : Parts) (from to : Calls) → IfOk r (λ kept. SealsLast p q from to) → IfOk r (λ kept. q.last.extent.blocks ≡ [])
 last_blocks (Ok kept) p q from to n = n.blocks
 last_blocks (Err e) p q from to n = tt
 
-last_tried : {E : Type 0} (r : Result Bool E) (p q : Parts) (from to : Counts) → IfOk r (λ kept. SealsLast p q from to) → IfOk r (λ kept. q.last.extent.tried ≡ None)
+last_tried : {E : Type 0} (r : Result Bool E) (p q : Parts) (from to : Calls) → IfOk r (λ kept. SealsLast p q from to) → IfOk r (λ kept. q.last.extent.tried ≡ None)
 last_tried (Ok kept) p q from to n = n.tried
 last_tried (Err e) p q from to n = tt
 
-same_sealed : {E : Type 0} (r : Result Bool E) (p q : Parts) (from to : Counts) → OnErr r (IsUnanswered p q from to) → OnErr r (q.sealed.items ≡ p.sealed.items)
+same_sealed : {E : Type 0} (r : Result Bool E) (p q : Parts) (from to : Calls) → OnErr r (IsUnanswered p q from to) → OnErr r (q.sealed.items ≡ p.sealed.items)
 same_sealed (Ok kept) p q from to u = tt
 same_sealed (Err e) p q from to u = u.unsealed.same_sealed
 
-same_last : {E : Type 0} (r : Result Bool E) (p q : Parts) (from to : Counts) → OnErr r (IsUnanswered p q from to) → OnErr r (q.last.extent ≡ p.last.extent)
+same_last : {E : Type 0} (r : Result Bool E) (p q : Parts) (from to : Calls) → OnErr r (IsUnanswered p q from to) → OnErr r (q.last.extent ≡ p.last.extent)
 same_last (Ok kept) p q from to u = tt
 same_last (Err e) p q from to u = u.unsealed.same_last
 
@@ -41,7 +41,7 @@ close_ends r p q moved blocks =
     (close_decides r p.sealed.items (map closed_blocks q.sealed.items) p.last.extent q.last.extent moved)
 
 -- whole parts are whole after it
-pub close_whole : {E : Type 0} (r : Result Bool E) (p q : Parts) (from to : Counts)
+pub close_whole : {E : Type 0} (r : Result Bool E) (p q : Parts) (from to : Calls)
     → IfOk r (λ kept. map closed_blocks q.sealed.items ≡ map closed_blocks p.sealed.items ++ (p.last.extent.blocks ++ held kept p.last.extent.tried) ∷ [])
     → IfOk r (λ kept. SealsLast p q from to) → OnErr r (IsUnanswered p q from to) → IfOk r (λ kept. q.bytes ≡ 0) → OnErr r (q.bytes ≡ p.bytes)
     → q.limit ≡ p.limit → IsWhole p → StaysWhole p q

@@ -94,12 +94,20 @@ none_after (x ∷ front) last b rest n (suc e) i c h = elim (none_after front la
   | inr k ↦ inr (omega arith, k.1)
 ]
 
+-- at most one extent comes after it
+near_end : (front : List (List Block)) (last : List Block) (rest : List (List Block)) → (rest ≡ []) ⊎ (rest ≡ [] ∷ [])
+    → length (front ++ last ∷ rest) ≤ length front + 2
+near_end [] last rest (inl n) = rw n (omega arith)
+near_end [] last rest (inr n) = rw n (omega arith)
+near_end (x ∷ front) last rest n = let h = near_end front last rest n in omega arith
+
 -- the place of the next block is the last one, if the extents after it have no block
 pub last_at : (front : List (List Block)) (last : List Block) (b : Block) (rest : List (List Block)) (p : Place) → (rest ≡ []) ⊎ (rest ≡ [] ∷ [])
     → p.extent ≡ length front → p.index ≡ length last → IsLastAt (front ++ (last ++ b ∷ []) ∷ rest) p b
 last_at front last b rest p n e i = record {
   here = next_at front last b [] rest p e i;
   last = λ q c h. rw (e, i) (none_after front last b rest n q.extent q.index c h);
+  near = rw e (near_end front (last ++ b ∷ []) rest n);
 }
 
 -- nothing is added

@@ -3,9 +3,9 @@ use Rattle.std.specs.Prelude.{◌≡◌, ◌≤◌, ◌<◌, ◌+◌, Bool, true
 use Rattle.std.specs.Option.{is_some}
 use Rattle.std.specs.Vec.{vec_len, vec_capacity}
 use Rattle.extent_node.specs.Copies.{Block}
-use Rattle.extent_node.specs.Faults.{Counts, held}
+use Rattle.extent_node.specs.Faults.{Calls, held}
 use Rattle.extent_seal.specs.Counting.{FailsEach}
-use Rattle.stream_manager.specs.Counting.{Grows}
+use Rattle.stream_manager.specs.Counting.{FailsNoPut}
 use Rattle.stream_manager.specs.Extents.{extents}
 use Rattle.stream_manager.specs.Places.{Decides, Follows}
 use Rattle.stream_manager.specs.Sizes.{IsWithin, AreSized, AreCounted}
@@ -43,19 +43,19 @@ pub record IsSame (p q : Parts) : Type 0 where
   pub same_limit : q.limit ≡ p.limit
   pub same_bytes : q.bytes ≡ p.bytes
 
--- no node answered the seal of the last extent: no extent was sealed, and each node failed
-pub record IsUnanswered (p q : Parts) (from to : Counts) : Type 0 where
+-- no node answered the seal of the last extent: no extent was sealed, and the ask of each node failed
+pub record IsUnanswered (p q : Parts) (from to : Calls) : Type 0 where
   pub unsealed : IsUnsealed p q
   pub unanswered : FailsEach from to
 
--- the last extent was sealed: there is one sealed extent more, an extent without blocks follows, which was made before, and no fault is taken back
-pub record SealsLast (p q : Parts) (from to : Counts) : Type 0 where
+-- the last extent was sealed: there is one sealed extent more, an extent without blocks follows, which was made before, and no put failed
+pub record SealsLast (p q : Parts) (from to : Calls) : Type 0 where
   pub blocks : q.last.extent.blocks ≡ []
   pub tried : q.last.extent.tried ≡ None
   pub longer : vec_len q.sealed ≡ vec_len p.sealed + 1
   pub last_room : q.last.room ≡ p.spares.next
   pub next_room : q.spares.next ≡ p.spares.after
-  pub counted : Grows from to
+  pub counted : FailsNoPut from to
 
 -- a doubt has ended, if there was one: its block follows if it was kept, and the extent that had it is sealed
 pub record EndsDoubt (kept : Bool) (p q : Parts) : Type 0 where

@@ -15,10 +15,11 @@ block_at es p = option_and_then (λ blocks. slice_get blocks p.index) (slice_get
 abbrev pub IsNotAfter : Place → Place → Type 0
 IsNotAfter q p = (q.extent < p.extent) ⊎ ((q.extent ≡ p.extent) × (q.index ≤ p.index))
 
--- a block is at a place, and no block is at a later place
+-- a block is at a place, no block is at a later place, and at most one extent comes after the one that has it
 pub record IsLastAt (es : List (List Block)) (p : Place) (b : Block) : Type 0 where
   pub here : block_at es p ≡ Some b
   pub last : (q : Place) (c : Block) → block_at es q ≡ Some c → IsNotAfter q p
+  pub near : length es ≤ p.extent + 2
 
 -- the place after the last acknowledged block: a block that is in doubt is there, if it is kept
 abbrev pub next_place : List (List Block) → Open → Place

@@ -36,16 +36,17 @@ pub(crate) struct Parts {
 }
 
 impl Parts {
-    ghost use Rattle.std.specs.Prelude.{◌≡◌, ◌↔◌, ◌⊎◌, Ok, ◌<◌, ◌≤◌, ◌+◌, ◌++◌, ◌∷◌, [], true, false, None, Some, Err, map, length, IfOk, IsSome, IsSomeAnd, OnOk, OnErr};
+    ghost use Rattle.std.specs.Prelude.{◌≡◌, ◌≢◌, ◌↔◌, ◌⊎◌, Ok, ◌<◌, ◌≤◌, ◌+◌, ◌++◌, ◌∷◌, [], true, false, None, Some, Err, map, length, IfOk, IsSome, IsSomeAnd, OnOk, OnErr};
     ghost use Rattle.std.specs.List.{slice_get};
     ghost use Rattle.std.specs.Option.{is_some};
     ghost use Rattle.std.specs.Vec.{vec_len, vec_capacity};
     ghost use Rattle.extent_node.specs.Faults.{held};
     ghost use Rattle.extent_node.specs.Copies.{Block};
-    ghost use Rattle.extent_seal.specs.Counting.{CallsEach, CallsCopies, CallsNoOther, FailsCopies, FailsEach, all_faults};
+    ghost use Rattle.extent_node.specs.Faults.{CountsNone};
+    ghost use Rattle.extent_seal.specs.Counting.{AsksCopies, AsksEach, AsksNoOther, FailsCopies, FailsEach, SomeAnswers, all_faults};
     ghost use Rattle.extent_seal.specs.declared.sealed.ReadFault.TheVariants.{Unreachable};
     ghost use Rattle.stamp_values.specs.declared.place.Place.{Place};
-    ghost use Rattle.stream_manager.specs.Counting.{CallsAtMost, Grows, CallsTry, FailsTry, CallsAppend, FailsAppend, CallsSettle, FailsSettle, CallsSeal, FailsSeal, kept_in};
+    ghost use Rattle.stream_manager.specs.Counting.{AsksAtMost, Grows, CallsTry, FailsTry, CallsAppend, FailsAppend, CallsSettle, FailsSettle, CallsSeal, FailsSeal, kept_in};
     ghost use Rattle.stream_manager.specs.Extents.{closed_blocks};
     ghost use Rattle.stream_manager.specs.Outcomes.{IsTried, IsPut, IsAppend, IsRefused, IsSettled, IsSealed};
     ghost use Rattle.stream_manager.specs.Parts.{EndsDoubt, IsReadyFor, IsSame, IsUnanswered, IsWhole, SealsAtMostOne, SealsLast, StaysWhole, extents_of};
@@ -62,7 +63,7 @@ impl Parts {
             ≡ map closed_blocks self.old.sealed.items ++ (self.old.last.extent.blocks ++ held kept self.old.last.extent.tried) ∷ []) }
         ensures sealed { IfOk result (λ kept. SealsLast self.old self.new (W.faults wire.old) (W.faults wire.new)) }
         ensures same { OnErr result (IsUnanswered self.old self.new (W.faults wire.old) (W.faults wire.new)) }
-        ensures called { CallsEach (W.calls wire.old) (W.calls wire.new) }
+        ensures called { AsksEach (W.calls wire.old) (W.calls wire.new) }
         ensures room { SealsAtMostOne self.old self.new }
         ensures bytes { IfOk result (λ kept. self.new.bytes ≡ 0) }
         ensures same_bytes { OnErr result (self.new.bytes ≡ self.old.bytes) }
@@ -94,7 +95,7 @@ impl Parts {
             → IsLastAt (extents_of self.new) p b) }
         ensures sealed { IfOk result (λ kept. SealsLast self.old self.new (W.faults wire.old) (W.faults wire.new)) }
         ensures same { OnErr result (IsUnanswered self.old self.new (W.faults wire.old) (W.faults wire.new)) }
-        ensures called { CallsEach (W.calls wire.old) (W.calls wire.new) }
+        ensures called { AsksEach (W.calls wire.old) (W.calls wire.new) }
         ensures room { SealsAtMostOne self.old self.new }
         ensures whole { StaysWhole self.old self.new }
     {
@@ -113,6 +114,7 @@ impl Parts {
         ensures counted { FailsTry result (W.faults wire.old) (W.faults wire.new) }
         ensures room { SealsAtMostOne self.old self.new }
         ensures whole { StaysWhole self.old self.new }
+        ensures longer { vec_len self.old.sealed ≤ vec_len self.new.sealed }
         ensures once { (result ≡ Excluded) → vec_len self.new.sealed ≡ vec_len self.old.sealed + 1 }
         ensures last_room { (result ≡ Excluded) → self.new.last.room ≡ self.old.spares.next }
     {
@@ -135,7 +137,7 @@ impl Parts {
     }
 
     // Tries the block, and once more on a new extent if it is excluded. Takes no memory.
-    #[tactic(auto, using(crate::proofs::SizeLemmas::first_within))]
+    #[tactic(auto, using(crate::proofs::SizeLemmas::first_within, crate::proofs::CountLemmas::one_more_bound))]
     fn put<W: Wire>(
         &mut self,
         block: Shares,
@@ -150,7 +152,7 @@ impl Parts {
         ensures put { IsPut result (extents_of self.old) block
             (extents_of self.new) self.new.last.extent }
         ensures called { CallsAppend result (vec_len self.old.sealed) (vec_len self.new.sealed) (W.calls wire.old) (W.calls wire.new) }
-        ensures counted { FailsAppend result (W.faults wire.old) (W.faults wire.new) }
+        ensures counted { FailsAppend result (vec_len self.old.sealed) (vec_len self.new.sealed) (W.faults wire.old) (W.faults wire.new) }
         ensures whole { StaysWhole self.old self.new }
         ensures twice { (result ≡ Err Busy) → vec_len self.new.sealed ≡ vec_len self.old.sealed + 2 }
     {
@@ -207,8 +209,9 @@ impl Parts {
         ensures ended { IfOk result (λ kept. EndsDoubt kept self.old self.new) }
         ensures tried { IfOk result (λ kept. self.new.last.extent.tried ≡ None) }
         ensures same { OnErr result (IsUnanswered self.old self.new (W.faults wire.old) (W.faults wire.new)) }
-        ensures called { IfOk result (λ kept. CallsAtMost 0 (vec_len self.old.sealed) (vec_len self.new.sealed) (W.calls wire.old) (W.calls wire.new)) }
-        ensures unanswered_calls { OnErr result (CallsEach (W.calls wire.old) (W.calls wire.new)) }
+        ensures called { IfOk result (λ kept. AsksAtMost 0 (vec_len self.old.sealed) (vec_len self.new.sealed) (W.calls wire.old).asks (W.calls wire.new).asks) }
+        ensures unput { IfOk result (λ kept. CountsNone (W.calls wire.old).puts (W.calls wire.new).puts) }
+        ensures unanswered_calls { OnErr result (AsksEach (W.calls wire.old) (W.calls wire.new)) }
         ensures counted { IfOk result (λ kept. Grows (W.faults wire.old) (W.faults wire.new)) }
         ensures room { SealsAtMostOne self.old self.new }
         ensures whole { StaysWhole self.old self.new }
@@ -232,7 +235,7 @@ impl Parts {
         ensures appended { IsAppend result (extents_of self.old) self.old.last.extent block.now
             (extents_of self.new) self.new.last.extent }
         ensures called { CallsAppend result (vec_len self.old.sealed) (vec_len self.new.sealed) (W.calls wire.old) (W.calls wire.new) }
-        ensures counted { FailsAppend result (W.faults wire.old) (W.faults wire.new) }
+        ensures counted { FailsAppend result (vec_len self.old.sealed) (vec_len self.new.sealed) (W.faults wire.old) (W.faults wire.new) }
         ensures large { (result ≡ Err TooLarge) ↔ (16_777_216 < length block.now) }
         ensures unheard { IsRefused result → wire.new ≡ wire.old }
         ensures same_sealed { IsRefused result → self.new.sealed.items ≡ self.old.sealed.items }
@@ -326,10 +329,11 @@ impl Parts {
     pub fn read<W: Wire>(&self, place: Place, wire: &mut W) -> Result<Share, ReadFault>
         requires { IsSome (block_at (extents_of self.now) place) }
         ensures read { IfOk result (λ b. block_at (extents_of self.now) place ≡ Some b) }
-        ensures called { result ≡ Err Unreachable → CallsCopies (kept_in self.now.sealed.items place.extent) (W.calls wire.old) (W.calls wire.new) }
+        ensures called { result ≡ Err Unreachable → AsksCopies (kept_in self.now.sealed.items place.extent) (W.calls wire.old) (W.calls wire.new) }
         ensures unreachable { result ≡ Err Unreachable → FailsCopies (kept_in self.now.sealed.items place.extent) (W.faults wire.old) (W.faults wire.new) }
         ensures faulty { result ≡ Err Unreachable → all_faults (W.faults wire.old) < all_faults (W.faults wire.new) }
-        ensures discarded { CallsNoOther (kept_in self.now.sealed.items place.extent) (W.calls wire.old) (W.calls wire.new) }
+        ensures answered { result ≢ Err Unreachable → SomeAnswers (kept_in self.now.sealed.items place.extent) (W.calls wire.old) (W.calls wire.new) (W.faults wire.old) (W.faults wire.new) }
+        ensures discarded { AsksNoOther (kept_in self.now.sealed.items place.extent) (W.calls wire.old) (W.calls wire.new) }
     {
         let index = place.index as usize;
         match self.sealed.get(place.extent as usize) {

@@ -27,10 +27,10 @@ impl Model for Stream {
 }
 
 impl Stream {
-    ghost use Rattle.std.specs.Prelude.{◌≡◌, ◌↔◌, ◌⊎◌, ◌≤◌, ◌<◌, ◌+◌, [], None, Some, Ok, Err, length, IfOk, IsSome, IsSomeAnd};
+    ghost use Rattle.std.specs.Prelude.{◌≡◌, ◌≢◌, ◌↔◌, ◌⊎◌, ◌≤◌, ◌<◌, ◌+◌, [], None, Some, Ok, Err, length, IfOk, IsSome, IsSomeAnd};
     ghost use Rattle.std.specs.List.{slice_get};
     ghost use Rattle.std.specs.Option.{is_some};
-    ghost use Rattle.extent_seal.specs.Counting.{CallsCopies, CallsNoOther, FailsCopies, FailsEach, all_faults};
+    ghost use Rattle.extent_seal.specs.Counting.{AsksCopies, AsksNoOther, FailsCopies, FailsEach, SomeAnswers, all_faults};
     ghost use Rattle.extent_seal.specs.declared.sealed.ReadFault.TheVariants.{Unreachable};
     ghost use Rattle.stream_manager.specs.Counting.{CallsAppend, FailsAppend, CallsSettle, FailsSettle, CallsSeal, FailsSeal, kept_in};
     ghost use Rattle.stream_manager.specs.Outcomes.{IsAppend, IsRefused, IsSettled, IsSealed};
@@ -60,7 +60,7 @@ impl Stream {
     pub fn append<W: Wire>(&mut self, block: &Share, wire: &mut W) -> Result<Place, AppendFault>
         ensures appended { IsAppend result (laid self.old) self.old.last block.now (laid self.new) self.new.last }
         ensures called { CallsAppend result (length self.old.sealed) (length self.new.sealed) (W.calls wire.old) (W.calls wire.new) }
-        ensures counted { FailsAppend result (W.faults wire.old) (W.faults wire.new) }
+        ensures counted { FailsAppend result (length self.old.sealed) (length self.new.sealed) (W.faults wire.old) (W.faults wire.new) }
         ensures large { (result ≡ Err TooLarge) ↔ (16_777_216 < length block.now) }
         ensures refused { IsRefused result → self.new ≡ self.old }
         ensures unheard { IsRefused result → wire.new ≡ wire.old }
@@ -107,10 +107,11 @@ impl Stream {
     pub fn read<W: Wire>(&self, place: Place, wire: &mut W) -> Result<Share, ReadFault>
         requires { IsSome (block_at (laid self.now) place) }
         ensures read { IfOk result (λ b. block_at (laid self.now) place ≡ Some b) }
-        ensures called { result ≡ Err Unreachable → CallsCopies (kept_in self.now.sealed place.extent) (W.calls wire.old) (W.calls wire.new) }
+        ensures called { result ≡ Err Unreachable → AsksCopies (kept_in self.now.sealed place.extent) (W.calls wire.old) (W.calls wire.new) }
         ensures unreachable { result ≡ Err Unreachable → FailsCopies (kept_in self.now.sealed place.extent) (W.faults wire.old) (W.faults wire.new) }
         ensures faulty { result ≡ Err Unreachable → all_faults (W.faults wire.old) < all_faults (W.faults wire.new) }
-        ensures discarded { CallsNoOther (kept_in self.now.sealed place.extent) (W.calls wire.old) (W.calls wire.new) }
+        ensures answered { result ≢ Err Unreachable → SomeAnswers (kept_in self.now.sealed place.extent) (W.calls wire.old) (W.calls wire.new) (W.faults wire.old) (W.faults wire.new) }
+        ensures discarded { AsksNoOther (kept_in self.now.sealed place.extent) (W.calls wire.old) (W.calls wire.new) }
     {
         self.parts.read(place, wire)
     }

@@ -1,4 +1,4 @@
-use Rattle.std.proofs.Common.{◌∙◌, arith}
+use Rattle.std.proofs.Common.{◌∙◌, arith, inr}
 use Rattle.stream_manager.specs.Streams.{laid}
 use Rattle.partition_stream.proofs.DataLemmas.{placed_more}
 use Rattle.partition_stream.proofs.data.put_pieces.Goals as goal
@@ -10,12 +10,21 @@ loop-piece-preserved g c = record {
       c.put_piece.ensures.kept c.loop-piece.invariant.placed c.in_ok-at.ensures.placed c.in_ok-push.ensures.items;
   kept = λ p b here. c.put_piece.ensures.kept p b (c.loop-piece.invariant.kept p b here);
   limit = c.put_piece.ensures.limit ∙ c.loop-piece.invariant.limit;
-  called =
-      let now = c.in_ok-at.ensures.called in
-      let before = c.loop-piece.invariant.called in
-      (omega (arith, now, before), omega (arith, now, before), omega (arith, now, before));
-  counted =
-      let now = c.in_ok-at.ensures.counted in
-      let before = c.loop-piece.invariant.counted in
-      (omega (arith, now, before), omega (arith, now, before), omega (arith, now, before));
+  called = (
+    let now = c.in_ok-at.ensures.called in
+        let before = c.loop-piece.invariant.called in
+        (omega (arith, now, before), omega (arith, now, before), omega (arith, now, before)),
+    let now = c.in_ok-at.ensures.called in
+        let before = c.loop-piece.invariant.called in
+        (omega (arith, now, before), omega (arith, now, before), omega (arith, now, before)),
+  );
+  counted = (
+    let now = c.in_ok-at.ensures.counted in
+        let before = c.loop-piece.invariant.counted in
+        (omega (arith, now, before), omega (arith, now, before), omega (arith, now, before)),
+    let now = c.in_ok-at.ensures.counted in
+        let before = c.loop-piece.invariant.counted in
+        (omega (arith, now, before), omega (arith, now, before), omega (arith, now, before)),
+  );
+  spent = inr c.in_ok-at.ensures.ends;
 }

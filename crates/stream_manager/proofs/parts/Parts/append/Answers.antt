@@ -1,7 +1,8 @@
 use Rattle.std.proofs.Common.{rules, ◌≡◌, subst}
+use Rattle.std.specs.Vec.{vec_len}
 use Rattle.stream_manager.specs.Extents.{extents}
 use Rattle.stream_manager.specs.Outcomes.{IsPut}
-use Rattle.stream_manager.proofs.AppendLemmas.{put_after, fails_after}
+use Rattle.stream_manager.proofs.AppendLemmas.{calls_after, fails_after, put_after}
 use Rattle.stream_manager.proofs.parts.Parts.append.Goals as goal
 
 pub returns-in-Ok-clause-appended : goal.returns-in-Ok-clause-appended
@@ -16,9 +17,18 @@ returns-in-Ok-clause-appended g c =
     (subst (λ b. IsPut c.put.result (extents c.make_ready.new.self.sealed.items c.make_ready.new.self.last.extent) b
     (extents c.put.new.self.sealed.items c.put.new.self.last.extent) c.put.new.self.last.extent) same c.put.ensures.put)
 
+pub returns-in-Ok-clause-called : goal.returns-in-Ok-clause-called
+returns-in-Ok-clause-called g c =
+    calls_after c.put.result (extents c.make_ready.new.self.sealed.items c.make_ready.new.self.last.extent)
+    (extents c.put.new.self.sealed.items c.put.new.self.last.extent) c.put.new.self.last.extent c.in_ok-first.first
+    (vec_len c.args.self.now.sealed) (vec_len c.make_ready.new.self.sealed) (vec_len c.put.new.self.sealed)
+    (g.W.Wire.calls c.args.wire.now) (g.W.Wire.calls c.make_ready.new.wire) (g.W.Wire.calls c.put.new.wire)
+    (search rules) c.put.ensures.twice c.in-Ok.ensures.unput (search rules) c.put.ensures.put c.put.ensures.called
+
 pub returns-in-Ok-clause-counted : goal.returns-in-Ok-clause-counted
 returns-in-Ok-clause-counted g c =
     fails_after c.put.result (extents c.make_ready.new.self.sealed.items c.make_ready.new.self.last.extent)
     (extents c.put.new.self.sealed.items c.put.new.self.last.extent) c.put.new.self.last.extent c.in_ok-first.first
+    (vec_len c.args.self.now.sealed) (vec_len c.make_ready.new.self.sealed) (vec_len c.put.new.self.sealed)
     (g.W.Wire.faults c.args.wire.now) (g.W.Wire.faults c.make_ready.new.wire) (g.W.Wire.faults c.put.new.wire)
-    c.in-Ok.ensures.counted c.put.ensures.put c.put.ensures.counted
+    (search rules) c.put.ensures.twice c.in-Ok.ensures.counted c.put.ensures.put c.put.ensures.counted
