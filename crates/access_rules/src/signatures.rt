@@ -11,8 +11,15 @@ use crate::token_route::is_true_token;
 use stamp_types::{Credential, Request};
 use std::alloc::{AllocError, Global};
 
-// Whether the signature that the request brings is true. `None` if there is no signature to judge.
-fn is_true(
+/// Whether the signature that the request brings, by the key of an account or by a token, is true under these keys. `None` if there
+/// is no signature to judge: the request brings none, the claim or the token is not in its form, `keys` are not the keys of the
+/// path's account, or a token is not for what the request names.
+///
+/// Keys and request alone decide: the answer is the same for any container and at any moment, so it can be asked for before a lock
+/// is taken. It says at once what `has_true_signature` and `has_false_signature` say.
+///
+/// `AllocError` if memory runs out for the string to sign or for a signature.
+pub fn is_true_signature(
     alloc: Global,
     keys: Option<&Keys>,
     request: &Request,
@@ -50,7 +57,7 @@ pub fn has_true_signature(
     ensures memory { IsErr result
         → IsTrue (has_signature (option_copied keys.entry) request.now.ask) }
 {
-    match is_true(alloc, keys, request)? {
+    match is_true_signature(alloc, keys, request)? {
         Some(is_true) => Ok(is_true),
         None => Ok(false),
     }
@@ -74,7 +81,7 @@ pub fn has_false_signature(
     ensures memory { IsErr result
         → IsTrue (has_signature (option_copied keys.entry) request.now.ask) }
 {
-    match is_true(alloc, keys, request)? {
+    match is_true_signature(alloc, keys, request)? {
         Some(is_true) => Ok(!is_true),
         None => Ok(false),
     }

@@ -1,0 +1,53 @@
+-- What a judgement says of a signature.
+use Rattle.std.proofs.Common.{◌≡◌, ◌↔◌, ◌∙◌, Bool, true, false, if◌then◌else◌, Option, Some, IsTrue, refl, sym, ap, subst}
+use Rattle.stamp_types.specs.declared.ask.Ask.{Ask}
+use Rattle.access_rules.specs.declared.keys.Keys.{Keys}
+use Rattle.access_rules.specs.Rules.{has_false_signature}
+use Rattle.access_rules.specs.Signatures.{has_true_signature, IsSigned}
+use Rattle.access_rules.proofs.SignatureLemmas.{signed_is, true_not_false}
+use Rattle.policy_book.specs.Judgements.{signature_under}
+use Rattle.policy_book.specs.declared.judged.Signature.{Signature}
+use Rattle.policy_book.specs.declared.judged.Signature.TheVariants as signature
+
+abbrev by_tests : Bool → Bool → Signature
+by_tests is_true is_false = if is_true then signature.True else (if is_false then signature.False else signature.Unjudged)
+
+true_by : (a b : Bool) → (by_tests a b ≡ signature.True) ↔ (a ≡ true)
+true_by true b = (λ e. refl, λ e. refl)
+true_by false true = (λ e. let f : signature.False ≡ signature.True = e in cc, λ e. cc)
+true_by false false = (λ e. let f : signature.Unjudged ≡ signature.True = e in cc, λ e. cc)
+
+false_by : (a b : Bool) → (a ≡ true → b ≡ false) → (by_tests a b ≡ signature.False) ↔ (b ≡ true)
+false_by true b apart = (λ e. let f : signature.True ≡ signature.False = e in cc, λ e. let n : b ≡ false = apart refl in cc)
+false_by false true apart = (λ e. refl, λ e. refl)
+false_by false false apart = (λ e. let f : signature.Unjudged ≡ signature.False = e in cc, λ e. cc)
+
+-- a signature is judged true exactly if the signature part of the request's own route is true
+pub found_true : (s : Signature) (pair : Keys) (q : Ask) → s ≡ signature_under pair q → (s ≡ signature.True) ↔ IsSigned pair q
+found_true s pair q is =
+    let tests = true_by (has_true_signature (Some pair) q) (has_false_signature (Some pair) q) in
+    let signed = signed_is pair q in
+    (λ e. signed.0 (tests.0 (sym is ∙ e)), λ e. is ∙ tests.1 (signed.1 e))
+
+-- a signature is judged false exactly if the rule on signatures says so
+pub found_false : (s : Signature) (pair : Keys) (q : Ask) → s ≡ signature_under pair q → (s ≡ signature.False) ↔ IsTrue (has_false_signature (Some pair) q)
+found_false s pair q is =
+    let tests = false_by (has_true_signature (Some pair) q) (has_false_signature (Some pair) q) (true_not_false (Some pair) q) in
+    (λ e. tests.0 (sym is ∙ e), λ e. is ∙ tests.1 e)
+
+bool_of : (b c : Bool) → (b ≡ true → c ≡ true) → (c ≡ true → b ≡ true) → b ≡ c
+bool_of true c to from = sym (to refl)
+bool_of false true to from = from refl
+bool_of false false to from = refl
+
+-- the test for a signature that was judged false is the rule, under the keys in force
+pub false_under : (b : Bool) (s : Signature) (pair : Keys) (keys : Option Keys) (q : Ask) → (IsTrue b ↔ (s ≡ signature.False)) → s ≡ signature_under pair q → keys ≡ Some pair
+    → b ≡ has_false_signature keys q
+false_under b s pair keys q test is force =
+    let found = found_false s pair q is in
+    bool_of b (has_false_signature (Some pair) q) (λ e. found.0 (test.0 e)) (λ e. test.1 (found.1 e))
+    ∙ ap (λ k. has_false_signature k q) (sym force)
+
+-- a signature that is false of what one request asks is false of what another asks, if both ask the same
+pub false_of_ask : (b : Bool) (keys : Option Keys) (a c : Ask) → b ≡ has_false_signature keys a → a ≡ c → b ≡ has_false_signature keys c
+false_of_ask b keys a c is same = is ∙ ap (has_false_signature keys) same

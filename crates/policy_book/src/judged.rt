@@ -1,0 +1,105 @@
+//! Judgements of signatures, with each outcome.
+ghost use Rattle.std.specs.Prelude.{◌≡◌, ◌↔◌, IfOk, IsTrue, Some};
+ghost use Rattle.std.specs.Arc.{arc_value};
+ghost use Rattle.access_rules.specs.Rules.{has_false_signature};
+ghost use Rattle.access_rules.specs.Signatures.{IsSigned};
+ghost use Rattle.policy_book.specs.Judgements.{signature_under};
+ghost use Rattle.policy_book.specs.declared.judged.Signature.TheVariants as signature;
+
+use access_rules::{Keys, is_true_signature};
+use stamp_types::Request;
+use std::alloc::{AllocError, Global};
+use std::marker::Model;
+use std::sync::Arc;
+
+/// How a signature was judged under a pair of keys.
+#[derive(Clone, Copy, PartialEq, Eq)]
+pub enum Signature {
+    /// One of the two keys gives it.
+    True,
+    /// Neither key gives it.
+    False,
+    /// There is no signature to judge: the request brings none, the claim or the token is not in its form, the keys are not those of
+    /// the path's account, or the token is not for what the request names.
+    Unjudged,
+}
+
+/// The judgement on the signature of a request under a pair of keys. It shares what the request asks and the pair, and copies
+/// neither. The body of the request does not matter.
+///
+/// It says nothing of a container, a policy or a moment.
+#[derive(Drop)]
+pub struct Judged {
+    request: Request,
+    keys: Arc<Keys>,
+    signature: Signature,
+}
+
+impl Model for Judged {
+    ghost use Rattle.std.specs.Prelude.{◌≡◌};
+    ghost use Rattle.std.specs.Arc.{arc_value};
+    ghost use Rattle.policy_book.specs.Judgements.{Judgement, signature_under};
+
+    ghost Value = { Judgement };
+
+    ghost view = { λ j. record { ask = j.request.ask; keys = arc_value j.keys; signature = j.signature } };
+
+    ghost invariant = { λ j. j.signature ≡ signature_under (arc_value j.keys) j.request.ask };
+}
+
+// How the signature of the request is judged.
+fn found(alloc: Global, keys: &Keys, request: &Request) -> Result<Signature, AllocError>
+    ensures { IfOk result (λ s. s ≡ signature_under keys.now request.now.ask) }
+{
+    match is_true_signature(alloc, Some(keys), request)? {
+        Some(true) => Ok(Signature::True),
+        Some(false) => Ok(Signature::False),
+        None => Ok(Signature::Unjudged),
+    }
+}
+
+/// Judges the signature of the request under the pair of keys.
+///
+/// `AllocError` if memory runs out for the string to sign or for a signature, or if what is shared can have no further owner.
+pub fn judge(alloc: Global, keys: &Arc<Keys>, request: &Request) -> Result<Judged, AllocError>
+    ensures ask { IfOk result (λ j. j.ask ≡ request.now.ask) }
+    ensures keys { IfOk result (λ j. j.keys ≡ arc_value keys.now) }
+    ensures true_one { IfOk result (λ j.
+        (j.signature ≡ signature.True) ↔ IsSigned (arc_value keys.now) request.now.ask) }
+    ensures false_one { IfOk result (λ j. (j.signature ≡ signature.False)
+        ↔ IsTrue (has_false_signature (Some (arc_value keys.now)) request.now.ask)) }
+{
+    let signature = found(alloc, keys, request)?;
+    let request = request.without_body()?;
+    let keys = keys.clone()?;
+    Ok(Judged {
+        request,
+        keys,
+        signature,
+    })
+}
+
+impl Judged {
+    /// Whether the judgement is of this request, whose body does not matter.
+    pub fn is_for(&self, request: &Request) -> bool
+        ensures { IsTrue result ↔ (self.now.ask ≡ request.now.ask) }
+    {
+        self.request.same_ask(request)
+    }
+
+    /// The pair of keys under which the signature was judged.
+    pub fn keys(&self) -> &Keys
+        ensures { result.now ≡ self.now.keys }
+    {
+        &self.keys
+    }
+
+    /// How the signature was judged.
+    pub fn signature(&self) -> Signature
+        ensures value { result ≡ self.now.signature }
+        ensures judged { self.now.signature ≡ signature_under self.now.keys self.now.ask }
+    {
+        let _request = &self.request;
+        self.signature
+    }
+}

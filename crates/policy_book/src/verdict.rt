@@ -1,0 +1,71 @@
+//! The verdict on a request whose signature may have been judged before.
+ghost use Rattle.std.specs.Prelude.{◌≡◌, ◌↔◌, IfOk, IfSome, IsErr, IsOk, IsSome, IsTrue, Some, option_copied};
+ghost use Rattle.access_rules.specs.Rules.{has_false_signature, needs_signature, verdict_of};
+ghost use Rattle.policy_book.specs.Judgements.{IsInForce, IsOfAsk};
+
+use crate::judged::{Judged, Signature};
+use access_rules::{Keys, Verdict, verdict, verdict_judged};
+use stamp_types::{Acl, Moment, Request};
+use std::alloc::{AllocError, Global};
+
+// Whether both are the same pair: the same account, the same two keys and the same epoch.
+fn is_same_pair(pair: &Keys, other: &Keys) -> bool
+    ensures { IsTrue result ↔ (pair.now ≡ other.now) }
+{
+    pair.epoch == other.epoch
+        && pair.account == other.account
+        && pair.first == other.first
+        && pair.second == other.second
+}
+
+// Whether the judgement is of the pair in force.
+fn is_in_force(judged: &Judged, keys: Option<&Keys>) -> bool
+    ensures { IsTrue result ↔ (option_copied keys.entry ≡ Some judged.now.keys) }
+{
+    match keys {
+        Some(pair) => is_same_pair(pair, judged.keys()),
+        None => false,
+    }
+}
+
+// Whether the signature is false under the keys in force, if the judgement is of that pair.
+#[tactic(auto, using(crate::proofs::JudgementLemmas::false_under))]
+fn is_false_by(judged: &Judged, keys: Option<&Keys>) -> Option<bool>
+    ensures known { IsSome result ↔ (option_copied keys.entry ≡ Some judged.now.keys) }
+    ensures value { IfSome result (λ is_false.
+        is_false ≡ has_false_signature (option_copied keys.entry) judged.now.ask) }
+{
+    if is_in_force(judged, keys) {
+        Some(judged.signature() == Signature::False)
+    } else {
+        None
+    }
+}
+
+/// Whether a request may be served at a moment: what `verdict` answers. A judgement changes no answer: one of the pair in force spares
+/// the signature, and the call then takes no memory; one of another pair, or of another epoch, is not used.
+///
+/// `AllocError` if memory runs out for the string to sign or for a signature.
+#[tactic(auto, using(crate::proofs::JudgementLemmas::false_of_ask))]
+pub fn verdict_by(
+    alloc: Global,
+    keys: Option<&Keys>,
+    acl: Option<&Acl>,
+    request: &Request,
+    now: Moment,
+    judged: Option<&Judged>,
+) -> Result<Verdict, AllocError>
+    requires { IsOfAsk (option_copied judged) request.now.ask }
+    ensures value { IfOk result (λ v.
+        v ≡ verdict_of (option_copied keys.entry) (option_copied acl.entry) request.now.ask now) }
+    ensures memory { IsErr result
+        → IsTrue (needs_signature (option_copied keys.entry) request.now.ask now) }
+    ensures spared { IsInForce (option_copied judged.entry) (option_copied keys.entry) → IsOk result }
+{
+    if let Some(judged) = judged {
+        if let Some(is_false) = is_false_by(judged, keys) {
+            return Ok(verdict_judged(keys, acl, request, now, is_false));
+        }
+    }
+    verdict(alloc, keys, acl, request, now)
+}
