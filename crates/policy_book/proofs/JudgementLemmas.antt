@@ -1,5 +1,5 @@
 -- What a judgement says of a signature.
-use Rattle.std.proofs.Common.{◌≡◌, ◌↔◌, ◌∙◌, Bool, true, false, if◌then◌else◌, Option, Some, IsTrue, refl, sym, ap, subst}
+use Rattle.std.proofs.Common.{◌≡◌, ◌↔◌, ◌∙◌, Bool, true, false, if◌then◌else◌, Option, Some, IsTrue, refl, sym, ap}
 use Rattle.stamp_types.specs.declared.ask.Ask.{Ask}
 use Rattle.access_rules.specs.declared.keys.Keys.{Keys}
 use Rattle.access_rules.specs.Rules.{has_false_signature}
