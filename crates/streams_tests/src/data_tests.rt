@@ -73,6 +73,20 @@ fn put_in_doubt(rt: &impl Abort, alloc: Global, streams: &mut Streams) {
     assert!(rt; try_put(rt, alloc, streams, &body, &mut wire) == Told::Done);
 }
 
+fn put_excluded_twice(rt: &impl Abort, alloc: Global, streams: &mut Streams) {
+    let mut wire = script(rt, alloc, &[R, R, R, R, R, R], &[]);
+    let body = body(rt, alloc, 3);
+    assert!(rt; try_put(rt, alloc, streams, &body, &mut wire) == Told::Busy);
+    // Two times three puts, and three asks after each.
+    assert!(rt; wire.called().len() == 12);
+}
+
+#[test]
+fn data_that_is_excluded_twice_is_busy(rt: HostRuntime) {
+    let mut streams = streams(&rt, rt.alloc(), 1_000_000);
+    put_excluded_twice(&rt, rt.alloc(), &mut *streams);
+}
+
 #[test]
 fn a_fault_of_the_data_leaves_the_log(rt: HostRuntime) {
     let mut streams = streams(&rt, rt.alloc(), 1_000_000);
