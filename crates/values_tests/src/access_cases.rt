@@ -119,7 +119,8 @@ fn credential(rt: &impl Abort, alloc: Global, sent: Sent) -> Credential {
     }
 }
 
-fn request(rt: &impl Abort, alloc: Global, case: &Case) -> Request {
+/// The request of a case.
+pub(crate) fn request(rt: &impl Abort, alloc: Global, case: &Case) -> Request {
     let container = if case.op.names_container() {
         "pics"
     } else {

@@ -12,6 +12,8 @@ mod change_tests;
 #[cfg(test)]
 mod field_tests;
 #[cfg(test)]
+mod judgement_tests;
+#[cfg(test)]
 mod key_tests;
 #[cfg(test)]
 mod level_tests;

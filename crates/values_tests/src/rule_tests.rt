@@ -23,7 +23,7 @@ pub(crate) const FIRST: &str =
 pub(crate) const SECOND: &str =
     "SharedKey devstoreaccount1:O9UZNW452QDPdLw1F6p3ZC4NHU5qWVzYuTPZoHu3yXw=";
 
-const FIRST_OF_PLAIN: &str =
+pub(crate) const FIRST_OF_PLAIN: &str =
     "SharedKey devstoreaccount1:ePRVCZLPt7I+xXfjP5/XGitY47nxn8CnHH9IT3/CirM=";
 
 const SECOND_OF_PLAIN: &str =
