@@ -1,8 +1,6 @@
 -- What Put Block and Put Block List do to the blobs of a container, by the row of their blob.
-use Rattle.std.proofs.Common.{◌≡◌, ℕ, Bool, List, Option, Some, None, Result, IfOk, unwrap_or, sym, ap, subst, ◌∙◌}
-use Rattle.std.specs.Prelude.{is_none}
+use Rattle.std.proofs.Common.{◌≡◌, ℕ, List, Option, Some, None, unwrap_or, sym, ap, subst, ◌∙◌}
 use Rattle.std.specs.FinMap.{get, insert}
-use Rattle.std.specs.declared.alloc.AllocError.{AllocError}
 use Rattle.stamp_values.specs.Order.{names_exact, names_total}
 use Rattle.stamp_values.specs.declared.block.Taken.{Taken}
 use Rattle.stamp_values.proofs.TreeMaps.{insert_same}
