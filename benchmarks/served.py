@@ -81,9 +81,9 @@ def head(method, target, *headers):
     return (text + signature + b"\n").replace(b"\n", b"\r\n")
 
 
-def create():
+def create(*headers):
     """A Create Container."""
-    return head("PUT", f"{CONTAINER}?restype=container", "Content-Length: 0")
+    return head("PUT", f"{CONTAINER}?restype=container", "Content-Length: 0", *headers)
 
 
 def put_head(name, size):

@@ -11,12 +11,13 @@ use crate::history::{Account, EntryCount, Front, NewHistory};
 use access_rules::Keys;
 use account_service::Plain;
 use http_front::Service;
+use policy_book::{Judged, judge};
 use range_rows::Reading;
 use stamp_types::{Moment, Reply, Request};
 use std::alloc::{AllocError, Global};
 use std::marker::Model;
 use std::sync::ledger::{Book, Share};
-use std::sync::{Mutex, Wait};
+use std::sync::{Arc, Mutex, Wait};
 
 /// The most entries of a history. A server that answers a million requests a second reaches it after 70,000 years.
 const MOST: u64 = 1 << 61;
@@ -76,8 +77,8 @@ impl<A: Account> Locked<A> {
         Ok(front)
     }
 
-    // Answers a request whose body was read before. The request is then the next entry of the history, the caller knows the whole
-    // history, and its share counts one entry more. If memory runs out, there is no entry and no change. An entry that the lock does
+    // Answers a request whose body was read and whose signature was judged before. The request is then the next entry of the history,
+    // the caller knows the whole history, and its share counts one entry more. If memory runs out, there is no entry and no change. An entry that the lock does
     // not know has the same answer: the connection ends, and so does each connection that sends a request after it.
     #[tactic(auto, using(crate::proofs::HistoryLemmas::left_more, crate::proofs::HistoryLemmas::length_more))]
     fn answer(
@@ -87,9 +88,11 @@ impl<A: Account> Locked<A> {
         known: &mut Front<A>,
         share: &mut Share<A>,
         request: &Request,
+        judged: &Judged,
         reading: Reading,
         moment: Moment,
     ) -> Result<Reply, AllocError>
+        requires judged { judged.now.ask ≡ request.now.ask }
         requires read { reading ≡ reading_of request.now }
         requires part { 0 < share.old.parts }
         ensures answered { IfOk result (λ reply.
@@ -106,7 +109,7 @@ impl<A: Account> Locked<A> {
         let Ok(plain) = &mut self.plain else {
             return Err(AllocError);
         };
-        let reply = plain.answer_read(alloc, request, reading, moment)?;
+        let reply = plain.answer_read(alloc, request, Some(judged), reading, moment)?;
         if !front.add(count, &mut self.made, share, request, moment) {
             // The rows have a change that the history does not have, so nothing is answered by them again.
             drop(reply);
@@ -119,29 +122,38 @@ impl<A: Account> Locked<A> {
     }
 }
 
-/// The lock of one account: its rows, and its history of requests.
+/// The lock of one account: its rows, and its history of requests. The pair of keys is also outside of the lock, so that connections
+/// judge signatures without it.
 #[derive(Drop)]
 pub struct AccountLock<A: Account> {
+    keys: Arc<Keys>,
     count: EntryCount<A>,
     locked: Mutex<Locked<A>>,
 }
 
 impl<A: Account> AccountLock<A> {
     /// The lock of the keys' account, which has no containers, with a history without entries, and all shares of the history in one.
-    /// Takes no memory.
-    pub fn new(alloc: Global, keys: Keys, history: NewHistory) -> (AccountLock<A>, Share<A>)
+    ///
+    /// `AllocError` if memory runs out for the allocation that shares the keys.
+    pub fn new(
+        alloc: Global,
+        keys: Keys,
+        history: NewHistory,
+    ) -> Result<(AccountLock<A>, Share<A>), AllocError>
         requires keys { keys ≡ A.keys }
         requires history { history.seen.book ≡ A.history }
         requires shares { (history.shares.name ≡ A.name) × (history.shares.parts ≡ A.parts) }
-        ensures share { (result.1.parts ≡ A.parts) × (result.1.amount ≡ 0) }
+        ensures share { IfOk result (λ made. (made.1.parts ≡ A.parts) × (made.1.amount ≡ 0)) }
     {
-        let plain = Plain::new(alloc, keys);
+        let keys = Arc::new(alloc, keys)?;
+        let plain = Plain::new(alloc, keys.clone()?);
         let (count, front, made, share) = history.of::<A>();
         let lock = AccountLock {
+            keys,
             count,
             locked: Mutex::new(Locked::new(plain, front, made)),
         };
-        (lock, share)
+        Ok((lock, share))
     }
 
     /// The history as far as it has come. Waits for the lock.
@@ -214,14 +226,15 @@ impl<'a, A: Account, R: Wait> Service for Connection<'a, A, R> {
 
     /// The reply of the model, at the end of the history. The request is then the last entry of it.
     ///
-    /// The body is read before the lock is taken, and the request is dropped after the lock is given back. `AllocError` if memory
-    /// runs out: then there is no entry and no change.
+    /// The signature is judged and the body is read before the lock is taken, and the request is dropped after the lock is given back.
+    /// `AllocError` if memory runs out: then there is no entry and no change.
     fn answer(
         &mut self,
         alloc: Global,
         request: Request,
         moment: Moment,
     ) -> Result<Reply, AllocError> {
+        let judged = judge(alloc, &self.lock.keys, &request)?;
         let reading = Reading::of(alloc, &request)?;
         let answered = self.lock.locked.lock(self.rt).answer(
             alloc,
@@ -229,9 +242,11 @@ impl<'a, A: Account, R: Wait> Service for Connection<'a, A, R> {
             &mut self.known,
             &mut self.share,
             &request,
+            &judged,
             reading,
             moment,
         );
+        drop(judged);
         drop(request);
         answered
     }

@@ -91,7 +91,7 @@ fn two_share<A: Account + Send + Sync, R: Threads + Wait + Abort + Sync>(
     requires shares { (history.shares.name ≡ A.name) × (history.shares.parts ≡ A.parts) }
     requires four { history.shares.parts ≡ 4 }
 {
-    let (lock, mut shares) = AccountLock::<A>::new(alloc, keys, history);
+    let (lock, mut shares) = AccountLock::<A>::new(alloc, keys, history).expect(rt, "memory");
     let first = Connection::new(rt, &lock, shares.split_off(1, 0));
     let second = Connection::new(rt, &lock, shares.split_off(1, 0));
     let ((one, mut made), (two, also)) = thread::join(

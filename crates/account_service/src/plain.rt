@@ -1,8 +1,10 @@
 //! The service over the rows of one account.
-ghost use Rattle.std.specs.Prelude.{◌≡◌, IfOk, IfSome, IsTrue, OnErr, OnOk};
+ghost use Rattle.std.specs.Prelude.{◌≡◌, IfOk, IfSome, IsTrue, OnErr, OnOk, option_copied};
+ghost use Rattle.std.specs.Arc.{arc_value};
 ghost use Rattle.stamp_types.specs.Contents.{EachActContent};
 ghost use Rattle.stamp_types.specs.Pieces.{is_held, pieces_len};
 ghost use Rattle.stamp_types.specs.World.{part_at, part_value};
+ghost use Rattle.policy_book.specs.Judgements.{IsOfAsk};
 ghost use Rattle.row_trees.specs.Fits.{fits};
 ghost use Rattle.row_trees.specs.ListedBlocks.{AreFoundFor};
 ghost use Rattle.range_rows.specs.Readings.{reading_of};
@@ -13,40 +15,43 @@ ghost use Rattle.account_service.specs.Services.{AnswersAsModel, Held, empty_hel
 use access_rules::Keys;
 use block_blobs::FoundBlocks;
 use http_front::Service;
+use policy_book::Judged;
 use range_partition::{Decision, decide};
 use range_rows::{Reading, Target};
 use row_trees::Rows;
 use stamp_types::{Change, Moment, Reply, Request};
 use std::alloc::{AllocError, Global};
 use std::marker::Model;
+use std::sync::Arc;
 
 /// The service over the rows of one account, judged by its pair of keys.
 ///
 /// Contracts see it as the pair of keys and the containers that are held.
 #[derive(Drop)]
 pub struct Plain {
-    keys: Keys,
+    keys: Arc<Keys>,
     rows: Rows,
 }
 
 impl Model for Plain {
+    ghost use Rattle.std.specs.Arc.{arc_value};
     ghost use Rattle.account_service.specs.HeldRows.{HeldRows, rows_held_code, AreHeld};
 
     ghost Value = { HeldRows };
 
     ghost coded = { rows_held_code };
 
-    ghost view = { λ p. record { keys = p.keys; rows = p.rows } };
+    ghost view = { λ p. record { keys = arc_value p.keys; rows = p.rows } };
 
     // Content is held in memory.
     ghost invariant = { λ p. AreHeld p.rows };
 }
 
 impl Plain {
-    /// The service of the keys' account, which has no containers. Takes no memory.
-    pub fn new(alloc: Global, keys: Keys) -> Self
-        ensures value { result ≡ empty_rows keys }
-        ensures held { held_of result ≡ empty_held keys }
+    /// The service of the keys' account, which has no containers. Takes no memory: the service shares the pair.
+    pub fn new(alloc: Global, keys: Arc<Keys>) -> Self
+        ensures value { result ≡ empty_rows (arc_value keys) }
+        ensures held { held_of result ≡ empty_held (arc_value keys) }
     {
         let rows = Rows::new(alloc);
         Self { keys, rows }
@@ -57,10 +62,12 @@ impl Plain {
         &self,
         alloc: Global,
         request: &Request,
+        judged: Option<&Judged>,
         reading: Reading,
         moment: Moment,
     ) -> Result<Decision, AllocError>
-        requires { reading ≡ reading_of request.now }
+        requires judged { IsOfAsk (option_copied judged) request.now.ask }
+        requires read { reading ≡ reading_of request.now }
         ensures decided { IfOk result (λ decision.
             decision ≡ row_decision self.now request.now moment) }
         ensures held { AreHeld self.now.rows }
@@ -70,6 +77,7 @@ impl Plain {
         decide(
             alloc,
             Some(&self.keys),
+            judged,
             &self.rows,
             target,
             request,
@@ -101,7 +109,9 @@ impl Plain {
 
     /// The reply of the model to a request whose body was read before, and the change of the model.
     /// The caller keeps the request, so a caller that shares the service behind a lock reads the body
-    /// before it takes the lock, and drops the request after it.
+    /// before it takes the lock, and drops the request after it. It may also judge the signature before:
+    /// `judged` changes no answer, and if it is of the service's pair of keys, no signature is worked out
+    /// here.
     ///
     /// `AllocError` if memory runs out for the change or the reply. Then nothing is changed: the reply
     /// is made before the change.
@@ -109,15 +119,17 @@ impl Plain {
         &mut self,
         alloc: Global,
         request: &Request,
+        judged: Option<&Judged>,
         reading: Reading,
         moment: Moment,
     ) -> Result<Reply, AllocError>
-        requires { reading ≡ reading_of request.now }
+        requires judged { IsOfAsk (option_copied judged) request.now.ask }
+        requires read { reading ≡ reading_of request.now }
         ensures answered { IfOk result (λ reply.
             AnswersAsModel (held_of self.old) request.now moment reply (held_of self.new)) }
         ensures unchanged { OnErr result (self.new ≡ self.old) }
     {
-        match self.decision(alloc, request, reading, moment)? {
+        match self.decision(alloc, request, judged, reading, moment)? {
             Decision::Refused(refusal) => Reply::denied(alloc, refusal),
             Decision::Allowed(reply, change, found) => match self.keep(alloc, change, found) {
                 Ok(()) => Ok(reply),
@@ -154,6 +166,6 @@ impl Service for Plain {
         ensures unchanged { OnErr result (self.new ≡ self.old) }
     {
         let reading = Reading::of(alloc, &request)?;
-        self.answer_read(alloc, &request, reading, moment)
+        self.answer_read(alloc, &request, None, reading, moment)
     }
 }

@@ -3,6 +3,7 @@ ghost use Rattle.std.specs.Prelude.{◌≡◌, IfOk, false};
 ghost use Rattle.std.specs.Option.{option_copied};
 ghost use Rattle.stamp_values.specs.Operations.{lists_names};
 ghost use Rattle.access_rules.specs.Rules.{verdict_of};
+ghost use Rattle.policy_book.specs.Judgements.{IsOfAsk};
 ghost use Rattle.row_trees.specs.Access.{acl_of};
 ghost use Rattle.row_trees.specs.FoundParts.{sizes_found};
 ghost use Rattle.range_rows.specs.Judgements.{IsAllowed, blocks_found};
@@ -16,9 +17,10 @@ ghost use Rattle.range_partition.specs.declared.decision.Decision.TheVariants as
 
 use crate::content::reply_with_content;
 use crate::overrides::replacements;
-use access_rules::{Keys, Verdict, verdict};
+use access_rules::{Keys, Verdict};
 use block_blobs::FoundBlocks;
 use list_pages::{blob_list_reply, container_list_reply};
+use policy_book::verdict_by;
 use range_rows::{Allowed, Judged, Reading, Target};
 use row_trees::Rows;
 use stamp_types::{Change, Code, Key, Moment, Op, Refusal, Reply, Request, Rule};
@@ -51,15 +53,17 @@ fn access_refusal(rule: Rule) -> Refusal
 fn permission(
     alloc: Global,
     keys: Option<&Keys>,
+    judged: Option<&policy_book::Judged>,
     target: &Target<'_>,
     request: &Request,
     moment: Moment,
 ) -> Result<Verdict, AllocError>
+    requires { IsOfAsk (option_copied judged) request.now.ask }
     ensures { IfOk result (λ verdict. verdict
         ≡ verdict_of (option_copied keys.entry) (acl_of target.now.container) request.now.ask
         moment) }
 {
-    let permission = verdict(alloc, keys, target.container.acl(), request, moment)?;
+    let permission = verdict_by(alloc, keys, target.container.acl(), request, moment, judged)?;
     Ok(permission)
 }
 
@@ -187,13 +191,16 @@ fn permitted(
 /// Decides on a request from what the rows find of the container and of the blob that the request names:
 /// the refusal, or else the reply and the change.
 ///
-/// `keys` is the pair in force of the request's account, or `None` if the stamp has no keys of that account. A list of
-/// containers looks at the other rows too. `bound` is the key at which the rows end, if keys after them are elsewhere.
+/// `keys` is the pair in force of the request's account, or `None` if the stamp has no keys of that account. `judged` is the
+/// judgement on the request's signature, if it was made before; it changes no answer, and is used only if it is of the pair in
+/// force. A list of containers looks at the other rows too. `bound` is the key at which the rows end, if keys after them are
+/// elsewhere.
 ///
 /// `AllocError` if memory runs out.
 pub fn decide(
     alloc: Global,
     keys: Option<&Keys>,
+    judged: Option<&policy_book::Judged>,
     rows: &Rows,
     target: Target<'_>,
     request: &Request,
@@ -201,12 +208,13 @@ pub fn decide(
     moment: Moment,
     bound: Option<&Key>,
 ) -> Result<Decision, AllocError>
+    requires judged { IsOfAsk (option_copied judged) request.now.ask }
     requires target { IsTarget target request.now.ask }
     requires read { reading ≡ reading_of request.now }
     ensures { IfOk result (λ decision. decision ≡ decision_of (option_copied keys.entry) rows.now
         target.entry.container request.now moment (option_copied bound.entry)) }
 {
-    match permission(alloc, keys, &target, request, moment)? {
+    match permission(alloc, keys, judged, &target, request, moment)? {
         Verdict::Deny(rule) => Ok(Decision::Refused(access_refusal(rule))),
         Verdict::Allow(_way) => permitted(alloc, rows, target, request, reading, moment, bound),
     }

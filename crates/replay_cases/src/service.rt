@@ -7,6 +7,7 @@ use crate::creation::make_container;
 use account_service::Plain;
 use stamp_types::Moment;
 use std::alloc::{AllocError, Global};
+use std::sync::Arc;
 use thiserror::Error;
 
 /// Why a case could not begin.
@@ -35,7 +36,8 @@ pub(crate) fn make_service(
     case: &Case,
     first: Moment,
 ) -> Result<Plain, ServiceFault> {
-    let mut service = Plain::new(alloc, case.keys.clone()?);
+    let keys = Arc::new(alloc, case.keys.clone()?)?;
+    let mut service = Plain::new(alloc, keys);
     let Some(moment) = case.made_at(first) else {
         return Ok(service);
     };

@@ -1,5 +1,6 @@
 //! `stamp replay`: one connection over a whole input, answered at one moment.
 ghost use Rattle.std.specs.Prelude.{◌≡◌, ◌≢◌, ◌⊎◌, Err, IfSome, IsTrue};
+ghost use Rattle.std.specs.Arc.{arc_value};
 ghost use Rattle.http_front.specs.Connections.{IsFresh};
 ghost use Rattle.http_front.specs.Conversations.{LeavesRun};
 ghost use Rattle.http_front.specs.Outcomes.{IsOfWholeInput, UnlessWriteFailed, UnlessWriteOrMemoryFailed};
@@ -19,6 +20,7 @@ use http_front::{Clock, Connection, End, FrontFault, run};
 use stamp_types::Moment;
 use std::alloc::Global;
 use std::io::{Read, Write};
+use std::sync::Arc;
 
 /// A clock that always gives the same moment.
 #[derive(Drop)]
@@ -40,23 +42,23 @@ pub(crate) fn replay_on<R: Read, W: Write>(
     alloc: Global,
     connection: &mut Connection<R, W>,
     moment: Moment,
-    keys: Keys,
+    keys: Arc<Keys>,
 ) -> Result<End, FrontFault>
     requires fresh { IsFresh connection.old }
     // What is written is a function of the bytes that were read, the moment, the account and the keys.
     ensures replayed { UnlessWriteOrMemoryFailed result (ReplaysReceived
-        keys moment connection.old connection.new result) }
+        (arc_value keys) moment connection.old connection.new result) }
     // If the input ended, between two requests or inside one, or if a reply closed the connection, what is written is the output
     // for the whole input, however the input was cut into reads.
     ensures whole { IsOfWholeInput result connection.new.reader.input →
         IfSome connection.old.reader.left (ReplaysInput
-        keys moment connection.old connection.new result) }
+        (arc_value keys) moment connection.old connection.new result) }
     // If memory ran out, the items before are answered in full and the last bytes say only that memory ran out.
     ensures starved { result ≡ Err faults.NoMemory →
-        ReplayEndsOutOfMemory keys moment connection.old connection.new }
+        ReplayEndsOutOfMemory (arc_value keys) moment connection.old connection.new }
     // If a write failed, what went out is a beginning of what would have gone out.
     ensures broken { result ≡ Err faults.Write →
-        ReplayEndsByWrite keys moment connection.old connection.new }
+        ReplayEndsByWrite (arc_value keys) moment connection.old connection.new }
     // Each end has its cause.
     ensures left { LeavesRun result connection.new }
     // What was written is flushed.

@@ -57,7 +57,7 @@ pub(crate) struct Gate<'a, A: Account, R: Wait, C: Clock> {
 /// Serves so many connections of a listener, by so many workers at once. The account has no containers at first. A read or a write that
 /// waits for longer than `patience` ends its connection.
 ///
-/// It ends before that if the listener fails for good. `AllocError` if memory runs out for the workers.
+/// It ends before that if the listener fails for good. `AllocError` if memory runs out for the lock or the workers.
 pub(crate) fn serve_on<A: Account + Send + Sync, R: Threads + Wait + Sync, C: Clock + Sync>(
     rt: &R,
     clock: &C,
@@ -74,7 +74,7 @@ pub(crate) fn serve_on<A: Account + Send + Sync, R: Threads + Wait + Sync, C: Cl
     requires one_each { connections ≤ history.shares.parts }
     requires keys { keys ≡ A.keys }
 {
-    let (lock, shares) = AccountLock::<A>::new(alloc, keys, history);
+    let (lock, shares) = AccountLock::<A>::new(alloc, keys, history)?;
     let gate = Gate {
         rt,
         clock,

@@ -1,5 +1,6 @@
 //! The words of commands, read as values.
 ghost use Rattle.std.specs.Prelude.{◌≡◌, ◌≢◌, ◌≤◌, ◌⊎◌, ℕ, List, IfOk, IfErr, Err, Ok, decimal, true};
+ghost use Rattle.std.specs.Arc.{arc_value};
 ghost use Rattle.stamp_values.specs.Names as names;
 ghost use Rattle.moment_text.specs.IsoReader.{iso_moment};
 ghost use Rattle.hmac_sign.specs.Signature.{IsBytes, base64_of};
@@ -13,21 +14,23 @@ use hmac_sign::{SecretFault, SigningKey, read_key};
 use moment_text::{TimeFault, read_iso};
 use stamp_types::{AccountName, Moment, Text};
 use std::alloc::Global;
+use std::sync::Arc;
 
 /// The most workers that serve at once.
 const MOST_WORKERS: u8 = 64;
 
-/// The moment, and the account with its pair of keys, by which a stream is replayed.
+/// The moment, and the account with its pair of keys, by which a stream is replayed. The service of the replay shares the pair.
 #[derive(Drop)]
 pub(crate) struct Asked {
     pub(crate) moment: Moment,
-    pub(crate) keys: Keys,
+    pub(crate) keys: Arc<Keys>,
 }
 
 /// Reads the four words after `replay`.
 ///
 /// `Usage` if the first word is not a time of the accepted shapes, the second word is not an account's name, or the third or
-/// fourth word is not padded Base64. `NoMemory` if memory ran out before a bad word was found.
+/// fourth word is not padded Base64. `NoMemory` if memory ran out before a bad word was found, or for the allocation that shares
+/// the keys.
 pub(crate) fn read_asked(
     alloc: Global,
     moment: &str,
@@ -37,14 +40,17 @@ pub(crate) fn read_asked(
 ) -> Result<Asked, Ending>
     ensures read { IfOk result (λ asked.
         AsksForReplay (replay_line moment.now account.now first.now second.now)
-        asked.moment asked.keys) }
+        asked.moment (arc_value asked.keys)) }
     ensures refused { IfErr result (λ ending. ending ≡ Usage →
         ¬ IsReplay (replay_line moment.now account.now first.now second.now)) }
     ensures failed { IfErr result (λ ending. (ending ≡ Usage) ⊎ (ending ≡ NoMemory)) }
 {
     let moment = read_moment(moment)?;
     let keys = read_keys(alloc, account, first, second)?;
-    Ok(Asked { moment, keys })
+    match Arc::new(alloc, keys) {
+        Ok(keys) => Ok(Asked { moment, keys }),
+        Err(_) => Err(Ending::NoMemory),
+    }
 }
 
 /// The address, how many workers serve it at once, and the account with its pair of keys.

@@ -1,4 +1,5 @@
 use Rattle.std.proofs.Common.{◌≡◌, ◌∙◌, List, ap, subst, sym, true}
+use Rattle.std.specs.Arc.{arc_value}
 use Rattle.stamp_types.specs.World.{World}
 use Rattle.stamp_types.specs.Pieces.{is_held}
 use Rattle.stamp_types.specs.declared.piece.Piece.{Piece}
@@ -12,5 +13,5 @@ invariant_of-result c = subst (λ (w : World (List Piece)). AreHeld w) (sym c.ne
 
 pub returns-clause-held : goal.returns-clause-held
 returns-clause-held c =
-    let keys = c.args.keys in
+    let keys = arc_value c.args.keys in
     ap (λ (w : World (List Piece)). held_of (record { keys = keys; rows = w })) c.new-rows.ensures ∙ held_of-empty_rows keys
