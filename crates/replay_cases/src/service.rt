@@ -36,7 +36,9 @@ pub(crate) fn make_service(
     case: &Case,
     first: Moment,
 ) -> Result<Plain, ServiceFault> {
-    let keys = Arc::new(alloc, case.keys.clone()?)?;
+    let Ok(keys) = Arc::new(alloc, case.keys.clone()?) else {
+        return Err(ServiceFault::NoMemory);
+    };
     let mut service = Plain::new(alloc, keys);
     let Some(moment) = case.made_at(first) else {
         return Ok(service);

@@ -83,10 +83,25 @@ fn verdict(rt: &impl Abort, alloc: Global, pair: &Keys, value: &'static [&'stati
 fn a_key_signs_until_it_is_replaced(rt: HostRuntime) {
     let alloc = rt.alloc();
     let pair = keys(&rt, alloc, ACCOUNT);
-    assert!(rt; verdict(&rt, alloc, &pair, &[FIRST]) == ALLOW, "the first key");
-    assert!(rt; verdict(&rt, alloc, &pair, &[THIRD]) == K5, "the new key before");
+    assert!(rt;
+        verdict(&rt, alloc, &pair, &[FIRST]) == ALLOW,
+        "the first key"
+    );
+    assert!(rt;
+        verdict(&rt, alloc, &pair, &[THIRD]) == K5,
+        "the new key before"
+    );
     let pair = next(&rt, alloc, &pair, Which::First, "new1");
-    assert!(rt; verdict(&rt, alloc, &pair, &[FIRST]) == K5, "the first key after");
-    assert!(rt; verdict(&rt, alloc, &pair, &[SECOND]) == ALLOW, "the second key");
-    assert!(rt; verdict(&rt, alloc, &pair, &[THIRD]) == ALLOW, "the new key");
+    assert!(rt;
+        verdict(&rt, alloc, &pair, &[FIRST]) == K5,
+        "the first key after"
+    );
+    assert!(rt;
+        verdict(&rt, alloc, &pair, &[SECOND]) == ALLOW,
+        "the second key"
+    );
+    assert!(rt;
+        verdict(&rt, alloc, &pair, &[THIRD]) == ALLOW,
+        "the new key"
+    );
 }
