@@ -18,8 +18,9 @@ pub fn no_rule_holds_if_and_only_if_the_own_route_admits()
         → (first_rule keys acl q t ≡ None) ↔ Admits keys acl q.credential q t }
 {}
 
-/// A request on a container that does not exist is refused by the rule that would refuse it on a closed container. So nobody
-/// without a credential can tell the two apart.
+/// A request on a container that does not exist is refused by the rule that would refuse it on a closed container without stored
+/// policies. That nobody without a credential can tell a closed container from one that does not exist, whatever policies it has,
+/// is the clause `same` of stamp_model's law `public_access_is_what_the_container_gives`.
 pub fn a_container_that_does_not_exist_is_as_closed()
     ensures { (keys : Option Keys) (q : Ask) (t : ℕ)
         → first_rule keys None q t ≡ first_rule keys (Some closed_acl) q t }

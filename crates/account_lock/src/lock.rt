@@ -78,8 +78,9 @@ impl<A: Account> Locked<A> {
     }
 
     // Answers a request whose body was read and whose signature was judged before. The request is then the next entry of the history,
-    // the caller knows the whole history, and its share counts one entry more. If memory runs out, there is no entry and no change. An entry that the lock does
-    // not know has the same answer: the connection ends, and so does each connection that sends a request after it.
+    // the caller knows the whole history, and its share counts one entry more. If memory runs out, there is no entry and no change.
+    // An entry that the lock does not know has the same answer: the connection ends, and so does each connection that sends a
+    // request after it.
     #[tactic(auto, using(crate::proofs::HistoryLemmas::left_more, crate::proofs::HistoryLemmas::length_more))]
     fn answer(
         &mut self,
@@ -156,10 +157,10 @@ impl<A: Account> AccountLock<A> {
         Ok((lock, share))
     }
 
-    /// The history as far as it has come. Waits for the lock.
+    /// A history of the lock's requests. Waits for the lock.
     ///
-    /// The owner of a share learns that it has at least the entries that the share counts, and the owner of all shares in one learns
-    /// that it has no others.
+    /// It has at least as many entries as the share counts. If the caller owns all shares in one, it has exactly as many. To the
+    /// owner of a smaller share the code gives the whole history too, though no clause says so.
     pub fn history<R: Wait>(&self, rt: &R, share: &mut Share<A>) -> Front<A>
         ensures all { share.old.parts ≡ A.parts → length result ≡ share.old.amount }
         ensures own { share.old.amount ≤ length result }
@@ -184,7 +185,9 @@ pub struct Connection<'a, A: Account, R: Wait> {
 }
 
 impl<'a, A: Account, R: Wait> Connection<'a, A, R> {
-    /// A connection that knows the history as far as it has come. Waits for the lock.
+    /// A connection that goes on with this share, which counts the entries that it made. Waits for the lock.
+    ///
+    /// The code lets it know the history as far as it has come. No clause says how much of the history a new connection knows.
     pub fn new(rt: &'a R, lock: &'a AccountLock<A>, share: Share<A>) -> Self
         requires { share.parts ≡ 1 }
         ensures { result.share.amount ≡ share.amount }
