@@ -137,8 +137,9 @@ class Trials:
         self.refused, self.ways, self.unread, self.telling = {}, {}, [], threading.Lock()
 
     def is_refused(self, answer):
-        """Whether an answer of `rt` to an edit says that the prover refused it, also if only by a limit of its own."""
-        return answer in (self.rt.REFUSED, self.rt.AT_LIMIT)
+        """Whether an answer of `rt` to an edit says that the prover refused it, also if only by a limit of its own. A toolchain answers either with
+        a word of its own or with yes or no."""
+        return answer is True or answer in [getattr(self.rt, it) for it in ("REFUSED", "AT_LIMIT") if hasattr(self.rt, it)]
 
     def tell_unanswered(self, edit):
         with self.telling:
