@@ -41,6 +41,7 @@ fn copy_of(change: &Change) -> Result<Change, AllocError>
 
 impl Rows {
     ghost use Rattle.std.specs.FinMap as finite;
+    ghost use Rattle.stamp_values.specs.Trees.{is_below, is_from};
     ghost use Rattle.stamp_types.specs.Changes.{is_act, is_committed};
     ghost use Rattle.stamp_types.specs.Pieces.{pieces_len};
     ghost use Rattle.stamp_types.specs.World.{part_at, part_value, no_part, blob_in, changed, changed_in, same_pieces};
@@ -176,6 +177,21 @@ impl Rows {
     {
         let found = self.found_for(alloc, &change)?;
         self.take_found(alloc, change, found)
+    }
+
+    /// Takes the containers of `middle` and of each key after it out of the rows, and gives them. The
+    /// containers of the keys before `middle` stay. Each container goes or stays whole: with its count,
+    /// what it has beside its blobs, its blobs and their uncommitted blocks.
+    ///
+    /// `AllocError` if memory runs out. Each container is then where it was.
+    pub fn split_off(&mut self, middle: &Key) -> Result<Self, AllocError>
+        ensures below { OnOk result (self.new ≡ finite.retain_keys self.old (is_below middle.now)) }
+        ensures from { IfOk result (λ upper.
+            upper ≡ finite.retain_keys self.old (is_from middle.now)) }
+        ensures refused { OnErr result (self.new ≡ self.old) }
+    {
+        let containers = self.containers.split_off(middle)?;
+        Ok(Self { containers })
     }
 
     /// Makes a copy of a change, as `take` makes the change itself. The copy has texts of its own,
