@@ -72,6 +72,14 @@ all_nodes c = c.zero + c.one + c.two
 abbrev pub all_faults : Calls → ℕ
 all_faults c = all_nodes c.puts + all_nodes c.asks
 
+-- no number is smaller
+abbrev pub GrowsEach : Counts → Counts → Type 0
+GrowsEach old new = (old.zero ≤ new.zero) × (old.one ≤ new.one) × (old.two ≤ new.two)
+
+-- no fault is taken back
+abbrev pub Grows : Calls → Calls → Type 0
+Grows old new = GrowsEach old.puts new.puts × GrowsEach old.asks new.asks
+
 -- an append is short if and only if some put was not Done; a put failed to each node that did not take the block, and no node had two faults
 abbrev pub CountsAppend : Appended → Three → Calls → Calls → Type 0
 CountsAppend appended.All took old new = CountsNone old.puts new.puts × CountsNone old.asks new.asks

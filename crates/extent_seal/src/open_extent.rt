@@ -87,7 +87,7 @@ impl OpenExtent {
     ghost use Rattle.extent_seal.specs.Extents.{all_three, answer_of, replica};
     ghost use Rattle.extent_seal.specs.Seals.{Seals, IsCommitted};
     ghost use Rattle.extent_seal.specs.Appends.{IsAppended};
-    ghost use Rattle.extent_seal.specs.Counting.{AsksEach, CountsAppend, FailsEach, FailsUnless, PutsEach, SomeAnswers};
+    ghost use Rattle.extent_seal.specs.Counting.{AsksEach, CountsAppend, FailsEach, FailsUnless, Grows, PutsEach, SomeAnswers};
 
     /// An extent without blocks, and with room for none. Takes no memory.
     pub fn new(alloc: Global) -> Self
@@ -210,6 +210,7 @@ impl OpenExtent {
         ensures unreachable { result ≡ Err Unreachable → FailsEach (W.faults wire.old) (W.faults wire.new) }
         ensures answered { result ≢ Err Unreachable → SomeAnswers all_three (W.calls wire.old) (W.calls wire.new) (W.faults wire.old) (W.faults wire.new) }
         ensures unput { CountsNone (W.calls wire.old).puts (W.calls wire.new).puts }
+        ensures grown { Grows (W.faults wire.old) (W.faults wire.new) }
     {
         if wire.ask(Node::Zero) {
             return shared(self.zero.block(index));

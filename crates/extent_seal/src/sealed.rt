@@ -85,7 +85,7 @@ impl Sealed {
     ghost use Rattle.std.specs.Prelude.{◌≡◌, ◌≢◌, ◌<◌, Some, Err, length, IfOk, IfSome};
     ghost use Rattle.std.specs.List.{slice_get};
     ghost use Rattle.std.specs.Option.{is_some};
-    ghost use Rattle.extent_seal.specs.Counting.{AsksCopies, AsksNoOther, FailsCopies, SomeAnswers, all_faults};
+    ghost use Rattle.extent_seal.specs.Counting.{AsksCopies, AsksNoOther, FailsCopies, Grows, SomeAnswers, all_faults};
     ghost use Rattle.extent_seal.specs.Extents.{answer_of};
     ghost use Rattle.extent_seal.specs.declared.sealed.ReadFault.TheVariants.{Unreachable};
 
@@ -113,6 +113,7 @@ impl Sealed {
         ensures faulty { result ≡ Err Unreachable → all_faults (W.faults wire.old) < all_faults (W.faults wire.new) }
         ensures answered { result ≢ Err Unreachable → SomeAnswers self.now.kept (W.calls wire.old) (W.calls wire.new) (W.faults wire.old) (W.faults wire.new) }
         ensures discarded { AsksNoOther self.now.kept (W.calls wire.old) (W.calls wire.new) }
+        ensures grown { Grows (W.faults wire.old) (W.faults wire.new) }
     {
         if let Some(block) = asked(&self.zero, Node::Zero, index, wire) {
             return shared(block);

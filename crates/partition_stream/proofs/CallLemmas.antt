@@ -2,8 +2,8 @@
 use Rattle.std.proofs.Common.{◌≡◌, ◌≤◌, ℕ, ◌+◌, ◌*◌, ◌⊎◌, inl, inr, Result, Ok, Err, ap, arith}
 use Rattle.stamp_values.specs.declared.place.Place.{Place}
 use Rattle.extent_node.specs.Faults.{Calls, Counts, CountsNone, one_more}
-use Rattle.extent_seal.specs.Counting.{CountsEach}
-use Rattle.stream_manager.specs.Counting.{AsksAtMost, CallsAppend, CallsAtMost, CallsSeal, FailsAppend, FailsEachAtLeast, FailsPutsAtLeast, Grows, GrowsEach, PutsAtMost, PutsOnceOrTwice, PutsTwice}
+use Rattle.extent_seal.specs.Counting.{CountsEach, Grows, GrowsEach}
+use Rattle.stream_manager.specs.Counting.{AsksAtMost, CallsAppend, CallsAtMost, CallsSeal, FailsAppend, FailsEachAtLeast, FailsPutsAtLeast, PutsAtMost, PutsOnceOrTwice, PutsTwice}
 use Rattle.stream_manager.specs.declared.faults.AppendFault.TheVariants as append_fault
 use Rattle.stream_manager.specs.declared.faults.SettleFault.{SettleFault}
 use Rattle.stream_manager.specs.declared.faults.SettleFault.TheVariants as settle_fault

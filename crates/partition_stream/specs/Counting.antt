@@ -1,8 +1,8 @@
 -- How many calls and faults the wire counts over calls of the streams.
 use Rattle.std.specs.Prelude.{◌≡◌, ◌≤◌, ◌⊎◌, ℕ, ◌+◌, ◌*◌, length, Result, Ok, Err}
 use Rattle.extent_node.specs.Faults.{Calls, CountsNone}
-use Rattle.extent_seal.specs.Counting.{AsksEach, FailsEach}
-use Rattle.stream_manager.specs.Counting.{AsksAtMost, CallsAtMost, FailsDoubt, FailsEachAtLeast, FailsNoPut, FailsPutsAtLeast, Grows, PutsOnceOrTwice, PutsTwice}
+use Rattle.extent_seal.specs.Counting.{AsksEach, FailsEach, Grows}
+use Rattle.stream_manager.specs.Counting.{AsksAtMost, CallsAtMost, FailsDoubt, FailsEachAtLeast, FailsNoPut, FailsPutsAtLeast, PutsOnceOrTwice, PutsTwice}
 use Rattle.stream_manager.specs.declared.faults.SettleFault.{SettleFault}
 use Rattle.stream_manager.specs.declared.faults.SettleFault.TheVariants as settle_fault
 use Rattle.partition_stream.specs.Streams.{ThreeStreams}

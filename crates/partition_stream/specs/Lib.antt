@@ -4,6 +4,7 @@ pub mod Counting
 pub mod Logging
 pub mod Meanings
 pub mod Outcomes
+pub mod Parts
 pub mod Positions
 pub mod Storing
 pub mod Streams

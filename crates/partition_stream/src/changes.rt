@@ -1,6 +1,6 @@
 //! Changes that are read back, one after the other.
 ghost use Rattle.std.specs.Prelude.{◌≡◌, ◌≢◌, ◌<◌, ◌+◌, ◌++◌, ◌∷◌, ⊤, [], All, Some, Err, IfOk, IsSomeAnd, MatchOption};
-ghost use Rattle.extent_seal.specs.Counting.{all_faults};
+ghost use Rattle.extent_seal.specs.Counting.{Grows, all_faults};
 ghost use Rattle.extent_seal.specs.declared.sealed.ReadFault.TheVariants.{Unreachable};
 ghost use Rattle.stream_manager.specs.Places.{block_at, blocks_of};
 ghost use Rattle.stream_manager.specs.Streams.{laid};
@@ -70,6 +70,7 @@ fn change_at<W: Wire>(
     requires { IsSomeAnd (block_at (laid stream.now) place) (λ b. IsRecord b) }
     ensures read { IfOk result (λ r. IsSomeAnd (block_at (laid stream.now) place) (λ b. change_in b ≡ Some r)) }
     ensures unreachable { (result ≡ Err Unreachable) → all_faults (W.faults wire.old) < all_faults (W.faults wire.new) }
+    ensures grown { Grows (W.faults wire.old) (W.faults wire.new) }
 {
     let block = stream.read(place, wire)?;
     change_of(alloc, &block)
@@ -88,6 +89,7 @@ pub(crate) fn next_in<W: Wire>(
         (λ n. changes_of (before (laid stream.now) n.extent n.index) ≡ changes_of (before (laid stream.now) extent index) ++ (n.change, n.epoch) ∷ [])) }
     ensures unheard { IfOk result (λ o. MatchOption o (wire.new ≡ wire.old) (λ n. ⊤)) }
     ensures unreachable { (result ≡ Err Unreachable) → all_faults (W.faults wire.old) < all_faults (W.faults wire.new) }
+    ensures grown { Grows (W.faults wire.old) (W.faults wire.new) }
 {
     match next_block(stream, extent, index) {
         None => Ok(None),

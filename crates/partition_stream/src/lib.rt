@@ -6,6 +6,7 @@ mod data;
 mod faults;
 mod laws;
 mod logging;
+mod part;
 mod position;
 mod streams;
 
@@ -16,5 +17,6 @@ pub use laws::{
     an_acknowledged_change_is_one_more, an_empty_log_means_no_container, another_container_is_left,
     each_record_is_its_change, reading_first_or_last_is_the_same, stored_content_stays,
 };
+pub use part::Part;
 pub use position::Position;
 pub use streams::Streams;

@@ -5,6 +5,7 @@ use crate::changes::next_in;
 use crate::data::put_content;
 use crate::faults::{LogFault, PutFault};
 use crate::logging::{append_record, record_of};
+use crate::part::{Part, part_at};
 use crate::position::Position;
 use extent_node::Wire;
 use extent_seal::ReadFault;
@@ -38,7 +39,7 @@ impl Model for Streams {
 
 impl Streams {
     ghost use Rattle.std.specs.Prelude.{◌≡◌, ◌≢◌, ◌≤◌, ◌<◌, ◌⊎◌, ◌+◌, ◌++◌, ◌∷◌, ⊤, [], true, false, None, Err, IfOk, OnOk, OnErr, IsTrue, MatchOption, length, slice_range};
-    ghost use Rattle.extent_seal.specs.Counting.{AsksNoOther, SomeAnswers, all_faults};
+    ghost use Rattle.extent_seal.specs.Counting.{AsksNoOther, Grows, SomeAnswers, all_faults};
     ghost use Rattle.extent_seal.specs.declared.sealed.ReadFault.TheVariants.{Unreachable};
     ghost use Rattle.stamp_types.specs.Pieces.{is_held, piece_len};
     ghost use Rattle.stream_manager.specs.Counting.{CallsSettle, FailsSettle, kept_in};
@@ -47,8 +48,9 @@ impl Streams {
     ghost use Rattle.partition_stream.specs.Contents.{ArePlaced, EndsWithBlock, IsStored, bytes_at, extent_of};
     ghost use Rattle.partition_stream.specs.Counting.{CallsLog, CallsPut, CallsSeals, FailsLog, FailsPut, FailsSeals, sealed_extents};
     ghost use Rattle.partition_stream.specs.Outcomes.{IsKeptAt, IsLogged, IsLogSettled, IsLogSealed};
+    ghost use Rattle.partition_stream.specs.Parts.{is_piece_in_last};
     ghost use Rattle.partition_stream.specs.Positions.{all_changes, changes_before};
-    ghost use Rattle.partition_stream.specs.Storing.{IsStoredChange};
+    ghost use Rattle.partition_stream.specs.Storing.{AreKept, IsStoredChange};
     ghost use Rattle.partition_stream.specs.Streams.{AreSealed, HaveSameBlocks, HaveSameLimits, IsEmptyLast, logged};
     ghost use Rattle.partition_stream.specs.declared.faults.LogFault.TheVariants.{NoMemory};
     ghost use Rattle.partition_stream.specs.declared.faults.PutFault.TheVariants as put_fault;
@@ -70,6 +72,13 @@ impl Streams {
             blobs: Stream::new(alloc, extent_bytes),
             rows: Stream::new(alloc, extent_bytes),
         }
+    }
+
+    /// Tells the caller what the streams keep: their type has this as its invariant, which only this crate sees. Does nothing.
+    pub fn kept(&self)
+        ensures { AreKept self.now }
+    {
+        let _log = &self.log;
     }
 
     /// Puts content into the data, a block for each piece, and answers the pieces that say where these blocks are. No byte is copied.
@@ -226,6 +235,7 @@ impl Streams {
         requires within { end ≤ piece_len piece.now }
         ensures read { IfOk result (λ s. s ≡ slice_range (bytes_at (laid self.now.blobs) piece.now) start end) }
         ensures unreachable { result ≡ Err Unreachable → all_faults (W.faults wire.old) < all_faults (W.faults wire.new) }
+        ensures grown { Grows (W.faults wire.old) (W.faults wire.new) }
         ensures answered { result ≢ Err Unreachable → SomeAnswers (kept_in self.now.blobs.sealed (extent_of piece.now)) (W.calls wire.old) (W.calls wire.new) (W.faults wire.old) (W.faults wire.new) }
         ensures discarded { AsksNoOther (kept_in self.now.blobs.sealed (extent_of piece.now)) (W.calls wire.old) (W.calls wire.new) }
     {
@@ -237,6 +247,34 @@ impl Streams {
                     Err(AllocError) => Err(ReadFault::NoMemory),
                 }
             }
+            Piece::Bytes(_) => unreachable!(),
+        }
+    }
+
+    /// The bytes of a piece from `start` up to but not including `end`, to be read without the streams. No byte is copied.
+    ///
+    /// If the block of the piece is in the last extent of the data, the bytes are read now. If it is in a sealed extent, no node is
+    /// called, and this extent gets its count of owners when it is first shared. Unreachable: each node was asked for a block of the
+    /// last extent, and answered no.
+    pub fn part<W: Wire>(
+        &mut self,
+        piece: &Piece,
+        start: usize,
+        end: usize,
+        wire: &mut W,
+    ) -> Result<Part, ReadFault>
+        requires stored { IsStored (laid self.old.blobs) piece.now }
+        requires order { start ≤ end }
+        requires within { end ≤ piece_len piece.now }
+        ensures part { IfOk result (λ p. p.bytes ≡ slice_range (bytes_at (laid self.old.blobs) piece.now) start end) }
+        ensures read { IfOk result (λ p. p.is_read ≡ is_piece_in_last self.old.blobs piece.now) }
+        ensures same { self.new ≡ self.old }
+        ensures unheard { is_piece_in_last self.old.blobs piece.now ≡ false → wire.new ≡ wire.old }
+        ensures unreachable { result ≡ Err Unreachable → all_faults (W.faults wire.old) < all_faults (W.faults wire.new) }
+        ensures grown { Grows (W.faults wire.old) (W.faults wire.new) }
+    {
+        match piece {
+            Piece::At { place, .. } => part_at(&mut self.blobs, *place, start, end, wire),
             Piece::Bytes(_) => unreachable!(),
         }
     }
@@ -254,6 +292,7 @@ impl Streams {
         ensures unheard { IfOk result (λ o. MatchOption o (wire.new ≡ wire.old) (λ c. ⊤)) }
         ensures refused { OnErr result (position.new ≡ position.old) }
         ensures unreachable { result ≡ Err Unreachable → all_faults (W.faults wire.old) < all_faults (W.faults wire.new) }
+        ensures grown { Grows (W.faults wire.old) (W.faults wire.new) }
     {
         match next_in(
             &self.rows,
@@ -287,6 +326,7 @@ impl Streams {
             (λ c. changes_before self.now position.new ≡ changes_before self.now position.old ++ c ∷ [])) }
         ensures refused { OnErr result (position.new ≡ position.old) }
         ensures unreachable { result ≡ Err Unreachable → all_faults (W.faults wire.old) < all_faults (W.faults wire.new) }
+        ensures grown { Grows (W.faults wire.old) (W.faults wire.new) }
     {
         match next_in(&self.log, self.alloc, position.extent, position.index, wire)? {
             Some(next) => {
@@ -311,6 +351,7 @@ impl Streams {
             (λ c. changes_before self.now position.new ≡ changes_before self.now position.old ++ c ∷ [])) }
         ensures refused { OnErr result (changes_before self.now position.new ≡ changes_before self.now position.old) }
         ensures unreachable { result ≡ Err Unreachable → all_faults (W.faults wire.old) < all_faults (W.faults wire.new) }
+        ensures grown { Grows (W.faults wire.old) (W.faults wire.new) }
     {
         if position.in_log {
             return self.next_logged(position, wire);

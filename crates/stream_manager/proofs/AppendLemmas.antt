@@ -8,7 +8,8 @@ use Rattle.extent_seal.specs.Extents.{Open, Closed}
 use Rattle.stream_manager.specs.Extents.{closed_blocks, extents}
 use Rattle.stream_manager.specs.Places.{Follows, IsLastAt, Decides, is_kept}
 use Rattle.extent_node.specs.Faults.{Calls, Counts, CountsNone, one_more}
-use Rattle.stream_manager.specs.Counting.{AsksAtMost, CallsAppend, FailsAppend, Grows, GrowsEach, PutsOnceOrTwice, PutsTwice}
+use Rattle.extent_seal.specs.Counting.{Grows, GrowsEach}
+use Rattle.stream_manager.specs.Counting.{AsksAtMost, CallsAppend, FailsAppend, PutsOnceOrTwice, PutsTwice}
 use Rattle.stream_manager.specs.Outcomes.{IsPut, IsAppend}
 use Rattle.stream_manager.specs.declared.faults.AppendFault.{AppendFault}
 use Rattle.stream_manager.specs.declared.faults.AppendFault.TheVariants as fault

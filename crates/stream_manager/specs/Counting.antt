@@ -4,7 +4,7 @@ use Rattle.std.specs.List.{slice_get}
 use Rattle.std.specs.Option.{option_map_or}
 use Rattle.stamp_values.specs.declared.place.Place.{Place}
 use Rattle.extent_node.specs.Faults.{Calls, Counts, CountsNone, one_more}
-use Rattle.extent_seal.specs.Counting.{AsksEach, CountsEach, FailsEach, all_nodes}
+use Rattle.extent_seal.specs.Counting.{AsksEach, CountsEach, FailsEach, Grows, GrowsEach, all_nodes}
 use Rattle.extent_seal.specs.Extents.{Closed, Three, all_three}
 use Rattle.stream_manager.specs.declared.parts.Tried.{Tried}
 use Rattle.stream_manager.specs.declared.parts.Tried.TheVariants as tried
@@ -34,14 +34,6 @@ AsksAtMost more before after old new = (new.zero + before ≤ old.zero + after +
 -- at most so many puts to each node, and at most so many asks of each node beside one for each extent that was sealed
 abbrev pub CallsAtMost : ℕ → ℕ → ℕ → ℕ → Calls → Calls → Type 0
 CallsAtMost puts asks before after old new = PutsAtMost puts old.puts new.puts × AsksAtMost asks before after old.asks new.asks
-
--- no number is smaller
-abbrev pub GrowsEach : Counts → Counts → Type 0
-GrowsEach old new = (old.zero ≤ new.zero) × (old.one ≤ new.one) × (old.two ≤ new.two)
-
--- no fault is taken back
-abbrev pub Grows : Calls → Calls → Type 0
-Grows old new = GrowsEach old.puts new.puts × GrowsEach old.asks new.asks
 
 -- no put failed, and no failed ask is taken back
 abbrev pub FailsNoPut : Calls → Calls → Type 0

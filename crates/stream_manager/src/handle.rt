@@ -1,7 +1,10 @@
 //! Handles of sealed extents, which streams may share.
-ghost use Rattle.std.specs.Prelude.{◌≡◌, IfOk};
+ghost use Rattle.std.specs.Prelude.{◌≡◌, ◌<◌, Some, IfOk, length};
+ghost use Rattle.std.specs.List.{slice_get};
 
-use extent_seal::Sealed;
+use extent_node::Wire;
+use extent_seal::{ReadFault, Sealed};
+use stamp_values::Share;
 use std::alloc::{AllocError, Global};
 use std::marker::Model;
 use std::mem;
@@ -16,9 +19,11 @@ enum Held {
     Moved,
 }
 
-/// A sealed extent. Streams share it without a copy once it was shared.
+/// A sealed extent. Streams, and others that read it, share it without a copy once it was shared.
+///
+/// Its blocks stay in memory as long as there is a handle of it.
 #[derive(Drop)]
-pub(crate) struct Handle {
+pub struct Handle {
     held: Held,
 }
 
@@ -35,10 +40,13 @@ impl Model for Handle {
 }
 
 impl Handle {
-    ghost use Rattle.std.specs.Prelude.{◌≡◌, IfOk};
+    ghost use Rattle.std.specs.Prelude.{◌≡◌, ◌≢◌, ◌<◌, Some, Err, IfOk, length};
+    ghost use Rattle.std.specs.List.{slice_get};
+    ghost use Rattle.extent_seal.specs.Counting.{AsksCopies, AsksNoOther, FailsCopies, Grows, SomeAnswers, all_faults};
+    ghost use Rattle.extent_seal.specs.declared.sealed.ReadFault.TheVariants.{Unreachable};
 
     /// A handle of an extent that one stream has. Takes no memory.
-    pub fn new(sealed: Sealed) -> Self
+    pub(crate) fn new(sealed: Sealed) -> Self
         ensures { result ≡ sealed }
     {
         Self {
@@ -47,7 +55,7 @@ impl Handle {
     }
 
     /// Lends the extent.
-    pub fn extent(&self) -> &Sealed
+    pub(crate) fn extent(&self) -> &Sealed
         ensures { result.now ≡ self.now }
     {
         match &self.held {
@@ -57,8 +65,25 @@ impl Handle {
         }
     }
 
+    /// The block at an index of the extent. No byte is copied.
+    ///
+    /// The nodes that have a copy of the extent are asked in the order 0, 1, 2 until one of them answers yes. Unreachable: every node
+    /// with a copy was asked once and answered no.
+    pub fn read<W: Wire>(&self, index: usize, wire: &mut W) -> Result<Share, ReadFault>
+        requires { index < length self.now.blocks }
+        ensures read { IfOk result (λ b. slice_get self.now.blocks index ≡ Some b) }
+        ensures called { result ≡ Err Unreachable → AsksCopies self.now.kept (W.calls wire.old) (W.calls wire.new) }
+        ensures unreachable { result ≡ Err Unreachable → FailsCopies self.now.kept (W.faults wire.old) (W.faults wire.new) }
+        ensures faulty { result ≡ Err Unreachable → all_faults (W.faults wire.old) < all_faults (W.faults wire.new) }
+        ensures answered { result ≢ Err Unreachable → SomeAnswers self.now.kept (W.calls wire.old) (W.calls wire.new) (W.faults wire.old) (W.faults wire.new) }
+        ensures discarded { AsksNoOther self.now.kept (W.calls wire.old) (W.calls wire.new) }
+        ensures grown { Grows (W.faults wire.old) (W.faults wire.new) }
+    {
+        self.extent().read(index, wire)
+    }
+
     /// One more handle of the same extent. No block and no list of blocks is copied.
-    pub fn share(&mut self, alloc: Global) -> Result<Self, AllocError>
+    pub(crate) fn share(&mut self, alloc: Global) -> Result<Self, AllocError>
         ensures same { self.new ≡ self.old }
         ensures shared { IfOk result (λ h. h ≡ self.old) }
     {
@@ -92,4 +117,17 @@ pub(crate) fn share_all(handles: &mut Vec<Handle>, alloc: Global) -> Result<Vec<
         shared.push(handles[i].share(alloc)?)?;
     }
     Ok(shared)
+}
+
+/// One more handle of one of the extents.
+pub(crate) fn share_at(
+    handles: &mut Vec<Handle>,
+    at: usize,
+    alloc: Global,
+) -> Result<Handle, AllocError>
+    requires { at < length handles.old.items }
+    ensures same { handles.new.items ≡ handles.old.items }
+    ensures shared { IfOk result (λ h. slice_get handles.old.items at ≡ Some h) }
+{
+    handles[at].share(alloc)
 }

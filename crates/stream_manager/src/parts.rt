@@ -43,10 +43,10 @@ impl Parts {
     ghost use Rattle.extent_node.specs.Faults.{held};
     ghost use Rattle.extent_node.specs.Copies.{Block};
     ghost use Rattle.extent_node.specs.Faults.{CountsNone};
-    ghost use Rattle.extent_seal.specs.Counting.{AsksCopies, AsksEach, AsksNoOther, FailsCopies, FailsEach, SomeAnswers, all_faults};
+    ghost use Rattle.extent_seal.specs.Counting.{AsksCopies, AsksEach, AsksNoOther, FailsCopies, FailsEach, Grows, SomeAnswers, all_faults};
     ghost use Rattle.extent_seal.specs.declared.sealed.ReadFault.TheVariants.{Unreachable};
     ghost use Rattle.stamp_values.specs.declared.place.Place.{Place};
-    ghost use Rattle.stream_manager.specs.Counting.{AsksAtMost, Grows, CallsTry, FailsTry, CallsAppend, FailsAppend, CallsSettle, FailsSettle, CallsSeal, FailsSeal, kept_in};
+    ghost use Rattle.stream_manager.specs.Counting.{AsksAtMost, CallsTry, FailsTry, CallsAppend, FailsAppend, CallsSettle, FailsSettle, CallsSeal, FailsSeal, kept_in};
     ghost use Rattle.stream_manager.specs.Extents.{closed_blocks};
     ghost use Rattle.stream_manager.specs.Outcomes.{IsTried, IsPut, IsAppend, IsRefused, IsSettled, IsSealed};
     ghost use Rattle.stream_manager.specs.Parts.{EndsDoubt, IsReadyFor, IsSame, IsUnanswered, IsWhole, SealsAtMostOne, SealsLast, StaysWhole, extents_of};
@@ -334,6 +334,7 @@ impl Parts {
         ensures faulty { result ≡ Err Unreachable → all_faults (W.faults wire.old) < all_faults (W.faults wire.new) }
         ensures answered { result ≢ Err Unreachable → SomeAnswers (kept_in self.now.sealed.items place.extent) (W.calls wire.old) (W.calls wire.new) (W.faults wire.old) (W.faults wire.new) }
         ensures discarded { AsksNoOther (kept_in self.now.sealed.items place.extent) (W.calls wire.old) (W.calls wire.new) }
+        ensures grown { Grows (W.faults wire.old) (W.faults wire.new) }
     {
         let index = place.index as usize;
         match self.sealed.get(place.extent as usize) {

@@ -2,6 +2,7 @@
 ghost use Rattle.std.specs.Prelude.{◌≡◌};
 
 use crate::faults::{AppendFault, SettleFault, Settled};
+use crate::handle::{Handle, share_at};
 use crate::parts::Parts;
 use extent_node::Wire;
 use extent_seal::ReadFault;
@@ -30,7 +31,7 @@ impl Stream {
     ghost use Rattle.std.specs.Prelude.{◌≡◌, ◌≢◌, ◌↔◌, ◌⊎◌, ◌≤◌, ◌<◌, ◌+◌, [], None, Some, Ok, Err, length, IfOk, IsSome, IsSomeAnd};
     ghost use Rattle.std.specs.List.{slice_get};
     ghost use Rattle.std.specs.Option.{is_some};
-    ghost use Rattle.extent_seal.specs.Counting.{AsksCopies, AsksNoOther, FailsCopies, FailsEach, SomeAnswers, all_faults};
+    ghost use Rattle.extent_seal.specs.Counting.{AsksCopies, AsksNoOther, FailsCopies, FailsEach, Grows, SomeAnswers, all_faults};
     ghost use Rattle.extent_seal.specs.declared.sealed.ReadFault.TheVariants.{Unreachable};
     ghost use Rattle.stream_manager.specs.Counting.{CallsAppend, FailsAppend, CallsSettle, FailsSettle, CallsSeal, FailsSeal, kept_in};
     ghost use Rattle.stream_manager.specs.Outcomes.{IsAppend, IsRefused, IsSettled, IsSealed};
@@ -112,6 +113,7 @@ impl Stream {
         ensures faulty { result ≡ Err Unreachable → all_faults (W.faults wire.old) < all_faults (W.faults wire.new) }
         ensures answered { result ≢ Err Unreachable → SomeAnswers (kept_in self.now.sealed place.extent) (W.calls wire.old) (W.calls wire.new) (W.faults wire.old) (W.faults wire.new) }
         ensures discarded { AsksNoOther (kept_in self.now.sealed place.extent) (W.calls wire.old) (W.calls wire.new) }
+        ensures grown { Grows (W.faults wire.old) (W.faults wire.new) }
     {
         self.parts.read(place, wire)
     }
@@ -145,6 +147,24 @@ impl Stream {
         ensures { IsSomeAnd (slice_get (laid self.now) extent) (λ blocks. result ≡ length blocks) }
     {
         self.parts.extent_len(extent)
+    }
+
+    /// How many sealed extents there are. Their numbers come before the number of the last extent.
+    pub fn sealed_count(&self) -> usize
+        ensures { result ≡ length self.now.sealed }
+    {
+        self.parts.sealed.len()
+    }
+
+    /// One more handle of a sealed extent, which reads its blocks whatever becomes of the stream. No block is copied.
+    ///
+    /// An extent gets its count of owners when it is first shared. `AllocError`: the stream is as it was.
+    pub fn handle(&mut self, extent: usize) -> Result<Handle, AllocError>
+        requires { extent < length self.old.sealed }
+        ensures same { self.new ≡ self.old }
+        ensures shared { IfOk result (λ h. slice_get self.old.sealed extent ≡ Some h) }
+    {
+        share_at(&mut self.parts.sealed, extent, self.parts.alloc)
     }
 
     /// A stream with the same sealed extents under the same numbers, and without a block after them. No block is copied.

@@ -14,6 +14,8 @@ mod extent_tests;
 #[cfg(test)]
 mod log_tests;
 #[cfg(test)]
+mod part_tests;
+#[cfg(test)]
 mod partition_samples;
 #[cfg(test)]
 mod partition_share_tests;

@@ -14,7 +14,7 @@ use crate::sample_fields::text;
 use crate::sample_wires::script;
 use extent_node::Script;
 use extent_seal::ReadFault;
-use partition_stream::{LogFault, Position, PutFault, Streams};
+use partition_stream::{LogFault, Part, Position, PutFault, Streams};
 use stamp_types::{Act, BlockId, Bytes, Change, Key, Pieces, PutBlock, Share};
 use std::alloc::Global;
 use std::process::Abort;
@@ -270,5 +270,26 @@ pub(crate) fn part(
     match streams.read_part(piece, start, end, wire) {
         Ok(part) => part,
         Err(_) => Share::empty(),
+    }
+}
+
+/// The bytes of the first piece from `start` up to `end`, to be read without the streams.
+pub(crate) fn kept_part(
+    rt: &impl Abort,
+    streams: &mut Streams,
+    placed: &Pieces,
+    start: usize,
+    end: usize,
+    wire: &mut Script,
+) -> Part
+    requires { AreStored (laid streams.old.blobs) placed.now }
+{
+    let pieces = placed.as_slice();
+    assert!(rt; 0 < pieces.len());
+    let piece = &pieces[0];
+    assert!(rt; start <= end && end as u64 <= piece.len());
+    match streams.part(piece, start, end, wire) {
+        Ok(part) => part,
+        Err(_) => panic!(rt; "no fault"),
     }
 }

@@ -1,5 +1,6 @@
 use Rattle.std.proofs.Common.{take, ◌≡◌, ◌*◌, ◌⊎◌, length}
-use Rattle.stream_manager.specs.Counting.{CallsAtMost, Grows}
+use Rattle.extent_seal.specs.Counting.{Grows}
+use Rattle.stream_manager.specs.Counting.{CallsAtMost}
 use Rattle.stream_manager.specs.Places.{KeepsPlaces}
 use Rattle.stream_manager.specs.Streams.{laid}
 use Rattle.partition_stream.specs.Contents.{ArePlaced, EndsWithBlock}
