@@ -13,7 +13,7 @@ use Rattle.http_front.specs.declared.end.FrontFault.TheVariants.{Read, Write, Tu
 use Rattle.http_front.specs.declared.item.Stage.{Stage}
 use Rattle.http_front.specs.declared.item.Step.{Step}
 use Rattle.reply_form.specs.FixedReplies.{out_of_memory_bytes}
-use Rattle.http_front.specs.Connections.{ConnectionState, GivesUp, IsIdle, IsLeftBy, Sends}
+use Rattle.http_front.specs.Connections.{ConnectionState, Sends}
 use Rattle.http_front.specs.Conversations.{Exchange, item_of, moment_of, bytes_of, ClockGives, ServiceReplies, AnswersInput, BreaksOff, EndsAs, EndsByWrite, LeavesRun}
 use Rattle.http_front.specs.Conversations.Exchange.{Answered, RefusedAt}
 use Rattle.http_front.specs.Inputs.{IsCutAt}
@@ -148,10 +148,6 @@ module _ {C S : Type 0} (gives : C → ℕ → C → Type 0) (answers : S → As
       left = f.failed refl;
       flushed = tt;
     }
-
--- how a connection is left that is given up
-pub given_up_left : (a b : ConnectionState) → IsIdle a → GivesUp a.reader b.reader → b.writer ≡ a.writer → IsLeftBy Read b
-given_up_left a b idle up still = (rw up.1 (λ e. absurd (cc)), rw still (λ e. let both = sym idle.1 ∙ e in absurd (cc)))
 
 -- ---- one output
 

@@ -76,6 +76,16 @@ HoldsMore outputs.Failed held held' sent = (front : List ℕ) × (rest : List �
 abbrev pub Sends : WriterState → WriterState → List ℕ → Type 0
 Sends from to sent = HoldsMore to.output from.held to.held sent
 
+-- the writer was given the front of what was left to write, and this is left now
+pub record SendsFront (from to : WriterState) (pending pending' : List ℕ) : Type 0 where
+  pub front : List ℕ
+  pub parts : pending ≡ front ++ pending'
+  pub sent : Sends from to front
+
+-- what the writer does not take now is not waited for
+abbrev pub StopsWriting : WriterState → WriterState → Type 0
+StopsWriting from to = (to.held ≡ from.held) × (to.output ≡ outputs.Failed) × (to.told ≡ from.told)
+
 -- a read may be made, and a reply may be written
 abbrev pub IsOpen : ConnectionState → Type 0
 IsOpen connection = (connection.reader.input ≡ inputs.Open) × (connection.writer.output ≢ outputs.Failed)
@@ -84,6 +94,10 @@ IsOpen connection = (connection.reader.input ≡ inputs.Open) × (connection.wri
 abbrev pub IsIdle : ConnectionState → Type 0
 IsIdle connection =
     (connection.reader.input ≡ inputs.Open) × (connection.writer.output ≡ outputs.Flushed) × (0 < connection.reader.turns) × (connection.reader.told.waits ≡ true)
+
+-- a read may be made, no write failed, and the last write had to wait
+abbrev pub IsStalled : ConnectionState → Type 0
+IsStalled connection = (connection.reader.input ≡ inputs.Open) × (connection.writer.output ≢ outputs.Failed) × (connection.writer.told.waits ≡ true)
 
 -- the reader is at its end, and a reply may be written
 abbrev pub IsEnded : ConnectionState → Type 0

@@ -1,5 +1,5 @@
 -- A connection that is left while it waits, and gone on with.
-use Rattle.std.specs.Prelude.{◌≡◌, ◌≢◌, ℕ, List, [], ◌∷◌, Result, Ok, Err, IfSome}
+use Rattle.std.specs.Prelude.{◌≡◌, ◌≢◌, ℕ, Bool, true, false, List, [], ◌∷◌, Result, Ok, Err, IfSome}
 use Rattle.std.specs.Io.KnownBytes.{Appends}
 use Rattle.stamp_types.specs.Requests.{Asked}
 use Rattle.stamp_types.specs.declared.reply.Reply.{Reply}
@@ -11,7 +11,7 @@ use Rattle.http_front.specs.declared.end.FrontFault.TheVariants.{Read, Write, Tu
 use Rattle.http_front.specs.declared.item.Stage.{Stage}
 use Rattle.http_front.specs.declared.item.Step.{Step}
 use Rattle.http_front.specs.declared.item.Step.TheVariants.{Ended, Waits}
-use Rattle.http_front.specs.Connections.{ConnectionState, Sends}
+use Rattle.http_front.specs.Connections.{ConnectionState, GivesUp, Sends, StopsWriting}
 use Rattle.http_front.specs.Conversations.{AnswersInput, AnswersReceived, BreaksOff, EndsByWrite, EndsOutOfMemory, LeavesRun}
 use Rattle.http_front.specs.Outcomes.{IsOfWholeInput, UnlessWriteFailed, UnlessWriteOrMemoryFailed}
 use Rattle.http_front.specs.Steps.{Comes, Conversing, LeavesStep}
@@ -79,6 +79,12 @@ pub record HasRun {C S : Type 0} (gives : C → ℕ → C → Type 0) (answers :
   pub broken : result ≡ Err Write → EndsByWrite gives answers starves clock clock' world world' from to
   pub left : LeavesRun result to
   pub flushed : UnlessWriteFailed result (to.writer.output ≡ outputs.Flushed)
+
+-- What a connection waits for is not waited for, and that is as if a call had failed: a write if it waits for its writer, and otherwise
+-- a read.
+abbrev pub IsGivenUp : Bool → FrontFault → ConnectionState → ConnectionState → Type 0
+IsGivenUp true fault from to = (fault ≡ Write) × StopsWriting from.writer to.writer × (to.reader ≡ from.reader) × (to.bytes ≡ from.bytes)
+IsGivenUp false fault from to = (fault ≡ Read) × GivesUp from.reader to.reader × (to.writer ≡ from.writer) × (to.bytes ≡ from.bytes)
 
 -- the clock gives one moment at a time
 abbrev pub GivesOneMoment : {C : Type 0} → (C → ℕ → C → Type 0) → Type 0

@@ -1,29 +1,26 @@
 //! One connection: what was read of it, and what was written to it.
 ghost use Rattle.std.specs.Prelude.{◌≡◌, ◌≢◌, true, false, ◌+◌, ◌*◌, ◌<◌, ◌≤◌, [], ◌++◌, Ok, Err, IfOk, OnOk, IfErr, OnErr, IsOkUnless, length, take, drop};
 ghost use Rattle.request_form.specs.HeadForms.{with_body};
-ghost use Rattle.http_front.specs.Answers.{AnswersItem, LeavesItemUnanswered, found_closes};
 ghost use Rattle.http_front.specs.Connections.{fresh_connection, IsTold, ConnectionState, GivesByte, GivesBytes, GivesUp, IsOpen, Leaves, LeavesRead, LeavesTry};
-ghost use Rattle.http_front.specs.Connections.{LeavesWriter, ReadsOn, Sends};
+ghost use Rattle.http_front.specs.Connections.{LeavesWriter, ReadsOn, Sends, SendsFront, StopsWriting};
 ghost use Rattle.http_front.specs.HeadEnds.{IsSearched};
 ghost use Rattle.http_front.specs.Inputs.{IsFoundInBuffer, LeavesAwaited};
-ghost use Rattle.http_front.specs.Stages.{IsCallOf, IsShort, IsStaged, LeavesBody, LeavesFound, ReadsFound, Suspends, TakesWork, work};
-ghost use Rattle.http_front.specs.Outcomes.{UnlessMemoryFailed};
+ghost use Rattle.http_front.specs.Stages.{IsCallOf, IsPartial, IsShort, LeavesBody, LeavesFound, ReadsFound, Suspends, TakesWork, item_work};
 ghost use Rattle.http_front.specs.Streams.{HasHead, interim};
 ghost use Rattle.http_front.specs.declared.counted.Input.{Input};
 ghost use Rattle.http_front.specs.declared.counted.Output.{Output};
 ghost use Rattle.http_front.specs.declared.counted.Came.{Came};
 ghost use Rattle.http_front.specs.declared.end.FrontFault.{FrontFault};
 ghost use Rattle.http_front.specs.declared.item.Awaited.{Awaited};
-ghost use Rattle.http_front.specs.declared.item.Stage.{Stage};
+ghost use Rattle.http_front.specs.declared.item.PartialItem.{PartialItem};
 
-use crate::answers::answer_item;
 use crate::buffer::Buffer;
 use crate::counted::{Came, CountedReader, CountedWriter};
 use crate::end::FrontFault;
 use crate::head_end::Search;
-use crate::item::{Awaited, Begun, Call, Found, NextItem, Stage};
+use crate::item::{Asking, Awaited, Begun, Call, Found, NextItem, PartialItem};
 use crate::library::{StdReader, StdWriter};
-use crate::service::{Clock, Service};
+use crate::pending::Pending;
 use reply_form::interim_reply;
 use request_form::{HEAD_LIMIT, Head, HeadFault, no_head, read_head};
 use stamp_types::{Gathering, Request};
@@ -93,6 +90,14 @@ fn join(alloc: Global, head: Head, body: Gathering) -> Result<Found, FrontFault>
     })))
 }
 
+// The interim reply, if the head asks for it (RFC 9110, section 10.1.1).
+#[tactic(auto, unfolding(crate::specs::Streams::interim))]
+fn interim_of(head: &Head) -> &'static [u8]
+    ensures { result.now ≡ interim head.now }
+{
+    if head.expects() { interim_reply() } else { b"" }
+}
+
 impl<R: Read, W: Write> Connection<R, W> {
     /// A connection on which nothing was read or written. At most `turns` reads are made on it, and one read asks for at most 8,192
     /// bytes. The call takes no memory.
@@ -133,7 +138,7 @@ impl<R: Read, W: Write> Connection<R, W> {
 
     /// Writes all of the bytes.
     ///
-    /// `Write` if a write fails; then no more is written.
+    /// `Write` if a write fails, or if the writer takes nothing now. Then no more is written.
     pub fn send(&mut self, bytes: &[u8]) -> Result<(), FrontFault>
         requires { self.old.writer.output ≢ Output.Failed }
         ensures sent { Sends self.old.writer self.new.writer bytes.now }
@@ -147,7 +152,7 @@ impl<R: Read, W: Write> Connection<R, W> {
 
     /// Flushes what was written.
     ///
-    /// `Write` if the flush fails.
+    /// `Write` if the flush fails, or if it would have to wait.
     pub fn flush(&mut self) -> Result<(), FrontFault>
         requires { self.old.writer.output ≢ Output.Failed }
         ensures unwritten { Sends self.old.writer self.new.writer [] }
@@ -200,6 +205,16 @@ impl<R: Read, W: Write> Connection<R, W> {
         ensures still { (self.new.writer ≡ self.old.writer) × (self.new.bytes ≡ self.old.bytes) }
     {
         self.reader.give_up();
+    }
+
+    /// Notes that what the writer does not take now is not waited for. That is as if a write had failed.
+    pub fn give_up_writing(&mut self)
+        requires open { self.old.writer.output ≢ Output.Failed }
+        requires waits { self.old.writer.told.waits ≡ true }
+        ensures gave_up { StopsWriting self.old.writer self.new.writer }
+        ensures still { (self.new.reader ≡ self.old.reader) × (self.new.bytes ≡ self.old.bytes) }
+    {
+        self.writer.give_up();
     }
 
     /// Reads once, and returns whether a byte came. It came after the bytes that are not taken yet. If the reader has nothing now, that
@@ -317,35 +332,52 @@ impl<R: Read, W: Write> Connection<R, W> {
         Ok(body)
     }
 
-    // Writes the interim reply if the head asks for it (RFC 9110, section 10.1.1).
-    #[tactic(auto, unfolding(crate::specs::Streams::interim))]
-    fn send_interim(&mut self, head: &Head) -> Result<(), FrontFault>
+    // Writes the bytes until all of them are taken, or until the writer takes nothing now. Returns how many were taken.
+    fn send_on(&mut self, bytes: &[u8]) -> Result<usize, FrontFault>
         requires { IsOpen self.old }
-        ensures sent { Sends self.old.writer self.new.writer (interim head.now) }
+        ensures taken { IfOk result (λ n. (n ≤ length bytes.now)
+            × Sends self.old.writer self.new.writer (take n bytes.now)) }
+        ensures waits { IfOk result (λ n. n < length bytes.now → self.new.writer.told.waits ≡ true) }
+        ensures cut { OnErr result (Sends self.old.writer self.new.writer bytes.now) }
         ensures unread { (self.new.reader ≡ self.old.reader) × (self.new.bytes ≡ self.old.bytes) }
         ensures left { Leaves result self.new }
         ensures fault { IsOkUnless result FrontFault.Write }
     {
-        if head.expects() {
-            self.send(interim_reply())
-        } else {
-            self.send(b"")
+        self.writer.send_on(bytes)
+    }
+
+    /// Writes on at a reply until all of it is taken, or until the writer takes nothing now. Returns whether all is taken.
+    pub(crate) fn send_pending(&mut self, pending: &mut Pending) -> Result<bool, FrontFault>
+        requires { self.old.writer.output ≢ Output.Failed }
+        ensures sent { IfOk result (λ _. SendsFront self.old.writer self.new.writer pending.old pending.new) }
+        ensures whole { result ≡ Ok true → pending.new ≡ [] }
+        ensures waits { result ≡ Ok false → (pending.new ≢ []) × (self.new.writer.told.waits ≡ true) }
+        ensures cut { OnErr result (Sends self.old.writer self.new.writer pending.old) }
+        ensures unread { (self.new.reader ≡ self.old.reader) × (self.new.bytes ≡ self.old.bytes) }
+        ensures left { LeavesWriter result self.new.writer }
+        ensures fault { IsOkUnless result FrontFault.Write }
+    {
+        pending.send_on(&mut self.writer)
+    }
+
+    // Gives the room of the buffer back if no byte is in it.
+    fn give_room_back(&mut self, alloc: Global)
+        ensures { self.new ≡ self.old }
+    {
+        if self.buffer.is_empty() {
+            self.buffer = Buffer::new(alloc);
         }
     }
 
-    // Takes a head off the buffer that is at the front, and what came of its body, and writes the interim reply if the head asks for it.
+    // Takes a head off the buffer that is at the front, and what came of its body.
     fn begin(&mut self, alloc: Global, head: Head, count: usize) -> Result<Begun, FrontFault>
-        requires open { IsOpen self.old }
-        requires head { HasHead self.old.bytes count head }
+        requires { HasHead self.old.bytes count head }
         ensures begun { IfOk result (λ begun.
             (begun.head ≡ head) × (begun.body ++ self.new.bytes ≡ drop count self.old.bytes)
             × IsShort head.body_len begun.body self.new.bytes) }
-        ensures sent { Sends self.old.writer self.new.writer (interim head) }
-        ensures unread { self.new.reader ≡ self.old.reader }
-        ensures fault { IfErr result (λ fault. (fault ≢ FrontFault.Read) × (fault ≢ FrontFault.Turns)) }
-        ensures left { Leaves result self.new }
+        ensures unread { (self.new.reader ≡ self.old.reader) × (self.new.writer ≡ self.old.writer) }
+        ensures fault { IsOkUnless result FrontFault.NoMemory }
     {
-        self.send_interim(&head)?;
         let body = self.take_start(alloc, count, head.body_len())?;
         Ok(Begun { head, body })
     }
@@ -354,15 +386,15 @@ impl<R: Read, W: Write> Connection<R, W> {
     fn next_in_body(&mut self, alloc: Global, begun: Begun) -> Result<Found, FrontFault>
         requires open { IsOpen self.old }
         requires short { IsShort begun.head.body_len begun.body self.old.bytes }
-        ensures read { (from : ConnectionState) → Suspends from (Stage.InBody begun) self.old → ReadsFound result from self.new }
-        ensures less { TakesWork result (work (Stage.InBody begun) self.old) self.new }
+        ensures read { (from : ConnectionState) → Suspends from (PartialItem.InBody begun) self.old → ReadsFound result from self.new }
+        ensures less { TakesWork result (item_work (PartialItem.InBody begun) self.old) self.new }
         ensures left { LeavesFound result self.new }
     {
         let Begun { head, mut body } = begun;
         let body_len = head.body_len();
         match self.await_body(&mut body, body_len) {
             Ok(true) => join(alloc, head, body),
-            Ok(false) => Ok(Found::Waits(Stage::InBody(Begun { head, body }))),
+            Ok(false) => Ok(Found::Waits(PartialItem::InBody(Begun { head, body }))),
             Err(fault) => {
                 drop(head);
                 Err(fault)
@@ -370,19 +402,46 @@ impl<R: Read, W: Write> Connection<R, W> {
         }
     }
 
+    // Writes the rest of the interim reply, and then reads the body.
+    fn next_in_interim(&mut self, alloc: Global, asking: Asking) -> Result<Found, FrontFault>
+        requires open { IsOpen self.old }
+        requires partial { IsPartial (PartialItem.Asking asking) self.old }
+        ensures read { (from : ConnectionState) → Suspends from (PartialItem.Asking asking) self.old → ReadsFound result from self.new }
+        ensures less { TakesWork result (item_work (PartialItem.Asking asking) self.old) self.new }
+        ensures left { LeavesFound result self.new }
+    {
+        let Asking { begun, taken } = asking;
+        let rest = &interim_of(&begun.head)[taken..];
+        let count = match self.send_on(rest) {
+            Ok(count) => count,
+            Err(fault) => {
+                drop(begun);
+                return Err(fault);
+            }
+        };
+        if count < rest.len() {
+            let taken = taken + count;
+            return Ok(Found::Waits(PartialItem::Asking(Asking { begun, taken })));
+        }
+        self.next_in_body(alloc, begun)
+    }
+
     // Reads on in a head, and then in its body.
     fn next_in_head(&mut self, alloc: Global, mut search: Search) -> Result<Found, FrontFault>
         requires open { IsOpen self.old }
         requires searched { IsSearched search self.old.bytes }
-        ensures read { (from : ConnectionState) → Suspends from (Stage.InHead search) self.old → ReadsFound result from self.new }
-        ensures less { TakesWork result (work (Stage.InHead search) self.old) self.new }
+        ensures read { (from : ConnectionState) → Suspends from (PartialItem.InHead search) self.old → ReadsFound result from self.new }
+        ensures less { TakesWork result (item_work (PartialItem.InHead search) self.old) self.new }
         ensures left { LeavesFound result self.new }
     {
         let count = match self.await_head(&mut search)? {
             Awaited::Head(count) => count,
             Awaited::TooLong => return Ok(Found::Whole(NextItem::Refused(no_head()))),
             Awaited::End => return Ok(Found::End),
-            Awaited::Nothing => return Ok(Found::Waits(Stage::InHead(search))),
+            Awaited::Nothing => {
+                self.give_room_back(alloc);
+                return Ok(Found::Waits(PartialItem::InHead(search)));
+            }
         };
         let head = match read_head(alloc, &self.buffer.as_slice()[..count]) {
             Ok(head) => head,
@@ -392,43 +451,25 @@ impl<R: Read, W: Write> Connection<R, W> {
             Err(HeadFault::NoMemory) => return Err(FrontFault::NoMemory),
         };
         let begun = self.begin(alloc, head, count)?;
-        self.next_in_body(alloc, begun)
+        self.next_in_interim(alloc, Asking { begun, taken: 0 })
     }
 
-    /// Reads the next item from the stage on to which it has come, and takes a request off the buffer.
-    pub(crate) fn next_item(&mut self, alloc: Global, stage: Stage) -> Result<Found, FrontFault>
-        requires open { IsOpen self.old }
-        requires staged { IsStaged stage self.old }
-        ensures read { (from : ConnectionState) → Suspends from stage self.old → ReadsFound result from self.new }
-        ensures less { TakesWork result (work stage self.old) self.new }
-        ensures left { LeavesFound result self.new }
-    {
-        match stage {
-            Stage::InHead(search) => self.next_in_head(alloc, search),
-            Stage::InBody(begun) => self.next_in_body(alloc, begun),
-        }
-    }
-
-    /// Answers an item at the one moment that the clock gives for it, and returns whether the item ends the connection.
-    pub(crate) fn answer<C: Clock, S: Service>(
+    /// Reads the next item from where it has come to on, and takes a request off the buffer.
+    pub(crate) fn next_item(
         &mut self,
         alloc: Global,
-        clock: &mut C,
-        service: &mut S,
-        found: NextItem,
-    ) -> Result<bool, FrontFault>
-        requires { self.old.writer.output ≢ Output.Failed }
-        ensures answered { UnlessMemoryFailed result (AnswersItem C.gives S.answers
-            clock.old clock.new (S.world service.old) (S.world service.new)
-            self.old.writer self.new.writer found) }
-        ensures closes { IfOk result (λ closes. closes ≡ found_closes found) }
-        ensures unanswered { result ≡ Err FrontFault.NoMemory →
-            LeavesItemUnanswered C.gives S.answers S.starves
-            clock.old clock.new (S.world service.old) (S.world service.new) found
-            × (self.new.writer ≡ self.old.writer) }
-        ensures unread { (self.new.reader ≡ self.old.reader) × (self.new.bytes ≡ self.old.bytes) }
-        ensures left { LeavesWriter result self.new.writer }
+        item: PartialItem,
+    ) -> Result<Found, FrontFault>
+        requires open { IsOpen self.old }
+        requires partial { IsPartial item self.old }
+        ensures read { (from : ConnectionState) → Suspends from item self.old → ReadsFound result from self.new }
+        ensures less { TakesWork result (item_work item self.old) self.new }
+        ensures left { LeavesFound result self.new }
     {
-        answer_item(alloc, &mut self.writer, clock, service, found)
+        match item {
+            PartialItem::InHead(search) => self.next_in_head(alloc, search),
+            PartialItem::Asking(asking) => self.next_in_interim(alloc, asking),
+            PartialItem::InBody(begun) => self.next_in_body(alloc, begun),
+        }
     }
 }

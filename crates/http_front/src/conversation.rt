@@ -2,25 +2,109 @@
 ghost use Rattle.std.specs.Prelude.{◌≡◌, ◌≢◌, [], Err, IfSome};
 ghost use Rattle.reply_form.specs.FixedReplies.{out_of_memory_bytes};
 ghost use Rattle.http_front.specs.Connections.{ConnectionState, IsFresh, IsOpen, IsTold, Sends};
-ghost use Rattle.http_front.specs.Resumptions.{Finishes};
-ghost use Rattle.http_front.specs.Stages.{IsStaged};
-ghost use Rattle.http_front.specs.Steps.{Comes, Conversing, LeavesStep};
+ghost use Rattle.http_front.specs.Resumptions.{Finishes, IsGivenUp};
+ghost use Rattle.http_front.specs.Stages.{IsPartial, IsStaged, IsWaiting, item_work, wants_write, work};
+ghost use Rattle.http_front.specs.Steps.{Comes, ComesOn, Conversing, HasLess, IsReading, LeavesOn, LeavesStep, WritesReply};
 ghost use Rattle.http_front.specs.Conversations.{AnswersInput, AnswersReceived, EndsByWrite, EndsOutOfMemory};
 ghost use Rattle.http_front.specs.Conversations.{BreaksOff, LeavesRun};
 ghost use Rattle.http_front.specs.Outcomes.{IsOfWholeInput, UnlessWriteFailed, UnlessWriteOrMemoryFailed};
 ghost use Rattle.http_front.specs.declared.counted.Output.{Output};
 ghost use Rattle.http_front.specs.declared.end.FrontFault.{FrontFault};
 
+use crate::answers::answer_item;
 use crate::connection::Connection;
 use crate::end::{End, FrontFault};
-use crate::item::{Found, Stage, Step};
+use crate::item::{Found, PartialItem, PartialReply, Stage, Step};
 use crate::service::{Clock, Service};
 use reply_form::out_of_memory_reply;
 use std::alloc::Global;
 use std::io::{Read, Write};
 
-/// Goes on with a connection whose next item has come to a stage: reads, answers and writes until the connection ends, or until nothing
-/// comes now. Then the step says how far the next item has come, and the connection can be gone on with once the reader has more.
+// Writes on at a reply. `None` if all of it is taken and the connection goes on after it.
+fn reply_on<R: Read, W: Write>(
+    connection: &mut Connection<R, W>,
+    reply: PartialReply,
+) -> Result<Option<Step>, FrontFault>
+    requires { connection.old.writer.output ≢ Output.Failed }
+    ensures written { WritesReply reply result connection.old.writer connection.new.writer }
+    ensures unread { (connection.new.reader ≡ connection.old.reader)
+        × (connection.new.bytes ≡ connection.old.bytes) }
+{
+    let PartialReply {
+        mut pending,
+        closes,
+    } = reply;
+    match connection.send_pending(&mut pending) {
+        Err(fault) => {
+            drop(pending);
+            return Err(fault);
+        }
+        Ok(false) => {
+            let reply = PartialReply { pending, closes };
+            return Ok(Some(Step::Waits(Stage::Replying(reply))));
+        }
+        Ok(true) => {
+            drop(pending);
+        }
+    }
+    if closes {
+        return Ok(Some(Step::Ended(End::Closed)));
+    }
+    Ok(None)
+}
+
+// Reads on at an item, and answers it once it is whole. `None` if it is answered and the connection goes on after it.
+fn read_on<R: Read, W: Write, C: Clock, S: Service>(
+    alloc: Global,
+    connection: &mut Connection<R, W>,
+    item: PartialItem,
+    clock: &mut C,
+    service: &mut S,
+) -> Result<Option<Step>, FrontFault>
+    requires open { IsOpen connection.old }
+    requires partial { IsPartial item connection.old }
+    ensures comes { (first : C) (start : S.World) (from : ConnectionState) →
+        IsReading C.gives S.answers first clock.old start (S.world service.old) from item connection.old →
+        ComesOn C.gives S.answers S.starves first clock.new start (S.world service.new) from connection.new result }
+    ensures less { HasLess result (item_work item connection.old) connection.new }
+    ensures left { LeavesOn result connection.new }
+{
+    match connection.next_item(alloc, item)? {
+        Found::End => return Ok(Some(Step::Ended(End::Clean))),
+        Found::Waits(item) => return Ok(Some(Step::Waits(Stage::Reading(item)))),
+        Found::Whole(found) => {
+            let reply = answer_item(alloc, clock, service, found)?;
+            return reply_on(connection, reply);
+        }
+    }
+}
+
+// Goes on with a connection up to the end of one reply. `None` if the connection goes on after it.
+fn go_on<R: Read, W: Write, C: Clock, S: Service>(
+    alloc: Global,
+    connection: &mut Connection<R, W>,
+    stage: Stage,
+    clock: &mut C,
+    service: &mut S,
+) -> Result<Option<Step>, FrontFault>
+    requires open { IsOpen connection.old }
+    requires staged { IsStaged stage connection.old }
+    ensures comes { (first : C) (start : S.World) (from : ConnectionState) →
+        Conversing C.gives S.answers first clock.old start (S.world service.old) from stage connection.old →
+        ComesOn C.gives S.answers S.starves first clock.new start (S.world service.new) from connection.new result }
+    ensures less { HasLess result (work stage connection.old) connection.new }
+    ensures left { LeavesOn result connection.new }
+{
+    match stage {
+        Stage::Reading(item) => read_on(alloc, connection, item, clock, service),
+        Stage::Replying(reply) => reply_on(connection, reply),
+    }
+}
+
+/// Goes on with a connection whose next item, or the reply to it, has come to a stage: reads, answers and writes until the connection
+/// ends, or until the reader has nothing now or the writer takes nothing now. Then the step says how far the item or its reply has come,
+/// and the connection can be gone on with once the reader has more, or once the writer takes more. No item is read while a reply
+/// waits, so at most one reply is held.
 ///
 /// If memory runs out, no part of the answer to the item is written, and the fixed bytes that say so are not written either.
 pub fn advance<R: Read, W: Write, C: Clock, S: Service>(
@@ -40,20 +124,32 @@ pub fn advance<R: Read, W: Write, C: Clock, S: Service>(
 {
     let mut stage = stage;
     loop {
-        match connection.next_item(alloc, stage)? {
-            Found::End => return Ok(Step::Ended(End::Clean)),
-            Found::Waits(stage) => return Ok(Step::Waits(stage)),
-            Found::Whole(found) => {
-                if connection.answer(alloc, clock, service, found)? {
-                    return Ok(Step::Ended(End::Closed));
-                }
-            }
+        match go_on(alloc, connection, stage, clock, service)? {
+            Some(step) => return Ok(step),
+            None => stage = Stage::new(),
         }
-        stage = Stage::new();
     }
 }
 
-// Reads, answers and writes until the connection ends. A reader that has nothing now is not waited for.
+/// Gives up a connection that waits: what the reader has not now, or what the writer does not take now, is not waited for. That is as
+/// if a read or a write had failed. Returns how the connection ended: `Write` if bytes of a reply or of an interim reply were left to
+/// write, and otherwise `Read`.
+pub fn give_up<R: Read, W: Write>(connection: &mut Connection<R, W>, stage: Stage) -> FrontFault
+    requires { IsWaiting stage connection.old }
+    ensures { IsGivenUp (wants_write stage) result connection.old connection.new }
+{
+    let writes = stage.wants_write();
+    drop(stage);
+    if writes {
+        connection.give_up_writing();
+        return FrontFault::Write;
+    }
+    connection.give_up();
+    FrontFault::Read
+}
+
+// Reads, answers and writes until the connection ends. A reader that has nothing now is not waited for, and neither is a writer that
+// takes nothing now.
 fn converse<R: Read, W: Write, C: Clock, S: Service>(
     alloc: Global,
     connection: &mut Connection<R, W>,
@@ -79,11 +175,7 @@ fn converse<R: Read, W: Write, C: Clock, S: Service>(
     let step = advance(alloc, connection, Stage::new(), clock, service)?;
     match step {
         Step::Ended(end) => return Ok(end),
-        Step::Waits(stage) => {
-            drop(stage);
-            connection.give_up();
-            return Err(FrontFault::Read);
-        }
+        Step::Waits(stage) => return Err(give_up(connection, stage)),
     }
 }
 
@@ -107,7 +199,8 @@ fn end_out_of_memory<R: Read, W: Write>(connection: &mut Connection<R, W>) -> Fr
 }
 
 /// Finishes a connection that came to its end by [`advance`]: if memory ran out, the fixed bytes that say so are written, and what
-/// was written is flushed. Returns how the connection ended: `Write` if a write or the flush fails.
+/// was written is flushed. Returns how the connection ended: `Write` if a write or the flush fails. These last calls are not waited for:
+/// if the writer takes nothing now, or does not flush now, that is as if the call had failed.
 #[tactic(auto, using(crate::proofs::Resumed::finished_broken, crate::proofs::Resumed::finished_starved, crate::proofs::Resumed::finished_flushed, crate::proofs::Resumed::finished_unflushed))]
 pub fn finish<R: Read, W: Write>(
     connection: &mut Connection<R, W>,
@@ -126,7 +219,8 @@ pub fn finish<R: Read, W: Write>(
     ended
 }
 
-/// Serves one connection, on which nothing was read or written yet: reads, answers and writes until it ends.
+/// Serves one connection, on which nothing was read or written yet: reads, answers and writes until it ends. If the reader has nothing
+/// now, that is as if a read had failed, and if the writer takes nothing now, that is as if a write had failed.
 ///
 /// The clock is read once for each item, after the item is whole. If memory runs out, no part of the answer to the item is
 /// written: the fixed bytes that say that memory ran out are written in its place, and the run ends with `NoMemory`. If those

@@ -2,7 +2,7 @@
 ghost use Rattle.std.specs.Prelude.{◌≡◌, ◌≢◌, ◌↔◌, ◌<◌, ◌≤◌, true, [], Ok, Err, IfOk, OnOk, OnErr, IsOkUnless, IsTrue, length, take};
 ghost use Rattle.std.specs.Io.KnownBytes.{Appends, Keeps};
 ghost use Rattle.http_front.specs.Calls.{IsMarkedInput, IsMarkedOutput, no_reads, no_writes};
-ghost use Rattle.http_front.specs.Connections.{GivesUp, ReadsOnce, Sends};
+ghost use Rattle.http_front.specs.Connections.{GivesUp, ReadsOnce, Sends, StopsWriting};
 ghost use Rattle.http_front.specs.declared.incoming.Missed.{Missed};
 ghost use Rattle.http_front.specs.declared.counted.Input.{Input};
 ghost use Rattle.http_front.specs.declared.counted.Output.{Output};
@@ -207,7 +207,8 @@ impl<W: Outgoing> CountedWriter<W> {
         Ok(())
     }
 
-    // Writes once, and returns how many bytes were taken: at least one. A write that was interrupted is not noted.
+    // Writes once, and returns how many bytes were taken: at least one. A write that was interrupted, or that would have to wait, is not
+    // noted.
     fn write_once(&mut self, bytes: &[u8]) -> Result<usize, Missed>
         requires open { self.old.output ≢ Output.Failed }
         requires some { 0 < length bytes.now }
@@ -215,9 +216,9 @@ impl<W: Outgoing> CountedWriter<W> {
             × Appends self.old.held self.new.held (take n bytes.now)) }
         ensures output { OnOk result (self.new.output ≡ Output.Pending) }
         ensures unwritten { OnErr result (Keeps self.old.held self.new.held) }
-        ensures interrupted { result ≡ Err Missed.Interrupted →
-            (self.new.output ≡ self.old.output) × (self.new.told.waits ≡ true) }
-        ensures failed { OnErr result (result ≢ Err Missed.Interrupted → self.new.output ≡ Output.Failed) }
+        ensures waits { OnErr result (result ≢ Err Missed.Failed →
+            (self.new.output ≡ self.old.output) × (self.new.told.waits ≡ true)) }
+        ensures failed { result ≡ Err Missed.Failed → self.new.output ≡ Output.Failed }
     {
         match self.writer.write(bytes) {
             Ok(0) => {
@@ -228,59 +229,69 @@ impl<W: Outgoing> CountedWriter<W> {
                 self.output = Output::Pending;
                 Ok(n)
             }
+            Err(Missed::Waits) => Err(Missed::Waits),
             Err(Missed::Interrupted) => Err(Missed::Interrupted),
-            Err(missed) => {
+            Err(Missed::Failed) => {
                 self.output = Output::Failed;
-                Err(missed)
+                Err(Missed::Failed)
             }
         }
     }
 
-    // Writes once, and returns how many bytes were taken: at least one. A write that was interrupted has failed.
+    // Writes once, and returns how many bytes were taken: none if the writer takes nothing now. A write that was interrupted has failed.
     fn write_last(&mut self, bytes: &[u8]) -> Result<usize, FrontFault>
         requires open { self.old.output ≢ Output.Failed }
         requires some { 0 < length bytes.now }
-        ensures written { IfOk result (λ n. (0 < n) × (n ≤ length bytes.now)
+        ensures written { IfOk result (λ n. (n ≤ length bytes.now)
             × Appends self.old.held self.new.held (take n bytes.now)) }
-        ensures output { OnOk result (self.new.output ≡ Output.Pending) }
+        ensures waits { result ≡ Ok 0 → self.new.told.waits ≡ true }
         ensures unwritten { OnErr result (Keeps self.old.held self.new.held) }
+        ensures output { OnOk result (self.new.output ≢ Output.Failed) }
         ensures failed { OnErr result (self.new.output ≡ Output.Failed) }
         ensures fault { IsOkUnless result FrontFault.Write }
     {
         match self.write_once(bytes) {
             Ok(n) => Ok(n),
-            Err(_) => {
+            Err(Missed::Waits) => Ok(0),
+            Err(Missed::Interrupted) => {
                 self.output = Output::Failed;
                 Err(FrontFault::Write)
             }
+            Err(Missed::Failed) => Err(FrontFault::Write),
         }
     }
 
-    // Writes some of the bytes at least, and returns how many. An interrupted write is made again.
+    // Writes some of the bytes, and returns how many: none if the writer takes nothing now. An interrupted write is made again.
     fn write_some(&mut self, bytes: &[u8]) -> Result<usize, FrontFault>
         requires open { self.old.output ≢ Output.Failed }
         requires some { 0 < length bytes.now }
-        ensures written { IfOk result (λ n. (0 < n) × (n ≤ length bytes.now)
+        ensures written { IfOk result (λ n. (n ≤ length bytes.now)
             × Appends self.old.held self.new.held (take n bytes.now)) }
-        ensures output { OnOk result (self.new.output ≡ Output.Pending) }
+        ensures waits { result ≡ Ok 0 → self.new.told.waits ≡ true }
         ensures unwritten { OnErr result (Keeps self.old.held self.new.held) }
+        ensures output { OnOk result (self.new.output ≢ Output.Failed) }
         ensures failed { OnErr result (self.new.output ≡ Output.Failed) }
         ensures fault { IsOkUnless result FrontFault.Write }
     {
         for _ in 1..WRITES {
             match self.write_once(bytes) {
                 Ok(n) => return Ok(n),
+                Err(Missed::Waits) => return Ok(0),
                 Err(Missed::Interrupted) => {}
-                Err(_) => return Err(FrontFault::Write),
+                Err(Missed::Failed) => return Err(FrontFault::Write),
             }
         }
         self.write_last(bytes)
     }
 
-    /// Writes all of the bytes. After a fault the writer has some of them, from their front.
-    pub(crate) fn send(&mut self, bytes: &[u8]) -> Result<(), FrontFault>
+    /// Writes the bytes until the writer has all of them, or until it takes nothing now. Returns how many it took. After a fault the
+    /// writer has some of them, from their front.
+    pub(crate) fn send_on(&mut self, bytes: &[u8]) -> Result<usize, FrontFault>
         requires { self.old.output ≢ Output.Failed }
-        ensures sent { Sends self.old self.new bytes.now }
+        ensures taken { IfOk result (λ n. (n ≤ length bytes.now)
+            × Sends self.old self.new (take n bytes.now)) }
+        ensures waits { IfOk result (λ n. n < length bytes.now → self.new.told.waits ≡ true) }
+        ensures cut { OnErr result (Sends self.old self.new bytes.now) }
         ensures output { OnOk result (self.new.output ≢ Output.Failed) }
         ensures failed { OnErr result (self.new.output ≡ Output.Failed) }
         ensures fault { IsOkUnless result FrontFault.Write }
@@ -288,7 +299,37 @@ impl<W: Outgoing> CountedWriter<W> {
         let mut rest = bytes;
         while !rest.is_empty() {
             let count = self.write_some(rest)?;
+            if count == 0 {
+                return Ok(bytes.len() - rest.len());
+            }
             rest = &rest[count..];
+        }
+        Ok(bytes.len())
+    }
+
+    /// Notes that what the writer does not take now is not waited for. That is as if the last write had failed.
+    pub(crate) fn give_up(&mut self)
+        requires open { self.old.output ≢ Output.Failed }
+        requires waits { self.old.told.waits ≡ true }
+        ensures { StopsWriting self.old self.new }
+    {
+        self.output = Output::Failed;
+    }
+
+    /// Writes all of the bytes. If the writer takes nothing now, that is as if a write had failed. After a fault the writer has some of
+    /// them, from their front.
+    #[tactic(auto, using(crate::proofs::ConnectionLemmas::sends_whole))]
+    pub(crate) fn send(&mut self, bytes: &[u8]) -> Result<(), FrontFault>
+        requires { self.old.output ≢ Output.Failed }
+        ensures sent { Sends self.old self.new bytes.now }
+        ensures output { OnOk result (self.new.output ≢ Output.Failed) }
+        ensures failed { OnErr result (self.new.output ≡ Output.Failed) }
+        ensures fault { IsOkUnless result FrontFault.Write }
+    {
+        let count = self.send_on(bytes)?;
+        if count < bytes.len() {
+            self.give_up();
+            return Err(FrontFault::Write);
         }
         Ok(())
     }

@@ -14,13 +14,14 @@ mod item;
 mod library;
 mod link;
 mod outgoing;
+mod pending;
 mod service;
 mod stream_laws;
 mod workers;
 
 pub use connection::Connection;
 pub use connection_laws::a_connection_left_and_resumed_answers_as_run;
-pub use conversation::{advance, finish, run};
+pub use conversation::{advance, finish, give_up, run};
 pub use counted::{Came, Input, Output};
 pub use end::{End, FrontFault};
 pub use item::{Stage, Step};

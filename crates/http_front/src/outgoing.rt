@@ -14,7 +14,8 @@ pub trait Outgoing {
     /// The writes and flushes that were made so far.
     ghost told: { Self → Writes };
 
-    /// Writes once, and returns how many bytes were taken. A writer that takes no byte has failed.
+    /// Writes once, and returns how many bytes were taken. A writer that takes no byte has failed. `Missed::Waits` says that it takes
+    /// nothing now, and no fault is counted then.
     fn write(&mut self, bytes: &[u8]) -> Result<usize, Missed>
         ensures bound { WritesAtMost result bytes.now }
         ensures bytes { WriteAppends (held self.old) (held self.new) result bytes.now }
