@@ -1,0 +1,11 @@
+//! Replies whose content is read later, without the streams that keep it.
+#![tactic(auto)]
+
+mod answer;
+mod laws;
+mod ticket;
+
+pub use answer::{Answer, Unreachable, make_answer};
+pub use laws::a_ticket_is_the_reply_of_its_serve;
+pub use partition_stream::Part;
+pub use ticket::Ticket;
