@@ -1,0 +1,9 @@
+use Rattle.std.proofs.Common.{◌≡◌, length}
+use Rattle.slot_state.specs.Pairs.{first_pairs, with_first}
+use Rattle.slot_state.proofs.account_pairs.AccountPairs.of.Given as goal
+
+abbrev pub invariant-loop-pair : goal.invariant-loop-pair
+invariant-loop-pair l = with_first l.left.items l.all ≡ first_pairs l.initial.left.items
+
+abbrev pub decreases-loop-pair : goal.decreases-loop-pair
+decreases-loop-pair l = length l.left.items

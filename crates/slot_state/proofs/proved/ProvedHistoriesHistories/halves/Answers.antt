@@ -1,0 +1,8 @@
+use Rattle.slot_state.specs.Told.{told_next}
+use Rattle.slot_state.proofs.proved.ProvedHistoriesHistories.halves.Goals as goal
+
+pub returns-clause-below : goal.returns-clause-below
+returns-clause-below c = told_next _ _ _ _ c.and-below.ensures
+
+pub returns-clause-from : goal.returns-clause-from
+returns-clause-from c = told_next _ _ _ _ c.and-from.ensures

@@ -1,0 +1,5 @@
+pub mod HistoryMaps
+pub mod Pairs
+pub mod Replays
+pub mod Slots
+pub mod Told

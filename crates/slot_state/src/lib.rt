@@ -1,0 +1,30 @@
+//! Slots: the containers of a range of keys, each with the list of its accepted changes.
+#![tactic(auto)]
+
+mod account_pairs;
+mod copied;
+mod cutting;
+mod entries;
+mod event;
+mod histories;
+mod history;
+mod kept;
+mod kept_histories;
+mod laws;
+mod pair_list;
+mod pairs_fault;
+mod proved;
+mod service;
+mod slot;
+
+pub use account_pairs::AccountPairs;
+pub use entries::keeping;
+pub use event::Event;
+pub use histories::Histories;
+pub use history::History;
+pub use kept_histories::KeptHistories;
+pub use laws::{a_slot_serves_one_step, a_split_loses_nothing, what_is_pushed_back_was_not_there};
+pub use pairs_fault::PairsFault;
+pub use proved::ProvedHistories;
+pub use service::{deciding, serving};
+pub use slot::Slot;
