@@ -108,8 +108,10 @@ fn signing_key(rt: &impl Abort, alloc: Global, bytes: &[u8]) -> SigningKey {
     SigningKey::new(bytes.to_vec(alloc).expect(rt, "memory"))
 }
 
-/// The first pair of keys of the account, or a pair of this epoch.
-pub(crate) fn pair(rt: &impl Abort, alloc: Global, epoch: u64) -> Keys {
+/// A pair of keys of the account, of this epoch.
+pub(crate) fn pair(rt: &impl Abort, alloc: Global, epoch: u64) -> Keys
+    ensures { result.epoch ≡ epoch }
+{
     Keys {
         account: AccountName::new(text(rt, alloc, "devstoreaccount1")).expect(rt, "a name"),
         first: signing_key(rt, alloc, b"key1"),
@@ -119,7 +121,7 @@ pub(crate) fn pair(rt: &impl Abort, alloc: Global, epoch: u64) -> Keys {
 }
 
 /// A slot of the account, without containers.
-pub(crate) fn served(rt: &impl Abort, alloc: Global) -> Served {
+pub(crate) fn empty_slot(rt: &impl Abort, alloc: Global) -> Served {
     let mut pairs = Vec::new(alloc);
     pairs.push(pair(rt, alloc, 0)).expect(rt, "memory");
     Served {

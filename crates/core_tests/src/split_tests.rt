@@ -1,7 +1,7 @@
 //! Splits of a slot.
 
 use crate::samples::{
-    CREATE, CREATED, GET, GET_B, MISSING, PUT, PUT_BLOCK, PUT_LIST, Served, key, pair, sent, served,
+    CREATE, CREATED, GET, GET_B, MISSING, PUT, PUT_BLOCK, PUT_LIST, Served, empty_slot, key, pair, sent,
 };
 use slot_state::{AccountPairs, KeptHistories, PairsFault, Slot};
 use stamp_types::Key;
@@ -31,7 +31,7 @@ fn cut(rt: &impl Abort, alloc: Global, served: &mut Served, container: &str) -> 
 #[test]
 fn a_container_leaves_with_the_upper_half(rt: HostRuntime) {
     let alloc = rt.alloc();
-    let mut lower = served(&rt, alloc);
+    let mut lower = empty_slot(&rt, alloc);
     assert!(rt; sent(&rt, alloc, &mut lower, CREATE).starts_with(CREATED));
     assert!(rt; sent(&rt, alloc, &mut lower, PUT).starts_with(CREATED));
     let mut upper = cut(&rt, alloc, &mut lower, "pics");
@@ -46,7 +46,7 @@ fn a_container_leaves_with_the_upper_half(rt: HostRuntime) {
 #[test]
 fn a_block_is_committed_after_a_split(rt: HostRuntime) {
     let alloc = rt.alloc();
-    let mut lower = served(&rt, alloc);
+    let mut lower = empty_slot(&rt, alloc);
     assert!(rt; sent(&rt, alloc, &mut lower, CREATE).starts_with(CREATED));
     assert!(rt; sent(&rt, alloc, &mut lower, PUT_BLOCK).starts_with(CREATED));
     let upper = cut(&rt, alloc, &mut lower, "picsa");
