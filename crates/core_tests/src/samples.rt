@@ -120,11 +120,65 @@ pub(crate) fn pair(rt: &impl Abort, alloc: Global, epoch: u64) -> Keys
     }
 }
 
-/// A slot of the account, without containers.
-pub(crate) fn empty_slot(rt: &impl Abort, alloc: Global) -> Served {
+// The first pair of keys of the account.
+fn pairs(rt: &impl Abort, alloc: Global) -> Vec<Keys> {
     let mut pairs = Vec::new(alloc);
     pairs.push(pair(rt, alloc, 0)).expect(rt, "memory");
-    Served {
-        slot: Slot::new(alloc, pairs).expect(rt, "memory"),
+    pairs
+}
+
+// The slot in a box, since a value with so many fields is slow to prove.
+fn boxed(rt: &impl Abort, alloc: Global, slot: Slot<KeptHistories>) -> Box<Served> {
+    Box::new(alloc, Served { slot }).expect(rt, "memory")
+}
+
+/// A slot of the account, without containers.
+pub(crate) fn empty_slot(rt: &impl Abort, alloc: Global) -> Box<Served> {
+    let slot = Slot::new(alloc, pairs(rt, alloc)).expect(rt, "memory");
+    boxed(rt, alloc, slot)
+}
+
+/// The upper half of the slot, which is cut at the key of this container.
+pub(crate) fn cut(
+    rt: &impl Abort,
+    alloc: Global,
+    served: &mut Served,
+    container: &str,
+) -> Box<Served> {
+    let middle = key(rt, alloc, container);
+    if !served.slot.is_inside(&middle) {
+        panic!(rt; "the key is not inside");
+    }
+    let upper = served.slot.cut(alloc, &middle).expect(rt, "memory");
+    boxed(rt, alloc, upper)
+}
+
+/// Whether the slot answers the input with a reply that begins like this.
+pub(crate) fn begins(
+    rt: &impl Abort,
+    alloc: Global,
+    served: &mut Served,
+    input: &[u8],
+    front: &[u8],
+) -> bool {
+    sent(rt, alloc, served, input).starts_with(front)
+}
+
+/// Whether the slot answers the input with a reply that ends like this.
+pub(crate) fn ends(
+    rt: &impl Abort,
+    alloc: Global,
+    served: &mut Served,
+    input: &[u8],
+    end: &[u8],
+) -> bool {
+    sent(rt, alloc, served, input).ends_with(end)
+}
+
+/// How many accepted changes of the container the slot has.
+pub(crate) fn changes(served: &Served, key: &Key) -> usize {
+    match served.slot.history(key) {
+        Some(history) => history.as_slice().len(),
+        None => 0,
     }
 }
