@@ -1,0 +1,16 @@
+//! The machine: its steps, what they answer, and the laws of its runs.
+#![tactic(auto)]
+
+mod laws;
+mod step;
+
+pub use laws::{
+    a_change_is_judged_by_the_pair_of_its_serve, a_core_stands_for_its_state,
+    a_doubt_ends_whole_before_its_slot_serves, a_doubt_waits_until_its_slot_settles,
+    a_fault_is_told_only_if_a_call_failed, a_replaced_key_opens_nothing,
+    a_run_keeps_its_states_sound, a_run_serves_requests_in_turn,
+    a_serve_and_its_fetch_answer_as_the_model, a_step_on_a_slot_is_a_settle_and_then_the_step,
+    a_step_that_fails_changes_nothing, a_ticket_gives_the_reply_of_its_serve,
+    each_answer_has_its_place, the_headline,
+};
+pub use step::{Outcome, Step, StepFault};
