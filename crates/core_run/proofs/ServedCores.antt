@@ -1,6 +1,6 @@
 -- A core in which a slot served a request stands for the state after the request.
 use Rattle.std.proofs.Common.{zero, suc, ◌≡◌, ◌≢◌, ◌≤◌, ◌<◌, ◌+◌, ◌⊎◌, inl, inr, ℕ, Bool, true, false, cond, List, [], ◌∷◌, ◌++◌, Option, Some, None, is_some, unwrap_or, refl, sym, ap, ◌∙◌, subst, arith, length, map}
-use Rattle.std.specs.Prelude.{slice_get, slice_set, slice_index_or}
+use Rattle.std.specs.Prelude.{slice_set, slice_index_or}
 use Rattle.std.specs.FinMap.{get, insert, get-insert}
 use Rattle.std.specs.Cmp.{eq_by_cmp_equiv}
 use Rattle.std.specs.Ordering.{eq_by_cmp}
@@ -19,7 +19,7 @@ use Rattle.stamp_types.proofs.WorldLemmas.{equal_if_is_eq}
 use Rattle.access_rules.specs.declared.keys.Keys.{Keys}
 use Rattle.range_rows.specs.SentContent.{byte_count, sizes}
 use Rattle.range_rows.specs.RequestChanges.{part_after}
-use Rattle.stamp_model.specs.Effects.{accepted, change, effect}
+use Rattle.stamp_model.specs.Effects.{change, effect}
 use Rattle.stamp_model.specs.Histories.{pair_of, replay}
 use Rattle.stamp_model.specs.SeenContainers.{routed}
 use Rattle.stamp_model.proofs.EffectLemmas.{part_at-effect, part_at-effect_others}
@@ -27,10 +27,9 @@ use Rattle.stamp_model.proofs.HistoryLemmas.{replay_from-append}
 use Rattle.partition_map.specs.Spans.{bound_at, slot_of}
 use Rattle.slot_state.specs.HistoryMaps.{Histories, history_at, with_entry}
 use Rattle.slot_state.specs.Pairs.{Pairs, current_at, epoch_of, pairs_at}
-use Rattle.slot_state.specs.Slots.{IsServed, SlotState, change_now, entry_of, histories_after, replayed_at, slot_after}
+use Rattle.slot_state.specs.Slots.{IsServed, SlotState, change_now, entry_of, histories_after, replayed_at}
 use Rattle.core_run.specs.Cores.{CoreState, StandsFor, no_slot, slot_at}
 use Rattle.core_run.specs.States.{State, served}
-use Rattle.core_run.proofs.CoreLemmas.{replied}
 use Rattle.core_run.proofs.PairLemmas.{current_is}
 use Rattle.core_run.proofs.SoundLemmas.{effect-listing, lists_nothing, routed_own, same_but}
 

@@ -1,11 +1,11 @@
 -- A core in which a slot was split stands for the state after the split.
-use Rattle.std.proofs.Common.{◌≡◌, ◌≤◌, ◌<◌, ◌+◌, ℕ, zero, suc, Bool, true, false, not, cond, List, [], ◌∷◌, Option, Some, None, unwrap_or, refl, sym, ap, ◌∙◌, subst, arith, length, map}
+use Rattle.std.proofs.Common.{◌≡◌, ◌≤◌, ◌<◌, ◌+◌, ℕ, zero, suc, Bool, true, false, not, cond, List, [], ◌∷◌, Option, None, unwrap_or, refl, sym, ap, ◌∙◌, subst, arith, length, map}
 use Rattle.std.specs.Prelude.{slice_get, slice_set, slice_index_or}
 use Rattle.std.specs.FinMap.{get, get-retain_keys, retain_keys}
 use Rattle.std.specs.Option.{option_and_then}
 use Rattle.std.proofs.lemmas.List.{length-set}
 use Rattle.std.proofs.lemmas.List.Edits.{length-insert}
-use Rattle.stamp_values.specs.Order.{key_cmp, keys_exact}
+use Rattle.stamp_values.specs.Order.{keys_exact}
 use Rattle.stamp_values.specs.Trees.{is_below, is_from}
 use Rattle.stamp_values.specs.declared.key.Key.{Key}
 use Rattle.stamp_types.specs.declared.past.Past.{Past}
@@ -18,7 +18,7 @@ use Rattle.partition_map.proofs.SplitLemmas.{split_at}
 use Rattle.slot_state.specs.HistoryMaps.{Histories, history_at}
 use Rattle.slot_state.specs.Pairs.{pairs_at}
 use Rattle.slot_state.specs.Slots.{SlotState, lower_half, replayed_at, upper_half}
-use Rattle.core_run.specs.Cores.{CoreState, StandsFor, no_slot, slot_at, with_halves}
+use Rattle.core_run.specs.Cores.{CoreState, StandsFor, no_slot, with_halves}
 use Rattle.core_run.specs.States.{State, doubt_of, split}
 use Rattle.core_run.proofs.SoundLemmas.{inside_before, split_sound}
 
