@@ -12,6 +12,8 @@ mod every_delivery_tests;
 #[cfg(test)]
 mod extent_tests;
 #[cfg(test)]
+mod handle_tests;
+#[cfg(test)]
 mod log_tests;
 #[cfg(test)]
 mod part_tests;
@@ -46,3 +48,5 @@ mod sample_wires;
 mod stream_samples;
 #[cfg(test)]
 mod stream_share_tests;
+#[cfg(test)]
+mod ticket_tests;

@@ -2,32 +2,12 @@
 ghost use Rattle.stream_manager.specs.Streams.{laid};
 ghost use Rattle.partition_stream.specs.Contents.{AreStored};
 
-use crate::partition_samples::{kept_part, put, streams};
+use crate::partition_samples::{kept_part, put_and_seal, put_three, streams};
 use crate::sample_wires::script;
 use partition_stream::{Part, Streams};
 use stamp_types::{Pieces, Share};
 use std::alloc::Global;
 use std::process::Abort;
-
-// Puts the bytes 7, 8 and 9.
-fn put_three(rt: &impl Abort, alloc: Global, streams: &mut Streams) -> Pieces
-    ensures { AreStored (laid streams.new.blobs) result }
-{
-    let mut wire = script(rt, alloc, &[], &[]);
-    let bytes = vec![in alloc; 7u8, 8, 9].expect(rt, "memory");
-    let body = Share::new(alloc, bytes).expect(rt, "memory");
-    put(rt, alloc, streams, &body, &mut wire)
-}
-
-// Puts the bytes 7, 8 and 9, and seals the streams.
-fn put_and_seal(rt: &impl Abort, alloc: Global, streams: &mut Streams) -> Pieces
-    ensures { AreStored (laid streams.new.blobs) result }
-{
-    let mut wire = script(rt, alloc, &[], &[]);
-    let placed = put_three(rt, alloc, streams);
-    assert!(rt; streams.seal(&mut wire).is_ok());
-    placed
-}
 
 fn is_eight_and_nine(bytes: &Share) -> bool {
     bytes.as_slice() == &[8u8, 9][..]

@@ -293,3 +293,24 @@ pub(crate) fn kept_part(
         Err(_) => panic!(rt; "no fault"),
     }
 }
+
+/// Puts the bytes 7, 8 and 9.
+pub(crate) fn put_three(rt: &impl Abort, alloc: Global, streams: &mut Streams) -> Pieces
+    ensures { AreStored (laid streams.new.blobs) result }
+{
+    let mut wire = script(rt, alloc, &[], &[]);
+    let bytes = vec![in alloc; 7u8, 8, 9].expect(rt, "memory");
+    let body = Share::new(alloc, bytes).expect(rt, "memory");
+    put(rt, alloc, streams, &body, &mut wire)
+}
+
+/// Puts the bytes 7, 8 and 9, and seals the streams.
+pub(crate) fn put_and_seal(rt: &impl Abort, alloc: Global, streams: &mut Streams) -> Pieces
+    ensures sealed { AreSealed streams.new }
+    ensures stored { AreStored (laid streams.new.blobs) result }
+{
+    let mut wire = script(rt, alloc, &[], &[]);
+    let placed = put_three(rt, alloc, streams);
+    assert!(rt; streams.seal(&mut wire).is_ok());
+    placed
+}

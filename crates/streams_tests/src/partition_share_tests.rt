@@ -3,7 +3,7 @@ ghost use Rattle.stream_manager.specs.Streams.{laid};
 ghost use Rattle.partition_stream.specs.Contents.{AreStored};
 ghost use Rattle.partition_stream.specs.Streams.{AreSealed};
 
-use crate::partition_samples::{Told, half, keeps, log, part, put, streams};
+use crate::partition_samples::{Told, half, keeps, log, part, put, put_and_seal, streams};
 use crate::sample_wires::{D, R, script};
 use partition_stream::Streams;
 use stamp_types::{Pieces, Share};
@@ -41,19 +41,6 @@ fn both_halves_keep_the_changes_and_go_on(rt: HostRuntime) {
     let mut streams = streams(&rt, rt.alloc(), 1_000_000);
     log_and_seal(&rt, rt.alloc(), &mut *streams);
     share_and_go_on(&rt, rt.alloc(), &mut *streams);
-}
-
-// Puts the bytes 7, 8 and 9, and seals the streams.
-fn put_and_seal(rt: &impl Abort, alloc: Global, streams: &mut Streams) -> Pieces
-    ensures sealed { AreSealed streams.new }
-    ensures stored { AreStored (laid streams.new.blobs) result }
-{
-    let mut wire = script(rt, alloc, &[], &[]);
-    let bytes = vec![in alloc; 7u8, 8, 9].expect(rt, "memory");
-    let body = Share::new(alloc, bytes).expect(rt, "memory");
-    let placed = put(rt, alloc, streams, &body, &mut wire);
-    assert!(rt; streams.seal(&mut wire).is_ok());
-    placed
 }
 
 fn read_in_half(rt: &impl Abort, alloc: Global, streams: &mut Streams, placed: &Pieces)

@@ -1,11 +1,13 @@
 //! Blocks of a stream, and the answers of its calls, for tests.
+ghost use Rattle.std.specs.Prelude.{◌<◌, length};
+
 use crate::sample_places::place;
 use extent_node::Script;
 use extent_seal::ReadFault;
 use stamp_values::{Place, Share};
 use std::alloc::Global;
 use std::process::Abort;
-use stream_manager::{AppendFault, SettleFault, Settled, Stream};
+use stream_manager::{AppendFault, Handle, SettleFault, Settled, Stream};
 
 /// What a call answered.
 #[derive(Clone, Copy, Debug, PartialEq, Eq)]
@@ -63,7 +65,12 @@ pub(crate) fn read(stream: &Stream, extent: u64, index: u64, wire: &mut Script) 
     if !stream.has_block(place) {
         return Told::Nothing;
     }
-    match stream.read(place, wire) {
+    answered(stream.read(place, wire))
+}
+
+/// What a read answered.
+pub(crate) fn answered(answer: Result<Share, ReadFault>) -> Told {
+    match answer {
         Ok(block) => match block.as_slice() {
             [] => Told::Read(0, 0),
             [first, ..] => Told::Read(*first, block.len()),
@@ -71,4 +78,14 @@ pub(crate) fn read(stream: &Stream, extent: u64, index: u64, wire: &mut Script) 
         Err(ReadFault::Unreachable) => Told::Unreachable,
         Err(ReadFault::NoMemory) => Told::NoMemory,
     }
+}
+
+/// A handle of a sealed extent, which has a block.
+#[tactic(auto, using(stream_manager::proofs::ReadLemmas::count_of_extents, stream_manager::proofs::ReadLemmas::sealed_extent))]
+pub(crate) fn handle_of(rt: &impl Abort, stream: &mut Stream, extent: usize) -> Handle
+    ensures { 0 < length result.blocks }
+{
+    assert!(rt; extent < stream.sealed_count());
+    assert!(rt; 0 < stream.extent_len(extent));
+    stream.handle(extent).expect(rt, "memory")
 }

@@ -1,0 +1,109 @@
+//! Tickets, and the answers of spans.
+ghost use Rattle.std.specs.Prelude.{◌≡◌, length};
+ghost use Rattle.stream_manager.specs.Streams.{laid};
+ghost use Rattle.partition_stream.specs.Contents.{AreStored};
+
+use crate::partition_samples::{put_and_seal, put_three, streams};
+use crate::sample_wires::script;
+use extent_node::Script;
+use partition_stream::Streams;
+use range_rows::Span;
+use stamp_types::{Piece, Pieces, Reply, text_reply};
+use std::alloc::Global;
+use std::process::Abort;
+use tickets::{Answer, Ticket, make_answer};
+
+// A reply whose own body is the bytes 1 and 2.
+fn frame(rt: &impl Abort, alloc: Global) -> Reply
+    ensures { length result.body ≡ 2 }
+{
+    let text = vec![in alloc; 1u8, 2].expect(rt, "memory");
+    text_reply(alloc, Vec::new(alloc), text).expect(rt, "memory")
+}
+
+// The answer of the frame with the bytes from 1 to 3 of the piece after its body.
+fn answer_of_two(
+    rt: &impl Abort,
+    alloc: Global,
+    streams: &mut Streams,
+    placed: &Pieces,
+    wire: &mut Script,
+) -> Answer
+    requires { AreStored (laid streams.old.blobs) placed.now }
+{
+    match placed.as_slice() {
+        [Piece::At { place, length }] => {
+            assert!(rt; *length == 3);
+            let spans = [Span {
+                piece: Piece::At {
+                    place: *place,
+                    length: *length,
+                },
+                from: 1,
+                to: 3,
+            }];
+            match make_answer(alloc, streams, frame(rt, alloc), &spans, wire) {
+                Ok(answer) => answer,
+                Err(_) => panic!(rt; "no fault"),
+            }
+        }
+        _ => panic!(rt; "one piece"),
+    }
+}
+
+// Whether the body is the bytes 1 and 2 of the frame and then 8 and 9 of the piece.
+fn is_whole(alloc: Global, rt: &impl Abort, reply: &Reply) -> bool {
+    let body = reply.body.joined(alloc).expect(rt, "memory");
+    body.as_slice() == &[1u8, 2, 8, 9][..]
+}
+
+fn is_done(rt: &impl Abort, alloc: Global, answer: Answer) -> bool {
+    match answer {
+        Answer::Done(reply) => is_whole(alloc, rt, &reply),
+        Answer::Later(_) => false,
+        Answer::NoMemory => false,
+    }
+}
+
+#[test]
+fn content_of_the_last_extent_goes_out_now(rt: HostRuntime) {
+    let mut streams = streams(&rt, rt.alloc(), 1_000_000);
+    let placed = put_three(&rt, rt.alloc(), &mut *streams);
+    let mut wire = script(&rt, rt.alloc(), &[], &[]);
+    let answer = answer_of_two(&rt, rt.alloc(), &mut *streams, &placed, &mut wire);
+    assert!(rt; wire.called().len() == 1);
+    assert!(rt; is_done(&rt, rt.alloc(), answer));
+}
+
+fn later(rt: &impl Abort, answer: Answer) -> Ticket {
+    match answer {
+        Answer::Later(ticket) => ticket,
+        Answer::Done(_) => panic!(rt; "some content is sealed"),
+        Answer::NoMemory => panic!(rt; "no memory"),
+    }
+}
+
+fn fetch_twice(rt: &impl Abort, alloc: Global, ticket: Ticket, wire: &mut Script) {
+    match ticket.fetch(wire) {
+        Ok(_) => panic!(rt; "no node answers"),
+        Err(back) => match back.0.fetch(wire) {
+            Ok(reply) => {
+                assert!(rt; is_whole(alloc, rt, &reply));
+            }
+            Err(_) => panic!(rt; "node 0 answers"),
+        },
+    }
+}
+
+#[test]
+fn content_of_a_sealed_extent_is_fetched_without_the_streams(rt: HostRuntime) {
+    let mut streams = streams(&rt, rt.alloc(), 1_000_000);
+    let placed = put_and_seal(&rt, rt.alloc(), &mut *streams);
+    let mut wire = script(&rt, rt.alloc(), &[], &[false, false, false]);
+    let answer = answer_of_two(&rt, rt.alloc(), &mut *streams, &placed, &mut wire);
+    let ticket = later(&rt, answer);
+    drop(streams);
+    assert!(rt; wire.called().len() == 0);
+    fetch_twice(&rt, rt.alloc(), ticket, &mut wire);
+    assert!(rt; wire.called().len() == 4);
+}
