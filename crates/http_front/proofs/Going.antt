@@ -25,8 +25,8 @@ use Rattle.http_front.specs.Conversations.{AnswersInput, AnswersReceived, Breaks
 use Rattle.http_front.specs.Inputs.{ReadsItem}
 use Rattle.http_front.specs.Outcomes.{IsOfWholeInput, UnlessWriteOrMemoryFailed}
 use Rattle.http_front.specs.Resumptions.{IsGivenUp}
-use Rattle.http_front.specs.Stages.{fresh_item, fresh_stage, is_asking, wants_write, IsItemWaiting, IsWaiting, load, Suspends, TakesWork}
-use Rattle.http_front.specs.Steps.{Comes, ComesOn, Conversing, HasLess, IsReplying, LeavesOn, Serving, WritesReply}
+use Rattle.http_front.specs.Stages.{fresh_item, fresh_stage, is_asking, wants_write, IsItemWaiting, IsStaged, IsWaiting, load, Suspends, TakesWork}
+use Rattle.http_front.specs.Steps.{CanGoOn, Comes, ComesOn, Conversing, HasLess, IsReplying, LeavesOn, LeavesStep, Serving, WritesReply}
 use Rattle.http_front.specs.Streams.{interim}
 use Rattle.http_front.specs.Streams.Tail.{InBody as TailInBody}
 use Rattle.http_front.proofs.ConnectionLemmas.{Receives-given_up, Receives-none, Sends-more, Sends-none, Sends-stopped}
@@ -104,6 +104,19 @@ module _ (a b : ConnectionState) where
   given_up_left (Reading (Asking asking)) fault waits up = left_by_write fault up
   given_up_left (Reading (InBody begun)) fault waits up = left_by_read waits.0 fault up
   given_up_left (Replying reply) fault waits up = left_by_write fault up
+
+-- ---- a connection that waits can be gone on with
+
+pub can_go_on : (stage : Stage) (c : ConnectionState) → IsWaiting stage c → IsOpen c × IsStaged stage c
+can_go_on (Reading (InHead search)) c waits = ((waits.0.0, λ e. let both = sym waits.0.1 ∙ e in absurd (cc)), waits.1)
+can_go_on (Reading (Asking asking)) c waits = let less = waits.1 in ((waits.0.0, waits.0.1), (omega arith, waits.2))
+can_go_on (Reading (InBody begun)) c waits = let less = waits.1 in ((waits.0.0, λ e. let both = sym waits.0.1 ∙ e in absurd (cc)), (omega arith, λ _. waits.2))
+can_go_on (Replying reply) c waits = ((waits.0.0, waits.0.1), tt)
+
+pub step_can_go_on : (result : Result Step FrontFault) (c : ConnectionState) → LeavesStep result c → CanGoOn result c
+step_can_go_on (Ok (Ended end)) c left = tt
+step_can_go_on (Ok (Waits stage)) c left = can_go_on stage c left
+step_can_go_on (Err fault) c left = tt
 
 -- ---- what writing on at a reply leaves
 

@@ -4,7 +4,7 @@ ghost use Rattle.reply_form.specs.FixedReplies.{out_of_memory_bytes};
 ghost use Rattle.http_front.specs.Connections.{ConnectionState, IsFresh, IsOpen, IsTold, Sends};
 ghost use Rattle.http_front.specs.Resumptions.{Finishes, IsGivenUp};
 ghost use Rattle.http_front.specs.Stages.{IsPartial, IsStaged, IsWaiting, item_work, wants_write, work};
-ghost use Rattle.http_front.specs.Steps.{Comes, ComesOn, Conversing, HasLess, IsReading, LeavesOn, LeavesStep, WritesReply};
+ghost use Rattle.http_front.specs.Steps.{CanGoOn, Comes, ComesOn, Conversing, HasLess, IsReading, LeavesOn, LeavesStep, WritesReply};
 ghost use Rattle.http_front.specs.Conversations.{AnswersInput, AnswersReceived, EndsByWrite, EndsOutOfMemory};
 ghost use Rattle.http_front.specs.Conversations.{BreaksOff, LeavesRun};
 ghost use Rattle.http_front.specs.Outcomes.{IsOfWholeInput, UnlessWriteFailed, UnlessWriteOrMemoryFailed};
@@ -121,6 +121,8 @@ pub fn advance<R: Read, W: Write, C: Clock, S: Service>(
         Conversing C.gives S.answers first clock.old start (S.world service.old) from stage connection.old →
         Comes C.gives S.answers S.starves first clock.new start (S.world service.new) from connection.new result }
     ensures left { LeavesStep result connection.new }
+    // A connection that waits meets what the next call requires.
+    ensures ready { CanGoOn result connection.new }
 {
     let mut stage = stage;
     loop {
