@@ -324,6 +324,7 @@ impl Streams {
         requires { position.old.in_log ≡ true }
         ensures next { IfOk result (λ o. MatchOption o (changes_before self.now position.old ≡ all_changes self.now)
             (λ c. changes_before self.now position.new ≡ changes_before self.now position.old ++ c ∷ [])) }
+        ensures ended { IfOk result (λ o. MatchOption o (position.new ≡ position.old) (λ c. ⊤)) }
         ensures refused { OnErr result (position.new ≡ position.old) }
         ensures unreachable { result ≡ Err Unreachable → all_faults (W.faults wire.old) < all_faults (W.faults wire.new) }
         ensures grown { Grows (W.faults wire.old) (W.faults wire.new) }
@@ -338,7 +339,8 @@ impl Streams {
         }
     }
 
-    /// The change after a position, with its epoch, or `None` if there is no change after it. The position is then after this change.
+    /// The change after a position, with its epoch. The position is then after this change. `None` if there is no change after it: the
+    /// position then stays after the last change.
     ///
     /// The changes of the rows come first, and then those of the log, each in the order in which they were made. A change that is in
     /// doubt is not among them. After a fault no change was passed.
@@ -349,6 +351,8 @@ impl Streams {
     ) -> Result<Option<(Change, u64)>, ReadFault>
         ensures next { IfOk result (λ o. MatchOption o (changes_before self.now position.old ≡ all_changes self.now)
             (λ c. changes_before self.now position.new ≡ changes_before self.now position.old ++ c ∷ [])) }
+        ensures ended { IfOk result (λ o. MatchOption o
+            (changes_before self.now position.new ≡ changes_before self.now position.old) (λ c. ⊤)) }
         ensures refused { OnErr result (changes_before self.now position.new ≡ changes_before self.now position.old) }
         ensures unreachable { result ≡ Err Unreachable → all_faults (W.faults wire.old) < all_faults (W.faults wire.new) }
         ensures grown { Grows (W.faults wire.old) (W.faults wire.new) }

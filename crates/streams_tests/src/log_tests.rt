@@ -31,6 +31,8 @@ fn log_epochs(rt: &impl Abort, alloc: Global, streams: &mut Streams) {
     assert!(rt; is_next(streams, &mut position, "two", u64::MAX, &mut wire));
     assert!(rt; is_next(streams, &mut position, "one", 7, &mut wire));
     assert!(rt; next(streams, &mut position, &mut wire) == Told::End);
+    // A walk that has ended does not begin again.
+    assert!(rt; next(streams, &mut position, &mut wire) == Told::End);
 }
 
 #[test]
