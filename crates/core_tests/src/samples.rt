@@ -1,6 +1,7 @@
 //! A slot that connections are served by, and what is sent to it. The signatures were made outside of this repository's code.
 ghost use Rattle.std.specs.Prelude.{⊤, ◌≡◌};
 
+use crate::sample_pairs::pair_of;
 use access_rules::Keys;
 use hmac_sign::SigningKey;
 use http_front::{Clock, Connection, End, Service, run};
@@ -109,15 +110,11 @@ fn signing_key(rt: &impl Abort, alloc: Global, bytes: &[u8]) -> SigningKey {
 }
 
 /// A pair of keys of the account, of this epoch.
-pub(crate) fn pair(rt: &impl Abort, alloc: Global, epoch: u64) -> Keys
-    ensures { result.epoch ≡ epoch }
-{
-    Keys {
-        account: AccountName::new(text(rt, alloc, "devstoreaccount1")).expect(rt, "a name"),
-        first: signing_key(rt, alloc, b"key1"),
-        second: signing_key(rt, alloc, b"key2"),
-        epoch,
-    }
+pub(crate) fn pair(rt: &impl Abort, alloc: Global, epoch: u64) -> Keys {
+    let account = AccountName::new(text(rt, alloc, "devstoreaccount1")).expect(rt, "a name");
+    let first = signing_key(rt, alloc, b"key1");
+    let second = signing_key(rt, alloc, b"key2");
+    pair_of(account, first, second, epoch)
 }
 
 // The first pair of keys of the account.
