@@ -1,13 +1,13 @@
 -- What is so of the state in every run.
 use Rattle.std.proofs.Common.{◌≡◌, ◌<◌, ◌≤◌, ◌+◌, ◌-◌, ◌⊎◌, inl, inr, ℕ, zero, suc, Bool, true, false, cond, nat_lt, ◌&&◌, List, [], ◌∷◌, ◌++◌, length, Option, Some, None, is_some, unwrap_or, refl, sym, ap, ◌∙◌, subst, arith}
-use Rattle.std.specs.Prelude.{IsSome, slice_get, slice_set}
-use Rattle.std.specs.FinMap.{get, insert, get-insert}
+use Rattle.std.specs.Prelude.{IfSome, IsSome, slice_get, slice_set}
+use Rattle.std.specs.FinMap.{get, insert, get-empty, get-insert}
 use Rattle.std.specs.Ordering.{eq_by_cmp}
 use Rattle.std.proofs.lemmas.List.{append_assoc}
 use Rattle.std.proofs.lemmas.List.Edits.{length-insert}
 use Rattle.std.specs.Option.{option_and_then, option_map}
 use Rattle.stamp_values.specs.Operations.{names_container}
-use Rattle.stamp_values.specs.Order.{name_cmp, names_total}
+use Rattle.stamp_values.specs.Order.{key_cmp, name_cmp, names_total}
 use Rattle.stamp_values.specs.Trees.{is_below}
 use Rattle.stamp_values.specs.declared.key.Key.{Key}
 use Rattle.stamp_values.specs.declared.op.Op.{Op}
@@ -16,8 +16,9 @@ use Rattle.stamp_types.specs.declared.past.Past.{Past}
 use Rattle.stamp_types.specs.declared.refusal.Refusal.{Refusal}
 use Rattle.stamp_types.specs.Changes.{KeyedAct}
 use Rattle.stamp_types.specs.Pieces.{held}
+use Rattle.stamp_types.specs.EffectKinds.{EtagsAtMost}
 use Rattle.stamp_types.specs.Requests.{Asked}
-use Rattle.stamp_types.specs.World.{Part, World, part_at}
+use Rattle.stamp_types.specs.World.{Blob, Part, World, no_blob, no_part, part_at}
 use Rattle.access_rules.specs.declared.keys.Keys.{Keys}
 use Rattle.access_rules.specs.declared.rotation.Which.{Which}
 use Rattle.access_rules.specs.Rotation.{are_numbered, epoch_after, rotated}
@@ -232,3 +233,13 @@ opening_sound pairs numbered = record { spans = no_points [] refl; counted = ref
     placed : (i : ℕ) (e : Past) → doubt_of (opening pairs) i ≡ Some e → slot_of [] e.request.ask.key ≡ i
     placed zero e there = absurd (none_some e there)
     placed (suc i) e there = absurd (none_some e there)
+
+-- in an empty world no ETag is over its count
+none_over : EtagsAtMost {C = List ℕ} 0 no_part
+none_over = record {
+  container = tt;
+  blobs = λ name. subst (λ (o : Option (Blob (List ℕ))). IfSome (unwrap_or o no_blob).committed (λ c. c.etag ≤ 0)) (sym (get-empty name_cmp name)) tt;
+}
+
+pub opening_etags : (pairs : Pairs) (key : Key) → EtagsAtMost (part_at (opening pairs).world key).count (part_at (opening pairs).world key)
+opening_etags pairs key = subst (λ (p : Part (List ℕ)). EtagsAtMost p.count p) (sym (ap (λ (o : Option (Part (List ℕ))). unwrap_or o no_part) (get-empty key_cmp key))) none_over

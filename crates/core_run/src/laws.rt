@@ -157,10 +157,12 @@ pub fn each_answer_has_its_place()
 {}
 
 /// The first state is sound, if the key pairs are numbered by their epochs, and a run from a sound state
-/// leads to a sound state. So in each run the split points are those of spans, each slot has at most one
+/// leads to a sound state. In the first state no ETag is over the count of its container. So in each run the split points are those of spans, each slot has at most one
 /// doubt, and the container of a doubt is in the span of its slot.
 pub fn a_run_keeps_its_states_sound()
     ensures opening { (pairs : Pairs) → AreNumbered pairs → IsSound (opening pairs) }
+    ensures etags { (pairs : Pairs) (key : Key)
+        → EtagsAtMost (part_at (opening pairs).world key).count (part_at (opening pairs).world key) }
     ensures run { (s s' : State) (before after : ℕ) (steps : List Step) (answers : List Answer)
         → IsRun s before steps answers s' after → IsSound s → IsSound s' }
 {}
