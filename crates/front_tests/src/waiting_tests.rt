@@ -173,7 +173,7 @@ struct Course {
     reads: u64,
     /// How often it waited for its writer.
     writes: u64,
-    /// Whether a read was made, or a request was answered, while it waited for its writer.
+    /// Whether a read was made between two waits for its writer that follow each other.
     went_on: bool,
 }
 
@@ -194,42 +194,43 @@ fn go_on(alloc: Global, first: usize, most: usize, writer: Taking, shares: u64) 
         asked: &asked,
     };
     let mut stage = Stage::new();
-    let mut course = Course {
-        ended: None,
-        written: Vec::new(alloc),
-        reads: 0,
-        writes: 0,
-        went_on: false,
-    };
+    let mut ended = None;
+    let mut reads: u64 = 0;
+    let mut writes: u64 = 0;
     let mut waited = false;
+    let mut went_on = false;
     for _ in 0..100_000 {
         let before = made.get();
-        let step = advance(alloc, &mut connection, stage, &mut Start, &mut service);
-        match step {
+        match advance(alloc, &mut connection, stage, &mut Start, &mut service) {
             Ok(Step::Waits(next)) => {
-                let writes = next.wants_write();
-                if writes {
-                    course.writes = course.writes.saturating_add(1);
-                    course.went_on = course.went_on || (waited && made.get() != before);
+                let waits = next.wants_write();
+                if waits {
+                    writes = writes.saturating_add(1);
+                    went_on = went_on || (waited && made.get() != before);
                 } else {
-                    course.reads = course.reads.saturating_add(1);
+                    reads = reads.saturating_add(1);
                 }
-                waited = writes;
+                waited = waits;
                 stage = next;
             }
             Ok(Step::Ended(end)) => {
-                course.ended = Some(finish(&mut connection, Ok(end)));
+                ended = Some(finish(&mut connection, Ok(end)));
                 break;
             }
             Err(fault) => {
-                course.ended = Some(finish(&mut connection, Err(fault)));
+                ended = Some(finish(&mut connection, Err(fault)));
                 break;
             }
         }
     }
     let (_, writer) = connection.into_parts();
-    course.written = writer.kept;
-    course
+    Course {
+        ended,
+        written: writer.kept,
+        reads,
+        writes,
+        went_on,
+    }
 }
 
 // However the requests are cut into events of at most 40 bytes, with nothing now between two of them, and however many bytes the writer
