@@ -1,4 +1,5 @@
 pub mod CopyLemmas
+pub mod FaultLemmas
 pub mod HalfLemmas
 pub mod MapLemmas
 pub mod PairLemmas

@@ -1,4 +1,5 @@
 pub mod HistoryMaps
+pub mod PairFaults
 pub mod Pairs
 pub mod Replays
 pub mod Slots

@@ -1,10 +1,11 @@
 //! The key pairs of accounts.
-ghost use Rattle.std.specs.Prelude.{◌≡◌, ◌≢◌, ◌↔◌, ◌∷◌, [], Err, IfErr, IfOk, IsSome, IsTrue, OnErr, OnOk, map};
+ghost use Rattle.std.specs.Prelude.{◌≡◌, ◌≢◌, ◌↔◌, ◌∷◌, ◌⊎◌, [], Err, IfErr, IfOk, IsSome, IsTrue, None, OnErr, OnOk, Some, map};
 ghost use Rattle.std.specs.Arc.{arc_value};
 ghost use Rattle.std.specs.FinMap as finite;
 ghost use Rattle.std.specs.Option.{option_copied};
 ghost use Rattle.slot_state.specs.Pairs.{AreNumbered, current_at, epoch_of, first_pairs, pairs_at, with_first};
-ghost use Rattle.slot_state.specs.declared.pairs_fault.PairsFault.TheVariants.{NotFirst, Twice};
+ghost use Rattle.slot_state.specs.PairFaults.{pairs_fault};
+ghost use Rattle.slot_state.specs.declared.pairs_fault.PairsFault.TheVariants.{NoMemory, NotFirst, Twice};
 
 use crate::pair_list::PairList;
 use crate::pairs_fault::PairsFault;
@@ -100,10 +101,12 @@ impl AccountPairs {
 
     /// The pairs of a stamp's accounts, each the first pair of its account.
     ///
-    /// `NotFirst` if the epoch of a pair is not 0, `Twice` if two pairs are of one account, and `NoMemory` if memory runs out.
+    /// `NotFirst` if the epoch of a pair is not 0, `Twice` if two pairs are of one account, and `NoMemory` if memory runs out. If several
+    /// pairs are refused, the last of them names the cause.
     #[tactic(auto, using(crate::proofs::PairLemmas::with_first_last))]
     pub fn of(alloc: Global, pairs: Vec<Keys>) -> Result<Self, PairsFault>
-        ensures { IfOk result (λ all. all ≡ first_pairs pairs.items) }
+        ensures value { IfOk result (λ all. (all ≡ first_pairs pairs.items) × (pairs_fault pairs.items ≡ None)) }
+        ensures refused { IfErr result (λ fault. (fault ≡ NoMemory) ⊎ (pairs_fault pairs.items ≡ Some fault)) }
     {
         let mut left = pairs;
         let mut all = Self::new(alloc);

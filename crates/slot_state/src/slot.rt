@@ -1,5 +1,5 @@
 //! The slot.
-ghost use Rattle.std.specs.Prelude.{◌≡◌, ◌↔◌, IfErr, IfOk, IsTrue, OnErr, OnOk, false, map, true};
+ghost use Rattle.std.specs.Prelude.{◌≡◌, ◌↔◌, ◌⊎◌, IfErr, IfOk, IsTrue, None, OnErr, OnOk, Some, false, map, true};
 ghost use Rattle.std.specs.Arc.{arc_value};
 ghost use Rattle.std.specs.FinMap as finite;
 ghost use Rattle.std.specs.Option.{option_copied};
@@ -8,9 +8,11 @@ ghost use Rattle.stamp_values.specs.Trees.{is_below, is_from};
 ghost use Rattle.policy_book.specs.Judgements.{IsOfAsk};
 ghost use Rattle.range_rows.specs.Readings.{reading_of};
 ghost use Rattle.stamp_model.specs.SeenContainers.{is_under, routed};
+ghost use Rattle.slot_state.specs.PairFaults.{pairs_fault};
 ghost use Rattle.slot_state.specs.Pairs.{AreNumbered, first_pairs, pairs_at};
 ghost use Rattle.slot_state.specs.Slots as slots;
 ghost use Rattle.slot_state.specs.Slots.{IsServed, empty_slot, lower_half, upper_half};
+ghost use Rattle.slot_state.specs.declared.pairs_fault.PairsFault.TheVariants.{NoMemory};
 
 use crate::account_pairs::AccountPairs;
 use crate::cutting::{cut_rows, ready};
@@ -58,7 +60,8 @@ impl<H: Histories> Model for Slot<H> {
 
 // The first pairs of the accounts, in an allocation that can be shared.
 fn shared(alloc: Global, pairs: Vec<Keys>) -> Result<Arc<AccountPairs>, PairsFault>
-    ensures { IfOk result (λ shared. arc_value shared ≡ first_pairs pairs.items) }
+    ensures value { IfOk result (λ shared. (arc_value shared ≡ first_pairs pairs.items) × (pairs_fault pairs.items ≡ None)) }
+    ensures refused { IfErr result (λ fault. (fault ≡ NoMemory) ⊎ (pairs_fault pairs.items ≡ Some fault)) }
 {
     let pairs = AccountPairs::of(alloc, pairs)?;
     let shared = share(alloc, pairs)?;
@@ -110,9 +113,11 @@ impl<H: Histories> Slot<H> {
 
     /// A slot of all keys, without containers, for the accounts of these first pairs of keys.
     ///
-    /// `NotFirst` if the epoch of a pair is not 0, `Twice` if two pairs are of one account, and `NoMemory` if memory runs out.
+    /// `NotFirst` if the epoch of a pair is not 0, `Twice` if two pairs are of one account, and `NoMemory` if memory runs out. If several
+    /// pairs are refused, the last of them names the cause.
     pub fn new(alloc: Global, pairs: Vec<Keys>) -> Result<Self, PairsFault>
-        ensures { IfOk result (λ slot. slot ≡ empty_slot (first_pairs pairs.items)) }
+        ensures value { IfOk result (λ slot. (slot ≡ empty_slot (first_pairs pairs.items)) × (pairs_fault pairs.items ≡ None)) }
+        ensures refused { IfErr result (λ fault. (fault ≡ NoMemory) ⊎ (pairs_fault pairs.items ≡ Some fault)) }
     {
         let pairs = shared(alloc, pairs)?;
         Ok(Self::of_pairs(alloc, pairs))
