@@ -5,4 +5,6 @@ mod sample_pairs;
 #[cfg(test)]
 mod samples;
 #[cfg(test)]
+mod service_tests;
+#[cfg(test)]
 mod split_tests;

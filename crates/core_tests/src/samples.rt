@@ -37,6 +37,26 @@ pub(crate) const PUT_LIST: &[u8] =
 pub(crate) const GET_B: &[u8] =
     b"GET /devstoreaccount1/pics/b.txt HTTP/1.1\r\nx-ms-date: Mon, 01 Oct 2012 12:00:00 GMT\r\nx-ms-version: 2012-02-12\r\nAuthorization: SharedKey devstoreaccount1:VRKhWSQKPq1NdcdB79F1CCPluFUwV4ji4iQT0W4hppo=\r\n\r\n";
 
+/// A Create Container of `video`.
+pub(crate) const CREATE_LATER: &[u8] =
+    b"PUT /devstoreaccount1/video?restype=container HTTP/1.1\r\nx-ms-date: Mon, 01 Oct 2012 12:00:00 GMT\r\nx-ms-version: 2012-02-12\r\nContent-Length: 0\r\nAuthorization: SharedKey devstoreaccount1:kx1zgzUxFzlAGzGaR53Q87/mltLltNtUxWonRZt05T4=\r\n\r\n";
+
+/// A List Containers.
+pub(crate) const LIST: &[u8] =
+    b"GET /devstoreaccount1?comp=list HTTP/1.1\r\nx-ms-date: Mon, 01 Oct 2012 12:00:00 GMT\r\nx-ms-version: 2012-02-12\r\nAuthorization: SharedKey devstoreaccount1:Qn5DPAaSbTJJRqqtTEXcD/3lQO1eF5zLLQ+cUpoKtdk=\r\n\r\n";
+
+/// A Set Container ACL of `pics` with the policy `read-only`.
+pub(crate) const PUT_POLICY: &[u8] =
+    b"PUT /devstoreaccount1/pics?restype=container&comp=acl HTTP/1.1\r\nContent-Length: 186\r\nx-ms-date: Mon, 01 Oct 2012 12:00:00 GMT\r\nx-ms-version: 2012-02-12\r\nAuthorization: SharedKey devstoreaccount1:OIKx22LwhURhKdZrLBXKa48AwK+SLX42UTiOz+7DZsw=\r\n\r\n<SignedIdentifiers><SignedIdentifier><Id>read-only</Id><AccessPolicy><Expiry>2012-10-01T13:00:00Z</Expiry><Permission>r</Permission></AccessPolicy></SignedIdentifier></SignedIdentifiers>";
+
+/// A Set Container ACL of `pics` without policies.
+pub(crate) const WITHDRAW: &[u8] =
+    b"PUT /devstoreaccount1/pics?restype=container&comp=acl HTTP/1.1\r\nContent-Length: 0\r\nx-ms-date: Mon, 01 Oct 2012 12:00:00 GMT\r\nx-ms-version: 2012-02-12\r\nAuthorization: SharedKey devstoreaccount1:W+8sKF0BYG5+AnCX2tlb31qerovb9ZR6ZkTpHcwPzG8=\r\n\r\n";
+
+/// A Get Blob of `a.txt` by a token of the policy.
+pub(crate) const GET_BY_POLICY: &[u8] =
+    b"GET /devstoreaccount1/pics/a.txt?sv=2012-02-12&sr=c&si=read-only&sig=l6iMJKHOWWKvcTJSi9J0FXuod06eRJeMlrXBAmczze8%3D HTTP/1.1\r\nx-ms-version: 2012-02-12\r\n\r\n";
+
 /// What the reply to a request that made something begins with.
 pub(crate) const CREATED: &[u8] = b"HTTP/1.1 201 Created\r\n";
 
@@ -170,6 +190,21 @@ pub(crate) fn ends(
     end: &[u8],
 ) -> bool {
     sent(rt, alloc, served, input).ends_with(end)
+}
+
+/// Whether the text is in the slot's reply to the input.
+pub(crate) fn says(
+    rt: &impl Abort,
+    alloc: Global,
+    served: &mut Served,
+    input: &[u8],
+    text: &str,
+) -> bool {
+    let out = sent(rt, alloc, served, input);
+    match str::from_utf8(&out) {
+        Ok(reply) => reply.contains(text),
+        Err(_) => false,
+    }
 }
 
 /// How many accepted changes of the container the slot has.
