@@ -1,5 +1,5 @@
 -- The machine: what a step answers, and what it leaves (Calder et al., SOSP 2011, sections 4 and 5: what a partition server does with its
--- range and its streams). The answers for nodes that are out of reach, for a change whose outcome is unknown and for want of memory are
+-- range and its streams). The answers for nodes that are out of reach, for a change whose outcome is unknown and for a lack of memory are
 -- the stamp's own.
 use Rattle.std.specs.Prelude.{◌≡◌, ◌⊎◌, ◌≤◌, ℕ, nat_lt, Bool, true, false, List, [], ◌∷◌, length, Option, Some, None, IsSome, Result, Ok, Err}
 use Rattle.stamp_values.specs.declared.key.Key.{Key}
