@@ -1,6 +1,18 @@
 //! Tests of slots by their public calls.
 #![tactic(auto)]
 
+#[cfg(test)]
+mod bound_tests;
+#[cfg(test)]
+mod history_tests;
+#[cfg(test)]
+mod judgement_tests;
+#[cfg(test)]
+mod many_tests;
+#[cfg(test)]
+mod pair_tests;
+#[cfg(test)]
+mod requests;
 mod sample_pairs;
 #[cfg(test)]
 mod samples;

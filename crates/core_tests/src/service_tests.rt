@@ -1,9 +1,9 @@
 //! Slots whose pairs are refused, and a policy that is withdrawn between two requests.
 
-use crate::samples::{
-    CREATE, CREATE_LATER, CREATED, GET_BY_POLICY, LIST, PUT, PUT_POLICY, Served, WITHDRAW, begins,
-    cut, empty_slot, ends, pair, says,
+use crate::requests::{
+    CREATE, CREATE_LATER, CREATED, GET_BY_POLICY, LIST, PUT, PUT_POLICY, WITHDRAW,
 };
+use crate::samples::{Served, begins, cut, empty_slot, ends, pair, says};
 use slot_state::{KeptHistories, PairsFault, Slot};
 use std::alloc::Global;
 use std::process::Abort;
@@ -19,7 +19,7 @@ fn fault_of(rt: &impl Abort, alloc: Global, epochs: &[u64]) -> Option<PairsFault
 }
 
 // The same request with the token of the policy is answered while the container has the policy, and is refused afterwards (S5).
-fn is_withdrawn(rt: &impl Abort, alloc: Global, served: &mut Served) {
+fn is_withdrawn(rt: &impl Abort, alloc: Global, served: &mut Served<KeptHistories>) {
     assert!(rt; begins(rt, alloc, served, CREATE, CREATED));
     assert!(rt; begins(rt, alloc, served, PUT, CREATED));
     assert!(rt; begins(rt, alloc, served, PUT_POLICY, b"HTTP/1.1 200 OK\r\n"));
@@ -38,7 +38,7 @@ fn is_withdrawn(rt: &impl Abort, alloc: Global, served: &mut Served) {
 }
 
 // Each half lists the container that it has, and does not list the other.
-fn lists_its_own(rt: &impl Abort, alloc: Global, lower: &mut Served) {
+fn lists_its_own(rt: &impl Abort, alloc: Global, lower: &mut Served<KeptHistories>) {
     assert!(rt; begins(rt, alloc, lower, CREATE, CREATED));
     assert!(rt; begins(rt, alloc, lower, CREATE_LATER, CREATED));
     assert!(rt; says(rt, alloc, lower, LIST, "<Name>video</Name>"));

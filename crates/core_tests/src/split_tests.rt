@@ -1,15 +1,13 @@
 //! Splits of a slot.
 
-use crate::samples::{
-    CREATE, CREATED, GET, GET_B, MISSING, PUT, PUT_BLOCK, PUT_LIST, Served, begins, changes, cut,
-    empty_slot, ends, key, pair,
-};
-use slot_state::{AccountPairs, PairsFault};
+use crate::requests::{CREATE, CREATED, GET, GET_B, MISSING, PUT, PUT_BLOCK, PUT_LIST};
+use crate::samples::{Served, begins, changes, cut, empty_slot, ends, key, pair};
+use slot_state::{AccountPairs, KeptHistories, PairsFault};
 use std::alloc::Global;
 use std::process::Abort;
 
 // The container leaves with the upper half: its blob is read there, and its list of two changes is there.
-fn leaves(rt: &impl Abort, alloc: Global, lower: &mut Served) {
+fn leaves(rt: &impl Abort, alloc: Global, lower: &mut Served<KeptHistories>) {
     assert!(rt; begins(rt, alloc, lower, CREATE, CREATED));
     assert!(rt; begins(rt, alloc, lower, PUT, CREATED));
     let mut upper = cut(rt, alloc, lower, "pics");
@@ -23,7 +21,7 @@ fn leaves(rt: &impl Abort, alloc: Global, lower: &mut Served) {
 }
 
 // The block is put before the cut, and its list is committed after it. The container comes before the key of the cut, so it stays.
-fn is_committed(rt: &impl Abort, alloc: Global, lower: &mut Served) {
+fn is_committed(rt: &impl Abort, alloc: Global, lower: &mut Served<KeptHistories>) {
     assert!(rt; begins(rt, alloc, lower, CREATE, CREATED));
     assert!(rt; begins(rt, alloc, lower, PUT_BLOCK, CREATED));
     let upper = cut(rt, alloc, lower, "picsa");
