@@ -3,6 +3,7 @@ pub mod FaultLemmas
 pub mod HalfLemmas
 pub mod MapLemmas
 pub mod PairLemmas
+pub mod RangeLemmas
 pub mod RowLemmas
 pub mod ServeLemmas
 pub mod SplitLemmas

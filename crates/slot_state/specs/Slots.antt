@@ -1,6 +1,6 @@
 -- What a slot keeps of a range of keys, and what it does with a request (Calder et al., SOSP 2011, section 5: a range partition and
 -- its commit log).
-use Rattle.std.specs.Prelude.{◌≡◌, ℕ, Bool, true, ◌&&◌, if◌then◌else◌, List, [], Option, Some, None, is_some, refl}
+use Rattle.std.specs.Prelude.{◌≡◌, ℕ, Bool, true, false, ◌&&◌, if◌then◌else◌, List, [], Option, Some, None, is_some, refl}
 use Rattle.std.specs.Coded.{Coded, code_by, coded×, coded_list, coded_option}
 use Rattle.std.specs.FinMap as finite
 use Rattle.stamp_values.specs.Trees.{is_below, is_from, key_code}
@@ -78,6 +78,10 @@ pub record IsServed (s : SlotState) (q : Asked) (t : ℕ) (bound : Option Key) (
 -- the key is in the range of the slot
 abbrev pub covers : SlotState → Key → Bool
 covers s key = is_between s.from s.to key
+
+-- a container whose key is outside of the range of the slot has no accepted changes in the slot
+abbrev pub KeepsToRange : SlotState → Type 0
+KeepsToRange s = (key : Key) → covers s key ≡ false → history_at s.histories key ≡ []
 
 -- the key comes after the first key of the slot and before the end of its range, so that each half of the slot has a key
 abbrev pub is_inside : SlotState → Key → Bool

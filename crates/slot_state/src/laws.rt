@@ -8,10 +8,11 @@ ghost use Rattle.stamp_types.specs.declared.past.Past.{Past};
 ghost use Rattle.stamp_types.specs.declared.reply.Reply.{Reply};
 ghost use Rattle.stamp_model.specs.Effects.{effect};
 ghost use Rattle.stamp_model.specs.Responses.{reply};
+ghost use Rattle.stamp_model.specs.SeenContainers.{routed};
 ghost use Rattle.slot_state.specs.HistoryMaps as maps;
 ghost use Rattle.slot_state.specs.HistoryMaps.{NoneIsEmpty, history_at, with_entry, without_last};
-ghost use Rattle.slot_state.specs.Pairs.{AreNumbered, current_at};
-ghost use Rattle.slot_state.specs.Slots.{IsServed, SlotState, lower_half, replayed_at, upper_half};
+ghost use Rattle.slot_state.specs.Pairs.{AreNumbered, Pairs, current_at};
+ghost use Rattle.slot_state.specs.Slots.{IsServed, KeepsToRange, SlotState, covers, empty_slot, lower_half, replayed_at, upper_half};
 
 /// If each container of a world is what its history in a slot replays to, then a request that the slot
 /// serves gets the model's reply in this world, by the pair in force and up to the bound, and after it
@@ -40,6 +41,18 @@ pub fn a_split_loses_nothing()
         × (replayed_at s.pairs (upper_half s middle).histories key ≡ replayed_at s.pairs s.histories key)
         × (history_at (lower_half s middle).histories key ≡ [])
         × (replayed_at s.pairs (lower_half s middle).histories key ≡ no_part) }
+{}
+
+/// If each request is sent to the slot that covers the first key that the request looks at, then a slot
+/// has accepted changes of the keys of its range only: at first, after each request, and in both halves
+/// of a split.
+pub fn a_slot_keeps_to_its_range()
+    ensures empty { (pairs : Pairs) → KeepsToRange (empty_slot pairs) }
+    ensures served { (s after : SlotState) (q : Asked) (t : ℕ) (bound : Option Key) (r : Reply)
+        → KeepsToRange s → covers s (routed q) ≡ true → IsServed s q t bound r after
+        → KeepsToRange after }
+    ensures lower { (s : SlotState) (middle : Key) → KeepsToRange s → KeepsToRange (lower_half s middle) }
+    ensures upper { (s : SlotState) (middle : Key) → KeepsToRange s → KeepsToRange (upper_half s middle) }
 {}
 
 /// If an entry is pushed and taken back, the histories are those from before, also if the entry was the

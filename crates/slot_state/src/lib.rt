@@ -23,7 +23,10 @@ pub use event::Event;
 pub use histories::Histories;
 pub use history::History;
 pub use kept_histories::KeptHistories;
-pub use laws::{a_slot_serves_one_step, a_split_loses_nothing, what_is_pushed_back_was_not_there};
+pub use laws::{
+    a_slot_keeps_to_its_range, a_slot_serves_one_step, a_split_loses_nothing,
+    what_is_pushed_back_was_not_there,
+};
 pub use pairs_fault::PairsFault;
 pub use proved::ProvedHistories;
 pub use service::{deciding, serving};
