@@ -1,0 +1,5 @@
+pub mod RangeLemmas
+pub mod RunLemmas
+pub mod ServeLemmas
+pub mod SplitLemmas
+pub mod TicketLemmas

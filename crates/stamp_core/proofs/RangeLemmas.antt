@@ -1,0 +1,108 @@
+-- The ranges of slots.
+use Rattle.std.proofs.Common.{◌≡◌, ◌≤◌, ◌<◌, ◌+◌, ◌&&◌, ℕ, zero, suc, Bool, true, List, [], ◌∷◌, Option, Some, None, refl, sym, ap, ◌∙◌, arith, length, map}
+use Rattle.std.specs.Prelude.{slice_get, slice_set, slice_index_or}
+use Rattle.std.specs.List.{insert}
+use Rattle.std.specs.Option.{option_and_then}
+use Rattle.std.proofs.lemmas.List.{length-map}
+use Rattle.stamp_values.specs.Trees.{is_below}
+use Rattle.stamp_values.specs.declared.key.Key.{Key}
+use Rattle.stamp_types.specs.declared.past.Past.{Past}
+use Rattle.stamp_model.specs.SeenContainers.{is_under}
+use Rattle.partition_map.specs.Spans.{bound_of, first_key, least_key, split_refusal, with_point, with_two}
+use Rattle.partition_map.proofs.RefusalLemmas.{allowed_is}
+use Rattle.slot_state.specs.Slots as slots_of
+use Rattle.slot_state.specs.Slots.{SlotState, lower_half, upper_half}
+use Rattle.core_run.specs.Cores.{no_slot}
+use Rattle.core_run.proofs.CoreLemmas.{same_bound}
+use Rattle.stamp_core.specs.CoreSteps.{slots_split}
+use Rattle.stamp_core.specs.Ranges.{HaveSpans, Range, range_of, ranges_from}
+
+-- ---- lists
+
+module _ {X Y : Type 0} (f : X → Y) where
+  map-set : (xs : List X) (i : ℕ) (x d : X) → f x ≡ f (slice_index_or xs i d) → map f (slice_set xs i x) ≡ map f xs
+  map-set [] i x d e = refl
+  map-set (y ∷ xs) zero x d e = λ i. e i ∷ map f xs
+  map-set (y ∷ xs) (suc n) x d e = λ i. f y ∷ map-set xs n x d e i
+
+  map-with_two : (xs : List X) (i : ℕ) (a b : X) → map f (with_two xs i a b) ≡ with_two (map f xs) i (f a) (f b)
+  map-with_two [] i a b = refl
+  map-with_two (x ∷ xs) zero a b = refl
+  map-with_two (x ∷ xs) (suc i) a b = λ j. f x ∷ map-with_two xs i a b j
+
+  read-map : (xs : List X) (i : ℕ) (d : X) → slice_index_or (map f xs) i (f d) ≡ f (slice_index_or xs i d)
+  read-map [] i d = refl
+  read-map (x ∷ xs) zero d = refl
+  read-map (x ∷ xs) (suc i) d = read-map xs i d
+
+-- ---- ranges between split points
+
+length-ranges : (first : Key) (points : List Key) → length (ranges_from first points) ≡ length points + 1
+length-ranges first [] = refl
+length-ranges first (p ∷ points) = omega (arith, length-ranges p points)
+
+range_at : (first : Key) (points : List Key) (i : ℕ) (d : Range) (e : Key) → i ≤ length points → slice_index_or (ranges_from first points) i d ≡ (slice_index_or (first ∷ points) i e, (slice_get points i, None))
+range_at first [] zero d e low = refl
+range_at first [] (suc i) d e low = absurd (omega (arith, low))
+range_at first (p ∷ points) zero d e low = refl
+range_at first (p ∷ points) (suc i) d e low = range_at p points i d e (omega (arith, low))
+
+no_doubt : (first : Key) (points : List Key) (i : ℕ) → option_and_then (λ o. o) (slice_get (map (λ (r : Range). r.1.1) (ranges_from first points)) i) ≡ None
+no_doubt first [] zero = refl
+no_doubt first [] (suc i) = refl
+no_doubt first (p ∷ points) zero = refl
+no_doubt first (p ∷ points) (suc i) = no_doubt p points i
+
+abbrev low_range : Range → Key → Range
+low_range r middle = (r.0, (Some middle, r.1.1))
+
+abbrev high_range : Range → Key → Range
+high_range r middle = (middle, (r.1.0, None))
+
+ranges_split : (first : Key) (points : List Key) (i : ℕ) (middle : Key) (d : Range) → i ≤ length points
+    → with_two (ranges_from first points) i (low_range (slice_index_or (ranges_from first points) i d) middle) (high_range (slice_index_or (ranges_from first points) i d) middle)
+    ≡ ranges_from first (insert points i middle)
+ranges_split first [] zero middle d low = refl
+ranges_split first [] (suc i) middle d low = absurd (omega (arith, low))
+ranges_split first (p ∷ points) zero middle d low = refl
+ranges_split first (p ∷ points) (suc i) middle d low = λ j. (first, (Some p, None)) ∷ ranges_split p points i middle d (omega (arith, low)) j
+
+-- ---- slots
+
+fuse : (slots : List SlotState) → map (λ (h : SlotState). h.doubt) slots ≡ map (λ (r : Range). r.1.1) (map range_of slots)
+fuse [] = refl
+fuse (h ∷ slots) = λ i. h.doubt ∷ fuse slots i
+
+module _ (slots : List SlotState) (points : List Key) (have : HaveSpans slots points) where
+  pub counted : length slots ≡ length points + 1
+  counted = sym (length-map slots range_of) ∙ ap length have ∙ length-ranges least_key points
+
+  -- no slot has a doubt
+  pub calm : (i : ℕ) → option_and_then (λ o. o) (slice_get (map (λ (h : SlotState). h.doubt) slots) i) ≡ None
+  calm i = ap (λ (ds : List (Option Past)). option_and_then (λ o. o) (slice_get ds i)) (fuse slots ∙ ap (map (λ (r : Range). r.1.1)) have) ∙ no_doubt least_key points i
+
+  own_range : (i : ℕ) → slice_index_or (ranges_from least_key points) i (range_of no_slot) ≡ range_of (slice_index_or slots i no_slot)
+  own_range i = ap (λ (rs : List Range). slice_index_or rs i (range_of no_slot)) (sym have) ∙ read-map range_of slots i no_slot
+
+  -- a slot whose span can be split at a key can be cut there
+  pub inside : (i : ℕ) (middle : Key) → split_refusal points i middle ≡ None → slots_of.is_inside (slice_index_or slots i no_slot) middle ≡ true
+  inside i middle allowed =
+      let can = (allowed_is points i middle).0 allowed in
+      let is : range_of (slice_index_or slots i no_slot) ≡ (first_key points i, (bound_of points i, None)) = sym (own_range i) ∙ range_at least_key points i (range_of no_slot) least_key can.0 in
+      ap (λ (r : Range). is_below middle r.0 && is_under r.1.0 middle) is
+      ∙ ap (λ (b : Bool). is_below middle (first_key points i) && b) (same_bound (bound_of points i) middle)
+      ∙ can.1
+
+  pub within : (i : ℕ) (middle : Key) → split_refusal points i middle ≡ None → i < length slots
+  within i middle allowed = let can = (allowed_is points i middle).0 allowed in omega (arith, can.0, counted)
+
+  -- a slot with the same range is put in the place of one
+  pub set_spans : (i : ℕ) (new d : SlotState) → range_of new ≡ range_of (slice_index_or slots i d) → HaveSpans (slice_set slots i new) points
+  set_spans i new d same = map-set range_of slots i new d same ∙ have
+
+  -- after a split they have those of one span more
+  pub split_spans : (i : ℕ) (middle : Key) → split_refusal points i middle ≡ None → HaveSpans (slots_split slots i middle) (with_point points i middle)
+  split_spans i middle allowed =
+      map-with_two range_of slots i (lower_half (slice_index_or slots i no_slot) middle) (upper_half (slice_index_or slots i no_slot) middle)
+      ∙ (λ j. with_two (have j) i (low_range (sym (own_range i) j) middle) (high_range (sym (own_range i) j) middle))
+      ∙ ranges_split least_key points i middle (range_of no_slot) ((allowed_is points i middle).0 allowed).0

@@ -1,0 +1,34 @@
+use Rattle.std.proofs.Common.{rules, ◌≡◌, ◌++◌, ◌∷◌, [], length, List, ap, ◌∙◌, subst, arith}
+use Rattle.std.specs.List.{list_all}
+use Rattle.std.specs.Vec.Iter.{into_iter_items, into_iter_len}
+use Rattle.core_run.specs.declared.step.Step.{Step}
+use Rattle.stamp_core.specs.CoreSteps.{makes}
+use Rattle.stamp_core.proofs.RunLemmas.{HasRun, later_made, nothing_left, run_begins, run_ends, run_goes_on}
+use Rattle.stamp_core.proofs.cores.Core.run.Goals as goal
+
+pub loop-step-init : goal.loop-step-init
+loop-step-init g c = record {
+  ran = run_begins c.args.self.now c.args.steps.items (into_iter_items c.into_iter-later.result) c.in_ok-answers.answers.items c.into_iter-later.ensures.rest c.in_ok-answers.ensures.items;
+  room = omega (arith, c.in_ok-answers.ensures.len, c.in_ok-answers.ensures.capacity, c.len.ensures, c.into_iter-later.ensures.len);
+  counted = search rules;
+  made = ap (list_all makes) c.into_iter-later.ensures.rest ∙ c.requires;
+}
+
+pub loop-step-preserved : goal.loop-step-preserved
+loop-step-preserved g c =
+    let pushed : c.push.new.self.items ≡ c.loop-step.answers.items ++ c.step-answer.result ∷ [] = search rules in
+    record {
+      ran =
+          run_goes_on c.args.self.now c.loop-step.self c.step-answer.new.self c.args.steps.items c.loop-step.answers.items c.push.new.self.items c.in-Some.step (into_iter_items c.next.new.self) c.step-answer.result
+          (subst (λ (xs : List Step). HasRun c.args.self.now c.args.steps.items c.loop-step.answers.items c.loop-step.self xs) c.in-Some.ensures.cases.0 c.loop-step.invariant.ran)
+          c.step-answer.ensures.taken pushed;
+      room = search rules;
+      counted = omega (arith, c.loop-step.invariant.counted, ap length c.in-Some.ensures.cases.0, c.in-Some.ensures.cases.1);
+      made = later_made (into_iter_items c.loop-step.later) (into_iter_items c.next.new.self) c.in-Some.step c.loop-step.invariant.made c.in-Some.ensures.cases.0;
+    }
+
+pub returns-clause-ran : goal.returns-clause-ran
+returns-clause-ran g c =
+    run_ends c.args.self.now c.loop-step.self c.args.steps.items c.loop-step.answers.items (into_iter_items c.loop-step.later)
+    (nothing_left (into_iter_items c.loop-step.later) (into_iter_len c.loop-step.later) c.loop-step.invariant.counted c.in_default.ensures.cases.0)
+    c.loop-step.invariant.ran

@@ -1,0 +1,28 @@
+use Rattle.stamp_core.proofs.RangeLemmas.{inside, within}
+use Rattle.stamp_core.proofs.SplitLemmas.{joined, one_point_more, spans_back, spans_made}
+use Rattle.stamp_core.proofs.splitting.split.Goals as goal
+
+pub halve_or_join-requires-clause-within : goal.halve_or_join-requires-clause-within
+halve_or_join-requires-clause-within g c = within c.args.slots.now.items c.args.spans.now c.requires.before c.args.at c.args.middle.now c.in_default.ensures.allowed
+
+pub halve_or_join-requires-clause-inside : goal.halve_or_join-requires-clause-inside
+halve_or_join-requires-clause-inside g c = inside c.args.slots.now.items c.args.spans.now c.requires.before c.args.at c.args.middle.now c.in_default.ensures.allowed
+
+pub halve_or_join-requires-clause-split : goal.halve_or_join-requires-clause-split
+halve_or_join-requires-clause-split g c = one_point_more c.args.spans.now c.split.new.self c.args.at c.args.middle.now c.in_default.ensures.allowed c.in_default.ensures.split
+
+pub returns-in-Ok-clause-after : goal.returns-in-Ok-clause-after
+returns-in-Ok-clause-after g c =
+    spans_made c.args.slots.now.items c.halve_or_join.new.slots.items c.args.spans.now c.split.new.self c.halve_or_join.new.spans c.args.at c.args.middle.now
+    c.requires.before c.in-Ok.ensures.halved c.in_default.ensures.allowed c.in_default.ensures.split c.in-Ok.ensures.same_spans
+
+pub returns-in-Err-halve_or_join-clause-after : goal.returns-in-Err-halve_or_join-clause-after
+returns-in-Err-halve_or_join-clause-after g c =
+    spans_back c.args.slots.now.items c.halve_or_join.new.slots.items c.args.spans.now c.split.new.self c.halve_or_join.new.spans c.args.at c.args.middle.now
+    c.requires.before c.in-Err-halve_or_join.ensures.refused c.in_default.ensures.allowed c.in_default.ensures.split c.in-Err-halve_or_join.ensures.joined
+
+pub returns-in-Err-halve_or_join-clause-split : goal.returns-in-Err-halve_or_join-clause-split
+returns-in-Err-halve_or_join-clause-split g c = (
+  c.in_default.ensures.allowed,
+  (c.in-Err-halve_or_join.ensures.refused, joined c.args.spans.now c.split.new.self c.halve_or_join.new.spans c.args.at c.args.middle.now c.in_default.ensures.allowed c.in_default.ensures.split c.in-Err-halve_or_join.ensures.joined),
+)

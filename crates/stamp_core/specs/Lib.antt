@@ -1,0 +1,3 @@
+pub mod CoreSteps
+pub mod Ranges
+pub mod Tickets
