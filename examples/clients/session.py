@@ -16,7 +16,7 @@ STANDARD = (
     "If-None-Match", "If-Unmodified-Since", "Range",
 )
 BLOCK_BLOB = {"x-ms-blob-type": "BlockBlob"}
-# How long a reply may take, in seconds. The server waits 30 seconds for an idle client, so a check fails if its request waits for that.
+# How long a reply may take, in seconds. The server waits 60 seconds for an idle client, so a check fails if its request waits for that.
 LIMIT = 20
 
 

@@ -23,6 +23,6 @@ mod test_heads;
 #[cfg(test)]
 mod value_tests;
 #[cfg(test)]
-mod waiting_tests;
+mod link_tests;
 #[cfg(test)]
-mod worker_tests;
+mod waiting_tests;

@@ -7,6 +7,7 @@ pub mod Going
 pub mod HeadLines
 pub mod Items
 pub mod LineLemmas
+pub mod LinkLemmas
 pub mod Pendings
 pub mod Readings
 pub mod Resumed

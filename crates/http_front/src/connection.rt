@@ -111,6 +111,27 @@ impl<R: Read, W: Write> Connection<R, W> {
         }
     }
 
+    /// The reader. Its reads are made by this connection alone.
+    pub fn reader(&self) -> &R
+        ensures { R.remaining result.now ≡ self.now.reader.left }
+    {
+        self.reader.inner().inner()
+    }
+
+    /// The writer. Its writes are made by this connection alone.
+    pub fn writer(&self) -> &W
+        ensures { W.contents result.now ≡ self.now.writer.held }
+    {
+        self.writer.inner().inner()
+    }
+
+    /// Gives the room for bytes back if no byte is in it. The next read takes new room.
+    pub fn rest(&mut self, alloc: Global)
+        ensures { self.new ≡ self.old }
+    {
+        self.buffer.rest(alloc);
+    }
+
     /// Gives the reader and the writer back. Bytes that came and were not taken are lost.
     pub fn into_parts(self) -> (R, W)
         ensures { (R.remaining result.0 ≡ self.reader.left) × (W.contents result.1 ≡ self.writer.held) }

@@ -100,6 +100,13 @@ impl<R: Incoming> CountedReader<R> {
         }
     }
 
+    /// The reader.
+    pub(crate) fn inner(&self) -> &R
+        ensures { R.left result.now ≡ self.now.left }
+    {
+        &self.reader
+    }
+
     /// Gives the reader back.
     pub(crate) fn into_inner(self) -> R
         ensures { R.left result ≡ self.left }
@@ -172,6 +179,13 @@ impl<W: Outgoing> CountedWriter<W> {
             writer,
             output: Output::Flushed,
         }
+    }
+
+    /// The writer.
+    pub(crate) fn inner(&self) -> &W
+        ensures { W.held result.now ≡ self.now.held }
+    {
+        &self.writer
     }
 
     /// Gives the writer back.

@@ -17,7 +17,6 @@ mod outgoing;
 mod pending;
 mod service;
 mod stream_laws;
-mod workers;
 
 pub use connection::Connection;
 pub use connection_laws::a_connection_left_and_resumed_answers_as_run;
@@ -25,9 +24,8 @@ pub use conversation::{advance, finish, give_up, run};
 pub use counted::{Came, Input, Output};
 pub use end::{End, FrontFault};
 pub use item::{Stage, Step};
-pub use link::{Link, Source, serve_link};
+pub use link::{Link, Over, Resting, go_on};
 pub use service::{Clock, Service};
 pub use stream_laws::{
     a_head_ends_with_its_first_empty_line, a_stream_is_read_in_one_way, each_stream_is_read,
 };
-pub use workers::work;

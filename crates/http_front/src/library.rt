@@ -82,6 +82,13 @@ impl<R: Read> StdReader<R> {
         }
     }
 
+    /// The library's reader.
+    pub(crate) fn inner(&self) -> &R
+        ensures { R.remaining result.now ≡ self.now.left }
+    {
+        &self.reader
+    }
+
     /// Gives the library's reader back.
     pub(crate) fn into_inner(self) -> R
         ensures { R.remaining result ≡ self.left }
@@ -101,6 +108,13 @@ impl<W: Write> StdWriter<W> {
             behind: false,
             waits: false,
         }
+    }
+
+    /// The library's writer.
+    pub(crate) fn inner(&self) -> &W
+        ensures { W.contents result.now ≡ self.now.held }
+    {
+        &self.writer
     }
 
     /// Gives the library's writer back.

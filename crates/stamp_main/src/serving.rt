@@ -12,16 +12,14 @@ use crate::sockets::serve_on;
 use crate::words::{Served, read_served};
 use account_lock::NewHistory;
 use http_front::Connection;
+use socket_gate::Limits;
 use std::alloc::{AllocError, Global};
-use std::io::{Read, Write};
+use std::io::{ErrorKind, Read, Write};
 use std::marker::Brand;
 use std::net::{Net, TcpListener, TcpStream};
 use std::sync::Wait;
 use std::thread::Threads;
-use std::time::{Clock, Duration};
-
-/// How many seconds a read or a write of a connection may wait.
-const PATIENCE: u64 = 30;
+use std::time::Clock;
 
 /// Carries out `stamp serve ADDRESS WORKERS ACCOUNT KEY1 KEY2`: takes the address, writes `listening ADDRESS` and LF, and serves.
 ///
@@ -89,7 +87,7 @@ fn listening(alloc: Global, address: &str) -> Result<String, AllocError>
 }
 
 // Serves by these workers and keys, until the listener fails for good.
-fn serve_all<R: Threads + Wait + Clock + Sync>(
+fn serve_all<R: Net + Threads + Wait + Clock + Sync>(
     rt: &R,
     alloc: Global,
     listener: &TcpListener,
@@ -97,7 +95,6 @@ fn serve_all<R: Threads + Wait + Clock + Sync>(
 ) -> Ending
     ensures { (result ≡ ListenerFault) ⊎ (result ≡ NoMemory) }
 {
-    let patience = Duration::from_secs(PATIENCE);
     let history = NewHistory::new(u64::MAX);
     match serve_on::<Brand, R, R>(
         rt,
@@ -108,9 +105,9 @@ fn serve_all<R: Threads + Wait + Clock + Sync>(
         listener,
         served.workers,
         u64::MAX,
-        patience,
+        Limits::standard(),
     ) {
-        Ok(()) => Ending::ListenerFault,
-        Err(_) => Ending::NoMemory,
+        Err(error) if error.kind() == ErrorKind::OutOfMemory => Ending::NoMemory,
+        _ => Ending::ListenerFault,
     }
 }

@@ -17,6 +17,7 @@ use std::sync::Wait;
 use std::sync::atomic::{AtomicU64, Ordering};
 use std::test::Fail;
 use std::thread::Threads;
+use socket_gate::Limits;
 use std::time::{Clock, Duration};
 use std::{io, thread};
 
@@ -58,13 +59,13 @@ const PATIENCE: u64 = 20_000;
 // The same for a client that sends nothing, so that its test ends soon.
 const LITTLE_PATIENCE: u64 = 300;
 
-/// A clock that stays at noon of 1 October 2012. Whoever sleeps by it wakes up at once.
+/// A clock by which it stays noon of 1 October 2012, though time passes as it does by another clock.
 #[derive(Drop)]
-struct Noon;
+struct Noon<'a, R>(&'a R);
 
-impl Clock for Noon {
+impl<R: Clock> Clock for Noon<'_, R> {
     fn monotonic(&self) -> io::Result<Duration> {
-        Ok(Duration::ZERO)
+        self.0.monotonic()
     }
 
     fn since_1970(&self) -> io::Result<Duration> {
@@ -163,11 +164,19 @@ fn keys(alloc: Global) -> Result<Keys, AllocError> {
     Ok(keys)
 }
 
+// The limits of the program, but for a client that sends nothing.
+fn limits(patience: u64) -> Limits {
+    Limits {
+        idle: Duration::from_millis(patience),
+        ..Limits::standard()
+    }
+}
+
 // Serves so many connections by so many workers, and plays a client beside them. Returns whether serving ended well, and the turn at which
 // the server did not do what the client expects.
 fn both_ends<
     A: Account + Send + Sync,
-    R: Net<Stream = TcpStream, Listener = TcpListener> + Threads + Wait + Sync,
+    R: Net<Stream = TcpStream, Listener = TcpListener> + Threads + Wait + Clock + Sync,
 >(
     rt: &R,
     alloc: Global,
@@ -192,16 +201,16 @@ fn both_ends<
                 × (history.shares.name ≡ A.name) × (history.shares.parts ≡ A.parts)
                 × (connections ≤ history.shares.parts) }
         {
-            serve_on::<A, R, Noon>(
+            serve_on::<A, R, Noon<'_, R>>(
                 rt,
-                &Noon,
+                &Noon(rt),
                 alloc,
                 history,
                 keys,
                 &listener,
                 workers,
                 connections,
-                Duration::from_millis(patience),
+                limits(patience),
             )
             .is_ok()
         },
@@ -220,7 +229,7 @@ fn both_ends<
 #[test]
 fn connections_are_served_over_loopback(rt: HostRuntime) -> Result<(), Fail> {
     use Turn::{Gets, IsClosed, Leaves, Opens, Sends, SendsMore};
-    let table: [(&str, usize, u64, u64, &[Turn]); 6] = [
+    let table: [(&str, usize, u64, u64, &[Turn]); 7] = [
         (
             "two at once",
             2,
@@ -272,7 +281,7 @@ fn connections_are_served_over_loopback(rt: HostRuntime) -> Result<(), Fail> {
             ],
         ),
         (
-            "one after the other",
+            "more connections than workers",
             1,
             3,
             PATIENCE,
@@ -280,17 +289,23 @@ fn connections_are_served_over_loopback(rt: HostRuntime) -> Result<(), Fail> {
                 Opens,
                 Opens,
                 Opens,
-                Sends(2, PUT),
-                Sends(1, PUT),
                 Sends(0, CREATE),
                 Gets(0, CREATED),
-                Leaves(0),
+                Sends(2, PUT.split_at(PUT.len() - 2).0),
+                Sends(1, PUT),
                 Gets(1, WRITTEN),
-                Sends(1, GET),
-                Gets(1, READ),
-                Leaves(1),
+                Sends(0, GET),
+                Gets(0, READ),
+                Sends(2, PUT.split_at(PUT.len() - 2).1),
                 Gets(2, b"HTTP/1.1 201 Created\r\n"),
             ],
+        ),
+        (
+            "a client that speaks TLS",
+            1,
+            1,
+            PATIENCE,
+            &[Opens, Sends(0, b"\x16\x03\x01\x00\x05"), IsClosed(0)],
         ),
         (
             "a client that sends nothing",
@@ -337,16 +352,16 @@ fn a_listener_that_fails_for_good_ends_serving(rt: HostRuntime) -> Result<(), Fa
     // A socket that was shut down takes no connections any more.
     TcpStream::from(OwnedFd::from(listener.try_clone()?)).shutdown(Shutdown::Both)?;
     let keys = keys(rt.alloc())?;
-    let served = serve_on::<Brand, _, Noon>(
+    let served = serve_on::<Brand, _, Noon<'_, HostRuntime>>(
         &rt,
-        &Noon,
+        &Noon(&rt),
         rt.alloc(),
         NewHistory::new(10),
         keys,
         &listener,
         2,
         10,
-        Duration::from_millis(PATIENCE),
+        limits(PATIENCE),
     );
     assert!(rt; served.is_ok());
     Ok(())

@@ -1,0 +1,120 @@
+-- A link has said what its connection says since it was fresh.
+use Rattle.std.proofs.Common.{◌≡◌, ◌≢◌, ℕ, [], Option, List, Result, Ok, Err, inl, inr, refl, sym, ◌∙◌, subst, arith}
+use Rattle.stamp_types.specs.Requests.{Asked}
+use Rattle.stamp_types.specs.declared.reply.Reply.{Reply}
+use Rattle.http_front.specs.declared.counted.Output.TheVariants as outputs
+use Rattle.http_front.specs.declared.end.End.{End}
+use Rattle.http_front.specs.declared.end.FrontFault.{FrontFault}
+use Rattle.http_front.specs.declared.end.FrontFault.TheVariants.{Read, Write, Turns, NoMemory}
+use Rattle.http_front.specs.declared.item.PartialItem.{PartialItem}
+use Rattle.http_front.specs.declared.item.PartialItem.TheVariants.{InHead, Asking, InBody}
+use Rattle.http_front.specs.declared.item.Stage.{Stage}
+use Rattle.http_front.specs.declared.item.Stage.TheVariants.{Reading, Replying}
+use Rattle.http_front.specs.Connections.{ConnectionState, IsFresh, IsIdle, IsOpen, IsStalled}
+use Rattle.http_front.specs.Inputs.{ReadsItem}
+use Rattle.http_front.specs.Links.{Exceeds, FinishesLink, IsBetween, IsLink, ItemExceeds, ServesLink}
+use Rattle.http_front.specs.Resumptions.{step_of}
+use Rattle.http_front.specs.Stages.{IsItemWaiting, IsPartial, IsStaged, IsWaiting, Suspends, fresh_stage}
+use Rattle.http_front.specs.Steps.{Comes, Conversing, LeavesStep}
+use Rattle.http_front.proofs.Ends.{searched_none}
+use Rattle.http_front.proofs.Going.{comes_fault, conversing_none}
+use Rattle.http_front.proofs.Resumed.{has_conversed, has_run}
+
+-- a connection that waits can be gone on with
+stays_idle : (a : ConnectionState) → IsIdle a → IsOpen a
+stays_idle a idle = (idle.0, λ e. let both = sym idle.1 ∙ e in absurd (cc))
+
+stays_stalled : (a : ConnectionState) → IsStalled a → IsOpen a
+stays_stalled a stalled = (stalled.0, stalled.1)
+
+stays_item : (item : PartialItem) (a : ConnectionState) → IsItemWaiting item a → IsOpen a
+stays_item (InHead search) a waits = stays_idle a waits.0
+stays_item (Asking asking) a waits = stays_stalled a waits.0
+stays_item (InBody begun) a waits = stays_idle a waits.0
+
+pub stays_waiting : (stage : Stage) (a : ConnectionState) → IsWaiting stage a → IsOpen a
+stays_waiting (Reading item) a waits = stays_item item a waits
+stays_waiting (Replying reply) a waits = stays_stalled a waits.0
+
+partial_waiting : (item : PartialItem) (a : ConnectionState) → IsItemWaiting item a → IsPartial item a
+partial_waiting (InHead search) a waits = waits.1
+partial_waiting (Asking asking) a waits = (omega (arith, waits.1), waits.2)
+partial_waiting (InBody begun) a waits = (omega (arith, waits.1), λ less. waits.2)
+
+pub staged_waiting : (stage : Stage) (a : ConnectionState) → IsWaiting stage a → IsStaged stage a
+staged_waiting (Reading item) a waits = partial_waiting item a waits
+staged_waiting (Replying reply) a waits = tt
+
+-- memory runs out for an item whose body exceeds its room
+item_starved : (room : ℕ) (item : PartialItem) (from a : ConnectionState) → ItemExceeds room item → Suspends from item a → ReadsItem (Err NoMemory) from a
+item_starved room (InHead search) from a exceeds s = absurd exceeds
+item_starved room (Asking asking) from a exceeds s = absurd exceeds
+item_starved room (InBody begun) from a exceeds s = record {
+  more = s.more;
+  received = s.received;
+  written = s.written;
+  sent = s.sent;
+  found = inr (begun.head, s.begun.0, s.begun.1, s.begun.3);
+}
+
+module _ {C S : Type 0} (gives : C → ℕ → C → Type 0) (answers : S → Asked → ℕ → Reply → S → Type 0) where
+  -- a fresh connection can be gone on with
+  link_none : (starves : S → S → Type 0) (clock : C) (world : S) (from : ConnectionState) → IsFresh from → IsLink gives answers clock clock world world from fresh_stage from
+  link_none starves clock world from fresh = record {
+    was_fresh = fresh;
+    conversing = conversing_none gives answers starves clock world from fresh;
+    stays = (fresh.0, λ e. let both = sym fresh.1 ∙ e in absurd (cc));
+    staged = searched_none _ _ refl;
+  }
+
+  pub link_at : (starves : S → S → Type 0) (clock : C) (world : S) (from : ConnectionState) (stage : Stage) → stage ≡ fresh_stage → IsFresh from → IsLink gives answers clock clock world world from stage from
+  link_at starves clock world from stage is fresh = subst (λ s. IsLink gives answers clock clock world world from s from) (sym is) (link_none starves clock world from fresh)
+
+  -- a link of whose next item no byte has come waits between two items
+  pub rests : (clock clock' : C) (world world' : S) (from : ConnectionState) (stage : Stage) (a : ConnectionState) → IsLink gives answers clock clock' world world' from stage a
+      → IsBetween stage a → IsLink gives answers clock clock' world world' from fresh_stage a
+  rests clock clock' world world' from (Replying reply) a link none = absurd none
+  rests clock clock' world world' from (Reading (Asking asking)) a link none = absurd none
+  rests clock clock' world world' from (Reading (InBody begun)) a link none = absurd none
+  rests clock clock' world world' from (Reading (InHead search)) a link none = record {
+    was_fresh = link.was_fresh;
+    conversing = record {
+      between = link.conversing.between;
+      serving = link.conversing.serving;
+      begun = record {
+        more = link.conversing.begun.more;
+        received = link.conversing.begun.received;
+        written = link.conversing.begun.written;
+        sent = link.conversing.begun.sent;
+        begun = link.conversing.begun.begun;
+      };
+    };
+    stays = link.stays;
+    staged = searched_none _ _ refl;
+  }
+
+  module _ (starves : S → S → Type 0) (clock clock' : C) (world world' : S) (from a : ConnectionState) where
+    pub comes_starved : (room : ℕ) (stage : Stage) → Exceeds room stage → Conversing gives answers clock clock' world world' from stage a → IsWaiting stage a
+        → Comes gives answers starves clock clock' world world' from a (Err NoMemory)
+    comes_starved room (Reading item) exceeds m waits =
+        comes_fault gives answers starves clock clock' world world' from m.between a m.serving NoMemory (item_starved room item m.between a exceeds m.begun)
+        (stays_item item a waits).1
+    comes_starved room (Replying reply) exceeds m waits = absurd exceeds
+
+    -- a link whose connection came to its end and was finished was served
+    pub serves_link : (ended result : Result End FrontFault) (left held : Option (List ℕ))
+        → Comes gives answers starves clock clock' world world' from a (step_of ended) → LeavesStep (step_of ended) a
+        → FinishesLink ended result a left held → ServesLink gives answers starves clock clock' world world' from left held result
+    serves_link ended result left held comes leaves f =
+        let ran = has_run gives answers starves clock clock' world world' from a f.to ended result
+        (has_conversed gives answers starves clock clock' world world' from a ended comes leaves) f.finished in record {
+          to = f.to;
+          left_is = f.left_is;
+          held_is = f.held_is;
+          conversed = ran.conversed;
+          whole = ran.whole;
+          starved = ran.starved;
+          broken = ran.broken;
+          ends = ran.left;
+          flushed = ran.flushed;
+        }

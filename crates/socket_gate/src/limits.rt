@@ -1,0 +1,34 @@
+//! How long connections are waited for, and how much they may hold.
+
+use std::time::Duration;
+
+/// The limits of connections. All that is beyond them ends one connection, and no other.
+#[derive(Clone, Copy, Debug)]
+pub struct Limits {
+    /// How long a connection may be idle between two requests, or before the first.
+    pub idle: Duration,
+    /// How long a head may take from its first byte to its end.
+    pub head: Duration,
+    /// How often it is looked at how many bytes of a body came, or of a reply went.
+    pub span: Duration,
+    /// How many bytes have to come or go in each such span.
+    pub rate: u64,
+    /// How many connections there may be. There are fewer if the process may have fewer descriptors.
+    pub connections: usize,
+    /// How many bytes unfinished bodies may have in all, of the connections that wait.
+    pub bodies: u64,
+}
+
+impl Limits {
+    /// The limits of the program: docs/using.md has a table of them.
+    pub fn standard() -> Self {
+        Self {
+            idle: Duration::from_secs(60),
+            head: Duration::from_secs(15),
+            span: Duration::from_secs(10),
+            rate: 4096,
+            connections: 8192,
+            bodies: 1 << 30,
+        }
+    }
+}

@@ -1,0 +1,69 @@
+//! Peers that were told that their connection ends, and may still send.
+
+use crate::wire::Wire;
+use std::io::{ErrorKind, Read};
+use std::net::TcpStream;
+use std::sync::Arc;
+use std::time::Duration;
+
+/// How many seconds such a peer may be silent.
+const PATIENCE: u64 = 1;
+
+/// After how many seconds its connection is closed, even if it still sends.
+const LAST: u64 = 60;
+
+/// The most bytes that are read from it: as many as a body of the largest operation has.
+const LAST_BYTES: usize = 67_108_864;
+
+/// The most bytes that one read takes.
+const READ_SIZE: usize = 16_384;
+
+/// How many reads are made before other connections get their turn.
+const READS: usize = 64;
+
+/// A connection that ended. What its peer still sends is read and dropped: a connection that is closed while bytes are unread is reset,
+/// and then the peer may lose the reply.
+#[derive(Drop)]
+pub(crate) struct Parting {
+    pub(crate) wire: Arc<Wire>,
+    left: usize,
+    since: Duration,
+    heard: Duration,
+}
+
+impl Parting {
+    pub(crate) fn new(wire: Arc<Wire>, now: Duration) -> Self {
+        Self {
+            wire,
+            left: LAST_BYTES,
+            since: now,
+            heard: now,
+        }
+    }
+
+    /// Reads what is here. Returns whether more may come.
+    pub(crate) fn hear(&mut self, now: Duration) -> bool {
+        let mut stream: &TcpStream = &self.wire.stream;
+        let mut room = [0; READ_SIZE];
+        for _ in 0..READS {
+            match stream.read(&mut room) {
+                Ok(0) => return false,
+                Ok(count) => {
+                    self.heard = now;
+                    self.left = self.left.saturating_sub(count);
+                    if self.left == 0 {
+                        return false;
+                    }
+                }
+                Err(error) => return error.kind() == ErrorKind::WouldBlock,
+            }
+        }
+        true
+    }
+
+    /// Whether the peer was silent for too long, or sends for too long.
+    pub(crate) fn is_late(&self, now: Duration) -> bool {
+        now.saturating_sub(self.heard) >= Duration::from_secs(PATIENCE)
+            || now.saturating_sub(self.since) >= Duration::from_secs(LAST)
+    }
+}

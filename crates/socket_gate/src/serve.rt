@@ -1,0 +1,121 @@
+//! A listener whose connections are served by workers.
+
+use crate::gate::Gate;
+use crate::limits::Limits;
+use crate::place::{Place, SPAN};
+use crate::traffic::Traffic;
+use crate::visitors::Visitors;
+use crate::watcher::{LISTENER, WAKER};
+use http_front as front;
+use http_front::Service;
+use libc::types::rlimit;
+use mio::unix::SourceFd;
+use mio::{Events, Interest, Poll, Token, Waker};
+use std::alloc::{AllocError, Global};
+use std::net::{Net, TcpListener};
+use std::os::fd::AsRawFd;
+use std::sync::atomic::{AtomicBool, AtomicU64, AtomicUsize};
+use std::sync::{Mutex, Wait};
+use std::thread::Threads;
+use std::time::Clock;
+use std::{io, thread};
+
+/// How many events one poll reports at most.
+const EVENTS: usize = 256;
+
+/// How many descriptors are left for all that is no connection.
+const SPARE: u64 = 16;
+
+// How many connections there may be: as many as the limits say, if the process may have as many descriptors.
+fn most_connections(limits: &Limits) -> usize {
+    let mut limit = rlimit {
+        rlim_cur: 0,
+        rlim_max: 0,
+    };
+    let mut most = limits.connections.min(SPAN);
+    if libc::getrlimit(libc::RLIMIT_NOFILE, &mut limit) == 0 {
+        let descriptors = limit.rlim_cur.saturating_sub(SPARE);
+        most = most.min(usize::try_from(descriptors).unwrap_or(usize::MAX));
+    }
+    most.max(1)
+}
+
+// So many empty places.
+fn empty_places<L: Drop, I: Drop>(
+    alloc: Global,
+    count: usize,
+) -> Result<Vec<Mutex<Place<L, I>>>, AllocError> {
+    let mut places = Vec::with_capacity(alloc, count)?;
+    for index in 0..count {
+        places.push(Mutex::new(Place::new(index)))?;
+    }
+    Ok(places)
+}
+
+// The indices of so many places, the first one last.
+fn indices(alloc: Global, count: usize) -> Result<Vec<usize>, AllocError> {
+    let mut indices = Vec::with_capacity(alloc, count)?;
+    for index in (0..count).rev() {
+        indices.push(index)?;
+    }
+    Ok(indices)
+}
+
+/// Serves the connections of a listener by so many workers, until the listener fails for good or the visitors say that no more connections
+/// are taken, and then until the connections have ended.
+///
+/// The error says why it could not begin: memory, descriptors or threads ran out.
+pub fn serve_listener<
+    'x,
+    R: Net + Threads + Wait + Sync,
+    C: Clock + Sync,
+    K: front::Clock + Drop + Send,
+    S: Service + Drop + Send,
+    V: Visitors<K, S> + Sync,
+>(
+    rt: &'x R,
+    clock: &'x C,
+    alloc: Global,
+    listener: &'x TcpListener,
+    workers: usize,
+    visitors: &'x V,
+    limits: Limits,
+) -> io::Result<()> {
+    listener.set_nonblocking(true)?;
+    let mut poll = Poll::new(rt)?;
+    let mut events = Events::with_capacity(alloc, EVENTS)?;
+    let descriptor = listener.as_raw_fd();
+    poll.registry().register(
+        &mut SourceFd(&descriptor),
+        Token(LISTENER),
+        Interest::READABLE,
+    )?;
+    let registry = poll.registry().try_clone()?;
+    let waker = Waker::new(poll.registry(), Token(WAKER))?;
+    let count = most_connections(&limits);
+    let traffic = Traffic::new(alloc, count)?;
+    let places = empty_places(alloc, count)?;
+    let empty = indices(alloc, count)?;
+    let gate = Gate::<'_, R, C, K, S> {
+        rt,
+        clock,
+        alloc,
+        listener,
+        traffic: &traffic,
+        limits,
+        registry,
+        waker,
+        places,
+        empty: Mutex::new(empty),
+        connections: AtomicUsize::new(0),
+        held: AtomicU64::new(0),
+        is_closed: AtomicBool::new(false),
+    };
+    let (_, worked) = thread::join(
+        rt,
+        || gate.watch(visitors, &mut poll, &mut events),
+        || thread::map_indices(rt, alloc, workers, &|_worker| gate.work()),
+    );
+    let _ends = worked?;
+    Ok(())
+}

@@ -1,0 +1,79 @@
+//! Which connections have something to do, and who waits for them.
+
+use std::alloc::{AllocError, Global};
+use std::collections::VecDeque;
+use std::sync::atomic::{AtomicUsize, Ordering};
+use std::sync::{Condvar, Mutex, Wait};
+
+/// The places whose connections have something to do, in the order in which that was found out.
+#[derive(Drop)]
+struct Queue {
+    indices: VecDeque<usize>,
+    is_closed: bool,
+}
+
+/// Hands places from the thread that polls to the workers.
+#[derive(Drop)]
+pub(crate) struct Traffic {
+    queue: Mutex<Queue>,
+    bell: Condvar,
+    /// How many places are in the queue.
+    ready: AtomicUsize,
+    /// How many workers wait for a place.
+    idle: AtomicUsize,
+}
+
+impl Traffic {
+    /// No place has something to do. There is room for so many places.
+    pub(crate) fn new(alloc: Global, room: usize) -> Result<Self, AllocError> {
+        Ok(Self {
+            queue: Mutex::new(Queue {
+                indices: VecDeque::with_capacity(alloc, room)?,
+                is_closed: false,
+            }),
+            bell: Condvar::new(),
+            ready: AtomicUsize::new(0),
+            idle: AtomicUsize::new(0),
+        })
+    }
+
+    /// Hands a place to the next worker that is free. Returns whether there was room for it.
+    pub(crate) fn push<R: Wait>(&self, rt: &R, index: usize) -> bool {
+        let pushed = self.queue.lock(rt).indices.push_back(index).is_ok();
+        if pushed {
+            self.ready.fetch_add(1, Ordering::SeqCst);
+            self.bell.notify_one();
+        }
+        pushed
+    }
+
+    /// Waits for a place that has something to do. `None` if there will be none.
+    pub(crate) fn pop<R: Wait>(&self, rt: &R) -> Option<usize> {
+        let mut queue = self.queue.lock(rt);
+        self.idle.fetch_add(1, Ordering::SeqCst);
+        let mut popped = None;
+        for _ in rt.forever() {
+            popped = queue.indices.pop_front();
+            if popped.is_some() || queue.is_closed {
+                break;
+            }
+            queue = self.bell.wait(rt, queue);
+        }
+        self.idle.fetch_sub(1, Ordering::SeqCst);
+        if popped.is_some() {
+            self.ready.fetch_sub(1, Ordering::SeqCst);
+        }
+        popped
+    }
+
+    /// Says that there will be no more places. Each worker that waits for one ends.
+    pub(crate) fn close<R: Wait>(&self, rt: &R) {
+        self.queue.lock(rt).is_closed = true;
+        self.bell.notify_all();
+    }
+
+    /// Whether a worker may wait for its connection a little: no other connection has something to do, and another worker is free.
+    pub(crate) fn is_calm(&self) -> bool {
+        self.ready.load(Ordering::SeqCst) == 0 && self.idle.load(Ordering::SeqCst) > 0
+    }
+}

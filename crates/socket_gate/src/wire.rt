@@ -1,0 +1,149 @@
+//! The socket of one connection, as its reader and its writer.
+
+use crate::traffic::Traffic;
+use libc::types::pollfd;
+use std::alloc::Global;
+use std::io;
+use std::io::{ErrorKind, Read, Write};
+use std::net::TcpStream;
+use std::os::fd::{AsRawFd, RawFd};
+use std::sync::Arc;
+use std::sync::atomic::{AtomicBool, Ordering};
+
+/// For how many milliseconds a worker waits for its connection before it takes another one.
+const LINGER: i32 = 1;
+
+/// For how many milliseconds a write waits until the peer takes more.
+const WRITE_PATIENCE: i32 = 10_000;
+
+/// A socket, and the place that its connection has.
+#[derive(Drop)]
+pub(crate) struct Wire {
+    pub(crate) stream: TcpStream,
+    pub(crate) index: usize,
+    pub(crate) token: usize,
+    late: AtomicBool,
+}
+
+/// The reader or the writer of a connection. Both share one socket, which is not blocking.
+#[derive(Drop)]
+pub(crate) struct Half<'a> {
+    pub(crate) wire: Arc<Wire>,
+    traffic: &'a Traffic,
+    /// How many bytes have come, or have gone.
+    pub(crate) moved: u64,
+}
+
+impl Wire {
+    pub(crate) fn new(stream: TcpStream, index: usize, token: usize) -> Self {
+        Self {
+            stream,
+            index,
+            token,
+            late: AtomicBool::new(false),
+        }
+    }
+
+    /// Lets each further read and write fail, since the peer was too slow or somebody else needs the place.
+    pub(crate) fn give_up(&self) {
+        self.late.store(true, Ordering::SeqCst);
+    }
+
+    /// Whether the connection was given up.
+    pub(crate) fn is_late(&self) -> bool {
+        self.late.load(Ordering::SeqCst)
+    }
+
+    pub(crate) fn descriptor(&self) -> RawFd {
+        self.stream.as_raw_fd()
+    }
+
+    // Whether the socket gets ready within so many milliseconds.
+    fn is_ready_within(&self, events: i16, milliseconds: i32) -> bool {
+        let mut polled = [pollfd {
+            fd: self.descriptor(),
+            events,
+            revents: 0,
+        }];
+        libc::net::poll(&mut polled, milliseconds) > 0
+    }
+}
+
+// Whether a head can begin with this byte: with an empty line (RFC 9112, section 2.2), or with a method, which is a token (RFC 9110,
+// section 5.6.2).
+fn begins_head(byte: u8) -> bool {
+    byte.is_ascii_alphanumeric() || b"\r\n!#$%&'*+-.^_`|~".contains(&byte)
+}
+
+impl<'a> Half<'a> {
+    pub(crate) fn new(wire: Arc<Wire>, traffic: &'a Traffic) -> Self {
+        Self {
+            wire,
+            traffic,
+            moved: 0,
+        }
+    }
+
+    // Reads once, and waits a little before if nothing is here and nobody else has something to do.
+    fn read_or_linger(&self, buf: &mut [u8]) -> io::Result<usize> {
+        let mut stream: &TcpStream = &self.wire.stream;
+        match stream.read(buf) {
+            Err(error) if error.kind() == ErrorKind::WouldBlock => {
+                if self.traffic.is_calm() && self.wire.is_ready_within(libc::net::POLLIN, LINGER) {
+                    return stream.read(buf);
+                }
+                Err(error)
+            }
+            read => read,
+        }
+    }
+}
+
+impl Read for Half<'_> {
+    fn read(&mut self, buf: &mut [u8]) -> io::Result<usize> {
+        if self.wire.is_late() {
+            return Err(io::Error::from(ErrorKind::TimedOut));
+        }
+        let count = self.read_or_linger(buf)?;
+        // A peer that speaks another protocol, as TLS, is told so at once.
+        if self.moved == 0
+            && buf
+                .first()
+                .is_some_and(|first| count > 0 && !begins_head(*first))
+        {
+            return Err(io::Error::from(ErrorKind::InvalidData));
+        }
+        self.moved = self.moved.wrapping_add(count as u64);
+        Ok(count)
+    }
+}
+
+impl Write for Half<'_> {
+    fn write(&mut self, buf: &[u8]) -> io::Result<usize> {
+        if self.wire.is_late() {
+            return Err(io::Error::from(ErrorKind::TimedOut));
+        }
+        let mut stream: &TcpStream = &self.wire.stream;
+        let mut written = stream.write(buf);
+        if written
+            .as_ref()
+            .is_err_and(|error| error.kind() == ErrorKind::WouldBlock)
+        {
+            if !self
+                .wire
+                .is_ready_within(libc::net::POLLOUT, WRITE_PATIENCE)
+            {
+                return Err(io::Error::from(ErrorKind::TimedOut));
+            }
+            written = stream.write(buf);
+        }
+        let count = written?;
+        self.moved = self.moved.wrapping_add(count as u64);
+        Ok(count)
+    }
+
+    // A socket keeps nothing back.
+    fn flush(&mut self) -> io::Result<()> {
+        Ok(())
+    }
+}
