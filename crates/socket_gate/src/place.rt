@@ -1,4 +1,5 @@
 //! The places of connections, and how long each is waited for.
+ghost use Rattle.std.specs.Prelude.{◌≡◌};
 
 use crate::limits::Limits;
 use crate::parting::Parting;
@@ -65,10 +66,12 @@ pub(crate) struct Place<L: Drop, I: Drop> {
 
 impl Watch {
     /// A connection of which nothing came yet.
-    pub(crate) fn new(now: Duration) -> Self {
+    pub(crate) fn new(start: Duration) -> Self
+        ensures { result.since ≡ start }
+    {
         Self {
             phase: Phase::Idle,
-            since: now,
+            since: start,
             moved: Moved { came: 0, went: 0 },
         }
     }

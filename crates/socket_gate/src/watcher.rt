@@ -1,6 +1,6 @@
 //! The thread that polls: it takes new connections, tells workers which connections have something to do, and ends those that are slow.
 
-use crate::gate::{Gate, Visit, moved};
+use crate::gate::{Gate, Rest, Visit, moved};
 use crate::parting::Parting;
 use crate::place::{Phase, SPAN, Seat, Watch};
 use crate::visitors::Visitors;
@@ -10,7 +10,7 @@ use http_front::{Link, Service};
 use mio::unix::SourceFd;
 use mio::{Events, Interest, Poll, Token};
 use std::net::TcpStream;
-use std::os::fd::AsRawFd;
+use std::os::fd::{AsRawFd, RawFd};
 use std::sync::atomic::Ordering;
 use std::sync::{Arc, Wait};
 use std::time::{Clock, Duration};
@@ -163,23 +163,19 @@ impl<'a, R: Wait, C: Clock, K: front::Clock + Drop, S: Service + Drop> Gate<'a, 
         if next.is_none() {
             *next = visitors.next();
         }
-        let Some((clock, service)) = next.take() else {
+        if next.is_none() {
             return Asked::Closed;
-        };
+        }
         let Some(index) = self.find_place() else {
-            *next = Some((clock, service));
             return Asked::Short;
         };
         match self.listener.accept() {
             Ok((stream, _)) => {
-                if self.seat(index, stream, clock, service).is_err() {
-                    self.put_back(index);
-                }
+                self.admit(index, stream, next.take());
                 Asked::Came
             }
             Err(error) => {
                 self.put_back(index);
-                *next = Some((clock, service));
                 self.missed(&error)
             }
         }
@@ -214,36 +210,78 @@ impl<'a, R: Wait, C: Clock, K: front::Clock + Drop, S: Service + Drop> Gate<'a, 
         None
     }
 
-    // Puts a new connection into a place.
-    fn seat(&self, index: usize, stream: TcpStream, clock: K, service: S) -> io::Result<()> {
-        stream.set_nodelay(true)?;
-        stream.set_nonblocking(true)?;
+    // Gives a new connection a place, or closes it if it cannot be polled.
+    fn admit(&self, index: usize, stream: TcpStream, next: Option<(K, S)>) {
+        let descriptor = stream.as_raw_fd();
+        let is_seated = match self.greet(index, stream, next) {
+            Some(resting) => self.seat(index, descriptor, resting),
+            None => false,
+        };
+        if !is_seated {
+            self.put_back(index);
+        }
+    }
+
+    // A new connection as one that waits for its first request.
+    fn greet(
+        &self,
+        index: usize,
+        stream: TcpStream,
+        next: Option<(K, S)>,
+    ) -> Option<Rest<'a, K, S>> {
+        let token = self.token(index);
+        let wire = self.wire(stream, index, token)?;
+        let (clock, service) = next?;
+        let (reader, writer) = self.halves(wire)?;
+        let visit = Link::new(self.alloc, reader, writer, clock, service, TURNS);
+        visit.rest(self.alloc).ok()
+    }
+
+    // The token of the next connection of a place.
+    fn token(&self, index: usize) -> usize {
+        match self.places.get(index) {
+            Some(place) => place.lock(self.rt).token,
+            None => index,
+        }
+    }
+
+    // The socket of a new connection. Small replies are sent at once.
+    fn wire(&self, stream: TcpStream, index: usize, token: usize) -> Option<Arc<Wire>> {
+        if stream.set_nodelay(true).is_err() || stream.set_nonblocking(true).is_err() {
+            return None;
+        }
+        Arc::new(self.alloc, Wire::new(stream, index, token)).ok()
+    }
+
+    // The reader and the writer of a socket.
+    fn halves(&self, wire: Arc<Wire>) -> Option<(Half<'a>, Half<'a>)> {
+        let other = Arc::try_clone(&wire).ok()?;
+        Some((
+            Half::new(other, self.traffic),
+            Half::new(wire, self.traffic),
+        ))
+    }
+
+    // Puts a new connection into its place, and has it polled. Returns whether it can be.
+    fn seat(&self, index: usize, descriptor: RawFd, resting: Rest<'a, K, S>) -> bool {
         let Some(place) = self.places.get(index) else {
-            return Ok(());
+            return false;
         };
         let now = self.now();
         let mut place = place.lock(self.rt);
         let place = &mut *place;
-        let descriptor = stream.as_raw_fd();
-        let Ok(wire) = Arc::new(self.alloc, Wire::new(stream, index, place.token)) else {
-            return Err(std::alloc::AllocError.into());
-        };
-        let reader = Half::new(Arc::try_clone(&wire)?, self.traffic);
-        let writer = Half::new(wire, self.traffic);
-        let visit = Link::new(self.alloc, reader, writer, clock, service, TURNS);
-        let Ok(resting) = visit.rest(self.alloc) else {
-            return Err(io::Error::from(io::ErrorKind::InvalidInput));
-        };
-        self.registry.register(
-            &mut SourceFd(&descriptor),
-            Token(place.token),
-            Interest::READABLE,
-        )?;
-        self.connections.fetch_add(1, Ordering::SeqCst);
-        place.descriptor = descriptor;
-        place.watch = Watch::new(now);
-        place.seat = Seat::Rests(resting);
-        Ok(())
+        let mut source = SourceFd(&descriptor);
+        let polled = self
+            .registry
+            .register(&mut source, Token(place.token), Interest::READABLE)
+            .is_ok();
+        if polled {
+            self.connections.fetch_add(1, Ordering::SeqCst);
+            place.descriptor = descriptor;
+            place.watch = Watch::new(now);
+            place.seat = Seat::Rests(resting);
+        }
+        polled
     }
 
     // Ends the connections that were waited for too long.

@@ -1,6 +1,7 @@
 //! The socket of one connection, as its reader and its writer.
 
 use crate::traffic::Traffic;
+use libc::net::{POLLIN, poll};
 use libc::types::pollfd;
 use std::alloc::Global;
 use std::io;
@@ -12,9 +13,6 @@ use std::sync::atomic::{AtomicBool, Ordering};
 
 /// For how many milliseconds a worker waits for its connection before it takes another one.
 const LINGER: i32 = 1;
-
-/// For how many milliseconds a write waits until the peer takes more.
-const WRITE_PATIENCE: i32 = 10_000;
 
 /// A socket, and the place that its connection has.
 #[derive(Drop)]
@@ -58,14 +56,14 @@ impl Wire {
         self.stream.as_raw_fd()
     }
 
-    // Whether the socket gets ready within so many milliseconds.
-    fn is_ready_within(&self, events: i16, milliseconds: i32) -> bool {
+    // Whether something comes within so many milliseconds.
+    fn comes_within(&self, milliseconds: i32) -> bool {
         let mut polled = [pollfd {
             fd: self.descriptor(),
-            events,
+            events: POLLIN,
             revents: 0,
         }];
-        libc::net::poll(&mut polled, milliseconds) > 0
+        poll(&mut polled, milliseconds) > 0
     }
 }
 
@@ -89,7 +87,7 @@ impl<'a> Half<'a> {
         let mut stream: &TcpStream = &self.wire.stream;
         match stream.read(buf) {
             Err(error) if error.kind() == ErrorKind::WouldBlock => {
-                if self.traffic.is_calm() && self.wire.is_ready_within(libc::net::POLLIN, LINGER) {
+                if self.traffic.is_calm() && self.wire.comes_within(LINGER) {
                     return stream.read(buf);
                 }
                 Err(error)
@@ -119,25 +117,13 @@ impl Read for Half<'_> {
 }
 
 impl Write for Half<'_> {
+    // If the socket takes nothing now, its connection waits until it does.
     fn write(&mut self, buf: &[u8]) -> io::Result<usize> {
         if self.wire.is_late() {
             return Err(io::Error::from(ErrorKind::TimedOut));
         }
         let mut stream: &TcpStream = &self.wire.stream;
-        let mut written = stream.write(buf);
-        if written
-            .as_ref()
-            .is_err_and(|error| error.kind() == ErrorKind::WouldBlock)
-        {
-            if !self
-                .wire
-                .is_ready_within(libc::net::POLLOUT, WRITE_PATIENCE)
-            {
-                return Err(io::Error::from(ErrorKind::TimedOut));
-            }
-            written = stream.write(buf);
-        }
-        let count = written?;
+        let count = stream.write(buf)?;
         self.moved = self.moved.wrapping_add(count as u64);
         Ok(count)
     }
