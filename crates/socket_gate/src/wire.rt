@@ -1,4 +1,5 @@
 //! The socket of one connection, as its reader and its writer.
+ghost use Rattle.std.specs.Io.{ReadsAtMost};
 
 use crate::traffic::Traffic;
 use libc::net::{POLLIN, poll};
@@ -83,7 +84,9 @@ impl<'a> Half<'a> {
     }
 
     // Reads once, and waits a little before if nothing is here and nobody else has something to do.
-    fn read_or_linger(&self, buf: &mut [u8]) -> io::Result<usize> {
+    fn read_or_linger(&self, buf: &mut [u8]) -> io::Result<usize>
+        ensures { ReadsAtMost result buf.new }
+    {
         let mut stream: &TcpStream = &self.wire.stream;
         match stream.read(buf) {
             Err(error) if error.kind() == ErrorKind::WouldBlock => {
