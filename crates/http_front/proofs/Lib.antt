@@ -1,3 +1,4 @@
+pub mod BeforeLemmas
 pub mod BufferLemmas
 pub mod ConnectionLemmas
 pub mod Endings

@@ -1,4 +1,5 @@
 pub mod Answers
+pub mod Befores
 pub mod Calls
 pub mod Connections
 pub mod Conversations

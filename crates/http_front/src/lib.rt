@@ -2,6 +2,7 @@
 #![tactic(auto)]
 
 mod answers;
+mod before;
 mod buffer;
 mod connection;
 mod connection_laws;
