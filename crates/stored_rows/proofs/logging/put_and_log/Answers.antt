@@ -1,0 +1,44 @@
+use Rattle.std.proofs.Common.{Err, refl, sym, subst}
+use Rattle.stamp_types.specs.Changes.{content_of}
+use Rattle.stream_manager.specs.Streams.{laid}
+use Rattle.stored_rows.specs.Logging.{IsPutAndLogged}
+use Rattle.stored_rows.specs.States.{IsKeptAs}
+use Rattle.stored_rows.specs.Counting.{FailsLogged}
+use Rattle.stored_rows.proofs.CountLemmas.{grows_twice, log_fails}
+use Rattle.stored_rows.proofs.KeptAsLemmas.{kept_as_put}
+use Rattle.stored_rows.proofs.LoggingLemmas.{logged_more, logged_refused}
+use Rattle.stored_rows.proofs.logging.put_and_log.Goals as goal
+
+pub log_change-requires : goal.log_change-requires
+log_change-requires g c =
+    let same : IsKeptAs (laid c.put_pieces.new.streams.blobs) c.args.change c.with_pieces-kept.result =
+    subst (IsKeptAs (laid c.put_pieces.new.streams.blobs) c.args.change) (sym c.with_pieces-kept.ensures)
+    (kept_as_put (laid c.put_pieces.new.streams.blobs) c.args.change (content_of c.args.change.act) c.in-Ok.pieces c.requires.plain refl c.in-Ok.ensures.put) in
+    record { stored = same.stored }
+
+pub returns-in-Ok-log_change-clause-logged : goal.returns-in-Ok-log_change-clause-logged
+returns-in-Ok-log_change-clause-logged g c =
+    let same : IsKeptAs (laid c.put_pieces.new.streams.blobs) c.args.change c.with_pieces-kept.result =
+    subst (IsKeptAs (laid c.put_pieces.new.streams.blobs) c.args.change) (sym c.with_pieces-kept.ensures)
+    (kept_as_put (laid c.put_pieces.new.streams.blobs) c.args.change (content_of c.args.change.act) c.in-Ok.pieces c.requires.plain refl c.in-Ok.ensures.put) in
+    logged_more c.args.streams.now c.put_pieces.new.streams c.log_change.new.self (c.args.change, c.args.epoch) c.with_pieces-kept.result c.requires.sure
+    c.put_pieces.ensures.log c.put_pieces.ensures.rows c.put_pieces.ensures.places same c.log_change.ensures.blobs c.log_change.ensures.rows
+    c.in-Ok-log_change.ensures.logged
+
+pub returns-in-Err-log_change-clause-logged : goal.returns-in-Err-log_change-clause-logged
+returns-in-Err-log_change-clause-logged g c =
+    let same : IsKeptAs (laid c.put_pieces.new.streams.blobs) c.args.change c.with_pieces-kept.result =
+    subst (IsKeptAs (laid c.put_pieces.new.streams.blobs) c.args.change) (sym c.with_pieces-kept.ensures)
+    (kept_as_put (laid c.put_pieces.new.streams.blobs) c.args.change (content_of c.args.change.act) c.in-Ok.pieces c.requires.plain refl c.in-Ok.ensures.put) in
+    subst (λ e. IsPutAndLogged (Err e) c.args.streams.now (c.args.change, c.args.epoch) c.log_change.new.self) (sym c.not_logged.ensures)
+    (logged_refused c.args.streams.now c.put_pieces.new.streams c.log_change.new.self (c.args.change, c.args.epoch) c.with_pieces-kept.result c.requires.sure
+    c.put_pieces.ensures.log c.put_pieces.ensures.rows c.put_pieces.ensures.places same c.log_change.ensures.blobs c.log_change.ensures.rows
+    c.in-Err-log_change.fault c.in-Err-log_change.ensures.logged)
+
+pub returns-in-Ok-log_change-clause-counted : goal.returns-in-Ok-log_change-clause-counted
+returns-in-Ok-log_change-clause-counted g c = grows_twice _ _ _ c.in-Ok.ensures.counted c.in-Ok-log_change.ensures.counted
+
+pub returns-in-Err-log_change-clause-counted : goal.returns-in-Err-log_change-clause-counted
+returns-in-Err-log_change-clause-counted g c =
+    subst (λ e. FailsLogged (Err e) (g.W.Wire.faults c.args.wire.now) (g.W.Wire.faults c.log_change.new.wire)) (sym c.not_logged.ensures)
+    (log_fails c.in-Err-log_change.fault c.with_pieces-kept.result _ _ _ _ _ c.in-Ok.ensures.counted c.in-Err-log_change.ensures.counted)

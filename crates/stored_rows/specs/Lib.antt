@@ -1,0 +1,7 @@
+pub mod Counting
+pub mod Faults
+pub mod Fitting
+pub mod Loaded
+pub mod Logging
+pub mod Ranges
+pub mod States

@@ -1,0 +1,17 @@
+//! The rows of a range of keys that streams keep, and that are in memory while they are loaded.
+#![tactic(auto)]
+
+mod faults;
+mod key_range;
+mod laws;
+mod loading;
+mod logging;
+mod stored_rows;
+
+pub use faults::{Ended, StoredFault, TakeFault};
+pub use key_range::KeyRange;
+pub use laws::{
+    a_doubt_is_one_change_or_none, a_load_is_what_the_streams_mean, a_refused_take_changes_nothing,
+    a_taken_change_is_one_more,
+};
+pub use stored_rows::StoredRows;

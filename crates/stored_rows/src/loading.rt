@@ -1,0 +1,78 @@
+//! Rows that are made of the changes that streams keep.
+ghost use Rattle.std.specs.Prelude.{◌≡◌, ◌≢◌, ◌<◌, Err, IfOk, IfSome, IsTrue, OnOk, true};
+ghost use Rattle.extent_seal.specs.Counting.{Grows, all_faults};
+ghost use Rattle.extent_seal.specs.declared.sealed.ReadFault.TheVariants.{Unreachable};
+ghost use Rattle.stamp_types.specs.Pieces.{pieces_len};
+ghost use Rattle.stamp_types.specs.World.{part_at, part_value};
+ghost use Rattle.row_trees.specs.Fits.{fits};
+ghost use Rattle.stored_rows.specs.Fitting.{AllFit};
+ghost use Rattle.stored_rows.specs.Loaded.{AreRowsOf, IsFollowed, with_change};
+ghost use Rattle.stored_rows.specs.Ranges.{covers};
+
+use crate::key_range::KeyRange;
+use extent_node::Wire;
+use extent_seal::ReadFault;
+use partition_stream::{Position, Streams};
+use row_trees::Rows;
+use stamp_types::Change;
+use std::alloc::{AllocError, Global};
+
+// Makes a change of a container of the range. A change of another container is passed.
+fn make(alloc: Global, rows: &mut Rows, range: &KeyRange, change: Change) -> Result<(), ReadFault>
+    requires { covers range.now change.key ≡ true → IsTrue (fits (part_value pieces_len (part_at rows.old change.key)) change.act) }
+    ensures made { OnOk result (rows.new ≡ with_change range.now rows.old change) }
+    ensures reached { result ≢ Err Unreachable }
+{
+    if !range.covers(change.key()) {
+        return Ok(());
+    }
+    match rows.take(alloc, change) {
+        Ok(()) => Ok(()),
+        Err(AllocError) => Err(ReadFault::NoMemory),
+    }
+}
+
+/// Rows that have all changes of the streams, in their order, but only those of the range.
+///
+/// Unreachable: each node with a copy of some extent was asked, and answered no.
+pub(crate) fn rows_of<W: Wire>(
+    alloc: Global,
+    streams: &Streams,
+    range: &KeyRange,
+    wire: &mut W,
+) -> Result<Rows, ReadFault>
+    requires { AllFit streams.now }
+    ensures loaded { IfOk result (λ w. AreRowsOf range.now streams.now w) }
+    ensures unreachable { result ≡ Err Unreachable → all_faults (W.faults wire.old) < all_faults (W.faults wire.new) }
+    ensures grown { Grows (W.faults wire.old) (W.faults wire.new) }
+{
+    let mut rows = Rows::new(alloc);
+    let mut position = Position::first();
+    'changes: while let Some((change, _epoch)) = streams.next_change(&mut position, wire)? {
+        make(alloc, &mut rows, range, change)?;
+    }
+    Ok(rows)
+}
+
+/// Makes a change in the rows that are loaded. If they find no memory they are dropped.
+pub(crate) fn follow(alloc: Global, rows: &mut Option<Rows>, change: Change)
+    requires { IfSome rows.old (λ w. IsTrue (fits (part_value pieces_len (part_at w change.key)) change.act)) }
+    ensures { IsFollowed rows.old change rows.new }
+{
+    if let Some(loaded) = rows {
+        if loaded.take(alloc, change).is_err() {
+            *rows = None;
+        }
+    }
+}
+
+/// Makes the change that was in doubt, now that it is kept.
+pub(crate) fn follow_doubt(alloc: Global, rows: &mut Option<Rows>, doubt: Option<Change>)
+    requires { IfSome doubt (λ c. IfSome rows.old (λ w. IsTrue (fits (part_value pieces_len (part_at w c.key)) c.act))) }
+    ensures { IfSome doubt (λ c. IsFollowed rows.old c rows.new) }
+{
+    match doubt {
+        Some(change) => follow(alloc, rows, change),
+        None => *rows = None,
+    }
+}

@@ -1,0 +1,122 @@
+//! Changes whose content is put and which are logged.
+ghost use Rattle.std.specs.Prelude.{◌≡◌, IfOk, IfSome, IsSomeAnd, IsTrue, None, false, map};
+ghost use Rattle.stamp_types.specs.ActKinds.{is_row};
+ghost use Rattle.stamp_types.specs.Changes.{content_of};
+ghost use Rattle.stamp_types.specs.Pieces.{is_held, piece_len};
+ghost use Rattle.stream_manager.specs.Places.{KeepsPlaces};
+ghost use Rattle.stream_manager.specs.Streams.{laid};
+ghost use Rattle.partition_stream.specs.Counting.{FailsPut};
+ghost use Rattle.partition_stream.specs.Storing.{AreKept};
+ghost use Rattle.partition_stream.specs.Streams.{logged};
+ghost use Rattle.stored_rows.specs.Counting.{FailsLogged};
+ghost use Rattle.stored_rows.specs.Faults.{unlogged_by, unlogged_of_put};
+ghost use Rattle.stored_rows.specs.Logging.{IsPut, IsPutAndLogged, with_placed};
+
+use extent_node::Wire;
+use partition_stream::{LogFault, PutFault, Streams};
+use stamp_types::{Change, Pieces};
+
+/// Why a change was not logged.
+#[derive(Drop)]
+pub(crate) enum Unlogged {
+    /// The change is not counted.
+    Busy,
+    /// The change is in doubt: this is the change as the log may keep it.
+    Doubt(Change),
+    /// Memory ran out. The change is not counted.
+    NoMemory,
+}
+
+impl From<PutFault> for Unlogged {
+    ghost use Rattle.std.specs.Prelude.{◌≡◌};
+    ghost use Rattle.stored_rows.specs.Faults.{unlogged_of_put};
+
+    ghost from_gives = { λ f e. e ≡ unlogged_of_put f };
+
+    fn from(fault: PutFault) -> Self {
+        match fault {
+            PutFault::Busy => Self::Busy,
+            PutFault::NoMemory => Self::NoMemory,
+        }
+    }
+}
+
+// Why a change was not logged, with the change if it is in doubt.
+fn not_logged(fault: LogFault, kept: Change) -> Unlogged
+    ensures { result ≡ unlogged_by fault kept }
+{
+    match fault {
+        LogFault::Doubt => Unlogged::Doubt(kept),
+        LogFault::Busy => {
+            drop(kept);
+            Unlogged::Busy
+        }
+        LogFault::NoMemory => {
+            drop(kept);
+            Unlogged::NoMemory
+        }
+    }
+}
+
+// Puts the content of a change into the data, if it comes with content, and answers the pieces that say where it is. No byte is copied.
+fn put_pieces<W: Wire>(
+    streams: &mut Streams,
+    change: &Change,
+    wire: &mut W,
+) -> Result<Option<Pieces>, PutFault>
+    requires held { IfSome (content_of change.now.act) (λ ps. IsTrue (is_held ps)) }
+    ensures put { IfOk result (λ o. IsPut (laid streams.new.blobs) (content_of change.now.act) o) }
+    ensures places { KeepsPlaces (laid streams.old.blobs) (laid streams.new.blobs) }
+    ensures log { streams.new.log ≡ streams.old.log }
+    ensures rows { streams.new.rows ≡ streams.old.rows }
+    ensures counted { FailsPut result (W.faults wire.old) (W.faults wire.new) }
+{
+    match change.content() {
+        Some(content) => match streams.put_data(content, wire) {
+            Ok(pieces) => Ok(Some(pieces)),
+            Err(fault) => Err(fault),
+        },
+        None => Ok(None),
+    }
+}
+
+// The change with its content at these pieces, if it comes with content.
+fn with_pieces(change: Change, pieces: Option<Pieces>) -> Change
+    requires { IfSome pieces (λ ps. IsSomeAnd (content_of change.act) (λ qs. map piece_len qs ≡ map piece_len ps)) }
+    ensures { result ≡ with_placed change pieces }
+{
+    match pieces {
+        Some(pieces) => change.with_content(pieces),
+        None => change,
+    }
+}
+
+/// Puts the content of a change and then logs the change. The change that is answered is the one as the log keeps it: its content is at
+/// places.
+pub(crate) fn put_and_log<W: Wire>(
+    streams: &mut Streams,
+    change: Change,
+    epoch: u64,
+    wire: &mut W,
+) -> Result<Change, Unlogged>
+    requires plain { is_row change.act ≡ false }
+    requires held { IfSome (content_of change.act) (λ ps. IsTrue (is_held ps)) }
+    requires sure { (logged streams.old).doubt ≡ None }
+    ensures logged { IsPutAndLogged result streams.old (change, epoch) streams.new }
+    ensures counted { FailsLogged result (W.faults wire.old) (W.faults wire.new) }
+    ensures whole { AreKept streams.old }
+{
+    streams.kept();
+    let pieces = match put_pieces(streams, &change, wire) {
+        Ok(pieces) => pieces,
+        Err(fault) => {
+            drop(change);
+            return Err(Unlogged::from(fault));
+        }
+    };
+    let kept = with_pieces(change, pieces);
+    match streams.log_change(&kept, epoch, wire) {
+        Ok(()) => Ok(kept),
+        Err(fault) => Err(not_logged(fault, kept)),
+    }
+}

@@ -1,0 +1,246 @@
+//! The rows of a range of keys, in streams and in memory.
+ghost use Rattle.std.specs.Prelude.{◌≡◌};
+
+use crate::faults::{Ended, StoredFault, TakeFault};
+use crate::key_range::KeyRange;
+use crate::loading::{follow, follow_doubt, rows_of};
+use crate::logging::{Unlogged, put_and_log};
+use extent_node::Wire;
+use extent_seal::ReadFault;
+use partition_stream::{Part, Streams};
+use row_trees::{Found, Rows};
+use stamp_types::{Change, Key, Piece};
+use std::alloc::Global;
+use std::marker::Model;
+use stream_manager::Settled;
+
+/// The rows of a range of keys. Streams keep them, and they are in memory while they are loaded (SOSP 2011, section 5).
+#[derive(Drop)]
+pub struct StoredRows {
+    alloc: Global,
+    streams: Streams,
+    // The rows that the streams mean, while they are loaded.
+    rows: Option<Rows>,
+    range: KeyRange,
+    // The change that is in doubt, as the log may keep it.
+    doubt: Option<Change>,
+}
+
+impl Model for StoredRows {
+    ghost use Rattle.std.specs.Option.{is_some};
+    ghost use Rattle.stored_rows.specs.States.{Stored};
+    ghost use Rattle.stored_rows.specs.Loaded.{AreLoaded};
+
+    ghost Value = { Stored };
+
+    ghost view = { λ s. record { streams = s.streams; range = s.range; is_loaded = is_some s.rows } };
+
+    ghost invariant = { λ s. AreLoaded s.streams s.rows s.doubt s.range };
+}
+
+impl StoredRows {
+    ghost use Rattle.std.specs.Prelude.{◌≡◌, ◌≤◌, ◌<◌, true, false, is_some, None, Err, IfSome, IfOk, IsTrue, MatchOption, OnOk, OnErr, slice_range};
+    ghost use Rattle.extent_seal.specs.Counting.{Grows, all_faults};
+    ghost use Rattle.extent_seal.specs.declared.sealed.ReadFault.TheVariants.{Unreachable};
+    ghost use Rattle.stamp_types.specs.ActKinds.{is_row};
+    ghost use Rattle.stamp_types.specs.Changes.{content_of};
+    ghost use Rattle.stamp_types.specs.Pieces.{is_held, piece_len, pieces_len};
+    ghost use Rattle.stamp_types.specs.World.{no_part, part_value};
+    ghost use Rattle.stamp_values.specs.declared.key.Key.{Key};
+    ghost use Rattle.row_trees.specs.Fits.{fits};
+    ghost use Rattle.stream_manager.specs.Streams.{laid};
+    ghost use Rattle.partition_stream.specs.Contents.{IsStored, bytes_at};
+    ghost use Rattle.partition_stream.specs.Parts.{is_piece_in_last};
+    ghost use Rattle.partition_stream.specs.Storing.{AreKept};
+    ghost use Rattle.partition_stream.specs.Streams.{AreSealed};
+    ghost use Rattle.stored_rows.specs.Counting.{FailsStored, FailsTake};
+    ghost use Rattle.stored_rows.specs.Loaded.{AreRowsOf};
+    ghost use Rattle.stored_rows.specs.Ranges.{covers};
+    ghost use Rattle.stored_rows.specs.States.{IsSettled, IsTaken, MeansTheSame, doubt_of, pieces_of};
+
+    /// The rows of a range without a container, which are loaded. Takes no memory.
+    pub fn new(alloc: Global, extent_bytes: u32, range: KeyRange) -> Self
+        ensures none { (key : Key) → pieces_of result key ≡ no_part }
+        ensures sure { doubt_of result ≡ None }
+        ensures loaded { result.is_loaded ≡ true }
+        ensures range { result.range ≡ range }
+    {
+        Self {
+            alloc,
+            streams: Streams::new(alloc, extent_bytes),
+            rows: Some(Rows::new(alloc)),
+            range,
+            doubt: None,
+        }
+    }
+
+    /// Whether the rows are in memory.
+    pub fn is_loaded(&self) -> bool
+        ensures { result ≡ self.now.is_loaded }
+    {
+        self.rows.is_some()
+    }
+
+    /// Whether the key is in the range.
+    pub fn covers(&self, key: &Key) -> bool
+        ensures { result ≡ covers self.now.range key.now }
+    {
+        self.range.covers(key)
+    }
+
+    /// Whether a change is in doubt.
+    pub fn has_doubt(&self) -> bool
+        ensures { result ≡ is_some (doubt_of self.now) }
+    {
+        self.doubt.is_some()
+    }
+
+    /// The rows, if they are loaded: each container of the range as the streams mean it, and no other container.
+    pub fn rows(&self) -> Option<&Rows>
+        ensures { MatchOption result (self.now.is_loaded ≡ false) (λ w. (self.now.is_loaded ≡ true) × AreRowsOf self.now.range self.now.streams w.now) }
+    {
+        self.rows.as_ref()
+    }
+
+    /// Tells the caller what the streams keep: each content of a container is stored in the data. Does nothing.
+    pub fn kept(&self)
+        ensures { AreKept self.now.streams }
+    {
+        self.streams.kept();
+    }
+
+    /// What the rows have of a container of the range, in pieces.
+    pub fn find(&self, key: &Key) -> Found<'_>
+        requires loaded { self.now.is_loaded ≡ true }
+        requires covered { covers self.now.range key.now ≡ true }
+        ensures { result ≡ pieces_of self.now key.now }
+    {
+        match &self.rows {
+            Some(rows) => rows.find(key),
+            None => unreachable!(),
+        }
+    }
+
+    /// The bytes of a piece from `start` up to but not including `end`, to be read without the rows and their streams. No byte is copied.
+    ///
+    /// If the block of the piece is in the last extent of the data, the bytes are read now. Unreachable: each node was asked for a block of
+    /// the last extent, and answered no.
+    pub fn part<W: Wire>(
+        &mut self,
+        piece: &Piece,
+        start: usize,
+        end: usize,
+        wire: &mut W,
+    ) -> Result<Part, ReadFault>
+        requires stored { IsStored (laid self.old.streams.blobs) piece.now }
+        requires order { start ≤ end }
+        requires within { end ≤ piece_len piece.now }
+        ensures part { IfOk result (λ p. p.bytes ≡ slice_range (bytes_at (laid self.old.streams.blobs) piece.now) start end) }
+        ensures read { IfOk result (λ p. p.is_read ≡ is_piece_in_last self.old.streams.blobs piece.now) }
+        ensures same { self.new ≡ self.old }
+        ensures unheard { is_piece_in_last self.old.streams.blobs piece.now ≡ false → wire.new ≡ wire.old }
+        ensures unreachable { result ≡ Err Unreachable → all_faults (W.faults wire.old) < all_faults (W.faults wire.new) }
+        ensures grown { Grows (W.faults wire.old) (W.faults wire.new) }
+    {
+        self.streams.part(piece, start, end, wire)
+    }
+
+    /// Puts the content of a change into the data, logs the change with its epoch, and then makes it in the rows that are loaded. No byte is
+    /// copied.
+    ///
+    /// If the rows find no memory they are dropped, and the change is counted. After a fault the change is not counted; blocks may be
+    /// left in the data to which nothing refers.
+    pub fn take<W: Wire>(
+        &mut self,
+        change: Change,
+        epoch: u64,
+        wire: &mut W,
+    ) -> Result<(), TakeFault>
+        requires covered { covers self.old.range change.key ≡ true }
+        requires plain { is_row change.act ≡ false }
+        requires held { IfSome (content_of change.act) (λ ps. IsTrue (is_held ps)) }
+        requires fits { IsTrue (fits (part_value pieces_len (pieces_of self.old change.key)) change.act) }
+        requires sure { doubt_of self.old ≡ None }
+        ensures taken { IsTaken result self.old (change, epoch) self.new }
+        ensures counted { FailsTake result (W.faults wire.old) (W.faults wire.new) }
+    {
+        match put_and_log(&mut self.streams, change, epoch, wire) {
+            Ok(kept) => {
+                follow(self.alloc, &mut self.rows, kept);
+                Ok(())
+            }
+            Err(Unlogged::Doubt(kept)) => {
+                self.doubt = Some(kept);
+                Err(TakeFault::Doubt)
+            }
+            Err(Unlogged::Busy) => Err(TakeFault::Busy),
+            Err(Unlogged::NoMemory) => Err(TakeFault::NoMemory),
+        }
+    }
+
+    /// Makes the rows of the changes that the streams keep, if they are not loaded.
+    ///
+    /// After a fault they are not loaded, as before. Busy: each node with a copy of some extent was asked, and answered no.
+    pub fn load<W: Wire>(&mut self, wire: &mut W) -> Result<(), StoredFault>
+        ensures loaded { OnOk result (self.new ≡ record self.old { is_loaded = true }) }
+        ensures refused { OnErr result (self.new ≡ self.old) }
+        ensures counted { FailsStored result (W.faults wire.old) (W.faults wire.new) }
+        ensures unheard { self.old.is_loaded ≡ true → wire.new ≡ wire.old }
+    {
+        if self.rows.is_some() {
+            return Ok(());
+        }
+        match rows_of(self.alloc, &self.streams, &self.range, wire) {
+            Ok(rows) => {
+                self.rows = Some(rows);
+                Ok(())
+            }
+            Err(fault) => Err(StoredFault::from(fault)),
+        }
+    }
+
+    /// Drops the rows that are in memory. A change that is in doubt stays in doubt.
+    pub fn unload(&mut self)
+        ensures { self.new ≡ record self.old { is_loaded = false } }
+    {
+        self.rows = None;
+    }
+
+    /// Settles a change that is in doubt, if there is one. If it is kept, the rows that are loaded make it.
+    ///
+    /// If the rows find no memory for it they are dropped, and the change is counted. After a fault the doubt is as it was.
+    pub fn settle<W: Wire>(&mut self, wire: &mut W) -> Result<Ended, StoredFault>
+        ensures settled { IsSettled result self.old self.new }
+        ensures counted { FailsStored result (W.faults wire.old) (W.faults wire.new) }
+    {
+        self.streams.kept();
+        match self.streams.settle(wire) {
+            Ok(Settled::Clean) => Ok(Ended::Clean),
+            Ok(Settled::Kept(_place)) => {
+                let kept = self.doubt.take();
+                follow_doubt(self.alloc, &mut self.rows, kept);
+                Ok(Ended::Kept)
+            }
+            Ok(Settled::Dropped) => {
+                self.doubt = None;
+                Ok(Ended::Dropped)
+            }
+            Err(fault) => Err(StoredFault::from(fault)),
+        }
+    }
+
+    /// Seals the streams.
+    pub fn seal<W: Wire>(&mut self, wire: &mut W) -> Result<(), StoredFault>
+        requires sure { doubt_of self.old ≡ None }
+        ensures same { MeansTheSame self.old self.new }
+        ensures doubt { doubt_of self.new ≡ None }
+        ensures sealed { OnOk result (AreSealed self.new.streams) }
+        ensures counted { FailsStored result (W.faults wire.old) (W.faults wire.new) }
+    {
+        self.streams.kept();
+        match self.streams.seal(wire) {
+            Ok(()) => Ok(()),
+            Err(fault) => Err(StoredFault::from(fault)),
+        }
+    }
+}
