@@ -1,8 +1,12 @@
-//! Tests of slots by their public calls.
+//! Tests of slots and of the core by their public calls.
 #![tactic(auto)]
 
 #[cfg(test)]
 mod bound_tests;
+#[cfg(test)]
+mod core_samples;
+#[cfg(test)]
+mod core_step_tests;
 #[cfg(test)]
 mod history_tests;
 #[cfg(test)]

@@ -56,15 +56,23 @@ impl Clock for Still {
 pub(crate) fn sent<S: Service>(
     rt: &impl Abort,
     alloc: Global,
-    served: &mut S,
+    service: &mut S,
     input: &[u8],
 ) -> Vec<u8> {
     let moment = Moment::new(NOON).expect(rt, "a moment");
     let mut http = Connection::new(alloc, input, Vec::new(alloc), 100);
-    let end = run(alloc, &mut http, &mut Still { moment }, served);
+    let end = run(alloc, &mut http, &mut Still { moment }, service);
     assert!(rt; end == Ok(End::Clean));
     let (_, out) = http.into_parts();
     out
+}
+
+/// Sends the input to the service, and looks at nothing that is written.
+pub(crate) fn sent_if<S: Service>(rt: &impl Abort, alloc: Global, service: &mut S, input: &[u8]) {
+    let moment = Moment::new(NOON).expect(rt, "a moment");
+    let mut http = Connection::new(alloc, input, Vec::new(alloc), 100);
+    let end = run(alloc, &mut http, &mut Still { moment }, service);
+    assert!(rt; end.is_err());
 }
 
 /// The text.
@@ -141,33 +149,33 @@ pub(crate) fn cut<H: Histories>(
 pub(crate) fn begins<S: Service>(
     rt: &impl Abort,
     alloc: Global,
-    served: &mut S,
+    service: &mut S,
     input: &[u8],
     front: &[u8],
 ) -> bool {
-    sent(rt, alloc, served, input).starts_with(front)
+    sent(rt, alloc, service, input).starts_with(front)
 }
 
 /// Whether the service answers the input with a reply that ends like this.
 pub(crate) fn ends<S: Service>(
     rt: &impl Abort,
     alloc: Global,
-    served: &mut S,
+    service: &mut S,
     input: &[u8],
     end: &[u8],
 ) -> bool {
-    sent(rt, alloc, served, input).ends_with(end)
+    sent(rt, alloc, service, input).ends_with(end)
 }
 
 /// Whether the text is in the service's reply to the input.
 pub(crate) fn says<S: Service>(
     rt: &impl Abort,
     alloc: Global,
-    served: &mut S,
+    service: &mut S,
     input: &[u8],
     text: &str,
 ) -> bool {
-    let out = sent(rt, alloc, served, input);
+    let out = sent(rt, alloc, service, input);
     match str::from_utf8(&out) {
         Ok(reply) => reply.contains(text),
         Err(_) => false,

@@ -1,0 +1,101 @@
+//! A core that connections are served by, and what is sent to it beside what is sent to slots.
+ghost use Rattle.std.specs.Prelude.{⊤};
+
+use crate::samples::{key, pair};
+use core_run::{Outcome, Step, StepFault};
+use http_front::Service;
+use slot_state::KeptHistories;
+use stamp_core::Core;
+use stamp_types::{Moment, Reply, Request};
+use std::alloc::{AllocError, Global};
+use std::process::Abort;
+
+/// A Delete Blob of `a.txt`.
+pub(crate) const DELETE: &[u8] =
+    b"DELETE /devstoreaccount1/pics/a.txt HTTP/1.1\r\nx-ms-date: Mon, 01 Oct 2012 12:00:00 GMT\r\nx-ms-version: 2012-02-12\r\nContent-Length: 0\r\nAuthorization: SharedKey devstoreaccount1:9i0i37P61DCX1miSb3ce5oNetWTS9h9yjM01njB1g0A=\r\n\r\n";
+
+/// A List Containers from the marker `q` on.
+pub(crate) const LIST_FROM_Q: &[u8] =
+    b"GET /devstoreaccount1?comp=list&marker=q HTTP/1.1\r\nx-ms-date: Mon, 01 Oct 2012 12:00:00 GMT\r\nx-ms-version: 2012-02-12\r\nAuthorization: SharedKey devstoreaccount1:yj9kEsUX+WZBm0F0rJwozwjutTWIUPWmQqjsF91R6iI=\r\n\r\n";
+
+/// A core that answers each request by its steps. The tickets that it gives are fetched at once, but for those that are to be kept.
+#[derive(Drop)]
+pub(crate) struct Driven {
+    pub(crate) core: Core<KeptHistories>,
+    pub(crate) keeps: bool,
+    pub(crate) kept: Option<u64>,
+}
+
+// The reply that the step gives, if it gives one.
+fn reply_of(outcome: Result<Outcome, StepFault>) -> Result<Reply, AllocError> {
+    match outcome {
+        Ok(Outcome::Reply(reply)) => Ok(reply),
+        _ => Err(AllocError),
+    }
+}
+
+impl Service for Driven {
+    ghost World = { ⊤ };
+
+    ghost world = { λ s. tt };
+
+    ghost answers = { λ old asked moment reply new. ⊤ };
+
+    ghost starves = { λ old new. ⊤ };
+
+    fn answer(
+        &mut self,
+        alloc: Global,
+        request: Request,
+        moment: Moment,
+    ) -> Result<Reply, AllocError> {
+        match self.core.step(alloc, Step::Serve { request, moment }) {
+            Ok(Outcome::Later(ticket)) => {
+                self.kept = Some(ticket);
+                if self.keeps {
+                    return Err(AllocError);
+                }
+                reply_of(self.core.fetch(ticket))
+            }
+            outcome => reply_of(outcome),
+        }
+    }
+}
+
+/// A core of the account, without containers.
+pub(crate) fn empty_core(rt: &impl Abort, alloc: Global) -> Box<Driven> {
+    let mut pairs = Vec::new(alloc);
+    pairs.push(pair(rt, alloc, 0)).expect(rt, "memory");
+    let core = Core::new(alloc, pairs).expect(rt, "memory");
+    let driven = Driven {
+        core,
+        keeps: false,
+        kept: None,
+    };
+    Box::new(alloc, driven).expect(rt, "memory")
+}
+
+/// Why the slot is not split at the key of this container; `None` if it is split.
+pub(crate) fn split(
+    rt: &impl Abort,
+    alloc: Global,
+    driven: &mut Driven,
+    slot: usize,
+    container: &str,
+) -> Option<StepFault> {
+    let middle = key(rt, alloc, container);
+    driven.core.split(alloc, slot, &middle).map(drop).err()
+}
+
+/// The content that the ticket gives.
+pub(crate) fn fetched(
+    rt: &impl Abort,
+    alloc: Global,
+    driven: &mut Driven,
+    ticket: u64,
+) -> Option<Vec<u8>> {
+    match driven.core.fetch(ticket) {
+        Ok(Outcome::Reply(reply)) => Some(reply.body.joined(alloc).expect(rt, "memory")),
+        _ => None,
+    }
+}
