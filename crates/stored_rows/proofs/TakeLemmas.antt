@@ -67,7 +67,7 @@ no_doubt range t none = subst (λ (o : Option Recorded). IfSome o (λ c. (covers
 pub undoubted : (t : ThreeStreams) → (logged t).doubt ≡ None → doubted t ≡ None
 undoubted t none = ap (option_map (λ (c : Recorded). c.0)) none
 
-still_none : (s t : ThreeStreams) (d : Option KeyedAct) → d ≡ doubted s → (logged s).doubt ≡ None → (logged t).doubt ≡ None → d ≡ doubted t
+pub still_none : (s t : ThreeStreams) (d : Option KeyedAct) → d ≡ doubted s → (logged s).doubt ≡ None → (logged t).doubt ≡ None → d ≡ doubted t
 still_none s t d tried none now = tried ∙ undoubted s none ∙ sym (undoubted t now)
 
 -- a change that fits its container fits it as it is kept

@@ -1,6 +1,7 @@
 //! The rows of a range of keys that streams keep, and that are in memory while they are loaded.
 #![tactic(auto)]
 
+mod cutting;
 mod faults;
 mod key_range;
 mod laws;

@@ -1,6 +1,7 @@
 //! The rows of a range of keys, in streams and in memory.
 ghost use Rattle.std.specs.Prelude.{◌≡◌};
 
+use crate::cutting::share_upper;
 use crate::faults::{Ended, StoredFault, TakeFault};
 use crate::key_range::KeyRange;
 use crate::loading::{follow, follow_doubt, rows_of};
@@ -10,7 +11,7 @@ use extent_seal::ReadFault;
 use partition_stream::{Part, Streams};
 use row_trees::{Found, Rows};
 use stamp_types::{Change, Key, Piece};
-use std::alloc::Global;
+use std::alloc::{AllocError, Global};
 use std::marker::Model;
 use stream_manager::Settled;
 
@@ -39,7 +40,7 @@ impl Model for StoredRows {
 }
 
 impl StoredRows {
-    ghost use Rattle.std.specs.Prelude.{◌≡◌, ◌≤◌, ◌<◌, true, false, is_some, None, Err, IfSome, IfOk, IsTrue, MatchOption, OnOk, OnErr, slice_range};
+    ghost use Rattle.std.specs.Prelude.{◌≡◌, ◌≢◌, ◌≤◌, ◌<◌, true, false, is_some, None, Some, Err, IfSome, IfOk, IsTrue, MatchOption, OnOk, OnErr, slice_range};
     ghost use Rattle.extent_seal.specs.Counting.{Grows, all_faults};
     ghost use Rattle.extent_seal.specs.declared.sealed.ReadFault.TheVariants.{Unreachable};
     ghost use Rattle.stamp_types.specs.ActKinds.{is_row};
@@ -55,8 +56,9 @@ impl StoredRows {
     ghost use Rattle.partition_stream.specs.Streams.{AreSealed};
     ghost use Rattle.stored_rows.specs.Counting.{FailsStored, FailsTake};
     ghost use Rattle.stored_rows.specs.Loaded.{AreRowsOf};
+    ghost use Rattle.stored_rows.specs.declared.faults.StoredFault.TheVariants as stored_fault;
     ghost use Rattle.stored_rows.specs.Ranges.{covers};
-    ghost use Rattle.stored_rows.specs.States.{IsSettled, IsTaken, MeansTheSame, doubt_of, pieces_of};
+    ghost use Rattle.stored_rows.specs.States.{IsHalf, IsSettled, IsTaken, MeansTheSame, doubt_of, pieces_of};
 
     /// The rows of a range without a container, which are loaded. Takes no memory.
     pub fn new(alloc: Global, extent_bytes: u32, range: KeyRange) -> Self
@@ -242,5 +244,50 @@ impl StoredRows {
             Ok(()) => Ok(()),
             Err(fault) => Err(StoredFault::from(fault)),
         }
+    }
+
+    // The upper half with the same streams.
+    fn halve(&mut self, middle: Key, upper: KeyRange) -> Result<Self, StoredFault>
+        requires sure { doubt_of self.old ≡ None }
+        requires sealed { AreSealed self.old.streams }
+        requires covered { covers self.old.range middle ≡ true }
+        requires upper { upper ≡ record { from = middle; to = self.old.range.to } }
+        ensures lower { OnOk result (IsHalf (record self.old.range { to = Some middle }) self.old self.new) }
+        ensures upper { IfOk result (λ half. IsHalf upper self.old half) }
+        ensures refused { OnErr result (MeansTheSame self.old self.new × (doubt_of self.new ≡ None)) }
+        ensures memory { result ≢ Err stored_fault.Busy }
+    {
+        match share_upper(&mut self.streams, &mut self.rows, &middle) {
+            Ok((streams, rows)) => {
+                self.range.to = Some(middle);
+                Ok(Self {
+                    alloc: self.alloc,
+                    streams,
+                    rows,
+                    range: upper,
+                    doubt: None,
+                })
+            }
+            Err(AllocError) => Err(StoredFault::NoMemory),
+        }
+    }
+
+    /// Cuts the range at a key: what is below the key stays, and what is from the key on is answered. Both halves share the sealed extents.
+    /// Both halves are loaded if the rows were loaded.
+    ///
+    /// After a fault nothing was cut.
+    pub fn cut<W: Wire>(&mut self, middle: &Key, wire: &mut W) -> Result<Self, StoredFault>
+        requires sure { doubt_of self.old ≡ None }
+        requires covered { covers self.old.range middle.now ≡ true }
+        ensures lower { OnOk result (IsHalf (record self.old.range { to = Some middle.now }) self.old self.new) }
+        ensures upper { IfOk result (λ upper. IsHalf (record { from = middle.now; to = self.old.range.to }) self.old upper) }
+        ensures refused { OnErr result (MeansTheSame self.old self.new × (doubt_of self.new ≡ None)) }
+        ensures counted { FailsStored result (W.faults wire.old) (W.faults wire.new) }
+    {
+        let end = middle.clone()?;
+        let from = middle.clone()?;
+        let to = self.range.to.clone()?;
+        self.seal(wire)?;
+        self.halve(end, KeyRange { from, to })
     }
 }

@@ -1,0 +1,52 @@
+//! Rows and streams that are cut at a key.
+ghost use Rattle.std.specs.Prelude.{◌≡◌, IfOk, OnErr, OnOk};
+ghost use Rattle.std.specs.Option.{option_map};
+ghost use Rattle.std.specs.FinMap as finite;
+ghost use Rattle.stamp_values.specs.Trees.{is_below, is_from};
+ghost use Rattle.partition_stream.specs.Streams.{AreSealed, HaveSameBlocks};
+
+use partition_stream::Streams;
+use row_trees::Rows;
+use stamp_types::Key;
+use std::alloc::AllocError;
+
+// Takes the containers of a key and of each key after it out of the rows, if they are loaded, and gives them.
+fn split_rows(rows: &mut Option<Rows>, middle: &Key) -> Result<Option<Rows>, AllocError>
+    ensures below { OnOk result (rows.new ≡ option_map (λ w. finite.retain_keys w (is_below middle.now)) rows.old) }
+    ensures from { IfOk result (λ upper. upper ≡ option_map (λ w. finite.retain_keys w (is_from middle.now)) rows.old) }
+    ensures refused { OnErr result (rows.new ≡ rows.old) }
+{
+    match rows {
+        Some(loaded) => {
+            let upper = loaded.split_off(middle)?;
+            Ok(Some(upper))
+        }
+        None => Ok(None),
+    }
+}
+
+/// Streams that share what these have, and the rows of the key and of each key after it, which leave the rows.
+///
+/// `AllocError`: the streams and the rows are as they were.
+pub(crate) fn share_upper(
+    streams: &mut Streams,
+    rows: &mut Option<Rows>,
+    middle: &Key,
+) -> Result<(Streams, Option<Rows>), AllocError>
+    requires sealed { AreSealed streams.old }
+    ensures same { streams.new ≡ streams.old }
+    ensures shared { IfOk result (λ upper. HaveSameBlocks streams.old upper.0) }
+    ensures whole { IfOk result (λ upper. AreSealed upper.0) }
+    ensures below { OnOk result (rows.new ≡ option_map (λ w. finite.retain_keys w (is_below middle.now)) rows.old) }
+    ensures from { IfOk result (λ upper. upper.1 ≡ option_map (λ w. finite.retain_keys w (is_from middle.now)) rows.old) }
+    ensures refused { OnErr result (rows.new ≡ rows.old) }
+{
+    let shared = streams.share()?;
+    match split_rows(rows, middle) {
+        Ok(upper) => Ok((shared, upper)),
+        Err(fault) => {
+            drop(shared);
+            Err(fault)
+        }
+    }
+}
