@@ -1,10 +1,11 @@
 //! Steps of a core: splits, tickets, and requests to both halves of a split.
 
 use crate::core_samples::{DELETE, Driven, LIST_FROM_Q, empty_core, fetched, split};
-use crate::samples::{
+use crate::requests::{
     CREATE, CREATE_LATER, CREATED, GET, GET_B, GET_BY_POLICY, LIST, MISSING, PUT, PUT_BLOCK,
-    PUT_LIST, PUT_POLICY, WITHDRAW, begins, ends, says, sent_if,
+    PUT_LIST, PUT_POLICY, WITHDRAW,
 };
+use crate::samples::{begins, ends, says, sent_if};
 use core_run::StepFault;
 use partition_map::MapFault;
 use std::alloc::Global;
