@@ -1,5 +1,4 @@
 //! The socket of one connection, as its reader and its writer.
-ghost use Rattle.std.specs.Io.{ReadsAtMost};
 
 use crate::traffic::Traffic;
 use libc::net::{POLLIN, poll};
@@ -31,6 +30,8 @@ pub(crate) struct Half<'a> {
     traffic: &'a Traffic,
     /// How many bytes have come, or have gone.
     pub(crate) moved: u64,
+    /// Whether the last read took all that was here.
+    is_drained: bool,
 }
 
 impl Wire {
@@ -80,23 +81,13 @@ impl<'a> Half<'a> {
             wire,
             traffic,
             moved: 0,
+            is_drained: false,
         }
     }
 
-    // Reads once, and waits a little before if nothing is here and nobody else has something to do.
-    fn read_or_linger(&self, buf: &mut [u8]) -> io::Result<usize>
-        ensures { ReadsAtMost result buf.new }
-    {
-        let mut stream: &TcpStream = &self.wire.stream;
-        match stream.read(buf) {
-            Err(error) if error.kind() == ErrorKind::WouldBlock => {
-                if self.traffic.is_calm() && self.wire.comes_within(LINGER) {
-                    return stream.read(buf);
-                }
-                Err(error)
-            }
-            read => read,
-        }
+    // Whether a read would most likely find nothing, also if it waits a little. It does not wait if somebody else has something to do.
+    fn stays_empty(&self) -> bool {
+        self.is_drained && !(self.traffic.is_calm() && self.wire.comes_within(LINGER))
     }
 }
 
@@ -105,7 +96,14 @@ impl Read for Half<'_> {
         if self.wire.is_late() {
             return Err(io::Error::from(ErrorKind::TimedOut));
         }
-        let count = self.read_or_linger(buf)?;
+        if self.stays_empty() {
+            // What comes from now on is reported, since the connection is polled anew when it waits.
+            self.is_drained = false;
+            return Err(io::Error::from(ErrorKind::WouldBlock));
+        }
+        let mut stream: &TcpStream = &self.wire.stream;
+        let count = stream.read(buf)?;
+        self.is_drained = count < buf.len();
         // A peer that speaks another protocol, as TLS, is told so at once.
         if self.moved == 0
             && buf
