@@ -87,8 +87,7 @@ pub answered_at : {E : Type 0} (result : Result replies.Reply E) (c h : CoreStat
     → IfOk result (λ r. IsSlotReply c.slots c.points q t r) → OnOk result (slots ≡ slots_after c.slots c.points q t)
     → IfOk result (λ r. (s : State) → StandsFor h s → (r ≡ reply_in s q t) × StandsFor (record { slots = slots; points = c.points; tickets = c.tickets }) (served s q t))
 answered_at (Ok r) c h seen have q t slots is made = λ s stands.
-    let own = subst (λ (x : CoreState). StandsFor x s) (sym seen) stands in
-    (
+    let own = subst (λ (x : CoreState). StandsFor x s) (sym seen) stands in (
       reply_is c have s own q t r is,
       subst (λ (hs : List SlotState). StandsFor (record { slots = hs; points = c.points; tickets = c.tickets }) (served s q t)) (sym made) (after_is c have s own q t r is),
     )

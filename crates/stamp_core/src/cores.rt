@@ -1,5 +1,5 @@
 //! The core.
-ghost use Rattle.std.specs.Prelude.{◌≡◌, ◌⊎◌, IfErr, IfOk, OnErr, false, true};
+ghost use Rattle.std.specs.Prelude.{◌≡◌, ◌⊎◌, IfErr, IfOk, OnErr, false, length, true};
 ghost use Rattle.std.specs.Arc.{arc_value};
 ghost use Rattle.std.specs.List.{list_all};
 ghost use Rattle.std.specs.Option.{option_copied};
@@ -246,6 +246,7 @@ impl<H: Histories> Core<H> {
         requires { list_all kinds.makes steps.items ≡ true }
         ensures ran { IfOk result (λ answers. (s : State) → StandsFor self.old s
             → (s' : State) × (IsRun s 0 steps.items answers.items s' 0 × StandsFor self.new s')) }
+        ensures count { IfOk result (λ answers. length answers.items ≡ length steps.items) }
         ensures unchanged { OnErr result (self.new ≡ self.old) }
     {
         let mut answers = Vec::with_capacity(alloc, steps.len())?;

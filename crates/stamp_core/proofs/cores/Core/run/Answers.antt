@@ -1,4 +1,5 @@
 use Rattle.std.proofs.Common.{rules, ◌≡◌, ◌++◌, ◌∷◌, [], length, List, ap, ◌∙◌, subst, arith}
+use Rattle.std.proofs.lemmas.List.{length-append}
 use Rattle.std.specs.List.{list_all}
 use Rattle.std.specs.Vec.Iter.{into_iter_items, into_iter_len}
 use Rattle.core_run.specs.declared.step.Step.{Step}
@@ -11,6 +12,7 @@ loop-step-init g c = record {
   ran = run_begins c.args.self.now c.args.steps.items (into_iter_items c.into_iter-later.result) c.in_ok-answers.answers.items c.into_iter-later.ensures.rest c.in_ok-answers.ensures.items;
   room = omega (arith, c.in_ok-answers.ensures.len, c.in_ok-answers.ensures.capacity, c.len.ensures, c.into_iter-later.ensures.len);
   counted = search rules;
+  each = omega (arith, ap length c.in_ok-answers.ensures.items, ap length c.into_iter-later.ensures.rest);
   made = ap (list_all makes) c.into_iter-later.ensures.rest ∙ c.requires;
 }
 
@@ -24,6 +26,7 @@ loop-step-preserved g c =
           c.step-answer.ensures.taken pushed;
       room = search rules;
       counted = omega (arith, c.loop-step.invariant.counted, ap length c.in-Some.ensures.cases.0, c.in-Some.ensures.cases.1);
+      each = omega (arith, c.loop-step.invariant.each, ap length pushed, length-append c.loop-step.answers.items (c.step-answer.result ∷ []), ap length c.in-Some.ensures.cases.0);
       made = later_made (into_iter_items c.loop-step.later) (into_iter_items c.next.new.self) c.in-Some.step c.loop-step.invariant.made c.in-Some.ensures.cases.0;
     }
 

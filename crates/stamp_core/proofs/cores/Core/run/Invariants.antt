@@ -11,6 +11,7 @@ invariant-loop-step g l = record {
   ran : HasRun l.initial.self l.fn.steps.items l.answers.items l.self (into_iter_items l.later);
   room : vec_len l.answers + into_iter_len l.later ≤ vec_capacity l.answers;
   counted : into_iter_len l.later ≡ length (into_iter_items l.later);
+  each : length l.answers.items + length (into_iter_items l.later) ≡ length l.fn.steps.items;
   made : list_all makes (into_iter_items l.later) ≡ true;
 }
 
