@@ -13,7 +13,7 @@ use Rattle.stamp_types.proofs.ContentReadings.{changed-alike, changed-act_with}
 use Rattle.row_trees.specs.Fits.{fits}
 use Rattle.partition_stream.specs.Contents.{ArePlaced, AreStored, content_at}
 use Rattle.partition_stream.proofs.ContentLemmas.{changed_content}
-use Rattle.stored_rows.specs.Logging.{IsPut, with_placed}
+use Rattle.stored_rows.specs.Logging.{IsPutAt, with_placed}
 use Rattle.stored_rows.specs.States.{IsKeptAs}
 
 -- an act that comes without content brings none
@@ -53,7 +53,7 @@ kept_as_placed es c content ps some placed = record {
 }
 
 -- a change whose content was put is kept as it is with these pieces
-pub kept_as_put : (es : List (List Block)) (c : KeyedAct) (o pieces : Option (List Piece)) → is_row c.act ≡ false → content_of c.act ≡ o → IsPut es o pieces
+pub kept_as_put : (es : List (List Block)) (c : KeyedAct) (o pieces : Option (List Piece)) → is_row c.act ≡ false → content_of c.act ≡ o → IsPutAt es o pieces
     → IsKeptAs es c (with_placed c pieces)
 kept_as_put es c None None plain is put = kept_as_itself es c plain is
 kept_as_put es c None (Some ps) plain is put = absurd put
@@ -61,7 +61,7 @@ kept_as_put es c (Some content) None plain is put = absurd put
 kept_as_put es c (Some content) (Some ps) plain is put = kept_as_placed es c content ps is put
 
 -- the pieces have the lengths that the change wants
-pub put_lengths : (es : List (List Block)) (o pieces : Option (List Piece)) → IsPut es o pieces → IfSome pieces (λ ps. IsSomeAnd o (λ qs. map piece_len qs ≡ map piece_len ps))
+pub put_lengths : (es : List (List Block)) (o pieces : Option (List Piece)) → IsPutAt es o pieces → IfSome pieces (λ ps. IsSomeAnd o (λ qs. map piece_len qs ≡ map piece_len ps))
 put_lengths es o None put = tt
 put_lengths es None (Some ps) put = absurd put
 put_lengths es (Some content) (Some ps) put = sym put.lengths

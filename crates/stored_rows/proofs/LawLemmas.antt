@@ -5,7 +5,7 @@ use Rattle.stamp_types.specs.Pieces.{held}
 use Rattle.stamp_types.specs.World.{changed}
 use Rattle.partition_stream.specs.Changes.{Recorded}
 use Rattle.partition_stream.specs.Meanings.{acts_on, after_acts, is_on}
-use Rattle.stored_rows.specs.States.{AreTaken, IsChanged, IsSettled, IsTaken, MeansTheSame, Stored, bytes_of, doubt_of}
+use Rattle.stored_rows.specs.States.{AreTaken, IsChanged, SettlesRows, IsTaken, MeansTheSame, Stored, bytes_of, doubt_of}
 use Rattle.stored_rows.specs.declared.faults.Ended.{Ended}
 use Rattle.stored_rows.specs.declared.faults.Ended.TheVariants as ended
 use Rattle.stored_rows.specs.declared.faults.TakeFault.{TakeFault}
@@ -56,7 +56,7 @@ changed_before s t u c same h = record {
 }
 
 -- a doubt that is settled
-pub doubt_settled : (s t u : Stored) (c : Recorded) (e : Ended) → IsTaken (Err fault.Doubt) s c t → IsSettled (Ok e) t u
+pub doubt_settled : (s t u : Stored) (c : Recorded) (e : Ended) → IsTaken (Err fault.Doubt) s c t → SettlesRows (Ok e) t u
     → IsChanged s c u ⊎ (MeansTheSame s u × (doubt_of u ≡ None))
 doubt_settled s t u c ended.Clean taken h = inr (same_twice s t u taken.0 h.0, h.1.1)
 doubt_settled s t u c ended.Kept taken h = inl (changed_before s t u c taken.0 (h.0 c taken.1))

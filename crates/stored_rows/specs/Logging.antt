@@ -14,11 +14,11 @@ use Rattle.stored_rows.specs.declared.logging.Unlogged.{Unlogged}
 use Rattle.stored_rows.specs.declared.logging.Unlogged.TheVariants as fault
 
 -- content was put at these pieces, if there is content
-abbrev pub IsPut : List (List Block) → Option (List Piece) → Option (List Piece) → Type 0
-IsPut es None None = ⊤
-IsPut es None (Some ps) = ⊥
-IsPut es (Some content) None = ⊥
-IsPut es (Some content) (Some ps) = ArePlaced es content ps
+abbrev pub IsPutAt : List (List Block) → Option (List Piece) → Option (List Piece) → Type 0
+IsPutAt es None None = ⊤
+IsPutAt es None (Some ps) = ⊥
+IsPutAt es (Some content) None = ⊥
+IsPutAt es (Some content) (Some ps) = ArePlaced es content ps
 
 -- the change with its content at these pieces, if there are pieces
 abbrev pub with_placed : KeyedAct → Option (List Piece) → KeyedAct

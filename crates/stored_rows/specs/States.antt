@@ -82,11 +82,11 @@ IsTaken (Err fault.Busy) s c t = MeansTheSame s t × (doubt_of t ≡ None)
 IsTaken (Err fault.NoMemory) s c t = MeansTheSame s t × (doubt_of t ≡ None)
 
 -- what a settle does: each change as which the doubt was kept is made now, or none
-abbrev pub IsSettled : Result Ended StoredFault → Stored → Stored → Type 0
-IsSettled (Ok ended.Clean) s t = MeansTheSame s t × ((doubt_of s ≡ None) × (doubt_of t ≡ None))
-IsSettled (Ok ended.Kept) s t = ((c : Recorded) → IsInDoubt c s → IsChanged s c t) × (IsSome (doubt_of s) × (doubt_of t ≡ None))
-IsSettled (Ok ended.Dropped) s t = MeansTheSame s t × (IsSome (doubt_of s) × (doubt_of t ≡ None))
-IsSettled (Err e) s t = MeansTheSame s t × (IsSome (doubt_of s) × (doubt_of t ≡ doubt_of s))
+abbrev pub SettlesRows : Result Ended StoredFault → Stored → Stored → Type 0
+SettlesRows (Ok ended.Clean) s t = MeansTheSame s t × ((doubt_of s ≡ None) × (doubt_of t ≡ None))
+SettlesRows (Ok ended.Kept) s t = ((c : Recorded) → IsInDoubt c s → IsChanged s c t) × (IsSome (doubt_of s) × (doubt_of t ≡ None))
+SettlesRows (Ok ended.Dropped) s t = MeansTheSame s t × (IsSome (doubt_of s) × (doubt_of t ≡ None))
+SettlesRows (Err e) s t = MeansTheSame s t × (IsSome (doubt_of s) × (doubt_of t ≡ doubt_of s))
 
 -- one of the two halves of stored rows that were cut: it means the same, for its own range, and has no doubt
 pub record IsHalf (own : KeyRange) (s t : Stored) : Type 0 where

@@ -13,7 +13,7 @@ ghost use Rattle.partition_stream.specs.Positions.{all_changes};
 ghost use Rattle.partition_stream.specs.Streams.{ThreeStreams, logged};
 ghost use Rattle.stored_rows.specs.Loaded.{AreLoaded};
 ghost use Rattle.stored_rows.specs.Ranges.{covers};
-ghost use Rattle.stored_rows.specs.States.{AreTaken, IsChanged, IsInDoubt, IsSettled, IsTaken, MeansTheSame, Stored, bytes_of, doubt_of, pieces_of};
+ghost use Rattle.stored_rows.specs.States.{AreTaken, IsChanged, IsInDoubt, SettlesRows, IsTaken, MeansTheSame, Stored, bytes_of, doubt_of, pieces_of};
 ghost use Rattle.stored_rows.specs.declared.faults.Ended.{Ended};
 ghost use Rattle.stored_rows.specs.declared.faults.TakeFault.{TakeFault};
 ghost use Rattle.stored_rows.specs.declared.faults.TakeFault.TheVariants as fault;
@@ -55,6 +55,6 @@ pub fn a_refused_take_changes_nothing()
 /// A change that is in doubt and then settled is the change as if it had been taken, or nothing: each container is as the change leaves
 /// it, or each container is as it was.
 pub fn a_doubt_is_one_change_or_none()
-    ensures { (s t u : Stored) (c : Recorded) (e : Ended) → IsTaken (Err fault.Doubt) s c t → IsSettled (Ok e) t u
+    ensures { (s t u : Stored) (c : Recorded) (e : Ended) → IsTaken (Err fault.Doubt) s c t → SettlesRows (Ok e) t u
         → IsChanged s c u ⊎ (MeansTheSame s u × (doubt_of u ≡ None)) }
 {}

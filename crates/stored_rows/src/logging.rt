@@ -10,7 +10,7 @@ ghost use Rattle.partition_stream.specs.Storing.{AreKept};
 ghost use Rattle.partition_stream.specs.Streams.{logged};
 ghost use Rattle.stored_rows.specs.Counting.{FailsLogged};
 ghost use Rattle.stored_rows.specs.Faults.{unlogged_by, unlogged_of_put};
-ghost use Rattle.stored_rows.specs.Logging.{IsPut, IsPutAndLogged, with_placed};
+ghost use Rattle.stored_rows.specs.Logging.{IsPutAt, IsPutAndLogged, with_placed};
 
 use extent_node::Wire;
 use partition_stream::{LogFault, PutFault, Streams};
@@ -65,7 +65,7 @@ fn put_pieces<W: Wire>(
     wire: &mut W,
 ) -> Result<Option<Pieces>, PutFault>
     requires held { IfSome (content_of change.now.act) (λ ps. IsTrue (is_held ps)) }
-    ensures put { IfOk result (λ o. IsPut (laid streams.new.blobs) (content_of change.now.act) o) }
+    ensures put { IfOk result (λ o. IsPutAt (laid streams.new.blobs) (content_of change.now.act) o) }
     ensures places { KeepsPlaces (laid streams.old.blobs) (laid streams.new.blobs) }
     ensures log { streams.new.log ≡ streams.old.log }
     ensures rows { streams.new.rows ≡ streams.old.rows }

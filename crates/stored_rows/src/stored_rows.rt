@@ -58,7 +58,7 @@ impl StoredRows {
     ghost use Rattle.stored_rows.specs.Loaded.{AreRowsOf};
     ghost use Rattle.stored_rows.specs.declared.faults.StoredFault.TheVariants as stored_fault;
     ghost use Rattle.stored_rows.specs.Ranges.{covers};
-    ghost use Rattle.stored_rows.specs.States.{IsHalf, IsSettled, IsTaken, MeansTheSame, doubt_of, pieces_of};
+    ghost use Rattle.stored_rows.specs.States.{IsHalf, SettlesRows, IsTaken, MeansTheSame, doubt_of, pieces_of};
 
     /// The rows of a range without a container, which are loaded. Takes no memory.
     pub fn new(alloc: Global, extent_bytes: u32, range: KeyRange) -> Self
@@ -212,7 +212,7 @@ impl StoredRows {
     ///
     /// If the rows find no memory for it they are dropped, and the change is counted. After a fault the doubt is as it was.
     pub fn settle<W: Wire>(&mut self, wire: &mut W) -> Result<Ended, StoredFault>
-        ensures settled { IsSettled result self.old self.new }
+        ensures settled { SettlesRows result self.old self.new }
         ensures counted { FailsStored result (W.faults wire.old) (W.faults wire.new) }
     {
         self.streams.kept();
