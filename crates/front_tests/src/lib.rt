@@ -10,6 +10,8 @@ mod connection_tests;
 #[cfg(test)]
 mod head_tests;
 #[cfg(test)]
+mod link_tests;
+#[cfg(test)]
 mod page_tests;
 #[cfg(test)]
 mod range_tests;
@@ -22,7 +24,5 @@ mod sample_parts;
 mod test_heads;
 #[cfg(test)]
 mod value_tests;
-#[cfg(test)]
-mod link_tests;
 #[cfg(test)]
 mod waiting_tests;

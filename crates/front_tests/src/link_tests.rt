@@ -4,8 +4,8 @@ ghost use Rattle.std.specs.Prelude.{⊤};
 use http_front::{Clock, End, FrontFault, Link, Service, go_on};
 use stamp_types::{Code, Moment, Refusal, Reply, Request, Rule};
 use std::alloc::{AllocError, Global};
-use std::io::{ErrorKind, Read, Write};
 use std::io;
+use std::io::{ErrorKind, Read, Write};
 use std::sync::atomic::{AtomicBool, AtomicU64, Ordering};
 
 // A Put Blob whose body is not whole.

@@ -8,6 +8,7 @@ use crate::words::{Served, read_served};
 use access_rules::Keys;
 use account_lock::{Account, NewHistory};
 use http_front::Clock as _;
+use socket_gate::Limits;
 use std::alloc::{AllocError, Global};
 use std::io::{Read, Write};
 use std::marker::Brand;
@@ -17,7 +18,6 @@ use std::sync::Wait;
 use std::sync::atomic::{AtomicU64, Ordering};
 use std::test::Fail;
 use std::thread::Threads;
-use socket_gate::Limits;
 use std::time::{Clock, Duration};
 use std::{io, thread};
 

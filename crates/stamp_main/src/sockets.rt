@@ -53,8 +53,7 @@ pub(crate) fn serve_on<A: Account + Send + Sync, R: Net + Threads + Wait + Sync,
 }
 
 impl<'a, A: Account, R: Wait, C: Clock> Visitors<Machine<'a, C>, Connection<'a, A, R>>
-    for Guests<'a, A, R, C>
-{
+    for Guests<'a, A, R, C> {
     fn next(&self) -> Option<(Machine<'a, C>, Connection<'a, A, R>)> {
         let share = self.left.lock(self.rt).take()?;
         Some((
