@@ -11,8 +11,9 @@ use std::os::fd::{AsRawFd, RawFd};
 use std::sync::Arc;
 use std::sync::atomic::{AtomicBool, Ordering};
 
-/// For how many milliseconds a worker waits for its connection before it takes another one.
-const LINGER: i32 = 1;
+/// For how many milliseconds a worker waits for its connection before it takes another one. A shorter wait costs more: it ends before the
+/// kernel's next tick, so a timer has to be set for each request.
+const LINGER: i32 = 4;
 
 /// A socket, and the place that its connection has.
 #[derive(Drop)]
