@@ -269,10 +269,10 @@ def part_of_a_put(end):
     return connection
 
 
-def without_a_head():
+def without_a_head(sent):
     """Sends bytes that are not a head. Returns the status line of the reply, after the server has ended the connection."""
     with socket.create_connection((URL.hostname, URL.port), LIMIT) as connection, connection.makefile("rb") as reply:
-        connection.sendall(b"\x16\x03\x01\x00\xff\r\n\r\n")
+        connection.sendall(sent)
         return reply.read().split(b"\r\n")[0]
 
 
@@ -284,7 +284,8 @@ def bad_clients():
         for _ in range(20):
             part_of_a_put(-2).close()
             part_of_a_put(20).close()
-        yield "bytes that are not a head", {without_a_head() for _ in range(20)}, {b"HTTP/1.1 400 Bad Request"}
+        yield "bytes that are not a head", {without_a_head(b"hello\r\n\r\n") for _ in range(20)}, {b"HTTP/1.1 400 Bad Request"}
+        yield "the first bytes of TLS", {without_a_head(b"\x16\x03\x01\x00\xff\r\n\r\n") for _ in range(20)}, {b""}
         yield "the blob is as it was", ask("GET", KEPT), (200, etag, b"kept")
         first.sendall(b"\r\nlate")
         yield "the rest of a head that waited", first.recv(20, socket.MSG_WAITALL), b"HTTP/1.1 201 Created"
