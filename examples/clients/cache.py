@@ -7,7 +7,7 @@ OBJECTS is 20,000 if it is not given; with 200 the session takes about a second.
 from it. An object has 1 KiB to 1 MiB. Its length is the lesser of two that are spread evenly by logarithm. So half of the objects have less than
 8 KiB, and 20,000 objects have some 850 MB together. The name of an object is the SHA-256 of its bytes.
 
-STAMP_URL, STAMP_ACCOUNT and STAMP_KEY name the server; examples/with-stamp sets them. The server needs at least four workers. These are the steps:
+STAMP_URL, STAMP_ACCOUNT and STAMP_KEY name the server; examples/with-stamp sets them. One worker is enough. These are the steps:
 
 1. Each client visits each object once. Three clients get the object, and put it if the answer is 404. One client puts it and does not get it before.
    A put has `If-None-Match: *`. If the server has the object already, the answer is 409, which is a hit as good as a get. Two clients visit the

@@ -3,7 +3,7 @@
 
 usage: examples/with-stamp examples/clients/many.py
 
-STAMP_URL, STAMP_ACCOUNT and STAMP_KEY name the server; examples/with-stamp sets them. The server needs at least four workers. The session
+STAMP_URL, STAMP_ACCOUNT and STAMP_KEY name the server; examples/with-stamp sets them. One worker is enough. The session
 creates two containers and deletes them at its end. Each check prints a line, and the last line has two counts. The status is 1 if a check failed. If
 a request gets no reply within 20 seconds, the session ends.
 """
