@@ -6,12 +6,13 @@ ghost use Rattle.partition_stream.specs.Contents.{AreStored};
 use crate::partition_samples::{put_and_seal, put_three, streams};
 use crate::sample_wires::script;
 use extent_node::Script;
+use extent_seal::ReadFault;
 use partition_stream::Streams;
 use range_rows::Span;
 use stamp_types::{Piece, Pieces, Reply, text_reply};
 use std::alloc::Global;
 use std::process::Abort;
-use tickets::{Answer, Ticket, make_answer};
+use tickets::{Answer, Ticket, Unreachable, make_answer};
 
 // A reply whose own body is the bytes 1 and 2.
 fn frame(rt: &impl Abort, alloc: Global) -> Reply
@@ -28,7 +29,7 @@ fn answer_of_two(
     streams: &mut Streams,
     placed: &Pieces,
     wire: &mut Script,
-) -> Answer
+) -> Result<Answer, Unreachable>
     requires { AreStored (laid streams.old.blobs) placed.now }
 {
     match placed.as_slice() {
@@ -42,10 +43,7 @@ fn answer_of_two(
                 from: 1,
                 to: 3,
             }];
-            match make_answer(alloc, streams, frame(rt, alloc), &spans, wire) {
-                Ok(answer) => answer,
-                Err(_) => panic!(rt; "no fault"),
-            }
+            make_answer(alloc, streams, frame(rt, alloc), &spans, wire)
         }
         _ => panic!(rt; "one piece"),
     }
@@ -72,7 +70,17 @@ fn content_of_the_last_extent_goes_out_now(rt: HostRuntime) {
     let mut wire = script(&rt, rt.alloc(), &[], &[]);
     let answer = answer_of_two(&rt, rt.alloc(), &mut *streams, &placed, &mut wire);
     assert!(rt; wire.called().len() == 1);
-    assert!(rt; is_done(&rt, rt.alloc(), answer));
+    assert!(rt; is_done(&rt, rt.alloc(), answer.ok().expect(&rt, "a node answers")));
+}
+
+#[test]
+fn content_that_no_node_gives_is_no_lack_of_memory(rt: HostRuntime) {
+    let mut streams = streams(&rt, rt.alloc(), 1_000_000);
+    let placed = put_three(&rt, rt.alloc(), &mut *streams);
+    let mut wire = script(&rt, rt.alloc(), &[], &[false, false, false]);
+    let answer = answer_of_two(&rt, rt.alloc(), &mut *streams, &placed, &mut wire);
+    assert!(rt; wire.called().len() == 3);
+    assert!(rt; answer.is_err());
 }
 
 fn later(rt: &impl Abort, answer: Answer) -> Ticket {
@@ -86,12 +94,15 @@ fn later(rt: &impl Abort, answer: Answer) -> Ticket {
 fn fetch_twice(rt: &impl Abort, alloc: Global, ticket: Ticket, wire: &mut Script) {
     match ticket.fetch(wire) {
         Ok(_) => panic!(rt; "no node answers"),
-        Err(back) => match back.0.fetch(wire) {
-            Ok(reply) => {
-                assert!(rt; is_whole(alloc, rt, &reply));
+        Err((ticket, fault)) => {
+            assert!(rt; matches!(fault, ReadFault::Unreachable));
+            match ticket.fetch(wire) {
+                Ok(reply) => {
+                    assert!(rt; is_whole(alloc, rt, &reply));
+                }
+                Err(_) => panic!(rt; "node 0 answers"),
             }
-            Err(_) => panic!(rt; "node 0 answers"),
-        },
+        }
     }
 }
 
@@ -101,7 +112,7 @@ fn content_of_a_sealed_extent_is_fetched_without_the_streams(rt: HostRuntime) {
     let placed = put_and_seal(&rt, rt.alloc(), &mut *streams);
     let mut wire = script(&rt, rt.alloc(), &[], &[false, false, false]);
     let answer = answer_of_two(&rt, rt.alloc(), &mut *streams, &placed, &mut wire);
-    let ticket = later(&rt, answer);
+    let ticket = later(&rt, answer.ok().expect(&rt, "no node is called"));
     drop(streams);
     assert!(rt; wire.called().len() == 0);
     fetch_twice(&rt, rt.alloc(), ticket, &mut wire);
