@@ -23,7 +23,7 @@ last_is (l ∷ m ∷ ks) k =
     let at : suc (suc (length (ks ++ k ∷ []))) - 1 ≡ suc (suc (length (ks ++ k ∷ [])) - 1) = omega arith in
     ap (slice_get (l ∷ m ∷ (ks ++ k ∷ []))) at ∙ last_is (m ∷ ks) k
 
-same_name : (a : List ℕ) → eq_by_cmp name_cmp a a ≡ true
+pub same_name : (a : List ℕ) → eq_by_cmp name_cmp a a ≡ true
 same_name a = (eq_by_cmp_equiv names_total).refl a
 
 abbrev is_epoch : Answer → Bool

@@ -1,3 +1,4 @@
+pub mod AccountLemmas
 pub mod AskedLemmas
 pub mod CoreLemmas
 pub mod DoubtLemmas

@@ -1,8 +1,10 @@
 //! Laws of runs. Each law is the contract of a function that does nothing.
 ghost use Rattle.std.specs.Prelude.{◌≡◌, ◌≢◌, ◌⊎◌, ℕ, ◌+◌, Bool, true, false, All, IfSome, IsSome, IsTrue, List, [], ◌∷◌, ◌++◌, length, slice_set, Option, Some, None, Ok, Err};
+ghost use Rattle.stamp_values.specs.declared.acl.Acl.{Acl};
 ghost use Rattle.stamp_values.specs.declared.key.Key.{Key};
 ghost use Rattle.stamp_values.specs.declared.condition.Condition.TheVariants as condition;
 ghost use Rattle.stamp_values.specs.declared.op.Op.TheVariants.{GetBlob, PutBlob};
+ghost use Rattle.stamp_types.specs.declared.ask.Ask.{Ask};
 ghost use Rattle.stamp_types.specs.declared.committed.Committed.{Committed};
 ghost use Rattle.stamp_values.specs.declared.signing.Credential.TheVariants.{Token};
 ghost use Rattle.stamp_types.specs.declared.past.Past.{Past};
@@ -10,20 +12,23 @@ ghost use Rattle.stamp_types.specs.declared.reply.Reply.{Reply};
 ghost use Rattle.stamp_types.specs.declared.rule.Rule.{Rule};
 ghost use Rattle.stamp_types.specs.EffectKinds.{EtagsAtMost};
 ghost use Rattle.stamp_types.specs.Requests.{Asked, IsAsk};
-ghost use Rattle.stamp_types.specs.World.{World, blob_in, part_at};
+ghost use Rattle.stamp_types.specs.World.{Part, World, blob_in, part_at};
 ghost use Rattle.sas_token.specs.Tokens.{IsToken, Sent};
 ghost use Rattle.access_rules.specs.declared.keys.Keys.{Keys};
 ghost use Rattle.access_rules.specs.declared.rotation.Which.{Which};
 ghost use Rattle.access_rules.specs.Rotation.{rotated};
+ghost use Rattle.access_rules.specs.Rules.{first_rule};
 ghost use Rattle.partition_map.specs.Spans.{bound_at, slot_of, split_refusal};
 ghost use Rattle.stamp_model.specs.AcceptedRequests.{accepted_at};
+ghost use Rattle.stamp_model.specs.Effects.{accepted, effect};
 ghost use Rattle.stamp_model.specs.Histories.{IsLegal, pair_of};
 ghost use Rattle.stamp_model.specs.Kept.{LeavesContent};
-ghost use Rattle.stamp_model.specs.Runs.{IsAdmitted, IsOn, Timed, part_after_all, replies_to, reply_to_one, world_after_all, world_after_one};
+ghost use Rattle.stamp_model.specs.Responses as responses;
+ghost use Rattle.stamp_model.specs.Runs.{IsAdmitted, IsOn, Timed, part_after_all, replies_to, reply_to_one, timed, world_after_all, world_after_one};
 ghost use Rattle.stamp_model.specs.SeenContainers.{is_under, routed};
 ghost use Rattle.stamp_model.specs.Withdrawals.{gives_policy, is_before_fields, withdraws_policy};
 ghost use Rattle.slot_state.specs.HistoryMaps.{history_at};
-ghost use Rattle.slot_state.specs.Pairs.{AreNumbered, Pairs, current_at, epoch_of, pairs_at};
+ghost use Rattle.slot_state.specs.Pairs.{AreNumbered, Pairs, current_at, epoch_of, first_pairs, pairs_at};
 ghost use Rattle.slot_state.specs.Slots.{IsServed, SlotState, entry_of};
 ghost use Rattle.core_run.specs.declared.step.Step.{Step};
 ghost use Rattle.core_run.specs.declared.step.Step.TheVariants as step;
@@ -278,6 +283,28 @@ pub fn a_serve_and_its_fetch_answer_as_the_model()
     ensures { (s s' : State) (q : Asked) (t : ℕ) (r : Reply) → doubt_of s (slot_for s q) ≡ None
         → IsServedWhole s q t r s'
         → (r ≡ reply_in s q t) × SameButTickets (served s q t) s' }
+{}
+
+/// Keys of another account count as none. If keys are not of the account of a request, the request is
+/// judged the same with these keys or with none: the same rule of permission is the first that holds, the
+/// reply is the same, the request makes the same change, and it leaves the same containers. So a machine
+/// that has one key pair judges the requests of all accounts as by this pair.
+pub fn keys_of_another_account_count_as_none()
+    ensures rule { (pair : Keys) (acl : Option Acl) (q : Ask) (t : ℕ)
+        → pair.account ≢ q.key.account
+        → first_rule (Some pair) acl q t ≡ first_rule None acl q t }
+    ensures reply { (pair : Keys) (w : World (List ℕ)) (q : Asked) (t : ℕ) (bound : Option Key)
+        → pair.account ≢ q.ask.key.account
+        → responses.reply (Some pair) w q t bound ≡ responses.reply None w q t bound }
+    ensures change { (pair : Keys) (p : Part ℕ) (q : Asked) (t : ℕ)
+        → pair.account ≢ q.ask.key.account
+        → accepted (Some pair) p q t ≡ accepted None p q t }
+    ensures effect { (pair : Keys) (w : World (List ℕ)) (q : Asked) (t : ℕ)
+        → pair.account ≢ q.ask.key.account → effect (Some pair) w q t ≡ effect None w q t }
+    ensures one { (pair : Keys) (s : State) (q : Asked) (t : ℕ) → s.pairs ≡ first_pairs (pair ∷ [])
+        → (reply_in s q t
+        ≡ reply_to_one s.world (record (timed pair q t) { bound = bound_at s.points (routed q) }))
+        × ((served s q t).world ≡ world_after_one s.world (timed pair q t)) }
 {}
 
 /// A core of one slot without containers stands for the first state. If a core stands for a state, and

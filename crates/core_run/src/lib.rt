@@ -11,6 +11,6 @@ pub use laws::{
     a_run_keeps_its_states_sound, a_run_serves_requests_in_turn,
     a_serve_and_its_fetch_answer_as_the_model, a_step_on_a_slot_is_a_settle_and_then_the_step,
     a_step_that_fails_changes_nothing, a_ticket_gives_the_reply_of_its_serve,
-    each_answer_has_its_place, the_headline,
+    each_answer_has_its_place, keys_of_another_account_count_as_none, the_headline,
 };
 pub use step::{Outcome, Step, StepFault};
