@@ -40,7 +40,7 @@ impl Model for StoredRows {
 }
 
 impl StoredRows {
-    ghost use Rattle.std.specs.Prelude.{◌≡◌, ◌≢◌, ◌≤◌, ◌<◌, true, false, is_some, None, Some, Err, IfSome, IfOk, IsTrue, MatchOption, OnOk, OnErr, slice_range};
+    ghost use Rattle.std.specs.Prelude.{◌≡◌, ◌≢◌, ◌≤◌, ◌<◌, true, false, is_some, None, Some, Err, IfSome, IfOk, IsErr, IsTrue, MatchOption, OnOk, OnErr, slice_range};
     ghost use Rattle.extent_seal.specs.Counting.{Grows, all_faults};
     ghost use Rattle.extent_seal.specs.declared.sealed.ReadFault.TheVariants.{Unreachable};
     ghost use Rattle.stamp_types.specs.ActKinds.{is_row};
@@ -48,7 +48,7 @@ impl StoredRows {
     ghost use Rattle.stamp_types.specs.Pieces.{is_held, piece_len, pieces_len};
     ghost use Rattle.stamp_types.specs.World.{no_part, part_value};
     ghost use Rattle.stamp_values.specs.declared.key.Key.{Key};
-    ghost use Rattle.row_trees.specs.Fits.{fits};
+    ghost use Rattle.row_trees.specs.Fits.{commits, fits};
     ghost use Rattle.stream_manager.specs.Streams.{laid};
     ghost use Rattle.partition_stream.specs.Contents.{IsStored, bytes_at};
     ghost use Rattle.partition_stream.specs.Parts.{is_piece_in_last};
@@ -119,6 +119,21 @@ impl StoredRows {
     {
         match &self.rows {
             Some(rows) => rows.find(key),
+            None => unreachable!(),
+        }
+    }
+
+    /// Whether a change of a container of the range fits the container, as `take` requires it.
+    ///
+    /// `AllocError` if memory runs out while the blocks of a list are looked up, or if the content of a block can have no further owner.
+    pub fn fits(&self, change: &Change) -> Result<bool, AllocError>
+        requires loaded { self.now.is_loaded ≡ true }
+        requires covered { covers self.now.range change.now.key ≡ true }
+        ensures fits { IfOk result (λ answer. answer ≡ fits (part_value pieces_len (pieces_of self.now change.now.key)) change.now.act) }
+        ensures memory { IsErr result → IsTrue (commits change.now.act) }
+    {
+        match &self.rows {
+            Some(rows) => rows.fits(self.alloc, change),
             None => unreachable!(),
         }
     }

@@ -1,4 +1,4 @@
-//! Tests of extents, streams, records and the streams of a partition, by their public calls, over written deliveries.
+//! Tests of extents, streams, records, the streams of a partition and the rows that they keep, by their public calls, over written deliveries.
 #![tactic(auto)]
 
 #[cfg(test)]
@@ -44,6 +44,10 @@ mod sample_places;
 mod sample_records;
 #[cfg(test)]
 mod sample_wires;
+#[cfg(test)]
+mod stored_samples;
+#[cfg(test)]
+mod stored_tests;
 #[cfg(test)]
 mod stream_samples;
 #[cfg(test)]

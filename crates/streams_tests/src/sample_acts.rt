@@ -60,6 +60,11 @@ pub(crate) fn put_blob(rt: &impl Abort, alloc: Global) -> Act {
     put_blob_of(rt, alloc, five(rt, alloc))
 }
 
+// The blob comes with its five bytes.
+pub(crate) fn put_hello(rt: &impl Abort, alloc: Global) -> Act {
+    put_blob_of(rt, alloc, hello(rt, alloc))
+}
+
 pub(crate) fn put_blob_of_no_pieces(rt: &impl Abort, alloc: Global) -> Act {
     put_blob_of(rt, alloc, Pieces::empty(alloc))
 }
