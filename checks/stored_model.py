@@ -1,6 +1,6 @@
 """A plain model of stored rows: the containers are what the accepted changes make of them, whatever is loaded.
 
-It stands on the model of the streams in stream_model.py. It was written from docs/streams.md and docs/formats/records.md, and never
+It uses the model of the streams in stream_model.py. It was written from docs/streams.md and docs/formats/records.md, and never
 calls the product.
 """
 import random

@@ -78,7 +78,7 @@ fn each_has_one_slot(rt: &impl Abort, alloc: Global, many: &Many) {
     }
 }
 
-// The slot of `pics` has the blob and lists this container alone; each other slot has neither.
+// The slot of `pics` has the blob and lists only this container; each other slot has neither.
 fn serves_as_before(rt: &impl Abort, alloc: Global, many: &mut Many) {
     let place = many.spans.find(&key(rt, alloc, "pics"));
     for (number, slot) in many.slots.iter_mut().enumerate() {

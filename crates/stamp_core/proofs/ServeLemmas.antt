@@ -32,7 +32,7 @@ module _ (c : CoreState) (have : HaveSpans c.slots c.points) (s : State) (stands
   pub settles_nothing : (i : ℕ) → SettlesDoubtBy (doubt_of s i) s i s
   settles_nothing i = subst (λ (o : Option Past). SettlesDoubtBy o s i s) (sym (no_doubts i)) refl
 
-  -- a request for which there is no memory
+  -- a request for which memory ran out
   pub starved : (q : Asked) (t : ℕ) → Takes s (step.Serve q t) false (Err fault.NoMemory) s
   starved q t = inl (s, (settles_nothing (slot_for s q), inr (inr refl, refl)))
 

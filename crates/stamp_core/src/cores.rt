@@ -106,7 +106,7 @@ impl<H: Histories> Core<H> {
     /// One Serve step, on a request whose body was read before. The caller keeps the request, and may have judged its signature before:
     /// `judged` changes no reply, and if it is of the pair in force, no signature is worked out here.
     ///
-    /// The content of a blob is told by a ticket, which `fetch` takes. If there is no memory for the ticket, the reply is told at once.
+    /// The content of a blob is told by a ticket, which `fetch` takes. If memory runs out for the ticket, the reply is told at once.
     ///
     /// `NoMemory` if memory runs out for the reply or for the change. The core is then as it was.
     pub fn serve(
@@ -237,7 +237,7 @@ impl<H: Histories> Core<H> {
     /// The steps in turn: their answers are a run of the machine, from each state that the core stands for, in which no call of a wire
     /// fails.
     ///
-    /// `AllocError` if there is no memory for the answers. Then no step was made.
+    /// `AllocError` if memory runs out for the answers. Then no step was made.
     pub fn run(
         &mut self,
         alloc: Global,

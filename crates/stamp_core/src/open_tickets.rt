@@ -58,7 +58,7 @@ impl OpenTickets {
 
     /// Holds a reply, and gives the number of its ticket.
     ///
-    /// The reply comes back if there is no memory for one ticket more, or no number is left. All tickets are then as they were.
+    /// The reply comes back if memory runs out for one ticket more, or if no number is left. All tickets are then as they were.
     #[tactic(auto, using(crate::proofs::TicketLemmas::same_list))]
     pub(crate) fn hold(&mut self, reply: Reply) -> Result<u64, Reply>
         ensures number { IfOk result (λ n. n ≡ length self.old) }

@@ -1,4 +1,4 @@
--- What the laws of stored rows stand on.
+-- What the laws of stored rows rest on.
 use Rattle.std.proofs.Common.{◌≡◌, ◌≢◌, ◌∙◌, ◌⊎◌, Bool, true, false, List, [], ◌∷◌, ◌++◌, None, Ok, Err, inl, inr, ap, sym, refl, subst}
 use Rattle.stamp_values.specs.declared.key.Key.{Key}
 use Rattle.stamp_types.specs.Pieces.{held}
