@@ -63,7 +63,7 @@ module _ (s t : ThreeStreams) (h : KeepsLog s t) where
 no_doubt : (range : KeyRange) (t : ThreeStreams) → (logged t).doubt ≡ None → FitsDoubt range t
 no_doubt range t none = subst (λ (o : Option Recorded). IfSome o (λ c. (covers range c.0.key ≡ true) × Fits (held_of (logged t) c.0.key) c.0.act)) (sym none) tt
 
--- no change is kept beside the streams if there is no doubt
+-- no change is kept beside the streams if no change is in doubt
 pub undoubted : (t : ThreeStreams) → (logged t).doubt ≡ None → doubted t ≡ None
 undoubted t none = ap (option_map (λ (c : Recorded). c.0)) none
 

@@ -31,7 +31,7 @@ pub record KeepsLog (s t : ThreeStreams) : Type 0 where
   pub log : (logged t).log ≡ (logged s).log
   pub places : KeepsPlaces (laid s.blobs) (laid t.blobs)
 
--- the log has the change with its epoch, as it was kept, and there is no doubt
+-- the log has the change with its epoch, as it was kept, and no change is in doubt
 pub record AddsChange (s : ThreeStreams) (c : Recorded) (d : KeyedAct) (t : ThreeStreams) : Type 0 where
   pub more : IsOneMore (logged s) (d, c.1) (logged t)
   pub places : KeepsPlaces (laid s.blobs) (laid t.blobs)

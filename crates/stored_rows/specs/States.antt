@@ -47,7 +47,7 @@ pub record IsKeptAs (es : List (List Block)) (c d : KeyedAct) : Type 0 where
   -- and fits the same containers
   pub fits : (p : Part ℕ) → fits p d.act ≡ fits p c.act
 
--- the change is one more of its container, all other containers are as they were, and there is no doubt; the log has one record more, of
+-- the change is one more of its container, all other containers are as they were, and no change is in doubt; the log has one record more, of
 -- this change with its epoch; rows that were not loaded are not loaded
 pub record IsChanged (s : Stored) (c : Recorded) (t : Stored) : Type 0 where
   pub own : bytes_of t c.0.key ≡ changed held c.0.act (bytes_of s c.0.key)

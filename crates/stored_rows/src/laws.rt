@@ -20,7 +20,7 @@ ghost use Rattle.stored_rows.specs.declared.faults.TakeFault.TheVariants as faul
 ghost use Rattle.stored_rows.specs.declared.key_range.KeyRange.{KeyRange};
 
 /// Rows that are loaded are what the streams mean, and nothing else: each container of the range is what all changes make of it, in
-/// their order and each once, and there is no other container. So rows that are thrown away and loaded again are the same.
+/// their order and each once, and the rows have only these containers. So rows that are thrown away and loaded again are the same.
 pub fn a_load_is_what_the_streams_mean()
     ensures pieces { (s : ThreeStreams) (w : World (List Piece)) (d : Option KeyedAct) (range : KeyRange) (key : Key)
         → AreLoaded s (Some w) d range → covers range key ≡ true
