@@ -5,8 +5,8 @@ use crate::requests::{
     CREATE, CREATE_LATER, CREATED, GET, GET_B, GET_BY_POLICY, LIST, MISSING, PUT, PUT_BLOCK,
     PUT_LIST, PUT_POLICY, WITHDRAW,
 };
-use crate::samples::{begins, ends, says, sent_if};
-use core_run::StepFault;
+use crate::samples::{begins, ends, key, says, sent_if};
+use core_run::{Outcome, Step, StepFault};
 use partition_map::MapFault;
 use std::alloc::Global;
 use std::process::Abort;
@@ -121,4 +121,24 @@ fn the_split_after_the_256th_span_is_refused(rt: HostRuntime) {
     assert!(rt;
         split_at(&rt, rt.alloc(), &mut *driven, 255) == Some(StepFault::Map(MapFault::Full))
     );
+}
+
+// A list of two splits at one key and of a ticket that was not given: the first step is made, and each later one says why it is not.
+#[test]
+fn a_list_of_steps_is_answered_in_turn(rt: HostRuntime) {
+    let alloc = rt.alloc();
+    let mut driven = empty_core(&rt, alloc);
+    let mut steps = Vec::new(alloc);
+    for slot in [0, 0] {
+        let middle = key(&rt, alloc, "q");
+        steps
+            .push(Step::Split { slot, middle })
+            .expect(&rt, "memory");
+    }
+    steps.push(Step::Fetch { ticket: 0 }).expect(&rt, "memory");
+    let answers = driven.core.run(alloc, steps).expect(&rt, "memory");
+    assert!(rt; answers.len() == 3);
+    assert!(rt; matches!(&answers[0], Ok(Outcome::Made)));
+    assert!(rt; matches!(&answers[1], Err(StepFault::Map(MapFault::NotInside))));
+    assert!(rt; matches!(&answers[2], Err(StepFault::NoSuchTicket)));
 }
