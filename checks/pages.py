@@ -1,10 +1,13 @@
 """The pages of this repository: their links, their words, their sentences, and the lists in them that are generated."""
+import itertools
 import re
 from collections import Counter
 
 import tree
 
 BEGIN, END = "<!-- checks/lists writes what follows -->\n", "<!-- checks/lists wrote what comes before -->\n"
+# The page of a crate's definitions, in the crate's folder. All of it is generated.
+DEFINITIONS = "DEFINITIONS.md"
 LINK = re.compile(r"\]\((?!https?:)([^)#\s]*)(#[^)\s]*)?\)")
 FENCED = re.compile(r"^```.*?^```", re.S | re.M)
 
@@ -21,8 +24,13 @@ LIMITS = {"README.md": 1460, "docs/architecture.md": 2700, "docs/gate.md": 1400}
 ALL = 104_000
 
 
+def definitions_of(crate):
+    return tree.ROOT / "crates" / crate / DEFINITIONS
+
+
 def all_pages():
-    return sorted([tree.ROOT / "README.md", *tree.ROOT.glob("docs/**/*.md"), tree.ROOT / "crates" / "README.md", *tree.ROOT.glob("crates/*/README.md")])
+    of_crates = (tree.ROOT.glob(f"crates/*/{name}") for name in ("README.md", DEFINITIONS))
+    return sorted([tree.ROOT / "README.md", *tree.ROOT.glob("docs/**/*.md"), tree.ROOT / "crates" / "README.md", *itertools.chain(*of_crates)])
 
 
 def text_of(file):
