@@ -9,6 +9,9 @@ BEGIN, END = "<!-- checks/lists writes what follows -->\n", "<!-- checks/lists w
 # The page of a crate's definitions, in the crate's folder. All of it is generated.
 DEFINITIONS = "DEFINITIONS.md"
 LINK = re.compile(r"\]\((?!https?:)([^)#\s]*)(#[^)\s]*)?\)")
+# A block of code that a page takes from functions: the line before it links them.
+CALL = re.compile(r"^From the ([^\n]*):\n\n```rust\n(.*?)^```", re.S | re.M)
+FUNCTION = re.compile(r"\[`(\w+)`\]\(([^)]+)\)")
 FENCED = re.compile(r"^```.*?^```", re.S | re.M)
 
 # The pages that people read first, which have no sentence of more words than SENTENCE.
@@ -73,6 +76,21 @@ def broken_links():
                 yield f"{name_of(file)}: no such heading: {path}{place}"
 
 
+def lines_of(code):
+    """The lines of code, without their indents and without a comment at their end."""
+    return [bare for line in code.splitlines() if (bare := line.split(" // ")[0].strip()) and not bare.startswith("//")]
+
+
+def changed_calls():
+    """Lines of code that a page takes from functions, and that the files of these functions do not have."""
+    for file in all_pages():
+        for source, code in CALL.findall(text_of(file)):
+            texts = {path: text_of(file.parent / path) for _, path in FUNCTION.findall(source) if (file.parent / path).is_file()}
+            found = {line for text in texts.values() for line in lines_of(text)}
+            yield from (f"{name_of(file)}: no such function: {name}" for name, path in FUNCTION.findall(source) if f"fn {name}" not in texts.get(path, ""))
+            yield from (f"{name_of(file)}: no such line in {' and '.join(texts)}: {line}" for line in lines_of(code) if line not in found)
+
+
 def words_in(text):
     """How many words a text has: a word has a letter, so the numbers of a table are none."""
     return sum(bool(re.search(r"[^\W\d_]", word)) for word in text.split())
@@ -108,5 +126,5 @@ def doubled_terms():
 
 
 def faults():
-    for found in (broken_links, doubled_terms, long_sentences, long_pages):
+    for found in (broken_links, changed_calls, doubled_terms, long_sentences, long_pages):
         yield from found()
