@@ -1,4 +1,5 @@
 """The definitions of the crates: for each word the line above it, the head of its file, and the contracts that cite it."""
+import functools
 import re
 from collections import defaultdict
 from typing import NamedTuple
@@ -72,6 +73,7 @@ def module_of(file):
     return Module(file, head_of(lines), words)
 
 
+@functools.cache
 def modules():
     """For each crate, from the lowest layer up, its files of definitions by their names."""
     found = {}
@@ -133,6 +135,7 @@ def cited_in(contract, words, files):
             yield words[first]
 
 
+@functools.cache
 def citations():
     """For each word the functions whose contracts cite it, those that other crates see first."""
     given, found = dict(passed_on()), defaultdict(list)
