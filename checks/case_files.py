@@ -23,39 +23,35 @@ def text_of(line):
     return re.sub(rb"\\(?:x([0-9a-f]{2})|(.))", lambda it: ESCAPES[it[2]] if it[2] else bytes.fromhex(it[1].decode()), line)
 
 
-def authorization(head, key):
-    """The line Authorization of a head that has no such line yet."""
-    read = read_head(head + b"\r\n")
-    return b"Authorization: SharedKey %s:%s\r\n" % (read.parts[0], hmac_of(key, string_to_sign(read)))
-
-
 def making(account, key, moment):
     head = MADE.format(account, http_date(moment)).encode()
-    return head + authorization(head, key) + b"\r\n"
+    signature = hmac_of(key, string_to_sign(read_head(head + b"\r\n")))
+    return head + b"Authorization: SharedKey %s:%s\r\n\r\n" % (account.encode(), signature)
 
 
-def case_of(name, lines, account, keys, made, texts):
-    """A case, or nothing if it limits its reads."""
-    said, moments, end = {"send": b"", "want": b""}, [], None
+def case_of(name, lines, account, keys, made, texts, most):
+    """A case, or nothing if it limits its reads or sends more than so many bytes."""
+    said, moments, end = {"send": [], "want": []}, [], None
     for word, rest in lines:
         what, _, how = word.partition("-")
         if what in said:
             count, _, text = rest.partition(b" ") if how == "repeat" else (b"1", b"", rest)
-            said[what] += texts[text] if how == "text" else int(count) * text_of(text)
+            said[what].append((int(count), texts[text] if how == "text" else text_of(text)))
         elif word == "moment":
             moments.append(read_iso(rest.decode()))
         elif word == "end":
             end = rest.decode()
-        elif word == "reads":
-            return None
+    if any(word == "reads" for word, _ in lines) or sum(count * len(text) for count, text in said["send"]) > most:
+        return None
+    sent, wanted = (b"".join(count * text for count, text in said[it]) for it in ("send", "want"))
     before = b""
     if made:
         first = moments[0] if made == b"first" else read_iso(made.decode())
         before, moments = making(account, keys[0], first), [first, *moments]
-    return Connection(name, Caller(account, keys, moments), before, said["send"], said["want"], end)
+    return Connection(name, Caller(account, keys, moments), before, sent, wanted, end)
 
 
-def cases_of(file):
+def cases_of(file, most):
     account, keys, made, text, texts, lines, name = "", [], None, None, {}, None, None
     for line in file.read_bytes().split(b"\n"):
         word, _, rest = line.partition(b" ")
@@ -73,14 +69,14 @@ def cases_of(file):
             texts[text] = texts.get(text, b"") + (text_of(rest) if word == "is" else b"")
         elif line and not line.startswith(b"#"):
             lines.append((word, rest))
-            if word == "end" and (case := case_of(name, lines, account, keys, made, texts)):
+            if word == "end" and (case := case_of(name, lines, account, keys, made, texts, most)):
                 yield case
 
 
-def cases():
-    """Each case that does not limit its reads."""
+def cases(most):
+    """Each case that does not limit its reads, and sends at most so many bytes."""
     for file in sorted(DATA.glob("*.cases")):
-        yield from cases_of(file)
+        yield from cases_of(file, most)
 
 
 def examples():
