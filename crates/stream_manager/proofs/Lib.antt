@@ -3,6 +3,7 @@ pub mod CountLemmas
 pub mod PartLemmas
 pub mod PlaceLemmas
 pub mod ReadLemmas
+pub mod RepairLemmas
 pub mod RunLemmas
 pub mod SizeLemmas
 pub mod WalkLemmas

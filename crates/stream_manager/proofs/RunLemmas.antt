@@ -48,7 +48,7 @@ step_leads s t h = elim h [
     | inl a ↦ settle_leads a.0 (laid s) (laid t) s.last t.last a.1
     | inr h3 ↦ elim h3 [
       | inl a ↦ seal_leads a.0 (laid s) (laid t) s.last t.last a.1
-      | inr e ↦ unchanged (laid s) (laid t) (ap laid e)
+      | inr k ↦ unchanged (laid s) (laid t) k.blocks
     ]
   ]
 ]
@@ -112,7 +112,7 @@ doubt_ends s t d e h = elim h [
     | inl a ↦ doubt_settle a.0 (laid s) (laid t) s.last t.last d e a.1
     | inr h3 ↦ elim h3 [
       | inl a ↦ doubt_seal a.0 (laid s) (laid t) s.last t.last d e a.1
-      | inr q ↦ stays (laid s) (laid t) s.last t.last d e (ap laid q) (ap (λ x. x.last) q)
+      | inr k ↦ stays (laid s) (laid t) s.last t.last d e k.blocks k.last
     ]
   ]
 ]

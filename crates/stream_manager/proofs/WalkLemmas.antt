@@ -7,18 +7,10 @@ use Rattle.std.proofs.lemmas.Option.{get_or_from_slice_get}
 use Rattle.std.specs.Option.{option_and_then}
 use Rattle.extent_node.specs.Copies.{Block}
 use Rattle.extent_seal.specs.Extents.{Open, Closed}
+use Rattle.extent_seal.proofs.RepairLemmas.{take_next}
 use Rattle.stream_manager.specs.Extents.{extents, closed_blocks}
 use Rattle.stream_manager.specs.Places.{blocks_of}
 use Rattle.stream_manager.specs.Walks.{before}
-
--- one more of a list
-take_suc : {X : Type 0} (xs : List X) (i : ℕ) (x : X) → slice_get xs i ≡ Some x → take (suc i) xs ≡ take i xs ++ x ∷ []
-take_suc [] i x h = absurd (grind arith)
-take_suc (y ∷ xs) zero x h = grind arith
-take_suc (y ∷ xs) (suc i) x h = ap (λ l. y ∷ l) (take_suc xs i x h)
-
-take_next : {X : Type 0} (xs : List X) (i : ℕ) (x : X) → slice_get xs i ≡ Some x → take (i + 1) xs ≡ take i xs ++ x ∷ []
-take_next xs i x h = let e : i + 1 ≡ suc i = omega arith in rw e (take_suc xs i x h)
 
 -- one more block of an extent
 pub before_next : (es : List (List Block)) (e i : ℕ) (blocks : List Block) (b : Block)

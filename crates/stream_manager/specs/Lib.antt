@@ -4,6 +4,7 @@ pub mod Handles
 pub mod Outcomes
 pub mod Parts
 pub mod Places
+pub mod Repairs
 pub mod Runs
 pub mod Sizes
 pub mod Spares

@@ -1,4 +1,4 @@
--- Runs of a stream: any list of appends, settles, seals and shares, over any wire (SOSP 2011, section 4.3).
+-- Runs of a stream: any list of appends, settles, seals, repairs and shares, over any wire (SOSP 2011, section 4.3).
 use Rattle.std.specs.Prelude.{◌≡◌, ◌⊎◌, Result, List, [], ◌∷◌}
 use Rattle.stamp_values.specs.declared.place.Place.{Place}
 use Rattle.extent_node.specs.Copies.{Block}
@@ -20,9 +20,14 @@ IsSettleStep s t = (r : Result Settled SettleFault) × IsSettled r (laid s) s.la
 abbrev pub IsSealStep : Streamed → Streamed → Type 0
 IsSealStep s t = (r : Result (Unit {0}) SettleFault) × IsSealed r (laid s) s.last (laid t) t.last
 
--- one call; a stream that is shared stays as it is
+-- a repair or a share, with any answer: the blocks of each extent and the doubt are as they were
+pub record KeepsBlocks (s t : Streamed) : Type 0 where
+  pub blocks : laid t ≡ laid s
+  pub last : t.last ≡ s.last
+
+-- one call
 abbrev pub IsStep : Streamed → Streamed → Type 0
-IsStep s t = IsAppendStep s t ⊎ (IsSettleStep s t ⊎ (IsSealStep s t ⊎ (t ≡ s)))
+IsStep s t = IsAppendStep s t ⊎ (IsSettleStep s t ⊎ (IsSealStep s t ⊎ KeepsBlocks s t))
 
 -- calls one after the other, with the stream after each of them
 abbrev pub IsRun : Streamed → List Streamed → Type 0

@@ -1,6 +1,7 @@
 //! What appends and settles of a stream answer.
 ghost use Rattle.std.specs.Prelude.{◌≡◌};
 
+use extent_seal::CopyFault;
 use stamp_values::Place;
 use std::alloc::AllocError;
 
@@ -56,5 +57,41 @@ impl From<AllocError> for SettleFault {
 
     fn from(_error: AllocError) -> Self {
         Self::NoMemory
+    }
+}
+
+/// Why a node did not get a copy of an extent.
+#[derive(Clone, Copy, Debug, PartialEq, Eq)]
+pub enum RepairFault {
+    /// No sealed extent has this number. No node was called.
+    NoSuchExtent,
+    /// Each node with a copy was asked and answered no, or a block was put to the node and the delivery was not Done.
+    Unreachable,
+    /// Memory ran out before a node was called.
+    NoMemory,
+}
+
+impl From<AllocError> for RepairFault {
+    ghost use Rattle.std.specs.Prelude.{◌≡◌};
+    ghost use Rattle.stream_manager.specs.declared.faults.RepairFault.TheVariants.{NoMemory};
+
+    ghost from_gives = { λ _ e. e ≡ NoMemory };
+
+    fn from(_error: AllocError) -> Self {
+        Self::NoMemory
+    }
+}
+
+impl From<CopyFault> for RepairFault {
+    ghost use Rattle.std.specs.Prelude.{◌≡◌};
+    ghost use Rattle.stream_manager.specs.Repairs.{fault_of};
+
+    ghost from_gives = { λ f e. e ≡ fault_of f };
+
+    fn from(fault: CopyFault) -> Self {
+        match fault {
+            CopyFault::Unreachable => Self::Unreachable,
+            CopyFault::NoMemory => Self::NoMemory,
+        }
     }
 }

@@ -2,8 +2,8 @@
 ghost use Rattle.std.specs.Prelude.{◌≡◌, ◌<◌, Some, IfOk, length};
 ghost use Rattle.std.specs.List.{slice_get};
 
-use extent_node::Wire;
-use extent_seal::{ReadFault, Sealed};
+use extent_node::{Node, Wire};
+use extent_seal::{CopyFault, ReadFault, Sealed};
 use stamp_values::Share;
 use std::alloc::{AllocError, Global};
 use std::marker::Model;
@@ -40,9 +40,12 @@ impl Model for Handle {
 }
 
 impl Handle {
-    ghost use Rattle.std.specs.Prelude.{◌≡◌, ◌≢◌, ◌<◌, Some, Err, IfOk, length};
+    ghost use Rattle.std.specs.Prelude.{◌≡◌, ◌≢◌, ◌<◌, true, false, Some, Err, IfOk, OnOk, OnErr, length};
     ghost use Rattle.std.specs.List.{slice_get};
     ghost use Rattle.extent_seal.specs.Counting.{AsksCopies, AsksNoOther, FailsCopies, Grows, SomeAnswers, all_faults};
+    ghost use Rattle.extent_seal.specs.Extents.{answer_of};
+    ghost use Rattle.extent_seal.specs.Repairs.{Copies, FailsToCopy, with_copy};
+    ghost use Rattle.extent_seal.specs.declared.copying.CopyFault.TheVariants as copy_fault;
     ghost use Rattle.extent_seal.specs.declared.sealed.ReadFault.TheVariants.{Unreachable};
 
     /// A handle of an extent that one stream has. Takes no memory.
@@ -80,6 +83,40 @@ impl Handle {
         ensures grown { Grows (W.faults wire.old) (W.faults wire.new) }
     {
         self.extent().read(index, wire)
+    }
+
+    /// Gives the node a copy of the whole extent, if it has no copy. No byte is copied.
+    ///
+    /// An extent that is shared is repaired for this handle: the handle gets lists of blocks of its own, and the other handles stay as
+    /// they are. After a fault the handle is as it was.
+    pub(crate) fn repair<W: Wire>(
+        &mut self,
+        node: Node,
+        alloc: Global,
+        wire: &mut W,
+    ) -> Result<(), CopyFault>
+        ensures repaired { OnOk result (self.new ≡ with_copy node self.old) }
+        ensures same { OnErr result (self.new ≡ self.old) }
+        ensures lacking { OnErr result (answer_of self.old.kept node ≡ false) }
+        ensures unused { answer_of self.old.kept node ≡ true → wire.new ≡ wire.old }
+        ensures copied { OnOk result (answer_of self.old.kept node ≡ false → Copies node self.old (W.calls wire.old) (W.calls wire.new) (W.faults wire.old) (W.faults wire.new)) }
+        ensures unreachable { result ≡ Err copy_fault.Unreachable → FailsToCopy node self.old (W.calls wire.old) (W.calls wire.new) (W.faults wire.old) (W.faults wire.new) }
+        ensures faulty { result ≡ Err copy_fault.Unreachable → all_faults (W.faults wire.old) < all_faults (W.faults wire.new) }
+        ensures unheard { result ≡ Err copy_fault.NoMemory → wire.new ≡ wire.old }
+        ensures grown { Grows (W.faults wire.old) (W.faults wire.new) }
+    {
+        let shared = match &mut self.held {
+            Held::Own(sealed) => return sealed.repair(node, alloc, wire),
+            Held::Shared(shared) => shared,
+            Held::Moved => unreachable!(),
+        };
+        if shared.replica(node).is_some() {
+            return Ok(());
+        }
+        let mut own = shared.copy(alloc)?;
+        own.repair(node, alloc, wire)?;
+        self.held = Held::Own(own);
+        Ok(())
     }
 
     /// One more handle of the same extent. No block and no list of blocks is copied.

@@ -1,10 +1,11 @@
 //! Streams.
 ghost use Rattle.std.specs.Prelude.{◌≡◌};
 
-use crate::faults::{AppendFault, SettleFault, Settled};
+use crate::faults::{AppendFault, RepairFault, SettleFault, Settled};
 use crate::handle::{Handle, share_at};
 use crate::parts::Parts;
-use extent_node::Wire;
+use crate::repair::repair_at;
+use extent_node::{Node, Wire};
 use extent_seal::ReadFault;
 use stamp_values::{Place, Share};
 use std::alloc::{AllocError, Global};
@@ -28,17 +29,20 @@ impl Model for Stream {
 }
 
 impl Stream {
-    ghost use Rattle.std.specs.Prelude.{◌≡◌, ◌≢◌, ◌↔◌, ◌⊎◌, ◌≤◌, ◌<◌, ◌+◌, [], None, Some, Ok, Err, length, IfOk, IsSome, IsSomeAnd};
+    ghost use Rattle.std.specs.Prelude.{◌≡◌, ◌≢◌, ◌↔◌, ◌⊎◌, ◌≤◌, ◌<◌, ◌+◌, [], None, Some, Ok, Err, length, IfOk, IsSome, IsSomeAnd, OnOk, OnErr};
     ghost use Rattle.std.specs.List.{slice_get};
     ghost use Rattle.std.specs.Option.{is_some};
+    ghost use Rattle.extent_seal.specs.Extents.{Closed};
     ghost use Rattle.extent_seal.specs.Counting.{AsksCopies, AsksNoOther, FailsCopies, FailsEach, Grows, SomeAnswers, all_faults};
     ghost use Rattle.extent_seal.specs.declared.sealed.ReadFault.TheVariants.{Unreachable};
     ghost use Rattle.stream_manager.specs.Counting.{CallsAppend, FailsAppend, CallsSettle, FailsSettle, CallsSeal, FailsSeal, kept_in};
     ghost use Rattle.stream_manager.specs.Outcomes.{IsAppend, IsRefused, IsSettled, IsSealed};
     ghost use Rattle.stream_manager.specs.Places.{block_at, next_place};
+    ghost use Rattle.stream_manager.specs.Repairs.{CountsRepair, IsUnheardFault, repaired};
     ghost use Rattle.stream_manager.specs.Sizes.{AreSized};
     ghost use Rattle.stream_manager.specs.Streams.{laid};
     ghost use Rattle.stream_manager.specs.declared.faults.AppendFault.TheVariants.{TooLarge, Busy};
+    ghost use Rattle.stream_manager.specs.declared.faults.RepairFault.TheVariants as repair_fault;
 
     /// A stream without blocks, whose extents of two or more blocks have at most `extent_bytes` bytes. Takes no memory.
     pub fn new(alloc: Global, extent_bytes: u32) -> Self
@@ -165,6 +169,34 @@ impl Stream {
         ensures shared { IfOk result (λ h. slice_get self.old.sealed extent ≡ Some h) }
     {
         share_at(&mut self.parts.sealed, extent, self.parts.alloc)
+    }
+
+    /// Gives the node a copy of a whole sealed extent, if it has no copy. No byte is copied, and no block changes.
+    ///
+    /// The other nodes, which have a copy, are asked in the order 0, 1, 2 until one of them answers yes. Then each block of the extent is
+    /// put to the node once. An extent without blocks is repaired by the asks. If the node has a copy, no node is called.
+    ///
+    /// If streams share the extent, it is repaired for this stream. After a fault the stream is as it was. NoSuchExtent: no sealed extent
+    /// has this number; the last extent takes blocks. Unreachable: each node with a copy was asked once and answered no, or a put was not
+    /// Done. NoSuchExtent and NoMemory: no node was called.
+    pub fn repair<W: Wire>(
+        &mut self,
+        extent: u64,
+        node: Node,
+        wire: &mut W,
+    ) -> Result<(), RepairFault>
+        ensures refused { (result ≡ Err repair_fault.NoSuchExtent) ↔ (length self.old.sealed ≤ extent) }
+        ensures repaired { OnOk result (self.new ≡ repaired node extent self.old) }
+        ensures same { OnErr result (self.new ≡ self.old) }
+        ensures blocks { laid self.new ≡ laid self.old }
+        ensures last { self.new.last ≡ self.old.last }
+        ensures limit { self.new.limit ≡ self.old.limit }
+        ensures counted { (e : Closed) → slice_get self.old.sealed extent ≡ Some e → CountsRepair result node e (W.calls wire.old) (W.calls wire.new) (W.faults wire.old) (W.faults wire.new) }
+        ensures faulty { result ≡ Err repair_fault.Unreachable → all_faults (W.faults wire.old) < all_faults (W.faults wire.new) }
+        ensures unheard { IsUnheardFault result → wire.new ≡ wire.old }
+        ensures grown { Grows (W.faults wire.old) (W.faults wire.new) }
+    {
+        repair_at(&mut self.parts.sealed, extent, node, self.parts.alloc, wire)
     }
 
     /// A stream with the same sealed extents under the same numbers, and without a block after them. No block is copied.
