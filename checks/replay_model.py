@@ -436,11 +436,7 @@ class Stamp:
     def GetBlockList(self, asked, moment, container, blob, _):
         committed = [it for it in (blob.part.blocks if blob.part else []) if it[0] is not None]
         lists = {b"committed": (b"CommittedBlocks", committed), b"uncommitted": (b"UncommittedBlocks", sorted(blob.blocks.items()))}
-        text = b"".join(
-            element(name, b"".join(element(b"Block", element(b"Name", base64.b64encode(it)) + element(b"Size", b"%d" % len(content))) for it, content in blocks))
-            for kind, (name, blocks) in lists.items()
-            if asked.kinds in (kind, b"all")
-        )
+        text = b"".join(shown_blocks(*lists[kind]) for kind in lists if asked.kinds in (kind, b"all"))
         of_part = [("x-ms-blob-content-length", b"%d" % len(blob.part.content())), *dates_of(blob.part)] if blob.part else []
         return 200, [XML, *of_part], PROLOG + element(b"BlockList", text)
 
@@ -460,6 +456,11 @@ class Stamp:
             return element(b"Container", element(b"Name", name) + properties(it, b"") + shown_metadata(asked.head, it.metadata))
 
         return page(asked, b"Containers", [it.encode() for it in self.containers], shown, b"")
+
+
+def shown_blocks(name, blocks):
+    shown = [element(b"Name", base64.b64encode(it)) + element(b"Size", b"%d" % len(content)) for it, content in blocks]
+    return element(name, b"".join(element(b"Block", it) for it in shown))
 
 
 def level_of(head):
