@@ -26,3 +26,5 @@ mod test_heads;
 mod value_tests;
 #[cfg(test)]
 mod waiting_tests;
+#[cfg(test)]
+mod worker_tests;

@@ -132,7 +132,7 @@ fn untold() -> Told {
 fn end_of(alloc: Global, given: Given<'_>, room: usize) -> Option<Result<End, FrontFault>> {
     match go_on(alloc, given, room) {
         Ok(_waits) => None,
-        Err(over) => Some(over.end),
+        Err(over) => Some(over.end()),
     }
 }
 

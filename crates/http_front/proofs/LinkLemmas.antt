@@ -1,19 +1,20 @@
 -- A link has said what its connection says since it was fresh.
-use Rattle.std.proofs.Common.{◌≡◌, ◌≢◌, ℕ, [], Option, List, Result, Ok, Err, inl, inr, refl, sym, ◌∙◌, subst, arith}
+use Rattle.std.proofs.Common.{◌≡◌, ℕ, Option, List, Result, Ok, Err, inr, refl, sym, ◌∙◌, subst, arith}
 use Rattle.stamp_types.specs.Requests.{Asked}
 use Rattle.stamp_types.specs.declared.reply.Reply.{Reply}
-use Rattle.http_front.specs.declared.counted.Output.TheVariants as outputs
 use Rattle.http_front.specs.declared.end.End.{End}
+use Rattle.http_front.specs.declared.end.End.TheVariants.{Clean, Closed}
 use Rattle.http_front.specs.declared.end.FrontFault.{FrontFault}
-use Rattle.http_front.specs.declared.end.FrontFault.TheVariants.{Read, Write, Turns, NoMemory}
+use Rattle.http_front.specs.declared.end.FrontFault.TheVariants.{NoMemory}
 use Rattle.http_front.specs.declared.item.PartialItem.{PartialItem}
 use Rattle.http_front.specs.declared.item.PartialItem.TheVariants.{InHead, Asking, InBody}
 use Rattle.http_front.specs.declared.item.Stage.{Stage}
 use Rattle.http_front.specs.declared.item.Stage.TheVariants.{Reading, Replying}
 use Rattle.http_front.specs.Connections.{ConnectionState, IsFresh, IsIdle, IsOpen, IsStalled}
+use Rattle.http_front.specs.Conversations.{LeavesRun}
 use Rattle.http_front.specs.Inputs.{ReadsItem}
-use Rattle.http_front.specs.Links.{Exceeds, FinishesLink, IsBetween, IsLink, ItemExceeds, ServesLink}
-use Rattle.http_front.specs.Resumptions.{step_of}
+use Rattle.http_front.specs.Links.{Exceeds, IsBetween, IsLink, ItemExceeds, ServesLink}
+use Rattle.http_front.specs.Resumptions.{Finishes, step_of}
 use Rattle.http_front.specs.Stages.{IsItemWaiting, IsPartial, IsStaged, IsWaiting, Suspends, fresh_stage}
 use Rattle.http_front.specs.Steps.{Comes, Conversing, LeavesStep}
 use Rattle.http_front.proofs.Ends.{searched_none}
@@ -56,6 +57,12 @@ item_starved room (InBody begun) from a exceeds s = record {
   sent = s.sent;
   found = inr (begun.head, s.begun.0, s.begun.1, s.begun.3);
 }
+
+-- a run and its last step leave the connection alike
+leaves_step : (ended : Result End FrontFault) (a : ConnectionState) → LeavesRun ended a → LeavesStep (step_of ended) a
+leaves_step (Ok Clean) a leaves = leaves
+leaves_step (Ok Closed) a leaves = leaves
+leaves_step (Err fault) a leaves = leaves
 
 module _ {C S : Type 0} (gives : C → ℕ → C → Type 0) (answers : S → Asked → ℕ → Reply → S → Type 0) where
   -- a fresh connection can be gone on with
@@ -102,15 +109,15 @@ module _ {C S : Type 0} (gives : C → ℕ → C → Type 0) (answers : S → As
     comes_starved room (Replying reply) exceeds m waits = absurd exceeds
 
     -- a link whose connection came to its end and was finished was served
-    pub serves_link : (ended result : Result End FrontFault) (left held : Option (List ℕ))
-        → Comes gives answers starves clock clock' world world' from a (step_of ended) → LeavesStep (step_of ended) a
-        → FinishesLink ended result a left held → ServesLink gives answers starves clock clock' world world' from left held result
-    serves_link ended result left held comes leaves f =
-        let ran = has_run gives answers starves clock clock' world world' from a f.to ended result
-        (has_conversed gives answers starves clock clock' world world' from a ended comes leaves) f.finished in record {
-          to = f.to;
-          left_is = f.left_is;
-          held_is = f.held_is;
+    pub serves_link : (ended result : Result End FrontFault) (to : ConnectionState) (left held : Option (List ℕ))
+        → Comes gives answers starves clock clock' world world' from a (step_of ended) → LeavesRun ended a
+        → Finishes ended result a to → left ≡ to.reader.left → held ≡ to.writer.held → ServesLink gives answers starves clock clock' world world' from left held result
+    serves_link ended result to left held comes leaves finished left_is held_is =
+        let ran = has_run gives answers starves clock clock' world world' from a to ended result
+        (has_conversed gives answers starves clock clock' world world' from a ended comes (leaves_step ended a leaves)) finished in record {
+          to = to;
+          left_is = sym left_is;
+          held_is = sym held_is;
           conversed = ran.conversed;
           whole = ran.whole;
           starved = ran.starved;

@@ -17,7 +17,9 @@ mod link;
 mod outgoing;
 mod pending;
 mod service;
+mod source;
 mod stream_laws;
+mod workers;
 
 pub use connection::Connection;
 pub use connection_laws::a_connection_left_and_resumed_answers_as_run;
@@ -27,6 +29,8 @@ pub use end::{End, FrontFault};
 pub use item::{Stage, Step};
 pub use link::{Link, Over, Resting, go_on};
 pub use service::{Clock, Service};
+pub use source::Source;
 pub use stream_laws::{
     a_head_ends_with_its_first_empty_line, a_stream_is_read_in_one_way, each_stream_is_read,
 };
+pub use workers::work;

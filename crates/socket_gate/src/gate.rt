@@ -1,10 +1,11 @@
 //! Connections, each in a place: one thread polls those that wait, and workers go on with those that have something to do.
 
 use crate::limits::Limits;
-use crate::parting::Parting;
-use crate::place::{Moved, Phase, Place, Seat};
-use crate::traffic::Traffic;
-use crate::wire::Half;
+use crate::lingering::Lingering;
+use crate::order::WaitOrder;
+use crate::place::{Content, Counts, Phase, Place};
+use crate::ready::ReadyQueue;
+use crate::socket::Half;
 use http_front as front;
 use http_front::{Link, Resting, Service, go_on};
 use mio::unix::SourceFd;
@@ -18,21 +19,21 @@ use std::sync::{Mutex, Wait};
 use std::time::{Clock, Duration};
 
 /// A connection with all that it is served with.
-pub(crate) type Visit<'a, K, S> = Link<Half<'a>, Half<'a>, K, S>;
+pub(crate) type SocketLink<'a, K, S> = Link<Half<'a>, Half<'a>, K, S>;
 
 /// A connection that waits for a request.
-pub(crate) type Rest<'a, K, S> = Resting<Half<'a>, Half<'a>, K, S>;
+pub(crate) type IdleLink<'a, K, S> = Resting<Half<'a>, Half<'a>, K, S>;
 
 /// What is in a place.
-pub(crate) type Taker<'a, K, S> = Seat<Visit<'a, K, S>, Rest<'a, K, S>>;
+pub(crate) type LinkContent<'a, K, S> = Content<SocketLink<'a, K, S>, IdleLink<'a, K, S>>;
 
 /// How a connection waits.
 #[derive(Drop)]
-struct Stand {
+struct Waiting {
     index: usize,
     token: usize,
     phase: Phase,
-    moved: Moved,
+    counts: Counts,
     held: u64,
     interest: Interest,
 }
@@ -44,13 +45,15 @@ pub(crate) struct Gate<'a, R: Wait, C: Clock, K: front::Clock + Drop, S: Service
     pub(crate) clock: &'a C,
     pub(crate) alloc: Global,
     pub(crate) listener: &'a TcpListener,
-    pub(crate) traffic: &'a Traffic,
+    pub(crate) ready: &'a ReadyQueue,
     pub(crate) limits: Limits,
     pub(crate) registry: Registry,
     pub(crate) waker: Waker,
-    pub(crate) places: Vec<Mutex<Place<Visit<'a, K, S>, Rest<'a, K, S>>>>,
+    pub(crate) places: Vec<Mutex<Place<SocketLink<'a, K, S>, IdleLink<'a, K, S>>>>,
     /// The indices of the empty places.
     pub(crate) empty: Mutex<Vec<usize>>,
+    /// In which order the connections began to wait. It is locked while a place is locked, and never the other way round.
+    pub(crate) order: Mutex<WaitOrder>,
     /// How many connections there are.
     pub(crate) connections: AtomicUsize,
     /// How many bytes the unfinished bodies have of the connections that wait.
@@ -63,32 +66,33 @@ pub(crate) struct Gate<'a, R: Wait, C: Clock, K: front::Clock + Drop, S: Service
 #[derive(Drop)]
 pub(crate) enum Taken<L: Drop> {
     Nothing,
-    Visit(L, usize),
-    Parting(Parting),
+    /// A connection, and how many bytes of a body it may have when it waits.
+    Link(L, usize),
+    Lingering(Lingering),
 }
 
-/// How many bytes of a connection have come and gone.
-pub(crate) fn moved(reader: &Half<'_>, writer: &Half<'_>) -> Moved {
-    Moved {
-        came: reader.moved,
-        went: writer.moved,
+/// How many bytes of a connection were received and sent.
+pub(crate) fn counts(reader: &Half<'_>, writer: &Half<'_>) -> Counts {
+    Counts {
+        received: reader.count,
+        sent: writer.count,
     }
 }
 
 // What a connection waits for.
-fn phase<K: front::Clock + Drop, S: Service + Drop>(visit: &Visit<'_, K, S>) -> Phase {
-    if visit.is_between() {
+fn phase<K: front::Clock + Drop, S: Service + Drop>(link: &SocketLink<'_, K, S>) -> Phase {
+    if link.is_between() {
         return Phase::Idle;
     }
-    if visit.held().is_some() || visit.wants_write() {
-        return Phase::Moving;
+    if link.held().is_some() || link.wants_write() {
+        return Phase::Transfer;
     }
     Phase::Head
 }
 
 // What a connection is polled for.
-fn interest<K: front::Clock + Drop, S: Service + Drop>(visit: &Visit<'_, K, S>) -> Interest {
-    if visit.wants_write() {
+fn interest<K: front::Clock + Drop, S: Service + Drop>(link: &SocketLink<'_, K, S>) -> Interest {
+    if link.wants_write() {
         Interest::WRITABLE
     } else {
         Interest::READABLE
@@ -108,19 +112,19 @@ impl<'a, R: Wait, C: Clock, K: front::Clock + Drop, S: Service + Drop> Gate<'a, 
     }
 
     /// Takes what is in a place, for a worker.
-    pub(crate) fn take(&self, index: usize) -> Taken<Visit<'a, K, S>> {
+    pub(crate) fn take(&self, index: usize) -> Taken<SocketLink<'a, K, S>> {
         let Some(place) = self.places.get(index) else {
             return Taken::Nothing;
         };
         let mut place = place.lock(self.rt);
         let place = &mut *place;
         place.is_queued = false;
-        match mem::replace(&mut place.seat, Seat::Busy) {
-            Seat::Rests(resting) => Taken::Visit(resting.wake(), self.room(place.held)),
-            Seat::Waits(visit) => Taken::Visit(Box::into_inner(visit), self.room(place.held)),
-            Seat::Parts(parting) => Taken::Parting(parting),
-            seat => {
-                place.seat = seat;
+        match mem::replace(&mut place.content, Content::Busy) {
+            Content::Idle(link) => Taken::Link(link.wake(), self.room(place.held)),
+            Content::Waiting(link) => Taken::Link(Box::into_inner(link), self.room(place.held)),
+            Content::Lingering(lingering) => Taken::Lingering(lingering),
+            content => {
+                place.content = content;
                 Taken::Nothing
             }
         }
@@ -133,52 +137,54 @@ impl<'a, R: Wait, C: Clock, K: front::Clock + Drop, S: Service + Drop> Gate<'a, 
             .is_ok()
     }
 
-    /// Puts a connection into its place that waits.
-    pub(crate) fn park(&self, visit: Visit<'a, K, S>) {
-        let stand = Stand {
-            index: visit.reader().wire.index,
-            token: visit.reader().wire.token,
-            phase: phase(&visit),
-            moved: moved(visit.reader(), visit.writer()),
-            held: visit.held().unwrap_or(0) as u64,
-            interest: interest(&visit),
+    /// Puts a connection that waits into its place.
+    pub(crate) fn park(&self, link: SocketLink<'a, K, S>) {
+        let waiting = Waiting {
+            index: link.reader().socket.index,
+            token: link.reader().socket.token,
+            phase: phase(&link),
+            counts: counts(link.reader(), link.writer()),
+            held: link.held().unwrap_or(0) as u64,
+            interest: interest(&link),
         };
-        match visit.rest(self.alloc) {
-            Ok(resting) => self.sit(&stand, Seat::Rests(resting)),
-            Err(visit) => match Box::new(self.alloc, visit) {
-                Ok(visit) => self.sit(&stand, Seat::Waits(visit)),
+        match link.rest(self.alloc) {
+            Ok(link) => self.put(&waiting, Content::Idle(link)),
+            Err(link) => match Box::new(self.alloc, link) {
+                Ok(link) => self.put(&waiting, Content::Waiting(link)),
                 Err(failed) => self.give_up(failed.value),
             },
         }
     }
 
-    // Puts a connection into its place that waits. What came in the meantime is reported, since the place is locked until the
+    // Puts a connection that waits into its place. What came in the meantime is reported, since the place is locked until the
     // connection is there.
-    fn sit(&self, stand: &Stand, seat: Taker<'a, K, S>) {
+    fn put(&self, waiting: &Waiting, content: LinkContent<'a, K, S>) {
         let now = self.now();
-        let Some(place) = self.places.get(stand.index) else {
+        let Some(place) = self.places.get(waiting.index) else {
             return;
         };
         let mut place = place.lock(self.rt);
         let place = &mut *place;
-        place.watch.note(stand.phase, stand.moved, now);
-        self.held.fetch_add(stand.held, Ordering::SeqCst);
+        if place.timer.note(waiting.phase, waiting.counts, now) {
+            self.order.lock(self.rt).begin(waiting.index, waiting.phase);
+        }
+        self.held.fetch_add(waiting.held, Ordering::SeqCst);
         self.held.fetch_sub(place.held, Ordering::SeqCst);
-        place.held = stand.held;
-        let polled = self.poll_again(place.descriptor, stand.token, stand.interest);
-        place.seat = seat;
+        place.held = waiting.held;
+        let polled = self.poll_again(place.descriptor, waiting.token, waiting.interest);
+        place.content = content;
         if !polled && !place.is_queued {
             // Nobody else would wake it.
-            place.is_queued = self.traffic.push(self.rt, stand.index);
+            place.is_queued = self.ready.push(self.rt, waiting.index);
         }
     }
 
     /// Reads what a peer still sends, and closes its connection once nothing more comes.
-    pub(crate) fn hear(&self, mut parting: Parting) {
-        if !parting.hear(self.now()) {
-            return self.leave(parting.wire.index, parting);
+    pub(crate) fn read_on(&self, mut lingering: Lingering) {
+        if !lingering.read_on(self.now()) {
+            return self.close(lingering.socket.index, lingering);
         }
-        let (index, token) = (parting.wire.index, parting.wire.token);
+        let (index, token) = (lingering.socket.index, lingering.socket.token);
         let Some(place) = self.places.get(index) else {
             return;
         };
@@ -188,7 +194,7 @@ impl<'a, R: Wait, C: Clock, K: front::Clock + Drop, S: Service + Drop> Gate<'a, 
         place.held = 0;
         // If it cannot be polled, it is closed when it was silent for too long.
         let _polled = self.poll_again(place.descriptor, token, Interest::READABLE);
-        place.seat = Seat::Parts(parting);
+        place.content = Content::Lingering(lingering);
     }
 
     // Empties a place. An event for the connection that was there is no event for the next one.
@@ -202,17 +208,18 @@ impl<'a, R: Wait, C: Clock, K: front::Clock + Drop, S: Service + Drop> Gate<'a, 
         place.held = 0;
         place.token = place.token.wrapping_add(crate::place::SPAN);
         place.descriptor = -1;
-        place.seat = Seat::Empty;
+        place.content = Content::Empty;
+        self.order.lock(self.rt).remove(index);
     }
 
     /// Closes a connection, and gives its place to the next one.
-    pub(crate) fn leave<T: Drop>(&self, index: usize, connection: T) {
+    pub(crate) fn close<T: Drop>(&self, index: usize, connection: T) {
         self.clear(index);
         drop(connection);
         let was_full = self.put_back(index);
         let left = self.connections.fetch_sub(1, Ordering::SeqCst);
         if left == 1 && self.is_closed.load(Ordering::SeqCst) {
-            self.traffic.close(self.rt);
+            self.ready.close(self.rt);
             let _woken = self.waker.wake();
         } else if was_full {
             let _woken = self.waker.wake();
@@ -229,11 +236,11 @@ impl<'a, R: Wait, C: Clock, K: front::Clock + Drop, S: Service + Drop> Gate<'a, 
     }
 
     /// Ends a connection that waited too long: its next read or write fails.
-    pub(crate) fn give_up(&self, visit: Visit<'a, K, S>) {
-        let index = visit.reader().wire.index;
-        visit.reader().wire.give_up();
-        match go_on(self.alloc, visit, usize::MAX) {
-            Ok(visit) => self.leave(index, visit),
+    pub(crate) fn give_up(&self, link: SocketLink<'a, K, S>) {
+        let index = link.reader().socket.index;
+        link.reader().socket.give_up();
+        match go_on(self.alloc, link, usize::MAX) {
+            Ok(link) => self.close(index, link),
             Err(over) => self.end(over),
         }
     }

@@ -3,15 +3,16 @@
 
 mod gate;
 mod limits;
-mod parting;
+mod lingering;
+mod order;
 mod place;
+mod poller;
+mod ready;
 mod serve;
-mod traffic;
-mod visitors;
-mod watcher;
-mod wire;
-mod workers;
+mod services;
+mod socket;
+mod source;
 
 pub use limits::Limits;
 pub use serve::serve_listener;
-pub use visitors::Visitors;
+pub use services::Services;

@@ -2,7 +2,7 @@
 ghost use Rattle.std.specs.Prelude.{◌≡◌};
 
 use crate::limits::Limits;
-use crate::parting::Parting;
+use crate::lingering::Lingering;
 use std::os::fd::RawFd;
 use std::time::Duration;
 
@@ -17,37 +17,37 @@ pub(crate) enum Phase {
     /// The rest of a head.
     Head,
     /// The rest of a body, or that a reply is taken.
-    Moving,
+    Transfer,
 }
 
-/// How many bytes have come, and how many have gone.
+/// How many bytes of a connection were received, and how many were sent.
 #[derive(Clone, Copy, Debug, PartialEq, Eq)]
-pub(crate) struct Moved {
-    pub(crate) came: u64,
-    pub(crate) went: u64,
+pub(crate) struct Counts {
+    pub(crate) received: u64,
+    pub(crate) sent: u64,
 }
 
 /// Since when a connection waits for something.
 #[derive(Clone, Copy, Debug)]
-pub(crate) struct Watch {
+pub(crate) struct Timer {
     pub(crate) phase: Phase,
     pub(crate) since: Duration,
-    moved: Moved,
+    counts: Counts,
 }
 
 /// What is in a place.
 #[derive(Drop)]
-pub(crate) enum Seat<L: Drop, I: Drop> {
+pub(crate) enum Content<L: Drop, I: Drop> {
     /// No connection.
     Empty,
     /// A worker has the connection.
     Busy,
     /// A connection that waits for a request.
-    Rests(I),
+    Idle(I),
     /// A connection that waits for the rest of a request, or for its peer to take a reply.
-    Waits(Box<L>),
+    Waiting(Box<L>),
     /// A connection that ended, and whose peer may still send.
-    Parts(Parting),
+    Lingering(Lingering),
 }
 
 /// A place for a connection.
@@ -56,15 +56,15 @@ pub(crate) struct Place<L: Drop, I: Drop> {
     /// The token of the connection that is here, or of the next one.
     pub(crate) token: usize,
     pub(crate) descriptor: RawFd,
-    pub(crate) watch: Watch,
+    pub(crate) timer: Timer,
     /// How many bytes its unfinished body had when it waited last.
     pub(crate) held: u64,
     /// Whether a worker was told of the place and has not come yet.
     pub(crate) is_queued: bool,
-    pub(crate) seat: Seat<L, I>,
+    pub(crate) content: Content<L, I>,
 }
 
-impl Watch {
+impl Timer {
     /// A connection of which nothing came yet.
     pub(crate) fn new(start: Duration) -> Self
         ensures { result.since ≡ start }
@@ -72,44 +72,49 @@ impl Watch {
         Self {
             phase: Phase::Idle,
             since: start,
-            moved: Moved { came: 0, went: 0 },
+            counts: Counts {
+                received: 0,
+                sent: 0,
+            },
         }
     }
 
-    /// Notes what the connection waits for. The time goes on if it already waited for that.
-    pub(crate) fn note(&mut self, phase: Phase, moved: Moved, now: Duration) {
+    /// Notes what the connection waits for. The time goes on if it already waited for that. Returns whether the time begins anew.
+    pub(crate) fn note(&mut self, phase: Phase, counts: Counts, now: Duration) -> bool {
         let goes_on = match phase {
-            Phase::Idle => moved.came == self.moved.came,
+            Phase::Idle => counts.received == self.counts.received,
             // No item was answered since then.
-            Phase::Head => moved.went == self.moved.went,
-            Phase::Moving => true,
+            Phase::Head => counts.sent == self.counts.sent,
+            Phase::Transfer => true,
         };
-        if phase != self.phase || !goes_on {
-            *self = Self {
-                phase,
-                since: now,
-                moved,
-            };
+        if phase == self.phase && goes_on {
+            return false;
         }
+        *self = Self {
+            phase,
+            since: now,
+            counts,
+        };
+        true
     }
 
     /// Whether the connection was waited for too long.
-    pub(crate) fn is_late(&mut self, moved: Moved, now: Duration, limits: &Limits) -> bool {
+    pub(crate) fn is_late(&mut self, counts: Counts, now: Duration, limits: &Limits) -> bool {
         let passed = now.saturating_sub(self.since);
         match self.phase {
             Phase::Idle => passed >= limits.idle,
             Phase::Head => passed >= limits.head,
-            Phase::Moving => passed >= limits.span && !self.has_moved(moved, now, limits.rate),
+            Phase::Transfer => passed >= limits.span && !self.has_moved(counts, now, limits.rate),
         }
     }
 
-    // Whether so many bytes came or went since it was looked at last. Now it was looked at.
-    fn has_moved(&mut self, moved: Moved, now: Duration, rate: u64) -> bool {
-        let came = moved.came.wrapping_sub(self.moved.came);
-        let went = moved.went.wrapping_sub(self.moved.went);
+    // Whether so many bytes were received or sent since this was asked last.
+    fn has_moved(&mut self, counts: Counts, now: Duration, rate: u64) -> bool {
+        let received = counts.received.wrapping_sub(self.counts.received);
+        let sent = counts.sent.wrapping_sub(self.counts.sent);
         self.since = now;
-        self.moved = moved;
-        came.saturating_add(went) >= rate
+        self.counts = counts;
+        received.saturating_add(sent) >= rate
     }
 }
 
@@ -119,10 +124,10 @@ impl<L: Drop, I: Drop> Place<L, I> {
         Self {
             token: index,
             descriptor: -1,
-            watch: Watch::new(Duration::ZERO),
+            timer: Timer::new(Duration::ZERO),
             held: 0,
             is_queued: false,
-            seat: Seat::Empty,
+            content: Content::Empty,
         }
     }
 }

@@ -2,12 +2,13 @@
 
 use crate::gate::Gate;
 use crate::limits::Limits;
+use crate::order::WaitOrder;
 use crate::place::{Place, SPAN};
-use crate::traffic::Traffic;
-use crate::visitors::Visitors;
-use crate::watcher::{LISTENER, WAKER};
+use crate::poller::{LISTENER, WAKER};
+use crate::ready::ReadyQueue;
+use crate::services::Services;
 use http_front as front;
-use http_front::Service;
+use http_front::{Service, work};
 use libc::types::rlimit;
 use mio::unix::SourceFd;
 use mio::{Events, Interest, Poll, Token, Waker};
@@ -61,7 +62,7 @@ fn indices(alloc: Global, count: usize) -> Result<Vec<usize>, AllocError> {
     Ok(indices)
 }
 
-/// Serves the connections of a listener by so many workers, until the listener fails for good or the visitors say that no more connections
+/// Serves the connections of a listener by so many workers, until the listener fails for good or the services say that no more connections
 /// are taken, and then until the connections have ended.
 ///
 /// The error says why it could not begin: memory, descriptors or threads ran out.
@@ -71,14 +72,14 @@ pub fn serve_listener<
     C: Clock + Sync,
     K: front::Clock + Drop + Send,
     S: Service + Drop + Send,
-    V: Visitors<K, S> + Sync,
+    V: Services<K, S> + Sync,
 >(
     rt: &'x R,
     clock: &'x C,
     alloc: Global,
     listener: &'x TcpListener,
     workers: usize,
-    visitors: &'x V,
+    services: &'x V,
     limits: Limits,
 ) -> io::Result<()> {
     listener.set_nonblocking(true)?;
@@ -93,29 +94,31 @@ pub fn serve_listener<
     let registry = poll.registry().try_clone()?;
     let waker = Waker::new(poll.registry(), Token(WAKER))?;
     let count = most_connections(&limits);
-    let traffic = Traffic::new(alloc, count)?;
+    let ready = ReadyQueue::new(alloc, count)?;
     let places = empty_places(alloc, count)?;
     let empty = indices(alloc, count)?;
+    let order = WaitOrder::new(alloc, count)?;
     let gate = Gate::<'_, R, C, K, S> {
         rt,
         clock,
         alloc,
         listener,
-        traffic: &traffic,
+        ready: &ready,
         limits,
         registry,
         waker,
         places,
         empty: Mutex::new(empty),
+        order: Mutex::new(order),
         connections: AtomicUsize::new(0),
         held: AtomicU64::new(0),
         is_closed: AtomicBool::new(false),
     };
     let (_, worked) = thread::join(
         rt,
-        || gate.watch(visitors, &mut poll, &mut events),
-        || thread::map_indices(rt, alloc, workers, &|_worker| gate.work()),
+        || gate.poll(services, &mut poll, &mut events),
+        || work(rt, alloc, workers, &gate),
     );
-    let _ends = worked?;
+    worked?;
     Ok(())
 }

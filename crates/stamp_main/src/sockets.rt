@@ -5,7 +5,7 @@ use crate::machine::Machine;
 use crate::shares::SharesLeft;
 use access_rules::Keys;
 use account_lock::{Account, AccountLock, Connection, NewHistory};
-use socket_gate::{Limits, Visitors, serve_listener};
+use socket_gate::{Limits, Services, serve_listener};
 use std::alloc::Global;
 use std::io;
 use std::net::{Net, TcpListener};
@@ -13,9 +13,9 @@ use std::sync::{Mutex, Wait};
 use std::thread::Threads;
 use std::time::Clock;
 
-/// Gives a number of connections a share each of the history of one lock.
+/// Makes the services of a number of connections. Each has a share of the history of one lock.
 #[derive(Drop)]
-pub(crate) struct Guests<'a, A: Account, R: Wait, C: Clock> {
+pub(crate) struct AccountServices<'a, A: Account, R: Wait, C: Clock> {
     rt: &'a R,
     clock: &'a C,
     lock: &'a AccountLock<A>,
@@ -43,18 +43,18 @@ pub(crate) fn serve_on<A: Account + Send + Sync, R: Net + Threads + Wait + Sync,
     requires keys { keys ≡ A.keys }
 {
     let (lock, shares) = AccountLock::<A>::new(alloc, keys, history)?;
-    let guests = Guests {
+    let services = AccountServices {
         rt,
         clock,
         lock: &lock,
         left: Mutex::new(SharesLeft::new(connections, shares)),
     };
-    serve_listener(rt, clock, alloc, listener, workers, &guests, limits)
+    serve_listener(rt, clock, alloc, listener, workers, &services, limits)
 }
 
-impl<'a, A: Account, R: Wait, C: Clock> Visitors<Machine<'a, C>, Connection<'a, A, R>>
-    for Guests<'a, A, R, C> {
-    fn next(&self) -> Option<(Machine<'a, C>, Connection<'a, A, R>)> {
+impl<'a, A: Account, R: Wait, C: Clock> Services<Machine<'a, C>, Connection<'a, A, R>>
+    for AccountServices<'a, A, R, C> {
+    fn make(&self) -> Option<(Machine<'a, C>, Connection<'a, A, R>)> {
         let share = self.left.lock(self.rt).take()?;
         Some((
             Machine::new(self.clock),

@@ -1,4 +1,4 @@
-use Rattle.std.proofs.Common.{◌≡◌, sym, subst}
+use Rattle.std.proofs.Common.{sym, subst}
 use Rattle.http_front.specs.Links.{IsBetween, LinkState}
 use Rattle.http_front.proofs.LinkLemmas.{rests}
 use Rattle.http_front.proofs.link.settle.Goals as goal

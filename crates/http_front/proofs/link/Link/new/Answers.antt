@@ -1,5 +1,5 @@
-use Rattle.std.proofs.Common.{◌≡◌, [], refl, sym, ap, ◌∙◌}
-use Rattle.http_front.specs.Connections.{ConnectionState, IsFresh, fresh_connection}
+use Rattle.std.proofs.Common.{refl}
+use Rattle.http_front.specs.Connections.{IsFresh, fresh_connection}
 use Rattle.http_front.proofs.LinkLemmas.{link_at}
 use Rattle.http_front.proofs.link.Link.new.Goals as goal
 

@@ -1,4 +1,4 @@
-//! Which connections have something to do, and who waits for them.
+//! Which connections have something to do, and which workers wait for them.
 
 use std::alloc::{AllocError, Global};
 use std::collections::VecDeque;
@@ -14,16 +14,16 @@ struct Queue {
 
 /// Hands places from the thread that polls to the workers.
 #[derive(Drop)]
-pub(crate) struct Traffic {
+pub(crate) struct ReadyQueue {
     queue: Mutex<Queue>,
-    bell: Condvar,
+    changed: Condvar,
     /// How many places are in the queue.
-    ready: AtomicUsize,
+    length: AtomicUsize,
     /// How many workers wait for a place.
     idle: AtomicUsize,
 }
 
-impl Traffic {
+impl ReadyQueue {
     /// No place has something to do. There is room for so many places.
     pub(crate) fn new(alloc: Global, room: usize) -> Result<Self, AllocError> {
         Ok(Self {
@@ -31,8 +31,8 @@ impl Traffic {
                 indices: VecDeque::with_capacity(alloc, room)?,
                 is_closed: false,
             }),
-            bell: Condvar::new(),
-            ready: AtomicUsize::new(0),
+            changed: Condvar::new(),
+            length: AtomicUsize::new(0),
             idle: AtomicUsize::new(0),
         })
     }
@@ -41,8 +41,8 @@ impl Traffic {
     pub(crate) fn push<R: Wait>(&self, rt: &R, index: usize) -> bool {
         let pushed = self.queue.lock(rt).indices.push_back(index).is_ok();
         if pushed {
-            self.ready.fetch_add(1, Ordering::SeqCst);
-            self.bell.notify_one();
+            self.length.fetch_add(1, Ordering::SeqCst);
+            self.changed.notify_one();
         }
         pushed
     }
@@ -57,11 +57,11 @@ impl Traffic {
             if popped.is_some() || queue.is_closed {
                 break;
             }
-            queue = self.bell.wait(rt, queue);
+            queue = self.changed.wait(rt, queue);
         }
         self.idle.fetch_sub(1, Ordering::SeqCst);
         if popped.is_some() {
-            self.ready.fetch_sub(1, Ordering::SeqCst);
+            self.length.fetch_sub(1, Ordering::SeqCst);
         }
         popped
     }
@@ -69,11 +69,11 @@ impl Traffic {
     /// Says that there will be no more places. Each worker that waits for one ends.
     pub(crate) fn close<R: Wait>(&self, rt: &R) {
         self.queue.lock(rt).is_closed = true;
-        self.bell.notify_all();
+        self.changed.notify_all();
     }
 
     /// Whether a worker may wait for its connection a little: no other connection has something to do, and another worker is free.
     pub(crate) fn is_calm(&self) -> bool {
-        self.ready.load(Ordering::SeqCst) == 0 && self.idle.load(Ordering::SeqCst) > 0
+        self.length.load(Ordering::SeqCst) == 0 && self.idle.load(Ordering::SeqCst) > 0
     }
 }

@@ -1,10 +1,10 @@
 //! The thread that polls: it takes new connections, tells workers which connections have something to do, and ends those that are slow.
 
-use crate::gate::{Gate, Rest, Visit, moved};
-use crate::parting::Parting;
-use crate::place::{Phase, SPAN, Seat, Watch};
-use crate::visitors::Visitors;
-use crate::wire::{Half, Wire};
+use crate::gate::{Gate, IdleLink, SocketLink, counts};
+use crate::lingering::Lingering;
+use crate::place::{Content, Phase, SPAN, Timer};
+use crate::services::Services;
+use crate::socket::{Half, Socket};
 use http_front as front;
 use http_front::{Link, Service};
 use mio::unix::SourceFd;
@@ -29,7 +29,10 @@ const LOOK: u64 = 1000;
 const PAUSE: u64 = 10;
 
 /// How many connections are taken before other connections get their turn.
-const NEWCOMERS: usize = 64;
+const ACCEPTS: usize = 64;
+
+/// How many connections are looked at to find one that gives way. There are at most 64 workers, so only a long queue hides one.
+const LOOKS: usize = 256;
 
 /// How many reads are made of one connection at most.
 const TURNS: u64 = 4_294_967_296;
@@ -70,9 +73,9 @@ fn is_one_of(error: &io::Error, numbers: &[i32]) -> bool {
 
 impl<'a, R: Wait, C: Clock, K: front::Clock + Drop, S: Service + Drop> Gate<'a, R, C, K, S> {
     /// Polls until no more connections are taken and none is left, or until polling fails.
-    pub(crate) fn watch<V: Visitors<K, S>>(
+    pub(crate) fn poll<V: Services<K, S>>(
         &self,
-        visitors: &V,
+        services: &V,
         poll: &mut Poll,
         events: &mut Events,
     ) {
@@ -89,14 +92,14 @@ impl<'a, R: Wait, C: Clock, K: front::Clock + Drop, S: Service + Drop> Gate<'a, 
                 .poll(events, Some(Duration::from_millis(timeout)))
                 .is_err()
             {
-                self.traffic.close(self.rt);
+                self.ready.close(self.rt);
                 return;
             }
             if self.tell(events) && asked != Asked::Closed {
                 asked = Asked::Came;
             }
             if asked == Asked::Came || asked == Asked::Short {
-                asked = self.take_newcomers(visitors, &mut next);
+                asked = self.accept_all(services, &mut next);
             }
             let now = self.now();
             if now.saturating_sub(looked) >= Duration::from_millis(LOOK) {
@@ -104,7 +107,7 @@ impl<'a, R: Wait, C: Clock, K: front::Clock + Drop, S: Service + Drop> Gate<'a, 
                 self.end_slow(now);
             }
             if asked == Asked::Closed && self.connections.load(Ordering::SeqCst) == 0 {
-                self.traffic.close(self.rt);
+                self.ready.close(self.rt);
                 return;
             }
         }
@@ -133,21 +136,21 @@ impl<'a, R: Wait, C: Clock, K: front::Clock + Drop, S: Service + Drop> Gate<'a, 
         if place.token != token || place.is_queued {
             return;
         }
-        match place.seat {
-            Seat::Empty => {}
-            Seat::Busy => {
+        match place.content {
+            Content::Empty => {}
+            Content::Busy => {
                 let _polled = self.poll_again(place.descriptor, token, Interest::PRIORITY);
             }
-            Seat::Rests(_) | Seat::Waits(_) | Seat::Parts(_) => {
-                place.is_queued = self.traffic.push(self.rt, index);
+            Content::Idle(_) | Content::Waiting(_) | Content::Lingering(_) => {
+                place.is_queued = self.ready.push(self.rt, index);
             }
         }
     }
 
     // Takes connections until none waits, or until others have to get their turn.
-    fn take_newcomers<V: Visitors<K, S>>(&self, visitors: &V, next: &mut Option<(K, S)>) -> Asked {
-        for _ in 0..NEWCOMERS {
-            let asked = self.ask(visitors, next);
+    fn accept_all<V: Services<K, S>>(&self, services: &V, next: &mut Option<(K, S)>) -> Asked {
+        for _ in 0..ACCEPTS {
+            let asked = self.ask(services, next);
             if asked == Asked::Closed {
                 self.is_closed.store(true, Ordering::SeqCst);
             }
@@ -159,9 +162,9 @@ impl<'a, R: Wait, C: Clock, K: front::Clock + Drop, S: Service + Drop> Gate<'a, 
     }
 
     // Takes one connection.
-    fn ask<V: Visitors<K, S>>(&self, visitors: &V, next: &mut Option<(K, S)>) -> Asked {
+    fn ask<V: Services<K, S>>(&self, services: &V, next: &mut Option<(K, S)>) -> Asked {
         if next.is_none() {
-            *next = visitors.next();
+            *next = services.make();
         }
         if next.is_none() {
             return Asked::Closed;
@@ -213,28 +216,28 @@ impl<'a, R: Wait, C: Clock, K: front::Clock + Drop, S: Service + Drop> Gate<'a, 
     // Gives a new connection a place, or closes it if it cannot be polled.
     fn admit(&self, index: usize, stream: TcpStream, next: Option<(K, S)>) {
         let descriptor = stream.as_raw_fd();
-        let is_seated = match self.greet(index, stream, next) {
-            Some(resting) => self.seat(index, descriptor, resting),
+        let is_polled = match self.new_link(index, stream, next) {
+            Some(link) => self.register(index, descriptor, link),
             None => false,
         };
-        if !is_seated {
+        if !is_polled {
             self.put_back(index);
         }
     }
 
     // A new connection as one that waits for its first request.
-    fn greet(
+    fn new_link(
         &self,
         index: usize,
         stream: TcpStream,
         next: Option<(K, S)>,
-    ) -> Option<Rest<'a, K, S>> {
+    ) -> Option<IdleLink<'a, K, S>> {
         let token = self.token(index);
-        let wire = self.wire(stream, index, token)?;
+        let socket = self.socket(stream, index, token)?;
         let (clock, service) = next?;
-        let (reader, writer) = self.halves(wire)?;
-        let visit = Link::new(self.alloc, reader, writer, clock, service, TURNS);
-        visit.rest(self.alloc).ok()
+        let (reader, writer) = self.halves(socket)?;
+        let link = Link::new(self.alloc, reader, writer, clock, service, TURNS);
+        link.rest(self.alloc).ok()
     }
 
     // The token of the next connection of a place.
@@ -246,24 +249,21 @@ impl<'a, R: Wait, C: Clock, K: front::Clock + Drop, S: Service + Drop> Gate<'a, 
     }
 
     // The socket of a new connection. Small replies are sent at once.
-    fn wire(&self, stream: TcpStream, index: usize, token: usize) -> Option<Arc<Wire>> {
+    fn socket(&self, stream: TcpStream, index: usize, token: usize) -> Option<Arc<Socket>> {
         if stream.set_nodelay(true).is_err() || stream.set_nonblocking(true).is_err() {
             return None;
         }
-        Arc::new(self.alloc, Wire::new(stream, index, token)).ok()
+        Arc::new(self.alloc, Socket::new(stream, index, token)).ok()
     }
 
     // The reader and the writer of a socket.
-    fn halves(&self, wire: Arc<Wire>) -> Option<(Half<'a>, Half<'a>)> {
-        let other = Arc::try_clone(&wire).ok()?;
-        Some((
-            Half::new(other, self.traffic),
-            Half::new(wire, self.traffic),
-        ))
+    fn halves(&self, socket: Arc<Socket>) -> Option<(Half<'a>, Half<'a>)> {
+        let other = Arc::try_clone(&socket).ok()?;
+        Some((Half::new(other, self.ready), Half::new(socket, self.ready)))
     }
 
     // Puts a new connection into its place, and has it polled. Returns whether it can be.
-    fn seat(&self, index: usize, descriptor: RawFd, resting: Rest<'a, K, S>) -> bool {
+    fn register(&self, index: usize, descriptor: RawFd, link: IdleLink<'a, K, S>) -> bool {
         let Some(place) = self.places.get(index) else {
             return false;
         };
@@ -278,8 +278,9 @@ impl<'a, R: Wait, C: Clock, K: front::Clock + Drop, S: Service + Drop> Gate<'a, 
         if polled {
             self.connections.fetch_add(1, Ordering::SeqCst);
             place.descriptor = descriptor;
-            place.watch = Watch::new(now);
-            place.seat = Seat::Rests(resting);
+            place.timer = Timer::new(now);
+            place.content = Content::Idle(link);
+            self.order.lock(self.rt).begin(index, Phase::Idle);
         }
         polled
     }
@@ -288,84 +289,72 @@ impl<'a, R: Wait, C: Clock, K: front::Clock + Drop, S: Service + Drop> Gate<'a, 
     fn end_slow(&self, now: Duration) {
         for index in 0..self.places.len() {
             match self.slow(index, now) {
-                Some(Slow::Visit(visit)) => self.give_up(visit),
-                Some(Slow::Parting(parting)) => self.leave(parting.wire.index, parting),
+                Some(Slow::Link(link)) => self.give_up(link),
+                Some(Slow::Lingering(lingering)) => self.close(lingering.socket.index, lingering),
                 None => {}
             }
         }
     }
 
     // Takes the connection of a place that was waited for too long.
-    fn slow(&self, index: usize, now: Duration) -> Option<Slow<Visit<'a, K, S>>> {
+    fn slow(&self, index: usize, now: Duration) -> Option<Slow<SocketLink<'a, K, S>>> {
         let mut place = self.places.get(index)?.lock(self.rt);
         let place = &mut *place;
-        let is_late = match &place.seat {
-            Seat::Rests(resting) => {
-                let moved = moved(resting.reader(), resting.writer());
-                place.watch.is_late(moved, now, &self.limits)
+        let is_late = match &place.content {
+            Content::Idle(link) => {
+                let counts = counts(link.reader(), link.writer());
+                place.timer.is_late(counts, now, &self.limits)
             }
-            Seat::Waits(visit) => {
-                let moved = moved(visit.reader(), visit.writer());
-                place.watch.is_late(moved, now, &self.limits)
+            Content::Waiting(link) => {
+                let counts = counts(link.reader(), link.writer());
+                place.timer.is_late(counts, now, &self.limits)
             }
-            Seat::Parts(parting) => parting.is_late(now),
-            Seat::Empty | Seat::Busy => false,
+            Content::Lingering(lingering) => lingering.is_late(now),
+            Content::Empty | Content::Busy => false,
         };
         if !is_late {
             return None;
         }
-        match mem::replace(&mut place.seat, Seat::Busy) {
-            Seat::Rests(resting) => Some(Slow::Visit(resting.wake())),
-            Seat::Waits(visit) => Some(Slow::Visit(Box::into_inner(visit))),
-            Seat::Parts(parting) => Some(Slow::Parting(parting)),
-            seat => {
-                place.seat = seat;
+        match mem::replace(&mut place.content, Content::Busy) {
+            Content::Idle(link) => Some(Slow::Link(link.wake())),
+            Content::Waiting(link) => Some(Slow::Link(Box::into_inner(link))),
+            Content::Lingering(lingering) => Some(Slow::Lingering(lingering)),
+            content => {
+                place.content = content;
                 None
             }
         }
     }
 
-    // Ends the connection that has waited in this phase for the longest time. Returns whether there was one.
+    // Ends the connection that has waited in this phase for the longest time. Connections that a worker has, or will have next, are
+    // passed over. Returns whether there was one among the first ones.
     fn end_longest(&self, phase: Phase) -> bool {
-        let mut oldest = None;
-        for index in 0..self.places.len() {
-            if let Some(since) = self.waits_since(index, phase) {
-                if oldest.is_none_or(|(_, other)| since < other) {
-                    oldest = Some((index, since));
-                }
+        let mut last = None;
+        for _ in 0..LOOKS {
+            last = self.order.lock(self.rt).next(phase, last);
+            let Some(index) = last else {
+                return false;
+            };
+            if let Some(link) = self.take_waiting(index, phase) {
+                self.give_up(link);
+                return true;
             }
         }
-        let Some((index, since)) = oldest else {
-            return false;
-        };
-        let Some(visit) = self.take_waiting(index, phase, since) else {
-            return false;
-        };
-        self.give_up(visit);
-        true
+        false
     }
 
-    // Since when the connection of a place waits in this phase.
-    fn waits_since(&self, index: usize, phase: Phase) -> Option<Duration> {
-        let place = self.places.get(index)?.lock(self.rt);
-        if place.watch.phase != phase || !matches!(place.seat, Seat::Rests(_) | Seat::Waits(_)) {
-            return None;
-        }
-        Some(place.watch.since)
-    }
-
-    // Takes the connection of a place if it still waits in this phase since then.
-    fn take_waiting(&self, index: usize, phase: Phase, since: Duration) -> Option<Visit<'a, K, S>> {
+    // Takes the connection of a place if it waits in this phase.
+    fn take_waiting(&self, index: usize, phase: Phase) -> Option<SocketLink<'a, K, S>> {
         let mut place = self.places.get(index)?.lock(self.rt);
         let place = &mut *place;
-        if place.watch.phase != phase || place.watch.since != since || place.is_queued {
+        if place.timer.phase != phase || place.is_queued {
             return None;
         }
-        match mem::replace(&mut place.seat, Seat::Busy) {
-            Seat::Rests(resting) => Some(resting.wake()),
-            Seat::Waits(visit) => Some(Box::into_inner(visit)),
-            seat => {
-                place.seat = seat;
+        match mem::replace(&mut place.content, Content::Busy) {
+            Content::Idle(link) => Some(link.wake()),
+            Content::Waiting(link) => Some(Box::into_inner(link)),
+            content => {
+                place.content = content;
                 None
             }
         }
@@ -375,6 +364,6 @@ impl<'a, R: Wait, C: Clock, K: front::Clock + Drop, S: Service + Drop> Gate<'a, 
 /// A connection that was waited for too long.
 #[derive(Drop)]
 enum Slow<L: Drop> {
-    Visit(L),
-    Parting(Parting),
+    Link(L),
+    Lingering(Lingering),
 }

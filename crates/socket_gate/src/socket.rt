@@ -1,9 +1,8 @@
 //! The socket of one connection, as its reader and its writer.
 
-use crate::traffic::Traffic;
+use crate::ready::ReadyQueue;
 use libc::net::{POLLIN, poll};
 use libc::types::pollfd;
-use std::alloc::Global;
 use std::io;
 use std::io::{ErrorKind, Read, Write};
 use std::net::TcpStream;
@@ -17,7 +16,7 @@ const LINGER: i32 = 4;
 
 /// A socket, and the place that its connection has.
 #[derive(Drop)]
-pub(crate) struct Wire {
+pub(crate) struct Socket {
     pub(crate) stream: TcpStream,
     pub(crate) index: usize,
     pub(crate) token: usize,
@@ -27,15 +26,15 @@ pub(crate) struct Wire {
 /// The reader or the writer of a connection. Both share one socket, which is not blocking.
 #[derive(Drop)]
 pub(crate) struct Half<'a> {
-    pub(crate) wire: Arc<Wire>,
-    traffic: &'a Traffic,
-    /// How many bytes have come, or have gone.
-    pub(crate) moved: u64,
+    pub(crate) socket: Arc<Socket>,
+    ready: &'a ReadyQueue,
+    /// How many bytes were received, or were sent.
+    pub(crate) count: u64,
     /// Whether the last read took all that was here.
     is_drained: bool,
 }
 
-impl Wire {
+impl Socket {
     pub(crate) fn new(stream: TcpStream, index: usize, token: usize) -> Self {
         Self {
             stream,
@@ -77,24 +76,24 @@ fn begins_head(byte: u8) -> bool {
 }
 
 impl<'a> Half<'a> {
-    pub(crate) fn new(wire: Arc<Wire>, traffic: &'a Traffic) -> Self {
+    pub(crate) fn new(socket: Arc<Socket>, ready: &'a ReadyQueue) -> Self {
         Self {
-            wire,
-            traffic,
-            moved: 0,
+            socket,
+            ready,
+            count: 0,
             is_drained: false,
         }
     }
 
     // Whether a read would most likely find nothing, also if it waits a little. It does not wait if somebody else has something to do.
     fn stays_empty(&self) -> bool {
-        self.is_drained && !(self.traffic.is_calm() && self.wire.comes_within(LINGER))
+        self.is_drained && !(self.ready.is_calm() && self.socket.comes_within(LINGER))
     }
 }
 
 impl Read for Half<'_> {
     fn read(&mut self, buf: &mut [u8]) -> io::Result<usize> {
-        if self.wire.is_late() {
+        if self.socket.is_late() {
             return Err(io::Error::from(ErrorKind::TimedOut));
         }
         if self.stays_empty() {
@@ -102,18 +101,18 @@ impl Read for Half<'_> {
             self.is_drained = false;
             return Err(io::Error::from(ErrorKind::WouldBlock));
         }
-        let mut stream: &TcpStream = &self.wire.stream;
+        let mut stream: &TcpStream = &self.socket.stream;
         let count = stream.read(buf)?;
         self.is_drained = count < buf.len();
         // A peer that speaks another protocol, as TLS, is told so at once.
-        if self.moved == 0
+        if self.count == 0
             && buf
                 .first()
                 .is_some_and(|first| count > 0 && !begins_head(*first))
         {
             return Err(io::Error::from(ErrorKind::InvalidData));
         }
-        self.moved = self.moved.wrapping_add(count as u64);
+        self.count = self.count.wrapping_add(count as u64);
         Ok(count)
     }
 }
@@ -121,12 +120,12 @@ impl Read for Half<'_> {
 impl Write for Half<'_> {
     // If the socket takes nothing now, its connection waits until it does.
     fn write(&mut self, buf: &[u8]) -> io::Result<usize> {
-        if self.wire.is_late() {
+        if self.socket.is_late() {
             return Err(io::Error::from(ErrorKind::TimedOut));
         }
-        let mut stream: &TcpStream = &self.wire.stream;
+        let mut stream: &TcpStream = &self.socket.stream;
         let count = stream.write(buf)?;
-        self.moved = self.moved.wrapping_add(count as u64);
+        self.count = self.count.wrapping_add(count as u64);
         Ok(count)
     }
 

@@ -1,6 +1,6 @@
 //! Peers that were told that their connection ends, and may still send.
 
-use crate::wire::Wire;
+use crate::socket::Socket;
 use std::io::{ErrorKind, Read};
 use std::net::TcpStream;
 use std::sync::Arc;
@@ -24,32 +24,32 @@ const READS: usize = 64;
 /// A connection that ended. What its peer still sends is read and dropped: a connection that is closed while bytes are unread is reset,
 /// and then the peer may lose the reply.
 #[derive(Drop)]
-pub(crate) struct Parting {
-    pub(crate) wire: Arc<Wire>,
+pub(crate) struct Lingering {
+    pub(crate) socket: Arc<Socket>,
     left: usize,
     since: Duration,
-    heard: Duration,
+    last_read: Duration,
 }
 
-impl Parting {
-    pub(crate) fn new(wire: Arc<Wire>, now: Duration) -> Self {
+impl Lingering {
+    pub(crate) fn new(socket: Arc<Socket>, now: Duration) -> Self {
         Self {
-            wire,
+            socket,
             left: LAST_BYTES,
             since: now,
-            heard: now,
+            last_read: now,
         }
     }
 
     /// Reads what is here. Returns whether more may come.
-    pub(crate) fn hear(&mut self, now: Duration) -> bool {
-        let mut stream: &TcpStream = &self.wire.stream;
+    pub(crate) fn read_on(&mut self, now: Duration) -> bool {
+        let mut stream: &TcpStream = &self.socket.stream;
         let mut room = [0; READ_SIZE];
         for _ in 0..READS {
             match stream.read(&mut room) {
                 Ok(0) => return false,
                 Ok(count) => {
-                    self.heard = now;
+                    self.last_read = now;
                     self.left = self.left.saturating_sub(count);
                     if self.left == 0 {
                         return false;
@@ -63,7 +63,7 @@ impl Parting {
 
     /// Whether the peer was silent for too long, or sends for too long.
     pub(crate) fn is_late(&self, now: Duration) -> bool {
-        now.saturating_sub(self.heard) >= Duration::from_secs(PATIENCE)
+        now.saturating_sub(self.last_read) >= Duration::from_secs(PATIENCE)
             || now.saturating_sub(self.since) >= Duration::from_secs(LAST)
     }
 }

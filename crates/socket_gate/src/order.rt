@@ -1,0 +1,131 @@
+//! The order in which connections began to wait.
+
+use crate::place::Phase;
+use std::alloc::{AllocError, Global};
+
+/// The places before and after a place.
+#[derive(Clone, Copy, Drop)]
+struct Neighbours {
+    before: usize,
+    after: usize,
+}
+
+/// Two lists of places: those of connections that are idle, and those of connections that wait inside a head. In each list the connection
+/// that began to wait first comes first. A place is in one list at most.
+///
+/// Each list is a ring through a number that is no place. What is in no list is a ring of its own. So no change depends on how many places
+/// there are.
+#[derive(Drop)]
+pub(crate) struct WaitOrder {
+    ring: Vec<Neighbours>,
+    places: usize,
+}
+
+impl WaitOrder {
+    /// Two empty lists, for so many places.
+    pub(crate) fn new(alloc: Global, places: usize) -> Result<Self, AllocError> {
+        let mut ring = Vec::with_capacity(alloc, places.saturating_add(2))?;
+        for index in 0..places.saturating_add(2) {
+            ring.push(Neighbours {
+                before: index,
+                after: index,
+            })?;
+        }
+        Ok(Self { ring, places })
+    }
+
+    // The number through which the ring of a list goes. `None` if nobody asks for this order.
+    fn list(&self, phase: Phase) -> Option<usize> {
+        match phase {
+            Phase::Idle => Some(self.places),
+            Phase::Head => Some(self.places.wrapping_add(1)),
+            Phase::Transfer => None,
+        }
+    }
+
+    // The neighbours of a place.
+    fn neighbours(&self, index: usize) -> Neighbours {
+        match self.ring.get(index) {
+            Some(neighbours) => *neighbours,
+            None => Neighbours {
+                before: index,
+                after: index,
+            },
+        }
+    }
+
+    // Makes two places neighbours.
+    fn join(&mut self, before: usize, after: usize) {
+        if let Some(neighbours) = self.ring.get_mut(before) {
+            neighbours.after = after;
+        }
+        if let Some(neighbours) = self.ring.get_mut(after) {
+            neighbours.before = before;
+        }
+    }
+
+    /// Takes a place out of its list.
+    pub(crate) fn remove(&mut self, index: usize) {
+        let Neighbours { before, after } = self.neighbours(index);
+        self.join(before, after);
+        self.join(index, index);
+    }
+
+    /// Notes that the connection of a place begins to wait in this phase.
+    pub(crate) fn begin(&mut self, index: usize, phase: Phase) {
+        self.remove(index);
+        if let Some(list) = self.list(phase) {
+            let last = self.neighbours(list).before;
+            self.join(last, index);
+            self.join(index, list);
+        }
+    }
+
+    /// The place that comes after another one, or the first if there is no other one.
+    pub(crate) fn next(&self, phase: Phase, other: Option<usize>) -> Option<usize> {
+        let next = self.neighbours(other.or(self.list(phase))?).after;
+        if next < self.places { Some(next) } else { None }
+    }
+}
+
+#[cfg(test)]
+mod tests {
+    use super::WaitOrder;
+    use crate::place::Phase;
+    use std::test::Fail;
+
+    // The first places of a list, each as one digit of a number.
+    fn digits(order: &WaitOrder, phase: Phase) -> u64 {
+        let mut digits: u64 = 0;
+        let mut last = None;
+        for _ in 0..8 {
+            last = order.next(phase, last);
+            let Some(index) = last else {
+                break;
+            };
+            digits = digits.wrapping_mul(10).wrapping_add(index as u64);
+        }
+        digits
+    }
+
+    #[test]
+    fn who_waits_longest_comes_first(rt: HostRuntime) -> Result<(), Fail> {
+        let mut order = WaitOrder::new(rt.alloc(), 5)?;
+        assert_eq!(rt; digits(&order, Phase::Idle), 0);
+        for index in [3, 1, 4, 2] {
+            order.begin(index, Phase::Idle);
+        }
+        assert_eq!(rt; digits(&order, Phase::Idle), 3142);
+        order.begin(1, Phase::Idle);
+        order.begin(4, Phase::Head);
+        order.begin(3, Phase::Head);
+        assert_eq!(rt; digits(&order, Phase::Idle), 21);
+        assert_eq!(rt; digits(&order, Phase::Head), 43);
+        order.begin(4, Phase::Transfer);
+        order.remove(2);
+        order.remove(2);
+        assert_eq!(rt; digits(&order, Phase::Idle), 1);
+        assert_eq!(rt; digits(&order, Phase::Head), 3);
+        Ok(())
+    }
+}
