@@ -1,5 +1,5 @@
 //! Workers over a small source: each connection waits twice and is given again, and the fault of one ends it alone.
-ghost use Rattle.std.specs.Prelude.{◌≡◌, ⊤};
+ghost use Rattle.std.specs.Prelude.{⊤};
 
 use http_front::{Clock, End, FrontFault, Link, Over, Service, Source, work};
 use stamp_types::{Code, Moment, Refusal, Reply, Request, Rule};
@@ -122,8 +122,6 @@ impl<'a, R: Wait> Source for Two<'a, R> {
     type Clock = Start;
 
     type Service = Refuses;
-
-    ghost gives = { λ source fresh first start room. room ≡ 16 };
 
     fn next(&self) -> Option<(Link<Script, Nowhere, Start, Refuses>, usize)> {
         let link = self.known.lock(self.rt).ready.pop_front()?;

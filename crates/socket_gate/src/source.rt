@@ -40,8 +40,6 @@ impl<'a, R: Wait, C: Clock, K: front::Clock + Drop + Send, S: Service + Drop + S
 
     type Service = S;
 
-    ghost gives = { λ gate fresh first start room. ⊤ };
-
     /// Waits for a connection that has something to do. Of a connection that ended, what its peer still sends is read meanwhile.
     fn next(&self) -> Option<(SocketLink<'a, K, S>, usize)> {
         for _ in self.rt.forever() {
