@@ -1,5 +1,5 @@
 -- What one more entry leaves, and how a request is served.
-use Rattle.std.proofs.Common.{◌≡◌, ◌+◌, ℕ, List, [], ◌∷◌, ◌++◌, Result, Ok, Err, IfOk, OnOk, length, length-append, map, ap, sym, ◌∙◌}
+use Rattle.std.proofs.Common.{◌≡◌, ◌+◌, ℕ, List, [], ◌∷◌, ◌++◌, Result, Ok, Err, IfOk, MatchResult, OnOk, length, length-append, map, ap, sym, subst, ◌∙◌}
 use Rattle.std.proofs.lemmas.List.{map-append}
 use Rattle.std.proofs.lemmas.List.Sums.{fold-append}
 use Rattle.std.specs.FinMap as finite
@@ -9,17 +9,44 @@ use Rattle.stamp_types.specs.Requests.{Asked}
 use Rattle.stamp_types.specs.World.{World}
 use Rattle.access_rules.specs.declared.keys.Keys.{Keys}
 use Rattle.stamp_model.specs.Runs.{Timed, timed, world_after_one, world_after_all, reply_to_one}
-use Rattle.account_service.specs.Services.{held_after}
-use Rattle.account_lock.specs.Histories.{Entered, entered, judged, world_left, left_after, IsServed}
+use Rattle.core_run.specs.Cores.{CoreState, StandsFor}
+use Rattle.core_run.specs.States as states
+use Rattle.core_run.specs.States.{State, reply_in}
+use Rattle.account_lock.specs.Histories.{Entered, entered, judged, world_left, state_left, IsServed}
+use Rattle.account_lock.specs.Services.{AnswersAsMachine, opening_of, served_in_turn}
+use Rattle.account_lock.proofs.ServiceLemmas.{left_from, of_opening, reply_of}
 
 -- what a front part and the entries after it leave
 pub world_left-append : (keys : Keys) (front rest : List Entered) → world_left keys (front ++ rest) ≡ world_after_all (world_left keys front) (map (judged keys) rest)
 world_left-append keys front rest =
     ap (λ (rs : List Timed). world_after_all finite.empty rs) (map-append (judged keys) front rest) ∙ fold-append world_after_one finite.empty (map (judged keys) front) (map (judged keys) rest)
 
--- after one more entry, the stamp holds what the request makes of what it held
-pub left_more : (keys : Keys) (history : List Entered) (q : Asked) (t : ℕ) → left_after keys (history ++ entered q t ∷ []) ≡ held_after (left_after keys history) q t
-left_more keys history q t = ap (λ (w : World (List ℕ)). record { keys = keys; world = w }) (world_left-append keys history (entered q t ∷ []))
+-- after one more entry, the state is the one after the request was served
+state_left-more : (keys : Keys) (history : List Entered) (q : Asked) (t : ℕ) → state_left keys (history ++ entered q t ∷ []) ≡ states.served (state_left keys history) q t
+state_left-more keys history q t =
+    ap (λ (rs : List Timed). served_in_turn (opening_of keys) rs) (map-append (judged keys) history (entered q t ∷ []))
+    ∙ fold-append (λ (s : State) (r : Timed). states.served s r.request r.moment) (opening_of keys) (map (judged keys) history) (timed keys q t ∷ [])
+
+-- in the state after the entries, the machine's reply is the model's at the containers that the entries leave
+reply_left : (keys : Keys) (history : List Entered) (q : Asked) (t : ℕ) → reply_in (state_left keys history) q t ≡ reply_to_one (world_left keys history) (timed keys q t)
+reply_left keys history q t =
+    let left = left_from keys (opening_of keys) history (of_opening keys) in
+    reply_of keys (state_left keys history) q t left.0 ∙ ap (λ (w : World (List ℕ)). reply_to_one w (timed keys q t)) left.1
+
+-- a core that stands for the state after the entries answers as the model, and stands for the state after one more entry
+pub answered_left : {E : Type 0} (keys : Keys) (c c' : CoreState) (q : Asked) (t : ℕ) (result : Result Reply E) → IfOk result (λ reply. AnswersAsMachine c q t reply c')
+    → (history : List Entered) → StandsFor c (state_left keys history)
+    → IfOk result (λ reply. (reply ≡ reply_to_one (world_left keys history) (timed keys q t)) × StandsFor c' (state_left keys (history ++ entered q t ∷ [])))
+answered_left keys c c' q t (Ok reply) answers history stands =
+    let now = answers (state_left keys history) stands in
+    (now.0 ∙ reply_left keys history q t, subst (λ (s : State). StandsFor c' s) (sym (state_left-more keys history q t)) now.1)
+answered_left keys c c' q t (Err fault) answers history stands = tt
+
+-- what a lock has is a core that stands for the state after its history, if it has a core
+pub stands_now : {F : Type 0} (keys : Keys) (r : Result CoreState F) (core : CoreState) (front history : List Entered) (Q : F → Type 0)
+    → MatchResult r (λ c. StandsFor c (state_left keys front)) Q → r ≡ Ok core → front ≡ history → StandsFor core (state_left keys history)
+stands_now {F} keys r core front history Q holds is same =
+    subst (λ (l : List Entered). StandsFor core (state_left keys l)) same (subst (λ (x : Result CoreState F). MatchResult x (λ c. StandsFor c (state_left keys front)) Q) is holds)
 
 -- one more entry makes the history longer by one
 pub length_more : (history : List Entered) (q : Asked) (t : ℕ) → length (history ++ entered q t ∷ []) ≡ length history + 1

@@ -2,4 +2,5 @@ pub mod Adding
 pub mod ConnectionLemmas
 pub mod Fronts
 pub mod HistoryLemmas
+pub mod ServiceLemmas
 pub mod WriteLemmas

@@ -7,7 +7,8 @@ use Rattle.stamp_types.specs.Requests.{Asked}
 use Rattle.stamp_types.specs.World.{World}
 use Rattle.access_rules.specs.declared.keys.Keys.{Keys}
 use Rattle.stamp_model.specs.Runs.{Timed, timed, world_after_all, reply_to_one}
-use Rattle.account_service.specs.Services.{Held}
+use Rattle.core_run.specs.States.{State}
+use Rattle.account_lock.specs.Services.{opening_of, served_in_turn}
 
 -- a request, and the moment at which it is answered
 pub record Entered : Type 0 where
@@ -26,9 +27,9 @@ judged keys e = timed keys e.request e.moment
 abbrev pub world_left : Keys → List Entered → World (List ℕ)
 world_left keys history = world_after_all finite.empty (map (judged keys) history)
 
--- what the stamp holds after the entries
-abbrev pub left_after : Keys → List Entered → Held
-left_after keys history = record { keys = keys; world = world_left keys history }
+-- the state of the machine after the entries, from that of a new stamp
+abbrev pub state_left : Keys → List Entered → State
+state_left keys history = served_in_turn (opening_of keys) (map (judged keys) history)
 
 -- what a connection knows: a beginning of the history, and how many entries of the history are its own
 pub record Known : Type 0 where

@@ -1,6 +1,7 @@
 //! The service of one account for any number of connections: one lock, and one history for all of them.
 #![tactic(auto)]
 
+mod core_service;
 mod entry;
 mod history;
 mod laws;
@@ -8,6 +9,7 @@ mod lock;
 #[cfg(test)]
 mod lock_tests;
 
+pub use core_service::CoreService;
 pub use history::{Account, Front, NewHistory};
 pub use laws::{
     a_connection_reads_its_own_writes, each_connection_reads_one_history, two_connections_agree,

@@ -1,18 +1,20 @@
-//! One lock for the rows of an account, and its connections.
-ghost use Rattle.std.specs.Prelude.{◌≡◌, [], ◌∷◌, ◌+◌, ◌++◌, ◌<◌, ◌≤◌, ◌^◌, IfOk, OnErr, OnOk, length};
+//! One lock for the core of an account, and its connections.
+ghost use Rattle.std.specs.Prelude.{◌≡◌, List, [], ◌∷◌, ◌+◌, ◌++◌, ◌<◌, ◌≤◌, ◌^◌, IfOk, OnErr, OnOk, length};
 ghost use mathlib.Core.List.{IsPrefix};
 ghost use Rattle.range_rows.specs.Readings.{reading_of};
 ghost use Rattle.stamp_model.specs.Runs.{timed, reply_to_one};
-ghost use Rattle.account_service.specs.HeldRows.{held_of};
-ghost use Rattle.account_service.specs.Services.{empty_held};
-ghost use Rattle.account_lock.specs.Histories.{entered, left_after, world_left};
+ghost use Rattle.core_run.specs.Cores.{StandsFor};
+ghost use Rattle.account_lock.specs.Histories.{Entered, entered, state_left, world_left};
+ghost use Rattle.account_lock.specs.Services.{opening_of};
 
+use crate::core_service::core_of;
 use crate::history::{Account, EntryCount, Front, NewHistory};
 use access_rules::Keys;
-use account_service::Plain;
 use http_front::Service;
 use policy_book::{Judged, judge};
 use range_rows::Reading;
+use slot_state::ProvedHistories;
+use stamp_core::Core;
 use stamp_types::{Moment, Reply, Request};
 use std::alloc::{AllocError, Global};
 use std::marker::Model;
@@ -22,42 +24,63 @@ use std::sync::{Arc, Mutex, Wait};
 /// The most entries of a history. A server that answers a million requests a second reaches it after 70,000 years.
 const MOST: u64 = 1 << 61;
 
-/// What the lock has: the rows, how far the history has come, and how many entries all connections made. Contracts see it as the
+/// What the lock has: the core, how far the history has come, and how many entries all connections made. Contracts see it as the
 /// history.
 #[derive(Drop)]
 struct Locked<A: Account> {
-    // The service, or else a front that is longer than the front of the lock: then an entry came that the rows do not have. No
+    // The core, or else a front that is longer than the front of the lock: then an entry came that the core does not have. No
     // thread makes such an entry, though no clause says so.
-    plain: Result<Plain, Front<A>>,
+    core: Result<Core<ProvedHistories>, Front<A>>,
     front: Front<A>,
     made: Book<A>,
 }
 
 impl<A: Account> Model for Locked<A> {
     ghost use Rattle.std.specs.Prelude.{◌≡◌, List, MatchResult, length};
-    ghost use Rattle.account_service.specs.HeldRows.{held_of};
+    ghost use Rattle.core_run.specs.Cores.{StandsFor};
     ghost use Rattle.account_lock.specs.Growth.{IsLonger};
-    ghost use Rattle.account_lock.specs.Histories.{Entered, left_after};
+    ghost use Rattle.account_lock.specs.Histories.{Entered, state_left};
 
     ghost Value = { List Entered };
 
     ghost view = { λ l. l.front };
 
-    // The rows hold what the history leaves, from a new stamp, and each entry was made by a connection.
-    ghost invariant = { λ l. MatchResult l.plain (λ plain. held_of plain ≡ left_after A.keys l.front)
+    // The core stands for the state that the history leaves, from a new stamp, and each entry was made by a connection.
+    ghost invariant = { λ l. MatchResult l.core (λ core. StandsFor core (state_left A.keys l.front))
         (λ longer. IsLonger l.front longer)
         × (l.made.total ≡ length l.front) };
 }
 
+// Answers by a core that stands for what a history leaves. The reply is the model's there, and the core then stands for what the history
+// with one more entry leaves.
+fn answer_by<A: Account>(
+    core: &mut Core<ProvedHistories>,
+    alloc: Global,
+    request: &Request,
+    judged: &Judged,
+    reading: Reading,
+    moment: Moment,
+) -> Result<Reply, AllocError>
+    requires judged { judged.now.ask ≡ request.now.ask }
+    requires read { reading ≡ reading_of request.now }
+    ensures answered { (history : List Entered) → StandsFor core.old (state_left A.keys history)
+        → IfOk result (λ reply.
+        (reply ≡ reply_to_one (world_left A.keys history) (timed A.keys request.now moment))
+        × StandsFor core.new (state_left A.keys (history ++ entered request.now moment ∷ []))) }
+    ensures unchanged { OnErr result (core.new ≡ core.old) }
+{
+    core.answer(alloc, request, Some(judged), reading, moment)
+}
+
 impl<A: Account> Locked<A> {
-    fn new(plain: Plain, front: Front<A>, made: Book<A>) -> Locked<A>
-        requires rows { held_of plain ≡ empty_held A.keys }
+    fn new(core: Core<ProvedHistories>, front: Front<A>, made: Book<A>) -> Locked<A>
+        requires core { StandsFor core (opening_of A.keys) }
         requires history { front ≡ [] }
         requires made { made.total ≡ 0 }
         ensures { result ≡ [] }
     {
         Locked {
-            plain: Ok(plain),
+            core: Ok(core),
             front,
             made,
         }
@@ -81,7 +104,7 @@ impl<A: Account> Locked<A> {
     // the caller knows the whole history, and its share counts one entry more. If memory runs out, there is no entry and no change.
     // An entry that the lock does not know has the same answer: the connection ends, and so does each connection that sends a
     // request after it.
-    #[tactic(auto, using(crate::proofs::HistoryLemmas::left_more, crate::proofs::HistoryLemmas::length_more))]
+    #[tactic(auto, using(crate::proofs::HistoryLemmas::length_more))]
     fn answer(
         &mut self,
         alloc: Global,
@@ -107,14 +130,14 @@ impl<A: Account> Locked<A> {
         ensures parts { share.new.parts ≡ share.old.parts }
     {
         let mut front = self.whole(known)?;
-        let Ok(plain) = &mut self.plain else {
+        let Ok(core) = &mut self.core else {
             return Err(AllocError);
         };
-        let reply = plain.answer_read(alloc, request, Some(judged), reading, moment)?;
+        let reply = answer_by::<A>(core, alloc, request, judged, reading, moment)?;
         if !front.add(count, &mut self.made, share, request, moment) {
-            // The rows have a change that the history does not have, so nothing is answered by them again.
+            // The core has a change that the history does not have, so nothing is answered by it again.
             drop(reply);
-            self.plain = Err(front);
+            self.core = Err(front);
             return Err(AllocError);
         }
         *known = front.again();
@@ -123,7 +146,7 @@ impl<A: Account> Locked<A> {
     }
 }
 
-/// The lock of one account: its rows, and its history of requests. The pair of keys is also outside of the lock, so that connections
+/// The lock of one account: its core, and its history of requests. The pair of keys is also outside of the lock, so that connections
 /// judge signatures without it.
 #[derive(Drop)]
 pub struct AccountLock<A: Account> {
@@ -133,26 +156,28 @@ pub struct AccountLock<A: Account> {
 }
 
 impl<A: Account> AccountLock<A> {
-    /// The lock of the keys' account, which has no containers, with a history without entries, and all shares of the history in one.
+    /// The lock of the account of this first pair of keys, which has no containers, with a history without entries, and all shares of the
+    /// history in one.
     ///
-    /// `AllocError` if memory runs out for the allocation that shares the keys.
+    /// `AllocError` if memory runs out for the core or for the allocation that shares the keys.
     pub fn new(
         alloc: Global,
         keys: Keys,
         history: NewHistory,
     ) -> Result<(AccountLock<A>, Share<A>), AllocError>
         requires keys { keys ≡ A.keys }
+        requires first { keys.epoch ≡ 0 }
         requires history { history.seen.book ≡ A.history }
         requires shares { (history.shares.name ≡ A.name) × (history.shares.parts ≡ A.parts) }
         ensures share { IfOk result (λ made. (made.1.parts ≡ A.parts) × (made.1.amount ≡ 0)) }
     {
+        let core = core_of(alloc, &keys)?;
         let keys = Arc::new(alloc, keys)?;
-        let plain = Plain::new(alloc, keys.clone()?);
         let (count, front, made, share) = history.of::<A>();
         let lock = AccountLock {
             keys,
             count,
-            locked: Mutex::new(Locked::new(plain, front, made)),
+            locked: Mutex::new(Locked::new(core, front, made)),
         };
         Ok((lock, share))
     }

@@ -1,12 +1,13 @@
-//! Connections that share one lock. Signatures and sums were made outside of this repository's code.
+//! Connections that share one lock, and a service that has its core to itself. Signatures and sums were made outside of this repository's code.
 ghost use Rattle.std.specs.Prelude.{◌≡◌};
 
+use crate::core_service::CoreService;
 use crate::history::{Account, NewHistory};
 use crate::laws::two_connections_agree;
 use crate::lock::{AccountLock, Connection};
 use access_rules::Keys;
 use hmac_sign::SigningKey;
-use http_front::{Clock, End, run};
+use http_front::{Clock, End, Service, run};
 use stamp_types::{AccountName, Moment, Text};
 use std::alloc::Global;
 use std::marker::Brand;
@@ -49,16 +50,11 @@ impl Clock for Still {
     }
 }
 
-// Sends the input on the connection, and returns all that is written.
-fn sent<A: Account, R: Wait + Abort>(
-    rt: &R,
-    alloc: Global,
-    connection: &mut Connection<'_, A, R>,
-    input: &[u8],
-) -> Vec<u8> {
+// Sends the input to the service, and returns all that is written.
+fn sent<S: Service, R: Abort>(rt: &R, alloc: Global, service: &mut S, input: &[u8]) -> Vec<u8> {
     let moment = Moment::new(NOON).expect(rt, "a moment");
     let mut http = http_front::Connection::new(alloc, input, Vec::new(alloc), 100);
-    let end = run(alloc, &mut http, &mut Still { moment }, connection);
+    let end = run(alloc, &mut http, &mut Still { moment }, service);
     assert!(rt; end == Ok(End::Clean));
     let (_, out) = http.into_parts();
     out
@@ -87,6 +83,7 @@ fn two_share<A: Account + Send + Sync, R: Threads + Wait + Abort + Sync>(
     history: NewHistory,
 )
     requires keys { keys ≡ A.keys }
+    requires first { keys.epoch ≡ 0 }
     requires history { history.seen.book ≡ A.history }
     requires shares { (history.shares.name ≡ A.name) × (history.shares.parts ≡ A.parts) }
     requires four { history.shares.parts ≡ 4 }
@@ -119,16 +116,33 @@ fn key(rt: &impl Abort, alloc: Global, bytes: &[u8]) -> SigningKey {
     SigningKey::new(bytes.to_vec(alloc).expect(rt, "memory"))
 }
 
-#[test]
-fn connections_that_share_a_lock_see_one_history(rt: HostRuntime) {
-    let name = String::from_str(rt.alloc(), "devstoreaccount1").expect(&rt, "memory");
-    let keys = Keys {
+// The account `devstoreaccount1` with the keys `key1` and `key2`.
+fn keys(rt: &impl Abort, alloc: Global) -> Keys
+    ensures { result.epoch ≡ 0 }
+{
+    let name = String::from_str(alloc, "devstoreaccount1").expect(rt, "memory");
+    Keys {
         account: Text::new(name)
             .and_then(AccountName::new)
-            .expect(&rt, "the name of an account"),
-        first: key(&rt, rt.alloc(), b"key1"),
-        second: key(&rt, rt.alloc(), b"key2"),
+            .expect(rt, "the name of an account"),
+        first: key(rt, alloc, b"key1"),
+        second: key(rt, alloc, b"key2"),
         epoch: 0,
-    };
+    }
+}
+
+#[test]
+fn connections_that_share_a_lock_see_one_history(rt: HostRuntime) {
+    let keys = keys(&rt, rt.alloc());
     two_share::<Brand, _>(&rt, rt.alloc(), keys, NewHistory::new(4));
+}
+
+#[test]
+fn a_service_over_a_core_keeps_what_it_creates(rt: HostRuntime) {
+    let keys = keys(&rt, rt.alloc());
+    let mut service = CoreService::new(rt.alloc(), &keys).expect(&rt, "memory");
+    assert!(rt; sent(&rt, rt.alloc(), &mut service, CREATE).starts_with(CREATED));
+    assert!(rt; sent(&rt, rt.alloc(), &mut service, CREATE).starts_with(CONFLICT));
+    assert!(rt; sent(&rt, rt.alloc(), &mut service, PUT).starts_with(CREATED));
+    assert!(rt; sent(&rt, rt.alloc(), &mut service, GET).ends_with(b"\r\n\r\nhello"));
 }

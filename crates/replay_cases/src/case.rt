@@ -1,4 +1,5 @@
 //! A case: what is sent, at which moments, what must come back, and how the connection must end.
+ghost use Rattle.std.specs.Prelude.{◌≡◌};
 
 use access_rules::Keys;
 use http_front::{End, FrontFault};
@@ -23,7 +24,7 @@ pub(crate) struct Case {
     pub(crate) name: String,
     /// The number of the line that begins the case.
     pub(crate) line: usize,
-    /// The account and its keys.
+    /// The account and its first pair of keys.
     pub(crate) keys: Keys,
     /// When the container `pics` is made, if it is made before the case begins.
     pub(crate) made: Option<Made>,
@@ -36,6 +37,7 @@ pub(crate) struct Case {
     pub(crate) piece: Option<usize>,
     /// How the connection must end.
     pub(crate) end: Result<End, FrontFault>,
+    pub(crate) ghost first: { keys.epoch ≡ 0 },
 }
 
 impl Case {
@@ -46,7 +48,9 @@ impl Case {
         line: usize,
         keys: Keys,
         made: Option<Made>,
-    ) -> Self {
+    ) -> Self
+        requires { keys.epoch ≡ 0 }
+    {
         Self {
             name,
             line,

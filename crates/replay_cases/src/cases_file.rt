@@ -1,4 +1,5 @@
 //! Reads a file of cases line by line.
+ghost use Rattle.std.specs.Prelude.{◌≡◌, IfOk};
 
 use crate::case::{Case, Made};
 use crate::line_fault::LineFault;
@@ -28,8 +29,10 @@ struct Setting {
 }
 
 impl Setting {
-    // The account and its keys, if lines gave both.
-    fn keys(&self) -> Result<Keys, LineFault> {
+    // The account and its keys as its first pair, if lines gave both.
+    fn keys(&self) -> Result<Keys, LineFault>
+        ensures { IfOk result (λ keys. keys.epoch ≡ 0) }
+    {
         match (&self.account, &self.keys) {
             (Some(account), Some((first, second))) => {
                 let account = account.clone()?;

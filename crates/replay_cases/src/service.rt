@@ -4,10 +4,9 @@ ghost use Rattle.replay_cases.specs.declared.service.ServiceFault.TheVariants.{N
 
 use crate::case::Case;
 use crate::creation::make_container;
-use account_service::Plain;
+use account_lock::CoreService;
 use stamp_types::Moment;
 use std::alloc::{AllocError, Global};
-use std::sync::Arc;
 use thiserror::Error;
 
 /// Why a case could not begin.
@@ -35,11 +34,8 @@ pub(crate) fn make_service(
     alloc: Global,
     case: &Case,
     first: Moment,
-) -> Result<Plain, ServiceFault> {
-    let Ok(keys) = Arc::new(alloc, case.keys.clone()?) else {
-        return Err(ServiceFault::NoMemory);
-    };
-    let mut service = Plain::new(alloc, keys);
+) -> Result<CoreService, ServiceFault> {
+    let mut service = CoreService::new(alloc, &case.keys)?;
     let Some(moment) = case.made_at(first) else {
         return Ok(service);
     };

@@ -1,5 +1,6 @@
 pub mod Command
 pub mod Ending
+pub mod ReplayStates
 pub mod Replays
 pub mod Runs
 pub mod Serving

@@ -1,6 +1,9 @@
 //! `stamp replay`: one connection over a whole input, answered at one moment.
 ghost use Rattle.std.specs.Prelude.{◌≡◌, ◌≢◌, ◌⊎◌, Err, IfSome, IsTrue};
 ghost use Rattle.std.specs.Arc.{arc_value};
+ghost use Rattle.access_rules.specs.declared.keys.Keys as pairs;
+ghost use Rattle.core_run.specs.Cores.{StandsFor};
+ghost use Rattle.account_lock.specs.Services.{opening_of};
 ghost use Rattle.http_front.specs.Connections.{IsFresh};
 ghost use Rattle.http_front.specs.Conversations.{LeavesRun};
 ghost use Rattle.http_front.specs.Outcomes.{IsOfWholeInput, UnlessWriteFailed, UnlessWriteOrMemoryFailed};
@@ -11,12 +14,13 @@ ghost use Rattle.stamp_main.specs.Ending.{is_answered};
 ghost use Rattle.stamp_main.specs.Replays.{HasReplayed, HasEndedByWrite, HasEndedOutOfMemory, IsReplay};
 ghost use Rattle.stamp_main.specs.Replays.{ReplaysReceived, ReplaysInput, ReplayEndsByWrite};
 ghost use Rattle.stamp_main.specs.Replays.{ReplayEndsOutOfMemory, replay_line};
+ghost use Rattle.stamp_main.specs.ReplayStates.{ServesByWrite, ServesOutOfMemory, ServesReceived};
 
 use crate::ending::{Ending, status_of};
 use crate::words::read_asked;
 use access_rules::Keys;
-use account_service::Plain;
-use http_front::{Clock, Connection, End, FrontFault, run};
+use account_lock::CoreService;
+use http_front::{Clock, Connection, End, FrontFault, finish, run};
 use stamp_types::Moment;
 use std::alloc::Global;
 use std::io::{Read, Write};
@@ -36,8 +40,48 @@ impl Clock for Still {
     }
 }
 
-/// Serves one connection by an account's keys, as if all of it came at the moment. The account has no containers before it.
-#[tactic(auto, using(crate::proofs::ReplayLemmas::replayed_by, crate::proofs::ReplayLemmas::whole_by, crate::proofs::ReplayLemmas::starved_by))]
+/// Serves one connection by a service without containers, as if all of it came at the moment.
+///
+/// At each end it is known which requests were served, and that they were served in turn: the core of the service stands for the state
+/// that they leave.
+pub(crate) fn replay_by<R: Read, W: Write>(
+    alloc: Global,
+    connection: &mut Connection<R, W>,
+    moment: Moment,
+    service: &mut CoreService,
+) -> Result<End, FrontFault>
+    requires fresh { IsFresh connection.old }
+    // What is written is a function of the bytes that were read, the moment, the account and the keys. The requests that were read were
+    // served.
+    ensures replayed { (keys : pairs.Keys) → StandsFor service.old (opening_of keys)
+        → UnlessWriteOrMemoryFailed result (ServesReceived
+        keys moment connection.old connection.new result service.new) }
+    // If the input ended, between two requests or inside one, or if a reply closed the connection, what is written is the output
+    // for the whole input, however the input was cut into reads.
+    ensures whole { (keys : pairs.Keys) → StandsFor service.old (opening_of keys)
+        → IsOfWholeInput result connection.new.reader.input
+        → IfSome connection.old.reader.left (ReplaysInput
+        keys moment connection.old connection.new result) }
+    // If memory ran out, the items before are answered in full and the last bytes say only that memory ran out. The requests among
+    // these items were served, and one request more at most.
+    ensures starved { (keys : pairs.Keys) → StandsFor service.old (opening_of keys)
+        → result ≡ Err faults.NoMemory
+        → ServesOutOfMemory keys moment connection.old connection.new service.new }
+    // If a write failed, what went out is a beginning of what would have gone out for the requests that were served.
+    ensures broken { (keys : pairs.Keys) → StandsFor service.old (opening_of keys)
+        → result ≡ Err faults.Write
+        → ServesByWrite keys moment connection.old connection.new service.new }
+    // Each end has its cause.
+    ensures left { LeavesRun result connection.new }
+    // What was written is flushed.
+    ensures flushed { UnlessWriteFailed result
+        (connection.new.writer.output ≡ outputs.Flushed) }
+{
+    run(alloc, connection, &mut Still { moment }, service)
+}
+
+/// Serves one connection by the first pair of keys of an account, as if all of it came at the moment. The account has no containers before
+/// it.
 pub(crate) fn replay_on<R: Read, W: Write>(
     alloc: Global,
     connection: &mut Connection<R, W>,
@@ -45,6 +89,7 @@ pub(crate) fn replay_on<R: Read, W: Write>(
     keys: Arc<Keys>,
 ) -> Result<End, FrontFault>
     requires fresh { IsFresh connection.old }
+    requires first { (arc_value keys).epoch ≡ 0 }
     // What is written is a function of the bytes that were read, the moment, the account and the keys.
     ensures replayed { UnlessWriteOrMemoryFailed result (ReplaysReceived
         (arc_value keys) moment connection.old connection.new result) }
@@ -65,8 +110,10 @@ pub(crate) fn replay_on<R: Read, W: Write>(
     ensures flushed { UnlessWriteFailed result
         (connection.new.writer.output ≡ outputs.Flushed) }
 {
-    let mut service = Plain::new(alloc, keys);
-    run(alloc, connection, &mut Still { moment }, &mut service)
+    match CoreService::new(alloc, &keys) {
+        Ok(mut service) => replay_by(alloc, connection, moment, &mut service),
+        Err(_) => finish(connection, Err(FrontFault::NoMemory)),
+    }
 }
 
 /// Carries out `stamp replay MOMENT ACCOUNT KEY1 KEY2`: answers the whole input as one connection, at the moment and by the keys

@@ -86,13 +86,14 @@ fn listening(alloc: Global, address: &str) -> Result<String, AllocError>
     Ok(line)
 }
 
-// Serves by these workers and keys, until the listener fails for good.
+// Serves by these workers and keys, the first pair of the account, until the listener fails for good.
 fn serve_all<R: Net + Threads + Wait + Clock + Sync>(
     rt: &R,
     alloc: Global,
     listener: &TcpListener,
     served: Served<'_>,
 ) -> Ending
+    requires { served.keys.epoch ≡ 0 }
     ensures { (result ≡ ListenerFault) ⊎ (result ≡ NoMemory) }
 {
     let history = NewHistory::new(u64::MAX);

@@ -1,6 +1,6 @@
 //! Both ends of connections in one process, on a port that the system gives. A client gives up after ten seconds, so each test ends by itself.
 //! Signatures, sums and replies were made outside of this repository's code.
-ghost use Rattle.std.specs.Prelude.{◌≡◌, ◌≤◌};
+ghost use Rattle.std.specs.Prelude.{◌≡◌, ◌≤◌, IfOk};
 
 use crate::machine::Machine;
 use crate::sockets::serve_on;
@@ -158,7 +158,9 @@ fn play<R: Net<Stream = TcpStream>>(
 }
 
 // The account `devstoreaccount1` with the keys `key1` and `key2`.
-fn keys(alloc: Global) -> Result<Keys, AllocError> {
+fn keys(alloc: Global) -> Result<Keys, AllocError>
+    ensures { IfOk result (λ keys. keys.epoch ≡ 0) }
+{
     let served = read_served(alloc, "", "1", "devstoreaccount1", "a2V5MQ==", "a2V5Mg==");
     let Served { keys, .. } = served.map_err(|_| AllocError)?;
     Ok(keys)
@@ -191,13 +193,14 @@ fn both_ends<
     requires shares { (history.shares.name ≡ A.name) × (history.shares.parts ≡ A.parts) }
     requires one_each { connections ≤ history.shares.parts }
     requires keys { keys ≡ A.keys }
+    requires first { keys.epoch ≡ 0 }
 {
     let listener = TcpListener::bind(rt, "127.0.0.1:0")?;
     let address = listener.local_addr()?;
     let (served, played) = thread::join(
         rt,
         || -> bool
-            requires { (history.seen.book ≡ A.history) × (keys ≡ A.keys)
+            requires { (history.seen.book ≡ A.history) × (keys ≡ A.keys) × (keys.epoch ≡ 0)
                 × (history.shares.name ≡ A.name) × (history.shares.parts ≡ A.parts)
                 × (connections ≤ history.shares.parts) }
         {

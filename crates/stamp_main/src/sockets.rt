@@ -41,6 +41,7 @@ pub(crate) fn serve_on<A: Account + Send + Sync, R: Net + Threads + Wait + Sync,
     requires shares { (history.shares.name ≡ A.name) × (history.shares.parts ≡ A.parts) }
     requires one_each { connections ≤ history.shares.parts }
     requires keys { keys ≡ A.keys }
+    requires first { keys.epoch ≡ 0 }
 {
     let (lock, shares) = AccountLock::<A>::new(alloc, keys, history)?;
     let services = AccountServices {

@@ -1,0 +1,48 @@
+-- The machine that has one account and one slot answers as the model by the account's key pair.
+use Rattle.std.proofs.Common.{◌≡◌, ℕ, List, [], ◌∷◌, map, Result, IfOk, refl, ap, subst, ◌∙◌}
+use Rattle.stamp_values.specs.declared.key.Key.{Key}
+use Rattle.stamp_types.specs.declared.reply.Reply.{Reply}
+use Rattle.stamp_types.specs.Requests.{Asked}
+use Rattle.stamp_types.specs.World.{World}
+use Rattle.access_rules.specs.declared.keys.Keys.{Keys}
+use Rattle.partition_map.specs.Spans.{bound_at}
+use Rattle.stamp_model.specs.Runs.{timed, reply_to_one, world_after_all, world_after_one}
+use Rattle.stamp_model.specs.SeenContainers.{routed}
+use Rattle.slot_state.specs.Pairs.{first_pairs}
+use Rattle.core_run.specs.Cores.{CoreState}
+use Rattle.core_run.specs.States.{State, reply_in, served}
+use Rattle.core_run.proofs.AccountLemmas.{one_reply, one_world}
+use Rattle.account_lock.specs.Histories.{Entered, judged}
+use Rattle.account_lock.specs.Services.{AnswersAsMachine, opening_of, served_in_turn}
+
+-- the state has one slot, and this key pair is the only one
+pub record IsOfAccount (keys : Keys) (s : State) : Type 0 where
+  pub pairs : s.pairs ≡ first_pairs (keys ∷ [])
+  pub points : s.points ≡ []
+
+pub of_opening : (keys : Keys) → IsOfAccount keys (opening_of keys)
+of_opening keys = record { pairs = refl; points = refl }
+
+module _ (keys : Keys) (s : State) (q : Asked) (t : ℕ) (of : IsOfAccount keys s) where
+  pub of_served : IsOfAccount keys (served s q t)
+  of_served = record { pairs = of.pairs; points = of.points }
+
+  pub reply_of : reply_in s q t ≡ reply_to_one s.world (timed keys q t)
+  reply_of = one_reply keys s q t of.pairs ∙ ap (λ (points : List Key). reply_to_one s.world (record (timed keys q t) { bound = bound_at points (routed q) })) of.points
+
+  pub world_of : (served s q t).world ≡ world_after_one s.world (timed keys q t)
+  world_of = one_world keys s q t of.pairs
+
+-- after entries in turn, the machine has the containers of the model
+pub left_from : (keys : Keys) (s : State) (history : List Entered) → IsOfAccount keys s
+    → IsOfAccount keys (served_in_turn s (map (judged keys) history))
+    × ((served_in_turn s (map (judged keys) history)).world ≡ world_after_all s.world (map (judged keys) history))
+left_from keys s [] of = (of, refl)
+left_from keys s (e ∷ es) of =
+    let more = left_from keys (served s e.request e.moment) es (of_served keys s e.request e.moment of) in
+    (more.0, more.1 ∙ ap (λ (w : World (List ℕ)). world_after_all w (map (judged keys) es)) (world_of keys s e.request e.moment of))
+
+-- what the core of a service answers, the service answers
+pub answered_as : {E : Type 0} (result : Result Reply E) (core c c' : CoreState) (q : Asked) (t : ℕ) → core ≡ c
+    → IfOk result (λ reply. AnswersAsMachine core q t reply c') → IfOk result (λ reply. AnswersAsMachine c q t reply c')
+answered_as result core c c' q t same answers = subst (λ (x : CoreState). IfOk result (λ reply. AnswersAsMachine x q t reply c')) same answers

@@ -1,0 +1,6 @@
+use Rattle.account_lock.proofs.ServiceLemmas.{answered_as}
+use Rattle.account_lock.proofs.core_service.CoreServiceService.answer.Goals as goal
+
+pub returns-clause-answered : goal.returns-clause-answered
+returns-clause-answered c =
+    answered_as c.answer.result c.self.inside.core c.args.self.now c.answer.new.self c.args.request c.args.moment c.self.view_is c.answer.ensures.answered

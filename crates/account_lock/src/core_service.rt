@@ -1,0 +1,99 @@
+//! The service of one account over a core that nobody shares.
+ghost use Rattle.std.specs.Prelude.{◌≡◌, ◌∷◌, [], IfOk, OnErr};
+ghost use Rattle.slot_state.specs.Pairs.{first_pairs};
+ghost use Rattle.core_run.specs.Cores.{StandsFor, first_core};
+ghost use Rattle.account_lock.specs.Services.{AnswersAsMachine, opening_of};
+
+use access_rules::Keys;
+use http_front::Service;
+use range_rows::Reading;
+use slot_state::{PairsFault, ProvedHistories};
+use stamp_core::Core;
+use stamp_types::{Moment, Reply, Request};
+use std::alloc::{AllocError, Global};
+use std::marker::Model;
+
+// One more owner of each part of the pair.
+fn copy_of(keys: &Keys) -> Result<Keys, AllocError>
+    ensures { IfOk result (λ copy. copy ≡ keys.now) }
+{
+    keys.clone()
+}
+
+/// A core of one slot of all keys, without containers, for the account of this first pair of keys.
+///
+/// `AllocError` if memory runs out.
+pub(crate) fn core_of(alloc: Global, keys: &Keys) -> Result<Core<ProvedHistories>, AllocError>
+    requires { keys.now.epoch ≡ 0 }
+    ensures value { IfOk result (λ core. core ≡ first_core (first_pairs (keys.now ∷ []))) }
+    ensures stands { IfOk result (λ core. StandsFor core (opening_of keys.now)) }
+{
+    let keys = copy_of(keys)?;
+    let mut pairs = Vec::new(alloc);
+    pairs.push(keys)?;
+    match Core::new(alloc, pairs) {
+        Ok(core) => Ok(core),
+        Err(PairsFault::NoMemory) => Err(AllocError),
+        Err(_) => unreachable!(),
+    }
+}
+
+/// The service of one account over a core: each reply is the machine's. One connection after the other may use it.
+///
+/// Contracts see it as the core (`CoreState` of `core_run`).
+#[derive(Drop)]
+pub struct CoreService {
+    core: Core<ProvedHistories>,
+}
+
+impl Model for CoreService {
+    ghost use Rattle.core_run.specs.Cores.{CoreState, core_code};
+
+    ghost Value = { CoreState };
+
+    ghost coded = { core_code };
+
+    ghost view = { λ s. s.core };
+}
+
+impl CoreService {
+    /// The service of the account of this first pair of keys, which has no containers.
+    ///
+    /// `AllocError` if memory runs out.
+    pub fn new(alloc: Global, keys: &Keys) -> Result<Self, AllocError>
+        requires { keys.now.epoch ≡ 0 }
+        ensures value { IfOk result (λ service. service ≡ first_core (first_pairs (keys.now ∷ []))) }
+        ensures stands { IfOk result (λ service. StandsFor service (opening_of keys.now)) }
+    {
+        let core = core_of(alloc, keys)?;
+        Ok(Self { core })
+    }
+}
+
+impl Service for CoreService {
+    ghost use Rattle.core_run.specs.Cores.{CoreState};
+
+    ghost World = { CoreState };
+
+    ghost world = { λ service. service };
+
+    ghost answers = { AnswersAsMachine };
+
+    ghost starves = { λ old new. new ≡ old };
+
+    /// The reply of the machine, and its change.
+    ///
+    /// `AllocError` if memory runs out for the reading of the body, the change or the reply. Then nothing is changed.
+    fn answer(
+        &mut self,
+        alloc: Global,
+        request: Request,
+        moment: Moment,
+    ) -> Result<Reply, AllocError>
+        ensures answered { IfOk result (λ reply. AnswersAsMachine self.old request moment reply self.new) }
+        ensures unchanged { OnErr result (self.new ≡ self.old) }
+    {
+        let reading = Reading::of(alloc, &request)?;
+        self.core.answer(alloc, &request, None, reading, moment)
+    }
+}

@@ -1,2 +1,0 @@
-pub mod HeldRows
-pub mod Services
