@@ -5,4 +5,5 @@ pub mod KeptAsLemmas
 pub mod LawLemmas
 pub mod LoadLemmas
 pub mod LoggingLemmas
+pub mod ReadLemmas
 pub mod TakeLemmas

@@ -9,11 +9,13 @@ use crate::logging::{Unlogged, put_and_log};
 use extent_node::Wire;
 use extent_seal::ReadFault;
 use partition_stream::{Part, Streams};
+use range_rows::Span;
 use row_trees::{Found, Rows};
-use stamp_types::{Change, Key, Piece};
+use stamp_types::{Change, Key, Piece, Reply};
 use std::alloc::{AllocError, Global};
 use std::marker::Model;
 use stream_manager::Settled;
+use tickets::{Answer, Unreachable, make_answer};
 
 /// The rows of a range of keys. Streams keep them, and they are in memory while they are loaded (SOSP 2011, section 5).
 #[derive(Drop)]
@@ -40,25 +42,31 @@ impl Model for StoredRows {
 }
 
 impl StoredRows {
-    ghost use Rattle.std.specs.Prelude.{◌≡◌, ◌≢◌, ◌≤◌, ◌<◌, true, false, is_some, None, Some, Err, IfSome, IfOk, IsErr, IsTrue, MatchOption, OnOk, OnErr, slice_range};
+    ghost use Rattle.std.specs.Prelude.{◌≡◌, ◌≢◌, ◌≤◌, ◌+◌, ◌<◌, ◌^◌, true, false, is_some, All, None, Some, Err, IfSome, IfOk, IsErr, IsTrue, MatchOption, OnOk, OnErr, length, slice_range};
+    ghost use Rattle.std.specs.List.{flat_map, list_all};
     ghost use Rattle.extent_seal.specs.Counting.{Grows, all_faults};
     ghost use Rattle.extent_seal.specs.declared.sealed.ReadFault.TheVariants.{Unreachable};
     ghost use Rattle.stamp_types.specs.ActKinds.{is_row};
     ghost use Rattle.stamp_types.specs.Changes.{content_of};
+    ghost use Rattle.stamp_types.specs.Contents.{EachContent};
     ghost use Rattle.stamp_types.specs.Pieces.{is_held, piece_len, pieces_len};
+    ghost use Rattle.stamp_types.specs.Requests.{Asked};
     ghost use Rattle.stamp_types.specs.World.{no_part, part_value};
     ghost use Rattle.stamp_values.specs.declared.key.Key.{Key};
     ghost use Rattle.row_trees.specs.Fits.{commits, fits};
     ghost use Rattle.stream_manager.specs.Streams.{laid};
-    ghost use Rattle.partition_stream.specs.Contents.{IsStored, bytes_at};
+    ghost use Rattle.partition_stream.specs.Contents.{AreStored, IsStored, bytes_at};
     ghost use Rattle.partition_stream.specs.Parts.{is_piece_in_last};
     ghost use Rattle.partition_stream.specs.Storing.{AreKept};
     ghost use Rattle.partition_stream.specs.Streams.{AreSealed};
+    ghost use Rattle.range_rows.specs.SentContent as sent;
+    ghost use Rattle.range_rows.specs.SentContent.{bytes_sent, is_within, span_bytes, spans_len, with_content};
+    ghost use Rattle.tickets.specs.Answers.{IsAnswer, IsSpanStored, are_in_last};
     ghost use Rattle.stored_rows.specs.Counting.{FailsStored, FailsTake};
     ghost use Rattle.stored_rows.specs.Loaded.{AreRowsOf};
     ghost use Rattle.stored_rows.specs.declared.faults.StoredFault.TheVariants as stored_fault;
     ghost use Rattle.stored_rows.specs.Ranges.{covers};
-    ghost use Rattle.stored_rows.specs.States.{IsHalf, SettlesRows, IsTaken, MeansTheSame, doubt_of, pieces_of};
+    ghost use Rattle.stored_rows.specs.States.{IsHalf, SettlesRows, IsTaken, MeansTheSame, bytes_of, doubt_of, pieces_of};
 
     /// The rows of a range without a container, which are loaded. Takes no memory.
     pub fn new(alloc: Global, extent_bytes: u32, range: KeyRange) -> Self
@@ -104,19 +112,25 @@ impl StoredRows {
         self.rows.as_ref()
     }
 
-    /// Tells the caller what the streams keep: each content of a container is stored in the data. Does nothing.
+    /// Tells the caller what the streams keep: each content of a container is stored in the data, so the sizes of a container are those
+    /// of its bytes. Does nothing.
     pub fn kept(&self)
-        ensures { AreKept self.now.streams }
+        ensures kept { AreKept self.now.streams }
+        ensures stored { (key : Key) → EachContent (AreStored (laid self.now.streams.blobs)) (pieces_of self.now key) }
+        ensures sizes { (key : Key) → part_value pieces_len (pieces_of self.now key) ≡ part_value length (bytes_of self.now key) }
     {
         self.streams.kept();
     }
 
-    /// What the rows have of a container of the range, in pieces.
+    /// What the rows have of a container of the range, in pieces. Each content is stored, so the sizes are those of the bytes.
     pub fn find(&self, key: &Key) -> Found<'_>
         requires loaded { self.now.is_loaded ≡ true }
         requires covered { covers self.now.range key.now ≡ true }
-        ensures { result ≡ pieces_of self.now key.now }
+        ensures pieces { result ≡ pieces_of self.now key.now }
+        ensures stored { EachContent (AreStored (laid self.now.streams.blobs)) (pieces_of self.now key.now) }
+        ensures sizes { part_value pieces_len (pieces_of self.now key.now) ≡ part_value length (bytes_of self.now key.now) }
     {
+        self.kept();
         match &self.rows {
             Some(rows) => rows.find(key),
             None => unreachable!(),
@@ -160,6 +174,33 @@ impl StoredRows {
         ensures grown { Grows (W.faults wire.old) (W.faults wire.new) }
     {
         self.streams.part(piece, start, end, wire)
+    }
+
+    /// What a request is answered: the frame with the content of the spans after its body. No byte is copied.
+    ///
+    /// It is Done if each span is in the last extent of the data: its bytes are read now. If the spans are those of a request's reply, the
+    /// content is what the container of the request sends as it is in bytes. Unreachable: every node was asked for a block of the last
+    /// extent, and answered no.
+    pub fn answer<W: Wire>(
+        &mut self,
+        frame: Reply,
+        spans: &[Span],
+        wire: &mut W,
+    ) -> Result<Answer, Unreachable>
+        requires stored { All (IsSpanStored (laid self.old.streams.blobs)) spans.now }
+        requires within { IsTrue (list_all is_within spans.now) }
+        requires short { length frame.body + spans_len spans.now < 2 ^ 64 }
+        ensures read { IfOk result (λ a. IsAnswer a (are_in_last self.old.streams.blobs spans.now)
+            (with_content frame (flat_map (span_bytes (bytes_at (laid self.old.streams.blobs))) spans.now))) }
+        ensures sent { (q : Asked) → spans.now ≡ sent.spans (pieces_of self.old q.ask.key) q
+            → IfOk result (λ a. IsAnswer a (are_in_last self.old.streams.blobs spans.now)
+            (with_content frame (bytes_sent (bytes_of self.old q.ask.key) q))) }
+        ensures same { self.new ≡ self.old }
+        ensures unreachable { OnErr result (all_faults (W.faults wire.old) < all_faults (W.faults wire.new)) }
+        ensures grown { Grows (W.faults wire.old) (W.faults wire.new) }
+    {
+        self.streams.kept();
+        make_answer(self.alloc, &mut self.streams, frame, spans, wire)
     }
 
     /// Puts the content of a change into the data, logs the change with its epoch, and then makes it in the rows that are loaded. No byte is
