@@ -5,5 +5,6 @@ pub mod KeptAsLemmas
 pub mod LawLemmas
 pub mod LoadLemmas
 pub mod LoggingLemmas
+pub mod NotedLemmas
 pub mod ReadLemmas
 pub mod TakeLemmas

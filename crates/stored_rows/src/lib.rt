@@ -7,6 +7,7 @@ mod key_range;
 mod laws;
 mod loading;
 mod logging;
+mod noting;
 mod stored_rows;
 
 pub use faults::{Ended, StoredFault, TakeFault};

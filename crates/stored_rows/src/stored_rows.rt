@@ -4,8 +4,9 @@ ghost use Rattle.std.specs.Prelude.{◌≡◌};
 use crate::cutting::share_upper;
 use crate::faults::{Ended, StoredFault, TakeFault};
 use crate::key_range::KeyRange;
-use crate::loading::{follow, follow_doubt, rows_of};
-use crate::logging::{Unlogged, put_and_log};
+use crate::loading::{follow_doubt, rows_of};
+use crate::logging::put_and_log;
+use crate::noting::note;
 use extent_node::Wire;
 use extent_seal::ReadFault;
 use partition_stream::{Part, Streams};
@@ -222,18 +223,8 @@ impl StoredRows {
         ensures taken { IsTaken result self.old (change, epoch) self.new }
         ensures counted { FailsTake result (W.faults wire.old) (W.faults wire.new) }
     {
-        match put_and_log(&mut self.streams, change, epoch, wire) {
-            Ok(kept) => {
-                follow(self.alloc, &mut self.rows, kept);
-                Ok(())
-            }
-            Err(Unlogged::Doubt(kept)) => {
-                self.doubt = Some(kept);
-                Err(TakeFault::Doubt)
-            }
-            Err(Unlogged::Busy) => Err(TakeFault::Busy),
-            Err(Unlogged::NoMemory) => Err(TakeFault::NoMemory),
-        }
+        let logged = put_and_log(&mut self.streams, change, epoch, wire);
+        note(self.alloc, &mut self.rows, &mut self.doubt, logged)
     }
 
     /// Makes the rows of the changes that the streams keep, if they are not loaded.
