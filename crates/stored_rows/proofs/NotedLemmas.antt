@@ -14,7 +14,7 @@ use Rattle.stored_rows.specs.Counting.{FailsLogged, FailsTake}
 use Rattle.stored_rows.specs.Fitting.{Fits}
 use Rattle.stored_rows.specs.Loaded.{AreLoaded, AreRowsOf}
 use Rattle.stored_rows.specs.Logging.{IsPutAndLogged}
-use Rattle.stored_rows.specs.Noting.{IsNoted, taken_by}
+use Rattle.stored_rows.specs.Noting.{IsKeptBeside, taken_by}
 use Rattle.stored_rows.specs.Ranges.{covers}
 use Rattle.stored_rows.specs.States.{IsTaken}
 use Rattle.stored_rows.specs.declared.key_range.KeyRange.{KeyRange}
@@ -31,7 +31,7 @@ logged_fits (Err e) s t c range covered own h v rows = tt
 
 -- what is true of all stored rows is true of them after a take
 pub noted_loaded : (r : Result KeyedAct Unlogged) (s t : ThreeStreams) (c : Recorded) (range : KeyRange) → covers range c.0.key ≡ true → Fits (held_of (logged s) c.0.key) c.0.act
-    → IsPutAndLogged r s c t → (v w : Option (World (List Piece))) (d e : Option KeyedAct) → (logged s).doubt ≡ None → AreLoaded s v d range → IsNoted r v w d e → AreLoaded t w e range
+    → IsPutAndLogged r s c t → (v w : Option (World (List Piece))) (d e : Option KeyedAct) → (logged s).doubt ≡ None → AreLoaded s v d range → IsKeptBeside r v w d e → AreLoaded t w e range
 noted_loaded (Ok k) s t c range covered own h v w d e none old f =
     subst (λ o. AreLoaded t w o range) (sym f.1) (taken_loaded s t c k range h covered own v w d none old f.0)
 noted_loaded (Err (fault.Doubt k)) s t c range covered own h v w d e none old f =
@@ -43,7 +43,7 @@ noted_loaded (Err fault.NoMemory) s t c range covered own h v w d e none old f =
 
 -- what a take does
 pub noted_taken : (r : Result KeyedAct Unlogged) (s t : ThreeStreams) (c : Recorded) (range : KeyRange) → AreKept s → IsPutAndLogged r s c t → (v w : Option (World (List Piece))) (d e : Option KeyedAct)
-    → IsNoted r v w d e → IsTaken (taken_by r) (record { streams = s; range = range; is_loaded = is_some v }) c (record { streams = t; range = range; is_loaded = is_some w })
+    → IsKeptBeside r v w d e → IsTaken (taken_by r) (record { streams = s; range = range; is_loaded = is_some v }) c (record { streams = t; range = range; is_loaded = is_some w })
 noted_taken (Ok k) s t c range whole h v w d e f = taken_changed s t c k range (is_some v) (is_some w) (not_loaded v w k f.0) whole h
 noted_taken (Err (fault.Doubt k)) s t c range whole h v w d e f =
     subst (λ (o : Option (World (List Piece))). IsTaken (Err take.Doubt) (record { streams = s; range = range; is_loaded = is_some v }) c (record { streams = t; range = range; is_loaded = is_some o }))

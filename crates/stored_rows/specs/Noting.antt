@@ -17,8 +17,8 @@ taken_by (Err fault.Busy) = Err take.Busy
 taken_by (Err fault.NoMemory) = Err take.NoMemory
 
 -- rows that are loaded have the change that was logged; the change that is in doubt is kept beside the streams
-abbrev pub IsNoted : Result KeyedAct Unlogged → Option (World (List Piece)) → Option (World (List Piece)) → Option KeyedAct → Option KeyedAct → Type 0
-IsNoted (Ok c) v w d e = IsFollowed v c w × (e ≡ d)
-IsNoted (Err (fault.Doubt c)) v w d e = (w ≡ v) × (e ≡ Some c)
-IsNoted (Err fault.Busy) v w d e = (w ≡ v) × (e ≡ d)
-IsNoted (Err fault.NoMemory) v w d e = (w ≡ v) × (e ≡ d)
+abbrev pub IsKeptBeside : Result KeyedAct Unlogged → Option (World (List Piece)) → Option (World (List Piece)) → Option KeyedAct → Option KeyedAct → Type 0
+IsKeptBeside (Ok c) v w d e = IsFollowed v c w × (e ≡ d)
+IsKeptBeside (Err (fault.Doubt c)) v w d e = (w ≡ v) × (e ≡ Some c)
+IsKeptBeside (Err fault.Busy) v w d e = (w ≡ v) × (e ≡ d)
+IsKeptBeside (Err fault.NoMemory) v w d e = (w ≡ v) × (e ≡ d)

@@ -3,7 +3,7 @@ ghost use Rattle.std.specs.Prelude.{◌≡◌, IfOk, IfSome, IsTrue, Some};
 ghost use Rattle.stamp_types.specs.Pieces.{pieces_len};
 ghost use Rattle.stamp_types.specs.World.{part_at, part_value};
 ghost use Rattle.row_trees.specs.Fits.{fits};
-ghost use Rattle.stored_rows.specs.Noting.{IsNoted, taken_by};
+ghost use Rattle.stored_rows.specs.Noting.{IsKeptBeside, taken_by};
 
 use crate::faults::TakeFault;
 use crate::loading::follow;
@@ -28,7 +28,7 @@ pub(crate) fn note(
 ) -> Result<(), TakeFault>
     requires { IfOk logged (λ c. IfSome rows.old (λ w. IsTrue (fits (part_value pieces_len (part_at w c.key)) c.act))) }
     ensures answer { result ≡ taken_by logged }
-    ensures noted { IsNoted logged rows.old rows.new doubt.old doubt.new }
+    ensures noted { IsKeptBeside logged rows.old rows.new doubt.old doubt.new }
 {
     match logged {
         Ok(kept) => {
