@@ -24,6 +24,7 @@ fn make(alloc: Global, rows: &mut Rows, range: &KeyRange, change: Change) -> Res
     ensures reached { result ≢ Err Unreachable }
 {
     if !range.covers(change.key()) {
+        drop(change);
         return Ok(());
     }
     match rows.take(alloc, change) {

@@ -46,7 +46,7 @@ impl StoredRows {
     ghost use Rattle.std.specs.Prelude.{◌≡◌, ◌≢◌, ◌≤◌, ◌+◌, ◌<◌, ◌^◌, true, false, is_some, All, None, Some, Err, IfSome, IfOk, IsErr, IsTrue, MatchOption, OnOk, OnErr, length, slice_range};
     ghost use Rattle.std.specs.List.{flat_map, list_all};
     ghost use Rattle.extent_seal.specs.Counting.{Grows, all_faults};
-    ghost use Rattle.extent_seal.specs.declared.sealed.ReadFault.TheVariants.{Unreachable};
+    ghost use Rattle.extent_seal.specs.declared.sealed.ReadFault.TheVariants as read_fault;
     ghost use Rattle.stamp_types.specs.ActKinds.{is_row};
     ghost use Rattle.stamp_types.specs.Changes.{content_of};
     ghost use Rattle.stamp_types.specs.Contents.{EachContent};
@@ -171,7 +171,7 @@ impl StoredRows {
         ensures read { IfOk result (λ p. p.is_read ≡ is_piece_in_last self.old.streams.blobs piece.now) }
         ensures same { self.new ≡ self.old }
         ensures unheard { is_piece_in_last self.old.streams.blobs piece.now ≡ false → wire.new ≡ wire.old }
-        ensures unreachable { result ≡ Err Unreachable → all_faults (W.faults wire.old) < all_faults (W.faults wire.new) }
+        ensures unreachable { result ≡ Err read_fault.Unreachable → all_faults (W.faults wire.old) < all_faults (W.faults wire.new) }
         ensures grown { Grows (W.faults wire.old) (W.faults wire.new) }
     {
         self.streams.part(piece, start, end, wire)
