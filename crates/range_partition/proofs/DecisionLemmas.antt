@@ -1,8 +1,9 @@
 -- What is decided on a request.
-use Rattle.std.proofs.Common.{◌≡◌, ◌≤◌, ◌<◌, ◌⊎◌, inl, inr, ℕ, ◌-◌, arith, false, List, [], ◌∷◌, ◌++◌, length, length-append, take, drop, Option, Some, None, refl, sym, ap, ◌∙◌, subst}
+use Rattle.std.proofs.Common.{◌≡◌, ◌≤◌, ◌<◌, ◌⊎◌, inl, inr, ℕ, ◌+◌, ◌-◌, arith, false, List, [], ◌∷◌, ◌++◌, length, length-append, take, drop, Option, Some, None, refl, sym, ap, ◌∙◌, subst}
 use Rattle.std.proofs.lemmas.List.{append-nil, length-take}
 use Rattle.std.proofs.lemmas.List.Sums.{sum_by-cons}
 use Rattle.std.specs.Prelude.{Result, Ok, Err, IfOk}
+use Rattle.std.specs.List.{list_all}
 use Rattle.std.specs.Option.{option_map, option_or}
 use Rattle.std.specs.declared.alloc.AllocError.{AllocError}
 use Rattle.stamp_values.specs.Operations.{writes}
@@ -26,6 +27,7 @@ use Rattle.access_rules.specs.declared.keys.Keys.{Keys}
 use Rattle.access_rules.specs.Rules.{first_rule, verdict_by, verdict_of, way_of}
 use Rattle.block_blobs.specs.declared.found_blocks.FoundBlocks.{FoundBlocks}
 use Rattle.row_trees.specs.Access.{acl_of}
+use Rattle.range_rows.specs.declared.answer.Answer.{Answer}
 use Rattle.range_rows.specs.declared.answer.Span.{Span}
 use Rattle.row_trees.specs.FoundParts.{sizes_found}
 use Rattle.range_rows.specs.Judgements.{IsAllowed, blocks_found}
@@ -34,16 +36,19 @@ use Rattle.range_rows.specs.declared.judged.Allowed.{Allowed}
 use Rattle.range_rows.specs.declared.target.Target.{Target}
 use Rattle.range_rows.specs.Frames.{blob_read, frame, frame_by, ranged_frame, standing_read}
 use Rattle.range_rows.specs.Replaced.{Replaced}
-use Rattle.range_rows.specs.SentContent.{span_bytes, spans, spans_by, spans_len}
+use Rattle.range_rows.specs.SentContent.{is_within, span_bytes, spans, spans_by, spans_len, with_content}
+use Rattle.list_pages.specs.ListReplies.{blob_list_reply, container_list_reply}
 use Rattle.range_rows.specs.ObjectRules.{object_refusal}
 use Rattle.range_rows.specs.RequestChanges.{change_of}
 use Rattle.range_rows.proofs.FrameLemmas.{act_by-read}
 use Rattle.stamp_model.specs.Refusals.{access_refusal}
 use Rattle.stamp_model.proofs.EffectLemmas.{on_key}
 use Rattle.stamp_model.proofs.ReplyLemmas.{unrefused}
-use Rattle.range_partition.specs.Decisions.{bytes_held, decided_by, found_refusal, row_reply}
+use Rattle.range_partition.specs.Decisions.{CanBeSent, bytes_held, decided_by, decision_of, found_refusal, framed_by, framed_of, reply_read, row_answer, row_answer_by, row_reply, row_reply_by, with_bytes_held}
 use Rattle.range_partition.specs.declared.decision.Decision.{Decision}
 use Rattle.range_partition.specs.declared.decision.Decision.TheVariants as decision
+use Rattle.range_partition.specs.declared.framed.FramedDecision.{FramedDecision}
+use Rattle.range_partition.specs.declared.framed.FramedDecision.TheVariants as framed
 
 -- ---- the verdict
 
@@ -96,27 +101,69 @@ allowed_with None reply given change made found blocks e = (refl, ap reply_told 
     found_told (decision.Refused r) = found
 allowed_with (Some x) reply given change made found blocks e = cc
 
+-- a request that is decided to be refused before its content is read has this refusal
+pub framed_refused : (o : Option Refusal) (answer : Answer) (change : Option KeyedAct) (found : FoundBlocks) (r : Refusal) → framed.Refused r ≡ framed_by o answer change found → o ≡ Some r
+framed_refused None answer change found r e = cc
+framed_refused (Some x) answer change found r e = let same : x ≡ r = cc in ap Some same
+
+-- nothing refuses a request that is decided to be allowed, and it has this answer, this change and these blocks
+pub framed_allowed : (o : Option Refusal) (answer given : Answer) (change made : Option KeyedAct) (found blocks : FoundBlocks)
+    → framed.Allowed given made blocks ≡ framed_by o answer change found → (o ≡ None) × ((given ≡ answer) × ((made ≡ change) × (blocks ≡ found)))
+framed_allowed None answer given change made found blocks e = (refl, (ap answer_told e, (ap change_told e, ap found_told e)))
+  where
+    answer_told : FramedDecision → Answer
+    answer_told (framed.Allowed r c bs) = r
+    answer_told (framed.Refused r) = answer
+
+    change_told : FramedDecision → Option KeyedAct
+    change_told (framed.Allowed r c bs) = c
+    change_told (framed.Refused r) = None
+
+    found_told : FramedDecision → FoundBlocks
+    found_told (framed.Allowed r c bs) = bs
+    found_told (framed.Refused r) = found
+framed_allowed (Some x) answer given change made found blocks e = cc
+
 module _ (w : World (List Piece)) (q : Asked) (t : ℕ) (bound : Option Key) where
   -- what is decided on a permitted request, from its container
-  abbrev permitted : Part (List Piece) → Decision
-  permitted p = decided_by (object_refusal (sizes_found p) q) (row_reply w p q t bound) (change_of (sizes_found p) q t) (blocks_found p q).blocks
+  abbrev permitted : Part (List Piece) → FramedDecision
+  permitted p = framed_by (object_refusal (sizes_found p) q) (row_answer w p q t bound) (change_of (sizes_found p) q t) (blocks_found p q).blocks
 
   -- a request that the object refuses is refused by this
-  pub object_refused : (p : Part (List Piece)) (r : Refusal) → Some r ≡ object_refusal (sizes_found p) q → decision.Refused r ≡ permitted p
-  object_refused p r is = ap (λ o. decided_by o (row_reply w p q t bound) (change_of (sizes_found p) q t) (blocks_found p q).blocks) is
+  pub object_refused : (p : Part (List Piece)) (r : Refusal) → Some r ≡ object_refusal (sizes_found p) q → framed.Refused r ≡ permitted p
+  object_refused p r is = ap (λ o. framed_by o (row_answer w p q t bound) (change_of (sizes_found p) q t) (blocks_found p q).blocks) is
 
-  -- a request that nothing refuses has its reply, its change and its blocks
+  -- a request that nothing refuses has its answer, its change and its blocks
   allowed_decided : (a : Allowed) (target : Target) → IsAllowed a q → a.target ≡ target
-      → decision.Allowed (row_reply w a.target.container q t bound) (change_of (sizes_found a.target.container) q t) a.found.blocks ≡ permitted target.container
+      → framed.Allowed (row_answer w a.target.container q t bound) (change_of (sizes_found a.target.container) q t) a.found.blocks ≡ permitted target.container
   allowed_decided a target is same =
-      (λ i. decided_by (sym is.1 i) (row_reply w a.target.container q t bound) (change_of (sizes_found a.target.container) q t) (is.2 i).blocks)
+      (λ i. framed_by (sym is.1 i) (row_answer w a.target.container q t bound) (change_of (sizes_found a.target.container) q t) (is.2 i).blocks)
       ∙ ap (λ (target : Target). permitted target.container) same
 
-  pub given_allowed : (a : Allowed) (target : Target) (given : Result Decision AllocError) → IsAllowed a q → a.target ≡ target
-      → IfOk given (λ given. given ≡ decision.Allowed (row_reply w a.target.container q t bound) (change_of (sizes_found a.target.container) q t) a.found.blocks)
+  pub given_allowed : (a : Allowed) (target : Target) (given : Result FramedDecision AllocError) → IsAllowed a q → a.target ≡ target
+      → IfOk given (λ given. given ≡ framed.Allowed (row_answer w a.target.container q t bound) (change_of (sizes_found a.target.container) q t) a.found.blocks)
       → IfOk given (λ given. given ≡ permitted target.container)
   given_allowed a target (Ok given) is same made = made ∙ allowed_decided a target is same
   given_allowed a target (Err fault) is same made = tt
+
+  -- ---- the same with content that is held in memory
+
+  with_nothing : (r : Reply) → with_content r [] ≡ r
+  with_nothing r = λ i. record r { body = append-nil r.body i }
+
+  held_by : (o : Op) (p : Part (List Piece)) → reply_read piece_bytes (row_answer_by o w p q t bound) ≡ row_reply_by o w p q t bound
+  held_by op.ListContainers p = with_nothing (container_list_reply w q bound)
+  held_by op.ListBlobs p = with_nothing (blob_list_reply (sizes_found p) q)
+  held_by o p = refl
+
+  held_if : (o : Option Refusal) (p : Part (List Piece)) (change : Option KeyedAct) (found : FoundBlocks)
+      → with_bytes_held (framed_by o (row_answer w p q t bound) change found) ≡ decided_by o (row_reply w p q t bound) change found
+  held_if None p change found = ap (λ (r : Reply). decision.Allowed r change found) (held_by q.ask.op p)
+  held_if (Some r) p change found = refl
+
+  -- the decision is what is decided on the frame, with the bytes of the content
+  pub decided_held : (keys : Option Keys) (p : Part (List Piece)) → with_bytes_held (framed_of keys w p q t bound) ≡ decision_of keys w p q t bound
+  decided_held keys p = held_if (found_refusal keys p q t) p (change_of (sizes_found p) q t) (blocks_found p q).blocks
 
 -- ---- memory
 
@@ -151,16 +198,19 @@ one_body v op.GetAcl q s c b range d = inr refl
 one_body v op.GetBlockList q s c b range d = inr refl
 one_body v other q s c b range d = inl refl
 
-fits_by : (body : List ℕ) (ss : List Span) → (body ≡ []) ⊎ (ss ≡ []) → length body < 18446744073709551616 → spans_len ss ≤ 268435456
-    → length (body ++ bytes_held ss) < 18446744073709551616
-fits_by body ss (inl none) held short =
-    subst (λ (bs : List ℕ). length (bs ++ bytes_held ss) < 18446744073709551616) (sym none) (omega (arith, length-bytes_held ss, short))
-fits_by body ss (inr none) held short =
-    subst (λ (ss : List Span). length (body ++ bytes_held ss) < 18446744073709551616) (sym none) (subst (λ (bs : List ℕ). length bs < 18446744073709551616) (sym (append-nil body)) held)
+none_len : spans_len [] ≡ 0
+none_len = refl
 
--- a reply with its content fits in memory
+fits_by : (body : List ℕ) (ss : List Span) → (body ≡ []) ⊎ (ss ≡ []) → length body < 18446744073709551616 → spans_len ss ≤ 268435456
+    → length body + spans_len ss < 18446744073709551616
+fits_by body ss (inl none) held short =
+    subst (λ (bs : List ℕ). length bs + spans_len ss < 18446744073709551616) (sym none) (omega (arith, short))
+fits_by body ss (inr none) held short =
+    subst (λ (ss : List Span). length body + spans_len ss < 18446744073709551616) (sym none) (omega (arith, held, none_len))
+
+-- a frame and its spans fit in memory
 pub fits_memory : (v : Replaced) (r : Reply) (p : Part ℕ) (d : Part (List Piece)) (q : Asked) (ss : List Span) (n : ℕ) → r ≡ frame v p q → ss ≡ spans d q
-    → n ≡ length r.body → n < 18446744073709551616 → spans_len ss ≤ 268435456 → length (r.body ++ bytes_held ss) < 18446744073709551616
+    → n ≡ length r.body → n < 18446744073709551616 → spans_len ss ≤ 268435456 → length r.body + spans_len ss < 18446744073709551616
 fits_memory v r p d q ss n is out counted held short =
     fits_by r.body ss
     (subst (λ (r : Reply). (r.body ≡ []) ⊎ (ss ≡ [])) (sym is)
@@ -168,6 +218,17 @@ fits_memory v r p d q ss n is out counted held short =
     (one_body v q.ask.op q (standing_read p) (blob_read p q.ask) (target_blob p q.ask) q.ask.args.range (blob_read d q.ask))))
     (subst (λ n. n < 18446744073709551616) counted held)
     short
+
+-- an answer without content fits
+pub sent_whole : (a : Answer) (n : ℕ) → a.spans ≡ [] → n ≡ length a.frame.body → n < 18446744073709551616 → CanBeSent a
+sent_whole a n none counted held = record {
+  within = ap (list_all is_within) none;
+  short = omega (arith, counted, held, ap spans_len none, none_len);
+}
+
+-- the bytes of the spans fit in memory after the body of the frame
+pub short_held : (a : Answer) → CanBeSent a → length (a.frame.body ++ bytes_held a.spans) < 18446744073709551616
+short_held a sent = omega (arith, sent.short, length-bytes_held a.spans, length-append a.frame.body (bytes_held a.spans))
 
 -- ---- the change
 

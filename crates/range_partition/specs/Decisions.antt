@@ -1,7 +1,7 @@
 -- What is decided on a request, from what rows find of its container (Blob service REST reference, 2012-02-12, the page of each
 -- operation).
-use Rattle.std.specs.Prelude.{ℕ, List, Option, Some, None}
-use Rattle.std.specs.List.{flat_map}
+use Rattle.std.specs.Prelude.{◌+◌, ◌<◌, ◌^◌, ⊤, ℕ, IsTrue, List, [], length, Option, Some, None}
+use Rattle.std.specs.List.{flat_map, list_all}
 use Rattle.stamp_values.specs.declared.key.Key.{Key}
 use Rattle.stamp_values.specs.declared.op.Op.{Op}
 use Rattle.stamp_values.specs.declared.op.Op.TheVariants as op
@@ -15,10 +15,11 @@ use Rattle.stamp_types.specs.World.{Part, World}
 use Rattle.access_rules.specs.declared.keys.Keys.{Keys}
 use Rattle.block_blobs.specs.declared.found_blocks.FoundBlocks.{FoundBlocks}
 use Rattle.row_trees.specs.FoundParts.{sizes_found}
+use Rattle.range_rows.specs.declared.answer.Answer.{Answer}
 use Rattle.range_rows.specs.declared.answer.Span.{Span}
 use Rattle.range_rows.specs.FoundParts.{pieces_found_after, sizes_found_after}
 use Rattle.range_rows.specs.Frames.{frame}
-use Rattle.range_rows.specs.SentContent.{span_bytes, spans, with_content}
+use Rattle.range_rows.specs.SentContent.{is_within, span_bytes, spans, spans_len, with_content}
 use Rattle.range_rows.specs.RequestChanges.{change_of}
 use Rattle.range_rows.specs.Judgements.{blocks_found}
 use Rattle.list_pages.specs.ListReplies.{blob_list_reply, container_list_reply}
@@ -26,6 +27,8 @@ use Rattle.stamp_model.specs.Overrides.{overrides_of}
 use Rattle.stamp_model.specs.Refusals.{refusal}
 use Rattle.range_partition.specs.declared.decision.Decision.{Decision}
 use Rattle.range_partition.specs.declared.decision.Decision.TheVariants as decision
+use Rattle.range_partition.specs.declared.framed.FramedDecision.{FramedDecision}
+use Rattle.range_partition.specs.declared.framed.FramedDecision.TheVariants as framed
 
 -- the bytes of spans whose pieces are held in memory
 abbrev pub bytes_held : List Span → List ℕ
@@ -58,3 +61,49 @@ decided_by None reply change found = decision.Allowed reply change found
 abbrev pub decision_of : Option Keys → World (List Piece) → Part (List Piece) → Asked → ℕ → Option Key → Decision
 decision_of keys w p q t bound =
     decided_by (found_refusal keys p q t) (row_reply w p q t bound) (change_of (sizes_found p) q t) (blocks_found p q).blocks
+
+-- ---- replies whose content is not read yet
+
+-- the answer to a request from its container: the frame with the headers that the request overrides, and the spans of the content that goes
+-- out after the body of the frame
+abbrev pub found_answer : Part (List Piece) → Asked → ℕ → Answer
+found_answer p q t = record { frame = frame (overrides_of q.ask) (sizes_found_after p q t) q; spans = spans (pieces_found_after p q t) q }
+
+-- the answer to a request of the operation that nothing refuses, from all rows, its container, and the bound of a list of containers
+abbrev pub row_answer_by : Op → World (List Piece) → Part (List Piece) → Asked → ℕ → Option Key → Answer
+row_answer_by op.ListContainers w p q t bound = record { frame = container_list_reply w q bound; spans = [] }
+row_answer_by op.ListBlobs w p q t bound = record { frame = blob_list_reply (sizes_found p) q; spans = [] }
+row_answer_by _ w p q t bound = found_answer p q t
+
+-- the answer to a request that nothing refuses, from all rows, its container, and the bound of a list of containers
+abbrev pub row_answer : World (List Piece) → Part (List Piece) → Asked → ℕ → Option Key → Answer
+row_answer w p q t bound = row_answer_by q.ask.op w p q t bound
+
+-- the reply of an answer, if pieces are read in this way
+abbrev pub reply_read : (Piece → List ℕ) → Answer → Reply
+reply_read read a = with_content a.frame (flat_map (span_bytes read) a.spans)
+
+-- each span lies within its piece, and the spans fit into memory after the body of the frame
+pub record CanBeSent (a : Answer) : Type 0 where
+  pub within : IsTrue (list_all is_within a.spans)
+  pub short : length a.frame.body + spans_len a.spans < 2 ^ 64
+
+-- a request is refused, or else these are its answer, its change and the blocks that were found for it
+abbrev pub framed_by : Option Refusal → Answer → Option KeyedAct → FoundBlocks → FramedDecision
+framed_by (Some r) answer change found = framed.Refused r
+framed_by None answer change found = framed.Allowed answer change found
+
+-- what is decided on a request before its content is read, from the same as a decision
+abbrev pub framed_of : Option Keys → World (List Piece) → Part (List Piece) → Asked → ℕ → Option Key → FramedDecision
+framed_of keys w p q t bound =
+    framed_by (found_refusal keys p q t) (row_answer w p q t bound) (change_of (sizes_found p) q t) (blocks_found p q).blocks
+
+-- the answer of a request that is not refused can be sent
+abbrev pub AnswerCanBeSent : FramedDecision → Type 0
+AnswerCanBeSent (framed.Refused r) = ⊤
+AnswerCanBeSent (framed.Allowed answer change found) = CanBeSent answer
+
+-- the decision whose reply has the bytes of its content, which is in memory
+abbrev pub with_bytes_held : FramedDecision → Decision
+with_bytes_held (framed.Refused r) = decision.Refused r
+with_bytes_held (framed.Allowed answer change found) = decision.Allowed (reply_read piece_bytes answer) change found

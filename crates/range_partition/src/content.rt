@@ -1,8 +1,9 @@
 //! The content that a reply sends.
 ghost use Rattle.std.specs.Prelude.{◌≡◌, ◌+◌, ◌^◌, ◌<◌, ◌++◌, IfOk, IsTrue, OnOk, length};
 ghost use Rattle.std.specs.List.{list_all};
-ghost use Rattle.range_rows.specs.SentContent.{is_within, with_content};
-ghost use Rattle.range_partition.specs.Decisions.{bytes_held};
+ghost use Rattle.stamp_types.specs.Pieces.{piece_bytes};
+ghost use Rattle.range_rows.specs.SentContent.{is_within};
+ghost use Rattle.range_partition.specs.Decisions.{CanBeSent, bytes_held, reply_read};
 
 use range_rows::{Answer, Span};
 use stamp_types::{Piece, Reply, Shares};
@@ -28,11 +29,10 @@ fn push_spans(body: &mut Shares, spans: &[Span]) -> Result<(), AllocError>
 /// The reply of an answer: its frame with the bytes of its spans, which are held in memory.
 ///
 /// `AllocError` if memory runs out for the list of shares, or if an allocation can have no further owner.
+#[tactic(auto, using(crate::proofs::DecisionLemmas::short_held))]
 pub(crate) fn reply_with_content(answer: Answer) -> Result<Reply, AllocError>
-    requires within { IsTrue (list_all is_within answer.spans) }
-    requires short { length (answer.frame.body ++ bytes_held answer.spans) < 2 ^ 64 }
-    ensures { IfOk result (λ reply.
-        reply ≡ with_content answer.frame (bytes_held answer.spans)) }
+    requires { CanBeSent answer }
+    ensures { IfOk result (λ reply. reply ≡ reply_read piece_bytes answer) }
 {
     let Answer { frame, spans } = answer;
     let mut reply = frame;

@@ -3,6 +3,8 @@
 
 mod content;
 mod decision;
+mod framed;
 mod overrides;
 
 pub use decision::{Decision, decide};
+pub use framed::{FramedDecision, decide_frame};

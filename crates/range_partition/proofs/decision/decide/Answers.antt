@@ -1,26 +1,12 @@
-use Rattle.std.proofs.Common.{◌≡◌, Option, rules, ap, ◌∙◌, subst}
-use Rattle.std.specs.Prelude.{IfOk}
+use Rattle.std.proofs.Common.{◌≡◌, IfOk, ap, ◌∙◌, subst}
 use Rattle.std.specs.Option.{option_copied}
-use Rattle.stamp_types.specs.declared.refusal.Refusal.{Refusal}
-use Rattle.row_trees.specs.FoundParts.{sizes_found}
-use Rattle.range_rows.specs.Judgements.{blocks_found}
-use Rattle.range_rows.specs.RequestChanges.{change_of}
-use Rattle.range_partition.specs.Decisions.{decided_by, row_reply}
-use Rattle.range_partition.proofs.DecisionLemmas.{refusal_allowed, refusal_denied}
+use Rattle.range_partition.specs.Decisions.{with_bytes_held}
+use Rattle.range_partition.specs.declared.decision.Decision.{Decision}
+use Rattle.range_partition.proofs.DecisionLemmas.{decided_held}
 use Rattle.range_partition.proofs.decision.decide.Goals as goal
 
-pub returns-in-Deny : goal.returns-in-Deny
-returns-in-Deny c =
-    let p = c.args.target.container in
-    let q = c.args.request.now in
-    let t = c.args.moment in
-    let denied = refusal_denied (option_copied c.args.keys) p q t c.in-Deny.rule (search rules) in
-    search rules ∙ ap (λ o. decided_by o (row_reply c.args.rows.now p q t (option_copied c.args.bound)) (change_of (sizes_found p) q t) (blocks_found p q).blocks) denied
-
-pub returns-in-Allow : goal.returns-in-Allow
-returns-in-Allow c =
-    let p = c.args.target.container in
-    let q = c.args.request.now in
-    let t = c.args.moment in
-    let allowed = refusal_allowed (option_copied c.args.keys) p q t c.in-Allow._way (search rules) in
-    subst (λ (o : Option Refusal). IfOk c.permitted.result (λ given. given ≡ decided_by o (row_reply c.args.rows.now p q t (option_copied c.args.bound)) (change_of (sizes_found p) q t) (blocks_found p q).blocks)) allowed c.permitted.ensures
+pub returns : goal.returns
+returns c =
+    let bound = option_copied c.args.bound in
+    let is = ap with_bytes_held c.in_ok-framed.ensures.decided ∙ decided_held c.args.rows.now c.args.request.now c.args.moment bound (option_copied c.args.keys) c.args.target.container in
+    subst (λ (d : Decision). IfOk c.with_bytes.result (λ decision. decision ≡ d)) is c.with_bytes.ensures

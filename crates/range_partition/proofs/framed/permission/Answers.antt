@@ -1,8 +1,8 @@
-use Rattle.std.proofs.Common.{Option, Some, ap, ◌∙◌}
+use Rattle.std.proofs.Common.{Option, ap, ◌∙◌}
 use Rattle.std.specs.Option.{option_copied}
 use Rattle.stamp_values.specs.declared.acl.Acl.{Acl}
 use Rattle.access_rules.specs.Rules.{verdict_of}
-use Rattle.range_partition.proofs.decision.permission.Goals as goal
+use Rattle.range_partition.proofs.framed.permission.Goals as goal
 
 pub returns : goal.returns
 returns c =

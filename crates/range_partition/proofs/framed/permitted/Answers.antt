@@ -4,17 +4,17 @@ use Rattle.range_rows.specs.Judgements.{judgement}
 use Rattle.range_rows.specs.declared.judged.Judged.TheVariants as judged
 use Rattle.range_rows.proofs.JudgementLemmas.{refusal_of_judgement}
 use Rattle.range_partition.proofs.DecisionLemmas.{given_allowed, object_refused}
-use Rattle.range_partition.proofs.decision.permitted.Goals as goal
+use Rattle.range_partition.proofs.framed.permitted.Goals as goal
 
-pub returns-in-Refused : goal.returns-in-Refused
-returns-in-Refused c =
+pub returns-in-Refused-clause-decided : goal.returns-in-Refused-clause-decided
+returns-in-Refused-clause-decided c =
     let t = c.args.target in
     let q = c.args.request.now in
     let is : judged.Refused c.in-Refused.refusal ≡ judgement t q = search rules in
     object_refused c.args.rows.now q c.args.moment (option_copied c.args.bound) t.container c.in-Refused.refusal (refusal_of_judgement t q (judged.Refused c.in-Refused.refusal) is)
 
-pub returns-in-Allowed : goal.returns-in-Allowed
-returns-in-Allowed c =
+pub returns-in-Allowed-clause-decided : goal.returns-in-Allowed-clause-decided
+returns-in-Allowed-clause-decided c =
     let t = c.args.target in
     let q = c.args.request.now in
-    given_allowed c.args.rows.now q c.args.moment (option_copied c.args.bound) c.in-Allowed.allowed t c.answered.result (search rules) (search rules) c.answered.ensures
+    given_allowed c.args.rows.now q c.args.moment (option_copied c.args.bound) c.in-Allowed.allowed t c.answered.result (search rules) (search rules) c.answered.ensures.given
