@@ -45,6 +45,7 @@ impl Model for StoredRows {
 impl StoredRows {
     ghost use Rattle.std.specs.Prelude.{◌≡◌, ◌≢◌, ◌≤◌, ◌+◌, ◌<◌, ◌^◌, true, false, is_some, All, None, Some, Err, IfSome, IfOk, IsErr, IsTrue, MatchOption, OnOk, OnErr, length, slice_range};
     ghost use Rattle.std.specs.List.{flat_map, list_all};
+    ghost use Rattle.std.specs.Option.{option_copied};
     ghost use Rattle.extent_seal.specs.Counting.{Grows, all_faults};
     ghost use Rattle.extent_seal.specs.declared.sealed.ReadFault.TheVariants as read_fault;
     ghost use Rattle.stamp_types.specs.ActKinds.{is_row};
@@ -97,6 +98,13 @@ impl StoredRows {
         ensures { result ≡ covers self.now.range key.now }
     {
         self.range.covers(key)
+    }
+
+    /// The first key past the range, if there is one.
+    pub fn end(&self) -> Option<&Key>
+        ensures { option_copied result ≡ self.now.range.to }
+    {
+        self.range.to.as_ref()
     }
 
     /// Whether a change is in doubt.
@@ -260,6 +268,7 @@ impl StoredRows {
     /// If the rows find no memory for it they are dropped, and the change is counted. After a fault the doubt is as it was.
     pub fn settle<W: Wire>(&mut self, wire: &mut W) -> Result<Ended, StoredFault>
         ensures settled { SettlesRows result self.old self.new }
+        ensures data { self.new.streams.blobs ≡ self.old.streams.blobs }
         ensures counted { FailsStored result (W.faults wire.old) (W.faults wire.new) }
     {
         self.streams.kept();
