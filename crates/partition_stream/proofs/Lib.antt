@@ -9,4 +9,5 @@ pub mod LogLemmas
 pub mod MeaningLemmas
 pub mod OneMoreLemmas
 pub mod PositionLemmas
+pub mod RepairLemmas
 pub mod StreamLemmas

@@ -6,6 +6,7 @@ pub mod Meanings
 pub mod Outcomes
 pub mod Parts
 pub mod Positions
+pub mod Repairs
 pub mod Storing
 pub mod Streams
 pub mod Written

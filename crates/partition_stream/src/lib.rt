@@ -8,6 +8,7 @@ mod laws;
 mod logging;
 mod part;
 mod position;
+mod repair;
 mod streams;
 
 pub use faults::{LogFault, PutFault};
@@ -19,4 +20,5 @@ pub use laws::{
 };
 pub use part::Part;
 pub use position::Position;
+pub use repair::StreamName;
 pub use streams::Streams;

@@ -21,9 +21,9 @@ use stream_manager::{SettleFault, Settled, Stream};
 #[derive(Drop)]
 pub struct Streams {
     alloc: Global,
-    log: Stream,
-    blobs: Stream,
-    rows: Stream,
+    pub(crate) log: Stream,
+    pub(crate) blobs: Stream,
+    pub(crate) rows: Stream,
 }
 
 impl Model for Streams {
