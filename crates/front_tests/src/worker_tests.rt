@@ -114,15 +114,7 @@ struct Two<'a, R: Wait> {
     known: Mutex<Known>,
 }
 
-impl<'a, R: Wait> Source for Two<'a, R> {
-    type Reader = Script;
-
-    type Writer = Nowhere;
-
-    type Clock = Start;
-
-    type Service = Refuses;
-
+impl<'a, R: Wait> Source<Script, Nowhere, Start, Refuses> for Two<'a, R> {
     fn next(&self) -> Option<(Link<Script, Nowhere, Start, Refuses>, usize)> {
         let link = self.known.lock(self.rt).ready.pop_front()?;
         Some((link, ROOM))
@@ -181,7 +173,7 @@ fn counts<R: Wait>(source: &Two<'_, R>) -> (u8, u8, u8) {
 #[test]
 fn one_worker_serves_two_connections_that_wait(rt: HostRuntime) -> Result<(), Fail> {
     let source = two_connections(&rt, rt.alloc())?;
-    work(&rt, rt.alloc(), 1, &source)?;
+    work::<_, Script, Nowhere, Start, Refuses, _>(&rt, rt.alloc(), 1, &source)?;
     assert_eq!(rt; counts(&source), (4, 1, 1));
     Ok(())
 }
@@ -189,7 +181,7 @@ fn one_worker_serves_two_connections_that_wait(rt: HostRuntime) -> Result<(), Fa
 #[test]
 fn more_workers_than_connections_serve_each_once(rt: HostRuntime) -> Result<(), Fail> {
     let source = two_connections(&rt, rt.alloc())?;
-    work(&rt, rt.alloc(), 3, &source)?;
+    work::<_, Script, Nowhere, Start, Refuses, _>(&rt, rt.alloc(), 3, &source)?;
     assert_eq!(rt; counts(&source), (4, 1, 1));
     Ok(())
 }

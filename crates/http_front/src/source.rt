@@ -9,31 +9,16 @@ use std::io::{Read, Write};
 /// A link that comes back can be gone on with, since its type says so. A link that ended comes back as an [`Over`], and all that
 /// [`run`](crate::run) ensures holds of it since it was made.
 ///
-/// The parts of a connection may go to another thread, and need not be droppable. So a worker that knows the source only by this trait
-/// has to give back each connection that it was given.
-pub trait Source {
-    type Reader: Read + Send;
-
-    type Writer: Write + Send;
-
-    type Clock: Clock + Send;
-
-    type Service: Service + Send;
-
+/// The parts of a connection need not be droppable. So a worker that knows the source only by this trait has to give back each
+/// connection that it was given.
+pub trait Source<R: Read, W: Write, C: Clock, S: Service> {
     /// The next connection that has something to do, and how many bytes of a body may have come when it waits. `None` if no more
     /// connections come: each worker that asks then ends.
-    fn next(
-        &self,
-    ) -> Option<
-        (
-            Link<Self::Reader, Self::Writer, Self::Clock, Self::Service>,
-            usize,
-        ),
-    >;
+    fn next(&self) -> Option<(Link<R, W, C, S>, usize)>;
 
     /// Takes back a connection that was gone on with, and waits.
-    fn waits(&self, link: Link<Self::Reader, Self::Writer, Self::Clock, Self::Service>);
+    fn waits(&self, link: Link<R, W, C, S>);
 
     /// Takes back a connection that ended.
-    fn ended(&self, over: Over<Self::Reader, Self::Writer, Self::Clock, Self::Service>);
+    fn ended(&self, over: Over<R, W, C, S>);
 }

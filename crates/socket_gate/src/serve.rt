@@ -7,6 +7,7 @@ use crate::place::{Place, SPAN};
 use crate::poller::{LISTENER, WAKER};
 use crate::ready::ReadyQueue;
 use crate::services::Services;
+use crate::socket::Half;
 use http_front as front;
 use http_front::{Service, work};
 use libc::types::rlimit;
@@ -117,7 +118,7 @@ pub fn serve_listener<
     let (_, worked) = thread::join(
         rt,
         || gate.poll(services, &mut poll, &mut events),
-        || work(rt, alloc, workers, &gate),
+        || work::<R, Half<'_>, Half<'_>, K, S, Gate<'_, R, C, K, S>>(rt, alloc, workers, &gate),
     );
     worked?;
     Ok(())

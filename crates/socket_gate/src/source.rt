@@ -30,16 +30,12 @@ impl<'a, R: Wait, C: Clock, K: front::Clock + Drop, S: Service + Drop> Gate<'a, 
     }
 }
 
-impl<'a, R: Wait, C: Clock, K: front::Clock + Drop + Send, S: Service + Drop + Send> Source
-    for Gate<'a, R, C, K, S> {
-    type Reader = Half<'a>;
-
-    type Writer = Half<'a>;
-
-    type Clock = K;
-
-    type Service = S;
-
+impl<'a, R: Wait, C: Clock, K: front::Clock + Drop, S: Service + Drop> Source<
+    Half<'a>,
+    Half<'a>,
+    K,
+    S,
+> for Gate<'a, R, C, K, S> {
     /// Waits for a connection that has something to do. Of a connection that ended, what its peer still sends is read meanwhile.
     fn next(&self) -> Option<(SocketLink<'a, K, S>, usize)> {
         for _ in self.rt.forever() {
