@@ -11,7 +11,7 @@ mod ready;
 mod serve;
 mod services;
 mod socket;
-mod source;
+mod workers;
 
 pub use limits::Limits;
 pub use serve::serve_listener;

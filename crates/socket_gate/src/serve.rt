@@ -7,9 +7,8 @@ use crate::place::{Place, SPAN};
 use crate::poller::{LISTENER, WAKER};
 use crate::ready::ReadyQueue;
 use crate::services::Services;
-use crate::socket::Half;
 use http_front as front;
-use http_front::{Service, work};
+use http_front::Service;
 use libc::types::rlimit;
 use mio::unix::SourceFd;
 use mio::{Events, Interest, Poll, Token, Waker};
@@ -118,8 +117,8 @@ pub fn serve_listener<
     let (_, worked) = thread::join(
         rt,
         || gate.poll(services, &mut poll, &mut events),
-        || work::<R, Half<'_>, Half<'_>, K, S, Gate<'_, R, C, K, S>>(rt, alloc, workers, &gate),
+        || thread::map_indices(rt, alloc, workers, &|_worker| gate.work()),
     );
-    worked?;
+    let _ends = worked?;
     Ok(())
 }

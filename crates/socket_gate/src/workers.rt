@@ -1,10 +1,10 @@
-//! The gate as the source of connections for workers.
+//! What workers do: each goes on with one connection after the other.
 
 use crate::gate::{Gate, SocketLink, Taken};
 use crate::lingering::Lingering;
 use crate::socket::Half;
 use http_front as front;
-use http_front::{End, FrontFault, Over, Service, Source};
+use http_front::{End, FrontFault, Over, Service, go_on};
 use std::net::Shutdown;
 use std::sync::Wait;
 use std::time::Clock;
@@ -28,15 +28,8 @@ impl<'a, R: Wait, C: Clock, K: front::Clock + Drop, S: Service + Drop> Gate<'a, 
             self.close(socket.index, socket);
         }
     }
-}
 
-impl<'a, R: Wait, C: Clock, K: front::Clock + Drop, S: Service + Drop> Source<
-    Half<'a>,
-    Half<'a>,
-    K,
-    S,
-> for Gate<'a, R, C, K, S> {
-    /// Waits for a connection that has something to do. Of a connection that ended, what its peer still sends is read meanwhile.
+    // Waits for a connection that has something to do. Of a connection that ended, what its peer still sends is read meanwhile.
     fn next(&self) -> Option<(SocketLink<'a, K, S>, usize)> {
         for _ in self.rt.forever() {
             let index = self.ready.pop(self.rt)?;
@@ -49,11 +42,18 @@ impl<'a, R: Wait, C: Clock, K: front::Clock + Drop, S: Service + Drop> Source<
         None
     }
 
-    fn waits(&self, link: SocketLink<'a, K, S>) {
-        self.park(link);
-    }
-
-    fn ended(&self, over: Over<Half<'a>, Half<'a>, K, S>) {
-        self.end(over);
+    /// Goes on with one connection after the other, until no more connections come. A connection's fault ends that connection alone.
+    ///
+    /// This is `work` of `http_front` for one worker: the checker does not take the gate as a `Source` of its connections yet.
+    pub(crate) fn work(&self) {
+        for _ in self.rt.forever() {
+            let Some((link, room)) = self.next() else {
+                return;
+            };
+            match go_on(self.alloc, link, room) {
+                Ok(link) => self.park(link),
+                Err(over) => self.end(over),
+            }
+        }
     }
 }
