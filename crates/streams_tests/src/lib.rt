@@ -35,6 +35,8 @@ mod record_values;
 #[cfg(test)]
 mod record_write_tests;
 #[cfg(test)]
+mod repair_tests;
+#[cfg(test)]
 mod sample_acts;
 #[cfg(test)]
 mod sample_fields;
