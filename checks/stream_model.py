@@ -142,6 +142,20 @@ class Stream:
         """Whether the stream is sealed."""
         return self.is_sealed() or self.close(wire) is not None
 
+    def repair(self, number, node, wire):
+        """Gives a node a copy of a sealed extent, and says how that ended. Other streams that share the extent keep it as it was."""
+        if number >= len(self.sealed):
+            return "missing"
+        extent = self.sealed[number]
+        if node in extent:
+            return "done"
+        blocks, copy = next(iter(extent.values())), []
+        # The first node that answers ends the asks, and the first put that is not done ends the puts.
+        if not any(wire.ask(it) for it in sorted(extent)) or not all(wire.put(node, copy, it) for it in blocks):
+            return "unreachable"
+        self.sealed[number] = {**extent, node: copy}
+        return "done"
+
     def places(self):
         """All places with their blocks, in their order."""
         for number, extent in enumerate(self.sealed):
@@ -244,6 +258,9 @@ class Streams:
                 self.doubt = None
         return "done"
 
+    def repair(self, part, number, node, wire):
+        return getattr(self, part).repair(number, node, wire)
+
     def is_sealed(self):
         return all(it.is_sealed() for it in (self.log, self.blobs, self.rows))
 
@@ -327,6 +344,10 @@ class Run:
         self.wire.begin()
         self.made("seal", [], self.all[self.at].seal(self.wire))
 
+    def repair(self, part, number, node):
+        self.wire.begin()
+        self.made("repair", [part, number, node], self.all[self.at].repair(part, number, node, self.wire))
+
     def share(self):
         self.wire.begin()
         self.all.append(self.all[self.at].share())
@@ -349,11 +370,16 @@ def random_step(run, dice):
     ways = {"put": 8, "log": 8, "settle": 2, "seal": 2, "walk": 2, "blob": 8 * bool(known), "read": 5 * any(map(run.puts.__getitem__, known))}
     ways["share"] = 20 * (streams.is_sealed() and len(run.all) < 4)
     ways["on"] = 2 * (len(run.all) > 1)
+    sealed = [it for it in ("log", "blobs", "rows") if getattr(streams, it).sealed]
+    ways["repair"] = 6 * bool(sealed)
     way = dice.choices([*ways], [*ways.values()])[0]
     if way == "on":
         run.on(dice.randrange(len(run.all)))
     elif way == "put":
         run.put(*(dice.randint(1, 30) for _ in range(dice.randint(0, 4))))
+    elif way == "repair":
+        part = dice.choice(sealed)
+        run.repair(part, dice.randint(0, len(getattr(streams, part).sealed)), dice.randrange(3))
     elif way == "blob":
         run.blob(dice.choice(known))
     elif way == "read":
@@ -399,6 +425,8 @@ def fixed_run(lines, wire):
                 run.on(1)
         run.settle()
         run.log()
+        if round >= 2:
+            run.repair("log", 0, round - 2)
         run.walk()
     while lines.calls < STEPS:
         run.log()
