@@ -47,6 +47,8 @@ mod sample_records;
 #[cfg(test)]
 mod sample_wires;
 #[cfg(test)]
+mod stored_answer_tests;
+#[cfg(test)]
 mod stored_samples;
 #[cfg(test)]
 mod stored_tests;

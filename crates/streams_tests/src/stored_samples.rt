@@ -214,8 +214,8 @@ pub(crate) fn look_in_rows(
     look_in(rt, alloc, &rows.find(&key(rt, alloc, name)))
 }
 
-// The piece of the blob in the container of this name.
-fn piece(rt: &impl Abort, alloc: Global, stored: &StoredRows, name: &str) -> Piece
+/// The piece of the blob in the container of this name.
+pub(crate) fn piece(rt: &impl Abort, alloc: Global, stored: &StoredRows, name: &str) -> Piece
     ensures { IsStored (laid stored.now.streams.blobs) result }
 {
     let key = key(rt, alloc, name);

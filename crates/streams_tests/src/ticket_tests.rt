@@ -14,8 +14,8 @@ use std::alloc::Global;
 use std::process::Abort;
 use tickets::{Answer, Ticket, Unreachable, make_answer};
 
-// A reply whose own body is the bytes 1 and 2.
-fn frame(rt: &impl Abort, alloc: Global) -> Reply
+/// A reply whose own body is the bytes 1 and 2.
+pub(crate) fn frame(rt: &impl Abort, alloc: Global) -> Reply
     ensures { length result.body ≡ 2 }
 {
     let text = vec![in alloc; 1u8, 2].expect(rt, "memory");
@@ -49,15 +49,19 @@ fn answer_of_two(
     }
 }
 
-// Whether the body is the bytes 1 and 2 of the frame and then 8 and 9 of the piece.
-fn is_whole(alloc: Global, rt: &impl Abort, reply: &Reply) -> bool {
+// The body: the bytes 1 and 2 of the frame, and then 8 and 9 of the piece.
+const WHOLE: [u8; 4] = [1, 2, 8, 9];
+
+/// Whether these bytes are the body of the reply.
+pub(crate) fn has_body(rt: &impl Abort, alloc: Global, reply: &Reply, wanted: &[u8]) -> bool {
     let body = reply.body.joined(alloc).expect(rt, "memory");
-    body.as_slice() == &[1u8, 2, 8, 9][..]
+    body.as_slice() == wanted
 }
 
-fn is_done(rt: &impl Abort, alloc: Global, answer: Answer) -> bool {
+/// Whether the answer is a reply whose body is these bytes.
+pub(crate) fn is_done(rt: &impl Abort, alloc: Global, answer: Answer, wanted: &[u8]) -> bool {
     match answer {
-        Answer::Done(reply) => is_whole(alloc, rt, &reply),
+        Answer::Done(reply) => has_body(rt, alloc, &reply, wanted),
         Answer::Later(_) => false,
         Answer::NoMemory => false,
     }
@@ -70,7 +74,8 @@ fn content_of_the_last_extent_goes_out_now(rt: HostRuntime) {
     let mut wire = script(&rt, rt.alloc(), &[], &[]);
     let answer = answer_of_two(&rt, rt.alloc(), &mut *streams, &placed, &mut wire);
     assert!(rt; wire.called().len() == 1);
-    assert!(rt; is_done(&rt, rt.alloc(), answer.ok().expect(&rt, "a node answers")));
+    let answer = answer.ok().expect(&rt, "a node answers");
+    assert!(rt; is_done(&rt, rt.alloc(), answer, &WHOLE));
 }
 
 #[test]
@@ -83,7 +88,8 @@ fn content_that_no_node_gives_is_no_lack_of_memory(rt: HostRuntime) {
     assert!(rt; answer.is_err());
 }
 
-fn later(rt: &impl Abort, answer: Answer) -> Ticket {
+/// The ticket of an answer that is given later.
+pub(crate) fn later(rt: &impl Abort, answer: Answer) -> Ticket {
     match answer {
         Answer::Later(ticket) => ticket,
         Answer::Done(_) => panic!(rt; "some content is sealed"),
@@ -98,7 +104,7 @@ fn fetch_twice(rt: &impl Abort, alloc: Global, ticket: Ticket, wire: &mut Script
             assert!(rt; matches!(fault, ReadFault::Unreachable));
             match ticket.fetch(wire) {
                 Ok(reply) => {
-                    assert!(rt; is_whole(alloc, rt, &reply));
+                    assert!(rt; has_body(rt, alloc, &reply, &WHOLE));
                 }
                 Err(_) => panic!(rt; "node 0 answers"),
             }
