@@ -82,7 +82,7 @@ impl Service for Streamed {
 
 /// A slot over streams of the account, without containers. Its wire gives these deliveries and answers in turn, and then Done and yes. The
 /// slot is in a box, since a value with so many fields is slow to prove.
-pub(crate) fn streamed(
+pub(crate) fn make_streamed(
     rt: &impl Abort,
     alloc: Global,
     puts: &[Delivery],

@@ -1,7 +1,7 @@
 //! Slots over streams under written deliveries (SOSP 2011, sections 4.3 and 5).
 use crate::requests::{CREATE, CREATED, GET, PUT};
 use crate::samples::{begins, ends, says};
-use crate::stored_samples::{D, L, R, Streamed, streamed};
+use crate::stored_samples::{D, L, R, Streamed, make_streamed};
 use std::alloc::Global;
 use std::process::Abort;
 
@@ -15,20 +15,20 @@ fn create_once(rt: &impl Abort, alloc: Global, slot: &mut Streamed) {
 
 #[test]
 fn a_create_takes_three_deliveries(rt: HostRuntime) {
-    let mut slot = streamed(&rt, rt.alloc(), &[D, D, D], &[]);
+    let mut slot = make_streamed(&rt, rt.alloc(), &[D, D, D], &[]);
     create_once(&rt, rt.alloc(), &mut *slot);
     assert_eq!(rt; slot.wire.called().len(), 3);
 }
 
 #[test]
 fn a_create_is_made_if_its_first_answer_is_lost(rt: HostRuntime) {
-    let mut slot = streamed(&rt, rt.alloc(), &[L], &[]);
+    let mut slot = make_streamed(&rt, rt.alloc(), &[L], &[]);
     create_once(&rt, rt.alloc(), &mut *slot);
 }
 
 #[test]
 fn a_create_is_made_if_a_node_refuses_it(rt: HostRuntime) {
-    let mut slot = streamed(&rt, rt.alloc(), &[R], &[]);
+    let mut slot = make_streamed(&rt, rt.alloc(), &[R], &[]);
     create_once(&rt, rt.alloc(), &mut *slot);
 }
 
@@ -40,7 +40,7 @@ fn refuse(rt: &impl Abort, alloc: Global, slot: &mut Streamed) {
 
 #[test]
 fn a_create_that_is_refused_twice_leaves_nothing(rt: HostRuntime) {
-    let mut slot = streamed(&rt, rt.alloc(), &[R, R, R, R, R, R], &[]);
+    let mut slot = make_streamed(&rt, rt.alloc(), &[R, R, R, R, R, R], &[]);
     refuse(&rt, rt.alloc(), &mut *slot);
 }
 
@@ -53,7 +53,7 @@ fn keep_a_doubt(rt: &impl Abort, alloc: Global, slot: &mut Streamed) {
 #[test]
 fn a_doubt_is_kept(rt: HostRuntime) {
     let asks = [false, false, false, true, false, false];
-    let mut slot = streamed(&rt, rt.alloc(), &[D, R, R], &asks);
+    let mut slot = make_streamed(&rt, rt.alloc(), &[D, R, R], &asks);
     keep_a_doubt(&rt, rt.alloc(), &mut *slot);
 }
 
@@ -67,7 +67,7 @@ fn drop_a_doubt(rt: &impl Abort, alloc: Global, slot: &mut Streamed) {
 #[test]
 fn a_doubt_is_dropped(rt: HostRuntime) {
     let asks = [false, false, false, false, false, false, false, true, false];
-    let mut slot = streamed(&rt, rt.alloc(), &[D, R, R], &asks);
+    let mut slot = make_streamed(&rt, rt.alloc(), &[D, R, R], &asks);
     drop_a_doubt(&rt, rt.alloc(), &mut *slot);
 }
 
@@ -85,7 +85,7 @@ fn get_at_once(rt: &impl Abort, alloc: Global, slot: &mut Streamed) {
 
 #[test]
 fn content_in_the_open_extent_is_read_at_once(rt: HostRuntime) {
-    let mut slot = streamed(&rt, rt.alloc(), &[], &[]);
+    let mut slot = make_streamed(&rt, rt.alloc(), &[], &[]);
     get_at_once(&rt, rt.alloc(), &mut *slot);
 }
 
@@ -102,7 +102,7 @@ fn get_later(rt: &impl Abort, alloc: Global, slot: &mut Streamed) {
 
 #[test]
 fn content_in_a_sealed_extent_is_read_by_a_ticket(rt: HostRuntime) {
-    let mut slot = streamed(&rt, rt.alloc(), &[], &[]);
+    let mut slot = make_streamed(&rt, rt.alloc(), &[], &[]);
     get_later(&rt, rt.alloc(), &mut *slot);
 }
 
@@ -116,6 +116,6 @@ fn load_first(rt: &impl Abort, alloc: Global, slot: &mut Streamed) {
 
 #[test]
 fn rows_that_are_not_loaded_are_loaded_first(rt: HostRuntime) {
-    let mut slot = streamed(&rt, rt.alloc(), &[], &[false, false, false]);
+    let mut slot = make_streamed(&rt, rt.alloc(), &[], &[false, false, false]);
     load_first(&rt, rt.alloc(), &mut *slot);
 }
