@@ -7,7 +7,7 @@ use crate::place::{Content, Counts, Phase, Place};
 use crate::ready::ReadyQueue;
 use crate::socket::Half;
 use http_front as front;
-use http_front::{Link, Resting, Service, go_on};
+use http_front::{Link, Over, Resting, Service, go_on};
 use mio::unix::SourceFd;
 use mio::{Interest, Registry, Token, Waker};
 use std::alloc::Global;
@@ -20,6 +20,9 @@ use std::time::{Clock, Duration};
 
 /// A connection with all that it is served with.
 pub(crate) type SocketLink<'a, K, S> = Link<Half<'a>, Half<'a>, K, S>;
+
+/// A connection that ended.
+pub(crate) type SocketOver<'a, K, S> = Over<Half<'a>, Half<'a>, K, S>;
 
 /// A connection that waits for a request.
 pub(crate) type IdleLink<'a, K, S> = Resting<Half<'a>, Half<'a>, K, S>;

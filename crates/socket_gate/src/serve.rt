@@ -7,8 +7,9 @@ use crate::place::{Place, SPAN};
 use crate::poller::{LISTENER, WAKER};
 use crate::ready::ReadyQueue;
 use crate::services::Services;
+use crate::socket::Half;
 use http_front as front;
-use http_front::Service;
+use http_front::{Service, work};
 use libc::types::rlimit;
 use mio::unix::SourceFd;
 use mio::{Events, Interest, Poll, Token, Waker};
@@ -60,6 +61,17 @@ fn indices(alloc: Global, count: usize) -> Result<Vec<usize>, AllocError> {
         indices.push(index)?;
     }
     Ok(indices)
+}
+
+// Has so many workers serve the connections of the gate.
+fn work_at<
+    'a,
+    R: Threads + Wait + Sync,
+    C: Clock + Sync,
+    K: front::Clock + Drop + Send,
+    S: Service + Drop + Send,
+>(gate: &Gate<'a, R, C, K, S>, workers: usize) -> Result<(), AllocError> {
+    work::<R, Half<'a>, Half<'a>, K, S, Gate<'a, R, C, K, S>>(gate.rt, gate.alloc, workers, gate)
 }
 
 /// Serves the connections of a listener by so many workers, until the listener fails for good or the services say that no more connections
@@ -117,8 +129,8 @@ pub fn serve_listener<
     let (_, worked) = thread::join(
         rt,
         || gate.poll(services, &mut poll, &mut events),
-        || thread::map_indices(rt, alloc, workers, &|_worker| gate.work()),
+        || work_at(&gate, workers),
     );
-    let _ends = worked?;
+    worked?;
     Ok(())
 }
