@@ -65,12 +65,13 @@ fn indices(alloc: Global, count: usize) -> Result<Vec<usize>, AllocError> {
 
 // Has so many workers serve the connections of the gate.
 fn work_at<
-    'a,
-    R: Threads + Wait + Sync,
-    C: Clock + Sync,
-    K: front::Clock + Drop + Send,
-    S: Service + Drop + Send,
->(gate: &Gate<'a, R, C, K, S>, workers: usize) -> Result<(), AllocError> {
+    'g,
+    'a: 'g,
+    R: Threads + Wait + Sync + 'g,
+    C: Clock + Sync + 'g,
+    K: front::Clock + Drop + Send + 'g,
+    S: Service + Drop + Send + 'g,
+>(gate: &'g Gate<'a, R, C, K, S>, workers: usize) -> Result<(), AllocError> {
     work::<R, Half<'a>, Half<'a>, K, S, Gate<'a, R, C, K, S>>(gate.rt, gate.alloc, workers, gate)
 }
 
