@@ -24,3 +24,7 @@ mod samples;
 mod service_tests;
 #[cfg(test)]
 mod split_tests;
+#[cfg(test)]
+mod stored_samples;
+#[cfg(test)]
+mod stored_slot_tests;

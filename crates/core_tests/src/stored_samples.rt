@@ -1,0 +1,98 @@
+//! A slot over streams that connections are served by, with a wire that answers from lists.
+ghost use Rattle.std.specs.Prelude.{⊤, ◌≡◌, true};
+ghost use Rattle.stamp_model.specs.SeenContainers.{routed};
+ghost use Rattle.slot_state.specs.Slots as slots;
+
+use crate::samples::pairs;
+use extent_node::{Delivery, Script};
+use http_front::Service;
+use slot_state::{AccountPairs, KeptHistories};
+use stamp_types::{Moment, Reply, Request};
+use std::alloc::{AllocError, Global};
+use std::process::Abort;
+use std::sync::Arc;
+use stored_slot::StoredSlot;
+use tickets::{Answer, Ticket};
+
+pub(crate) const D: Delivery = Delivery::Done;
+
+pub(crate) const R: Delivery = Delivery::Refused;
+
+pub(crate) const L: Delivery = Delivery::Lost;
+
+/// A slot over streams that answers each request, and fetches its tickets at once. It counts the tickets.
+#[derive(Drop)]
+pub(crate) struct Streamed {
+    pub(crate) slot: StoredSlot<KeptHistories>,
+    pub(crate) wire: Script,
+    pub(crate) tickets: u64,
+}
+
+// Whether the request names a container of the slot.
+#[tactic(auto, using(slot_state::proofs::RangeLemmas::routed_own))]
+fn has_container(slot: &StoredSlot<KeptHistories>, request: &Request) -> bool
+    ensures { result ≡ true → slots.covers slot.now (routed request.now) ≡ true }
+{
+    let ask = request.ask();
+    ask.op.names_container() && slot.covers(&ask.key)
+}
+
+// The reply of a ticket.
+fn fetched(ticket: Ticket, wire: &mut Script) -> Result<Reply, AllocError> {
+    match ticket.fetch(wire) {
+        Ok(reply) => Ok(reply),
+        Err((ticket, _fault)) => {
+            drop(ticket);
+            Err(AllocError)
+        }
+    }
+}
+
+impl Service for Streamed {
+    ghost World = { ⊤ };
+
+    ghost world = { λ s. tt };
+
+    ghost answers = { λ old asked moment reply new. ⊤ };
+
+    ghost starves = { λ old new. ⊤ };
+
+    fn answer(
+        &mut self,
+        alloc: Global,
+        request: Request,
+        moment: Moment,
+    ) -> Result<Reply, AllocError> {
+        if !has_container(&self.slot, &request) {
+            return Err(AllocError);
+        }
+        match self.slot.serve(alloc, &request, None, moment, &mut self.wire) {
+            Answer::Done(reply) => Ok(reply),
+            Answer::Later(ticket) => {
+                self.tickets = self.tickets.saturating_add(1);
+                fetched(ticket, &mut self.wire)
+            }
+            Answer::NoMemory => Err(AllocError),
+        }
+    }
+}
+
+/// A slot over streams of the account, without containers. Its wire gives these deliveries and answers in turn, and then Done and yes. The
+/// slot is in a box, since a value with so many fields is slow to prove.
+pub(crate) fn streamed(
+    rt: &impl Abort,
+    alloc: Global,
+    puts: &[Delivery],
+    asks: &[bool],
+) -> Box<Streamed> {
+    let pairs = AccountPairs::of(alloc, pairs(rt, alloc)).expect(rt, "first pairs");
+    let pairs = Arc::new(alloc, pairs).expect(rt, "memory");
+    let puts = puts.to_vec(alloc).expect(rt, "memory");
+    let asks = asks.to_vec(alloc).expect(rt, "memory");
+    let streamed = Streamed {
+        slot: StoredSlot::of_pairs(alloc, 1_000_000, pairs),
+        wire: Script::new(alloc, puts, asks),
+        tickets: 0,
+    };
+    Box::new(alloc, streamed).expect(rt, "memory")
+}

@@ -1,0 +1,6 @@
+pub mod AnswerLemmas
+pub mod DecisionLemmas
+pub mod HalfLemmas
+pub mod KeepLemmas
+pub mod MeaningLemmas
+pub mod ServeLemmas

@@ -1,0 +1,5 @@
+pub mod Changes
+pub mod Decided
+pub mod Meanings
+pub mod Served
+pub mod Settled

@@ -1,0 +1,136 @@
+//! Changes of a slot, each with its entry.
+ghost use Rattle.std.specs.Prelude.{◌≡◌, ◌≢◌, [], IfSome, IsTrue, None, OnErr, OnOk, false, true};
+ghost use Rattle.stamp_types.specs.ActKinds.{is_row};
+ghost use Rattle.stamp_types.specs.Changes.{content_of};
+ghost use Rattle.stamp_types.specs.Pieces.{is_held, pieces_len};
+ghost use Rattle.stamp_types.specs.World.{part_value};
+ghost use Rattle.row_trees.specs.Fits.{fits};
+ghost use Rattle.stored_rows.specs.Counting.{FailsTake};
+ghost use Rattle.stored_rows.specs.Ranges.{covers};
+ghost use Rattle.stored_rows.specs.States.{IsTaken, doubt_of, pieces_of};
+ghost use Rattle.slot_state.specs.HistoryMaps.{history_at, without_last};
+ghost use Rattle.stored_slot.specs.Changes as changes;
+ghost use Rattle.stored_slot.specs.Changes.{slot_taken};
+ghost use Rattle.stored_slot.specs.Meanings.{AreOfStreams, AreReplays, MakesChange, slot_with};
+
+use extent_node::Wire;
+use slot_state::{AccountPairs, Histories};
+use stamp_types::{Change, Past};
+use std::alloc::Global;
+use stored_rows::{StoredRows, TakeFault};
+
+// Takes the change, or takes the last entry of its container back.
+fn take_or_take_back<H: Histories, W: Wire>(
+    histories: &mut H,
+    stored: &mut StoredRows,
+    entry: &Past,
+    change: Change,
+    wire: &mut W,
+) -> Result<(), TakeFault>
+    requires entry { history_at (H.held histories.old) entry.now.request.ask.key ≢ [] }
+    requires covered { covers stored.old.range change.key ≡ true }
+    requires plain { is_row change.act ≡ false }
+    requires held { IfSome (content_of change.act) (λ ps. IsTrue (is_held ps)) }
+    requires fits { IsTrue (fits (part_value pieces_len (pieces_of stored.old change.key)) change.act) }
+    requires sure { doubt_of stored.old ≡ None }
+    ensures taken { IsTaken result stored.old (change, entry.now.epoch) stored.new }
+    ensures stays { OnOk result (H.held histories.new ≡ H.held histories.old) }
+    ensures back { OnErr result (H.held histories.new ≡ without_last (H.held histories.old) entry.now.request.ask.key) }
+    ensures counted { FailsTake result (W.faults wire.old) (W.faults wire.new) }
+{
+    let taken = stored.take(change, entry.epoch, wire);
+    if taken.is_err() {
+        histories.take_back(&entry.request.ask().key);
+    }
+    taken
+}
+
+// Pushes the entry and takes its change: both, or neither. The entry is pushed first, so nothing can fail after the change is logged.
+#[tactic(auto, using(slot_state::proofs::MapLemmas::has_entry, stored_rows::proofs::CountLemmas::grows_not))]
+fn take_entry<H: Histories, W: Wire>(
+    histories: &mut H,
+    stored: &mut StoredRows,
+    alloc: Global,
+    entry: &Past,
+    change: Change,
+    wire: &mut W,
+) -> Result<(), TakeFault>
+    requires covered { covers stored.old.range change.key ≡ true }
+    requires plain { is_row change.act ≡ false }
+    requires held { IfSome (content_of change.act) (λ ps. IsTrue (is_held ps)) }
+    requires fits { IsTrue (fits (part_value pieces_len (pieces_of stored.old change.key)) change.act) }
+    requires sure { doubt_of stored.old ≡ None }
+    ensures taken { IsTaken result stored.old (change, entry.now.epoch) stored.new }
+    ensures entered { H.held histories.new ≡ changes.entered result (H.held histories.old) entry.now }
+    ensures counted { FailsTake result (W.faults wire.old) (W.faults wire.new) }
+{
+    match histories.push(alloc, entry) {
+        Ok(()) => take_or_take_back(histories, stored, entry, change, wire),
+        Err(_fault) => {
+            drop(change);
+            Err(TakeFault::NoMemory)
+        }
+    }
+}
+
+// Takes a change that its entry's request makes.
+fn take_made<H: Histories, W: Wire>(
+    histories: &mut H,
+    stored: &mut StoredRows,
+    pairs: &AccountPairs,
+    alloc: Global,
+    entry: &Past,
+    change: Change,
+    wire: &mut W,
+) -> Result<(), TakeFault>
+    requires before { AreReplays pairs.now (H.held histories.old) stored.old }
+    requires makes { MakesChange pairs.now (H.held histories.old) stored.old entry.now change }
+    requires sure { doubt_of stored.old ≡ None }
+    ensures taken { IsTaken result stored.old (change, entry.now.epoch) stored.new }
+    ensures entered { H.held histories.new ≡ changes.entered result (H.held histories.old) entry.now }
+    ensures counted { FailsTake result (W.faults wire.old) (W.faults wire.new) }
+{
+    let _pairs = pairs;
+    stored.kept();
+    take_entry(histories, stored, alloc, entry, change, wire)
+}
+
+// Keeps the entry, if its change is in doubt.
+fn keep_doubt(doubt: &mut Option<Past>, taken: &Result<(), TakeFault>, entry: Past)
+    requires { doubt.old ≡ None }
+    ensures { doubt.new ≡ changes.doubt_after taken.now entry }
+{
+    match taken {
+        Ok(()) => drop(entry),
+        Err(TakeFault::Doubt) => *doubt = Some(entry),
+        Err(TakeFault::Busy) => drop(entry),
+        Err(TakeFault::NoMemory) => drop(entry),
+    }
+}
+
+/// Makes a change, with its entry. If the change is in doubt, the entry moves into the slot's doubt.
+///
+/// After any other fault nothing is changed.
+pub(crate) fn changing<H: Histories, W: Wire>(
+    histories: &mut H,
+    stored: &mut StoredRows,
+    doubt: &mut Option<Past>,
+    pairs: &AccountPairs,
+    alloc: Global,
+    entry: Past,
+    change: Change,
+    wire: &mut W,
+) -> Result<(), TakeFault>
+    requires before { AreReplays pairs.now (H.held histories.old) stored.old }
+    requires makes { MakesChange pairs.now (H.held histories.old) stored.old entry change }
+    requires sure { doubt_of stored.old ≡ None }
+    requires none { doubt.old ≡ None }
+    ensures after { AreOfStreams pairs.now (H.held histories.new) stored.new doubt.new }
+    ensures taken { slot_with pairs.now (H.held histories.new) stored.new doubt.new
+        ≡ slot_taken result (slot_with pairs.now (H.held histories.old) stored.old None) entry }
+    ensures counted { FailsTake result (W.faults wire.old) (W.faults wire.new) }
+{
+    let taken = take_made(histories, stored, pairs, alloc, &entry, change, wire);
+    keep_doubt(doubt, &taken, entry);
+    taken
+}

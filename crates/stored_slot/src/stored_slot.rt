@@ -1,0 +1,201 @@
+//! The slot whose containers are kept in streams.
+ghost use Rattle.std.specs.Prelude.{◌≡◌, ◌⊎◌, true};
+ghost use Rattle.std.specs.Arc.{arc_value};
+ghost use Rattle.std.specs.Option.{option_copied};
+ghost use Rattle.extent_seal.specs.Counting.{Grows};
+ghost use Rattle.policy_book.specs.Judgements.{IsOfAsk};
+ghost use Rattle.range_rows.specs.Readings.{reading_of};
+ghost use Rattle.stamp_model.specs.SeenContainers.{routed};
+ghost use Rattle.stored_rows.specs.Counting.{FailsStored};
+ghost use Rattle.slot_state.specs.Slots as slots;
+ghost use Rattle.slot_state.specs.Slots.{empty_slot};
+ghost use Rattle.tickets.specs.declared.answer.Answer.TheVariants as answer;
+ghost use Rattle.stored_slot.specs.Served.{Faulted, Serves};
+ghost use Rattle.stored_slot.specs.Settled.{IsSettled, LeavesSettled};
+
+use crate::keeping::{loading, sealing};
+use crate::serving::serving;
+use crate::settling::settling;
+use extent_node::Wire;
+use policy_book::Judged;
+use range_rows::Reading;
+use slot_state::{AccountPairs, Histories};
+use stamp_types::{Key, Moment, Past, Request, Text};
+use std::alloc::{AllocError, Global};
+use std::marker::Model;
+use std::sync::Arc;
+use stored_rows::{KeyRange, StoredFault, StoredRows};
+use tickets::Answer;
+
+/// The containers of a range of keys, which three streams keep, and the accepted changes of each, with the key pairs of all accounts.
+///
+/// Contracts see it as its histories, its key pairs, its range and its doubt. In bytes, each container of the range is what its history
+/// replays to, always. A change of which it is not known whether it was made is the slot's doubt.
+#[derive(Drop)]
+pub struct StoredSlot<H: Histories> {
+    pub(crate) histories: H,
+    pub(crate) stored: StoredRows,
+    pub(crate) pairs: Arc<AccountPairs>,
+    // The change that is in doubt, with the moment and the epoch at which it was served.
+    pub(crate) doubt: Option<Past>,
+}
+
+impl<H: Histories> Model for StoredSlot<H> {
+    ghost use Rattle.std.specs.Arc.{arc_value};
+    ghost use Rattle.slot_state.specs.Slots.{SlotState, slot_code};
+    ghost use Rattle.stored_slot.specs.Meanings.{AreOfStreams, slot_with};
+
+    ghost Value = { SlotState };
+
+    ghost coded = { slot_code };
+
+    ghost view = { λ s. slot_with (arc_value s.pairs) (H.held s.histories) s.stored s.doubt };
+
+    ghost invariant = { λ s. AreOfStreams (arc_value s.pairs) (H.held s.histories) s.stored s.doubt };
+}
+
+impl<H: Histories> StoredSlot<H> {
+    /// A slot of all keys, without containers, for these key pairs. An extent of two or more blocks has at most `extent_bytes` bytes. Takes
+    /// no memory: the slot shares the pairs.
+    pub fn of_pairs(alloc: Global, extent_bytes: u32, pairs: Arc<AccountPairs>) -> Self
+        ensures { result ≡ empty_slot (arc_value pairs) }
+    {
+        pairs.numbered();
+        let range = KeyRange {
+            from: Key {
+                account: Text::empty(alloc),
+                container: Text::empty(alloc),
+            },
+            to: None,
+        };
+        Self {
+            histories: H::none(alloc),
+            stored: StoredRows::new(alloc, extent_bytes, range),
+            pairs,
+            doubt: None,
+        }
+    }
+
+    /// Whether the key is in the range of the slot.
+    #[tactic(auto, using(crate::proofs::DecisionLemmas::covers_same))]
+    pub fn covers(&self, key: &Key) -> bool
+        ensures { result ≡ slots.covers self.now key.now }
+    {
+        self.stored.covers(key)
+    }
+
+    /// One step of the model, on a request whose body was read before. The caller keeps the request, and may judge its signature before:
+    /// `judged` changes no reply. A List Containers is answered up to the end of the slot's range.
+    ///
+    /// First the slot settles its doubt, if it has one, and loads its rows, if they are not loaded. The answer is Done with the reply, or with
+    /// the reply of N1 if nodes that were needed did not answer, or with the reply of N2 if it is not known whether the change was made. It is
+    /// Later if content of the reply is in sealed extents, and NoMemory if memory ran out. Without a reply of the model, nothing changed except
+    /// that a doubt may have ended; after N2 the change is the slot's doubt.
+    pub fn serve_read<W: Wire>(
+        &mut self,
+        alloc: Global,
+        request: &Request,
+        judged: Option<&Judged>,
+        reading: Reading,
+        moment: Moment,
+        wire: &mut W,
+    ) -> Answer
+        requires judged { IsOfAsk (option_copied judged) request.now.ask }
+        requires read { reading ≡ reading_of request.now }
+        requires covered { slots.covers self.old (routed request.now) ≡ true }
+        ensures served { Serves self.old request.now moment (Faulted (W.faults wire.old) (W.faults wire.new)) result self.new }
+        ensures grown { Grows (W.faults wire.old) (W.faults wire.new) }
+    {
+        serving(
+            &mut self.histories,
+            &mut self.stored,
+            &mut self.doubt,
+            &self.pairs,
+            alloc,
+            request,
+            judged,
+            reading,
+            moment,
+            wire,
+        )
+    }
+
+    /// One step of the model. The answer is NoMemory if memory runs out for the reading of the body.
+    pub fn serve<W: Wire>(
+        &mut self,
+        alloc: Global,
+        request: &Request,
+        judged: Option<&Judged>,
+        moment: Moment,
+        wire: &mut W,
+    ) -> Answer
+        requires judged { IsOfAsk (option_copied judged) request.now.ask }
+        requires covered { slots.covers self.old (routed request.now) ≡ true }
+        ensures served { Serves self.old request.now moment (Faulted (W.faults wire.old) (W.faults wire.new)) result self.new
+            ⊎ ((result ≡ answer.NoMemory) × (self.new ≡ self.old)) }
+        ensures grown { Grows (W.faults wire.old) (W.faults wire.new) }
+    {
+        match Reading::of(alloc, request) {
+            Ok(reading) => { self.serve_read(alloc, request, judged, reading, moment, wire) }
+            Err(AllocError) => Answer::NoMemory,
+        }
+    }
+
+    /// Settles the change that is in doubt, if there is one: it is kept with the moment and the epoch at which it was served, or it is dropped.
+    ///
+    /// After a fault nothing is changed, and the doubt is as it was. Busy: nodes that were needed did not answer.
+    pub fn settle<W: Wire>(&mut self, alloc: Global, wire: &mut W) -> Result<(), StoredFault>
+        ensures settled { IsSettled result self.old self.new }
+        ensures counted { FailsStored result (W.faults wire.old) (W.faults wire.new) }
+    {
+        settling(
+            &mut self.histories,
+            &mut self.stored,
+            &mut self.doubt,
+            &self.pairs,
+            alloc,
+            wire,
+        )
+    }
+
+    /// Drops the rows from memory. A change that is in doubt stays in doubt.
+    pub fn unload(&mut self)
+        ensures { self.new ≡ self.old }
+    {
+        self.stored.unload();
+    }
+
+    /// Settles a doubt, if there is one, and reads the rows from the streams, if they are not loaded.
+    ///
+    /// After a fault nothing is changed, except that a doubt may have ended. Busy: nodes that were needed did not answer.
+    pub fn load<W: Wire>(&mut self, alloc: Global, wire: &mut W) -> Result<(), StoredFault>
+        ensures left { LeavesSettled result self.old self.new }
+        ensures counted { FailsStored result (W.faults wire.old) (W.faults wire.new) }
+    {
+        loading(
+            &mut self.histories,
+            &mut self.stored,
+            &mut self.doubt,
+            &self.pairs,
+            alloc,
+            wire,
+        )
+    }
+
+    /// Settles a doubt, if there is one, and seals the streams: what is written later goes to new extents.
+    ///
+    /// After a fault nothing is changed, except that a doubt may have ended. Busy: nodes that were needed did not answer.
+    pub fn seal<W: Wire>(&mut self, alloc: Global, wire: &mut W) -> Result<(), StoredFault>
+        ensures left { LeavesSettled result self.old self.new }
+        ensures counted { FailsStored result (W.faults wire.old) (W.faults wire.new) }
+    {
+        sealing(
+            &mut self.histories,
+            &mut self.stored,
+            &mut self.doubt,
+            &self.pairs,
+            alloc,
+            wire,
+        )
+    }
+}
