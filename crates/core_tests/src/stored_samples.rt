@@ -66,7 +66,10 @@ impl Service for Streamed {
         if !has_container(&self.slot, &request) {
             return Err(AllocError);
         }
-        match self.slot.serve(alloc, &request, None, moment, &mut self.wire) {
+        match self
+            .slot
+            .serve(alloc, &request, None, moment, &mut self.wire)
+        {
             Answer::Done(reply) => Ok(reply),
             Answer::Later(ticket) => {
                 self.tickets = self.tickets.saturating_add(1);

@@ -66,9 +66,7 @@ fn drop_a_doubt(rt: &impl Abort, alloc: Global, slot: &mut Streamed) {
 
 #[test]
 fn a_doubt_is_dropped(rt: HostRuntime) {
-    let asks = [
-        false, false, false, false, false, false, false, true, false,
-    ];
+    let asks = [false, false, false, false, false, false, false, true, false];
     let mut slot = streamed(&rt, rt.alloc(), &[D, R, R], &asks);
     drop_a_doubt(&rt, rt.alloc(), &mut *slot);
 }

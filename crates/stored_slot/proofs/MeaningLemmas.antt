@@ -48,7 +48,7 @@ use Rattle.slot_state.proofs.MapLemmas.{taken_back, tied}
 use Rattle.slot_state.proofs.RowLemmas.{brings_held}
 use Rattle.slot_state.proofs.StepLemmas.{history_at-insert}
 use Rattle.stored_slot.specs.Meanings.{AreOfStreams, AreReplays, HasDoubt, IsDoubted, MakesChange, slot_with}
-use Rattle.stored_slot.specs.Settled.{LeavesSettled, SettlesDoubt, dropped, follows, is_kept, kept, pushed_left}
+use Rattle.stored_slot.specs.Settled.{LeavesSettled, SettlesDoubt, dropped, follows, keeps_change, kept, pushed_left}
 use Rattle.stored_slot.specs.Changes.{doubt_after, doubt_left, entered, slot_taken}
 
 true_false : true ≡ false → ⊥
@@ -295,7 +295,7 @@ module _ (pairs : Pairs) (h : Histories) (s t : Stored) (d d' : Option Past) (ar
 
 -- ---- entries that are pushed, and taken back
 
-pub followed : (old pushed after : Histories) (e : Past) (r : Result Ended StoredFault) → NoneIsEmpty old → pushed ≡ with_entry old e → after ≡ pushed_left (is_kept r) pushed e.request.ask.key
+pub followed : (old pushed after : Histories) (e : Past) (r : Result Ended StoredFault) → NoneIsEmpty old → pushed ≡ with_entry old e → after ≡ pushed_left (keeps_change r) pushed e.request.ask.key
     → after ≡ follows r old e
 followed old pushed after e (Ok ended.Kept) none is left = left ∙ is
 followed old pushed after e (Ok ended.Clean) none is left = taken_back old pushed after e e.request.ask.key none is refl left

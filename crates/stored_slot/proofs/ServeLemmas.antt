@@ -33,7 +33,7 @@ use Rattle.slot_state.proofs.PairLemmas.{pair_of-current}
 use Rattle.stored_slot.specs.Changes.{slot_taken}
 use Rattle.stored_slot.specs.Meanings.{AreOfStreams, AreReplays, HasDoubt, MakesChange, slot_with}
 use Rattle.stored_slot.specs.Served.{FailsAnswer, Faulted, IsFailed, IsTakenAnswer, ReadsAnswer, Serves, ServesBy, busy, unknown}
-use Rattle.stored_slot.specs.Settled.{IsSettled, SettlesDoubt}
+use Rattle.stored_slot.specs.Settled.{SettlesOrFails, SettlesDoubt}
 
 not_later : true ≡ false → ⊥
 not_later h = cc

@@ -26,9 +26,9 @@ abbrev pub SettlesDoubt : SlotState → SlotState → Type 0
 SettlesDoubt s t = SettlesDoubtBy s.doubt s t
 
 -- what a settle does: it settles the doubt; or it fails, which it does only if there is a doubt, and nothing changes
-abbrev pub IsSettled : Result (Unit {0}) StoredFault → SlotState → SlotState → Type 0
-IsSettled (Ok u) s t = SettlesDoubt s t
-IsSettled (Err e) s t = IsSome s.doubt × (t ≡ s)
+abbrev pub SettlesOrFails : Result (Unit {0}) StoredFault → SlotState → SlotState → Type 0
+SettlesOrFails (Ok u) s t = SettlesDoubt s t
+SettlesOrFails (Err e) s t = IsSome s.doubt × (t ≡ s)
 
 -- a step settles the doubt, and then changes nothing; or it fails, also before the doubt is settled
 abbrev pub LeavesSettled : Result (Unit {0}) StoredFault → SlotState → SlotState → Type 0
@@ -46,9 +46,9 @@ follows (Ok ended.Kept) h e = with_entry h e
 follows other h e = h
 
 -- the change that was in doubt is kept
-abbrev pub is_kept : Result Ended StoredFault → Bool
-is_kept (Ok ended.Kept) = true
-is_kept other = false
+abbrev pub keeps_change : Result Ended StoredFault → Bool
+keeps_change (Ok ended.Kept) = true
+keeps_change other = false
 
 -- the histories after an entry of the key was pushed: the entry stays, or is taken back
 abbrev pub pushed_left : Bool → Histories → Key → Histories

@@ -5,7 +5,7 @@ ghost use Rattle.stored_rows.specs.States.{SettlesRows, doubt_of};
 ghost use Rattle.slot_state.specs.HistoryMaps.{history_at};
 ghost use Rattle.stored_slot.specs.Meanings.{AreOfStreams, slot_with};
 ghost use Rattle.stored_slot.specs.Settled as settled;
-ghost use Rattle.stored_slot.specs.Settled.{IsSettled};
+ghost use Rattle.stored_slot.specs.Settled.{SettlesOrFails};
 
 use extent_node::Wire;
 use slot_state::{AccountPairs, Histories};
@@ -15,7 +15,7 @@ use stored_rows::{Ended, StoredFault, StoredRows};
 
 // Whether the change that was in doubt is kept.
 fn is_kept(ended: &Result<Ended, StoredFault>) -> bool
-    ensures { result ≡ settled.is_kept ended.now }
+    ensures { result ≡ settled.keeps_change ended.now }
 {
     matches!(ended, Ok(Ended::Kept))
 }
@@ -29,7 +29,7 @@ fn settle_or_take_back<H: Histories, W: Wire>(
 ) -> Result<Ended, StoredFault>
     requires entry { history_at (H.held histories.old) entry.now.request.ask.key ≢ [] }
     ensures settled { SettlesRows result stored.old stored.new }
-    ensures left { H.held histories.new ≡ settled.pushed_left (settled.is_kept result) (H.held histories.old) entry.now.request.ask.key }
+    ensures left { H.held histories.new ≡ settled.pushed_left (settled.keeps_change result) (H.held histories.old) entry.now.request.ask.key }
     ensures data { stored.new.streams.blobs ≡ stored.old.streams.blobs }
     ensures counted { FailsStored result (W.faults wire.old) (W.faults wire.new) }
 {
@@ -76,7 +76,7 @@ pub(crate) fn settling<H: Histories, W: Wire>(
 ) -> Result<(), StoredFault>
     requires before { AreOfStreams pairs.now (H.held histories.old) stored.old doubt.old }
     ensures after { AreOfStreams pairs.now (H.held histories.new) stored.new doubt.new }
-    ensures settled { IsSettled result (slot_with pairs.now (H.held histories.old) stored.old doubt.old)
+    ensures settled { SettlesOrFails result (slot_with pairs.now (H.held histories.old) stored.old doubt.old)
         (slot_with pairs.now (H.held histories.new) stored.new doubt.new) }
     ensures counted { FailsStored result (W.faults wire.old) (W.faults wire.new) }
 {

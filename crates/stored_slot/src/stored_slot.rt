@@ -11,7 +11,7 @@ ghost use Rattle.slot_state.specs.Slots as slots;
 ghost use Rattle.slot_state.specs.Slots.{empty_slot};
 ghost use Rattle.tickets.specs.declared.answer.Answer.TheVariants as answer;
 ghost use Rattle.stored_slot.specs.Served.{Faulted, Serves};
-ghost use Rattle.stored_slot.specs.Settled.{IsSettled, LeavesSettled};
+ghost use Rattle.stored_slot.specs.Settled.{SettlesOrFails, LeavesSettled};
 
 use crate::keeping::{loading, sealing};
 use crate::serving::serving;
@@ -145,7 +145,7 @@ impl<H: Histories> StoredSlot<H> {
     ///
     /// After a fault nothing is changed, and the doubt is as it was. Busy: nodes that were needed did not answer.
     pub fn settle<W: Wire>(&mut self, alloc: Global, wire: &mut W) -> Result<(), StoredFault>
-        ensures settled { IsSettled result self.old self.new }
+        ensures settled { SettlesOrFails result self.old self.new }
         ensures counted { FailsStored result (W.faults wire.old) (W.faults wire.new) }
     {
         settling(
