@@ -4,3 +4,4 @@ pub mod HalfLemmas
 pub mod KeepLemmas
 pub mod MeaningLemmas
 pub mod ServeLemmas
+pub mod ViewLemmas

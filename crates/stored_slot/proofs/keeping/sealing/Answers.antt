@@ -6,7 +6,9 @@ use Rattle.stored_slot.proofs.keeping.sealing.Goals as goal
 pub seal-requires : goal.seal-requires
 seal-requires g c =
     let held = g.H.Histories.held in
-    settled_sure c.args.pairs.now (held c.args.histories.now) (held c.settling.new.histories) c.args.stored.now c.settling.new.stored c.args.doubt.now c.settling.new.doubt c.in-Ok.ensures.settled c.settling.ensures.after
+    record {
+      sure = settled_sure c.args.pairs.now (held c.args.histories.now) (held c.settling.new.histories) c.args.stored.now c.settling.new.stored c.args.doubt.now c.settling.new.doubt c.in-Ok.ensures.settled c.settling.ensures.after;
+    }
 
 pub returns-in-Ok-clause-after : goal.returns-in-Ok-clause-after
 returns-in-Ok-clause-after g c =

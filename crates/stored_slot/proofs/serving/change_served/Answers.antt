@@ -1,9 +1,8 @@
 use Rattle.std.proofs.Common.{◌≡◌, refl, subst, sym}
 use Rattle.stamp_types.specs.declared.past.Past.{Past}
 use Rattle.slot_state.specs.Slots.{IsReplyFor, entry_of}
-use Rattle.stored_slot.specs.Meanings.{MakesChange, slot_with}
-use Rattle.stored_slot.specs.Served.{ServesBy}
-use Rattle.stored_slot.proofs.ServeLemmas.{none_kept}
+use Rattle.stored_slot.specs.Meanings.{MakesChange}
+use Rattle.stored_slot.proofs.ViewLemmas.{entry_told}
 use Rattle.stored_slot.proofs.serving.change_served.Goals as goal
 
 pub change_answered-requires-clause-makes : goal.change_answered-requires-clause-makes
@@ -19,4 +18,4 @@ change_answered-requires-clause-reply g c =
 
 pub returns-in-Ok-clause-served : goal.returns-in-Ok-clause-served
 returns-in-Ok-clause-served g c =
-    subst (λ (e : Past). ServesBy (slot_with c.args.pairs.now (g.H.Histories.held c.args.histories.now) c.args.stored.now _) e.request e.moment _ c.change_answered.result _) c.in-Ok.ensures.entry c.change_answered.ensures.served
+    entry_told _ _ c.in-Ok.ready.entry (entry_of c.args.pairs.now c.args.request.now c.args.moment) _ c.change_answered.result c.in-Ok.ensures.entry c.change_answered.ensures.served

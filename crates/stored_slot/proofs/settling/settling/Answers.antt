@@ -6,7 +6,7 @@ pub settle_entry-requires : goal.settle_entry-requires
 settle_entry-requires g c =
     let held = g.H.Histories.held in
     let is : c.args.doubt.now ≡ Some c.in-Some.entry = search rules in
-    own_doubted c.args.pairs.now (held c.args.histories.now) c.args.stored.now c.args.stored.now c.args.doubt.now c.args.doubt.now c.requires.before c.in-Some.entry is
+    record { doubt = own_doubted c.args.pairs.now (held c.args.histories.now) c.args.stored.now c.args.stored.now c.args.doubt.now c.args.doubt.now c.requires.before c.in-Some.entry is }
 
 pub returns-in-None-clause-after : goal.returns-in-None-clause-after
 returns-in-None-clause-after g c =
