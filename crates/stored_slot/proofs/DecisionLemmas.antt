@@ -13,7 +13,6 @@ use Rattle.stamp_values.specs.Trees.{is_from}
 use Rattle.stamp_values.specs.declared.key.Key.{Key}
 use Rattle.stamp_values.specs.declared.op.Op.{Op}
 use Rattle.stamp_values.specs.declared.op.Op.TheVariants as op
-use Rattle.stamp_types.specs.declared.past.Past.{Past}
 use Rattle.stamp_types.specs.declared.piece.Piece.{Piece}
 use Rattle.stamp_types.specs.declared.refusal.Refusal.{Refusal}
 use Rattle.stamp_types.specs.declared.reply.Reply.{Reply}
@@ -30,13 +29,12 @@ use Rattle.range_rows.specs.declared.answer.Answer.{Answer}
 use Rattle.range_rows.specs.FoundParts.{pieces_found_after}
 use Rattle.range_rows.specs.Judgements.{blocks_found}
 use Rattle.range_rows.specs.RequestChanges.{change_of}
-use Rattle.range_rows.specs.SentContent.{ReadsWhole, sizes, spans, with_content}
+use Rattle.range_rows.specs.SentContent.{ReadsWhole, sizes}
 use Rattle.range_rows.proofs.FrameLemmas.{spans_of_write}
 use Rattle.stream_manager.specs.Streams.{laid}
 use Rattle.partition_stream.specs.Contents.{AreStored, bytes_at, content_at}
 use Rattle.stamp_model.specs.AcceptedRequests.{is_on}
 use Rattle.stamp_model.specs.Effects.{accepted, unless_refused}
-use Rattle.stamp_model.specs.Histories.{pair_of}
 use Rattle.stamp_model.specs.Refusals.{refusal}
 use Rattle.stamp_model.specs.Responses.{reply}
 use Rattle.stamp_model.specs.SeenContainers.{is_between, is_in_account, is_seen, is_under, routed}
@@ -53,12 +51,12 @@ use Rattle.stored_rows.specs.Ranges.{covers, is_before_end}
 use Rattle.stored_rows.specs.States.{Stored, pieces_of}
 use Rattle.stored_rows.specs.declared.key_range.KeyRange.{KeyRange}
 use Rattle.slot_state.specs.HistoryMaps.{Histories}
-use Rattle.slot_state.specs.Pairs.{Pairs, current_at, epoch_of, pairs_at}
+use Rattle.slot_state.specs.Pairs.{Pairs, current_at}
 use Rattle.slot_state.specs.Slots.{IsReplyFor, change_now, entry_of, replayed_at}
 use Rattle.slot_state.proofs.MapLemmas.{tied}
 use Rattle.slot_state.proofs.PairLemmas.{pair_of-current}
 use Rattle.slot_state.proofs.RangeLemmas.{lists_nothing, routed_own}
-use Rattle.stored_slot.specs.Decided.{DecidesFor, IsReadAnswer}
+use Rattle.stored_slot.specs.Decided.{DecidesFor}
 use Rattle.stored_slot.specs.Meanings.{AreReplays, MakesChange}
 use Rattle.stored_slot.proofs.AnswerLemmas.{reply_made, reply_refused, same_sizes, with_nothing}
 

@@ -1,7 +1,7 @@
 -- The halves of a slot that is cut.
 use Rattle.std.proofs.Common.{◌≡◌, ◌∙◌, ◌&&◌, Bool, true, false, cond, List, [], Option, Some, None, refl, sym, ap, subst}
 use Rattle.std.specs.FinMap.{retain_keys}
-use Rattle.std.specs.Ordering.{is_gt, is_le, ordering_reverse}
+use Rattle.std.specs.Ordering.{is_gt, ordering_reverse}
 use Rattle.std.specs.declared.cmp.Ordering.{Ordering}
 use Rattle.std.specs.declared.cmp.Ordering.TheVariants.{Less, Equal, Greater}
 use Rattle.stamp_values.specs.Order.{key_cmp, keys_total}

@@ -1,5 +1,5 @@
 -- Steps of a slot that settle a doubt and then leave the slot as it is.
-use Rattle.std.proofs.Common.{◌≡◌, ◌∙◌, inl, inr, Option, Some, None, IsSome, Result, Ok, Err, refl, sym, ap, subst}
+use Rattle.std.proofs.Common.{◌≡◌, Option, None, Result, Ok, Err, sym, ap, subst}
 use Rattle.std.specs.Prelude.{OnErr, OnOk}
 use Rattle.extent_node.specs.Faults.{Calls}
 use Rattle.extent_seal.specs.Counting.{Grows}
@@ -11,8 +11,7 @@ use Rattle.stored_rows.specs.declared.faults.StoredFault.TheVariants as stored
 use Rattle.stored_rows.proofs.CountLemmas.{fails_later, grows_twice}
 use Rattle.slot_state.specs.HistoryMaps.{Histories}
 use Rattle.slot_state.specs.Pairs.{Pairs}
-use Rattle.slot_state.specs.Slots.{SlotState}
-use Rattle.stored_slot.specs.Meanings.{AreOfStreams, AreReplays, slot_with}
+use Rattle.stored_slot.specs.Meanings.{AreOfStreams, slot_with}
 use Rattle.stored_slot.specs.Settled.{LeavesSettled, SettlesDoubt}
 use Rattle.stored_slot.proofs.MeaningLemmas.{left_settled, sealed_kept, slot_same}
 use Rattle.stored_slot.proofs.ServeLemmas.{loaded, loaded_replays, loaded_slot, loaded_sure, none_kept, none_same, settled_none, settled_sure}

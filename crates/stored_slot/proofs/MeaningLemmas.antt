@@ -1,5 +1,5 @@
 -- What a slot keeps after a change that is taken or settled.
-use Rattle.std.proofs.Common.{◌≡◌, ◌≢◌, ◌≤◌, ◌⊎◌, ◌∙◌, inl, inr, arith, ℕ, Bool, true, false, cond, List, [], ◌∷◌, ◌++◌, Option, Some, None, IsSome, is_some, unwrap_or, Result, Ok, Err, refl, sym, ap, subst}
+use Rattle.std.proofs.Common.{◌≡◌, ◌≤◌, ◌⊎◌, ◌∙◌, inl, inr, arith, ℕ, Bool, true, false, cond, List, [], ◌∷◌, ◌++◌, Option, Some, None, IsSome, is_some, unwrap_or, Result, Ok, Err, refl, sym, ap, subst}
 use Rattle.std.specs.Cmp.{eq_by_cmp_equiv}
 use Rattle.std.specs.Ordering.{eq_by_cmp}
 use Rattle.std.specs.Prelude.{IfSome, IsTrue, OnErr, OnOk, length}
@@ -9,7 +9,6 @@ use Rattle.extent_node.specs.Copies.{Block}
 use Rattle.stamp_values.specs.Order.{key_cmp, keys_total}
 use Rattle.stamp_values.specs.declared.key.Key.{Key}
 use Rattle.stamp_types.specs.declared.past.Past.{Past}
-use Rattle.stamp_types.specs.declared.refusal.Refusal.{Refusal}
 use Rattle.stamp_types.specs.ActKinds.{is_row}
 use Rattle.stamp_types.specs.declared.act.Act.{Act}
 use Rattle.stamp_types.specs.declared.act.Act.TheVariants as act
@@ -20,7 +19,7 @@ use Rattle.stamp_types.specs.World.{Part, changed, no_part, part_value}
 use Rattle.stamp_types.proofs.WorldLemmas.{part_value-no_part}
 use Rattle.access_rules.specs.declared.keys.Keys.{Keys}
 use Rattle.row_trees.specs.Fits.{fits}
-use Rattle.range_rows.specs.RequestChanges.{act_by, change_of, part_after}
+use Rattle.range_rows.specs.RequestChanges.{act_by, part_after}
 use Rattle.range_rows.specs.SentContent.{sizes}
 use Rattle.range_rows.proofs.ChangeLemmas.{change_fits}
 use Rattle.stream_manager.specs.Streams.{laid}
@@ -28,7 +27,6 @@ use Rattle.partition_stream.specs.Changes.{Recorded}
 use Rattle.partition_stream.specs.Contents.{content_at}
 use Rattle.stamp_model.specs.Effects.{unless_refused}
 use Rattle.stamp_model.specs.Histories.{IsAccepted, IsEntryAfter, IsLegal, NoneIsLater, pair_of, replay}
-use Rattle.stamp_model.specs.Refusals.{refusal}
 use Rattle.stamp_model.proofs.HistoryLemmas.{IsLegalFrom-append, IsLegalFrom-nil, last_or_before, replay_from-append}
 use Rattle.stamp_model.proofs.CountLemmas.{said_of_act_by}
 use Rattle.stamp_model.proofs.EffectLemmas.{on_key}
@@ -48,7 +46,7 @@ use Rattle.slot_state.proofs.MapLemmas.{taken_back, tied}
 use Rattle.slot_state.proofs.RowLemmas.{brings_held}
 use Rattle.slot_state.proofs.StepLemmas.{history_at-insert}
 use Rattle.stored_slot.specs.Meanings.{AreOfStreams, AreReplays, HasDoubt, IsDoubted, MakesChange, slot_with}
-use Rattle.stored_slot.specs.Settled.{LeavesSettled, SettlesDoubt, dropped, follows, keeps_change, kept, pushed_left}
+use Rattle.stored_slot.specs.Settled.{LeavesSettled, SettlesDoubt, follows, keeps_change, pushed_left}
 use Rattle.stored_slot.specs.Changes.{doubt_after, doubt_left, entered, slot_taken}
 
 true_false : true ≡ false → ⊥

@@ -1,7 +1,7 @@
 -- What a slot answers, from what its parts answered.
-use Rattle.std.proofs.Common.{◌≡◌, ◌<◌, ◌⊎◌, ◌∙◌, inl, inr, arith, ℕ, Bool, true, false, cond, List, Option, Some, None, IsSome, is_some, Result, Ok, Err, refl, sym, ap, subst}
+use Rattle.std.proofs.Common.{◌≡◌, ◌∙◌, inl, inr, arith, ℕ, Bool, true, false, cond, List, Option, Some, None, IsSome, is_some, Result, Ok, Err, refl, sym, ap, subst}
 use Rattle.extent_node.specs.Faults.{Calls}
-use Rattle.extent_seal.specs.Counting.{Grows, all_faults}
+use Rattle.extent_seal.specs.Counting.{Grows}
 use Rattle.stamp_values.specs.declared.key.Key.{Key}
 use Rattle.stamp_types.specs.declared.past.Past.{Past}
 use Rattle.stamp_types.specs.declared.refusal.Refusal.{Refusal}
@@ -27,13 +27,13 @@ use Rattle.stored_rows.specs.declared.faults.StoredFault.TheVariants as stored
 use Rattle.stored_rows.specs.declared.faults.TakeFault.{TakeFault}
 use Rattle.stored_rows.specs.declared.faults.TakeFault.TheVariants as fault
 use Rattle.slot_state.specs.HistoryMaps.{Histories, with_entry}
-use Rattle.slot_state.specs.Pairs.{Pairs, current_at, epoch_of, pairs_at}
+use Rattle.slot_state.specs.Pairs.{Pairs, current_at, pairs_at}
 use Rattle.slot_state.specs.Slots.{IsReplyFor, IsServed, SlotState, change_now, entry_of, replayed_at, slot_after}
 use Rattle.slot_state.proofs.PairLemmas.{pair_of-current}
 use Rattle.stored_slot.specs.Changes.{slot_taken}
 use Rattle.stored_slot.specs.Meanings.{AreOfStreams, AreReplays, HasDoubt, MakesChange, slot_with}
 use Rattle.stored_slot.specs.Served.{FailsAnswer, Faulted, IsFailed, IsTakenAnswer, ReadsAnswer, Serves, ServesBy, busy, unknown}
-use Rattle.stored_slot.specs.Settled.{SettlesOrFails, SettlesDoubt}
+use Rattle.stored_slot.specs.Settled.{SettlesDoubt}
 
 not_later : true ≡ false → ⊥
 not_later h = cc

@@ -1,11 +1,9 @@
 -- What a slot keeps, and what its streams mean (Calder et al., SOSP 2011, section 5: a range partition, its commit log and its data). That
 -- a change may be in doubt is the stamp's own.
-use Rattle.std.specs.Prelude.{◌≡◌, ◌≤◌, ℕ, true, List, Option, Some, None}
+use Rattle.std.specs.Prelude.{◌≡◌, ◌≤◌, true, Option, Some, None}
 use Rattle.stamp_values.specs.declared.key.Key.{Key}
 use Rattle.stamp_types.specs.Changes.{KeyedAct}
 use Rattle.stamp_types.specs.declared.past.Past.{Past}
-use Rattle.stamp_types.specs.World.{Part}
-use Rattle.access_rules.specs.declared.keys.Keys.{Keys}
 use Rattle.range_rows.specs.RequestChanges.{change_of}
 use Rattle.range_rows.specs.SentContent.{sizes}
 use Rattle.stamp_model.specs.Histories.{IsLegal, NoneIsLater, pair_of}

@@ -1,6 +1,6 @@
 -- What a slot over streams answers to a request (Calder et al., SOSP 2011, section 5: what a partition server does with its range and its
 -- streams). The answers for nodes that are out of reach, for a change whose outcome is unknown and for a lack of memory are the stamp's own.
-use Rattle.std.specs.Prelude.{◌≡◌, ◌⊎◌, ◌<◌, ⊤, ℕ, true, Option, Some, None, IsSome, Result, Ok, Err}
+use Rattle.std.specs.Prelude.{◌≡◌, ◌⊎◌, ◌<◌, ⊤, ℕ, true, Some, IsSome, Result, Ok, Err}
 use Rattle.extent_node.specs.Faults.{Calls}
 use Rattle.extent_seal.specs.Counting.{all_faults}
 use Rattle.stamp_types.specs.declared.code.Code.TheVariants as code

@@ -1,5 +1,3 @@
-use Rattle.std.proofs.Common.{◌≡◌, ◌∙◌, ap, rules, subst, sym}
-use Rattle.std.specs.Prelude.{IfOk}
 use Rattle.stored_slot.proofs.DecisionLemmas.{decided_if}
 use Rattle.stored_slot.proofs.deciding.deciding.Goals as goal
 

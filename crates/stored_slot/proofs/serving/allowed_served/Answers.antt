@@ -3,7 +3,7 @@ use Rattle.stamp_types.specs.Changes.{KeyedAct}
 use Rattle.range_partition.specs.Decisions.{reply_read}
 use Rattle.stream_manager.specs.Streams.{laid}
 use Rattle.partition_stream.specs.Contents.{bytes_at}
-use Rattle.stored_slot.specs.Decided.{AllowsFor, IsReadAnswer}
+use Rattle.stored_slot.specs.Decided.{AllowsFor}
 use Rattle.stored_slot.specs.Meanings.{slot_with}
 use Rattle.stored_slot.proofs.ServeLemmas.{none_same, read_told, slot_none}
 use Rattle.stored_slot.proofs.serving.allowed_served.Goals as goal

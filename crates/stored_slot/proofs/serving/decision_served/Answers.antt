@@ -1,7 +1,7 @@
 use Rattle.std.proofs.Common.{◌≡◌, None, refl, rules, subst}
 use Rattle.range_partition.specs.declared.framed.FramedDecision.{FramedDecision}
 use Rattle.range_partition.specs.declared.framed.FramedDecision.TheVariants as framed
-use Rattle.stored_slot.specs.Decided.{AllowsFor, DecidesFor}
+use Rattle.stored_slot.specs.Decided.{DecidesFor}
 use Rattle.stored_slot.specs.Meanings.{slot_with}
 use Rattle.stored_slot.proofs.ServeLemmas.{denial_told, none_kept, slot_none}
 use Rattle.stored_slot.proofs.serving.decision_served.Goals as goal

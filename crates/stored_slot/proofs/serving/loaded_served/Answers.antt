@@ -1,4 +1,4 @@
-use Rattle.std.proofs.Common.{None, refl}
+use Rattle.std.proofs.Common.{refl}
 use Rattle.stored_slot.proofs.ServeLemmas.{none_kept, slot_none}
 use Rattle.stored_slot.proofs.serving.loaded_served.Goals as goal
 

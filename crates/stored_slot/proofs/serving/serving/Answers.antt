@@ -1,4 +1,3 @@
-use Rattle.std.specs.Prelude.{None}
 use Rattle.stamp_model.specs.SeenContainers.{routed}
 use Rattle.stored_slot.specs.Meanings.{slot_with}
 use Rattle.stored_slot.proofs.ServeLemmas.{grown_twice, serves_after, serves_failed, settled_covers, settled_none, settled_sure, stored_grows}

@@ -1,8 +1,8 @@
-use Rattle.std.proofs.Common.{ap, subst, ◌∙◌}
+use Rattle.std.proofs.Common.{subst}
 use Rattle.std.specs.Arc.{arc_value}
 use Rattle.slot_state.specs.Pairs.{Pairs}
 use Rattle.slot_state.specs.Slots.{SlotState}
-use Rattle.stored_slot.specs.Meanings.{AreOfStreams, slot_with}
+use Rattle.stored_slot.specs.Meanings.{slot_with}
 use Rattle.stored_slot.specs.Settled.{SettlesOrFails}
 use Rattle.stored_slot.proofs.stored_slot.StoredSlot.settle.Goals as goal
 
