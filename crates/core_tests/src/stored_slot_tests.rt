@@ -57,6 +57,21 @@ fn a_doubt_is_kept(rt: HostRuntime) {
     keep_a_doubt(&rt, rt.alloc(), &mut *slot);
 }
 
+// A settle fails as long as no node answers, and the doubt stays. Then it is kept, since a node that answers has the record.
+fn settle_a_doubt(rt: &impl Abort, alloc: Global, slot: &mut Streamed) {
+    assert!(rt; says(rt, alloc, slot, CREATE, "Refused by rule N2."));
+    assert!(rt; slot.slot.settle(alloc, &mut slot.wire).is_err());
+    assert!(rt; slot.slot.settle(alloc, &mut slot.wire).is_ok());
+    assert!(rt; begins(rt, alloc, slot, CREATE, CONFLICT));
+}
+
+#[test]
+fn a_settle_keeps_a_doubt_that_a_node_has(rt: HostRuntime) {
+    let asks = [false, false, false, false, false, false, true, false, false];
+    let mut slot = make_streamed(&rt, rt.alloc(), &[D, R, R], &asks);
+    settle_a_doubt(&rt, rt.alloc(), &mut *slot);
+}
+
 // A slot whose doubt cannot be settled serves nothing. Then a node answers that has no record.
 fn drop_a_doubt(rt: &impl Abort, alloc: Global, slot: &mut Streamed) {
     assert!(rt; says(rt, alloc, slot, CREATE, "Refused by rule N2."));
@@ -118,4 +133,21 @@ fn load_first(rt: &impl Abort, alloc: Global, slot: &mut Streamed) {
 fn rows_that_are_not_loaded_are_loaded_first(rt: HostRuntime) {
     let mut slot = make_streamed(&rt, rt.alloc(), &[], &[false, false, false]);
     load_first(&rt, rt.alloc(), &mut *slot);
+}
+
+// A load fails as long as no node answers. After a load a request needs a node for the content only.
+fn load_by_itself(rt: &impl Abort, alloc: Global, slot: &mut Streamed) {
+    put_hello(rt, alloc, slot);
+    slot.slot.unload();
+    assert!(rt; slot.slot.load(alloc, &mut slot.wire).is_err());
+    assert!(rt; slot.slot.load(alloc, &mut slot.wire).is_ok());
+    let called = slot.wire.called().len();
+    assert!(rt; ends(rt, alloc, slot, GET, b"\r\n\r\nhello"));
+    assert_eq!(rt; slot.wire.called().len(), called + 1);
+}
+
+#[test]
+fn rows_are_loaded_if_a_node_answers(rt: HostRuntime) {
+    let mut slot = make_streamed(&rt, rt.alloc(), &[], &[false, false, false]);
+    load_by_itself(&rt, rt.alloc(), &mut *slot);
 }

@@ -288,8 +288,10 @@ fn go_on(rt: &impl Abort, alloc: Global, lower: &mut StoredRows, upper: &mut Sto
 fn cut_loaded(rt: &impl Abort, alloc: Global, stored: &mut StoredRows) {
     fill_four(rt, alloc, stored);
     let mut wire = script(rt, alloc, &[], &[]);
+    assert!(rt; stored.end().is_none());
     let mut upper = cut(rt, alloc, stored, "middle", &mut wire).expect(rt, "a half");
     assert!(rt; stored.is_loaded() && upper.is_loaded());
+    assert!(rt; stored.end() == Some(&key(rt, alloc, "middle")) && upper.end().is_none());
     go_on(rt, alloc, stored, &mut *upper);
 }
 
