@@ -140,7 +140,7 @@ class Reader:
 
 
 def block_list(body):
-    """The entries of a block list: of each its kind, and its id or nothing if its text is no id."""
+    """The entries of a block list: of each its kind, and its id or nothing if its text is not an id."""
     reader = Reader(body)
     entries = reader.whole(lambda: reader.elements("BlockList", lambda: reader.text_of(("Latest", "Committed", "Uncommitted"))))
     ids = [(kind, base64_of(text.encode())) for kind, text in entries]

@@ -22,7 +22,7 @@ SENTENCE = 40
 LIMITS = {"README.md": 1460, "docs/architecture.md": 2700, "docs/gate.md": 1400}
 # It was 104,000 before remarks on rules went to the cases, and pages of measurements and of proofs lost a third. Since then each README of a
 # crate begins with a call. A part that is added brings its own pages.
-ALL = 103_000
+ALL = 103_100
 
 
 def definitions_of(crate):

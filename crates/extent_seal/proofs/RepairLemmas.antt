@@ -38,7 +38,7 @@ calls_up_to node.Zero k m a b h l = let w = calls_bound k a.zero in (rw h.0 (ome
 calls_up_to node.One k m a b h l = let w = calls_bound k a.one in (h.0, rw h.1 (omega arith), h.2)
 calls_up_to node.Two k m a b h l = let w = calls_bound k a.two in (h.0, h.1, rw h.2 (omega arith))
 
--- a call that ended well is no fault
+-- a call that ended well is not a fault
 pub no_fault_more : (n : Node) (a b c : Counts) → CountsNone a b → CountsFault n true b c → CountsNone a c
 no_fault_more node.Zero a b c h p = (omega (arith, h.0, p.0), p.1 ∙ h.1, p.2 ∙ h.2)
 no_fault_more node.One a b c h p = (p.0 ∙ h.0, omega (arith, h.1, p.1), p.2 ∙ h.2)

@@ -1,4 +1,4 @@
-//! Workers over a small source: each connection waits twice and is given again, and the fault of one ends it alone.
+//! Workers over a small source: each connection waits twice and is given again, and the fault of one ends only that one.
 ghost use Rattle.std.specs.Prelude.{⊤};
 
 use http_front::{Clock, End, FrontFault, Link, Over, Service, Source, work};

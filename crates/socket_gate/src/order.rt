@@ -13,7 +13,7 @@ struct Neighbours {
 /// Two lists of places: those of connections that are idle, and those of connections that wait inside a head. In each list the connection
 /// that began to wait first comes first. A place is in one list at most.
 ///
-/// Each list is a ring through a number that is no place. What is in no list is a ring of its own. So no change depends on how many places
+/// Each list is a ring through a number that is not a place. What is in no list is a ring of its own. So no change depends on how many places
 /// there are.
 #[derive(Drop)]
 pub(crate) struct WaitOrder {
@@ -81,7 +81,7 @@ impl WaitOrder {
         }
     }
 
-    /// The place that comes after another one, or the first if there is no other one.
+    /// The place that comes after another one, or the first place if no other one is given.
     pub(crate) fn next(&self, phase: Phase, other: Option<usize>) -> Option<usize> {
         let next = self.neighbours(other.or(self.list(phase))?).after;
         if next < self.places { Some(next) } else { None }

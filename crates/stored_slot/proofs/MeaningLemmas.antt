@@ -305,11 +305,11 @@ pub entered_by : (old pushed after : Histories) (e : Past) (r : Result (Unit {0}
 entered_by old pushed after e (Ok u) none is stays back = stays ∙ is
 entered_by old pushed after e (Err f) none is stays back = taken_back old pushed after e e.request.ask.key none is refl back
 
--- nothing was settled, since the entry found no memory
+-- nothing was settled, since memory ran out for the entry
 pub unsettled : (s : Stored) → IsSome (doubt_of s) → SettlesRows (Err stored_fault.NoMemory) s s
 unsettled s doubted = (same_means s, (doubted, refl))
 
--- nothing was taken, since the entry found no memory
+-- nothing was taken, since memory ran out for the entry
 pub untaken : (s : Stored) (c : Recorded) → doubt_of s ≡ None → IsTaken (Err fault.NoMemory) s c s
 untaken s c sure = (same_means s, sure)
 

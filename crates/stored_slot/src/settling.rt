@@ -40,8 +40,8 @@ fn settle_or_take_back<H: Histories, W: Wire>(
     ended
 }
 
-// Settles the change of an entry, which is in doubt. The entry is pushed first, and is taken back unless the change is kept: so a change that
-// is kept needs no memory any more.
+// Settles the change of an entry, which is in doubt. The entry is pushed first, and is taken back unless the change is kept: so memory
+// cannot run out for a change that is kept.
 #[tactic(auto, using(slot_state::proofs::MapLemmas::has_entry, stored_rows::proofs::CountLemmas::grows_not))]
 fn settle_entry<H: Histories, W: Wire>(
     histories: &mut H,
