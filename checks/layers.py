@@ -1,14 +1,15 @@
 """The crates under the headings of crates.txt: what each is for, what it depends on, and the tables of pages that say so."""
+import functools
 import re
+from collections import defaultdict
 from typing import NamedTuple
 
 import tree
 
 HEADING = re.compile(r"# ([A-Z][\w ]*): (.+)")
-HEADER = "| Crate | What it is for | Depends on | Tests |\n|---|---|---|---|\n"
-# The heading of the crates that hold only tests. The table of docs/architecture.md names them in the rows of the crates that they test.
+# The heading of the crates that hold only tests. The rows of the crates that they test name them.
 TESTS = "Tests"
-# What every crate depends on, and what nearly every crate takes for its enum of faults. The column of docs/architecture.md leaves both out.
+# What every crate depends on, and what nearly every crate takes for its enum of faults. The tables leave both out.
 EVERYWHERE = ("std", "thiserror")
 
 
@@ -63,40 +64,36 @@ def linked(crate, folder):
     return f"[{crate}]({folder}{crate}/README.md)" if has_page else crate
 
 
+@functools.cache
+def tests_of():
+    """For each crate the crates of tests whose READMEs name it in their first paragraph."""
+    found = defaultdict(list)
+    for tests in tree.crates_of_tests():
+        said = (tree.ROOT / "crates" / tests / "README.md").read_text(encoding="utf-8").split("\n\n")[1]
+        for crate in dict.fromkeys(re.findall(r"`(\w+)`", said)):
+            if crate in tree.lines_of_crates():
+                found[crate].append(tests)
+    return found
+
+
+def row(crate):
+    """What a crate has, what it depends on, and which crates have its tests."""
+    crates, libraries = nearest(crate)
+    below = ", ".join([*(f"`{it}`" for it in crates), *(f"*{it}*" for it in libraries)])
+    return f"| {linked(crate, '')} | {said_of(crate)} | {below} | {', '.join(f'`{it}`' for it in tests_of()[crate])} |\n".replace("|  |", "| |")
+
+
 def crates_by_layers():
     """For each heading of crates.txt a table of its crates."""
     for layer in layers():
-        yield f"\n## {layer.name}\n\n{layer.said}\n\n| Crate | What it has |\n|---|---|\n"
-        yield from (f"| {linked(crate, '')} | {said_of(crate)} |\n" for crate in layer.crates)
+        yield f"\n## {layer.name}\n\n{layer.said}\n\n"
+        if layer.name == TESTS:
+            yield "| Crate | What it has |\n|---|---|\n"
+            yield from (f"| {linked(crate, '')} | {said_of(crate)} |\n" for crate in layer.crates)
+        else:
+            yield "| Crate | What it has | Depends on | Tests |\n|---|---|---|---|\n"
+            yield from map(row, layer.crates)
     yield "\n"
-
-
-def rows_by_hand(table):
-    """For each crate of a table what the table says that it is for, and which crate has its tests."""
-    rows = re.findall(r"^\| \[?(\w+)\]?(?:\([^)]*\))? \| (.*?) \|.*\| ?(.*?) ?\|$", table, re.M)
-    return {crate: (reason, tests) for crate, reason, tests in rows}
-
-
-def table_of(page):
-    """The table of crates of a page."""
-    return page.partition(HEADER)[2].partition("\n\n")[0]
-
-
-def with_table(page):
-    """A page whose table of crates has the rows in the order of crates.txt, and in the third column what the crates depend on.
-
-    The second and the last column are written by hand. A crate that has no row yet gets what it says of itself."""
-    table, rows = table_of(page), []
-    by_hand = rows_by_hand(table)
-    for layer in layers():
-        if layer.name != TESTS:
-            rows.append(f"| **{layer.name}** | | | |")
-        for crate in layer.crates if layer.name != TESTS else ():
-            crates, libraries = nearest(crate)
-            below = ", ".join([*(f"`{it}`" for it in crates), *(f"*{it}*" for it in libraries)])
-            reason, tests = by_hand.get(crate, (said_of(crate), ""))
-            rows.append(f"| {linked(crate, '../crates/')} | {reason} | {below} | {tests} |".replace("|  |", "| |"))
-    return page.replace(HEADER + table, HEADER + "\n".join(rows))
 
 
 def misplaced():
@@ -122,13 +119,11 @@ def unlisted():
     yield from (f"crates.txt lists {it}, which has no source file" for it in sorted(lines - folders))
 
 
-def untold_tests(page):
-    """Crates of tests that the table of crates names and that do not exist, or that it does not name."""
-    named = {it for _, tests in rows_by_hand(table_of(page)).values() for it in re.findall(r"`(\w+)`", tests)}
-    tests = {*tree.crates_of_tests()}
-    yield from (f"docs/architecture.md: {it} is not a crate of tests" for it in sorted(named - tests))
-    yield from (f"docs/architecture.md: no crate has its tests in {it}" for it in sorted(tests - named))
+def untold_tests():
+    """Crates of tests whose READMEs name no crate that they test."""
+    told = {it for tests in tests_of().values() for it in tests}
+    yield from (f"crates/{it}/README.md names no crate that it tests in its first paragraph" for it in tree.crates_of_tests() if it not in told)
 
 
 def faults():
-    yield from (*misplaced(), *unlisted(), *untold_tests((tree.ROOT / "docs" / "architecture.md").read_text(encoding="utf-8")))
+    yield from (*misplaced(), *unlisted(), *untold_tests())
