@@ -7,8 +7,6 @@ import tree
 
 LAW = re.compile(r"((?:^///[^\n]*\n)+)(?:^#\[[^\n]*\n)*^pub fn (\w+)(?:<[^>\n]*>)?\(\)\n(.*?)^\{\}$", re.M | re.S)
 CLAUSE = re.compile(r"^ +ensures (\w+) \{", re.M)
-# What the heads of files of laws say of each law. The page says it once.
-OF_EACH = " Each law is the contract of a function that does nothing."
 
 
 class Law(NamedTuple):
@@ -43,6 +41,6 @@ def laws_by_crates():
         if found:
             yield f"\n## {crate}\n"
         for file, laws in found.items():
-            yield f"\n[{file.name}](../{file.relative_to(tree.ROOT)}): {layers.first_paragraph(file).replace(OF_EACH, '')}\n\n| Law | What it says | Clauses |\n|---|---|---|\n"
+            yield f"\n[{file.name}](../{file.relative_to(tree.ROOT)}): {layers.first_sentence(file)}.\n\n| Law | What it says | Clauses |\n|---|---|---|\n"
             yield from rows(laws)
     yield "\n"

@@ -43,6 +43,11 @@ def first_paragraph(file):
     return " ".join(said)
 
 
+def first_sentence(file):
+    """The first sentence of what a source file says of itself, without its full stop."""
+    return re.split(r"(?<=[.]) (?=[A-Z`])", first_paragraph(file))[0].removesuffix(".")
+
+
 def said_of(crate):
     """What a crate says of itself in its root file."""
     roots = (tree.ROOT / "crates" / crate / "src" / name for name in ("lib.rt", "main.rt"))
