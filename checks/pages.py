@@ -17,12 +17,11 @@ FENCED = re.compile(r"^```.*?^```", re.S | re.M)
 # The pages that people read first, which have no sentence of more words than SENTENCE.
 SHORT_SENTENCES = ("README.md", "docs/using.md", "docs/theorem.md", "docs/architecture.md", "docs/gate.md")
 SENTENCE = 40
-# The most words of a page, and of all pages together, beside the lists that are generated. README.md had 1,200 before it showed what the first
-# run prints, and named clients.
-LIMITS = {"README.md": 1460, "docs/architecture.md": 2700, "docs/gate.md": 1400}
-# It was 104,000 before remarks on rules went to the cases, and pages of measurements and of proofs lost a third. Since then each README of a
-# crate begins with a call. A part that is added brings its own pages.
-ALL = 103_100
+# The most words of a page, and of all pages together, beside the lists that are generated.
+LIMITS = {"README.md": 1100, "crates/stamp_model/README.md": 950, "docs/architecture.md": 1900, "docs/gate.md": 1350, "docs/using.md": 4000}
+# It was 103,100 before tables of laws, crates, cases and records were made by scripts, and pages said each thing once. A part that is added brings
+# its own pages, and cuts elsewhere.
+ALL = 84_800
 
 
 def definitions_of(crate):
