@@ -74,8 +74,9 @@ def tests_of():
     """For each crate the crates of tests whose READMEs name it in their first paragraph."""
     found = defaultdict(list)
     for tests in tree.crates_of_tests():
-        said = (tree.ROOT / "crates" / tests / "README.md").read_text(encoding="utf-8").split("\n\n")[1]
-        for crate in dict.fromkeys(re.findall(r"`(\w+)`", said)):
+        page = tree.ROOT / "crates" / tests / "README.md"
+        said = page.read_text(encoding="utf-8").split("\n\n")[1:2] if page.is_file() else []
+        for crate in dict.fromkeys(re.findall(r"`(\w+)`", "".join(said))):
             if crate in tree.lines_of_crates():
                 found[crate].append(tests)
     return found
