@@ -235,6 +235,11 @@ class Session:
         print(f"the film has {len(content):,} bytes; {len(parts)} requests, {parts.count(200)} of them answered by the whole film", flush=True)
         self.browser.press("Escape")
 
+    def answer(self, key):
+        """Answers the question of the page by a key, when it is asked."""
+        self.browser.until("at('question').open")
+        self.browser.press(key)
+
     def without_the_letter(self):
         small = self.folder / "small.txt"
         small.write_bytes(b"hello")
@@ -250,8 +255,7 @@ class Session:
             "The server refused to put “texts/small.txt”: the token does not have the letter w, which lets write (rule S11, AuthenticationFailed).")
         self.open("notes.txt")
         self.browser.press("Delete")
-        self.browser.until("at('question').open")
-        self.browser.press("Enter")
+        self.answer("Enter")
         yield "a token without the letter d too", self.until_told("rule"), (
             "The server refused to delete “texts/notes.txt”: the token does not have the letter d, which lets delete (rule S11, AuthenticationFailed).")
         yield "the server has not changed", (get(NAME, "texts/small.txt")[0], get(NAME, "texts/notes.txt")[2]), (404, b"one\ntwo\n")
@@ -275,24 +279,20 @@ class Session:
         yield "the large file is on the server", digest(get(NAME, "texts/large & <two>.bin")[2]), digest(large.read_bytes())
         small.write_bytes(b"hello again")
         self.upload(small)
-        self.browser.until("at('question').open")
-        self.browser.press("Escape")
+        self.answer("Escape")
         yield "after Esc a blob that exists is not replaced", (self.until_told("uploaded"), get(NAME, "texts/small.txt")[2]), ("0 of 1 file is uploaded.", b"hello")
         self.upload(small)
-        self.browser.until("at('question').open")
-        self.browser.press("Enter")
+        self.answer("Enter")
         yield "after Enter it is replaced", (self.until_told("1 of 1"), get(NAME, "texts/small.txt")[2]), ("1 of 1 file is uploaded.", b"hello again")
         put(NAME, "texts/small.txt", b"by somebody else")
         self.focus("small.txt")
         self.browser.press("Delete")
-        self.browser.until("at('question').open")
-        self.browser.press("Enter")
+        self.answer("Enter")
         yield "what somebody else has put is not deleted", self.until_told("rule"), (
             "The server refused to delete “texts/small.txt”: somebody else has put or changed the blob. List the names again (rule O4, ConditionNotMet).")
         self.focus("notes.txt")
         self.browser.press("Delete")
-        self.browser.until("at('question').open")
-        self.browser.press("Enter")
+        self.answer("Enter")
         yield "a blob is deleted", (self.until_told("deleted"), get(NAME, "texts/notes.txt")[0]), ("“texts/notes.txt” is deleted.", 404)
         yield "the name after it has the focus", self.browser.value("document.activeElement.textContent"), "small.txt"
 
