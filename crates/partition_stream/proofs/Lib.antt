@@ -1,5 +1,6 @@
 pub mod CallLemmas
 pub mod ChangeLemmas
+pub mod CheckpointLemmas
 pub mod ContentLemmas
 pub mod DataLemmas
 pub mod FailedLemmas

@@ -1,4 +1,5 @@
 pub mod Changes
+pub mod Checkpoints
 pub mod Contents
 pub mod Counting
 pub mod Logging

@@ -2,6 +2,8 @@
 #![tactic(auto)]
 
 mod changes;
+mod checkpoint;
+mod checkpoint_laws;
 mod data;
 mod faults;
 mod laws;
@@ -11,6 +13,8 @@ mod position;
 mod repair;
 mod streams;
 
+pub use checkpoint::{NewRows, Replaced};
+pub use checkpoint_laws::{a_checkpoint_means_its_rows, a_checkpoint_means_what_it_meant};
 pub use faults::{LogFault, PutFault};
 pub use laws::{
     a_body_that_is_cut_may_be_put, a_change_that_fails_is_not_counted,

@@ -20,7 +20,7 @@ use stream_manager::{SettleFault, Settled, Stream};
 /// Each block of the log and of the rows is the record of a change, and each content that such a change brings is in the data.
 #[derive(Drop)]
 pub struct Streams {
-    alloc: Global,
+    pub(crate) alloc: Global,
     pub(crate) log: Stream,
     pub(crate) blobs: Stream,
     pub(crate) rows: Stream,

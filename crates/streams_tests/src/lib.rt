@@ -6,6 +6,8 @@ mod append_tests;
 #[cfg(test)]
 mod call_tests;
 #[cfg(test)]
+mod checkpoint_tests;
+#[cfg(test)]
 mod data_tests;
 #[cfg(test)]
 mod every_delivery_tests;
