@@ -44,7 +44,7 @@ def functions(text, module, homes):
             continue
         indent, start = head[1], first
         while start < len(lines):
-            is_header = start == first or lines[start].startswith(f"{indent})")
+            is_header = start == first or lines[start].startswith((f"{indent})", f"{indent}>("))
             if lines[start] in (f"{indent}{{", f"{indent}{{}}") or is_header and lines[start].endswith((" {", "{}")):
                 break
             # A method of a trait has no body.

@@ -98,10 +98,13 @@ impl Service for Refuses {
     }
 }
 
+/// A connection that reads the parts.
+type ScriptLink = Link<Script, Nowhere, Start, Refuses>;
+
 /// The connections that have something to do, and what the workers told of them.
 #[derive(Drop)]
 struct Known {
-    ready: VecDeque<Link<Script, Nowhere, Start, Refuses>>,
+    ready: VecDeque<ScriptLink>,
     waits: u8,
     clean: u8,
     failed: u8,
@@ -114,13 +117,13 @@ struct Two<'a, R: Wait> {
     known: Mutex<Known>,
 }
 
-impl<'a, R: Wait> Source<Script, Nowhere, Start, Refuses> for Two<'a, R> {
-    fn next(&self) -> Option<(Link<Script, Nowhere, Start, Refuses>, usize)> {
+impl<'a, R: Wait> Source<ScriptLink, Over<Script, Nowhere, Start, Refuses>> for Two<'a, R> {
+    fn next(&self) -> Option<(ScriptLink, usize)> {
         let link = self.known.lock(self.rt).ready.pop_front()?;
         Some((link, ROOM))
     }
 
-    fn waits(&self, link: Link<Script, Nowhere, Start, Refuses>) {
+    fn waits(&self, link: ScriptLink) {
         let mut known = self.known.lock(self.rt);
         if known.ready.push_back(link).is_ok() {
             known.waits = known.waits.wrapping_add(1);
@@ -139,7 +142,7 @@ impl<'a, R: Wait> Source<Script, Nowhere, Start, Refuses> for Two<'a, R> {
 }
 
 // A connection on which the request comes.
-fn link(alloc: Global, fails: bool) -> Link<Script, Nowhere, Start, Refuses> {
+fn link(alloc: Global, fails: bool) -> ScriptLink {
     let script = Script {
         next: 0,
         waits: false,
