@@ -1,7 +1,7 @@
 -- The halves of a slot that is cut.
-use Rattle.std.proofs.Common.{◌≡◌, ◌∙◌, ◌&&◌, Bool, true, false, cond, List, [], Option, Some, None, refl, sym, ap, subst}
+use Rattle.std.proofs.Common.{◌≡◌, ◌∙◌, ◌&&◌, inl, Bool, true, false, cond, List, [], Option, Some, None, Result, Ok, Err, refl, sym, ap, subst}
 use Rattle.std.specs.FinMap.{retain_keys}
-use Rattle.std.specs.Ordering.{is_gt, ordering_reverse}
+use Rattle.std.specs.Ordering.{is_gt, is_le, ordering_reverse}
 use Rattle.std.specs.declared.cmp.Ordering.{Ordering}
 use Rattle.std.specs.declared.cmp.Ordering.TheVariants.{Less, Equal, Greater}
 use Rattle.stamp_values.specs.Order.{key_cmp, keys_total}
@@ -10,17 +10,21 @@ use Rattle.stamp_values.specs.declared.key.Key.{Key}
 use Rattle.stamp_types.specs.declared.past.Past.{Past}
 use Rattle.stamp_types.specs.World.{no_part}
 use Rattle.stamp_model.specs.Histories.{IsLegal, NoneIsLater, replay}
+use Rattle.stamp_model.specs.SeenContainers.{is_under}
 use Rattle.stamp_model.proofs.HistoryLemmas.{IsLegalFrom-nil}
 use Rattle.stored_rows.specs.Ranges.{covers, is_before_end}
 use Rattle.stored_rows.specs.States.{IsHalf, Stored, bytes_of}
+use Rattle.stored_rows.specs.declared.faults.StoredFault.{StoredFault}
 use Rattle.stored_rows.specs.declared.key_range.KeyRange.{KeyRange}
 use Rattle.slot_state.specs.HistoryMaps.{Histories, history_at}
 use Rattle.slot_state.specs.Pairs.{Pairs, current_at, epoch_of, pairs_at}
-use Rattle.slot_state.specs.Slots.{replayed_at}
+use Rattle.slot_state.specs.Slots.{SlotState, lower_half, replayed_at, upper_half}
 use Rattle.slot_state.proofs.SplitLemmas.{read_retained}
-use Rattle.stored_slot.specs.Meanings.{AreReplays}
-use Rattle.stored_slot.proofs.DecisionLemmas.{and_parts, from_from}
+use Rattle.stored_slot.specs.Meanings.{AreOfStreams, AreReplays, slot_with}
+use Rattle.stored_slot.specs.Settled.{Cuts, CutsSettled, SettlesDoubt}
+use Rattle.stored_slot.proofs.DecisionLemmas.{and_parts, from_from, same_end}
 use Rattle.stored_slot.proofs.MeaningLemmas.{none_later}
+use Rattle.stored_slot.proofs.ServeLemmas.{settled_none}
 
 -- ---- keys of the halves
 
@@ -45,6 +49,14 @@ below_below a b c e f = ap is_gt (keys_total.antisymm c a) ∙ turned_back (key_
 below_end : (o : Option Key) (middle key : Key) → is_before_end o middle ≡ true → is_below middle key ≡ true → is_before_end o key ≡ true
 below_end None middle key end below = refl
 below_end (Some to) middle key end below = below_below key middle to below end
+
+at_most : (r : Ordering) → r ≡ Less → is_le r ≡ true
+at_most Less e = refl
+at_most Equal e = cc
+at_most Greater e = cc
+
+from_below : (a b : Key) → is_below b a ≡ true → is_from a b ≡ true
+from_below a b e = at_most (key_cmp a b) (less_of_below a b e)
 
 module _ (range : KeyRange) (middle : Key) (inside : is_from range.from middle ≡ true) (ends : is_before_end range.to middle ≡ true) where
   pub lower_keys : (key : Key) → covers (record range { to = Some middle }) key ≡ true → (is_below middle key ≡ true) × (covers range key ≡ true)
@@ -91,3 +103,55 @@ module _ (pairs : Pairs) (h : Histories) (s t : Stored) (own : KeyRange) (p : Ke
 pub half_kept : (pairs : Pairs) (h g : Histories) (s t : Stored) (own : KeyRange) (p : Key → Bool) → AreReplays pairs h s → IsHalf own s t
     → ((key : Key) → covers own key ≡ true → (p key ≡ true) × (covers s.range key ≡ true)) → g ≡ retain_keys h p → AreReplays pairs g t
 half_kept pairs h g s t own p are half keys is = subst (λ (x : Histories). AreReplays pairs x t) (sym is) (half_replays pairs h s t own p are half keys)
+
+-- ---- the slots of the halves
+
+module _ (pairs : Pairs) (h g : Histories) (s t : Stored) (middle : Key) (covered : covers s.range middle ≡ true) (are : AreReplays pairs h s) where
+  abbrev inside : (is_from s.range.from middle ≡ true) × (is_before_end s.range.to middle ≡ true)
+  inside = and_parts (is_from s.range.from middle) (is_before_end s.range.to middle) covered
+
+  pub lower_kept : IsHalf (record s.range { to = Some middle }) s t → g ≡ retain_keys h (is_below middle) → AreOfStreams pairs g t None
+  lower_kept half is = record {
+    replays = half_kept pairs h g s t (record s.range { to = Some middle }) (is_below middle) are half (lower_keys s.range middle inside.0 inside.1) is;
+    doubted = half.sure;
+  }
+
+  pub upper_kept : IsHalf (record { from = middle; to = s.range.to }) s t → g ≡ retain_keys h (is_from middle) → AreOfStreams pairs g t None
+  upper_kept half is = record {
+    replays = half_kept pairs h g s t (record { from = middle; to = s.range.to }) (is_from middle) are half (upper_keys s.range middle inside.0 inside.1) is;
+    doubted = half.sure;
+  }
+
+pub lower_slot : (pairs : Pairs) (h g : Histories) (s t : Stored) (middle : Key) → IsHalf (record s.range { to = Some middle }) s t → g ≡ retain_keys h (is_below middle)
+    → slot_with pairs g t None ≡ lower_half (slot_with pairs h s None) middle
+lower_slot pairs h g s t middle half is = λ i. record { histories = is i; pairs = pairs; from = (half.range i).from; to = (half.range i).to; doubt = None }
+
+pub upper_slot : (pairs : Pairs) (h g : Histories) (s t : Stored) (middle : Key) → IsHalf (record { from = middle; to = s.range.to }) s t → g ≡ retain_keys h (is_from middle)
+    → slot_with pairs g t None ≡ upper_half (slot_with pairs h s None) middle
+upper_slot pairs h g s t middle half is = λ i. record { histories = is i; pairs = pairs; from = (half.range i).from; to = (half.range i).to; doubt = None }
+
+-- ---- a cut after a settle
+
+cuts_settled : (r : Result SlotState StoredFault) (s m t : SlotState) (middle : Key) → SettlesDoubt s m → Cuts r m middle t → CutsSettled r s middle t
+cuts_settled (Ok upper) s m t middle settled cut = (m, (settled, cut))
+cuts_settled (Err e) s m t middle settled same = inl (subst (λ (x : SlotState). SettlesDoubt s x) (sym same) settled)
+
+module _ (pairs : Pairs) (h h' : Histories) (s t : Stored) (d d' : Option Past) (settled : SettlesDoubt (slot_with pairs h s d) (slot_with pairs h' t d')) where
+  abbrev none : d' ≡ None
+  none = settled_none d pairs h h' s t d' settled
+
+  pub cut_kept : (g : Histories) (u : Stored) → AreOfStreams pairs g u None → AreOfStreams pairs g u d'
+  cut_kept g u are = subst (λ (x : Option Past). AreOfStreams pairs g u x) (sym none) are
+
+  pub cut_told : (r : Result SlotState StoredFault) (g : Histories) (u : Stored) (middle : Key) → Cuts r (slot_with pairs h' t None) middle (slot_with pairs g u None)
+      → CutsSettled r (slot_with pairs h s d) middle (slot_with pairs g u d')
+  cut_told r g u middle cut =
+      subst (λ (x : Option Past). CutsSettled r (slot_with pairs h s d) middle (slot_with pairs g u x)) (sym none)
+      (cuts_settled r (slot_with pairs h s d) (slot_with pairs h' t None) (slot_with pairs g u None) middle
+      (subst (λ (x : Option Past). SettlesDoubt (slot_with pairs h s d) (slot_with pairs h' t x)) none settled) cut)
+
+-- a key that is inside of a slot is in the range of its rows
+pub inside_covered : (range : KeyRange) (key : Key) → (is_below key range.from && is_under range.to key) ≡ true → covers range key ≡ true
+inside_covered range key inside =
+    let parts = and_parts (is_below key range.from) (is_under range.to key) inside in
+    (λ i. from_below range.from key parts.0 i && is_before_end range.to key) ∙ sym (same_end range.to key) ∙ parts.1

@@ -101,7 +101,7 @@ module _ (s : SlotState) (q : Asked) (t : ℕ) (F : Type 0) where
       → ServesBy s q t F a s'
   read_told (answer.Done r) reply s' (inl is) model none same = inl (told r reply s' is model none same)
   read_told (answer.Done r) reply s' (inr failed) model none same = inr (inl (failed.0, (failed.1, same)))
-  read_told (answer.Later r) reply s' is model none same = told r reply s' is model none same
+  read_told (answer.Later r) reply s' is model none same = (told r reply s' is model none same, none)
   read_told answer.NoMemory reply s' is model none same = same
 
 -- ---- faults

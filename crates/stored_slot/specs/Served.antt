@@ -1,6 +1,6 @@
 -- What a slot over streams answers to a request (Calder et al., SOSP 2011, section 5: what a partition server does with its range and its
 -- streams). The answers for nodes that are out of reach, for a change whose outcome is unknown and for a lack of memory are the stamp's own.
-use Rattle.std.specs.Prelude.{◌≡◌, ◌⊎◌, ◌<◌, ⊤, ℕ, true, Some, IsSome, Result, Ok, Err}
+use Rattle.std.specs.Prelude.{◌≡◌, ◌⊎◌, ◌<◌, ⊤, ℕ, true, Some, None, IsSome, Result, Ok, Err}
 use Rattle.extent_node.specs.Faults.{Calls}
 use Rattle.extent_seal.specs.Counting.{all_faults}
 use Rattle.stamp_types.specs.declared.code.Code.TheVariants as code
@@ -58,15 +58,15 @@ IsTakenAnswer (Err take.Doubt) frame a = a ≡ answer.Done unknown
 IsTakenAnswer (Err take.Busy) frame a = IsAnswer a true busy
 IsTakenAnswer (Err take.NoMemory) frame a = a ≡ answer.NoMemory
 
--- A request to a slot without a doubt is served, and answered at once or by a ticket; or it fails, and nothing changes; or a call of the
--- wire failed while the log was written, and the request makes a change: then the outcome of this change is unknown, and the change is in
--- doubt
+-- A request to a slot without a doubt is served, and answered at once, or by a ticket if it makes no change; or it fails, and nothing
+-- changes; or a call of the wire failed while the log was written, and the request makes a change: then the outcome of this change is
+-- unknown, and the change is in doubt
 abbrev pub ServesBy : SlotState → Asked → ℕ → Type 0 → Answer → SlotState → Type 0
 ServesBy s q t faulted (answer.Done r) s' =
     IsServed s q t s.to r s'
     ⊎ ((faulted × ((r ≡ busy) × (s' ≡ s)))
     ⊎ (faulted × (IsSome (change_now s.pairs s.histories q t) × ((r ≡ unknown) × (s' ≡ doubting s q t)))))
-ServesBy s q t faulted (answer.Later r) s' = IsServed s q t s.to r s'
+ServesBy s q t faulted (answer.Later r) s' = IsServed s q t s.to r s' × (change_now s.pairs s.histories q t ≡ None)
 ServesBy s q t faulted answer.NoMemory s' = s' ≡ s
 
 -- A request is served after the doubt of the slot is settled, if there is one. If the settle fails, the request fails, and the doubt stays

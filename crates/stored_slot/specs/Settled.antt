@@ -2,9 +2,12 @@
 use Rattle.std.specs.Prelude.{◌≡◌, ◌⊎◌, Bool, true, false, Option, Some, None, IsSome, Result, Ok, Err}
 use Rattle.stamp_values.specs.declared.key.Key.{Key}
 use Rattle.stamp_types.specs.declared.past.Past.{Past}
+use Rattle.stream_manager.specs.declared.faults.RepairFault.{RepairFault}
+use Rattle.stream_manager.specs.declared.faults.RepairFault.TheVariants as repair
 use Rattle.stored_rows.specs.declared.faults.Ended.{Ended}
 use Rattle.stored_rows.specs.declared.faults.Ended.TheVariants as ended
 use Rattle.stored_rows.specs.declared.faults.StoredFault.{StoredFault}
+use Rattle.stored_rows.specs.declared.faults.StoredFault.TheVariants as stored
 use Rattle.slot_state.specs.HistoryMaps.{Histories, with_entry, without_last}
 use Rattle.slot_state.specs.Slots.{SlotState, lower_half, upper_half}
 
@@ -35,10 +38,27 @@ abbrev pub LeavesSettled : Result (Unit {0}) StoredFault → SlotState → SlotS
 LeavesSettled (Ok u) s t = SettlesDoubt s t
 LeavesSettled (Err e) s t = SettlesDoubt s t ⊎ (IsSome s.doubt × (t ≡ s))
 
+-- a slot without a doubt is cut: it is its lower half, and the upper half is answered; or the cut fails, and nothing changes
+abbrev pub Cuts : Result SlotState StoredFault → SlotState → Key → SlotState → Type 0
+Cuts (Ok upper) s middle t = (t ≡ lower_half s middle) × (upper ≡ upper_half s middle)
+Cuts (Err e) s middle t = t ≡ s
+
 -- a cut settles the doubt, and then the slot is its lower half, and the upper half is answered; or it fails, also before the doubt is settled
 abbrev pub CutsSettled : Result SlotState StoredFault → SlotState → Key → SlotState → Type 0
 CutsSettled (Ok upper) s middle t = (m : SlotState) × (SettlesDoubt s m × ((t ≡ lower_half m middle) × (upper ≡ upper_half m middle)))
 CutsSettled (Err e) s middle t = SettlesDoubt s t ⊎ (IsSome s.doubt × (t ≡ s))
+
+-- a repair settles the doubt, and then changes nothing, also if the stream has no such extent; or it fails, also before the doubt is settled
+abbrev pub LeavesRepaired : Result (Unit {0}) RepairFault → SlotState → SlotState → Type 0
+LeavesRepaired (Ok u) s t = SettlesDoubt s t
+LeavesRepaired (Err repair.NoSuchExtent) s t = SettlesDoubt s t
+LeavesRepaired (Err repair.Unreachable) s t = SettlesDoubt s t ⊎ (IsSome s.doubt × (t ≡ s))
+LeavesRepaired (Err repair.NoMemory) s t = SettlesDoubt s t ⊎ (IsSome s.doubt × (t ≡ s))
+
+-- what a repair answers if the doubt cannot be settled
+abbrev pub repair_fault_of : StoredFault → RepairFault
+repair_fault_of stored.Busy = repair.Unreachable
+repair_fault_of stored.NoMemory = repair.NoMemory
 
 -- the histories after the change of an entry was settled: they have the entry if the change is kept
 abbrev pub follows : Result Ended StoredFault → Histories → Past → Histories

@@ -1,5 +1,6 @@
 //! Steps of a slot that change nothing of what it keeps, except that they settle a doubt first.
-ghost use Rattle.std.specs.Prelude.{◌≡◌};
+ghost use Rattle.std.specs.Prelude.{◌≡◌, OnOk};
+ghost use Rattle.partition_stream.specs.Streams.{AreSealed};
 ghost use Rattle.stored_rows.specs.Counting.{FailsStored};
 ghost use Rattle.stored_slot.specs.Meanings.{AreOfStreams, slot_with};
 ghost use Rattle.stored_slot.specs.Settled.{LeavesSettled};
@@ -45,6 +46,7 @@ pub(crate) fn sealing<H: Histories, W: Wire>(
     ensures after { AreOfStreams pairs.now (H.held histories.new) stored.new doubt.new }
     ensures left { LeavesSettled result (slot_with pairs.now (H.held histories.old) stored.old doubt.old)
         (slot_with pairs.now (H.held histories.new) stored.new doubt.new) }
+    ensures sealed { OnOk result (AreSealed stored.new.streams) }
     ensures counted { FailsStored result (W.faults wire.old) (W.faults wire.new) }
 {
     match settling(histories, stored, doubt, pairs, alloc, wire) {

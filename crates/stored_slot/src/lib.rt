@@ -3,10 +3,15 @@
 
 mod answering;
 mod changing;
+mod cutting;
 mod deciding;
 mod keeping;
+mod laws;
 mod serving;
 mod settling;
 mod stored_slot;
 
+pub use laws::{
+    a_doubt_ends_whole, a_split_loses_nothing, after_unload_and_load_the_rows_are_the_replay,
+};
 pub use stored_slot::StoredSlot;

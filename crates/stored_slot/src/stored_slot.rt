@@ -11,8 +11,9 @@ ghost use Rattle.slot_state.specs.Slots as slots;
 ghost use Rattle.slot_state.specs.Slots.{empty_slot};
 ghost use Rattle.tickets.specs.declared.answer.Answer.TheVariants as answer;
 ghost use Rattle.stored_slot.specs.Served.{Faulted, Serves};
-ghost use Rattle.stored_slot.specs.Settled.{SettlesOrFails, LeavesSettled};
+ghost use Rattle.stored_slot.specs.Settled.{CutsSettled, LeavesSettled, SettlesOrFails};
 
+use crate::cutting::cutting;
 use crate::keeping::{loading, sealing};
 use crate::serving::serving;
 use crate::settling::settling;
@@ -197,5 +198,41 @@ impl<H: Histories> StoredSlot<H> {
             alloc,
             wire,
         )
+    }
+
+    /// Settles a doubt, if there is one, seals the streams, and cuts the slot at a key: the containers of `middle` and of the keys after it
+    /// leave. Each container is in one half, whole, with its history. Both halves share the sealed extents and the key pairs.
+    ///
+    /// After a fault nothing was cut, and nothing is changed, except that a doubt may have ended. Busy: nodes that were needed did not
+    /// answer.
+    pub fn split<W: Wire>(
+        &mut self,
+        alloc: Global,
+        middle: &Key,
+        wire: &mut W,
+    ) -> Result<Self, StoredFault>
+        requires { slots.is_inside self.old middle.now ≡ true }
+        ensures cut { CutsSettled result self.old middle.now self.new }
+        ensures counted { FailsStored result (W.faults wire.old) (W.faults wire.new) }
+    {
+        cutting(
+            &mut self.histories,
+            &mut self.stored,
+            &mut self.doubt,
+            &self.pairs,
+            alloc,
+            middle,
+            wire,
+        )
+    }
+
+    /// Another partition server takes the slot: it has none of the rows in memory, and reads them from the streams when they are needed. A
+    /// change that is in doubt stays in doubt.
+    ///
+    /// The server's number is not kept, since nothing that a slot answers depends on it.
+    pub fn move_to(&mut self, _server: u32)
+        ensures { self.new ≡ self.old }
+    {
+        self.stored.unload();
     }
 }

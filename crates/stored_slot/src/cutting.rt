@@ -1,0 +1,133 @@
+//! How a slot over streams is cut in two.
+ghost use Rattle.std.specs.Prelude.{◌≡◌, IfOk, None, true};
+ghost use Rattle.std.specs.Arc.{arc_value};
+ghost use Rattle.std.specs.FinMap as finite;
+ghost use Rattle.stamp_values.specs.Trees.{is_below, is_from};
+ghost use Rattle.stored_rows.specs.Counting.{FailsStored};
+ghost use Rattle.stored_rows.specs.Ranges.{covers};
+ghost use Rattle.stored_rows.specs.States.{doubt_of};
+ghost use Rattle.stored_slot.specs.Meanings.{AreOfStreams, AreReplays, slot_with};
+ghost use Rattle.stored_slot.specs.Settled.{Cuts, CutsSettled};
+
+use crate::settling::settling;
+use crate::stored_slot::StoredSlot;
+use extent_node::Wire;
+use slot_state::{AccountPairs, Histories};
+use stamp_types::{Key, Past};
+use std::alloc::{AllocError, Global};
+use std::sync::Arc;
+use stored_rows::{StoredFault, StoredRows};
+
+// What is made for the two halves of a slot before anything is cut.
+#[derive(Drop)]
+struct Halves<H: Histories> {
+    below: H,
+    above: H,
+    pairs: Arc<AccountPairs>,
+}
+
+// What the halves need, from what the slot has.
+fn make_halves<H: Histories>(
+    histories: &H,
+    pairs: &Arc<AccountPairs>,
+    alloc: Global,
+    middle: &Key,
+) -> Result<Halves<H>, AllocError>
+    ensures below { IfOk result (λ ready. H.held ready.below ≡ finite.retain_keys (H.held histories.now) (is_below middle.now)) }
+    ensures above { IfOk result (λ ready. H.held ready.above ≡ finite.retain_keys (H.held histories.now) (is_from middle.now)) }
+    ensures pairs { IfOk result (λ ready. arc_value ready.pairs ≡ arc_value pairs.now) }
+{
+    let pairs = pairs.clone()?;
+    let (below, above) = histories.halves(alloc, middle)?;
+    Ok(Halves {
+        below,
+        above,
+        pairs,
+    })
+}
+
+// Cuts the streams and the rows, and then the histories. Nothing can fail after the streams are cut.
+fn cut_with<H: Histories, W: Wire>(
+    histories: &mut H,
+    stored: &mut StoredRows,
+    halves: Halves<H>,
+    middle: &Key,
+    wire: &mut W,
+) -> Result<StoredSlot<H>, StoredFault>
+    requires before { AreReplays (arc_value halves.pairs) (H.held histories.old) stored.old }
+    requires below { H.held halves.below ≡ finite.retain_keys (H.held histories.old) (is_below middle.now) }
+    requires above { H.held halves.above ≡ finite.retain_keys (H.held histories.old) (is_from middle.now) }
+    requires sure { doubt_of stored.old ≡ None }
+    requires covered { covers stored.old.range middle.now ≡ true }
+    ensures after { AreOfStreams (arc_value halves.pairs) (H.held histories.new) stored.new None }
+    ensures cut { Cuts result (slot_with (arc_value halves.pairs) (H.held histories.old) stored.old None) middle.now
+        (slot_with (arc_value halves.pairs) (H.held histories.new) stored.new None) }
+    ensures counted { FailsStored result (W.faults wire.old) (W.faults wire.new) }
+{
+    match stored.cut(middle, wire) {
+        Ok(upper) => {
+            let Halves {
+                below,
+                above,
+                pairs,
+            } = halves;
+            *histories = below;
+            Ok(StoredSlot {
+                histories: above,
+                stored: upper,
+                pairs,
+                doubt: None,
+            })
+        }
+        Err(fault) => {
+            drop(halves);
+            Err(fault)
+        }
+    }
+}
+
+// Cuts a slot without a doubt.
+fn cut_settled<H: Histories, W: Wire>(
+    histories: &mut H,
+    stored: &mut StoredRows,
+    pairs: &Arc<AccountPairs>,
+    alloc: Global,
+    middle: &Key,
+    wire: &mut W,
+) -> Result<StoredSlot<H>, StoredFault>
+    requires before { AreReplays (arc_value pairs.now) (H.held histories.old) stored.old }
+    requires sure { doubt_of stored.old ≡ None }
+    requires covered { covers stored.old.range middle.now ≡ true }
+    ensures after { AreOfStreams (arc_value pairs.now) (H.held histories.new) stored.new None }
+    ensures cut { Cuts result (slot_with (arc_value pairs.now) (H.held histories.old) stored.old None) middle.now
+        (slot_with (arc_value pairs.now) (H.held histories.new) stored.new None) }
+    ensures counted { FailsStored result (W.faults wire.old) (W.faults wire.new) }
+{
+    match make_halves(histories, pairs, alloc, middle) {
+        Ok(halves) => cut_with(histories, stored, halves, middle, wire),
+        Err(AllocError) => Err(StoredFault::NoMemory),
+    }
+}
+
+/// Settles a doubt, if there is one, and then cuts the slot at a key of its range: the upper half is answered.
+pub(crate) fn cutting<H: Histories, W: Wire>(
+    histories: &mut H,
+    stored: &mut StoredRows,
+    doubt: &mut Option<Past>,
+    pairs: &Arc<AccountPairs>,
+    alloc: Global,
+    middle: &Key,
+    wire: &mut W,
+) -> Result<StoredSlot<H>, StoredFault>
+    requires before { AreOfStreams (arc_value pairs.now) (H.held histories.old) stored.old doubt.old }
+    requires covered { covers stored.old.range middle.now ≡ true }
+    ensures after { AreOfStreams (arc_value pairs.now) (H.held histories.new) stored.new doubt.new }
+    ensures cut { CutsSettled result (slot_with (arc_value pairs.now) (H.held histories.old) stored.old doubt.old) middle.now
+        (slot_with (arc_value pairs.now) (H.held histories.new) stored.new doubt.new) }
+    ensures counted { FailsStored result (W.faults wire.old) (W.faults wire.new) }
+{
+    match settling(histories, stored, doubt, pairs, alloc, wire) {
+        Ok(()) => cut_settled(histories, stored, pairs, alloc, middle, wire),
+        Err(fault) => Err(fault),
+    }
+}
