@@ -63,6 +63,7 @@ fit_at (b ∷ acts) rest a p all = fit_at acts rest a (changed same_pieces b p) 
 -- a change fits its container as the changes before it leave it
 pub fits_next : (s : ThreeStreams) (before rest : List Recorded) (c : Recorded) → AllFit s → all_changes s ≡ (before ++ c ∷ []) ++ rest
     → Fits (after_acts same_pieces (acts_on c.0.key before) no_part) c.0.act
+unfolding AllFit
 fits_next s before rest c fit all =
     fit_at (acts_on c.0.key before) (acts_on c.0.key rest) c.0.act no_part
     (subst (λ acts. FitInTurn acts no_part) (ap (acts_on c.0.key) all ∙ acts_on-middle before rest c) (fit c.0.key))
@@ -78,6 +79,7 @@ pub all_more : (s t : Logged) (c : Recorded) → IsOneMore s c t → t.rows ++ t
 all_more s t c more = ap (λ l. l ++ t.log) more.rows ∙ ap (λ l. s.rows ++ l) more.log ∙ sym (append_assoc s.rows s.log (c ∷ []))
 
 pub all_fit_more : (s t : ThreeStreams) (c : Recorded) → AllFit s → IsOneMore (logged s) c (logged t) → Fits (held_of (logged s) c.0.key) c.0.act → AllFit t
+unfolding AllFit
 all_fit_more s t c fit more own = λ key.
     subst (λ acts. FitInTurn acts no_part)
     (sym (ap (acts_on key) (all_more (logged s) (logged t) c more) ∙ acts_on-one key (all_changes s) c (is_on key c) refl))
@@ -85,4 +87,10 @@ all_fit_more s t c fit more own = λ key.
 
 -- streams with the same changes
 pub all_fit_same : (s t : ThreeStreams) → AllFit s → all_changes t ≡ all_changes s → AllFit t
+unfolding AllFit
 all_fit_same s t fit same = λ key. subst (λ cs. FitInTurn (acts_on key cs) no_part) (sym same) (fit key)
+
+-- streams without a change
+pub all_fit_none : (s : ThreeStreams) → all_changes s ≡ [] → AllFit s
+unfolding AllFit
+all_fit_none s none = λ key. subst (λ cs. FitInTurn (acts_on key cs) no_part) (sym none) tt

@@ -1,5 +1,5 @@
 -- Rows that are rebuilt change by change.
-use Rattle.std.proofs.Common.{◌≡◌, ◌≢◌, ◌∙◌, ◌<◌, ◌-◌, Bool, true, false, cond, List, [], ◌∷◌, ◌++◌, length, IsTrue, ap, sym, refl, subst, arith}
+use Rattle.std.proofs.Common.{◌≡◌, ◌≢◌, ◌∙◌, ◌<◌, Bool, true, false, cond, List, [], ◌∷◌, ◌++◌, length, IsTrue, ap, sym, refl, subst, append-nil, arith}
 use Rattle.std.specs.FinMap as finite
 use Rattle.std.specs.Prelude.{unwrap_or}
 use Rattle.std.proofs.lemmas.List.{length-append}
@@ -17,7 +17,7 @@ use Rattle.partition_stream.specs.Streams.{ThreeStreams}
 use Rattle.partition_stream.specs.declared.position.Position.{Position}
 use Rattle.partition_stream.proofs.FirstPartLemmas.{first_part}
 use Rattle.stored_rows.specs.Fitting.{Fits, AllFit}
-use Rattle.stored_rows.specs.Loaded.{part_of, with_change}
+use Rattle.stored_rows.specs.Loaded.{AreRowsOf, HaveRead, changes_left, part_of, with_change}
 use Rattle.stored_rows.specs.Ranges.{covers}
 use Rattle.stored_rows.specs.declared.key_range.KeyRange.{KeyRange}
 use Rattle.stored_rows.proofs.FittingLemmas.{after_one, fits_next, is_on-own, is_on-same}
@@ -84,30 +84,58 @@ module _ (range : KeyRange) (cs : List Recorded) (c : Recorded) (w : World (List
 
 -- the change that is read fits the rows
 pub step_fits : (s : ThreeStreams) (range : KeyRange) (before after : Position) (c : Recorded) (w : World (List Piece)) → AllFit s
-    → HaveChanges range (changes_before s before) w → changes_before s after ≡ changes_before s before ++ c ∷ []
+    → HaveRead range s before w → changes_before s after ≡ changes_before s before ++ c ∷ []
     → covers range c.0.key ≡ true → IsTrue (fits (part_value pieces_len (part_at w c.0.key)) c.0.act)
+unfolding HaveRead
 step_fits s range before after c w fit old next covered =
     let first = first_part s after in
     fits_rows range (changes_before s before) c w old covered
     (fits_next s (changes_before s before) first.0 c fit (first.1 ∙ ap (λ cs. cs ++ first.0) next))
 
 -- the rows have it
-pub step_rows : (s : ThreeStreams) (range : KeyRange) (before after : Position) (c : Recorded) (w v : World (List Piece))
-    → HaveChanges range (changes_before s before) w → changes_before s after ≡ changes_before s before ++ c ∷ []
-    → v ≡ with_change range w c.0 → HaveChanges range (changes_before s after) v
-step_rows s range before after c w v old next made = λ key.
+pub step_read : (s : ThreeStreams) (range : KeyRange) (before after : Position) (c : Recorded) (w v : World (List Piece))
+    → HaveRead range s before w → changes_before s after ≡ changes_before s before ++ c ∷ []
+    → v ≡ with_change range w c.0 → HaveRead range s after v
+unfolding HaveRead
+step_read s range before after c w v old next made = λ key.
     ap (λ u. part_at u key) made ∙ have_more range (changes_before s before) c w old key ∙ sym (ap (part_of range key) next)
 
 -- fewer changes are left
-pub step_smaller : (s : ThreeStreams) (before after : Position) (c : Recorded) → changes_before s after ≡ changes_before s before ++ c ∷ []
-    → length (all_changes s) - length (changes_before s after) < length (all_changes s) - length (changes_before s before)
-step_smaller s before after c next =
+pub step_left : (s : ThreeStreams) (before after : Position) (c : Recorded) → changes_before s after ≡ changes_before s before ++ c ∷ []
+    → changes_left s after < changes_left s before
+unfolding changes_left
+step_left s before after c next =
     let first = first_part s after in
     let all = ap length first.1 ∙ length-append (changes_before s after) first.0 in
     let more = ap length next ∙ length-append (changes_before s before) (c ∷ []) in
     omega (arith, all, more)
 
--- ---- the beginning of a walk
+-- ---- the beginning and the end of a walk
+
+-- rows that have the changes before a position have those before another one with the same changes before it
+pub same_read : (s : ThreeStreams) (range : KeyRange) (before after : Position) (w : World (List Piece)) → HaveRead range s before w
+    → changes_before s after ≡ changes_before s before → HaveRead range s after w
+unfolding HaveRead
+same_read s range before after w old same = λ key. old key ∙ sym (ap (part_of range key) same)
+
+-- no change is left
+pub none_left : (s : ThreeStreams) (before after : Position) → changes_before s after ≡ changes_before s before → changes_before s before ≡ all_changes s → changes_left s after ≡ 0
+unfolding changes_left
+none_left s before after same all = let whole = ap length (same ∙ all) in omega (arith, whole)
+
+nothing_more : (l : List Recorded) → length l ≡ 0 → l ≡ []
+nothing_more [] none = refl
+nothing_more (c ∷ cs) none = absurd (omega (arith, none))
+
+-- rows that have the changes before a position after which no change is left
+pub read_all : (s : ThreeStreams) (range : KeyRange) (p : Position) (w : World (List Piece)) → HaveRead range s p w → changes_left s p ≡ 0 → AreRowsOf range s w
+unfolding HaveRead changes_left
+read_all s range p w read none =
+    let first = first_part s p in
+    let long = ap length first.1 ∙ length-append (changes_before s p) first.0 in
+    let rest = nothing_more first.0 (omega (arith, long, none)) in
+    let all : all_changes s ≡ changes_before s p = first.1 ∙ ap (λ l. changes_before s p ++ l) rest ∙ append-nil (changes_before s p) in
+    λ key. read key ∙ sym (ap (part_of range key) all)
 
 either : (b : Bool) (p : Part (List Piece)) → cond b p p ≡ p
 either true p = refl
@@ -118,3 +146,8 @@ pub none_have : (range : KeyRange) (cs : List Recorded) (w : World (List Piece))
 none_have range cs w empty none = λ key.
     ap (λ v. part_at v key) empty ∙ ap (λ o. unwrap_or o no_part) (finite.get-empty key_cmp key)
     ∙ sym (ap (part_of range key) none ∙ either (covers range key) no_part)
+
+-- no rows have the changes before the first position
+pub none_read : (s : ThreeStreams) (range : KeyRange) (p : Position) (w : World (List Piece)) → w ≡ finite.empty → changes_before s p ≡ [] → HaveRead range s p w
+unfolding HaveRead
+none_read s range p w empty none = none_have range (changes_before s p) w empty none

@@ -24,7 +24,7 @@ use Rattle.partition_stream.specs.Storing.{AreKept}
 use Rattle.partition_stream.specs.Streams.{AreSealed, HaveSameBlocks, ThreeStreams, logged}
 use Rattle.partition_stream.proofs.ContentLemmas.{part_reads}
 use Rattle.partition_stream.proofs.MeaningLemmas.{held_of-shared, held_of-stored, meaning-own, meaning-other, meaning-shared}
-use Rattle.stored_rows.specs.Fitting.{Fits, FitInTurn, FitsDoubt}
+use Rattle.stored_rows.specs.Fitting.{Fits, FitsDoubt}
 use Rattle.stored_rows.specs.Loaded.{AreLoaded, AreRowsOf, IsFollowed, doubted, part_of}
 use Rattle.stored_rows.specs.Logging.{AddsChange, Doubts, IsPutAndLogged, KeepsLog}
 use Rattle.stored_rows.specs.Ranges.{covers}
@@ -33,7 +33,7 @@ use Rattle.stored_rows.specs.declared.key_range.KeyRange.{KeyRange}
 use Rattle.stored_rows.specs.declared.logging.Unlogged.TheVariants as fault
 use Rattle.stored_rows.specs.declared.faults.TakeFault.TheVariants as take
 use Rattle.stored_rows.proofs.CutLemmas.{half_below, half_from}
-use Rattle.stored_rows.proofs.FittingLemmas.{all_fit_more, all_fit_same, all_more}
+use Rattle.stored_rows.proofs.FittingLemmas.{all_fit_more, all_fit_none, all_fit_same, all_more}
 use Rattle.stored_rows.proofs.LoadLemmas.{fits_rows, have_more_covered, none_have}
 
 -- ---- streams that keep the same changes
@@ -60,7 +60,7 @@ module _ (s t : ThreeStreams) (h : KeepsLog s t) where
   pub means_same : (range : KeyRange) (b : Bool) → AreKept s → MeansTheSame (record { streams = s; range = range; is_loaded = b }) (record { streams = t; range = range; is_loaded = b })
   means_same range b kept = record { rows = h.rows; log = h.log; bytes = meaning_same kept; pieces = held_same; range = refl; loaded = refl }
 
-no_doubt : (range : KeyRange) (t : ThreeStreams) → (logged t).doubt ≡ None → FitsDoubt range t
+pub no_doubt : (range : KeyRange) (t : ThreeStreams) → (logged t).doubt ≡ None → FitsDoubt range t
 no_doubt range t none = subst (λ (o : Option Recorded). IfSome o (λ c. (covers range c.0.key ≡ true) × Fits (held_of (logged t) c.0.key) c.0.act)) (sym none) tt
 
 -- no change is kept beside the streams if no change is in doubt
@@ -322,7 +322,7 @@ means_itself v = record { rows = refl; log = refl; bytes = λ key. refl; pieces 
 pub new_loaded : (s : ThreeStreams) (w : World (List Piece)) (range : KeyRange) → (logged s).rows ≡ [] → (logged s).log ≡ [] → (logged s).doubt ≡ None → w ≡ finite.empty
     → AreLoaded s (Some w) None range
 new_loaded s w range rows log none empty = record {
-  fit = λ key. subst (λ cs. FitInTurn (acts_on key cs) no_part) (sym nothing) tt;
+  fit = all_fit_none s nothing;
   doubt = no_doubt range s none;
   tried = sym (undoubted s none);
   rows = none_have range (all_changes s) w empty nothing;

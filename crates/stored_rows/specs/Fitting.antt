@@ -22,7 +22,7 @@ FitInTurn [] p = Unit {0}
 FitInTurn (a ∷ acts) p = Fits p a × FitInTurn acts (changed same_pieces a p)
 
 -- each change that the streams keep fits its container as the changes before it leave it
-abbrev pub AllFit : ThreeStreams → Type 0
+unfoldable pub AllFit : ThreeStreams → Type 0
 AllFit s = (key : Key) → FitInTurn (acts_on key (all_changes s)) no_part
 
 -- the change that is in doubt is one of the range, and fits its container

@@ -1,5 +1,5 @@
 -- Rows in memory beside the streams from which they are made (SOSP 2011, section 5).
-use Rattle.std.specs.Prelude.{◌≡◌, ⊤, cond, List, Option, Some, None, IfSome}
+use Rattle.std.specs.Prelude.{◌≡◌, ◌-◌, ℕ, ⊤, cond, length, List, Option, Some, None, IfSome}
 use Rattle.std.specs.Option.{option_map}
 use Rattle.stamp_values.specs.declared.key.Key.{Key}
 use Rattle.stamp_types.specs.Changes.{KeyedAct}
@@ -7,8 +7,9 @@ use Rattle.stamp_types.specs.declared.piece.Piece.{Piece}
 use Rattle.stamp_types.specs.World.{Part, World, changed_in, no_part, part_at, same_pieces}
 use Rattle.partition_stream.specs.Changes.{Recorded}
 use Rattle.partition_stream.specs.Meanings.{acts_on, after_acts}
-use Rattle.partition_stream.specs.Positions.{all_changes}
+use Rattle.partition_stream.specs.Positions.{all_changes, changes_before}
 use Rattle.partition_stream.specs.Streams.{ThreeStreams, logged}
+use Rattle.partition_stream.specs.declared.position.Position.{Position}
 use Rattle.stored_rows.specs.Fitting.{AllFit, FitsDoubt}
 use Rattle.stored_rows.specs.Ranges.{covers}
 use Rattle.stored_rows.specs.declared.key_range.KeyRange.{KeyRange}
@@ -28,6 +29,14 @@ held_in range s key = part_of range key (all_changes s)
 -- the rows have each container of the range as the streams mean it, and no other
 abbrev pub AreRowsOf : KeyRange → ThreeStreams → World (List Piece) → Type 0
 AreRowsOf range s w = (key : Key) → part_at w key ≡ held_in range s key
+
+-- the rows have each container of the range as the changes before this position leave it, and no other
+unfoldable pub HaveRead : KeyRange → ThreeStreams → Position → World (List Piece) → Type 0
+HaveRead range s p w = (key : Key) → part_at w key ≡ part_of range key (changes_before s p)
+
+-- how many changes come after this position
+unfoldable pub changes_left : ThreeStreams → Position → ℕ
+changes_left s p = length (all_changes s) - length (changes_before s p)
 
 -- the rows that were loaded have the change, or they are not loaded any more
 abbrev pub IsFollowed : Option (World (List Piece)) → KeyedAct → Option (World (List Piece)) → Type 0

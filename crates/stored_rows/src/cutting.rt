@@ -5,10 +5,22 @@ ghost use Rattle.std.specs.FinMap as finite;
 ghost use Rattle.stamp_values.specs.Trees.{is_below, is_from};
 ghost use Rattle.partition_stream.specs.Streams.{AreSealed, HaveSameBlocks};
 
+use crate::key_range::KeyRange;
 use partition_stream::Streams;
 use row_trees::Rows;
 use stamp_types::Key;
 use std::alloc::AllocError;
+
+/// The end of the lower half of a range that is cut at a key, and the range of the upper half.
+pub(crate) fn ends_of(range: &KeyRange, middle: &Key) -> Result<(Key, KeyRange), AllocError>
+    ensures lower { IfOk result (λ ends. ends.0 ≡ middle.now) }
+    ensures upper { IfOk result (λ ends. ends.1 ≡ record { from = middle.now; to = range.now.to }) }
+{
+    let end = middle.clone()?;
+    let from = middle.clone()?;
+    let to = range.to.clone()?;
+    Ok((end, KeyRange { from, to }))
+}
 
 // Takes the containers of a key and of each key after it out of the rows, if they are loaded, and gives them.
 fn split_rows(rows: &mut Option<Rows>, middle: &Key) -> Result<Option<Rows>, AllocError>

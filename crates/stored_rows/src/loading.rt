@@ -1,12 +1,12 @@
 //! Rows that are made of the changes that streams keep.
-ghost use Rattle.std.specs.Prelude.{◌≡◌, ◌≢◌, ◌<◌, Err, IfOk, IfSome, IsTrue, OnOk, true};
+ghost use Rattle.std.specs.Prelude.{◌≡◌, ◌≢◌, ◌<◌, Err, IfOk, IfSome, IsTrue, Ok, OnOk, false, true};
 ghost use Rattle.extent_seal.specs.Counting.{Grows, all_faults};
 ghost use Rattle.extent_seal.specs.declared.sealed.ReadFault.TheVariants.{Unreachable};
 ghost use Rattle.stamp_types.specs.Pieces.{pieces_len};
 ghost use Rattle.stamp_types.specs.World.{part_at, part_value};
 ghost use Rattle.row_trees.specs.Fits.{fits};
 ghost use Rattle.stored_rows.specs.Fitting.{AllFit};
-ghost use Rattle.stored_rows.specs.Loaded.{AreRowsOf, IsFollowed, with_change};
+ghost use Rattle.stored_rows.specs.Loaded.{AreRowsOf, HaveRead, IsFollowed, changes_left, with_change};
 ghost use Rattle.stored_rows.specs.Ranges.{covers};
 
 use crate::key_range::KeyRange;
@@ -33,6 +33,30 @@ fn make(alloc: Global, rows: &mut Rows, range: &KeyRange, change: Change) -> Res
     }
 }
 
+// Reads the change after a position, and makes it if it is one of the range. The answer says whether there was a change.
+fn make_next<W: Wire>(
+    alloc: Global,
+    rows: &mut Rows,
+    streams: &Streams,
+    range: &KeyRange,
+    position: &mut Position,
+    wire: &mut W,
+) -> Result<bool, ReadFault>
+    requires fit { AllFit streams.now }
+    requires read { HaveRead range.now streams.now position.old rows.old }
+    ensures made { OnOk result (HaveRead range.now streams.now position.new rows.new) }
+    ensures more { result ≡ Ok true → changes_left streams.now position.new < changes_left streams.now position.old }
+    ensures ended { result ≡ Ok false → changes_left streams.now position.new ≡ 0 }
+    ensures unreachable { result ≡ Err Unreachable → all_faults (W.faults wire.old) < all_faults (W.faults wire.new) }
+    ensures grown { Grows (W.faults wire.old) (W.faults wire.new) }
+{
+    let Some((change, _epoch)) = streams.next_change(position, wire)? else {
+        return Ok(false);
+    };
+    make(alloc, rows, range, change)?;
+    Ok(true)
+}
+
 /// Rows that have all changes of the streams, in their order, but only those of the range.
 ///
 /// Unreachable: each node with a copy of some extent was asked, and answered no.
@@ -49,9 +73,7 @@ pub(crate) fn rows_of<W: Wire>(
 {
     let mut rows = Rows::new(alloc);
     let mut position = Position::first();
-    'changes: while let Some((change, _epoch)) = streams.next_change(&mut position, wire)? {
-        make(alloc, &mut rows, range, change)?;
-    }
+    'changes: while make_next(alloc, &mut rows, streams, range, &mut position, wire)? {}
     Ok(rows)
 }
 

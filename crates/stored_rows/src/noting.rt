@@ -1,22 +1,25 @@
-//! What is done beside the streams once a change was put and logged.
-ghost use Rattle.std.specs.Prelude.{◌≡◌, IfOk, IfSome, IsTrue, Some};
+//! What is done beside the streams once a change was logged or settled, once streams were sealed, and once rows were made.
+ghost use Rattle.std.specs.Prelude.{◌≡◌, IfOk, IfSome, IsTrue, None, Some};
 ghost use Rattle.stamp_types.specs.Pieces.{pieces_len};
 ghost use Rattle.stamp_types.specs.World.{part_at, part_value};
 ghost use Rattle.row_trees.specs.Fits.{fits};
-ghost use Rattle.stored_rows.specs.Noting.{IsKeptBeside, taken_by};
+ghost use Rattle.stored_rows.specs.Loaded.{IsFollowed};
+ghost use Rattle.stored_rows.specs.Noting.{IfKept, IsKeptBeside, IsLoadedBeside, IsSettledBeside, ended_by, loaded_by, sealed_by, taken_by};
 
-use crate::faults::TakeFault;
-use crate::loading::follow;
+use crate::faults::{Ended, StoredFault, TakeFault};
+use crate::loading::{follow, follow_doubt};
 use crate::logging::Unlogged;
+use extent_seal::ReadFault;
 use row_trees::Rows;
 use stamp_types::Change;
 use std::alloc::Global;
+use stream_manager::{SettleFault, Settled};
 
 // Keeps the change that is in doubt.
 fn keep_doubt(doubt: &mut Option<Change>, kept: Change)
     ensures { doubt.new ≡ Some kept }
 {
-    *doubt = Some(kept);
+    drop(doubt.replace(kept));
 }
 
 /// Makes a change that was logged in the rows that are loaded, or keeps a change that is in doubt. The answer is that of the take.
@@ -41,5 +44,74 @@ pub(crate) fn note(
         }
         Err(Unlogged::Busy) => Err(TakeFault::Busy),
         Err(Unlogged::NoMemory) => Err(TakeFault::NoMemory),
+    }
+}
+
+// Keeps no change any more.
+fn keep_none(doubt: &mut Option<Change>)
+    ensures { doubt.new ≡ None }
+{
+    drop(doubt.take());
+}
+
+// Makes the change that was in doubt, now that it is kept, and keeps no change any more.
+fn follow_kept(alloc: Global, rows: &mut Option<Rows>, doubt: &mut Option<Change>)
+    requires { IfSome doubt.old (λ c. IfSome rows.old (λ w. IsTrue (fits (part_value pieces_len (part_at w c.key)) c.act))) }
+    ensures followed { IfSome doubt.old (λ c. IsFollowed rows.old c rows.new) }
+    ensures none { doubt.new ≡ None }
+{
+    let kept = doubt.take();
+    follow_doubt(alloc, rows, kept);
+}
+
+/// Makes a change that was in doubt in the rows that are loaded, if it is kept. The answer is that of the settle.
+pub(crate) fn note_settled(
+    alloc: Global,
+    rows: &mut Option<Rows>,
+    doubt: &mut Option<Change>,
+    settled: Result<Settled, SettleFault>,
+) -> Result<Ended, StoredFault>
+    requires { IfKept settled (IfSome doubt.old (λ c. IfSome rows.old (λ w. IsTrue (fits (part_value pieces_len (part_at w c.key)) c.act)))) }
+    ensures answer { result ≡ ended_by settled }
+    ensures noted { IsSettledBeside settled rows.old rows.new doubt.old doubt.new }
+{
+    match settled {
+        Ok(Settled::Clean) => Ok(Ended::Clean),
+        Ok(Settled::Kept(_place)) => {
+            follow_kept(alloc, rows, doubt);
+            Ok(Ended::Kept)
+        }
+        Ok(Settled::Dropped) => {
+            keep_none(doubt);
+            Ok(Ended::Dropped)
+        }
+        Err(fault) => Err(StoredFault::from(fault)),
+    }
+}
+
+/// The answer of a seal.
+pub(crate) fn note_sealed(sealed: Result<(), SettleFault>) -> Result<(), StoredFault>
+    ensures { result ≡ sealed_by sealed }
+{
+    match sealed {
+        Ok(()) => Ok(()),
+        Err(fault) => Err(StoredFault::from(fault)),
+    }
+}
+
+/// Keeps rows that were made. The answer is that of the load.
+pub(crate) fn note_loaded(
+    rows: &mut Option<Rows>,
+    made: Result<Rows, ReadFault>,
+) -> Result<(), StoredFault>
+    ensures answer { result ≡ loaded_by made }
+    ensures noted { IsLoadedBeside made rows.old rows.new }
+{
+    match made {
+        Ok(loaded) => {
+            *rows = Some(loaded);
+            Ok(())
+        }
+        Err(fault) => Err(StoredFault::from(fault)),
     }
 }

@@ -1,12 +1,12 @@
 //! The rows of a range of keys, in streams and in memory.
 ghost use Rattle.std.specs.Prelude.{◌≡◌};
 
-use crate::cutting::share_upper;
+use crate::cutting::{ends_of, share_upper};
 use crate::faults::{Ended, StoredFault, TakeFault};
 use crate::key_range::KeyRange;
-use crate::loading::{follow_doubt, rows_of};
+use crate::loading::rows_of;
 use crate::logging::put_and_log;
-use crate::noting::note;
+use crate::noting::{note, note_loaded, note_sealed, note_settled};
 use extent_node::Wire;
 use extent_seal::ReadFault;
 use partition_stream::{Part, Streams};
@@ -15,7 +15,6 @@ use row_trees::{Found, Rows};
 use stamp_types::{Change, Key, Piece, Reply};
 use std::alloc::{AllocError, Global};
 use std::marker::Model;
-use stream_manager::Settled;
 use tickets::{Answer, Unreachable, make_answer};
 
 /// The rows of a range of keys. Streams keep them, and they are in memory while they are loaded (SOSP 2011, section 5).
@@ -76,6 +75,7 @@ impl StoredRows {
         ensures sure { doubt_of result ≡ None }
         ensures loaded { result.is_loaded ≡ true }
         ensures range { result.range ≡ range }
+        ensures limits { (result.streams.log.limit ≡ extent_bytes) × ((result.streams.blobs.limit ≡ extent_bytes) × (result.streams.rows.limit ≡ extent_bytes)) }
     {
         Self {
             alloc,
@@ -247,13 +247,8 @@ impl StoredRows {
         if self.rows.is_some() {
             return Ok(());
         }
-        match rows_of(self.alloc, &self.streams, &self.range, wire) {
-            Ok(rows) => {
-                self.rows = Some(rows);
-                Ok(())
-            }
-            Err(fault) => Err(StoredFault::from(fault)),
-        }
+        let made = rows_of(self.alloc, &self.streams, &self.range, wire);
+        note_loaded(&mut self.rows, made)
     }
 
     /// Drops the rows that are in memory. A change that is in doubt stays in doubt.
@@ -272,19 +267,8 @@ impl StoredRows {
         ensures counted { FailsStored result (W.faults wire.old) (W.faults wire.new) }
     {
         self.streams.kept();
-        match self.streams.settle(wire) {
-            Ok(Settled::Clean) => Ok(Ended::Clean),
-            Ok(Settled::Kept(_place)) => {
-                let kept = self.doubt.take();
-                follow_doubt(self.alloc, &mut self.rows, kept);
-                Ok(Ended::Kept)
-            }
-            Ok(Settled::Dropped) => {
-                self.doubt = None;
-                Ok(Ended::Dropped)
-            }
-            Err(fault) => Err(StoredFault::from(fault)),
-        }
+        let settled = self.streams.settle(wire);
+        note_settled(self.alloc, &mut self.rows, &mut self.doubt, settled)
     }
 
     /// Seals the streams.
@@ -296,10 +280,8 @@ impl StoredRows {
         ensures counted { FailsStored result (W.faults wire.old) (W.faults wire.new) }
     {
         self.streams.kept();
-        match self.streams.seal(wire) {
-            Ok(()) => Ok(()),
-            Err(fault) => Err(StoredFault::from(fault)),
-        }
+        let sealed = self.streams.seal(wire);
+        note_sealed(sealed)
     }
 
     // The upper half with the same streams.
@@ -340,10 +322,16 @@ impl StoredRows {
         ensures refused { OnErr result (MeansTheSame self.old self.new × (doubt_of self.new ≡ None)) }
         ensures counted { FailsStored result (W.faults wire.old) (W.faults wire.new) }
     {
-        let end = middle.clone()?;
-        let from = middle.clone()?;
-        let to = self.range.to.clone()?;
-        self.seal(wire)?;
-        self.halve(end, KeyRange { from, to })
+        let Ok((end, upper)) = ends_of(&self.range, middle) else {
+            return Err(StoredFault::NoMemory);
+        };
+        match self.seal(wire) {
+            Ok(()) => self.halve(end, upper),
+            Err(fault) => {
+                drop(end);
+                drop(upper);
+                Err(fault)
+            }
+        }
     }
 }
