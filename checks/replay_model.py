@@ -514,8 +514,13 @@ def answered(head, body, stamp, moment):
 
 
 def replay(stream, moments, account, keys):
+    """What a connection to a new stamp writes, its exit status, and its items."""
+    return connected(Stamp(account, keys), stream, moments)
+
+
+def connected(stamp, stream, moments):
     """What a connection writes that gets this stream, its exit status, and its items. Each item has its moment; the last one holds on."""
-    stamp, at, wrote, items = Stamp(account, keys), 0, b"", []
+    at, wrote, items = 0, b"", []
     while at < len(stream):
         moment, end = moments[min(len(items), len(moments) - 1)], head_end(stream, at)
         if (end or len(stream)) - at <= HEAD_LIMIT and not end:
