@@ -4,6 +4,7 @@ with a stub in the place of the toolchain, so nothing is built.
 Each function gives what was tried, what came of it, and what was wanted: the status, standard output and standard error.
 """
 import os
+import resource
 import shutil
 import signal
 import socket
@@ -92,6 +93,11 @@ def what_cannot_be_kept(root, program):
     wanted = f"{NOT_BUILT}it could not be kept: {root / OUT}/by_sources: Not a directory\n"
     yield "./stamp if nothing can be kept", ended(start(root, NEVER_CALLED, program)), (70, b"", wanted)
     (root / OUT).unlink()
+    # A file without room for the program: a disk that is full takes an empty file, too.
+    takes_nothing = lambda: resource.setrlimit(resource.RLIMIT_FSIZE, (0, 0))
+    wanted = f"{NOT_BUILT}it could not be kept: {root / OUT}/by_sources: File too large\n"
+    yield "./stamp if nothing can be written", ended(start(root, NEVER_CALLED, program, preexec_fn=takes_nothing)), (70, b"", wanted)
+    shutil.rmtree(root / OUT)
     if os.geteuid():
         (root / OUT).parent.chmod(0o555)
         wanted = f"{NOT_BUILT}it could not be kept: {root / OUT}/by_sources: Permission denied\n"

@@ -12,6 +12,8 @@ from pathlib import Path
 
 ROOT = Path(__file__).resolve().parent.parent
 PROGRAM = "stamp_main"
+# The program has fewer bytes.
+ROOM = 1 << 20
 # What a proof reads of a crate.
 SOURCES = ("src", "specs", "proofs")
 # A part of a source file that may look like a comment or be one: a raw text, a text, a character, a comment. A quote after a letter belongs to a
@@ -180,11 +182,14 @@ def reason_of(error):
 
 
 def why_not_kept(digest):
-    """Why a program of this digest could not be kept, or None if it could: a file is made in the folder of such programs, and dropped."""
+    """Why a program of this digest could not be kept, or None if it could: a file of more bytes is made in the folder of such programs, and dropped."""
     place = kept_program(digest).parent.parent
     try:
         place.mkdir(parents=True, exist_ok=True)
-        with tempfile.TemporaryFile(dir=place):
+        # (a full disk still takes an empty file)
+        with tempfile.TemporaryFile(dir=place) as file:
+            file.write(bytes(ROOM))
+            file.flush()
             return None
     except OSError as error:
         return f"{place}: {error.strerror}"
