@@ -19,7 +19,7 @@ DONE, CUT = 0, 3
 PHRASES = {
     200: "OK", 201: "Created", 202: "Accepted", 206: "Partial Content", 304: "Not Modified", 400: "Bad Request", 403: "Forbidden", 404: "Not Found",
     405: "Method Not Allowed", 409: "Conflict", 411: "Length Required", 412: "Precondition Failed", 413: "Payload Too Large",
-    416: "Range Not Satisfiable",
+    416: "Range Not Satisfiable", 500: "Internal Server Error", 503: "Service Unavailable",
 }
 INTERIM = b"HTTP/1.1 100 Continue\r\n\r\n"
 PROLOG = b'<?xml version="1.0" encoding="utf-8"?>'

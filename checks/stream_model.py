@@ -68,7 +68,9 @@ class Random(Wire):
 
 
 class Fixed(Wire):
-    """The answers of a list, or good ones, but for one more fault: at one call, or at one node from one call on."""
+    """The answers of a list, or good ones, but for one more fault: at one call, or at one node, or at all nodes, from one call on."""
+
+    ALL = "all"
 
     def __init__(self, seed=None, at=None, fault=None, down=None):
         super().__init__()
@@ -83,8 +85,8 @@ class Fixed(Wire):
             return self.WELL
         if self.at is not None and self.down is None and self.count == self.at:
             return self.fault
-        if self.down == node and self.count >= self.at:
-            return self.REFUSED
+        if self.down in (node, self.ALL) and self.count >= self.at:
+            return self.fault or self.REFUSED
         return self.list[self.count] if self.count < len(self.list) else self.WELL
 
 

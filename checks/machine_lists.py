@@ -1,0 +1,331 @@
+"""Lists of steps of slots over streams: random ones, and one that is made again with a fault at each call of the wire.
+
+A step is written as a line with the wire's answers, and machine_model.py says what it is answered.
+"""
+import random
+from base64 import b64encode
+from functools import cache
+
+from body_model import STEPS as SECOND, http_date
+from head_model import read_head
+from replay_model import etag_text, hmac_of, string_to_sign
+from machine_model import ACCOUNT, KEYS, Machine
+from stream_model import Fixed, Lines, Random, Streams, Wire
+
+STEPS = 40
+# 2012-10-01T12:00:00Z.
+NOON = 13_490_928_000_000_000
+CONTAINERS = ["aaa", "bbb", "ccc", "mmm", "pics", "video", "zzz"]
+BLOBS = ["a", "b"]
+IDS = ["AAAA", "BBBB", "CCCC"]
+CUTS = ["aab", "bbb", "ccd", "m00", "mmm", "q00", "video", "zz0"]
+PARTS = ("log", "blobs", "rows")
+LIMITS = (1, 200, 500, 2_000, 1_000_000)
+BUSY_LINE, UNKNOWN_LINE = b"\r\nx-stamp-rule: N1\r\n", b"\r\nx-stamp-rule: N2\r\n"
+POLICY = "<SignedIdentifier><Id>p</Id><AccessPolicy><Permission>r</Permission></AccessPolicy></SignedIdentifier>"
+# How often a random request is of each kind.
+KINDS = {
+    "create": 10, "describe": 2, "allow": 2, "delete": 3, "put": 14, "block": 8, "commit": 6, "label": 2, "remove": 3, "get": 18, "blocks": 2,
+    "properties": 2, "acl": 1, "blobs": 2, "list": 5, "forged": 1,
+}
+
+
+def request(verb, path, moment, headers=(), body=b"", key=KEYS[0]):
+    """A request as bytes, signed by a key, or without a signature if there is no key."""
+    fields = [("x-ms-date", http_date(moment)), ("x-ms-version", "2012-02-12"), *headers]
+    fields += [("Content-Length", len(body))] if verb == "PUT" else []
+    head = f"{verb} /{ACCOUNT}{path} HTTP/1.1\r\n" + "".join(f"{name}: {value}\r\n" for name, value in fields)
+    if key:
+        signature = hmac_of(key, string_to_sign(read_head(head.encode() + b"\r\n"))).decode()
+        head += f"Authorization: SharedKey {ACCOUNT}:{signature}\r\n"
+    return head.encode() + b"\r\n" + body
+
+
+def create(name, moment, *headers):
+    return request("PUT", f"/{name}?restype=container", moment, headers)
+
+
+def delete(name, moment):
+    return request("DELETE", f"/{name}?restype=container", moment)
+
+
+def put(name, blob, body, moment, *headers):
+    return request("PUT", f"/{name}/{blob}", moment, [("x-ms-blob-type", "BlockBlob"), *headers], body)
+
+
+def block(name, blob, it, body, moment):
+    return request("PUT", f"/{name}/{blob}?comp=block&blockid={it}", moment, (), body)
+
+
+def commit(name, blob, entries, moment):
+    body = "".join(f"<{kind}>{it}</{kind}>" for kind, it in entries)
+    return request("PUT", f"/{name}/{blob}?comp=blocklist", moment, (), f"<BlockList>{body}</BlockList>".encode())
+
+
+def shown(verb, path, key=KEYS[0]):
+    """Makes a request that reads, of the moment that it gets."""
+    return lambda moment: request(verb, path, moment, key=key)
+
+
+def all_reads(stamp):
+    """Requests that show all containers and all that is in them."""
+    yield from (shown("GET", f"?comp=list&include=metadata{it}") for it in ("", *(f"&marker={cut}" for cut in CUTS)))
+    for name in stamp.containers:
+        yield shown("GET", f"/{name}?restype=container&comp=list&include=metadata")
+        yield shown("GET", f"/{name}?restype=container&comp=acl")
+        for blob in stamp.containers[name].blobs:
+            yield shown("GET", f"/{name}/{blob.decode()}")
+            yield shown("GET", f"/{name}/{blob.decode()}?comp=blocklist&blocklisttype=all")
+
+
+class Requests:
+    """Random requests. Most of them are for objects that exist."""
+
+    def __init__(self, dice, stamp):
+        self.dice, self.stamp = dice, stamp
+
+    def one(self, moment):
+        kind = self.dice.choices([*KINDS], [*KINDS.values()])[0]
+        there = [*self.stamp.containers]
+        self.name = self.dice.choice(there if there and kind != "create" and self.dice.random() < 0.85 else CONTAINERS)
+        blobs = [it.decode() for it in self.stamp.containers[self.name].blobs] if self.name in there else []
+        self.blob = self.dice.choice(blobs if blobs and self.dice.random() < 0.7 else BLOBS)
+        return getattr(self, kind)(moment)
+
+    def body(self):
+        return self.dice.randbytes(self.dice.choice((0, 1, 5, 80, 300)))
+
+    def conditions(self):
+        part = self.stamp.containers[self.name].blobs[self.blob.encode()].part if self.is_there() else None
+        value = self.dice.choice(["*", etag_text(part.etag if part else 1).decode()])
+        return [(self.dice.choice(["If-Match", "If-None-Match"]), value)] if self.dice.random() < 0.1 else []
+
+    def is_there(self):
+        return self.name in self.stamp.containers and self.blob.encode() in self.stamp.containers[self.name].blobs
+
+    def labels(self):
+        return [(f"x-ms-meta-{it}", self.dice.choice(["red", ""])) for it in self.dice.sample(["a", "b", "c"], self.dice.choice((0, 0, 1, 3)))]
+
+    def level(self):
+        level = self.dice.choice([None, None, "blob", "container"])
+        return [("x-ms-blob-public-access", level)] if level else []
+
+    def create(self, moment):
+        return create(self.name, moment, *self.labels(), *self.level())
+
+    def describe(self, moment):
+        return request("PUT", f"/{self.name}?restype=container&comp=metadata", moment, self.labels())
+
+    def allow(self, moment):
+        body = f"<SignedIdentifiers>{POLICY * self.dice.randrange(2)}</SignedIdentifiers>".encode()
+        return request("PUT", f"/{self.name}?restype=container&comp=acl", moment, self.level(), body)
+
+    def delete(self, moment):
+        return delete(self.name, moment)
+
+    def put(self, moment):
+        return put(self.name, self.blob, self.body(), moment, *self.labels(), *self.conditions())
+
+    def block(self, moment):
+        return block(self.name, self.blob, self.dice.choice(IDS), self.body(), moment)
+
+    def commit(self, moment):
+        kinds = ["Latest", "Latest", "Uncommitted", "Committed"]
+        blob = self.stamp.containers[self.name].blobs[self.blob.encode()] if self.is_there() else None
+        known = [b64encode(it).decode() for it in blob.blocks] if blob else []
+        ids = known if known and self.dice.random() < 0.8 else IDS
+        entries = [(self.dice.choice(kinds), it) for it in self.dice.choices(ids, k=self.dice.randrange(4))]
+        return commit(self.name, self.blob, entries, moment)
+
+    def label(self, moment):
+        return request("PUT", f"/{self.name}/{self.blob}?comp=metadata", moment, self.labels())
+
+    def remove(self, moment):
+        return request("DELETE", f"/{self.name}/{self.blob}", moment, self.conditions())
+
+    def get(self, moment):
+        first = self.dice.randrange(12)
+        ranges = [f"bytes={first}-", f"bytes={first}-{first + self.dice.randrange(300)}"]
+        headers = [("x-ms-range", self.dice.choice(ranges))] if self.dice.random() < 0.4 else []
+        key = self.dice.choice([*KEYS, None])
+        return request("GET", f"/{self.name}/{self.blob}", moment, [*headers, *self.conditions()], key=key)
+
+    def blocks(self, moment):
+        kind = self.dice.choice(["all", "committed", "uncommitted"])
+        return request("GET", f"/{self.name}/{self.blob}?comp=blocklist&blocklisttype={kind}", moment)
+
+    def properties(self, moment):
+        return request("HEAD", f"/{self.name}/{self.blob}", moment)
+
+    def acl(self, moment):
+        return request("GET", f"/{self.name}?restype=container&comp=acl", moment)
+
+    def blobs(self, moment):
+        return request("GET", f"/{self.name}?restype=container&comp=list", moment)
+
+    def list(self, moment):
+        query = "".join(self.dice.choice(["", it]) for it in (f"&marker={self.dice.choice(CUTS)}", f"&maxresults={self.dice.randint(1, 3)}", "&prefix=m"))
+        return request("GET", f"?comp=list{query}", moment)
+
+    def forged(self, moment):
+        return request("DELETE", f"/{self.name}?restype=container", moment, key=b"key3")
+
+
+class Run:
+    """A list of steps. A second passes with each request."""
+
+    def __init__(self, lines, wire, limit):
+        self.lines, self.wire, self.machine, self.moment = lines, wire, Machine(limit), NOON
+        # The requests that were answered as made, and those of which the answer does not say it.
+        self.known, self.unknown = [], []
+        lines.ask("slots", limit)
+
+    def step(self, name, *words):
+        """Makes a step that has no request."""
+        self.wire.begin()
+        return self.made(name, words, getattr(self.machine, name)(*words, self.wire))
+
+    def serve(self, make):
+        """Serves the request that is made of the next moment."""
+        self.moment += SECOND
+        self.wire.begin()
+        asked = make(self.moment)
+        answer = self.made("serve", [self.moment, asked.hex()], self.machine.serve(asked, self.moment, self.wire))
+        if asked[:3] in (b"PUT", b"DEL"):
+            self.known += [self.moment] * answer.startswith(b"HTTP/1.1 20")
+            self.unknown += [self.moment] * (UNKNOWN_LINE in answer)
+        return answer
+
+    def fetch(self, number):
+        return self.step("fetch", self.moment, number)
+
+    def made(self, name, words, answer):
+        """A step was answered so. It fails only if a call of the wire failed."""
+        is_reply = isinstance(answer, bytes)
+        is_failed = answer in ("busy", "unreachable") or is_reply and name == "serve" and (BUSY_LINE in answer or UNKNOWN_LINE in answer)
+        assert not is_failed or self.wire.answers.strip(Wire.WELL)
+        self.machine.check()
+        self.lines.call(self.wire, name, words, answer.hex() if is_reply else answer)
+        return answer
+
+    def show(self):
+        """Over a wire that is well, each slot is settled, each ticket is fetched, and everything is read."""
+        self.wire = Fixed()
+        for number in range(len(self.machine.slots)):
+            self.step("settle", number)
+        for make in [*all_reads(self.machine.stamp)]:
+            self.serve(make)
+        for number in range(len(self.machine.tickets)):
+            self.fetch(number)
+        assert self.known == [it.moment for it in self.machine.history if it.moment not in self.unknown]
+
+
+def random_slot(run, dice):
+    """The number of a slot, or of none."""
+    return dice.randrange(len(run.machine.slots) + (dice.random() < 0.05))
+
+
+def repair(run, dice):
+    """A repair of an extent that a node lacks, if there is one, or of any extent, or of the one after them."""
+    at, part, node = random_slot(run, dice), dice.choice(PARTS), dice.randrange(3)
+    streams = run.machine.slots[at].streams if at < len(run.machine.slots) else Streams(1)
+    lacking = [(it, n, lost) for it in PARTS for n, extent in enumerate(getattr(streams, it).sealed) for lost in range(3) if lost not in extent]
+    if lacking and dice.random() < 0.7:
+        return run.step("repair", at, *dice.choice(lacking))
+    return run.step("repair", at, part, dice.randrange(len(getattr(streams, part).sealed) + 1), node)
+
+
+def random_step(run, dice):
+    """One random step of a list."""
+    slots = run.machine.slots
+    in_doubt, unloaded = any(it.doubt for it in slots), not all(it.is_loaded for it in slots)
+    ways = {"serve": 28, "settle": 1 + 3 * in_doubt, "seal": 2, "load": 0.5 + unloaded, "unload": 1.5, "move": 0.7, "repair": 2.5, "split": 1.5}
+    ways["fetch"] = 0.2 + 3 * any(run.machine.tickets)
+    way = dice.choices([*ways], [*ways.values()])[0]
+    if way == "serve":
+        run.serve(Requests(dice, run.machine.stamp).one)
+    elif way == "fetch":
+        held = [number for number, it in enumerate(run.machine.tickets) if it]
+        run.fetch(dice.choice(held) if held and dice.random() < 0.9 else dice.randrange(len(run.machine.tickets) + 1))
+    elif way == "split":
+        run.step("split", random_slot(run, dice), dice.choice(CUTS))
+    elif way == "move":
+        run.step("move", random_slot(run, dice), dice.randrange(3))
+    elif way == "repair":
+        repair(run, dice)
+    else:
+        run.step(way, random_slot(run, dice))
+
+
+def random_run(seed):
+    """The lines of a random list of forty steps, and of what it left."""
+    dice, lines = random.Random(f"steps {seed}"), Lines()
+    run = Run(lines, Random(dice), dice.choice(LIMITS))
+    while lines.calls < STEPS:
+        random_step(run, dice)
+    run.show()
+    return lines
+
+
+def script(run):
+    """The steps of one list, and what each was answered: a reply that a ticket holds is fetched at once."""
+
+    def serve(make, *words):
+        answer = run.serve(lambda moment: make(*words, moment))
+        return run.fetch(int(answer.split()[1])) if answer[:6] == "later " else answer
+
+    def read(name):
+        return serve(lambda moment: request("GET", f"/{name}/a", moment))
+
+    yield serve(create, "pics")
+    yield serve(put, "pics", "a", b"hello")
+    yield serve(create, "aaa")
+    yield serve(block, "pics", "a", "AAAA", b"one")
+    yield serve(commit, "pics", "a", [("Latest", "AAAA"), ("Latest", "AAAA")])
+    yield read("pics")
+    yield run.step("seal", 0)
+    yield run.step("repair", 0, "log", 0, 1)
+    yield run.step("unload", 0)
+    yield read("pics")
+    yield run.step("split", 0, "mmm")
+    yield serve(put, "aaa", "a", b"world")
+    yield run.step("move", 1, 1)
+    yield run.step("load", 1)
+    yield serve(put, "pics", "a", b"again")
+    yield serve(delete, "aaa")
+    yield read("pics")
+
+
+@cache
+def clean_answers(limit):
+    return [*script(Run(Lines(), Fixed(), limit))]
+
+
+def fixed_run(wire, limit=170):
+    """The lines of one list and of what it left, and the letters of the calls of the wire in the list.
+
+    If only one call fails, each answer is as if none failed."""
+    lines = Lines()
+    run = Run(lines, wire, limit)
+    answers = [*script(run)]
+    calls = "".join(it.rpartition("| ")[2] for it in lines.said.splitlines())
+    if wire.seed is None and wire.down is None and wire.at is not None:
+        assert answers == clean_answers(limit)
+    run.show()
+    return lines, calls
+
+
+def fault_runs(is_all):
+    """The lines of one list, with each fault at each call of the wire, and with each call failing from there on. If all lists are wanted, also over
+    a wire that is not well, with one fault less, and with each node down."""
+    for base in (Fixed(), Fixed(seed="not well"))[: 1 + is_all]:
+        clean, calls = fixed_run(base.again())
+        yield clean
+        for at, letter in enumerate(calls):
+            faults = (Wire.REFUSED, Wire.LOST) if letter.islower() else (Wire.REFUSED,)
+            for fault in (*faults, *(Wire.WELL for _ in range(base.seed is not None))):
+                yield fixed_run(base.again(at, fault))[0]
+            for fault in (Wire.REFUSED, Wire.LOST):
+                yield fixed_run(base.again(at, fault, Fixed.ALL))[0]
+            for node in range(3 * is_all):
+                yield fixed_run(base.again(at, down=node))[0]

@@ -1,0 +1,241 @@
+"""A plain model of slots over streams: what each step answers, which nodes it calls, and what it leaves.
+
+The containers are what the accepted requests make in their order. A slot has three streams, from stream_model.py, and at most one request
+whose change is in doubt. Replies are made by replay_model.py, and records by record_model.py. It was written from docs/streams.md and
+docs/theorem.md, and never calls the product.
+"""
+from head_model import head_end, read_head
+from record_model import record
+from replay_model import Asked, Denial, Stamp, denied_bytes, range_of, reply_bytes, route
+from stream_model import Streams
+
+ACCOUNT, KEYS = "devstoreaccount1", [b"key1", b"key2"]
+SPANS = 256
+BUSY, UNKNOWN = Denial("N1", 503, "ServerBusy"), Denial("N2", 500, "OperationTimedOut")
+
+
+class Placed(bytes):
+    """The content of a request, with its pieces: of each its place and its length."""
+
+    pieces = ()
+
+
+class Entry:
+    """A request at its moment, and what its body says."""
+
+    def __init__(self, asked, moment, said):
+        self.asked, self.moment, self.said = asked, moment, said
+
+    def place(self, pieces):
+        self.asked.body = Placed(self.asked.body)
+        self.asked.body.pieces = pieces
+
+
+class Logged:
+    """The change of an entry, as a block of the log."""
+
+    def __init__(self, entry, pieces):
+        self.entry, self.length = entry, len(record(entry.asked, entry.moment, entry.said, pieces))
+
+    def __len__(self):
+        return self.length
+
+
+class Containers(Stamp):
+    """The containers of all slots. A page of containers ends at a bound."""
+
+    bound = None
+
+    def ListContainers(self, asked, moment, *rest):
+        every, bound = self.containers, self.bound
+        self.containers = {name: it for name, it in every.items() if bound is None or name < bound}
+        status, headers, body = super().ListContainers(asked, moment, *rest)
+        self.containers = every
+        return status, headers, body.replace(b"<NextMarker></NextMarker>", b"<NextMarker>%s</NextMarker>" % (bound or "").encode())
+
+
+class Slot:
+    """The containers from the first key up to the bound, in streams."""
+
+    def __init__(self, streams, first="", bound=None, is_loaded=True):
+        self.streams, self.first, self.bound, self.is_loaded, self.doubt = streams, first, bound, is_loaded, None
+
+    def covers(self, name):
+        return self.first <= name and (self.bound is None or name < self.bound)
+
+    def load(self, wire):
+        """All changes are read in their order, of all names. The first one that no node gives ends the load."""
+        if not self.is_loaded:
+            log = self.streams.log
+            self.is_loaded = all(log.read(place, wire) is not None for place, _ in log.places())
+        return self.is_loaded
+
+    def keep(self, place, wire):
+        """What a piece is read by when its ticket is fetched: the nodes and their copies of a sealed extent. It is empty if the piece is read now,
+        and None if no node answers."""
+        sealed, (number, _) = self.streams.blobs.sealed, place
+        if number < len(sealed):
+            return sealed[number]
+        return {} if self.streams.blobs.read(place, wire) is not None else None
+
+
+def spans(asked, part):
+    """The places of the pieces that go out."""
+    pieces = [it for _, content in part.blocks for it in content.pieces]
+    wanted = range_of(asked.head)
+    start, last = wanted or (0, None)
+    at = 0
+    for place, length in pieces:
+        if not wanted or start < at + length and (last is None or at <= last):
+            yield place
+        at += length
+
+
+class Machine:
+    """Slots, split points and tickets. Each step answers one word, or a reply."""
+
+    def __init__(self, limit):
+        self.stamp, self.history = Containers(ACCOUNT, KEYS), []
+        self.slots, self.tickets = [Slot(Streams(limit))], []
+
+    def check(self):
+        """What the streams of a slot keep is its part of the history, and its doubt is the one of its log."""
+        for slot in self.slots:
+            slot.streams.check()
+            logged = [it.entry for it in slot.streams.changes if slot.covers(it.entry.asked.container)]
+            assert logged == [it for it in self.history if slot.covers(it.asked.container)]
+            assert slot.doubt is (slot.streams.doubt and slot.streams.doubt.entry)
+
+    # ---- requests
+
+    def accept(self, entry):
+        """The request is the next one of the history. Gives the parts of its reply."""
+        self.history.append(entry)
+        return self.stamp.answer(entry.asked, entry.moment, entry.said)
+
+    def is_settled(self, slot, wire):
+        """Ends the doubt of a slot. Says whether the slot has no doubt any more."""
+        if slot.doubt is None:
+            return True
+        ended = slot.streams.settle(wire)
+        if ended == "busy":
+            return False
+        if ended != "dropped":
+            self.accept(slot.doubt)
+        slot.doubt = None
+        return True
+
+    def change(self, slot, entry, wire):
+        asked, body = entry.asked, entry.asked.body
+        pieces = slot.streams.put([body] if body and asked.name in ("PutBlob", "PutBlock") else [], wire)
+        if pieces is None:
+            return denied(asked, entry.moment, BUSY)
+        entry.place(pieces)
+        answer = slot.streams.log_change(Logged(entry, pieces), wire)
+        if answer == "busy":
+            return denied(asked, entry.moment, BUSY)
+        if answer == "doubt":
+            slot.doubt = entry
+            return denied(asked, entry.moment, UNKNOWN)
+        return told(asked, entry.moment, self.accept(entry))
+
+    def read(self, slot, entry, wire):
+        """The content is read now if all of it is in the last extent. Else a ticket keeps what is in sealed extents."""
+        asked, parts = entry.asked, []
+        if asked.name == "GetBlob":
+            for place in spans(asked, self.stamp.found(asked).blobs[asked.blob].part):
+                parts.append((slot.keep(place, wire), place))
+                if parts[-1][0] is None:
+                    return denied(asked, entry.moment, BUSY)
+        self.stamp.bound = slot.bound
+        reply = self.stamp.answer(asked, entry.moment, entry.said)
+        if not any(extent for extent, _ in parts):
+            return told(asked, entry.moment, reply)
+        self.tickets.append((asked, reply, parts))
+        return f"later {len(self.tickets) - 1}"
+
+    def slot_for(self, asked):
+        name = (asked.head.parameter(b"marker") or b"").decode() if asked.container is None else asked.container
+        return next(it for it in self.slots if it.covers(name))
+
+    def serve(self, request, moment, wire):
+        end = head_end(request, 0)
+        asked = Asked(read_head(request[:end]), request[end:])
+        slot = self.slot_for(asked)
+        if not (self.is_settled(slot, wire) and slot.load(wire)):
+            return denied(asked, moment, BUSY)
+        denial, said = route(asked.head)(asked, self.stamp, moment), None
+        if not denial:
+            denial, said = self.stamp.denial(asked)
+        if denial:
+            return denied(asked, moment, denial)
+        changes = asked.head.verb in ("PUT", "DELETE")
+        return (self.change if changes else self.read)(slot, Entry(asked, moment, said), wire)
+
+    def fetch(self, moment, number, wire):
+        """The reply of a ticket, with the moment of the fetch as its date."""
+        if number >= len(self.tickets) or self.tickets[number] is None:
+            return "no such ticket"
+        asked, reply, parts = self.tickets[number]
+        for extent, _ in parts:
+            if extent and not any(wire.ask(node) for node in sorted(extent)):
+                return "unreachable"
+        self.tickets[number] = None
+        return told(asked, moment, reply)
+
+    # ---- slots
+
+    def split(self, at, middle, wire):
+        if at >= len(self.slots):
+            return "no such slot"
+        slot = self.slots[at]
+        if not (slot.first < middle and slot.covers(middle)):
+            return "not inside"
+        if len(self.slots) >= SPANS:
+            return "full"
+        if not self.is_settled(slot, wire) or slot.streams.seal(wire) != "done":
+            return "busy"
+        self.slots.insert(at + 1, Slot(slot.streams.share(), middle, slot.bound, slot.is_loaded))
+        slot.bound = middle
+        return "made"
+
+    def on_slot(self, at, step):
+        if at >= len(self.slots):
+            return "no such slot"
+        return step(self.slots[at])
+
+    def settle(self, at, wire):
+        return self.on_slot(at, lambda slot: "made" if self.is_settled(slot, wire) else "busy")
+
+    def seal(self, at, wire):
+        return self.on_slot(at, lambda slot: "made" if self.is_settled(slot, wire) and slot.streams.seal(wire) == "done" else "busy")
+
+    def load(self, at, wire):
+        return self.on_slot(at, lambda slot: "made" if self.is_settled(slot, wire) and slot.load(wire) else "busy")
+
+    def unload(self, at, _wire):
+        def drop(slot):
+            slot.is_loaded = False
+            return "made"
+
+        return self.on_slot(at, drop)
+
+    def move(self, at, _server, wire):
+        return self.unload(at, wire)
+
+    def repair(self, at, part, extent, node, wire):
+        def copy(slot):
+            if not self.is_settled(slot, wire):
+                return "unreachable"
+            ended = slot.streams.repair(part, extent, node, wire)
+            return {"done": "made", "missing": "no such extent"}.get(ended, ended)
+
+        return self.on_slot(at, copy)
+
+
+def denied(asked, moment, denial):
+    return denied_bytes(moment, asked.head.verb, asked.head.closes(), denial)
+
+
+def told(asked, moment, parts):
+    return reply_bytes(moment, asked.head.verb, asked.head.closes(), *parts)
