@@ -7,7 +7,7 @@ use crate::place::{Content, Counts, Phase, Place};
 use crate::ready::ReadyQueue;
 use crate::socket::Half;
 use http_front as front;
-use http_front::{Link, Resting, Service, go_on};
+use http_front::{Link, Over, Resting, Service, go_on};
 use mio::unix::SourceFd;
 use mio::{Interest, Registry, Token, Waker};
 use std::alloc::Global;
@@ -20,6 +20,9 @@ use std::time::{Clock, Duration};
 
 /// A connection with all that it is served with.
 pub(crate) type SocketLink<'a, K, S> = Link<Half<'a>, Half<'a>, K, S>;
+
+/// A connection that ended.
+pub(crate) type SocketOver<'a, K, S> = Over<Half<'a>, Half<'a>, K, S>;
 
 /// A connection that waits for a request.
 pub(crate) type IdleLink<'a, K, S> = Resting<Half<'a>, Half<'a>, K, S>;
@@ -39,10 +42,18 @@ struct Waiting {
 }
 
 /// Hands connections to workers, and takes back those that wait.
+// It has `rt` and `clock` by value, so that no parameter has to live as long as `'a`: a call of `work` could not show that. Both may be
+// references.
 #[derive(Drop)]
-pub(crate) struct Gate<'a, R: Wait, C: Clock, K: front::Clock + Drop, S: Service + Drop> {
-    pub(crate) rt: &'a R,
-    pub(crate) clock: &'a C,
+pub(crate) struct Gate<
+    'a,
+    R: Wait + Drop,
+    C: Clock + Drop,
+    K: front::Clock + Drop,
+    S: Service + Drop,
+> {
+    pub(crate) rt: R,
+    pub(crate) clock: C,
     pub(crate) alloc: Global,
     pub(crate) listener: &'a TcpListener,
     pub(crate) ready: &'a ReadyQueue,
@@ -99,7 +110,13 @@ fn interest<K: front::Clock + Drop, S: Service + Drop>(link: &SocketLink<'_, K, 
     }
 }
 
-impl<'a, R: Wait, C: Clock, K: front::Clock + Drop, S: Service + Drop> Gate<'a, R, C, K, S> {
+impl<'a, R: Wait + Drop, C: Clock + Drop, K: front::Clock + Drop, S: Service + Drop> Gate<
+    'a,
+    R,
+    C,
+    K,
+    S,
+> {
     /// How much time has passed. If the clock fails, none has.
     pub(crate) fn now(&self) -> Duration {
         self.clock.monotonic().unwrap_or(Duration::ZERO)
@@ -116,7 +133,7 @@ impl<'a, R: Wait, C: Clock, K: front::Clock + Drop, S: Service + Drop> Gate<'a, 
         let Some(place) = self.places.get(index) else {
             return Taken::Nothing;
         };
-        let mut place = place.lock(self.rt);
+        let mut place = place.lock(&self.rt);
         let place = &mut *place;
         place.is_queued = false;
         match mem::replace(&mut place.content, Content::Busy) {
@@ -163,10 +180,12 @@ impl<'a, R: Wait, C: Clock, K: front::Clock + Drop, S: Service + Drop> Gate<'a, 
         let Some(place) = self.places.get(waiting.index) else {
             return;
         };
-        let mut place = place.lock(self.rt);
+        let mut place = place.lock(&self.rt);
         let place = &mut *place;
         if place.timer.note(waiting.phase, waiting.counts, now) {
-            self.order.lock(self.rt).begin(waiting.index, waiting.phase);
+            self.order
+                .lock(&self.rt)
+                .begin(waiting.index, waiting.phase);
         }
         self.held.fetch_add(waiting.held, Ordering::SeqCst);
         self.held.fetch_sub(place.held, Ordering::SeqCst);
@@ -175,7 +194,7 @@ impl<'a, R: Wait, C: Clock, K: front::Clock + Drop, S: Service + Drop> Gate<'a, 
         place.content = content;
         if !polled && !place.is_queued {
             // Nobody else would wake it.
-            place.is_queued = self.ready.push(self.rt, waiting.index);
+            place.is_queued = self.ready.push(&self.rt, waiting.index);
         }
     }
 
@@ -188,7 +207,7 @@ impl<'a, R: Wait, C: Clock, K: front::Clock + Drop, S: Service + Drop> Gate<'a, 
         let Some(place) = self.places.get(index) else {
             return;
         };
-        let mut place = place.lock(self.rt);
+        let mut place = place.lock(&self.rt);
         let place = &mut *place;
         self.held.fetch_sub(place.held, Ordering::SeqCst);
         place.held = 0;
@@ -202,14 +221,14 @@ impl<'a, R: Wait, C: Clock, K: front::Clock + Drop, S: Service + Drop> Gate<'a, 
         let Some(place) = self.places.get(index) else {
             return;
         };
-        let mut place = place.lock(self.rt);
+        let mut place = place.lock(&self.rt);
         let place = &mut *place;
         self.held.fetch_sub(place.held, Ordering::SeqCst);
         place.held = 0;
         place.token = place.token.wrapping_add(crate::place::SPAN);
         place.descriptor = -1;
         place.content = Content::Empty;
-        self.order.lock(self.rt).remove(index);
+        self.order.lock(&self.rt).remove(index);
     }
 
     /// Closes a connection, and gives its place to the next one.
@@ -219,7 +238,7 @@ impl<'a, R: Wait, C: Clock, K: front::Clock + Drop, S: Service + Drop> Gate<'a, 
         let was_full = self.put_back(index);
         let left = self.connections.fetch_sub(1, Ordering::SeqCst);
         if left == 1 && self.is_closed.load(Ordering::SeqCst) {
-            self.ready.close(self.rt);
+            self.ready.close(&self.rt);
             let _woken = self.waker.wake();
         } else if was_full {
             let _woken = self.waker.wake();
@@ -228,7 +247,7 @@ impl<'a, R: Wait, C: Clock, K: front::Clock + Drop, S: Service + Drop> Gate<'a, 
 
     /// Notes that a place is empty. Returns whether it is the only one.
     pub(crate) fn put_back(&self, index: usize) -> bool {
-        let mut empty = self.empty.lock(self.rt);
+        let mut empty = self.empty.lock(&self.rt);
         let was_full = empty.is_empty();
         // There is room for each place.
         let _pushed = empty.push(index);

@@ -11,7 +11,7 @@ mod ready;
 mod serve;
 mod services;
 mod socket;
-mod workers;
+mod source;
 
 pub use limits::Limits;
 pub use serve::serve_listener;

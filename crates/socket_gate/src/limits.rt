@@ -1,4 +1,6 @@
 //! How long connections are waited for, and how much they may hold.
+ghost use Rattle.std.specs.Prelude.{◌≡◌};
+ghost use Rattle.std.specs.Duration.{as_nanos};
 
 use std::time::Duration;
 
@@ -21,7 +23,14 @@ pub struct Limits {
 
 impl Limits {
     /// The limits of the program: docs/using.md has a table of them.
-    pub fn standard() -> Self {
+    pub fn standard() -> Self
+        ensures idle { as_nanos result.idle ≡ 60_000_000_000 }
+        ensures head { as_nanos result.head ≡ 15_000_000_000 }
+        ensures span { as_nanos result.span ≡ 10_000_000_000 }
+        ensures rate { result.rate ≡ 4_096 }
+        ensures connections { result.connections ≡ 8_192 }
+        ensures bodies { result.bodies ≡ 1_073_741_824 }
+    {
         Self {
             idle: Duration::from_secs(60),
             head: Duration::from_secs(15),

@@ -4,7 +4,7 @@ use crate::gate::{Gate, IdleLink, SocketLink, counts};
 use crate::lingering::Lingering;
 use crate::place::{Content, Phase, SPAN, Timer};
 use crate::services::Services;
-use crate::socket::{Half, Socket};
+use crate::socket::{Half, Socket, comes_within};
 use http_front as front;
 use http_front::{Link, Service};
 use mio::unix::SourceFd;
@@ -54,7 +54,7 @@ const SHORT: [i32; 4] = [
 /// What asking for a connection came to.
 #[derive(Clone, Copy, PartialEq, Eq)]
 enum Asked {
-    /// One came, or was given up by its peer.
+    /// One came, or was given up by its peer, or there is room for it now.
     Came,
     /// None waits. The listener says when the next one comes.
     Nobody,
@@ -71,7 +71,13 @@ fn is_one_of(error: &io::Error, numbers: &[i32]) -> bool {
         .is_some_and(|code| numbers.contains(&code))
 }
 
-impl<'a, R: Wait, C: Clock, K: front::Clock + Drop, S: Service + Drop> Gate<'a, R, C, K, S> {
+impl<'a, R: Wait + Drop, C: Clock + Drop, K: front::Clock + Drop, S: Service + Drop> Gate<
+    'a,
+    R,
+    C,
+    K,
+    S,
+> {
     /// Polls until no more connections are taken and none is left, or until polling fails.
     pub(crate) fn poll<V: Services<K, S>>(
         &self,
@@ -92,7 +98,7 @@ impl<'a, R: Wait, C: Clock, K: front::Clock + Drop, S: Service + Drop> Gate<'a, 
                 .poll(events, Some(Duration::from_millis(timeout)))
                 .is_err()
             {
-                self.ready.close(self.rt);
+                self.ready.close(&self.rt);
                 return;
             }
             if self.tell(events) && asked != Asked::Closed {
@@ -107,7 +113,7 @@ impl<'a, R: Wait, C: Clock, K: front::Clock + Drop, S: Service + Drop> Gate<'a, 
                 self.end_slow(now);
             }
             if asked == Asked::Closed && self.connections.load(Ordering::SeqCst) == 0 {
-                self.ready.close(self.rt);
+                self.ready.close(&self.rt);
                 return;
             }
         }
@@ -131,7 +137,7 @@ impl<'a, R: Wait, C: Clock, K: front::Clock + Drop, S: Service + Drop> Gate<'a, 
         let Some(place) = self.places.get(index) else {
             return;
         };
-        let mut place = place.lock(self.rt);
+        let mut place = place.lock(&self.rt);
         let place = &mut *place;
         if place.token != token || place.is_queued {
             return;
@@ -142,7 +148,7 @@ impl<'a, R: Wait, C: Clock, K: front::Clock + Drop, S: Service + Drop> Gate<'a, 
                 let _polled = self.poll_again(place.descriptor, token, Interest::PRIORITY);
             }
             Content::Idle(_) | Content::Waiting(_) | Content::Lingering(_) => {
-                place.is_queued = self.ready.push(self.rt, index);
+                place.is_queued = self.ready.push(&self.rt, index);
             }
         }
     }
@@ -169,8 +175,8 @@ impl<'a, R: Wait, C: Clock, K: front::Clock + Drop, S: Service + Drop> Gate<'a, 
         if next.is_none() {
             return Asked::Closed;
         }
-        let Some(index) = self.find_place() else {
-            return Asked::Short;
+        let Some(index) = self.empty.lock(&self.rt).pop() else {
+            return self.make_room();
         };
         match self.listener.accept() {
             Ok((stream, _)) => {
@@ -195,22 +201,19 @@ impl<'a, R: Wait, C: Clock, K: front::Clock + Drop, S: Service + Drop> Gate<'a, 
         if !is_one_of(error, &SHORT) {
             return Asked::Closed;
         }
+        self.make_room()
+    }
+
+    // Lets a connection give way to one that waits to be taken: the one that is idle for the longest time, or else the one that has waited
+    // inside a head for the longest time. If nobody waits to be taken, none gives way.
+    fn make_room(&self) -> Asked {
+        if !comes_within(self.listener.as_raw_fd(), 0) {
+            return Asked::Nobody;
+        }
         if self.end_longest(Phase::Idle) || self.end_longest(Phase::Head) {
             return Asked::Came;
         }
         Asked::Short
-    }
-
-    // An empty place. If there is none, the connection gives way that is idle for the longest time.
-    fn find_place(&self) -> Option<usize> {
-        let found = self.empty.lock(self.rt).pop();
-        if found.is_some() {
-            return found;
-        }
-        if self.end_longest(Phase::Idle) || self.end_longest(Phase::Head) {
-            return self.empty.lock(self.rt).pop();
-        }
-        None
     }
 
     // Gives a new connection a place, or closes it if it cannot be polled.
@@ -243,7 +246,7 @@ impl<'a, R: Wait, C: Clock, K: front::Clock + Drop, S: Service + Drop> Gate<'a, 
     // The token of the next connection of a place.
     fn token(&self, index: usize) -> usize {
         match self.places.get(index) {
-            Some(place) => place.lock(self.rt).token,
+            Some(place) => place.lock(&self.rt).token,
             None => index,
         }
     }
@@ -268,7 +271,7 @@ impl<'a, R: Wait, C: Clock, K: front::Clock + Drop, S: Service + Drop> Gate<'a, 
             return false;
         };
         let now = self.now();
-        let mut place = place.lock(self.rt);
+        let mut place = place.lock(&self.rt);
         let place = &mut *place;
         let mut source = SourceFd(&descriptor);
         let polled = self
@@ -280,7 +283,7 @@ impl<'a, R: Wait, C: Clock, K: front::Clock + Drop, S: Service + Drop> Gate<'a, 
             place.descriptor = descriptor;
             place.timer = Timer::new(now);
             place.content = Content::Idle(link);
-            self.order.lock(self.rt).begin(index, Phase::Idle);
+            self.order.lock(&self.rt).begin(index, Phase::Idle);
         }
         polled
     }
@@ -298,7 +301,7 @@ impl<'a, R: Wait, C: Clock, K: front::Clock + Drop, S: Service + Drop> Gate<'a, 
 
     // Takes the connection of a place that was waited for too long.
     fn slow(&self, index: usize, now: Duration) -> Option<Slow<SocketLink<'a, K, S>>> {
-        let mut place = self.places.get(index)?.lock(self.rt);
+        let mut place = self.places.get(index)?.lock(&self.rt);
         let place = &mut *place;
         let is_late = match &place.content {
             Content::Idle(link) => {
@@ -331,7 +334,7 @@ impl<'a, R: Wait, C: Clock, K: front::Clock + Drop, S: Service + Drop> Gate<'a, 
     fn end_longest(&self, phase: Phase) -> bool {
         let mut last = None;
         for _ in 0..LOOKS {
-            last = self.order.lock(self.rt).next(phase, last);
+            last = self.order.lock(&self.rt).next(phase, last);
             let Some(index) = last else {
                 return false;
             };
@@ -345,7 +348,7 @@ impl<'a, R: Wait, C: Clock, K: front::Clock + Drop, S: Service + Drop> Gate<'a, 
 
     // Takes the connection of a place if it waits in this phase.
     fn take_waiting(&self, index: usize, phase: Phase) -> Option<SocketLink<'a, K, S>> {
-        let mut place = self.places.get(index)?.lock(self.rt);
+        let mut place = self.places.get(index)?.lock(&self.rt);
         let place = &mut *place;
         if place.timer.phase != phase || place.is_queued {
             return None;

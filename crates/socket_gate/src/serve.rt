@@ -7,11 +7,12 @@ use crate::place::{Place, SPAN};
 use crate::poller::{LISTENER, WAKER};
 use crate::ready::ReadyQueue;
 use crate::services::Services;
+use crate::socket::Half;
 use http_front as front;
-use http_front::Service;
+use http_front::{Service, work};
 use libc::types::rlimit;
 use mio::unix::SourceFd;
-use mio::{Events, Interest, Poll, Token, Waker};
+use mio::{Events, Interest, Poll, Registry, Token, Waker};
 use std::alloc::{AllocError, Global};
 use std::net::{Net, TcpListener};
 use std::os::fd::AsRawFd;
@@ -62,6 +63,64 @@ fn indices(alloc: Global, count: usize) -> Result<Vec<usize>, AllocError> {
     Ok(indices)
 }
 
+/// The places of a gate before it has connections.
+#[derive(Drop)]
+struct EmptyPlaces<L: Drop, I: Drop> {
+    places: Vec<Mutex<Place<L, I>>>,
+    indices: Vec<usize>,
+    order: WaitOrder,
+}
+
+impl<L: Drop, I: Drop> EmptyPlaces<L, I> {
+    fn new(alloc: Global, count: usize) -> Result<Self, AllocError> {
+        Ok(Self {
+            places: empty_places(alloc, count)?,
+            indices: indices(alloc, count)?,
+            order: WaitOrder::new(alloc, count)?,
+        })
+    }
+}
+
+/// What the thread that polls waits with, and what others change of that.
+#[derive(Drop)]
+struct Polling {
+    poll: Poll,
+    events: Events,
+    registry: Registry,
+    waker: Waker,
+}
+
+impl Polling {
+    // Polls a listener.
+    fn new<R: Net>(rt: &R, alloc: Global, listener: &TcpListener) -> io::Result<Self> {
+        let poll = Poll::new(rt)?;
+        let descriptor = listener.as_raw_fd();
+        let mut source = SourceFd(&descriptor);
+        poll.registry()
+            .register(&mut source, Token(LISTENER), Interest::READABLE)?;
+        let registry = poll.registry().try_clone()?;
+        let waker = Waker::new(&registry, Token(WAKER))?;
+        let events = Events::with_capacity(alloc, EVENTS)?;
+        Ok(Self {
+            poll,
+            events,
+            registry,
+            waker,
+        })
+    }
+}
+
+// Has so many workers serve the connections of the gate.
+fn run_workers<
+    'a,
+    R: Threads + Wait + Sync + Drop,
+    C: Clock + Sync + Drop,
+    K: front::Clock + Drop + Send,
+    S: Service + Drop + Send,
+>(gate: &Gate<'a, R, C, K, S>, workers: usize) -> Result<(), AllocError> {
+    work::<R, Half<'a>, Half<'a>, K, S, Gate<'a, R, C, K, S>>(&gate.rt, gate.alloc, workers, gate)
+}
+
 /// Serves the connections of a listener by so many workers, until the listener fails for good or the services say that no more connections
 /// are taken, and then until the connections have ended.
 ///
@@ -83,22 +142,20 @@ pub fn serve_listener<
     limits: Limits,
 ) -> io::Result<()> {
     listener.set_nonblocking(true)?;
-    let mut poll = Poll::new(rt)?;
-    let mut events = Events::with_capacity(alloc, EVENTS)?;
-    let descriptor = listener.as_raw_fd();
-    poll.registry().register(
-        &mut SourceFd(&descriptor),
-        Token(LISTENER),
-        Interest::READABLE,
-    )?;
-    let registry = poll.registry().try_clone()?;
-    let waker = Waker::new(poll.registry(), Token(WAKER))?;
     let count = most_connections(&limits);
     let ready = ReadyQueue::new(alloc, count)?;
-    let places = empty_places(alloc, count)?;
-    let empty = indices(alloc, count)?;
-    let order = WaitOrder::new(alloc, count)?;
-    let gate = Gate::<'_, R, C, K, S> {
+    let EmptyPlaces {
+        places,
+        indices,
+        order,
+    } = EmptyPlaces::new(alloc, count)?;
+    let Polling {
+        mut poll,
+        mut events,
+        registry,
+        waker,
+    } = Polling::new(rt, alloc, listener)?;
+    let gate = Gate::<'_, &'x R, &'x C, K, S> {
         rt,
         clock,
         alloc,
@@ -108,7 +165,7 @@ pub fn serve_listener<
         registry,
         waker,
         places,
-        empty: Mutex::new(empty),
+        empty: Mutex::new(indices),
         order: Mutex::new(order),
         connections: AtomicUsize::new(0),
         held: AtomicU64::new(0),
@@ -117,8 +174,8 @@ pub fn serve_listener<
     let (_, worked) = thread::join(
         rt,
         || gate.poll(services, &mut poll, &mut events),
-        || thread::map_indices(rt, alloc, workers, &|_worker| gate.work()),
+        || run_workers(&gate, workers),
     );
-    let _ends = worked?;
+    worked?;
     Ok(())
 }

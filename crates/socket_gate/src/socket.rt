@@ -53,20 +53,16 @@ impl Socket {
     pub(crate) fn is_late(&self) -> bool {
         self.late.load(Ordering::SeqCst)
     }
+}
 
-    pub(crate) fn descriptor(&self) -> RawFd {
-        self.stream.as_raw_fd()
-    }
-
-    // Whether something comes within so many milliseconds.
-    fn comes_within(&self, milliseconds: i32) -> bool {
-        let mut polled = [pollfd {
-            fd: self.descriptor(),
-            events: POLLIN,
-            revents: 0,
-        }];
-        poll(&mut polled, milliseconds) > 0
-    }
+/// Whether something comes to a socket within so many milliseconds: bytes, their end, or, to a listener, a connection.
+pub(crate) fn comes_within(descriptor: RawFd, milliseconds: i32) -> bool {
+    let mut polled = [pollfd {
+        fd: descriptor,
+        events: POLLIN,
+        revents: 0,
+    }];
+    poll(&mut polled, milliseconds) > 0
 }
 
 // Whether a head can begin with this byte: with an empty line (RFC 9112, section 2.2), or with a method, which is a token (RFC 9110,
@@ -87,7 +83,8 @@ impl<'a> Half<'a> {
 
     // Whether a read would most likely find nothing, also if it waits a little. It does not wait if somebody else has something to do.
     fn stays_empty(&self) -> bool {
-        self.is_drained && !(self.ready.is_calm() && self.socket.comes_within(LINGER))
+        self.is_drained
+            && !(self.ready.is_calm() && comes_within(self.socket.stream.as_raw_fd(), LINGER))
     }
 }
 

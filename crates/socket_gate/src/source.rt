@@ -1,17 +1,23 @@
-//! What workers do: each goes on with one connection after the other.
+//! The gate as the source of the connections that workers serve.
 
-use crate::gate::{Gate, SocketLink, Taken};
+use crate::gate::{Gate, SocketLink, SocketOver, Taken};
 use crate::lingering::Lingering;
 use crate::socket::Half;
 use http_front as front;
-use http_front::{End, FrontFault, Over, Service, go_on};
+use http_front::{End, FrontFault, Service, Source};
 use std::net::Shutdown;
 use std::sync::Wait;
 use std::time::Clock;
 
-impl<'a, R: Wait, C: Clock, K: front::Clock + Drop, S: Service + Drop> Gate<'a, R, C, K, S> {
+impl<'a, R: Wait + Drop, C: Clock + Drop, K: front::Clock + Drop, S: Service + Drop> Gate<
+    'a,
+    R,
+    C,
+    K,
+    S,
+> {
     /// Closes a connection that ended. If its last reply said that it closes, what the peer still sends is read before.
-    pub(crate) fn end(&self, over: Over<Half<'a>, Half<'a>, K, S>) {
+    pub(crate) fn end(&self, over: SocketOver<'a, K, S>) {
         let end = over.end();
         let (reader, writer, clock, service) = over.into_parts();
         drop(writer);
@@ -28,11 +34,16 @@ impl<'a, R: Wait, C: Clock, K: front::Clock + Drop, S: Service + Drop> Gate<'a, 
             self.close(socket.index, socket);
         }
     }
+}
 
+impl<'a, R: Wait + Drop, C: Clock + Drop, K: front::Clock + Drop, S: Service + Drop> Source<
+    SocketLink<'a, K, S>,
+    SocketOver<'a, K, S>,
+> for Gate<'a, R, C, K, S> {
     // Waits for a connection that has something to do. Of a connection that ended, what its peer still sends is read meanwhile.
     fn next(&self) -> Option<(SocketLink<'a, K, S>, usize)> {
         for _ in self.rt.forever() {
-            let index = self.ready.pop(self.rt)?;
+            let index = self.ready.pop(&self.rt)?;
             match self.take(index) {
                 Taken::Nothing => {}
                 Taken::Lingering(lingering) => self.read_on(lingering),
@@ -42,18 +53,11 @@ impl<'a, R: Wait, C: Clock, K: front::Clock + Drop, S: Service + Drop> Gate<'a, 
         None
     }
 
-    /// Goes on with one connection after the other, until no more connections come. A connection's fault ends that connection alone.
-    ///
-    /// This is `work` of `http_front` for one worker: the checker does not take the gate as a `Source` of its connections yet.
-    pub(crate) fn work(&self) {
-        for _ in self.rt.forever() {
-            let Some((link, room)) = self.next() else {
-                return;
-            };
-            match go_on(self.alloc, link, room) {
-                Ok(link) => self.park(link),
-                Err(over) => self.end(over),
-            }
-        }
+    fn waits(&self, link: SocketLink<'a, K, S>) {
+        self.park(link);
+    }
+
+    fn ended(&self, over: SocketOver<'a, K, S>) {
+        self.end(over);
     }
 }
