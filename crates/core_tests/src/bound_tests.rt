@@ -1,16 +1,16 @@
 //! Lists of containers that end at a bound.
-ghost use Rattle.std.specs.Prelude.{⊤, ◌≡◌, [], IfOk, false, true, unwrap_or};
-ghost use Rattle.std.specs.Option.{option_and_then, option_copied};
-ghost use Rattle.stamp_values.specs.Operations.{names_container};
-ghost use Rattle.stamp_model.specs.SeenContainers.{is_under, routed};
+ghost use Rattle.std.specs.Prelude.{⊤, ◌≡◌, true};
+ghost use Rattle.std.specs.Option.{option_copied};
+ghost use Rattle.stamp_model.specs.SeenContainers.{is_under};
 
 use crate::requests::{
     CREATE, CREATE_EARLIER, CREATED, GET_B, LIST, LIST_FROM_M, PUT_BLOCK, PUT_LIST,
 };
+use crate::routes::first_seen;
 use crate::samples::{Served, begins, empty_slot, ends, key, says};
 use http_front::Service;
 use slot_state::{KeptHistories, Slot};
-use stamp_types::{Key, Moment, Reply, Request, Text};
+use stamp_types::{Key, Moment, Reply, Request};
 use std::alloc::{AllocError, Global};
 use std::process::Abort;
 
@@ -19,30 +19,6 @@ use std::process::Abort;
 struct Bounded {
     slot: Slot<KeptHistories>,
     bound: Option<Key>,
-}
-
-// The marker of a list; the empty text if it has none.
-fn marker(alloc: Global, request: &Request) -> Result<Text, AllocError>
-    ensures { IfOk result (λ text. text
-        ≡ unwrap_or (option_and_then (λ page. page.marker) request.now.ask.args.page) []) }
-{
-    match &request.ask().args.page {
-        Some(page) => match &page.marker {
-            Some(marker) => marker.clone(),
-            None => Ok(Text::empty(alloc)),
-        },
-        None => Ok(Text::empty(alloc)),
-    }
-}
-
-// The first key that a List Containers looks at.
-#[tactic(auto, using(crate::proofs::RouteLemmas::routed_by_marker))]
-fn first_seen(alloc: Global, request: &Request) -> Result<Key, AllocError>
-    ensures { IfOk result (λ key. names_container request.now.ask.op ≡ false → key ≡ routed request.now) }
-{
-    let account = request.ask().key.account.clone()?;
-    let container = marker(alloc, request)?;
-    Ok(Key { account, container })
 }
 
 // The bound, if the first key comes before it.
@@ -102,8 +78,8 @@ fn halves(
     )
 }
 
-// The container `alpha` is listed up to the bound, and the list goes on at the bound.
-fn ends_at_m(rt: &impl Abort, alloc: Global, lower: &mut Bounded) {
+/// The container `alpha` is listed up to the bound, and the list goes on at the bound.
+pub(crate) fn ends_at_m<S: Service>(rt: &impl Abort, alloc: Global, lower: &mut S) {
     assert!(rt; says(rt, alloc, lower, LIST, "<Name>alpha</Name>"));
     assert!(rt; says(rt, alloc, lower, LIST, "<NextMarker>m</NextMarker>"));
     assert!(rt; !says(rt, alloc, lower, LIST, "<Name>pics</Name>"));

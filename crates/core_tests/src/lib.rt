@@ -17,6 +17,8 @@ mod many_tests;
 mod pair_tests;
 #[cfg(test)]
 mod requests;
+#[cfg(test)]
+mod routes;
 mod sample_pairs;
 #[cfg(test)]
 mod samples;
@@ -25,6 +27,10 @@ mod service_tests;
 #[cfg(test)]
 mod split_tests;
 #[cfg(test)]
+mod stored_repair_tests;
+#[cfg(test)]
 mod stored_samples;
 #[cfg(test)]
 mod stored_slot_tests;
+#[cfg(test)]
+mod stored_split_tests;

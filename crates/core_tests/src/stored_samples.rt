@@ -1,9 +1,10 @@
 //! A slot over streams that connections are served by, with a wire that answers from lists.
-ghost use Rattle.std.specs.Prelude.{⊤, ◌≡◌, true};
+ghost use Rattle.std.specs.Prelude.{⊤, ◌≡◌, IfOk, true};
 ghost use Rattle.stamp_model.specs.SeenContainers.{routed};
 ghost use Rattle.slot_state.specs.Slots as slots;
 
-use crate::samples::pairs;
+use crate::routes::first_seen;
+use crate::samples::{key, pairs};
 use extent_node::{Delivery, Script};
 use http_front::Service;
 use slot_state::{AccountPairs, KeptHistories};
@@ -37,6 +38,21 @@ fn has_container(slot: &StoredSlot<KeptHistories>, request: &Request) -> bool
     ask.op.names_container() && slot.covers(&ask.key)
 }
 
+// Whether the first key that the request looks at is one of the slot.
+fn is_covered(
+    alloc: Global,
+    slot: &StoredSlot<KeptHistories>,
+    request: &Request,
+) -> Result<bool, AllocError>
+    ensures { IfOk result (λ covered. covered ≡ true → slots.covers slot.now (routed request.now) ≡ true) }
+{
+    if request.ask().op.names_container() {
+        return Ok(has_container(slot, request));
+    }
+    let first = first_seen(alloc, request)?;
+    Ok(slot.covers(&first))
+}
+
 // The reply of a ticket.
 fn fetched(ticket: Ticket, wire: &mut Script) -> Result<Reply, AllocError> {
     match ticket.fetch(wire) {
@@ -63,7 +79,7 @@ impl Service for Streamed {
         request: Request,
         moment: Moment,
     ) -> Result<Reply, AllocError> {
-        if !has_container(&self.slot, &request) {
+        if !is_covered(alloc, &self.slot, &request)? {
             return Err(AllocError);
         }
         match self
@@ -98,4 +114,25 @@ pub(crate) fn make_streamed(
         tickets: 0,
     };
     Box::new(alloc, streamed).expect(rt, "memory")
+}
+
+/// The upper half of the slot, which is split at the key of this container; none if the split fails. The wire of the upper half always
+/// answers.
+pub(crate) fn split(
+    rt: &impl Abort,
+    alloc: Global,
+    lower: &mut Streamed,
+    container: &str,
+) -> Option<Box<Streamed>> {
+    let middle = key(rt, alloc, container);
+    if !lower.slot.is_inside(&middle) {
+        panic!(rt; "the key is not inside");
+    }
+    let slot = lower.slot.split(alloc, &middle, &mut lower.wire).ok()?;
+    let upper = Streamed {
+        slot,
+        wire: Script::new(alloc, Vec::new(alloc), Vec::new(alloc)),
+        tickets: 0,
+    };
+    Some(Box::new(alloc, upper).expect(rt, "memory"))
 }

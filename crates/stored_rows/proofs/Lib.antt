@@ -7,4 +7,5 @@ pub mod LoadLemmas
 pub mod LoggingLemmas
 pub mod NotedLemmas
 pub mod ReadLemmas
+pub mod RepairLemmas
 pub mod TakeLemmas

@@ -5,4 +5,5 @@ pub mod Loaded
 pub mod Logging
 pub mod Noting
 pub mod Ranges
+pub mod Repairs
 pub mod States

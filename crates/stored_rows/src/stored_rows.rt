@@ -1,6 +1,8 @@
 //! The rows of a range of keys, in streams and in memory.
 ghost use Rattle.std.specs.Prelude.{◌≡◌};
 
+mod repair;
+
 use crate::cutting::{ends_of, share_upper};
 use crate::faults::{Ended, StoredFault, TakeFault};
 use crate::key_range::KeyRange;
@@ -98,6 +100,13 @@ impl StoredRows {
         ensures { result ≡ covers self.now.range key.now }
     {
         self.range.covers(key)
+    }
+
+    /// The first key of the range.
+    pub fn first(&self) -> &Key
+        ensures { result.now ≡ self.now.range.from }
+    {
+        &self.range.from
     }
 
     /// The first key past the range, if there is one.

@@ -155,3 +155,11 @@ pub inside_covered : (range : KeyRange) (key : Key) → (is_below key range.from
 inside_covered range key inside =
     let parts = and_parts (is_below key range.from) (is_under range.to key) inside in
     (λ i. from_below range.from key parts.0 i && is_before_end range.to key) ∙ sym (same_end range.to key) ∙ parts.1
+
+-- a key of the range that comes after the first key is inside of the slot
+inside_by : (range : KeyRange) (key : Key) (b : Bool) → is_below key range.from ≡ b → (b && covers range key) ≡ (b && is_under range.to key)
+inside_by range key true below = (λ i. from_below range.from key below i && is_before_end range.to key) ∙ sym (same_end range.to key)
+inside_by range key false below = refl
+
+pub inside_same : (range : KeyRange) (key : Key) → (is_below key range.from && covers range key) ≡ (is_below key range.from && is_under range.to key)
+inside_same range key = inside_by range key (is_below key range.from) refl

@@ -101,7 +101,7 @@ module _ (pairs : Pairs) (below above : Histories) (lower upper : Stored) (s : S
       let from : upper.range.from ≡ middle = ap (λ (x : SlotState). x.from) is_upper in
       let to : upper.range.to ≡ s.to = ap (λ (x : SlotState). x.to) is_upper ∙ ends.1 in
       let there : covers upper.range key ≡ true =
-          (λ i. is_from (from i) key && is_before_end (to i) key) ∙ (λ i. passes i && is_before_end s.to key) ∙ sym (same_end s.to key) ∙ inside.1 in
+      (λ i. is_from (from i) key && is_before_end (to i) key) ∙ (λ i. passes i && is_before_end s.to key) ∙ sym (same_end s.to key) ∙ inside.1 in
       (there, half_replayed pairs above upper m (is_from middle) key up (ap (λ (x : SlotState). x.pairs) is_upper) (ap (λ (x : SlotState). x.histories) is_upper) passes there)
 
   in_one : ((covers lower.range key ≡ true) × (bytes_of lower key ≡ replayed_at m.pairs m.histories key)) ⊎ ((covers upper.range key ≡ true) × (bytes_of upper key ≡ replayed_at m.pairs m.histories key))

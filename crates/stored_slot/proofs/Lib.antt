@@ -4,5 +4,6 @@ pub mod HalfLemmas
 pub mod KeepLemmas
 pub mod LawLemmas
 pub mod MeaningLemmas
+pub mod RepairLemmas
 pub mod ServeLemmas
 pub mod ViewLemmas

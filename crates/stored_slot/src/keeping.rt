@@ -1,16 +1,21 @@
 //! Steps of a slot that change nothing of what it keeps, except that they settle a doubt first.
-ghost use Rattle.std.specs.Prelude.{◌≡◌, OnOk};
+ghost use Rattle.std.specs.Prelude.{◌≡◌, ◌≤◌, Err, OnOk, length};
+ghost use Rattle.partition_stream.specs.Repairs.{stream_of};
 ghost use Rattle.partition_stream.specs.Streams.{AreSealed};
+ghost use Rattle.stream_manager.specs.declared.faults.RepairFault.TheVariants.{NoSuchExtent};
 ghost use Rattle.stored_rows.specs.Counting.{FailsStored};
+ghost use Rattle.stored_rows.specs.Repairs.{FailsRepair, HasCopyOn};
 ghost use Rattle.stored_slot.specs.Meanings.{AreOfStreams, slot_with};
-ghost use Rattle.stored_slot.specs.Settled.{LeavesSettled};
+ghost use Rattle.stored_slot.specs.Settled.{LeavesRepaired, LeavesSettled, repair_fault_of};
 
 use crate::settling::settling;
-use extent_node::Wire;
+use extent_node::{Node, Wire};
+use partition_stream::StreamName;
 use slot_state::{AccountPairs, Histories};
 use stamp_types::Past;
 use std::alloc::Global;
 use stored_rows::{StoredFault, StoredRows};
+use stream_manager::RepairFault;
 
 /// Settles a doubt, if there is one, and then loads the rows, if they are not loaded.
 pub(crate) fn loading<H: Histories, W: Wire>(
@@ -52,5 +57,43 @@ pub(crate) fn sealing<H: Histories, W: Wire>(
     match settling(histories, stored, doubt, pairs, alloc, wire) {
         Ok(()) => stored.seal(wire),
         Err(fault) => Err(fault),
+    }
+}
+
+// What a repair answers if the doubt cannot be settled.
+fn repair_fault(fault: StoredFault) -> RepairFault
+    ensures { result ≡ repair_fault_of fault }
+{
+    match fault {
+        StoredFault::Busy => RepairFault::Unreachable,
+        StoredFault::NoMemory => RepairFault::NoMemory,
+    }
+}
+
+/// Settles a doubt, if there is one, and then gives the node a copy of a sealed extent of one stream, if it has no copy.
+///
+/// NoSuchExtent: after the settle no sealed extent of the stream has this number.
+pub(crate) fn repairing<H: Histories, W: Wire>(
+    histories: &mut H,
+    stored: &mut StoredRows,
+    doubt: &mut Option<Past>,
+    pairs: &AccountPairs,
+    alloc: Global,
+    part: StreamName,
+    extent: u64,
+    node: Node,
+    wire: &mut W,
+) -> Result<(), RepairFault>
+    requires before { AreOfStreams pairs.now (H.held histories.old) stored.old doubt.old }
+    ensures after { AreOfStreams pairs.now (H.held histories.new) stored.new doubt.new }
+    ensures left { LeavesRepaired result (slot_with pairs.now (H.held histories.old) stored.old doubt.old)
+        (slot_with pairs.now (H.held histories.new) stored.new doubt.new) }
+    ensures copied { OnOk result (HasCopyOn node extent (stream_of part stored.new.streams)) }
+    ensures refused { result ≡ Err NoSuchExtent → length (stream_of part stored.new.streams).sealed ≤ extent }
+    ensures counted { FailsRepair result (W.faults wire.old) (W.faults wire.new) }
+{
+    match settling(histories, stored, doubt, pairs, alloc, wire) {
+        Ok(()) => stored.repair(part, extent, node, wire),
+        Err(fault) => Err(repair_fault(fault)),
     }
 }

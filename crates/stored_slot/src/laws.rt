@@ -31,7 +31,7 @@ pub fn after_unload_and_load_the_rows_are_the_replay()
 
 /// A change of which it was not known whether it was made ends whole: after the settle the slot is as if its request had been served at
 /// the moment and by the keys at which it came, or as if it had never come.
-pub fn a_doubt_ends_whole()
+pub fn a_doubt_of_a_slot_ends_whole()
     ensures { (s t : SlotState) (q : Asked) (moment : ℕ)
         → s.doubt ≡ None → IsSome (change_now s.pairs s.histories q moment) → SettlesDoubt (doubting s q moment) t
         → (t ≡ slot_after s q moment) ⊎ (t ≡ s) }

@@ -12,6 +12,7 @@ mod settling;
 mod stored_slot;
 
 pub use laws::{
-    a_doubt_ends_whole, a_split_loses_nothing, after_unload_and_load_the_rows_are_the_replay,
+    a_doubt_of_a_slot_ends_whole, a_split_loses_nothing,
+    after_unload_and_load_the_rows_are_the_replay,
 };
 pub use stored_slot::StoredSlot;

@@ -7,17 +7,19 @@ ghost use Rattle.policy_book.specs.Judgements.{IsOfAsk};
 ghost use Rattle.range_rows.specs.Readings.{reading_of};
 ghost use Rattle.stamp_model.specs.SeenContainers.{routed};
 ghost use Rattle.stored_rows.specs.Counting.{FailsStored};
+ghost use Rattle.stored_rows.specs.Repairs.{FailsRepair};
 ghost use Rattle.slot_state.specs.Slots as slots;
 ghost use Rattle.slot_state.specs.Slots.{empty_slot};
 ghost use Rattle.tickets.specs.declared.answer.Answer.TheVariants as answer;
 ghost use Rattle.stored_slot.specs.Served.{Faulted, Serves};
-ghost use Rattle.stored_slot.specs.Settled.{CutsSettled, LeavesSettled, SettlesOrFails};
+ghost use Rattle.stored_slot.specs.Settled.{CutsSettled, LeavesRepaired, LeavesSettled, SettlesOrFails};
 
 use crate::cutting::cutting;
-use crate::keeping::{loading, sealing};
+use crate::keeping::{loading, repairing, sealing};
 use crate::serving::serving;
 use crate::settling::settling;
-use extent_node::Wire;
+use extent_node::{Node, Wire};
+use partition_stream::StreamName;
 use policy_book::Judged;
 use range_rows::Reading;
 use slot_state::{AccountPairs, Histories};
@@ -26,6 +28,7 @@ use std::alloc::{AllocError, Global};
 use std::marker::Model;
 use std::sync::Arc;
 use stored_rows::{KeyRange, StoredFault, StoredRows};
+use stream_manager::RepairFault;
 use tickets::Answer;
 
 /// The containers of a range of keys, which three streams keep, and the accepted changes of each, with the key pairs of all accounts.
@@ -83,6 +86,14 @@ impl<H: Histories> StoredSlot<H> {
         ensures { result ≡ slots.covers self.now key.now }
     {
         self.stored.covers(key)
+    }
+
+    /// Whether the key comes after the first key of the slot and before the end of its range, so that the slot can be split at it.
+    #[tactic(auto, using(crate::proofs::HalfLemmas::inside_same))]
+    pub fn is_inside(&self, key: &Key) -> bool
+        ensures { result ≡ slots.is_inside self.now key.now }
+    {
+        key.cmp(self.stored.first()).is_gt() && self.stored.covers(key)
     }
 
     /// One step of the model, on a request whose body was read before. The caller keeps the request, and may judge its signature before:
@@ -234,5 +245,38 @@ impl<H: Histories> StoredSlot<H> {
         ensures { self.new ≡ self.old }
     {
         self.stored.unload();
+    }
+
+    /// Settles a doubt, if there is one, and gives the node a copy of a whole sealed extent of one stream, if it has no copy. No byte is
+    /// copied.
+    ///
+    /// The other nodes, which have a copy, are asked in the order 0, 1, 2 until one of them answers yes. Then each block of the extent is put
+    /// to the node once. Only the extent of this slot is repaired, also if other slots share it.
+    ///
+    /// After a fault nothing is changed, except that a doubt may have ended. NoSuchExtent: no sealed extent of the stream has this number.
+    /// Unreachable: the doubt could not be settled, since nodes that were needed did not answer; or each node with a copy was asked and
+    /// answered no; or a put was not Done.
+    pub fn repair<W: Wire>(
+        &mut self,
+        alloc: Global,
+        part: StreamName,
+        extent: u64,
+        node: Node,
+        wire: &mut W,
+    ) -> Result<(), RepairFault>
+        ensures left { LeavesRepaired result self.old self.new }
+        ensures counted { FailsRepair result (W.faults wire.old) (W.faults wire.new) }
+    {
+        repairing(
+            &mut self.histories,
+            &mut self.stored,
+            &mut self.doubt,
+            &self.pairs,
+            alloc,
+            part,
+            extent,
+            node,
+            wire,
+        )
     }
 }

@@ -1,5 +1,4 @@
-use Rattle.std.proofs.Common.{◌≡◌, None, sym, subst}
-use Rattle.std.specs.FinMap as finite
+use Rattle.std.proofs.Common.{None, sym, subst}
 use Rattle.slot_state.specs.Pairs.{Pairs}
 use Rattle.stored_slot.specs.Meanings.{AreOfStreams, AreReplays, slot_with}
 use Rattle.stored_slot.specs.Settled.{Cuts}

@@ -15,8 +15,7 @@ returns-in-Ok-clause-after g c =
 
 pub returns-in-Ok-clause-cut : goal.returns-in-Ok-clause-cut
 returns-in-Ok-clause-cut g c =
-    let held = g.H.Histories.held in
-    (
+    let held = g.H.Histories.held in (
       lower_slot (arc_value c.args.halves.pairs) (held c.args.histories.now) (held c.args.halves.below) c.args.stored.now c.cut.new.self c.args.middle.now c.in-Ok.ensures.lower c.requires.below,
       upper_slot (arc_value c.args.halves.pairs) (held c.args.histories.now) (held c.args.halves.above) c.args.stored.now c.in-Ok.upper c.args.middle.now c.in-Ok.ensures.upper c.requires.above,
     )

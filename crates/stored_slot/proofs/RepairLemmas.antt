@@ -1,0 +1,69 @@
+-- Repairs of a slot, which settle a doubt first.
+use Rattle.std.proofs.Common.{◌≡◌, ◌≤◌, ◌∙◌, inl, inr, ℕ, IsSome, Option, None, Result, Ok, Err, length, sym, ap, subst}
+use Rattle.std.specs.Prelude.{◌↔◌, OnErr}
+use Rattle.extent_node.specs.Faults.{Calls}
+use Rattle.extent_seal.specs.Counting.{Grows}
+use Rattle.stamp_types.specs.declared.past.Past.{Past}
+use Rattle.stream_manager.specs.declared.faults.RepairFault.{RepairFault}
+use Rattle.stream_manager.specs.declared.faults.RepairFault.TheVariants as repair
+use Rattle.partition_stream.specs.Repairs.{stream_of}
+use Rattle.partition_stream.specs.declared.repair.StreamName.{StreamName}
+use Rattle.stored_rows.specs.Counting.{FailsStored}
+use Rattle.stored_rows.specs.Repairs.{FailsRepair}
+use Rattle.stored_rows.specs.States.{MeansTheSame, Stored, doubt_of}
+use Rattle.stored_rows.specs.declared.faults.StoredFault.{StoredFault}
+use Rattle.stored_rows.specs.declared.faults.StoredFault.TheVariants as stored
+use Rattle.stored_rows.proofs.CountLemmas.{fails_later, grows_twice}
+use Rattle.slot_state.specs.HistoryMaps.{Histories}
+use Rattle.slot_state.specs.Pairs.{Pairs}
+use Rattle.slot_state.specs.Slots.{SlotState}
+use Rattle.stored_slot.specs.Meanings.{AreOfStreams, slot_with}
+use Rattle.stored_slot.specs.Settled.{LeavesRepaired, SettlesDoubt, repair_fault_of}
+use Rattle.stored_slot.proofs.KeepLemmas.{seal_kept}
+use Rattle.stored_slot.proofs.MeaningLemmas.{slot_same}
+use Rattle.stored_slot.proofs.ServeLemmas.{settled_sure}
+
+abbrev failed : RepairFault → Result (Unit {0}) RepairFault
+failed f = Err f
+
+-- ---- the settle failed
+
+pub unrepaired : (f : StoredFault) (g : RepairFault) (s t : SlotState) → g ≡ repair_fault_of f → IsSome s.doubt × (t ≡ s) → LeavesRepaired (Err g) s t
+unrepaired stored.Busy g s t is same = subst (λ (x : RepairFault). LeavesRepaired (Err x) s t) (sym is) (inr same)
+unrepaired stored.NoMemory g s t is same = subst (λ (x : RepairFault). LeavesRepaired (Err x) s t) (sym is) (inr same)
+
+pub unrepaired_fails : (f : StoredFault) (g : RepairFault) (a b : Calls) → g ≡ repair_fault_of f → FailsStored {T = Unit {0}} (Err f) a b → FailsRepair (Err g) a b
+unrepaired_fails stored.Busy g a b is counted = subst (λ (x : RepairFault). FailsRepair (Err x) a b) (sym is) counted
+unrepaired_fails stored.NoMemory g a b is counted = subst (λ (x : RepairFault). FailsRepair (Err x) a b) (sym is) counted
+
+-- that there is no such extent is not what a failed settle says
+pub unrepaired_unrefused : (f : StoredFault) (g : RepairFault) (T : Type 0) → g ≡ repair_fault_of f → failed g ≡ failed repair.NoSuchExtent → T
+unrepaired_unrefused stored.Busy g T is wrong = let no : failed repair.Unreachable ≡ failed repair.NoSuchExtent = ap failed (sym is) ∙ wrong in absurd cc
+unrepaired_unrefused stored.NoMemory g T is wrong = let no : failed repair.NoMemory ≡ failed repair.NoSuchExtent = ap failed (sym is) ∙ wrong in absurd cc
+
+-- ---- a repair after a settle
+
+pub repair_later : (r : Result (Unit {0}) RepairFault) (a b c : Calls) → Grows a b → FailsRepair r b c → FailsRepair r a c
+repair_later (Ok u) a b c grown counted = grows_twice a b c grown counted
+repair_later (Err repair.NoSuchExtent) a b c grown counted = grows_twice a b c grown counted
+repair_later (Err repair.Unreachable) a b c grown counted = fails_later a b c grown counted
+repair_later (Err repair.NoMemory) a b c grown counted = grows_twice a b c grown counted
+
+left_repaired : (r : Result (Unit {0}) RepairFault) (s m t : SlotState) → SettlesDoubt s m → t ≡ m → LeavesRepaired r s t
+left_repaired (Ok u) s m t settled same = subst (λ (x : SlotState). SettlesDoubt s x) (sym same) settled
+left_repaired (Err repair.NoSuchExtent) s m t settled same = subst (λ (x : SlotState). SettlesDoubt s x) (sym same) settled
+left_repaired (Err repair.Unreachable) s m t settled same = inl (subst (λ (x : SlotState). SettlesDoubt s x) (sym same) settled)
+left_repaired (Err repair.NoMemory) s m t settled same = inl (subst (λ (x : SlotState). SettlesDoubt s x) (sym same) settled)
+
+module _ (pairs : Pairs) (h h' : Histories) (s t : Stored) (d d' : Option Past) (settled : SettlesDoubt (slot_with pairs h s d) (slot_with pairs h' t d')) (are : AreOfStreams pairs h' t d') where
+  pub repair_kept : (u : Stored) → MeansTheSame t u → doubt_of u ≡ doubt_of t → AreOfStreams pairs h' u d'
+  repair_kept u same doubt = seal_kept pairs h h' s t d d' settled are u same (doubt ∙ settled_sure pairs h h' s t d d' settled are)
+
+  pub repair_left : (u : Stored) (r : Result (Unit {0}) RepairFault) → MeansTheSame t u → LeavesRepaired r (slot_with pairs h s d) (slot_with pairs h' u d')
+  repair_left u r same = left_repaired r (slot_with pairs h s d) (slot_with pairs h' t d') (slot_with pairs h' u d') settled (slot_same pairs h' t u d' same.range)
+
+-- there is no such extent after the repair if there was none before it
+pub refused_still : (part : StreamName) (e : ℕ) (s t : Stored) (r : Result (Unit {0}) RepairFault) → ((r ≡ failed repair.NoSuchExtent) ↔ (length (stream_of part s.streams).sealed ≤ e)) → OnErr r (t ≡ s)
+    → r ≡ failed repair.NoSuchExtent → length (stream_of part t.streams).sealed ≤ e
+refused_still part e s t (Ok u) refused same is = cc
+refused_still part e s t (Err f) refused same is = subst (λ (x : Stored). length (stream_of part x.streams).sealed ≤ e) (sym same) (refused.0 is)
