@@ -21,7 +21,7 @@ use Rattle.slot_state.specs.Pairs.{Pairs, current_at, epoch_of, pairs_at}
 use Rattle.slot_state.specs.Slots.{SlotState, lower_half, replayed_at, upper_half}
 use Rattle.slot_state.proofs.SplitLemmas.{read_retained}
 use Rattle.stored_slot.specs.Meanings.{AreOfStreams, AreReplays, slot_with}
-use Rattle.stored_slot.specs.Settled.{Cuts, CutsSettled, SettlesDoubt}
+use Rattle.stored_slot.specs.Settled.{Cuts, CutsSettled, SettlesSlot}
 use Rattle.stored_slot.proofs.DecisionLemmas.{and_parts, from_from, same_end}
 use Rattle.stored_slot.proofs.MeaningLemmas.{none_later}
 use Rattle.stored_slot.proofs.ServeLemmas.{settled_none}
@@ -132,11 +132,11 @@ upper_slot pairs h g s t middle half is = λ i. record { histories = is i; pairs
 
 -- ---- a cut after a settle
 
-cuts_settled : (r : Result SlotState StoredFault) (s m t : SlotState) (middle : Key) → SettlesDoubt s m → Cuts r m middle t → CutsSettled r s middle t
+cuts_settled : (r : Result SlotState StoredFault) (s m t : SlotState) (middle : Key) → SettlesSlot s m → Cuts r m middle t → CutsSettled r s middle t
 cuts_settled (Ok upper) s m t middle settled cut = (m, (settled, cut))
-cuts_settled (Err e) s m t middle settled same = inl (subst (λ (x : SlotState). SettlesDoubt s x) (sym same) settled)
+cuts_settled (Err e) s m t middle settled same = inl (subst (λ (x : SlotState). SettlesSlot s x) (sym same) settled)
 
-module _ (pairs : Pairs) (h h' : Histories) (s t : Stored) (d d' : Option Past) (settled : SettlesDoubt (slot_with pairs h s d) (slot_with pairs h' t d')) where
+module _ (pairs : Pairs) (h h' : Histories) (s t : Stored) (d d' : Option Past) (settled : SettlesSlot (slot_with pairs h s d) (slot_with pairs h' t d')) where
   abbrev none : d' ≡ None
   none = settled_none d pairs h h' s t d' settled
 
@@ -148,7 +148,7 @@ module _ (pairs : Pairs) (h h' : Histories) (s t : Stored) (d d' : Option Past) 
   cut_told r g u middle cut =
       subst (λ (x : Option Past). CutsSettled r (slot_with pairs h s d) middle (slot_with pairs g u x)) (sym none)
       (cuts_settled r (slot_with pairs h s d) (slot_with pairs h' t None) (slot_with pairs g u None) middle
-      (subst (λ (x : Option Past). SettlesDoubt (slot_with pairs h s d) (slot_with pairs h' t x)) none settled) cut)
+      (subst (λ (x : Option Past). SettlesSlot (slot_with pairs h s d) (slot_with pairs h' t x)) none settled) cut)
 
 -- a key that is inside of a slot is in the range of its rows
 pub inside_covered : (range : KeyRange) (key : Key) → (is_below key range.from && is_under range.to key) ≡ true → covers range key ≡ true

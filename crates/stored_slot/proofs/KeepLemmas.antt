@@ -12,7 +12,7 @@ use Rattle.stored_rows.proofs.CountLemmas.{fails_later, grows_twice}
 use Rattle.slot_state.specs.HistoryMaps.{Histories}
 use Rattle.slot_state.specs.Pairs.{Pairs}
 use Rattle.stored_slot.specs.Meanings.{AreOfStreams, slot_with}
-use Rattle.stored_slot.specs.Settled.{LeavesSettled, SettlesDoubt}
+use Rattle.stored_slot.specs.Settled.{LeavesSettled, SettlesSlot}
 use Rattle.stored_slot.proofs.MeaningLemmas.{left_settled, sealed_kept, slot_same}
 use Rattle.stored_slot.proofs.ServeLemmas.{loaded, loaded_replays, loaded_slot, loaded_sure, none_kept, none_same, settled_none, settled_sure}
 
@@ -22,7 +22,7 @@ stored_later (Ok x) a b c grown counted = grows_twice a b c grown counted
 stored_later (Err stored.Busy) a b c grown counted = fails_later a b c grown counted
 stored_later (Err stored.NoMemory) a b c grown counted = grows_twice a b c grown counted
 
-module _ (pairs : Pairs) (h h' : Histories) (s t : Stored) (d d' : Option Past) (settled : SettlesDoubt (slot_with pairs h s d) (slot_with pairs h' t d')) (are : AreOfStreams pairs h' t d') where
+module _ (pairs : Pairs) (h h' : Histories) (s t : Stored) (d d' : Option Past) (settled : SettlesSlot (slot_with pairs h s d) (slot_with pairs h' t d')) (are : AreOfStreams pairs h' t d') where
   abbrev none : d' ≡ None
   none = settled_none d pairs h h' s t d' settled
 

@@ -28,7 +28,7 @@ use Rattle.slot_state.specs.Slots.{SlotState, change_now, entry_of, lower_half, 
 use Rattle.slot_state.proofs.SplitLemmas.{read_retained}
 use Rattle.stored_slot.specs.Meanings.{AreOfStreams, AreReplays, slot_with}
 use Rattle.stored_slot.specs.Served.{doubting}
-use Rattle.stored_slot.specs.Settled.{CutsSettled, SettlesDoubt, SettlesDoubtBy}
+use Rattle.stored_slot.specs.Settled.{CutsSettled, SettlesSlot, SettlesDoubtBy}
 use Rattle.stored_slot.proofs.DecisionLemmas.{and_parts, same_end}
 
 -- ---- rows that are loaded
@@ -53,7 +53,7 @@ module _ (s m t : Stored) (w : World (List Piece)) (key : Key) (dropped : m ≡ 
 
 -- ---- a doubt that ends
 
-pub doubt_ends : (s t : SlotState) (q : Asked) (moment : ℕ) → s.doubt ≡ None → IsSome (change_now s.pairs s.histories q moment) → SettlesDoubt (doubting s q moment) t
+pub doubt_ends : (s t : SlotState) (q : Asked) (moment : ℕ) → s.doubt ≡ None → IsSome (change_now s.pairs s.histories q moment) → SettlesSlot (doubting s q moment) t
     → (t ≡ slot_after s q moment) ⊎ (t ≡ s)
 doubt_ends s t q moment none some settled = elim settled [
   | inl same ↦ inl (same ∙ sym (λ i. record s { histories = cond (some i) (with_entry s.histories (entry_of s.pairs q moment)) s.histories; doubt = none i }))
@@ -81,7 +81,7 @@ half_replayed pairs h t m p key are same is passes covered =
     ∙ ap (λ (es : List Past). replay (pairs_at m.pairs key.account) es) (read_retained [] m.histories p key ∙ ap (λ (b : Bool). cond b (history_at m.histories key) []) passes)
 
 module _ (pairs : Pairs) (below above : Histories) (lower upper : Stored) (s : SlotState) (middle key : Key) (low : AreReplays pairs below lower) (up : AreReplays pairs above upper)
-    (covered : slots.covers s key ≡ true) (m : SlotState) (settled : SettlesDoubt s m) (is_lower : slot_with pairs below lower None ≡ lower_half m middle)
+    (covered : slots.covers s key ≡ true) (m : SlotState) (settled : SettlesSlot s m) (is_lower : slot_with pairs below lower None ≡ lower_half m middle)
     (is_upper : slot_with pairs above upper None ≡ upper_half m middle) where
   abbrev ends : (m.from ≡ s.from) × (m.to ≡ s.to)
   ends = settled_ends s.doubt s m settled
@@ -112,7 +112,7 @@ module _ (pairs : Pairs) (below above : Histories) (lower upper : Stored) (s : S
 
 pub split_keeps : (pairs : Pairs) (below above : Histories) (lower upper : Stored) (s : SlotState) (middle key : Key) → AreOfStreams pairs below lower None → AreOfStreams pairs above upper None
     → CutsSettled (Ok (slot_with pairs above upper None)) s middle (slot_with pairs below lower None) → slots.covers s key ≡ true
-    → (m : SlotState) × (SettlesDoubt s m × (((covers lower.range key ≡ true) × (bytes_of lower key ≡ replayed_at m.pairs m.histories key))
+    → (m : SlotState) × (SettlesSlot s m × (((covers lower.range key ≡ true) × (bytes_of lower key ≡ replayed_at m.pairs m.histories key))
     ⊎ ((covers upper.range key ≡ true) × (bytes_of upper key ≡ replayed_at m.pairs m.histories key))))
 split_keeps pairs below above lower upper s middle key low up cut covered =
     (cut.0, (cut.1.0, in_one pairs below above lower upper s middle key low.replays up.replays covered cut.0 cut.1.0 cut.1.1.0 cut.1.1.1))

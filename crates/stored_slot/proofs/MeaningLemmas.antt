@@ -46,8 +46,8 @@ use Rattle.slot_state.proofs.MapLemmas.{taken_back, tied}
 use Rattle.slot_state.proofs.RowLemmas.{brings_held}
 use Rattle.slot_state.proofs.StepLemmas.{history_at-insert}
 use Rattle.stored_slot.specs.Meanings.{AreOfStreams, AreReplays, HasDoubt, IsDoubted, MakesChange, slot_with}
-use Rattle.stored_slot.specs.Settled.{LeavesSettled, SettlesDoubt, follows, keeps_change, pushed_left}
-use Rattle.stored_slot.specs.Changes.{doubt_after, doubt_left, entered, slot_taken}
+use Rattle.stored_slot.specs.Settled.{LeavesSettled, SettlesSlot, follows, keeps_change, pushed_left}
+use Rattle.stored_slot.specs.Changes.{doubt_after, doubt_left, slot_taken, with_taken}
 
 true_false : true ≡ false → ⊥
 true_false h = cc
@@ -163,7 +163,7 @@ module _ (pairs : Pairs) (h : Histories) (s : Stored) (e : Past) (c : KeyedAct) 
 
   -- ---- a change that is taken, or not
 
-  pub taken_kept : (t : Stored) (r : Result (Unit {0}) TakeFault) → AreReplays pairs h s → IsTaken r s (c, e.epoch) t → AreOfStreams pairs (entered r h e) t (doubt_after r e)
+  pub taken_kept : (t : Stored) (r : Result (Unit {0}) TakeFault) → AreReplays pairs h s → IsTaken r s (c, e.epoch) t → AreOfStreams pairs (with_taken r h e) t (doubt_after r e)
   taken_kept t (Ok u) are is = record { replays = entered_replays t are is; doubted = is.sure }
   taken_kept t (Err fault.Doubt) are is = record {
     replays = same_replays pairs h s t are is.0.range is.0.bytes;
@@ -245,9 +245,9 @@ sealed_kept pairs h s t are same none = record { replays = same_replays pairs h 
 pub slot_same : (pairs : Pairs) (h : Histories) (s t : Stored) (d : Option Past) → t.range ≡ s.range → slot_with pairs h t d ≡ slot_with pairs h s d
 slot_same pairs h s t d same = λ i. record { histories = h; pairs = pairs; from = (same i).from; to = (same i).to; doubt = d }
 
-pub left_settled : (r : Result (Unit {0}) StoredFault) (s m t : SlotState) → SettlesDoubt s m → t ≡ m → LeavesSettled r s t
-left_settled (Ok u) s m t settled same = subst (λ (x : SlotState). SettlesDoubt s x) (sym same) settled
-left_settled (Err e) s m t settled same = inl (subst (λ (x : SlotState). SettlesDoubt s x) (sym same) settled)
+pub left_settled : (r : Result (Unit {0}) StoredFault) (s m t : SlotState) → SettlesSlot s m → t ≡ m → LeavesSettled r s t
+left_settled (Ok u) s m t settled same = subst (λ (x : SlotState). SettlesSlot s x) (sym same) settled
+left_settled (Err e) s m t settled same = inl (subst (λ (x : SlotState). SettlesSlot s x) (sym same) settled)
 
 -- ---- a settle of a slot
 
@@ -256,9 +256,9 @@ module _ (pairs : Pairs) (h : Histories) (s t : Stored) (d d' : Option Past) (ar
   pub sure_stays : d ≡ None → d' ≡ None → AreOfStreams pairs h s d'
   sure_stays none same = subst (λ (x : Option Past). AreOfStreams pairs h s x) (none ∙ sym same) are
 
-  pub sure_settled : d ≡ None → d' ≡ None → SettlesDoubt (slot_with pairs h s d) (slot_with pairs h s d')
+  pub sure_settled : d ≡ None → d' ≡ None → SettlesSlot (slot_with pairs h s d) (slot_with pairs h s d')
   sure_settled none same =
-      subst (λ (x : Option Past). SettlesDoubt (slot_with pairs h s x) (slot_with pairs h s d')) (sym none) (ap (λ (x : Option Past). slot_with pairs h s x) same)
+      subst (λ (x : Option Past). SettlesSlot (slot_with pairs h s x) (slot_with pairs h s d')) (sym none) (ap (λ (x : Option Past). slot_with pairs h s x) same)
 
   module _ (e : Past) (is : d ≡ Some e) where
     doubted_own : IsDoubted pairs h s e
@@ -272,16 +272,16 @@ module _ (pairs : Pairs) (h : Histories) (s t : Stored) (d d' : Option Past) (ar
         subst (λ (x : Option Past). AreOfStreams pairs h' t x) (sym left)
         (subst (λ (g : Histories). AreOfStreams pairs g t (doubt_left r e)) (sym same) (settled_kept pairs h s t e r are.replays doubted_own rows blobs))
 
-    by_end : (ended : Ended) → SettlesRows (Ok ended) s t → SettlesDoubt (slot_with pairs h s (Some e)) (slot_with pairs (follows (Ok ended) h e) t None)
+    by_end : (ended : Ended) → SettlesRows (Ok ended) s t → SettlesSlot (slot_with pairs h s (Some e)) (slot_with pairs (follows (Ok ended) h e) t None)
     by_end ended.Clean rows = absurd (none_some _ (sym rows.1.0 ∙ doubted_own.tried.doubt))
     by_end ended.Kept rows = inl (slot_same pairs (with_entry h e) s t None (settled_range pairs h s t e (Ok ended.Kept) doubted_own rows))
     by_end ended.Dropped rows = inr (slot_same pairs h s t None (settled_range pairs h s t e (Ok ended.Dropped) doubted_own rows))
 
-    pub doubt_settled : (h' : Histories) (ended : Ended) → h' ≡ follows (Ok ended) h e → SettlesRows (Ok ended) s t → d' ≡ None → SettlesDoubt (slot_with pairs h s d) (slot_with pairs h' t d')
+    pub doubt_settled : (h' : Histories) (ended : Ended) → h' ≡ follows (Ok ended) h e → SettlesRows (Ok ended) s t → d' ≡ None → SettlesSlot (slot_with pairs h s d) (slot_with pairs h' t d')
     doubt_settled h' ended same rows left =
-        subst (λ (x : Option Past). SettlesDoubt (slot_with pairs h s x) (slot_with pairs h' t d')) (sym is)
-        (subst (λ (y : Option Past). SettlesDoubt (slot_with pairs h s (Some e)) (slot_with pairs h' t y)) (sym left)
-        (subst (λ (g : Histories). SettlesDoubt (slot_with pairs h s (Some e)) (slot_with pairs g t None)) (sym same) (by_end ended rows)))
+        subst (λ (x : Option Past). SettlesSlot (slot_with pairs h s x) (slot_with pairs h' t d')) (sym is)
+        (subst (λ (y : Option Past). SettlesSlot (slot_with pairs h s (Some e)) (slot_with pairs h' t y)) (sym left)
+        (subst (λ (g : Histories). SettlesSlot (slot_with pairs h s (Some e)) (slot_with pairs g t None)) (sym same) (by_end ended rows)))
 
     pub doubt_stays : (h' : Histories) (f : StoredFault) → h' ≡ h → SettlesRows (Err f) s t → d' ≡ Some e → IsSome d × (slot_with pairs h' t d' ≡ slot_with pairs h s d)
     doubt_stays h' f same rows left = (
@@ -301,7 +301,7 @@ followed old pushed after e (Ok ended.Dropped) none is left = taken_back old pus
 followed old pushed after e (Err f) none is left = taken_back old pushed after e e.request.ask.key none is refl left
 
 pub entered_by : (old pushed after : Histories) (e : Past) (r : Result (Unit {0}) TakeFault) → NoneIsEmpty old → pushed ≡ with_entry old e → OnOk r (after ≡ pushed)
-    → OnErr r (after ≡ without_last pushed e.request.ask.key) → after ≡ entered r old e
+    → OnErr r (after ≡ without_last pushed e.request.ask.key) → after ≡ with_taken r old e
 entered_by old pushed after e (Ok u) none is stays back = stays ∙ is
 entered_by old pushed after e (Err f) none is stays back = taken_back old pushed after e e.request.ask.key none is refl back
 
@@ -343,7 +343,7 @@ module _ (pairs : Pairs) (h : Histories) (s : Stored) (e : Past) (c : KeyedAct) 
       (own_change pairs h s e c makes).1)
 
   -- the slot after a try of the change
-  pub slot_tried : (t : Stored) (h' : Histories) (d : Option Past) (r : Result (Unit {0}) TakeFault) → IsTaken r s (c, e.epoch) t → h' ≡ entered r h e → d ≡ doubt_after r e
+  pub slot_tried : (t : Stored) (h' : Histories) (d : Option Past) (r : Result (Unit {0}) TakeFault) → IsTaken r s (c, e.epoch) t → h' ≡ with_taken r h e → d ≡ doubt_after r e
       → slot_with pairs h' t d ≡ slot_taken r (slot_with pairs h s None) e
   slot_tried t h' d r taken same left = λ i. record {
     histories = same i;
@@ -353,7 +353,7 @@ module _ (pairs : Pairs) (h : Histories) (s : Stored) (e : Past) (c : KeyedAct) 
     doubt = left i;
   }
 
-  pub tried_kept : (t : Stored) (h' : Histories) (d : Option Past) (r : Result (Unit {0}) TakeFault) → AreReplays pairs h s → IsTaken r s (c, e.epoch) t → h' ≡ entered r h e → d ≡ doubt_after r e
+  pub tried_kept : (t : Stored) (h' : Histories) (d : Option Past) (r : Result (Unit {0}) TakeFault) → AreReplays pairs h s → IsTaken r s (c, e.epoch) t → h' ≡ with_taken r h e → d ≡ doubt_after r e
       → AreOfStreams pairs h' t d
   tried_kept t h' d r are taken same left =
       subst (λ (x : Option Past). AreOfStreams pairs h' t x) (sym left)

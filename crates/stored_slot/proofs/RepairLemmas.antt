@@ -18,7 +18,7 @@ use Rattle.slot_state.specs.HistoryMaps.{Histories}
 use Rattle.slot_state.specs.Pairs.{Pairs}
 use Rattle.slot_state.specs.Slots.{SlotState}
 use Rattle.stored_slot.specs.Meanings.{AreOfStreams, slot_with}
-use Rattle.stored_slot.specs.Settled.{LeavesRepaired, SettlesDoubt, repair_fault_of}
+use Rattle.stored_slot.specs.Settled.{LeavesRepaired, SettlesSlot, repair_fault_of}
 use Rattle.stored_slot.proofs.KeepLemmas.{seal_kept}
 use Rattle.stored_slot.proofs.MeaningLemmas.{slot_same}
 use Rattle.stored_slot.proofs.ServeLemmas.{settled_sure}
@@ -49,13 +49,13 @@ repair_later (Err repair.NoSuchExtent) a b c grown counted = grows_twice a b c g
 repair_later (Err repair.Unreachable) a b c grown counted = fails_later a b c grown counted
 repair_later (Err repair.NoMemory) a b c grown counted = grows_twice a b c grown counted
 
-left_repaired : (r : Result (Unit {0}) RepairFault) (s m t : SlotState) → SettlesDoubt s m → t ≡ m → LeavesRepaired r s t
-left_repaired (Ok u) s m t settled same = subst (λ (x : SlotState). SettlesDoubt s x) (sym same) settled
-left_repaired (Err repair.NoSuchExtent) s m t settled same = subst (λ (x : SlotState). SettlesDoubt s x) (sym same) settled
-left_repaired (Err repair.Unreachable) s m t settled same = inl (subst (λ (x : SlotState). SettlesDoubt s x) (sym same) settled)
-left_repaired (Err repair.NoMemory) s m t settled same = inl (subst (λ (x : SlotState). SettlesDoubt s x) (sym same) settled)
+left_repaired : (r : Result (Unit {0}) RepairFault) (s m t : SlotState) → SettlesSlot s m → t ≡ m → LeavesRepaired r s t
+left_repaired (Ok u) s m t settled same = subst (λ (x : SlotState). SettlesSlot s x) (sym same) settled
+left_repaired (Err repair.NoSuchExtent) s m t settled same = subst (λ (x : SlotState). SettlesSlot s x) (sym same) settled
+left_repaired (Err repair.Unreachable) s m t settled same = inl (subst (λ (x : SlotState). SettlesSlot s x) (sym same) settled)
+left_repaired (Err repair.NoMemory) s m t settled same = inl (subst (λ (x : SlotState). SettlesSlot s x) (sym same) settled)
 
-module _ (pairs : Pairs) (h h' : Histories) (s t : Stored) (d d' : Option Past) (settled : SettlesDoubt (slot_with pairs h s d) (slot_with pairs h' t d')) (are : AreOfStreams pairs h' t d') where
+module _ (pairs : Pairs) (h h' : Histories) (s t : Stored) (d d' : Option Past) (settled : SettlesSlot (slot_with pairs h s d) (slot_with pairs h' t d')) (are : AreOfStreams pairs h' t d') where
   pub repair_kept : (u : Stored) → MeansTheSame t u → doubt_of u ≡ doubt_of t → AreOfStreams pairs h' u d'
   repair_kept u same doubt = seal_kept pairs h h' s t d d' settled are u same (doubt ∙ settled_sure pairs h h' s t d d' settled are)
 

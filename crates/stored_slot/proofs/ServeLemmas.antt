@@ -32,8 +32,8 @@ use Rattle.slot_state.specs.Slots.{IsReplyFor, IsServed, SlotState, change_now, 
 use Rattle.slot_state.proofs.PairLemmas.{pair_of-current}
 use Rattle.stored_slot.specs.Changes.{slot_taken}
 use Rattle.stored_slot.specs.Meanings.{AreOfStreams, AreReplays, HasDoubt, MakesChange, slot_with}
-use Rattle.stored_slot.specs.Served.{FailsAnswer, Faulted, IsFailed, IsTakenAnswer, ReadsAnswer, Serves, ServesBy, busy, unknown}
-use Rattle.stored_slot.specs.Settled.{SettlesDoubt}
+use Rattle.stored_slot.specs.Served.{FailsAnswer, Faulted, IsFailed, IsTakenAnswer, ReadsAnswer, SlotServes, ServesBy, busy, unknown}
+use Rattle.stored_slot.specs.Settled.{SettlesSlot}
 
 not_later : true ≡ false → ⊥
 not_later h = cc
@@ -162,13 +162,13 @@ taken_told pairs h s e c old new are makes now frame a s' (Err fault.NoMemory) t
 
 -- ---- a slot without a doubt
 
-pub settled_none : (d : Option Past) (pairs : Pairs) (h h' : Histories) (s t : Stored) (d' : Option Past) → SettlesDoubt (slot_with pairs h s d) (slot_with pairs h' t d') → d' ≡ None
+pub settled_none : (d : Option Past) (pairs : Pairs) (h h' : Histories) (s t : Stored) (d' : Option Past) → SettlesSlot (slot_with pairs h s d) (slot_with pairs h' t d') → d' ≡ None
 settled_none None pairs h h' s t d' same = ap (λ (x : SlotState). x.doubt) same
 settled_none (Some e) pairs h h' s t d' (inl same) = ap (λ (x : SlotState). x.doubt) same
 settled_none (Some e) pairs h h' s t d' (inr same) = ap (λ (x : SlotState). x.doubt) same
 
 -- the range stays
-pub settled_ends : (d : Option Past) (pairs : Pairs) (h h' : Histories) (s t : Stored) (d' : Option Past) → SettlesDoubt (slot_with pairs h s d) (slot_with pairs h' t d') → t.range ≡ s.range
+pub settled_ends : (d : Option Past) (pairs : Pairs) (h h' : Histories) (s t : Stored) (d' : Option Past) → SettlesSlot (slot_with pairs h s d) (slot_with pairs h' t d') → t.range ≡ s.range
 settled_ends None pairs h h' s t d' same = λ i. record { from = ap (λ (x : SlotState). x.from) same i; to = ap (λ (x : SlotState). x.to) same i }
 settled_ends (Some e) pairs h h' s t d' (inl same) = λ i. record { from = ap (λ (x : SlotState). x.from) same i; to = ap (λ (x : SlotState). x.to) same i }
 settled_ends (Some e) pairs h h' s t d' (inr same) = λ i. record { from = ap (λ (x : SlotState). x.from) same i; to = ap (λ (x : SlotState). x.to) same i }
@@ -229,17 +229,17 @@ grown_twice = grows_twice
 
 module _ (s : SlotState) (q : Asked) (t : ℕ) (a : Answer) (m s' : SlotState) (old mid new : Calls) where
   -- the settle is done
-  pub serves_settled : SettlesDoubt s m → Grows old mid → ServesBy m q t (Faulted mid new) a s' → Serves s q t (Faulted old new) a s'
+  pub serves_settled : SettlesSlot s m → Grows old mid → ServesBy m q t (Faulted mid new) a s' → SlotServes s q t (Faulted old new) a s'
   serves_settled settled grown serves = inl (m, (settled, served_later m q t (Faulted mid new) (Faulted old new) a s' (later_fault old mid new grown) serves))
 
 -- the settle failed
 pub serves_failed : (s : SlotState) (q : Asked) (t : ℕ) (a : Answer) (s' : SlotState) (old new : Calls) (f : StoredFault) → IsSome s.doubt × (s' ≡ s) → FailsStored {T = Unit {0}} (Err f) old new → IsFailed a f
-    → Serves s q t (Faulted old new) a s'
+    → SlotServes s q t (Faulted old new) a s'
 serves_failed s q t a s' old new f same counted is = inr (same.0, (failed_fault f a old new counted is, same.1))
 
 -- ---- a settle before a request, from the parts of a slot
 
-module _ (pairs : Pairs) (h h' : Histories) (s t : Stored) (d d' : Option Past) (settled : SettlesDoubt (slot_with pairs h s d) (slot_with pairs h' t d')) where
+module _ (pairs : Pairs) (h h' : Histories) (s t : Stored) (d d' : Option Past) (settled : SettlesSlot (slot_with pairs h s d) (slot_with pairs h' t d')) where
   pub settled_sure : AreOfStreams pairs h' t d' → doubt_of t ≡ None
   settled_sure are = subst (λ (x : Option Past). HasDoubt pairs h' t x) (settled_none d pairs h h' s t d' settled) are.doubted
 
@@ -247,7 +247,7 @@ module _ (pairs : Pairs) (h h' : Histories) (s t : Stored) (d d' : Option Past) 
   settled_covers key covered = ap (λ r. covers r key) (settled_ends d pairs h h' s t d' settled) ∙ covered
 
   pub serves_after : (q : Asked) (moment : ℕ) (a : Answer) (s' : SlotState) (old mid new : Calls) → Grows old mid → ServesBy (slot_with pairs h' t None) q moment (Faulted mid new) a s'
-      → Serves (slot_with pairs h s d) q moment (Faulted old new) a s'
+      → SlotServes (slot_with pairs h s d) q moment (Faulted old new) a s'
   serves_after q moment a s' old mid new grown serves =
       serves_settled (slot_with pairs h s d) q moment a (slot_with pairs h' t d') s' old mid new settled grown
       (subst (λ (x : Option Past). ServesBy (slot_with pairs h' t x) q moment (Faulted mid new) a s') (sym (settled_none d pairs h h' s t d' settled)) serves)

@@ -8,7 +8,7 @@ use Rattle.slot_state.specs.HistoryMaps.{Histories}
 use Rattle.slot_state.specs.Pairs.{Pairs}
 use Rattle.slot_state.specs.Slots.{SlotState}
 use Rattle.stored_slot.specs.Meanings.{AreOfStreams, HasDoubt, slot_with}
-use Rattle.stored_slot.specs.Served.{Serves, ServesBy}
+use Rattle.stored_slot.specs.Served.{SlotServes, ServesBy}
 use Rattle.stored_slot.proofs.MeaningLemmas.{same_makes, same_replays}
 
 -- a request that is served as the request of an entry
@@ -17,10 +17,10 @@ entry_told s s' e e' F a same serves = subst (λ (x : Past). ServesBy s x.reques
 
 -- a request that is served on the parts of a slot
 pub serves_seen : (p p' : Pairs) (h h' : Histories) (s s' : Stored) (d d' : Option Past) (q : Asked) (t : ℕ) (F : Type 0) (a : Answer) (v : SlotState) → p ≡ p' → slot_with p' h s d ≡ v
-    → Serves (slot_with p h s d) q t F a (slot_with p h' s' d') → Serves v q t F a (slot_with p' h' s' d')
+    → SlotServes (slot_with p h s d) q t F a (slot_with p h' s' d') → SlotServes v q t F a (slot_with p' h' s' d')
 serves_seen p p' h h' s s' d d' q t F a v same seen serves =
-    subst (λ (x : SlotState). Serves x q t F a (slot_with p' h' s' d')) seen
-    (subst (λ (x : Pairs). Serves (slot_with x h s d) q t F a (slot_with x h' s' d')) same serves)
+    subst (λ (x : SlotState). SlotServes x q t F a (slot_with p' h' s' d')) seen
+    (subst (λ (x : Pairs). SlotServes (slot_with x h s d) q t F a (slot_with x h' s' d')) same serves)
 
 -- rows that were dropped from memory
 doubt_unloaded : (pairs : Pairs) (h : Histories) (s t : Stored) (d : Option Past) → t ≡ record s { is_loaded = false } → HasDoubt pairs h s d → HasDoubt pairs h t d

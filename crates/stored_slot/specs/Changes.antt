@@ -10,9 +10,9 @@ use Rattle.slot_state.specs.HistoryMaps.{Histories, with_entry}
 use Rattle.slot_state.specs.Slots.{SlotState}
 
 -- the histories have the entry if its change is taken
-abbrev pub entered : Result (Unit {0}) TakeFault → Histories → Past → Histories
-entered (Ok u) h e = with_entry h e
-entered (Err f) h e = h
+abbrev pub with_taken : Result (Unit {0}) TakeFault → Histories → Past → Histories
+with_taken (Ok u) h e = with_entry h e
+with_taken (Err f) h e = h
 
 -- the entry is in doubt if its change is
 abbrev pub doubt_after : Result (Unit {0}) TakeFault → Past → Option Past
@@ -21,7 +21,7 @@ doubt_after other e = None
 
 -- the slot after a try of the change of an entry
 abbrev pub slot_taken : Result (Unit {0}) TakeFault → SlotState → Past → SlotState
-slot_taken r s e = record s { histories = entered r s.histories e; doubt = doubt_after r e }
+slot_taken r s e = record s { histories = with_taken r s.histories e; doubt = doubt_after r e }
 
 -- the entry stays in doubt if the settle fails
 abbrev pub doubt_left : Result Ended StoredFault → Past → Option Past

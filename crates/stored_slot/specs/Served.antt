@@ -16,7 +16,7 @@ use Rattle.stored_rows.specs.declared.faults.StoredFault.TheVariants as stored
 use Rattle.stored_rows.specs.declared.faults.TakeFault.{TakeFault}
 use Rattle.stored_rows.specs.declared.faults.TakeFault.TheVariants as take
 use Rattle.slot_state.specs.Slots.{IsServed, SlotState, change_now, entry_of}
-use Rattle.stored_slot.specs.Settled.{SettlesDoubt}
+use Rattle.stored_slot.specs.Settled.{SettlesSlot}
 
 -- the reply to a request whose slot needs nodes that are out of reach
 abbrev pub busy : Reply
@@ -70,7 +70,7 @@ ServesBy s q t faulted (answer.Later r) s' = IsServed s q t s.to r s' × (change
 ServesBy s q t faulted answer.NoMemory s' = s' ≡ s
 
 -- A request is served after the doubt of the slot is settled, if there is one. If the settle fails, the request fails, and the doubt stays
-abbrev pub Serves : SlotState → Asked → ℕ → Type 0 → Answer → SlotState → Type 0
-Serves s q t faulted a s' =
-    ((m : SlotState) × (SettlesDoubt s m × ServesBy m q t faulted a s'))
+abbrev pub SlotServes : SlotState → Asked → ℕ → Type 0 → Answer → SlotState → Type 0
+SlotServes s q t faulted a s' =
+    ((m : SlotState) × (SettlesSlot s m × ServesBy m q t faulted a s'))
     ⊎ (IsSome s.doubt × (FailsAnswer faulted a × (s' ≡ s)))

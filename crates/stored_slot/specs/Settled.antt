@@ -25,18 +25,18 @@ SettlesDoubtBy None s t = t ≡ s
 SettlesDoubtBy (Some e) s t = (t ≡ kept s e) ⊎ (t ≡ dropped s)
 
 -- the doubt of the slot is settled, if there is one
-abbrev pub SettlesDoubt : SlotState → SlotState → Type 0
-SettlesDoubt s t = SettlesDoubtBy s.doubt s t
+abbrev pub SettlesSlot : SlotState → SlotState → Type 0
+SettlesSlot s t = SettlesDoubtBy s.doubt s t
 
 -- what a settle does: it settles the doubt; or it fails, which it does only if there is a doubt, and nothing changes
 abbrev pub SettlesOrFails : Result (Unit {0}) StoredFault → SlotState → SlotState → Type 0
-SettlesOrFails (Ok u) s t = SettlesDoubt s t
+SettlesOrFails (Ok u) s t = SettlesSlot s t
 SettlesOrFails (Err e) s t = IsSome s.doubt × (t ≡ s)
 
 -- a step settles the doubt, and then changes nothing; or it fails, also before the doubt is settled
 abbrev pub LeavesSettled : Result (Unit {0}) StoredFault → SlotState → SlotState → Type 0
-LeavesSettled (Ok u) s t = SettlesDoubt s t
-LeavesSettled (Err e) s t = SettlesDoubt s t ⊎ (IsSome s.doubt × (t ≡ s))
+LeavesSettled (Ok u) s t = SettlesSlot s t
+LeavesSettled (Err e) s t = SettlesSlot s t ⊎ (IsSome s.doubt × (t ≡ s))
 
 -- a slot without a doubt is cut: it is its lower half, and the upper half is answered; or the cut fails, and nothing changes
 abbrev pub Cuts : Result SlotState StoredFault → SlotState → Key → SlotState → Type 0
@@ -45,15 +45,15 @@ Cuts (Err e) s middle t = t ≡ s
 
 -- a cut settles the doubt, and then the slot is its lower half, and the upper half is answered; or it fails, also before the doubt is settled
 abbrev pub CutsSettled : Result SlotState StoredFault → SlotState → Key → SlotState → Type 0
-CutsSettled (Ok upper) s middle t = (m : SlotState) × (SettlesDoubt s m × ((t ≡ lower_half m middle) × (upper ≡ upper_half m middle)))
-CutsSettled (Err e) s middle t = SettlesDoubt s t ⊎ (IsSome s.doubt × (t ≡ s))
+CutsSettled (Ok upper) s middle t = (m : SlotState) × (SettlesSlot s m × ((t ≡ lower_half m middle) × (upper ≡ upper_half m middle)))
+CutsSettled (Err e) s middle t = SettlesSlot s t ⊎ (IsSome s.doubt × (t ≡ s))
 
 -- a repair settles the doubt, and then changes nothing, also if the stream has no such extent; or it fails, also before the doubt is settled
 abbrev pub LeavesRepaired : Result (Unit {0}) RepairFault → SlotState → SlotState → Type 0
-LeavesRepaired (Ok u) s t = SettlesDoubt s t
-LeavesRepaired (Err repair.NoSuchExtent) s t = SettlesDoubt s t
-LeavesRepaired (Err repair.Unreachable) s t = SettlesDoubt s t ⊎ (IsSome s.doubt × (t ≡ s))
-LeavesRepaired (Err repair.NoMemory) s t = SettlesDoubt s t ⊎ (IsSome s.doubt × (t ≡ s))
+LeavesRepaired (Ok u) s t = SettlesSlot s t
+LeavesRepaired (Err repair.NoSuchExtent) s t = SettlesSlot s t
+LeavesRepaired (Err repair.Unreachable) s t = SettlesSlot s t ⊎ (IsSome s.doubt × (t ≡ s))
+LeavesRepaired (Err repair.NoMemory) s t = SettlesSlot s t ⊎ (IsSome s.doubt × (t ≡ s))
 
 -- what a repair answers if the doubt cannot be settled
 abbrev pub repair_fault_of : StoredFault → RepairFault

@@ -61,7 +61,7 @@ fn take_entry<H: Histories, W: Wire>(
     requires fits { IsTrue (fits (part_value pieces_len (pieces_of stored.old change.key)) change.act) }
     requires sure { doubt_of stored.old ≡ None }
     ensures taken { IsTaken result stored.old (change, entry.now.epoch) stored.new }
-    ensures entered { H.held histories.new ≡ changes.entered result (H.held histories.old) entry.now }
+    ensures entered { H.held histories.new ≡ changes.with_taken result (H.held histories.old) entry.now }
     ensures counted { FailsTake result (W.faults wire.old) (W.faults wire.new) }
 {
     match histories.push(alloc, entry) {
@@ -87,7 +87,7 @@ fn take_made<H: Histories, W: Wire>(
     requires makes { MakesChange pairs.now (H.held histories.old) stored.old entry.now change }
     requires sure { doubt_of stored.old ≡ None }
     ensures taken { IsTaken result stored.old (change, entry.now.epoch) stored.new }
-    ensures entered { H.held histories.new ≡ changes.entered result (H.held histories.old) entry.now }
+    ensures entered { H.held histories.new ≡ changes.with_taken result (H.held histories.old) entry.now }
     ensures counted { FailsTake result (W.faults wire.old) (W.faults wire.new) }
 {
     let _pairs = pairs;

@@ -15,7 +15,7 @@ ghost use Rattle.slot_state.specs.Slots as slots;
 ghost use Rattle.slot_state.specs.Slots.{SlotState, change_now, replayed_at, slot_after};
 ghost use Rattle.stored_slot.specs.Meanings.{AreOfStreams, AreReplays, slot_with};
 ghost use Rattle.stored_slot.specs.Served.{doubting};
-ghost use Rattle.stored_slot.specs.Settled.{CutsSettled, SettlesDoubt};
+ghost use Rattle.stored_slot.specs.Settled.{CutsSettled, SettlesSlot};
 
 /// Rows that are dropped from memory and loaded again are what the histories replay to: of the range, each container that the rows have
 /// is in bytes what its own history makes of it, and the rows have no other container.
@@ -33,7 +33,7 @@ pub fn after_unload_and_load_the_rows_are_the_replay()
 /// the moment and by the keys at which it came, or as if it had never come.
 pub fn a_doubt_of_a_slot_ends_whole()
     ensures { (s t : SlotState) (q : Asked) (moment : ℕ)
-        → s.doubt ≡ None → IsSome (change_now s.pairs s.histories q moment) → SettlesDoubt (doubting s q moment) t
+        → s.doubt ≡ None → IsSome (change_now s.pairs s.histories q moment) → SettlesSlot (doubting s q moment) t
         → (t ≡ slot_after s q moment) ⊎ (t ≡ s) }
 {}
 
@@ -44,7 +44,7 @@ pub fn a_split_loses_nothing()
         → AreOfStreams pairs below lower None → AreOfStreams pairs above upper None
         → CutsSettled (Ok (slot_with pairs above upper None)) s middle (slot_with pairs below lower None)
         → slots.covers s key ≡ true
-        → (m : SlotState) × (SettlesDoubt s m
+        → (m : SlotState) × (SettlesSlot s m
         × (((covers lower.range key ≡ true) × (bytes_of lower key ≡ replayed_at m.pairs m.histories key))
         ⊎ ((covers upper.range key ≡ true) × (bytes_of upper key ≡ replayed_at m.pairs m.histories key)))) }
 {}

@@ -11,7 +11,7 @@ ghost use Rattle.slot_state.specs.Slots.{IsReplyFor, entry_of};
 ghost use Rattle.stored_slot.specs.Decided.{AllowsFor, DecidesFor};
 ghost use Rattle.stored_slot.specs.Meanings.{AreOfStreams, AreReplays, MakesChange, slot_with};
 ghost use Rattle.stored_slot.specs.Served as served;
-ghost use Rattle.stored_slot.specs.Served.{Faulted, IsTakenAnswer, Serves, ServesBy};
+ghost use Rattle.stored_slot.specs.Served.{Faulted, IsTakenAnswer, SlotServes, ServesBy};
 
 use crate::answering::{busy, denial, failed, reading, unknown};
 use crate::changing::changing;
@@ -114,7 +114,7 @@ fn change_answered<H: Histories, W: Wire>(
     taken_answer(alloc, taken, frame, unknown)
 }
 
-// Serves a request that makes this change, with this reply.
+// SlotServes a request that makes this change, with this reply.
 fn change_served<H: Histories, W: Wire>(
     histories: &mut H,
     stored: &mut StoredRows,
@@ -149,7 +149,7 @@ fn change_served<H: Histories, W: Wire>(
     }
 }
 
-// Serves a request that nothing refuses, with this answer and this change, if it makes one.
+// SlotServes a request that nothing refuses, with this answer and this change, if it makes one.
 fn allowed_served<H: Histories, W: Wire>(
     histories: &mut H,
     stored: &mut StoredRows,
@@ -183,7 +183,7 @@ fn allowed_served<H: Histories, W: Wire>(
     }
 }
 
-// Serves a request on which this was decided.
+// SlotServes a request on which this was decided.
 fn decision_served<H: Histories, W: Wire>(
     histories: &mut H,
     stored: &mut StoredRows,
@@ -215,7 +215,7 @@ fn decision_served<H: Histories, W: Wire>(
     }
 }
 
-// Serves a request on a slot without a doubt, whose rows are loaded.
+// SlotServes a request on a slot without a doubt, whose rows are loaded.
 fn loaded_served<H: Histories, W: Wire>(
     histories: &mut H,
     stored: &mut StoredRows,
@@ -307,7 +307,7 @@ pub(crate) fn serving<H: Histories, W: Wire>(
     requires judged { IsOfAsk (option_copied judged) request.now.ask }
     requires read { reading ≡ reading_of request.now }
     ensures after { AreOfStreams pairs.now (H.held histories.new) stored.new doubt.new }
-    ensures served { Serves (slot_with pairs.now (H.held histories.old) stored.old doubt.old) request.now moment
+    ensures served { SlotServes (slot_with pairs.now (H.held histories.old) stored.old doubt.old) request.now moment
         (Faulted (W.faults wire.old) (W.faults wire.new)) result (slot_with pairs.now (H.held histories.new) stored.new doubt.new) }
     ensures grown { Grows (W.faults wire.old) (W.faults wire.new) }
 {

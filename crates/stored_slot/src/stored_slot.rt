@@ -11,7 +11,7 @@ ghost use Rattle.stored_rows.specs.Repairs.{FailsRepair};
 ghost use Rattle.slot_state.specs.Slots as slots;
 ghost use Rattle.slot_state.specs.Slots.{empty_slot};
 ghost use Rattle.tickets.specs.declared.answer.Answer.TheVariants as answer;
-ghost use Rattle.stored_slot.specs.Served.{Faulted, Serves};
+ghost use Rattle.stored_slot.specs.Served.{Faulted, SlotServes};
 ghost use Rattle.stored_slot.specs.Settled.{CutsSettled, LeavesRepaired, LeavesSettled, SettlesOrFails};
 
 use crate::cutting::cutting;
@@ -115,7 +115,7 @@ impl<H: Histories> StoredSlot<H> {
         requires judged { IsOfAsk (option_copied judged) request.now.ask }
         requires read { reading ≡ reading_of request.now }
         requires covered { slots.covers self.old (routed request.now) ≡ true }
-        ensures served { Serves self.old request.now moment (Faulted (W.faults wire.old) (W.faults wire.new)) result self.new }
+        ensures served { SlotServes self.old request.now moment (Faulted (W.faults wire.old) (W.faults wire.new)) result self.new }
         ensures grown { Grows (W.faults wire.old) (W.faults wire.new) }
     {
         serving(
@@ -143,7 +143,7 @@ impl<H: Histories> StoredSlot<H> {
     ) -> Answer
         requires judged { IsOfAsk (option_copied judged) request.now.ask }
         requires covered { slots.covers self.old (routed request.now) ≡ true }
-        ensures served { Serves self.old request.now moment (Faulted (W.faults wire.old) (W.faults wire.new)) result self.new
+        ensures served { SlotServes self.old request.now moment (Faulted (W.faults wire.old) (W.faults wire.new)) result self.new
             ⊎ ((result ≡ answer.NoMemory) × (self.new ≡ self.old)) }
         ensures grown { Grows (W.faults wire.old) (W.faults wire.new) }
     {

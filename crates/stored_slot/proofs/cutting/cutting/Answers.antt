@@ -2,7 +2,7 @@ use Rattle.std.proofs.Common.{◌≡◌, IsSome, inr, subst}
 use Rattle.std.specs.Arc.{arc_value}
 use Rattle.slot_state.specs.Pairs.{Pairs}
 use Rattle.stored_slot.specs.Meanings.{slot_with}
-use Rattle.stored_slot.specs.Settled.{SettlesDoubt}
+use Rattle.stored_slot.specs.Settled.{SettlesSlot}
 use Rattle.stored_slot.proofs.HalfLemmas.{cut_kept, cut_told}
 use Rattle.stored_slot.proofs.KeepLemmas.{stored_later}
 use Rattle.stored_slot.proofs.ServeLemmas.{settled_covers, settled_sure}
@@ -21,13 +21,13 @@ cut_settled-requires-clause-covered g c =
 pub returns-in-Ok-clause-after : goal.returns-in-Ok-clause-after
 returns-in-Ok-clause-after g c =
     let held = g.H.Histories.held in
-    let settled = subst (λ (p : Pairs). SettlesDoubt (slot_with p (held c.args.histories.now) c.args.stored.now c.args.doubt.now) (slot_with p (held c.settling.new.histories) c.settling.new.stored c.settling.new.doubt)) c.deref.ensures c.in-Ok.ensures.settled in
+    let settled = subst (λ (p : Pairs). SettlesSlot (slot_with p (held c.args.histories.now) c.args.stored.now c.args.doubt.now) (slot_with p (held c.settling.new.histories) c.settling.new.stored c.settling.new.doubt)) c.deref.ensures c.in-Ok.ensures.settled in
     cut_kept (arc_value c.args.pairs.now) (held c.args.histories.now) (held c.settling.new.histories) c.args.stored.now c.settling.new.stored c.args.doubt.now c.settling.new.doubt settled (held c.cut_settled.new.histories) c.cut_settled.new.stored c.cut_settled.ensures.after
 
 pub returns-in-Ok-clause-cut : goal.returns-in-Ok-clause-cut
 returns-in-Ok-clause-cut g c =
     let held = g.H.Histories.held in
-    let settled = subst (λ (p : Pairs). SettlesDoubt (slot_with p (held c.args.histories.now) c.args.stored.now c.args.doubt.now) (slot_with p (held c.settling.new.histories) c.settling.new.stored c.settling.new.doubt)) c.deref.ensures c.in-Ok.ensures.settled in
+    let settled = subst (λ (p : Pairs). SettlesSlot (slot_with p (held c.args.histories.now) c.args.stored.now c.args.doubt.now) (slot_with p (held c.settling.new.histories) c.settling.new.stored c.settling.new.doubt)) c.deref.ensures c.in-Ok.ensures.settled in
     cut_told (arc_value c.args.pairs.now) (held c.args.histories.now) (held c.settling.new.histories) c.args.stored.now c.settling.new.stored c.args.doubt.now c.settling.new.doubt settled c.cut_settled.result (held c.cut_settled.new.histories) c.cut_settled.new.stored c.args.middle.now c.cut_settled.ensures.cut
 
 pub returns-in-Ok-clause-counted : goal.returns-in-Ok-clause-counted
