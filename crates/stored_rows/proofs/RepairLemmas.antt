@@ -23,7 +23,7 @@ use Rattle.partition_stream.specs.Changes.{Recorded}
 use Rattle.partition_stream.specs.Meanings.{acts_on, held_of, meaning}
 use Rattle.partition_stream.specs.Streams.{Logged, ThreeStreams, logged}
 use Rattle.stored_rows.specs.Repairs.{FailsRepair, HasCopyOn}
-use Rattle.stored_rows.specs.Fitting.{FitInTurn, Fits}
+use Rattle.stored_rows.specs.Fitting.{AllFit, FitInTurn, Fits}
 use Rattle.stored_rows.specs.Loaded.{AreLoaded, part_of}
 use Rattle.stored_rows.specs.Ranges.{covers}
 use Rattle.stored_rows.specs.States.{MeansTheSame}
@@ -32,6 +32,7 @@ use Rattle.stored_rows.specs.declared.key_range.KeyRange.{KeyRange}
 module _ (s t : ThreeStreams) (same : logged t ≡ logged s) where
   -- what is true of all stored rows is true of them as before
   pub repaired_loaded : (o : Option (World (List Piece))) (d : Option KeyedAct) (range : KeyRange) → AreLoaded s o d range → AreLoaded t o d range
+  unfolding AllFit
   repaired_loaded o d range old = record {
     fit = subst (λ (l : Logged). (key : Key) → FitInTurn (acts_on key (l.rows ++ l.log)) no_part) (sym same) old.fit;
     doubt = subst (λ (l : Logged). IfSome l.doubt (λ c. (covers range c.0.key ≡ true) × Fits (held_of l c.0.key) c.0.act)) (sym same) old.doubt;
