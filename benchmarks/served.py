@@ -1,4 +1,5 @@
 """A server that a script of this folder starts, and signed requests to it."""
+import contextlib
 import email.utils
 import http.client
 import os
@@ -17,6 +18,21 @@ KEYS = ("a2V5MQ==", "a2V5Mg==")
 CONTAINER = f"/{ACCOUNT}/pics"
 # How many seconds a client waits for the server, which is longer than the server waits for a client.
 PATIENCE = 150
+# A client that sends the first half of a request, says so, and stops. If it goes on, it sends the second half and prints how many bytes of a
+# reply came.
+HALVES = """
+import os, signal, socket, sys
+request = sys.stdin.buffer.read()
+connection = socket.create_connection(("127.0.0.1", int(sys.argv[1])), timeout=10)
+connection.sendall(request[: len(request) // 2])
+print("sent", flush=True)
+os.kill(os.getpid(), signal.SIGSTOP)
+try:
+    connection.sendall(request[len(request) // 2 :])
+    print(len(connection.recv(1000)), flush=True)
+except OSError:
+    print(0, flush=True)
+"""
 
 
 def first_line(stream):
@@ -63,6 +79,21 @@ class Server:
         """The resident size in KiB."""
         status = Path(f"/proc/{self.pid}/status").read_text()
         return int(status.partition("VmRSS:")[2].split()[0])
+
+
+@contextlib.contextmanager
+def half_sender(server, request):
+    """A client that has sent the first half of a request, and is stopped. It is ended at the end of the block."""
+    client = subprocess.Popen([sys.executable, "-c", HALVES, str(server.port)], stdin=subprocess.PIPE, stdout=subprocess.PIPE)
+    try:
+        with client.stdin:
+            client.stdin.write(request)
+        client.stdout.readline()
+        yield client
+    finally:
+        client.kill()
+        client.wait()
+        client.stdout.close()
 
 
 def build():
