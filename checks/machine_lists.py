@@ -3,8 +3,10 @@
 A step is written as a line with the wire's answers, and machine_model.py says what it is answered.
 """
 import random
+import re
 from base64 import b64encode
 from functools import cache
+from pathlib import Path
 
 from body_model import STEPS as SECOND, http_date
 from head_model import read_head
@@ -23,6 +25,7 @@ PARTS = ("log", "blobs", "rows")
 LIMITS = (1, 200, 500, 2_000, 1_000_000)
 BUSY_LINE, UNKNOWN_LINE = b"\r\nx-stamp-rule: N1\r\n", b"\r\nx-stamp-rule: N2\r\n"
 POLICY = "<SignedIdentifier><Id>p</Id><AccessPolicy><Permission>r</Permission></AccessPolicy></SignedIdentifier>"
+DELIVERIES = Path(__file__).with_name("deliveries.txt")
 # How often a random request is of each kind.
 KINDS = {
     "create": 10, "describe": 2, "allow": 2, "delete": 3, "put": 14, "block": 8, "commit": 6, "label": 2, "remove": 3, "get": 18, "blocks": 2,
@@ -164,7 +167,8 @@ class Requests:
         return request("GET", f"/{self.name}?restype=container&comp=list", moment)
 
     def list(self, moment):
-        query = "".join(self.dice.choice(["", it]) for it in (f"&marker={self.dice.choice(CUTS)}", f"&maxresults={self.dice.randint(1, 3)}", "&prefix=m"))
+        parameters = (f"&marker={self.dice.choice(CUTS)}", f"&maxresults={self.dice.randint(1, 3)}", "&prefix=m")
+        query = "".join(self.dice.choice(["", it]) for it in parameters)
         return request("GET", f"?comp=list{query}", moment)
 
     def forged(self, moment):
@@ -257,10 +261,10 @@ def random_step(run, dice):
         run.step(way, random_slot(run, dice))
 
 
-def random_run(seed):
-    """The lines of a random list of forty steps, and of what it left."""
+def random_run(seed, limits=LIMITS):
+    """The lines of a random list of forty steps, and of what it left. An extent has at most so many bytes as one of the limits says."""
     dice, lines = random.Random(f"steps {seed}"), Lines()
-    run = Run(lines, Random(dice), dice.choice(LIMITS))
+    run = Run(lines, Random(dice), dice.choice(limits))
     while lines.calls < STEPS:
         random_step(run, dice)
     run.show()
@@ -301,7 +305,7 @@ def clean_answers(limit):
     return [*script(Run(Lines(), Fixed(), limit))]
 
 
-def fixed_run(wire, limit=170):
+def fixed_run(wire, limit):
     """The lines of one list and of what it left, and the letters of the calls of the wire in the list.
 
     If only one call fails, each answer is as if none failed."""
@@ -315,17 +319,50 @@ def fixed_run(wire, limit=170):
     return lines, calls
 
 
-def fault_runs(is_all):
+def rule_of(reply):
+    """The status of a reply, and the rule that it names, if it names one."""
+    named = re.search(rb"\r\nx-stamp-rule: (\w+)\r\n", reply)
+    return (reply[9:12] + (b" " + named[1] if named else b"")).decode()
+
+
+# The requests of worked lists.
+ASKED = {"create": create, "properties": lambda name, moment: request("GET", f"/{name}?restype=container", moment)}
+
+
+def worked_run(text, limit):
+    """The lines of a worked list, each step of which is answered as the list says."""
+    lines = Lines()
+    run = Run(lines, Fixed(), limit)
+    for line in text.splitlines():
+        step, answers, wanted = (it.strip() for it in line.split("|"))
+        name, *words = step.split()
+        run.wire = Fixed()
+        run.wire.list = answers
+        if name in ASKED:
+            assert rule_of(run.serve(lambda moment: ASKED[name](*words, moment))) == wanted, line
+        else:
+            assert run.step(name, *(int(it) if it.isdecimal() else it for it in words)) == wanted, line
+    run.show()
+    return lines
+
+
+def worked_runs(limit):
+    text = "\n".join(it for it in DELIVERIES.read_text(encoding="utf-8").splitlines() if not it.startswith("#"))
+    return [worked_run(it, limit) for it in re.split(r"\n\n+", text.strip())]
+
+
+def fault_runs(is_all, limit=170):
     """The lines of one list, with each fault at each call of the wire, and with each call failing from there on. If all lists are wanted, also over
-    a wire that is not well, with one fault less, and with each node down."""
+    a wire that is not well, with one fault less, and with each node down. Before them come the worked lists."""
+    yield from worked_runs(limit)
     for base in (Fixed(), Fixed(seed="not well"))[: 1 + is_all]:
-        clean, calls = fixed_run(base.again())
+        clean, calls = fixed_run(base.again(), limit)
         yield clean
         for at, letter in enumerate(calls):
             faults = (Wire.REFUSED, Wire.LOST) if letter.islower() else (Wire.REFUSED,)
             for fault in (*faults, *(Wire.WELL for _ in range(base.seed is not None))):
-                yield fixed_run(base.again(at, fault))[0]
+                yield fixed_run(base.again(at, fault), limit)[0]
             for fault in (Wire.REFUSED, Wire.LOST):
-                yield fixed_run(base.again(at, fault, Fixed.ALL))[0]
+                yield fixed_run(base.again(at, fault, Fixed.ALL), limit)[0]
             for node in range(3 * is_all):
-                yield fixed_run(base.again(at, down=node))[0]
+                yield fixed_run(base.again(at, down=node), limit)[0]

@@ -1,11 +1,11 @@
 """A plain model of slots over streams: what each step answers, which nodes it calls, and what it leaves.
 
 The containers are what the accepted requests make in their order. A slot has three streams, from stream_model.py, and at most one request
-whose change is in doubt. Replies are made by replay_model.py, and records by record_model.py. It was written from docs/streams.md and
+whose change is in doubt. Replies are made by replay_model.py, and the lengths of records by record_model.py. It was written from docs/streams.md and
 docs/theorem.md, and never calls the product.
 """
 from head_model import head_end, read_head
-from record_model import record
+from record_model import record_length
 from replay_model import Asked, Denial, Stamp, denied_bytes, range_of, reply_bytes, route
 from stream_model import Streams
 
@@ -35,7 +35,7 @@ class Logged:
     """The change of an entry, as a block of the log."""
 
     def __init__(self, entry, pieces):
-        self.entry, self.length = entry, len(record(entry.asked, entry.moment, entry.said, pieces))
+        self.entry, self.length = entry, record_length(entry.asked, entry.said, pieces)
 
     def __len__(self):
         return self.length
