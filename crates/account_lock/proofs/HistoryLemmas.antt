@@ -12,9 +12,10 @@ use Rattle.stamp_model.specs.Runs.{Timed, timed, world_after_one, world_after_al
 use Rattle.core_run.specs.Cores.{CoreState, StandsFor}
 use Rattle.core_run.specs.States as states
 use Rattle.core_run.specs.States.{State, reply_in}
+use Rattle.stamp_core.specs.CoreSteps.{IsCalm}
 use Rattle.account_lock.specs.Histories.{Entered, entered, judged, world_left, state_left, IsServed}
 use Rattle.account_lock.specs.Services.{AnswersAsMachine, opening_of, served_in_turn}
-use Rattle.account_lock.proofs.ServiceLemmas.{left_from, of_opening, reply_of}
+use Rattle.account_lock.proofs.ServiceLemmas.{calm_of, left_from, of_opening, reply_of}
 
 -- what a front part and the entries after it leave
 pub world_left-append : (keys : Keys) (front rest : List Entered) → world_left keys (front ++ rest) ≡ world_after_all (world_left keys front) (map (judged keys) rest)
@@ -47,6 +48,10 @@ pub stands_now : {F : Type 0} (keys : Keys) (r : Result CoreState F) (core : Cor
     → MatchResult r (λ c. StandsFor c (state_left keys front)) Q → r ≡ Ok core → front ≡ history → StandsFor core (state_left keys history)
 stands_now {F} keys r core front history Q holds is same =
     subst (λ (l : List Entered). StandsFor core (state_left keys l)) same (subst (λ (x : Result CoreState F). MatchResult x (λ c. StandsFor c (state_left keys front)) Q) is holds)
+
+-- a core that stands for the state after entries is not in doubt
+pub calm_left : (keys : Keys) (c : CoreState) (history : List Entered) → StandsFor c (state_left keys history) → IsCalm c
+calm_left keys c history stands = calm_of keys c (state_left keys history) stands (left_from keys (opening_of keys) history (of_opening keys)).0
 
 -- one more entry makes the history longer by one
 pub length_more : (history : List Entered) (q : Asked) (t : ℕ) → length (history ++ entered q t ∷ []) ≡ length history + 1

@@ -1,11 +1,17 @@
 //! The service of one account over a core that nobody shares.
 ghost use Rattle.std.specs.Prelude.{◌≡◌, ◌∷◌, [], IfOk, OnErr};
+ghost use Rattle.std.specs.Option.{option_copied};
+ghost use Rattle.policy_book.specs.Judgements.{IsOfAsk};
+ghost use Rattle.range_rows.specs.Readings.{reading_of};
 ghost use Rattle.slot_state.specs.Pairs.{first_pairs};
 ghost use Rattle.core_run.specs.Cores.{StandsFor, first_core};
+ghost use Rattle.stamp_core.specs.CoreSteps.{IsCalm};
 ghost use Rattle.account_lock.specs.Services.{AnswersAsMachine, opening_of};
 
+use crate::steady::Steady;
 use access_rules::Keys;
 use http_front::Service;
+use policy_book::Judged;
 use range_rows::Reading;
 use slot_state::{PairsFault, ProvedHistories};
 use stamp_core::Core;
@@ -23,10 +29,12 @@ fn copy_of(keys: &Keys) -> Result<Keys, AllocError>
 /// A core of one slot of all keys, without containers, for the account of this first pair of keys.
 ///
 /// `AllocError` if memory runs out.
+#[tactic(auto, using(crate::proofs::ServiceLemmas::calm_first))]
 pub(crate) fn core_of(alloc: Global, keys: &Keys) -> Result<Core<ProvedHistories>, AllocError>
     requires { keys.now.epoch ≡ 0 }
     ensures value { IfOk result (λ core. core ≡ first_core (first_pairs (keys.now ∷ []))) }
     ensures stands { IfOk result (λ core. StandsFor core (opening_of keys.now)) }
+    ensures calm { IfOk result (λ core. IsCalm core) }
 {
     let keys = copy_of(keys)?;
     let mut pairs = Vec::new(alloc);
@@ -38,22 +46,49 @@ pub(crate) fn core_of(alloc: Global, keys: &Keys) -> Result<Core<ProvedHistories
     }
 }
 
-/// The service of one account over a core: each reply is the machine's. One connection after the other may use it.
+/// The reply of the machine, and its change, over nodes in memory.
+///
+/// `AllocError` if memory runs out. Then the core is as it was.
+pub(crate) fn answer_steadily(
+    core: &mut Core<ProvedHistories>,
+    wire: &mut Steady,
+    alloc: Global,
+    request: &Request,
+    judged: Option<&Judged>,
+    reading: Reading,
+    moment: Moment,
+) -> Result<Reply, AllocError>
+    requires calm { IsCalm core.old }
+    requires judged { IsOfAsk (option_copied judged) request.now.ask }
+    requires read { reading ≡ reading_of request.now }
+    ensures calm { IsCalm core.new }
+    ensures answered { IfOk result (λ reply. AnswersAsMachine core.old request.now moment reply core.new) }
+    ensures unchanged { OnErr result (core.new ≡ core.old) }
+{
+    core.answer(alloc, request, judged, reading, moment, wire)
+}
+
+/// The service of one account over a core whose nodes are in memory: each reply is the machine's. One connection after the other may use it.
 ///
 /// Contracts see it as the core (`CoreState` of `core_run`).
 #[derive(Drop)]
 pub struct CoreService {
     core: Core<ProvedHistories>,
+    wire: Steady,
 }
 
 impl Model for CoreService {
     ghost use Rattle.core_run.specs.Cores.{CoreState, core_code};
+    ghost use Rattle.stamp_core.specs.CoreSteps.{IsCalm};
 
     ghost Value = { CoreState };
 
     ghost coded = { core_code };
 
     ghost view = { λ s. s.core };
+
+    // No change is in doubt, since no call of the wire fails.
+    ghost invariant = { λ s. IsCalm s.core };
 }
 
 impl CoreService {
@@ -66,7 +101,10 @@ impl CoreService {
         ensures stands { IfOk result (λ service. StandsFor service (opening_of keys.now)) }
     {
         let core = core_of(alloc, keys)?;
-        Ok(Self { core })
+        Ok(Self {
+            core,
+            wire: Steady::new(),
+        })
     }
 }
 
@@ -94,6 +132,7 @@ impl Service for CoreService {
         ensures unchanged { OnErr result (self.new ≡ self.old) }
     {
         let reading = Reading::of(alloc, &request)?;
-        self.core.answer(alloc, &request, None, reading, moment)
+        let Self { core, wire } = self;
+        answer_steadily(core, wire, alloc, &request, None, reading, moment)
     }
 }

@@ -8,6 +8,7 @@ mod laws;
 mod lock;
 #[cfg(test)]
 mod lock_tests;
+mod steady;
 
 pub use core_service::CoreService;
 pub use history::{Account, Front, NewHistory};
@@ -15,3 +16,4 @@ pub use laws::{
     a_connection_reads_its_own_writes, each_connection_reads_one_history, two_connections_agree,
 };
 pub use lock::{AccountLock, Connection};
+pub use steady::Steady;

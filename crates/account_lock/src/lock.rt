@@ -4,11 +4,13 @@ ghost use mathlib.Core.List.{IsPrefix};
 ghost use Rattle.range_rows.specs.Readings.{reading_of};
 ghost use Rattle.stamp_model.specs.Runs.{timed, reply_to_one};
 ghost use Rattle.core_run.specs.Cores.{StandsFor};
+ghost use Rattle.stamp_core.specs.CoreSteps.{IsCalm};
 ghost use Rattle.account_lock.specs.Histories.{Entered, entered, state_left, world_left};
 ghost use Rattle.account_lock.specs.Services.{opening_of};
 
-use crate::core_service::core_of;
+use crate::core_service::{answer_steadily, core_of};
 use crate::history::{Account, EntryCount, Front, NewHistory};
+use crate::steady::Steady;
 use access_rules::Keys;
 use http_front::Service;
 use policy_book::{Judged, judge};
@@ -61,6 +63,7 @@ fn answer_by<A: Account>(
     reading: Reading,
     moment: Moment,
 ) -> Result<Reply, AllocError>
+    requires calm { IsCalm core.old }
     requires judged { judged.now.ask ≡ request.now.ask }
     requires read { reading ≡ reading_of request.now }
     ensures answered { (history : List Entered) → StandsFor core.old (state_left A.keys history)
@@ -69,7 +72,8 @@ fn answer_by<A: Account>(
         × StandsFor core.new (state_left A.keys (history ++ entered request.now moment ∷ []))) }
     ensures unchanged { OnErr result (core.new ≡ core.old) }
 {
-    core.answer(alloc, request, Some(judged), reading, moment)
+    let wire = &mut Steady::new();
+    answer_steadily(core, wire, alloc, request, Some(judged), reading, moment)
 }
 
 impl<A: Account> Locked<A> {

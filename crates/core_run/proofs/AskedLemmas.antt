@@ -11,7 +11,7 @@ use Rattle.slot_state.specs.Slots.{entry_of}
 use Rattle.core_run.specs.declared.step.Step.{Step}
 use Rattle.core_run.specs.Machine.{Answer, IsRun, SettlesDoubtBy, Takes}
 use Rattle.core_run.specs.Places.{DoubtsPass, IsSound, PassesStep}
-use Rattle.core_run.specs.States.{State, Turn, doubt_of, doubted, reply_in, served, slot_for, split, timed_in, with_doubt, with_pair, with_ticket, without_ticket}
+use Rattle.core_run.specs.States.{State, Turn, slot_doubt, doubted, reply_in, served, slot_for, split, timed_in, with_doubt, with_pair, with_ticket, without_ticket}
 use Rattle.core_run.proofs.HistoryLemmas.{leads_same}
 use Rattle.core_run.proofs.SoundLemmas.{set_read, settled_sound, step_sound, two_read, within}
 use Rattle.core_run.proofs.StepLemmas.{by_changes}
@@ -37,7 +37,7 @@ module _ (test : Asked → ℕ → Bool) where
   on : (s m s' : State) → Adds s m → Adds m s' → Adds s s'
   on s m s' a b = (a.0 ++ b.0, (b.1.0 ∙ ap (λ (h : List Turn). h ++ b.0) a.1.0 ∙ append_assoc s.history a.0 b.0, All-append Passes a.0 b.0 a.1.1 b.1.1))
 
-  by_settle : (o : Option Past) (s m : State) (i : ℕ) → doubt_of s i ≡ o → SettlesDoubtBy o s i m → DoubtsPass test s → Adds s m × DoubtsPass test m
+  by_settle : (o : Option Past) (s m : State) (i : ℕ) → slot_doubt s i ≡ o → SettlesDoubtBy o s i m → DoubtsPass test s → Adds s m × DoubtsPass test m
   by_settle None s m i there is pass = (nothing s m (λ j. (is j).history), subst (DoubtsPass test) (sym is) pass)
   by_settle (Some e) s m i there (inl is) pass = (
     one s m (record { served = doubted s e; reply = None }) (λ j. (is j).history) (pass i e there),
@@ -64,8 +64,8 @@ module _ (test : Asked → ℕ → Bool) where
   step_asked x s s' f r asks takes =
       by_changes x r Goes Goes (λ s sound pass. (nothing s s refl, pass)) (λ s s' goes. goes)
       (λ s m s' i at is goes sound pass.
-      let first = by_settle (doubt_of s i) s m i refl is pass in
-      let then = goes (settled_sound (doubt_of s i) s m i is sound) first.1 in
+      let first = by_settle (slot_doubt s i) s m i refl is pass in
+      let then = goes (settled_sound (slot_doubt s i) s m i is sound) first.1 in
       (on s m s' first.0 then.0, then.1))
       (λ s q t is calm r sound pass. (one s (served s q t) (record { served = timed_in s q t; reply = Some (reply_in s q t) }) refl (subst (PassesStep test) is asks), pass))
       (λ s q t is calm r sound pass. (one s (with_ticket (served s q t) (reply_in s q t)) (record { served = timed_in s q t; reply = Some (reply_in s q t) }) refl (subst (PassesStep test) is asks), pass))

@@ -136,7 +136,7 @@ module _ (r : Answer) (s' : State) where
   faultless (step.Load i) s calm p = on_slot (has_slot s i) s _ (settled (step.Load i) s i _ (λ m made. by_answer _ r refl made.0)) p
   faultless (step.Checkpoint i) s calm p = on_slot (has_slot s i) s _ (settled (step.Checkpoint i) s i _ (λ m made. by_answer _ r refl made.0)) p
   faultless (step.Compact i) s calm p = on_slot (has_slot s i) s _ (settled (step.Compact i) s i _ (λ m made. by_answer _ r refl made.0)) p
-  faultless (step.Repair i extent) s calm p = on_slot (has_slot s i) s _ (settled (step.Repair i extent) s i _ (λ m made. repairing m made)) p
+  faultless (step.Repair i stream extent node) s calm p = on_slot (has_slot s i) s _ (settled (step.Repair i stream extent node) s i _ (λ m made. repairing m made)) p
   faultless (step.Move i server) s calm p = on_slot (has_slot s i) s _ (λ made. by_answer _ r refl made.0) p
   faultless (step.Unload i) s calm p = on_slot (has_slot s i) s _ (λ made. by_answer _ r refl made.0) p
   faultless (step.Rotate account which key) s calm p = rotating (current_at s.pairs account) s account which key p

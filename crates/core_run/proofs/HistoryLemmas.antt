@@ -9,7 +9,7 @@ use Rattle.stamp_types.specs.World.{World}
 use Rattle.stamp_model.specs.Runs.{reply_to_one, world_after_one, world_after_all}
 use Rattle.core_run.specs.declared.step.Step.{Step}
 use Rattle.core_run.specs.Machine.{Answer, IsRun, SettlesDoubtBy, Takes}
-use Rattle.core_run.specs.States.{State, Turn, doubt_of, doubted, reply_in, requests, timed_in}
+use Rattle.core_run.specs.States.{State, Turn, slot_doubt, doubted, reply_in, requests, timed_in}
 use Rattle.core_run.proofs.StepLemmas.{by_changes}
 
 -- each reply among the turns is the model's, after the turns before it
@@ -72,7 +72,7 @@ settle_leads (Some e) s m i (inr is) = ([], silent s m (λ j. (is j).history) (�
 
 pub step_leads : (x : Step) (s s' : State) (f : Bool) (r : Answer) → Takes s x f r s' → (us : List Turn) × Leads s us s'
 step_leads x s s' f r takes =
-    by_changes x r LedTo LedTo (λ s. ([], leads_same s)) (λ s s' led. led) (λ s m s' i on is led. led_on s m s' (settle_leads (doubt_of s i) s m i is) led)
+    by_changes x r LedTo LedTo (λ s. ([], leads_same s)) (λ s s' led. led) (λ s m s' i on is led. led_on s m s' (settle_leads (slot_doubt s i) s m i is) led)
     (λ s q t is calm r. (record { served = timed_in s q t; reply = Some (reply_in s q t) } ∷ [], one s _ _ refl refl refl))
     (λ s q t is calm r. (record { served = timed_in s q t; reply = Some (reply_in s q t) } ∷ [], one s _ _ refl refl refl)) (λ s q t is calm some r. ([], silent s _ refl refl))
     (λ s n o is there answers. ([], silent s _ refl refl)) (λ s i middle calm allowed r. ([], silent s _ refl refl)) (λ s account which key old there r. ([], silent s _ refl refl)) s s' f takes

@@ -1,5 +1,6 @@
 pub mod AccountLemmas
 pub mod AskedLemmas
+pub mod ChangedCores
 pub mod CoreLemmas
 pub mod DoubtLemmas
 pub mod FaultLemmas

@@ -15,7 +15,7 @@ use Rattle.slot_state.specs.Pairs.{Pairs, current_at, epoch_of, in_force, pairs_
 use Rattle.core_run.specs.declared.step.Step.{Step}
 use Rattle.core_run.specs.Machine.{Answer, Takes}
 use Rattle.core_run.specs.Places.{IsSound}
-use Rattle.core_run.specs.States.{State, doubt_of, doubted, timed_in}
+use Rattle.core_run.specs.States.{State, slot_doubt, doubted, timed_in}
 use Rattle.core_run.proofs.SoundLemmas.{last_of, pairs_at-insert}
 use Rattle.core_run.proofs.StepLemmas.{by_changes, settled_pairs}
 
@@ -55,7 +55,7 @@ module _ (account : List ℕ) (epoch : ℕ) where
   pair_stays x s s' f r takes =
       by_changes x r (λ s s'. Stays s.pairs s'.pairs) (λ s s'. Stays s.pairs s'.pairs) (λ s some. refl) (λ s s' stays. stays)
       (λ s m s' i on is stays some.
-      let same = settled_pairs (doubt_of s i) s m i is in
+      let same = settled_pairs (slot_doubt s i) s m i is in
       subst (λ (ps : Pairs). Stays ps s'.pairs) same stays some)
       (λ s q t is calm r some. refl) (λ s q t is calm r some. refl) (λ s q t is calm change r some. refl) (λ s n o is held r some. refl) (λ s i middle calm allowed r some. refl)
       (λ s name which key old current r some.

@@ -12,7 +12,7 @@ use Rattle.core_run.specs.declared.step.Step.{Step}
 use Rattle.core_run.specs.declared.step.Step.TheVariants as step
 use Rattle.core_run.specs.Machine.{Answer, IsRun, SettlesDoubt, Takes}
 use Rattle.core_run.specs.Places.{GivesReply, HasPlace}
-use Rattle.core_run.specs.States.{State, Turn, doubt_of, held_by, reply_in, requests, served, slot_for, timed_in}
+use Rattle.core_run.specs.States.{State, Turn, slot_doubt, held_by, reply_in, requests, served, slot_for, timed_in}
 use Rattle.core_run.proofs.DoubtLemmas.{served_first}
 use Rattle.core_run.proofs.FaultLemmas.{first_named}
 use Rattle.core_run.proofs.HistoryLemmas.{leads_so, model_at, run_leads, settle_leads}
@@ -25,7 +25,7 @@ use Rattle.core_run.proofs.Values.{some_is, true_false}
 -- the request is served in the same way after a settle
 same_timed : (s m : State) (i : ℕ) (q : Asked) (t : ℕ) → SettlesDoubt s i m → timed_in m q t ≡ timed_in s q t
 same_timed s m i q t is =
-    λ j. record { request = q; moment = t; keys = current_at (settled_pairs (doubt_of s i) s m i is j) q.ask.key.account; bound = bound_at (settled_points (doubt_of s i) s m i is j) (routed q) }
+    λ j. record { request = q; moment = t; keys = current_at (settled_pairs (slot_doubt s i) s m i is j) q.ask.key.account; bound = bound_at (settled_points (slot_doubt s i) s m i is j) (routed q) }
 
 -- a Serve that gives a reply: after a settle it is the model's, and it is the last one of the history
 pub record IsGiven (s m s' : State) (q : Asked) (t : ℕ) (o : replies.Reply) : Type 0 where
@@ -65,7 +65,7 @@ serve_turns : (s s' : State) (q : Asked) (t : ℕ) (f : Bool) (a : Answer) (o : 
     → (us : List Turn) × (s'.history ≡ s.history ++ (us ++ record { served = timed_in s q t; reply = Some o } ∷ []))
 serve_turns s s' q t f a o takes gives =
     let is = given s s' q t f a o takes gives in
-    let before = settle_leads (doubt_of s (slot_for s q)) s is.0 (slot_for s q) is.1.settled in (
+    let before = settle_leads (slot_doubt s (slot_for s q)) s is.0 (slot_for s q) is.1.settled in (
       before.0,
       is.1.history
           ∙ (λ j. before.1.history j ++ record { served = same_timed s is.0 (slot_for s q) q t is.1.settled j; reply = Some o } ∷ [])

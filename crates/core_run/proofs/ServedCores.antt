@@ -35,13 +35,13 @@ use Rattle.core_run.proofs.SoundLemmas.{effect-listing, lists_nothing, routed_ow
 
 -- ---- histories after a request
 
-tied : (k j : Key) → eq_by_cmp key_cmp k j ≡ true → k ≡ j
+pub tied : (k j : Key) → eq_by_cmp key_cmp k j ≡ true → k ≡ j
 tied k j e = keys_exact k j (equal_if_is_eq (key_cmp k j) e)
 
-same_key : (k : Key) → eq_by_cmp key_cmp k k ≡ true
+pub same_key : (k : Key) → eq_by_cmp key_cmp k k ≡ true
 same_key k = (eq_by_cmp_equiv keys_total).refl k
 
-history_at-insert : (h : Histories) (k : Key) (v : List Past) (q : Key) → history_at (insert h k v) q ≡ cond (eq_by_cmp key_cmp q k) v (history_at h q)
+pub history_at-insert : (h : Histories) (k : Key) (v : List Past) (q : Key) → history_at (insert h k v) q ≡ cond (eq_by_cmp key_cmp q k) v (history_at h q)
 history_at-insert h k v q = ap (λ (o : Option (List Past)). unwrap_or o []) (get-insert keys_total h k v q) ∙ by (eq_by_cmp key_cmp q k)
   where
     by : (b : Bool) → unwrap_or (cond b (Some v) (get h q)) [] ≡ cond b v (unwrap_or (get h q) [])
@@ -123,6 +123,21 @@ slot_of-within (p ∷ points) key = within_by _ (slot_of points key) (length poi
     within_by true n m low = omega (arith, low)
     within_by false n m low = omega (arith, low)
 
+same_or_not : (n m : ℕ) → (n ≡ m) ⊎ (n ≢ m)
+same_or_not n m = elim (cases_order n m) [
+  | inl same ↦ inl same
+  | inr apart ↦ inr (λ same. elim apart [ inl low ↦ omega (arith, low, same) | inr high ↦ omega (arith, high, same) ])
+]
+
+-- what holds of the new slot, and of every other slot, holds of each slot after the new one was put in its place
+pub at_place : (slots : List SlotState) (i : ℕ) (new : SlotState) → i < length slots → (P : ℕ → SlotState → Type 0) → P i new → ((n : ℕ) → n ≢ i → P n (slice_index_or slots n no_slot))
+    → (n : ℕ) → P n (slice_index_or (slice_set slots i new) n no_slot)
+at_place slots i new within P own others n =
+    elim (same_or_not n i) [
+      | inl same ↦ subst (λ (m : ℕ). P m (slice_index_or (slice_set slots i new) m no_slot)) (sym same) (subst (P i) (sym (get_or-set_same slots i new no_slot within)) own)
+      | inr other ↦ subst (P n) (sym (get_or-set_other slots i n new no_slot other)) (others n other)
+    ]
+
 -- ---- one request
 
 module _ (c : CoreState) (s : State) (stands : StandsFor c s) (q : Asked) (t : ℕ) (r : Reply) (new : SlotState)
@@ -138,20 +153,6 @@ module _ (c : CoreState) (s : State) (stands : StandsFor c s) (q : Asked) (t : �
 
   within : at < length c.slots
   within = omega (arith, stands.counted, slot_of-within c.points (routed q))
-
-  -- what holds of the new slot, and of every other slot, holds of each slot after the new one was put in its place
-  at_place : (P : ℕ → SlotState → Type 0) → P at new → ((n : ℕ) → n ≢ at → P n (slice_index_or c.slots n no_slot)) → (n : ℕ) → P n (slice_index_or (slice_set c.slots at new) n no_slot)
-  at_place P own others n =
-      elim (same_or_not n) [
-        | inl same ↦ subst (λ (m : ℕ). P m (slice_index_or (slice_set c.slots at new) m no_slot)) (sym same) (subst (P at) (sym (get_or-set_same c.slots at new no_slot within)) own)
-        | inr other ↦ subst (P n) (sym (get_or-set_other c.slots at n new no_slot other)) (others n other)
-      ]
-    where
-      same_or_not : (n : ℕ) → (n ≡ at) ⊎ (n ≢ at)
-      same_or_not n = elim (cases_order n at) [
-        | inl same ↦ inl same
-        | inr apart ↦ inr (λ same. elim apart [ inl low ↦ omega (arith, low, same) | inr high ↦ omega (arith, high, same) ])
-      ]
 
   abbrev after : World (List ℕ)
   after = effect (current_at s.pairs q.ask.key.account) s.world q t
@@ -203,6 +204,6 @@ module _ (c : CoreState) (s : State) (stands : StandsFor c s) (q : Asked) (t : �
     counted = length-set c.slots at new ∙ stands.counted;
     doubts = stands.doubts ∙ sym (map-set (λ (h : SlotState). h.doubt) c.slots at new no_slot (ap (λ (h : SlotState). h.doubt) is.after));
     sound = same_but s (served s q t) refl refl refl stands.sound;
-    pairs = λ k. at_place HasPairs (λ k same. ap (λ (h : SlotState). h.pairs) is.after ∙ same_pairs) (λ n other k same. ap (λ (m : ℕ). (slice_index_or c.slots m no_slot).pairs) (sym same) ∙ stands.pairs k) (slot_of c.points k) k refl;
-    parts = λ k. at_place IsPart own_part other_parts (slot_of c.points k) k refl;
+    pairs = λ k. at_place c.slots at new within HasPairs (λ k same. ap (λ (h : SlotState). h.pairs) is.after ∙ same_pairs) (λ n other k same. ap (λ (m : ℕ). (slice_index_or c.slots m no_slot).pairs) (sym same) ∙ stands.pairs k) (slot_of c.points k) k refl;
+    parts = λ k. at_place c.slots at new within IsPart own_part other_parts (slot_of c.points k) k refl;
   }

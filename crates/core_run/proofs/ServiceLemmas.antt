@@ -8,7 +8,7 @@ use Rattle.core_run.specs.declared.step.Outcome.TheVariants.{Reply, Later}
 use Rattle.core_run.specs.declared.step.StepFault.TheVariants as fault
 use Rattle.core_run.specs.Machine.{Answer, FetchesBy, SettlesDoubtBy, Serves, Takes}
 use Rattle.core_run.specs.Services.{IsServedWhole, SameButTickets}
-use Rattle.core_run.specs.States.{State, doubt_of, held_by, reply_in, served, slot_for, with_ticket, without_ticket}
+use Rattle.core_run.specs.States.{State, slot_doubt, held_by, reply_in, served, slot_for, with_ticket, without_ticket}
 use Rattle.core_run.proofs.DoubtLemmas.{served_first}
 use Rattle.core_run.proofs.TicketLemmas.{later_fault, later_is, later_reply, fetched_is, reply_fault, reply_is, the_last}
 use Rattle.core_run.proofs.Values.{false_true, none_some}
@@ -23,16 +23,25 @@ Answered s q t r s' =
     ((r ≡ Ok (Reply (reply_in s q t))) × (s' ≡ served s q t))
     ⊎ (((r ≡ Ok (Later (length s.tickets))) × (s' ≡ with_ticket (served s q t) (reply_in s q t))) ⊎ (r ≡ Err fault.NoMemory))
 
-answered : (s s' : State) (q : Asked) (t : ℕ) (r : Answer) → doubt_of s (slot_for s q) ≡ None → Takes s (step.Serve q t) false r s' → Answered s q t r s'
+answered : (s s' : State) (q : Asked) (t : ℕ) (r : Answer) → slot_doubt s (slot_for s q) ≡ None → Takes s (step.Serve q t) false r s' → Answered s q t r s'
 answered s s' q t r calm takes = elim (served_first s s' q t false r takes) [
   | inl failed ↦ elim failed [ inl p ↦ absurd (false_true p.0) | inr p ↦ inr (inr p) ]
   | inr p ↦
-      let same : p.0 ≡ s = settled_same (doubt_of s (slot_for s q)) s p.0 (slot_for s q) calm p.1.0 in
+      let same : p.0 ≡ s = settled_same (slot_doubt s (slot_for s q)) s p.0 (slot_for s q) calm p.1.0 in
       elim (subst (λ (m : State). Serves m q t false r s') same p.1.1) [
         | inl made ↦ inl made
         | inr rest ↦ elim rest [ inl made ↦ inr (inl made) | inr made ↦ absurd (false_true made.0) ]
       ]
 ]
+
+-- a reply at once is the model's, and the state is that after the request
+pub served_is : (s s' : State) (q : Asked) (t : ℕ) (r : replies.Reply) → slot_doubt s (slot_for s q) ≡ None → Takes s (step.Serve q t) false (Ok (Reply r)) s' → (r ≡ reply_in s q t) × (s' ≡ served s q t)
+served_is s s' q t r calm takes = by (answered s s' q t (Ok (Reply r)) calm takes)
+  where
+    by : Answered s q t (Ok (Reply r)) s' → (r ≡ reply_in s q t) × (s' ≡ served s q t)
+    by (inl p) = (reply_is (Ok (Reply r)) r (reply_in s q t) refl p.0, p.1)
+    by (inr (inl p)) = absurd (later_reply (Ok (Reply r)) (length s.tickets) r p.0 refl)
+    by (inr (inr p)) = absurd (reply_fault (Ok (Reply r)) r fault.NoMemory refl p)
 
 same_but : (s s' : State) (q : Asked) (t : ℕ) (o : replies.Reply) → s' ≡ served s q t → SameButTickets (served s q t) s'
 same_but s s' q t o is = record { world = ap (λ (x : State). x.world) is; pairs = ap (λ (x : State). x.pairs) is; points = ap (λ (x : State). x.points) is; doubts = ap (λ (x : State). x.doubts) is; history = ap (λ (x : State). x.history) is }
@@ -62,6 +71,6 @@ by_ticket s m s' q t n r (inr (inl p)) fetch =
       record { world = ap (λ (x : State). x.world) left; pairs = ap (λ (x : State). x.pairs) left; points = ap (λ (x : State). x.points) left; doubts = ap (λ (x : State). x.doubts) left; history = ap (λ (x : State). x.history) left },
     )
 
-pub whole_service : (s s' : State) (q : Asked) (t : ℕ) (r : replies.Reply) → doubt_of s (slot_for s q) ≡ None → IsServedWhole s q t r s' → (r ≡ reply_in s q t) × SameButTickets (served s q t) s'
+pub whole_service : (s s' : State) (q : Asked) (t : ℕ) (r : replies.Reply) → slot_doubt s (slot_for s q) ≡ None → IsServedWhole s q t r s' → (r ≡ reply_in s q t) × SameButTickets (served s q t) s'
 whole_service s s' q t r calm (inl p) = at_once s s' q t r (answered s s' q t (Ok (Reply r)) calm p)
 whole_service s s' q t r calm (inr p) = by_ticket s p.0 s' q t p.1.0 r (answered s p.0 q t (Ok (Later p.1.0)) calm p.1.1.0) p.1.1.1

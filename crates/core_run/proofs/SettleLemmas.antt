@@ -12,18 +12,18 @@ use Rattle.core_run.specs.declared.step.Step.TheVariants as step
 use Rattle.core_run.specs.declared.step.Outcome.TheVariants.{Made}
 use Rattle.core_run.specs.Machine.{Answer, SettlesDoubt, SettlesDoubtBy, Leaves, MadeOrFails, OnSettled, OnSlot, OnSlotIf, Repairs, Serves, SettledFirst, SplitsBy, Takes}
 use Rattle.core_run.specs.Places.{works_on}
-use Rattle.core_run.specs.States.{State, doubt_of, has_slot, slot_for, split}
+use Rattle.core_run.specs.States.{State, slot_doubt, has_slot, slot_for, split}
 use Rattle.core_run.proofs.StepLemmas.{gone, settled_points}
 
 abbrev Then : State → ℕ → (State → Type 0) → State → Type 0
 Then s i made s' = (s' ≡ s) ⊎ ((m : State) × (SettlesDoubt s i m × made m))
 
 -- a slot without a doubt is settled
-settled_calm : (m : State) (i : ℕ) → doubt_of m i ≡ None → SettlesDoubt m i m
+settled_calm : (m : State) (i : ℕ) → slot_doubt m i ≡ None → SettlesDoubt m i m
 settled_calm m i calm = subst (λ (o : Option Past). SettlesDoubtBy o m i m) (sym calm) refl
 
 first_then : (y : Step) (s s' : State) (i : ℕ) (f : Bool) (r : Answer) (made : State → Type 0) → SettledFirst y s i f r s' made → Then s i (λ m. SettledFirst y m i f r s' made) s'
-first_then y s s' i f r made (inl p) = inr (p.0, (p.1.0, inl (p.0, (settled_calm p.0 i (gone (doubt_of s i) s p.0 i refl p.1.0), p.1.1))))
+first_then y s s' i f r made (inl p) = inr (p.0, (p.1.0, inl (p.0, (settled_calm p.0 i (gone (slot_doubt s i) s p.0 i refl p.1.0), p.1.1))))
 first_then y s s' i f r made (inr p) = inl p.1.1
 
 -- the same, of what a slot that exists does
@@ -34,7 +34,7 @@ on_slot_then true s s' i r made there so p = elim (so p) [
     then.0,
     (
       then.1.0,
-      subst (λ (b : Bool). OnSlotIf b then.0 r s' (made then.0)) (sym (ap (λ (points : List Key). not (nat_lt (length points) i)) (settled_points (doubt_of s i) s then.0 i then.1.0) ∙ there)) then.1.1,
+      subst (λ (b : Bool). OnSlotIf b then.0 r s' (made then.0)) (sym (ap (λ (points : List Key). not (nat_lt (length points) i)) (settled_points (slot_doubt s i) s then.0 i then.1.0) ∙ there)) then.1.1,
     ),
   )
 ]
@@ -48,7 +48,7 @@ split_then None s s' i middle f r is (inl p) = elim (first_then (step.Split i mi
     then.0,
     (
       then.1.0,
-      subst (λ (o : Option MapFault). SplitsBy o then.0 i middle f r s') (sym (ap (λ (points : List Key). split_refusal points i middle) (settled_points (doubt_of s i) s then.0 i then.1.0) ∙ is)) (inl then.1.1),
+      subst (λ (o : Option MapFault). SplitsBy o then.0 i middle f r s') (sym (ap (λ (points : List Key). split_refusal points i middle) (settled_points (slot_doubt s i) s then.0 i then.1.0) ∙ is)) (inl then.1.1),
     ),
   )
 ]
@@ -61,7 +61,7 @@ serve_then s s' q t f r p = elim (first_then (step.Serve q t) s s' (slot_for s q
     then.0,
     (
       then.1.0,
-      subst (λ (i : ℕ). OnSettled (step.Serve q t) then.0 i f r s' (λ m. Serves m q t f r s')) (sym (ap (λ (points : List Key). slot_of points (routed q)) (settled_points (doubt_of s (slot_for s q)) s then.0 (slot_for s q) then.1.0))) then.1.1,
+      subst (λ (i : ℕ). OnSettled (step.Serve q t) then.0 i f r s' (λ m. Serves m q t f r s')) (sym (ap (λ (points : List Key). slot_of points (routed q)) (settled_points (slot_doubt s (slot_for s q)) s then.0 (slot_for s q) then.1.0))) then.1.1,
     ),
   )
 ]
@@ -76,7 +76,7 @@ settles_then (step.Seal i) s s' f r p = on_slot_then (has_slot s i) s s' i r (λ
 settles_then (step.Load i) s s' f r p = on_slot_then (has_slot s i) s s' i r (λ m. OnSettled (step.Load i) m i f r s' (λ n. Leaves n r s')) refl (first_then (step.Load i) s s' i f r (λ n. MadeOrFails (step.Load i) n f r s' (Leaves n r s'))) p
 settles_then (step.Checkpoint i) s s' f r p = on_slot_then (has_slot s i) s s' i r (λ m. OnSettled (step.Checkpoint i) m i f r s' (λ n. Leaves n r s')) refl (first_then (step.Checkpoint i) s s' i f r (λ n. MadeOrFails (step.Checkpoint i) n f r s' (Leaves n r s'))) p
 settles_then (step.Compact i) s s' f r p = on_slot_then (has_slot s i) s s' i r (λ m. OnSettled (step.Compact i) m i f r s' (λ n. Leaves n r s')) refl (first_then (step.Compact i) s s' i f r (λ n. MadeOrFails (step.Compact i) n f r s' (Leaves n r s'))) p
-settles_then (step.Repair i extent) s s' f r p = on_slot_then (has_slot s i) s s' i r (λ m. OnSettled (step.Repair i extent) m i f r s' (λ n. Repairs n r s')) refl (first_then (step.Repair i extent) s s' i f r (λ n. MadeOrFails (step.Repair i extent) n f r s' (Repairs n r s'))) p
+settles_then (step.Repair i stream extent node) s s' f r p = on_slot_then (has_slot s i) s s' i r (λ m. OnSettled (step.Repair i stream extent node) m i f r s' (λ n. Repairs n r s')) refl (first_then (step.Repair i stream extent node) s s' i f r (λ n. MadeOrFails (step.Repair i stream extent node) n f r s' (Repairs n r s'))) p
 settles_then (step.Move i server) s s' f r p = tt
 settles_then (step.Unload i) s s' f r p = tt
 settles_then (step.Rotate account which key) s s' f r p = tt

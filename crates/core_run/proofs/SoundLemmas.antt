@@ -37,7 +37,7 @@ use Rattle.slot_state.specs.Slots.{entry_of}
 use Rattle.core_run.specs.declared.step.Step.{Step}
 use Rattle.core_run.specs.Machine.{Answer, IsRun, SettlesDoubtBy, Takes}
 use Rattle.core_run.specs.Places.{IsSound}
-use Rattle.core_run.specs.States.{State, change_in, doubt_of, opening, slot_for, split, with_doubt, with_pair}
+use Rattle.core_run.specs.States.{State, change_in, slot_doubt, opening, slot_for, split, with_doubt, with_pair}
 use Rattle.core_run.proofs.StepLemmas.{by_changes}
 use Rattle.core_run.proofs.Values.{none_some, some_is}
 
@@ -143,7 +143,7 @@ module _ (s : State) (i : ℕ) (middle : Key) (allowed : split_refusal s.points 
   pub within : i < length s.doubts
   within = omega (arith, can.0, sound.counted)
 
-  place : (j : ℕ) (e : Past) → doubt_of (split s i middle) j ≡ Some e → slot_of (with_point s.points i middle) e.request.ask.key ≡ j
+  place : (j : ℕ) (e : Past) → slot_doubt (split s i middle) j ≡ Some e → slot_of (with_point s.points i middle) e.request.ask.key ≡ j
   place j e there = elim (two_read s.doubts i j e within there) [
     | inl p ↦ let at = sound.placed j e p.1 in slot_of_earlier s.points i middle e.request.ask.key can.0 (omega (arith, at, p.0)) ∙ at
     | inr p ↦ let at = sound.placed p.0 e p.1.1.1 in
@@ -216,7 +216,7 @@ same_but s s' points doubts pairs sound = record {
 
 pub step_sound : (x : Step) (s s' : State) (f : Bool) (r : Answer) → Takes s x f r s' → IsSound s → IsSound s'
 step_sound x s s' f r takes =
-    by_changes x r Stays Stays (λ s sound. sound) (λ s s' stays. stays) (λ s m s' i on is stays sound. stays (settled_sound (doubt_of s i) s m i is sound))
+    by_changes x r Stays Stays (λ s sound. sound) (λ s s' stays. stays) (λ s m s' i on is stays sound. stays (settled_sound (slot_doubt s i) s m i is sound))
     (λ s q t is calm r. same_but s _ refl refl refl) (λ s q t is calm r. same_but s _ refl refl refl) (λ s q t is calm some r. doubted_sound s q t some)
     (λ s n o is there r. same_but s _ refl refl refl) (λ s i middle calm allowed r. split_sound s i middle allowed) (λ s account which key old there r. rotated_sound s account which key old there) s s' f takes
 
@@ -230,7 +230,7 @@ run_sound (x ∷ xs) (r ∷ rs) s s' before after run sound =
 pub opening_sound : (pairs : Pairs) → AreNumbered pairs → IsSound (opening pairs)
 opening_sound pairs numbered = record { spans = no_points [] refl; counted = refl; placed = placed; numbered = numbered }
   where
-    placed : (i : ℕ) (e : Past) → doubt_of (opening pairs) i ≡ Some e → slot_of [] e.request.ask.key ≡ i
+    placed : (i : ℕ) (e : Past) → slot_doubt (opening pairs) i ≡ Some e → slot_of [] e.request.ask.key ≡ i
     placed zero e there = absurd (none_some e there)
     placed (suc i) e there = absurd (none_some e there)
 

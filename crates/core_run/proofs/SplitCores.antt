@@ -19,7 +19,7 @@ use Rattle.slot_state.specs.HistoryMaps.{Histories, history_at}
 use Rattle.slot_state.specs.Pairs.{pairs_at}
 use Rattle.slot_state.specs.Slots.{SlotState, lower_half, replayed_at, upper_half}
 use Rattle.core_run.specs.Cores.{CoreState, StandsFor, no_slot, with_halves}
-use Rattle.core_run.specs.States.{State, doubt_of, split}
+use Rattle.core_run.specs.States.{State, slot_doubt, split}
 use Rattle.core_run.proofs.SoundLemmas.{inside_before, split_sound}
 
 -- ---- lists with two elements in place of one
@@ -34,7 +34,7 @@ length-with_two : {X : Type 0} (xs : List X) (i : ℕ) (a b : X) → i < length 
 length-with_two xs i a b low =
     length-insert (slice_set xs i a) (suc i) b (omega (arith, low, length-set xs i a)) ∙ ap (λ (n : ℕ). n + 1) (length-set xs i a)
 
-read-doubt : (slots : List SlotState) (i : ℕ) → option_and_then (λ o. o) (slice_get (map (λ (h : SlotState). h.doubt) slots) i) ≡ (slice_index_or slots i no_slot).doubt
+pub read-doubt : (slots : List SlotState) (i : ℕ) → option_and_then (λ o. o) (slice_get (map (λ (h : SlotState). h.doubt) slots) i) ≡ (slice_index_or slots i no_slot).doubt
 read-doubt [] i = refl
 read-doubt (h ∷ slots) zero = refl
 read-doubt (h ∷ slots) (suc i) = read-doubt slots i
@@ -50,7 +50,7 @@ half_history : (h : Histories) (p : Key → Bool) (k : Key) → p k ≡ true →
 half_history h p k e =
     ap (λ (o : Option (List Past)). unwrap_or o []) (get-retain_keys h p k (λ x tie. ap p (sym (keys_exact k x tie)))) ∙ retained_by [] (get h k) (p k) e
 
-module _ (c : CoreState) (s : State) (stands : StandsFor c s) (at : ℕ) (middle : Key) (allowed : split_refusal c.points at middle ≡ None) (calm : doubt_of s at ≡ None) where
+module _ (c : CoreState) (s : State) (stands : StandsFor c s) (at : ℕ) (middle : Key) (allowed : split_refusal c.points at middle ≡ None) (calm : slot_doubt s at ≡ None) where
   abbrev old : SlotState
   old = slice_index_or c.slots at no_slot
 

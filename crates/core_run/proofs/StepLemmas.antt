@@ -15,12 +15,13 @@ use Rattle.partition_map.specs.Spans.{slot_of, split_refusal}
 use Rattle.stamp_model.specs.SeenContainers.{routed}
 use Rattle.slot_state.specs.Pairs.{current_at}
 use Rattle.slot_state.specs.Slots.{entry_of}
+use Rattle.stored_slot.specs.Served.{unknown}
 use Rattle.core_run.specs.declared.step.Step.{Step}
 use Rattle.core_run.specs.declared.step.Step.TheVariants as step
 use Rattle.core_run.specs.declared.step.Outcome.TheVariants.{Reply, Later, Made, Epoch}
-use Rattle.core_run.specs.Machine.{Answer, FetchesBy, SettlesDoubt, SettlesDoubtBy, Leaves, MadeOrFails, OnSettled, OnSlotIf, RotatesBy, Serves, SettledFirst, SplitsBy, Takes, unknown}
+use Rattle.core_run.specs.Machine.{Answer, FetchesBy, SettlesDoubt, SettlesDoubtBy, Leaves, MadeOrFails, OnSettled, OnSlotIf, RotatesBy, Serves, SettledFirst, SplitsBy, Takes}
 use Rattle.core_run.specs.Places.{works_on}
-use Rattle.core_run.specs.States.{State, change_in, doubt_of, has_slot, held_by, reply_in, served, slot_for, split, with_doubt, with_pair, with_ticket, without_ticket}
+use Rattle.core_run.specs.States.{State, change_in, slot_doubt, has_slot, held_by, reply_in, served, slot_for, split, with_doubt, with_pair, with_ticket, without_ticket}
 
 -- ---- a settle
 
@@ -55,16 +56,16 @@ apart_set (o ∷ doubts) v (suc i) zero apart = refl
 apart_set (o ∷ doubts) v (suc i) (suc j) apart = apart_set doubts v i j (λ same. apart (ap suc same))
 
 -- after a settle the slot has no doubt
-pub gone : (o : Option Past) (s m : State) (i : ℕ) → doubt_of s i ≡ o → SettlesDoubtBy o s i m → doubt_of m i ≡ None
-gone None s m i there is = ap (λ (x : State). doubt_of x i) is ∙ there
-gone (Some e) s m i there (inl is) = ap (λ (x : State). doubt_of x i) is ∙ ended s.doubts i
-gone (Some e) s m i there (inr is) = ap (λ (x : State). doubt_of x i) is ∙ ended s.doubts i
+pub gone : (o : Option Past) (s m : State) (i : ℕ) → slot_doubt s i ≡ o → SettlesDoubtBy o s i m → slot_doubt m i ≡ None
+gone None s m i there is = ap (λ (x : State). slot_doubt x i) is ∙ there
+gone (Some e) s m i there (inl is) = ap (λ (x : State). slot_doubt x i) is ∙ ended s.doubts i
+gone (Some e) s m i there (inr is) = ap (λ (x : State). slot_doubt x i) is ∙ ended s.doubts i
 
 -- each other slot has the doubt that it had
-pub others : (o : Option Past) (s m : State) (i j : ℕ) → j ≢ i → SettlesDoubtBy o s i m → doubt_of m j ≡ doubt_of s j
-others None s m i j apart is = ap (λ (x : State). doubt_of x j) is
-others (Some e) s m i j apart (inl is) = ap (λ (x : State). doubt_of x j) is ∙ apart_set s.doubts None i j apart
-others (Some e) s m i j apart (inr is) = ap (λ (x : State). doubt_of x j) is ∙ apart_set s.doubts None i j apart
+pub others : (o : Option Past) (s m : State) (i j : ℕ) → j ≢ i → SettlesDoubtBy o s i m → slot_doubt m j ≡ slot_doubt s j
+others None s m i j apart is = ap (λ (x : State). slot_doubt x j) is
+others (Some e) s m i j apart (inl is) = ap (λ (x : State). slot_doubt x j) is ∙ apart_set s.doubts None i j apart
+others (Some e) s m i j apart (inr is) = ap (λ (x : State). slot_doubt x j) is ∙ apart_set s.doubts None i j apart
 
 -- ---- a step
 
@@ -73,11 +74,11 @@ module _ (x : Step) (r : Answer) (Q P : State → State → Type 0)
     (same : (s : State) → Q s s)
     (alone : (s s' : State) → Q s s' → P s s')
     (joined : (s m s' : State) (i : ℕ) → works_on s x ≡ Some i → SettlesDoubt s i m → Q m s' → P s s')
-    (serves : (s : State) (q : Asked) (t : ℕ) → x ≡ step.Serve q t → doubt_of s (slot_for s q) ≡ None → r ≡ Ok (Reply (reply_in s q t)) → Q s (served s q t))
-    (promises : (s : State) (q : Asked) (t : ℕ) → x ≡ step.Serve q t → doubt_of s (slot_for s q) ≡ None → r ≡ Ok (Later (length s.tickets)) → Q s (with_ticket (served s q t) (reply_in s q t)))
-    (doubts : (s : State) (q : Asked) (t : ℕ) → x ≡ step.Serve q t → doubt_of s (slot_for s q) ≡ None → IsSome (change_in s q t) → r ≡ Ok (Reply unknown) → Q s (with_doubt s (slot_for s q) (entry_of s.pairs q t)))
+    (serves : (s : State) (q : Asked) (t : ℕ) → x ≡ step.Serve q t → slot_doubt s (slot_for s q) ≡ None → r ≡ Ok (Reply (reply_in s q t)) → Q s (served s q t))
+    (promises : (s : State) (q : Asked) (t : ℕ) → x ≡ step.Serve q t → slot_doubt s (slot_for s q) ≡ None → r ≡ Ok (Later (length s.tickets)) → Q s (with_ticket (served s q t) (reply_in s q t)))
+    (doubts : (s : State) (q : Asked) (t : ℕ) → x ≡ step.Serve q t → slot_doubt s (slot_for s q) ≡ None → IsSome (change_in s q t) → r ≡ Ok (Reply unknown) → Q s (with_doubt s (slot_for s q) (entry_of s.pairs q t)))
     (fetches : (s : State) (n : ℕ) (o : replies.Reply) → x ≡ step.Fetch n → held_by s n ≡ Some o → r ≡ Ok (Reply o) → Q s (without_ticket s n))
-    (splits : (s : State) (i : ℕ) (middle : Key) → doubt_of s i ≡ None → split_refusal s.points i middle ≡ None → r ≡ Ok Made → Q s (split s i middle))
+    (splits : (s : State) (i : ℕ) (middle : Key) → slot_doubt s i ≡ None → split_refusal s.points i middle ≡ None → r ≡ Ok Made → Q s (split s i middle))
     (rotates : (s : State) (account : List ℕ) (which : Which) (key : List ℕ) (old : Keys) → current_at s.pairs account ≡ Some old → r ≡ Ok (Epoch (epoch_after old.epoch)) → Q s (with_pair s account (rotated old which key (epoch_after old.epoch)))) where
   unchanged : (s s' : State) → s' ≡ s → Q s s'
   unchanged s s' is = subst (Q s) (sym is) (same s)
@@ -100,7 +101,7 @@ module _ (x : Step) (r : Answer) (Q P : State → State → Type 0)
   on_slot true s s' made so p = so p
   on_slot false s s' made so p = stays s s' p.1
 
-  serving : (s s' : State) (q : Asked) (t : ℕ) (f : Bool) → x ≡ step.Serve q t → doubt_of s (slot_for s q) ≡ None → Serves s q t f r s' → Q s s'
+  serving : (s s' : State) (q : Asked) (t : ℕ) (f : Bool) → x ≡ step.Serve q t → slot_doubt s (slot_for s q) ≡ None → Serves s q t f r s' → Q s s'
   serving s s' q t f is calm (inl p) = subst (Q s) (sym p.1) (serves s q t is calm p.0)
   serving s s' q t f is calm (inr (inl p)) = subst (Q s) (sym p.1) (promises s q t is calm p.0)
   serving s s' q t f is calm (inr (inr p)) = subst (Q s) (sym p.1.1.1) (doubts s q t is calm p.1.0 p.1.1.0)
@@ -115,7 +116,7 @@ module _ (x : Step) (r : Answer) (Q P : State → State → Type 0)
   splitting None s s' i middle f on allowed (inl p) =
       settled (step.Split i middle) s s' i f _ on
       (λ m is made. subst (Q m) (sym made.1)
-      (splits m i middle (gone (doubt_of s i) s m i refl is) (subst (λ (points : List Key). split_refusal points i middle ≡ None) (sym (settled_points (doubt_of s i) s m i is)) allowed) made.0)) p
+      (splits m i middle (gone (slot_doubt s i) s m i refl is) (subst (λ (points : List Key). split_refusal points i middle ≡ None) (sym (settled_points (slot_doubt s i) s m i is)) allowed) made.0)) p
   splitting None s s' i middle f on allowed (inr p) = stays s s' p.1
 
   rotating : (o : Option Keys) (s s' : State) (account : List ℕ) (which : Which) (key : List ℕ) → current_at s.pairs account ≡ o → RotatesBy o s account which key r s' → Q s s'
@@ -128,10 +129,10 @@ module _ (x : Step) (r : Answer) (Q P : State → State → Type 0)
   leaving y s s' i f on p = settled y s s' i f (λ m. Leaves m r s') on (λ m is made. unchanged m s' made.1) p
 
   -- the slot of a request after a settle has no doubt
-  calm : (s m : State) (q : Asked) → SettlesDoubt s (slot_for s q) m → doubt_of m (slot_for m q) ≡ None
+  calm : (s m : State) (q : Asked) → SettlesDoubt s (slot_for s q) m → slot_doubt m (slot_for m q) ≡ None
   calm s m q is =
-      ap (λ (points : List Key). doubt_of m (slot_of points (routed q))) (settled_points (doubt_of s (slot_for s q)) s m (slot_for s q) is)
-      ∙ gone (doubt_of s (slot_for s q)) s m (slot_for s q) refl is
+      ap (λ (points : List Key). slot_doubt m (slot_of points (routed q))) (settled_points (slot_doubt s (slot_for s q)) s m (slot_for s q) is)
+      ∙ gone (slot_doubt s (slot_for s q)) s m (slot_for s q) refl is
 
   taking : (y : Step) (s s' : State) (f : Bool) → x ≡ y → Takes s y f r s' → P s s'
   taking (step.Serve q t) s s' f is p = settled (step.Serve q t) s s' (slot_for s q) f _ (ap (works_on s) is) (λ m settled made. serving m s' q t f is (calm s m q settled) made) p
@@ -142,7 +143,7 @@ module _ (x : Step) (r : Answer) (Q P : State → State → Type 0)
   taking (step.Load i) s s' f is p = on_slot (has_slot s i) s s' _ (leaving (step.Load i) s s' i f (ap (works_on s) is)) p
   taking (step.Checkpoint i) s s' f is p = on_slot (has_slot s i) s s' _ (leaving (step.Checkpoint i) s s' i f (ap (works_on s) is)) p
   taking (step.Compact i) s s' f is p = on_slot (has_slot s i) s s' _ (leaving (step.Compact i) s s' i f (ap (works_on s) is)) p
-  taking (step.Repair i extent) s s' f is p = on_slot (has_slot s i) s s' _ (settled (step.Repair i extent) s s' i f _ (ap (works_on s) is) (λ m settled made. unchanged m s' made.1)) p
+  taking (step.Repair i stream extent node) s s' f is p = on_slot (has_slot s i) s s' _ (settled (step.Repair i stream extent node) s s' i f _ (ap (works_on s) is) (λ m settled made. unchanged m s' made.1)) p
   taking (step.Move i server) s s' f is p = on_slot (has_slot s i) s s' _ (λ made. stays s s' made.1) p
   taking (step.Unload i) s s' f is p = on_slot (has_slot s i) s s' _ (λ made. stays s s' made.1) p
   taking (step.Rotate account which key) s s' f is p = alone s s' (rotating (current_at s.pairs account) s s' account which key refl p)

@@ -6,13 +6,14 @@ use Rattle.std.proofs.lemmas.Bool.{cases_order}
 use Rattle.std.proofs.lemmas.List.Elements.{All-head, All-tail}
 use Rattle.stamp_types.specs.declared.reply.Reply as replies
 use Rattle.stamp_types.specs.Requests.{Asked}
+use Rattle.stored_slot.specs.Served.{busy, unknown}
 use Rattle.core_run.specs.declared.step.Step.{Step}
 use Rattle.core_run.specs.declared.step.Step.TheVariants as step
 use Rattle.core_run.specs.declared.step.Outcome.TheVariants.{Reply, Later}
 use Rattle.core_run.specs.declared.step.StepFault.{StepFault}
 use Rattle.core_run.specs.declared.step.StepFault.TheVariants as fault
-use Rattle.core_run.specs.Machine.{Answer, Fails, FetchesBy, IsRun, SettlesDoubt, Takes, busy, unknown}
-use Rattle.core_run.specs.States.{State, doubt_of, held_by, reply_in, slot_for, without_ticket}
+use Rattle.core_run.specs.Machine.{Answer, Fails, FetchesBy, IsRun, SettlesDoubt, Takes}
+use Rattle.core_run.specs.States.{State, slot_doubt, held_by, reply_in, slot_for, without_ticket}
 use Rattle.core_run.proofs.DoubtLemmas.{served_first}
 use Rattle.core_run.proofs.StepLemmas.{by_changes, settled_tickets}
 use Rattle.core_run.proofs.Values.{none_some, some_is, true_false}
@@ -57,7 +58,7 @@ module _ (x : Step) (r : Answer) (n : ℕ) (o : replies.Reply) where
   pub stays_or_fetched : (s s' : State) (f : Bool) → Takes s x f r s' → held_by s n ≡ Some o → ((x ≡ step.Fetch n) × (r ≡ Ok (Reply o))) ⊎ (held_by s' n ≡ Some o)
   stays_or_fetched s s' f takes =
       by_changes x r Kept Kept (λ s holds. inr holds) (λ s s' kept. kept)
-      (λ s m s' i on is kept holds. kept (ap (λ (ts : List (Option replies.Reply)). option_and_then (λ y. y) (slice_get ts n)) (settled_tickets (doubt_of s i) s m i is) ∙ holds))
+      (λ s m s' i on is kept holds. kept (ap (λ (ts : List (Option replies.Reply)). option_and_then (λ y. y) (slice_get ts n)) (settled_tickets (slot_doubt s i) s m i is) ∙ holds))
       (λ s q t is calm r holds. inr holds) (λ s q t is calm r holds. inr (more s.tickets _ n o holds)) (λ s q t is calm some r holds. inr holds)
       fetched (λ s i middle calm allowed r holds. inr holds) (λ s account which key old there r holds. inr holds) s s' f takes
 

@@ -16,7 +16,7 @@ use Rattle.stamp_model.proofs.EffectLemmas.{part_at-effect_others}
 use Rattle.core_run.specs.declared.step.Step.{Step}
 use Rattle.core_run.specs.Machine.{Answer, SettlesDoubtBy, Takes}
 use Rattle.core_run.specs.Places.{IsSound, doubt_at, works_on}
-use Rattle.core_run.specs.States.{State, doubt_of, doubted, served, slot_for, split, timed_in}
+use Rattle.core_run.specs.States.{State, slot_doubt, doubted, served, slot_for, split, timed_in}
 use Rattle.core_run.proofs.SoundLemmas.{effect-listing, inside_before, routed_own, settled_sound}
 use Rattle.core_run.proofs.Values.{some_none}
 use Rattle.core_run.proofs.StepLemmas.{apart_set, by_changes}
@@ -31,7 +31,7 @@ module _ (key : Key) where
   abbrev Waits : State → State → Type 0
   Waits s s' = IsSound s → (e : Past) → doubt_at s key ≡ Some e → (doubt_at s' key ≡ Some e) × (part_at s'.world key ≡ part_at s.world key)
 
-  settled_apart : (o : Option Past) (s m : State) (i : ℕ) → doubt_of s i ≡ o → slot_of s.points key ≢ i → SettlesDoubtBy o s i m → Waits s m
+  settled_apart : (o : Option Past) (s m : State) (i : ℕ) → slot_doubt s i ≡ o → slot_of s.points key ≢ i → SettlesDoubtBy o s i m → Waits s m
   settled_apart None s m i there apart is sound e waits = (ap (λ (x : State). doubt_at x key) is ∙ waits, ap (λ (x : State). part_at x.world key) is)
   settled_apart (Some d) s m i there apart (inl is) sound e waits = (
     ap (λ (x : State). doubt_at x key) is ∙ apart_set s.doubts None i (slot_of s.points key) apart ∙ waits,
@@ -42,7 +42,7 @@ module _ (key : Key) where
       (ap (λ (x : State). doubt_at x key) is ∙ apart_set s.doubts None i (slot_of s.points key) apart ∙ waits, ap (λ (x : State). part_at x.world key) is)
 
   -- another slot serves a request
-  unserved : (s : State) (q : Asked) (t : ℕ) (e : Past) → doubt_of s (slot_for s q) ≡ None → doubt_at s key ≡ Some e → part_at (served s q t).world key ≡ part_at s.world key
+  unserved : (s : State) (q : Asked) (t : ℕ) (e : Past) → slot_doubt s (slot_for s q) ≡ None → doubt_at s key ≡ Some e → part_at (served s q t).world key ≡ part_at s.world key
   unserved s q t e calm waits = by (names_container q.ask.op) refl
     where
       by : (b : Bool) → names_container q.ask.op ≡ b → part_at (served s q t).world key ≡ part_at s.world key
@@ -50,10 +50,10 @@ module _ (key : Key) where
           (λ same. some_none (doubt_at s key) e waits (ap (λ (k : Key). doubt_at s k) (same ∙ sym (routed_own q names)) ∙ calm))
       by false lists = ap (λ (w : World (List ℕ)). part_at w key) (effect-listing (timed_in s q t).keys s.world q t lists)
 
-  by_split : (s : State) (i : ℕ) (middle : Key) → doubt_of s i ≡ None → split_refusal s.points i middle ≡ None → Waits s (split s i middle)
+  by_split : (s : State) (i : ℕ) (middle : Key) → slot_doubt s i ≡ None → split_refusal s.points i middle ≡ None → Waits s (split s i middle)
   by_split s i middle calm allowed sound e waits =
       let can = (allowed_is s.points i middle).0 allowed in
-      let never : slot_of s.points key ≡ i → None ≡ Some e = λ here. absurd (some_none (doubt_at s key) e waits (ap (doubt_of s) here ∙ calm)) in (
+      let never : slot_of s.points key ≡ i → None ≡ Some e = λ here. absurd (some_none (doubt_at s key) e waits (ap (slot_doubt s) here ∙ calm)) in (
         joined_is (split s i middle).doubts (slot_of (with_point s.points i middle) key)
             ∙ split_at None key middle None None (λ o. o ≡ Some e) s.points s.doubts i can.0 (inside_before s.points i middle can.1) sound.counted
             (sym (joined_is s.doubts (slot_of s.points key)) ∙ waits) (λ here low. never here) (λ here high. never here),
@@ -64,9 +64,9 @@ module _ (key : Key) where
   waits_on x s s' f r takes =
       by_changes x r Waits (λ s s'. works_on s x ≢ Some (slot_of s.points key) → Waits s s') (λ s sound e waits. (waits, refl)) (λ s s' waits apart. waits)
       (λ s m s' i on is waits apart sound e there.
-      let first = settled_apart (doubt_of s i) s m i refl (λ here. apart (on ∙ ap Some (sym here))) is sound e there in
-      let then = waits (settled_sound (doubt_of s i) s m i is sound) e first.0 in
+      let first = settled_apart (slot_doubt s i) s m i refl (λ here. apart (on ∙ ap Some (sym here))) is sound e there in
+      let then = waits (settled_sound (slot_doubt s i) s m i is sound) e first.0 in
       (then.0, then.1 ∙ first.1))
       (λ s q t is calm r sound e there. (there, unserved s q t e calm there)) (λ s q t is calm r sound e there. (there, unserved s q t e calm there))
-      (λ s q t is calm some r sound e there. (apart_set s.doubts _ (slot_for s q) (slot_of s.points key) (λ here. some_none (doubt_at s key) e there (ap (doubt_of s) here ∙ calm)) ∙ there, refl))
+      (λ s q t is calm some r sound e there. (apart_set s.doubts _ (slot_for s q) (slot_of s.points key) (λ here. some_none (doubt_at s key) e there (ap (slot_doubt s) here ∙ calm)) ∙ there, refl))
       (λ s n o is held r sound e there. (there, refl)) (λ s i middle calm allowed r. by_split s i middle calm allowed) (λ s account which key old current r sound e there. (there, refl)) s s' f takes

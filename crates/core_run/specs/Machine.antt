@@ -3,11 +3,8 @@
 -- the stamp's own.
 use Rattle.std.specs.Prelude.{◌≡◌, ◌⊎◌, ◌≤◌, ℕ, nat_lt, Bool, true, false, List, [], ◌∷◌, length, Option, Some, None, IsSome, Result, Ok, Err}
 use Rattle.stamp_values.specs.declared.key.Key.{Key}
-use Rattle.stamp_types.specs.declared.code.Code.TheVariants as code
 use Rattle.stamp_types.specs.declared.past.Past.{Past}
 use Rattle.stamp_types.specs.declared.reply.Reply as replies
-use Rattle.stamp_types.specs.declared.rule.Rule.TheVariants as rule
-use Rattle.stamp_types.specs.Replies.{denied}
 use Rattle.stamp_types.specs.Requests.{Asked}
 use Rattle.access_rules.specs.declared.keys.Keys.{Keys}
 use Rattle.access_rules.specs.declared.rotation.Which.{Which}
@@ -17,13 +14,14 @@ use Rattle.partition_map.specs.declared.fault.MapFault.TheVariants as map_fault
 use Rattle.partition_map.specs.Spans.{split_refusal}
 use Rattle.slot_state.specs.Pairs.{current_at}
 use Rattle.slot_state.specs.Slots.{entry_of}
+use Rattle.stored_slot.specs.Served.{busy, unknown}
 use Rattle.core_run.specs.declared.step.Step.{Step}
 use Rattle.core_run.specs.declared.step.Step.TheVariants as step
 use Rattle.core_run.specs.declared.step.Outcome.{Outcome}
 use Rattle.core_run.specs.declared.step.Outcome.TheVariants.{Reply, Later, Made, Epoch}
 use Rattle.core_run.specs.declared.step.StepFault.{StepFault}
 use Rattle.core_run.specs.declared.step.StepFault.TheVariants as fault
-use Rattle.core_run.specs.States.{State, change_in, doubt_of, dropped, has_slot, held_by, kept, reply_in, served, slot_for, split, with_doubt, with_pair, with_ticket, without_ticket}
+use Rattle.core_run.specs.States.{State, change_in, slot_doubt, dropped, has_slot, held_by, kept, reply_in, served, slot_for, split, with_doubt, with_pair, with_ticket, without_ticket}
 
 -- what a step answers
 abbrev pub Answer : Type 0
@@ -31,19 +29,11 @@ Answer = Result Outcome StepFault
 
 -- ---- how a step fails
 
--- the reply to a request whose slot needs nodes that are out of reach
-abbrev pub busy : replies.Reply
-busy = denied (record { rule = rule.N1; code = code.ServerBusy })
-
--- the reply to a change whose outcome is unknown
-abbrev pub unknown : replies.Reply
-unknown = denied (record { rule = rule.N2; code = code.OperationTimedOut })
-
 -- what the step answers if it needs nodes that are out of reach
 abbrev pub out_of_reach : Step → Answer
 out_of_reach (step.Serve q t) = Ok (Reply busy)
 out_of_reach (step.Fetch n) = Err fault.Unreachable
-out_of_reach (step.Repair i extent) = Err fault.Unreachable
+out_of_reach (step.Repair i stream extent node) = Err fault.Unreachable
 out_of_reach x = Err fault.Busy
 
 -- the step failed: nodes were out of reach, which is so only if a call of the wire failed during the step; or memory ran out
@@ -63,13 +53,13 @@ SettlesDoubtBy (Some e) s i m = (m ≡ kept s i e) ⊎ (m ≡ dropped s i)
 
 -- the doubt of the slot is settled, if there is one
 abbrev pub SettlesDoubt : State → ℕ → State → Type 0
-SettlesDoubt s i m = SettlesDoubtBy (doubt_of s i) s i m
+SettlesDoubt s i m = SettlesDoubtBy (slot_doubt s i) s i m
 
 -- the step first settles the doubt of the slot, and is then made from that state. If the settle fails, the step fails, and the doubt stays
 abbrev pub SettledFirst : Step → State → ℕ → Bool → Answer → State → (State → Type 0) → Type 0
 SettledFirst x s i faulted r s' made =
     ((m : State) × (SettlesDoubt s i m × made m))
-    ⊎ (IsSome (doubt_of s i) × (Fails x faulted r × (s' ≡ s)))
+    ⊎ (IsSome (slot_doubt s i) × (Fails x faulted r × (s' ≡ s)))
 
 -- the step settles first, and is then made or fails
 abbrev pub OnSettled : Step → State → ℕ → Bool → Answer → State → (State → Type 0) → Type 0
@@ -143,7 +133,7 @@ Takes s (step.Seal i) faulted r s' = OnSlot s i r s' (OnSettled (step.Seal i) s 
 Takes s (step.Load i) faulted r s' = OnSlot s i r s' (OnSettled (step.Load i) s i faulted r s' (λ m. Leaves m r s'))
 Takes s (step.Checkpoint i) faulted r s' = OnSlot s i r s' (OnSettled (step.Checkpoint i) s i faulted r s' (λ m. Leaves m r s'))
 Takes s (step.Compact i) faulted r s' = OnSlot s i r s' (OnSettled (step.Compact i) s i faulted r s' (λ m. Leaves m r s'))
-Takes s (step.Repair i extent) faulted r s' = OnSlot s i r s' (OnSettled (step.Repair i extent) s i faulted r s' (λ m. Repairs m r s'))
+Takes s (step.Repair i stream extent node) faulted r s' = OnSlot s i r s' (OnSettled (step.Repair i stream extent node) s i faulted r s' (λ m. Repairs m r s'))
 Takes s (step.Move i server) faulted r s' = OnSlot s i r s' (Leaves s r s')
 Takes s (step.Unload i) faulted r s' = OnSlot s i r s' (Leaves s r s')
 Takes s (step.Rotate account which key) faulted r s' = RotatesBy (current_at s.pairs account) s account which key r s'

@@ -17,7 +17,7 @@ use Rattle.core_run.specs.declared.step.Step.TheVariants as step
 use Rattle.core_run.specs.declared.step.Outcome.TheVariants.{Reply, Later}
 use Rattle.core_run.specs.declared.step.StepFault.TheVariants as fault
 use Rattle.core_run.specs.Machine.{Answer}
-use Rattle.core_run.specs.States.{State, Turn, doubt_of, held_by, requests, slot_for}
+use Rattle.core_run.specs.States.{State, Turn, slot_doubt, held_by, requests, slot_for}
 
 -- ---- slots
 
@@ -30,19 +30,19 @@ works_on s (step.Seal i) = Some i
 works_on s (step.Load i) = Some i
 works_on s (step.Checkpoint i) = Some i
 works_on s (step.Compact i) = Some i
-works_on s (step.Repair i extent) = Some i
+works_on s (step.Repair i stream extent node) = Some i
 works_on s x = None
 
 -- the change in doubt of the slot that has the key
 abbrev pub doubt_at : State → Key → Option Past
-doubt_at s key = doubt_of s (slot_of s.points key)
+doubt_at s key = slot_doubt s (slot_of s.points key)
 
 -- the split points are those of spans; each slot may have a doubt, whose container is in the span of the slot; and the key pairs of each
 -- account have their places as their epochs
 pub record IsSound (s : State) : Type 0 where
   pub spans : AreSpans s.points
   pub counted : length s.doubts ≡ length s.points + 1
-  pub placed : (i : ℕ) (e : Past) → doubt_of s i ≡ Some e → slot_of s.points e.request.ask.key ≡ i
+  pub placed : (i : ℕ) (e : Past) → slot_doubt s i ≡ Some e → slot_of s.points e.request.ask.key ≡ i
   pub numbered : AreNumbered s.pairs
 
 -- ---- the history
@@ -74,7 +74,7 @@ PassesStep test x = ⊤
 
 -- each change in doubt is a request that passes the test at its moment
 abbrev pub DoubtsPass : (Asked → ℕ → Bool) → State → Type 0
-DoubtsPass test s = (i : ℕ) (e : Past) → doubt_of s i ≡ Some e → test e.request e.moment ≡ true
+DoubtsPass test s = (i : ℕ) (e : Past) → slot_doubt s i ≡ Some e → test e.request e.moment ≡ true
 
 -- The history that a run added has this request with this reply. The reply is the model's, after the requests that come before, and names
 -- the first rule that refuses the request there

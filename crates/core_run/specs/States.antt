@@ -86,8 +86,8 @@ without_ticket s n = record s { tickets = slice_set s.tickets n None }
 -- ---- doubts
 
 -- the change of the slot that is in doubt, if there is one
-abbrev pub doubt_of : State → ℕ → Option Past
-doubt_of s i = option_and_then (λ o. o) (slice_get s.doubts i)
+abbrev pub slot_doubt : State → ℕ → Option Past
+slot_doubt s i = option_and_then (λ o. o) (slice_get s.doubts i)
 
 -- the state in which this change of the slot is in doubt
 abbrev pub with_doubt : State → ℕ → Past → State

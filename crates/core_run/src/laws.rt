@@ -38,7 +38,7 @@ ghost use Rattle.core_run.specs.Cores.{CoreState, StandsFor, first_core, slot_at
 ghost use Rattle.core_run.specs.Machine.{Answer, Fails, IsRun, SettlesDoubt, Serves, Takes};
 ghost use Rattle.core_run.specs.Places.{DoubtsPass, GivesReply, HasPlace, IsSound, PassesStep, doubt_at, is_fault_rule, tells_fault, works_on};
 ghost use Rattle.core_run.specs.Services.{IsServedWhole, SameButTickets};
-ghost use Rattle.core_run.specs.States.{State, Turn, doubt_of, doubted, held_by, opening, reply_in, requests, served, slot_for, split, timed_in};
+ghost use Rattle.core_run.specs.States.{State, Turn, slot_doubt, doubted, held_by, opening, reply_in, requests, served, slot_for, split, timed_in};
 
 /// The headline over one thread. Take any run of the machine, and what its history has beyond the
 /// history at first. Each reply of a Serve, at once or by a ticket, is the model's at the place of its
@@ -202,10 +202,10 @@ pub fn a_step_on_a_slot_is_a_settle_and_then_the_step()
 /// doubt, and each other slot has the doubt that it had. A Serve on a slot in doubt settles first, or it
 /// fails: no request is served by a slot in doubt.
 pub fn a_doubt_ends_whole_before_its_slot_serves()
-    ensures whole { (s m : State) (i : ℕ) (e : Past) → doubt_of s i ≡ Some e → SettlesDoubt s i m
+    ensures whole { (s m : State) (i : ℕ) (e : Past) → slot_doubt s i ≡ Some e → SettlesDoubt s i m
         → (m.world ≡ world_after_one s.world (doubted s e)) ⊎ (m.world ≡ s.world) }
-    ensures once { (s m : State) (i : ℕ) → SettlesDoubt s i m → doubt_of m i ≡ None }
-    ensures others { (s m : State) (i j : ℕ) → j ≢ i → SettlesDoubt s i m → doubt_of m j ≡ doubt_of s j }
+    ensures once { (s m : State) (i : ℕ) → SettlesDoubt s i m → slot_doubt m i ≡ None }
+    ensures others { (s m : State) (i j : ℕ) → j ≢ i → SettlesDoubt s i m → slot_doubt m j ≡ slot_doubt s j }
     ensures serves { (s s' : State) (q : Asked) (t : ℕ) (faulted : Bool) (answer : Answer)
         → Takes s (step.Serve q t) faulted answer s'
         → Fails (step.Serve q t) faulted answer
@@ -280,7 +280,7 @@ pub fn a_replaced_key_opens_nothing()
 /// and the slot has no doubt, the reply is the model's in the state before, and the state after it
 /// differs from the one after the request in tickets at most.
 pub fn a_serve_and_its_fetch_answer_as_the_model()
-    ensures { (s s' : State) (q : Asked) (t : ℕ) (r : Reply) → doubt_of s (slot_for s q) ≡ None
+    ensures { (s s' : State) (q : Asked) (t : ℕ) (r : Reply) → slot_doubt s (slot_for s q) ≡ None
         → IsServedWhole s q t r s'
         → (r ≡ reply_in s q t) × SameButTickets (served s q t) s' }
 {}
@@ -327,7 +327,7 @@ pub fn a_core_stands_for_its_state()
         → StandsFor (record c { slots = slice_set c.slots (slot_of c.points (routed q)) after })
         (served s q t) }
     ensures split { (c : CoreState) (s : State) (i : ℕ) (middle : Key)
-        → StandsFor c s → split_refusal c.points i middle ≡ None → doubt_of s i ≡ None
+        → StandsFor c s → split_refusal c.points i middle ≡ None → slot_doubt s i ≡ None
         → StandsFor (with_halves c i middle) (split s i middle) }
     ensures withdrawn { (c : CoreState) (s : State) (q : Asked) (t : ℕ) (front rest : List Past) (e : Past)
         (id : List ℕ) (token : Sent)

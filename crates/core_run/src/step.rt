@@ -1,7 +1,9 @@
 //! Steps, and what they answer.
 use access_rules::Which;
+use extent_node::Node;
 use hmac_sign::SigningKey;
 use partition_map::MapFault;
+use partition_stream::StreamName;
 use stamp_types::{Key, Moment, Reply, Request, Text};
 
 /// A step. A slot is named by its number, which is the number of its span.
@@ -50,10 +52,12 @@ pub enum Step {
     Compact {
         slot: usize,
     },
-    /// Copy a sealed extent of a slot to the nodes that have lost it.
+    /// Copy a sealed extent of one of the streams of a slot to a node, unless the node has the whole extent.
     Repair {
         slot: usize,
+        stream: StreamName,
         extent: u64,
+        node: Node,
     },
     /// Replace a key of an account.
     Rotate {
@@ -81,7 +85,7 @@ pub enum Outcome {
 pub enum StepFault {
     /// No slot has this number.
     NoSuchSlot,
-    /// The slot has no sealed extent of this number.
+    /// The stream of the slot has no sealed extent of this number.
     NoSuchExtent,
     /// No ticket of this number holds a reply.
     NoSuchTicket,

@@ -3,9 +3,10 @@ ghost use Rattle.std.specs.Prelude.{⊤};
 
 use crate::samples::{key, pair};
 use core_run::{Outcome, Step, StepFault};
+use extent_node::{Delivery, Script};
 use http_front::Service;
 use slot_state::KeptHistories;
-use stamp_core::Core;
+use stamp_core::{Care, Core};
 use stamp_types::{Moment, Reply, Request};
 use std::alloc::{AllocError, Global};
 use std::process::Abort;
@@ -18,10 +19,15 @@ pub(crate) const DELETE: &[u8] =
 pub(crate) const LIST_FROM_Q: &[u8] =
     b"GET /devstoreaccount1?comp=list&marker=q HTTP/1.1\r\nx-ms-date: Mon, 01 Oct 2012 12:00:00 GMT\r\nx-ms-version: 2012-02-12\r\nAuthorization: SharedKey devstoreaccount1:yj9kEsUX+WZBm0F0rJwozwjutTWIUPWmQqjsF91R6iI=\r\n\r\n";
 
+/// A Put Blob of `world` under `a.txt`.
+pub(crate) const PUT_WORLD: &[u8] =
+    b"PUT /devstoreaccount1/pics/a.txt HTTP/1.1\r\nx-ms-date: Mon, 01 Oct 2012 12:00:00 GMT\r\nx-ms-version: 2012-02-12\r\nContent-Length: 5\r\nx-ms-blob-type: BlockBlob\r\nAuthorization: SharedKey devstoreaccount1:d6Z+te/s0/4E59HxWmnrHiDmMywuU/tdYZOanDvfbmU=\r\n\r\nworld";
+
 /// A core that answers each request by its steps. The tickets that it gives are fetched at once, but for those that are to be kept.
 #[derive(Drop)]
 pub(crate) struct Driven {
     pub(crate) core: Core<KeptHistories>,
+    pub(crate) wire: Script,
     pub(crate) keeps: bool,
     pub(crate) kept: Option<u64>,
 }
@@ -49,26 +55,46 @@ impl Service for Driven {
         request: Request,
         moment: Moment,
     ) -> Result<Reply, AllocError> {
-        match self.core.step(alloc, Step::Serve { request, moment }) {
+        let step = Step::Serve { request, moment };
+        match self.core.step(alloc, step, &mut self.wire) {
             Ok(Outcome::Later(ticket)) => {
                 self.kept = Some(ticket);
                 if self.keeps {
                     return Err(AllocError);
                 }
-                reply_of(self.core.fetch(ticket))
+                reply_of(self.core.fetch(ticket, &mut self.wire))
             }
             outcome => reply_of(outcome),
         }
     }
 }
 
-/// A core of the account, without containers.
+// A wire that gives these deliveries and these answers in turn, and then Done and yes.
+fn wire_of(rt: &impl Abort, alloc: Global, puts: &[Delivery], asks: &[bool]) -> Script {
+    let puts = puts.to_vec(alloc).expect(rt, "memory");
+    let asks = asks.to_vec(alloc).expect(rt, "memory");
+    Script::new(alloc, puts, asks)
+}
+
+/// From now on the wire gives these deliveries and these answers in turn, and then Done and yes.
+pub(crate) fn give(
+    rt: &impl Abort,
+    alloc: Global,
+    driven: &mut Driven,
+    puts: &[Delivery],
+    asks: &[bool],
+) {
+    driven.wire = wire_of(rt, alloc, puts, asks);
+}
+
+/// A core of the account, without containers. No call of its wire fails until others are given.
 pub(crate) fn empty_core(rt: &impl Abort, alloc: Global) -> Box<Driven> {
     let mut pairs = Vec::new(alloc);
     pairs.push(pair(rt, alloc, 0)).expect(rt, "memory");
     let core = Core::new(alloc, pairs).expect(rt, "memory");
     let driven = Driven {
         core,
+        wire: wire_of(rt, alloc, &[], &[]),
         keeps: false,
         kept: None,
     };
@@ -84,7 +110,24 @@ pub(crate) fn split(
     container: &str,
 ) -> Option<StepFault> {
     let middle = key(rt, alloc, container);
-    driven.core.split(alloc, slot, &middle).map(drop).err()
+    let split = driven.core.split(alloc, slot, &middle, &mut driven.wire);
+    split.map(drop).err()
+}
+
+/// Why this is not done to the slot; `None` if it is done.
+pub(crate) fn tended(
+    alloc: Global,
+    driven: &mut Driven,
+    slot: usize,
+    care: Care,
+) -> Option<StepFault> {
+    let tended = driven.core.tend(alloc, slot, care, &mut driven.wire);
+    tended.map(drop).err()
+}
+
+/// Why the ticket does not give its reply; `None` if it does.
+pub(crate) fn not_fetched(driven: &mut Driven, ticket: u64) -> Option<StepFault> {
+    driven.core.fetch(ticket, &mut driven.wire).map(drop).err()
 }
 
 /// The content that the ticket gives.
@@ -94,7 +137,7 @@ pub(crate) fn fetched(
     driven: &mut Driven,
     ticket: u64,
 ) -> Option<Vec<u8>> {
-    match driven.core.fetch(ticket) {
+    match driven.core.fetch(ticket, &mut driven.wire) {
         Ok(Outcome::Reply(reply)) => Some(reply.body.joined(alloc).expect(rt, "memory")),
         _ => None,
     }

@@ -1,15 +1,27 @@
-//! Steps of a core: splits, tickets, and requests to both halves of a split.
+//! Steps of a core under written deliveries: splits, tickets, doubts, and what is done to one slot.
 
-use crate::core_samples::{DELETE, Driven, LIST_FROM_Q, empty_core, fetched, split};
+use crate::core_samples::{
+    DELETE, Driven, LIST_FROM_Q, PUT_WORLD, empty_core, fetched, give, not_fetched, split, tended,
+};
 use crate::requests::{
     CREATE, CREATE_LATER, CREATED, GET, GET_B, GET_BY_POLICY, LIST, MISSING, PUT, PUT_BLOCK,
     PUT_LIST, PUT_POLICY, WITHDRAW,
 };
 use crate::samples::{begins, ends, key, says, sent_if};
+use crate::stored_samples::{D, R};
 use core_run::{Outcome, Step, StepFault};
+use extent_node::Node;
 use partition_map::MapFault;
+use partition_stream::StreamName;
+use stamp_core::Care;
 use std::alloc::Global;
 use std::process::Abort;
+
+// What the reply to a second Create Container of the same name begins with.
+const CONFLICT: &[u8] = b"HTTP/1.1 409 Conflict\r\n";
+
+// No node answers, twice, and then only the node that has the record.
+const SILENT_TWICE: [bool; 9] = [false, false, false, false, false, false, true, false, false];
 
 // The same request with the token of the policy is answered while the container has the policy, and is refused afterwards (S5), also by the
 // upper half of a split.
@@ -47,21 +59,106 @@ fn is_committed(rt: &impl Abort, alloc: Global, driven: &mut Driven, container: 
     assert!(rt; ends(rt, alloc, driven, GET_B, b"\r\n\r\nabc"));
 }
 
-// The ticket gives the content of its Get Blob after the blob was deleted and its slot was split, and gives it once.
-fn gives_what_was_read(rt: &impl Abort, alloc: Global, driven: &mut Driven) {
+// The blob is put, and the extents of its slot are sealed. So a Get Blob gives a ticket, which is kept.
+fn keep_a_ticket(rt: &impl Abort, alloc: Global, driven: &mut Driven) {
     assert!(rt; begins(rt, alloc, driven, CREATE, CREATED));
     assert!(rt; begins(rt, alloc, driven, PUT, CREATED));
+    assert!(rt; tended(alloc, driven, 0, Care::Seal).is_none());
     driven.keeps = true;
     sent_if(rt, alloc, driven, GET);
-    assert!(rt; driven.kept == Some(0));
     driven.keeps = false;
+    assert!(rt; driven.kept == Some(0));
+}
+
+// The ticket gives the content of its Get Blob after the blob was written again and deleted, and its slot was split. It gives it once, and
+// stays as long as no node answers.
+fn gives_what_was_read(rt: &impl Abort, alloc: Global, driven: &mut Driven) {
+    keep_a_ticket(rt, alloc, driven);
+    assert!(rt; begins(rt, alloc, driven, PUT_WORLD, CREATED));
+    assert!(rt; ends(rt, alloc, driven, GET, b"\r\n\r\nworld"));
     assert!(rt; begins(rt, alloc, driven, DELETE, b"HTTP/1.1 202 Accepted\r\n"));
     assert!(rt; split(rt, alloc, driven, 0, "m").is_none());
     assert!(rt; begins(rt, alloc, driven, GET, MISSING));
-    assert!(rt; fetched(rt, alloc, driven, 1).is_none());
+    assert!(rt; not_fetched(driven, 1) == Some(StepFault::NoSuchTicket));
+    give(rt, alloc, driven, &[], &[false, false, false]);
+    assert!(rt; not_fetched(driven, 0) == Some(StepFault::Unreachable));
     let content = fetched(rt, alloc, driven, 0).expect(rt, "a reply");
     assert!(rt; content.as_slice() == b"hello".as_slice());
-    assert!(rt; fetched(rt, alloc, driven, 0).is_none());
+    assert!(rt; not_fetched(driven, 0) == Some(StepFault::NoSuchTicket));
+}
+
+// A Create Container of which it is not known whether it was made: one node took its record, and then no node answers.
+fn begin_a_doubt(rt: &impl Abort, alloc: Global, driven: &mut Driven) {
+    give(rt, alloc, driven, &[D, R, R], &[false, false, false]);
+    assert!(rt; says(rt, alloc, driven, CREATE, "Refused by rule N2."));
+}
+
+// As long as no node answers the doubt stays, and its slot serves nothing. Then it is kept, since a node that answers has the record.
+fn settles_a_doubt(rt: &impl Abort, alloc: Global, driven: &mut Driven) {
+    begin_a_doubt(rt, alloc, driven);
+    give(rt, alloc, driven, &[], &SILENT_TWICE);
+    assert!(rt; tended(alloc, driven, 0, Care::Settle) == Some(StepFault::Busy));
+    assert!(rt; says(rt, alloc, driven, CREATE, "Refused by rule N1."));
+    assert!(rt; tended(alloc, driven, 0, Care::Settle).is_none());
+    assert!(rt; begins(rt, alloc, driven, CREATE, CONFLICT));
+}
+
+// A split that the spans refuse settles nothing: the slot is then still in doubt. A split that they allow settles first.
+fn splits_in_doubt(rt: &impl Abort, alloc: Global, driven: &mut Driven) {
+    begin_a_doubt(rt, alloc, driven);
+    give(rt, alloc, driven, &[], &SILENT_TWICE);
+    assert!(rt; split(rt, alloc, driven, 7, "q") == Some(StepFault::Map(MapFault::NoSuchSlot)));
+    assert!(rt; split(rt, alloc, driven, 0, "q") == Some(StepFault::Busy));
+    assert!(rt; says(rt, alloc, driven, CREATE, "Refused by rule N1."));
+    assert!(rt; split(rt, alloc, driven, 0, "q").is_none());
+    assert!(rt; begins(rt, alloc, driven, CREATE, CONFLICT));
+}
+
+// A slot that was moved or unloaded keeps its doubt, and loads its rows again.
+fn moves_in_doubt(rt: &impl Abort, alloc: Global, driven: &mut Driven) {
+    begin_a_doubt(rt, alloc, driven);
+    assert!(rt; tended(alloc, driven, 0, Care::Unload).is_none());
+    assert!(rt; tended(alloc, driven, 0, Care::Move { server: 1 }).is_none());
+    give(
+        rt,
+        alloc,
+        driven,
+        &[],
+        &[false, false, false, true, false, false],
+    );
+    assert!(rt; tended(alloc, driven, 0, Care::Load) == Some(StepFault::Busy));
+    assert!(rt; tended(alloc, driven, 0, Care::Load).is_none());
+    assert!(rt; begins(rt, alloc, driven, CREATE, CONFLICT));
+}
+
+// What is done to a slot that does not exist.
+fn has_one_slot(rt: &impl Abort, alloc: Global, driven: &mut Driven) {
+    assert!(rt; tended(alloc, driven, 1, Care::Settle) == Some(StepFault::NoSuchSlot));
+    assert!(rt; tended(alloc, driven, 1, Care::Unload) == Some(StepFault::NoSuchSlot));
+    assert!(rt; tended(alloc, driven, 1, repair_of(0)) == Some(StepFault::NoSuchSlot));
+}
+
+// The repair of an extent of the log, on the second node.
+fn repair_of(extent: u64) -> Care {
+    Care::Repair {
+        stream: StreamName::Log,
+        extent,
+        node: Node::One,
+    }
+}
+
+// The second node did not answer when the log was sealed, so it has no copy of the extent. It gets one if another node answers.
+fn repairs_the_log(rt: &impl Abort, alloc: Global, driven: &mut Driven) {
+    assert!(rt; begins(rt, alloc, driven, CREATE, CREATED));
+    give(rt, alloc, driven, &[], &[true, false, true]);
+    assert!(rt; tended(alloc, driven, 0, Care::Seal).is_none());
+    assert!(rt; tended(alloc, driven, 0, repair_of(99)) == Some(StepFault::NoSuchExtent));
+    give(rt, alloc, driven, &[], &[false, false]);
+    assert!(rt; tended(alloc, driven, 0, repair_of(0)) == Some(StepFault::Unreachable));
+    assert!(rt; tended(alloc, driven, 0, repair_of(0)).is_none());
+    assert!(rt; tended(alloc, driven, 0, Care::Unload).is_none());
+    give(rt, alloc, driven, &[], &[false, true]);
+    assert!(rt; tended(alloc, driven, 0, Care::Load).is_none());
 }
 
 // The container of a split: their names rise, and have three digits.
@@ -101,6 +198,36 @@ fn a_ticket_gives_its_reply_once(rt: HostRuntime) {
 }
 
 #[test]
+fn a_doubt_is_settled_before_its_slot_serves(rt: HostRuntime) {
+    let mut driven = empty_core(&rt, rt.alloc());
+    settles_a_doubt(&rt, rt.alloc(), &mut *driven);
+}
+
+#[test]
+fn a_split_that_the_spans_refuse_settles_nothing(rt: HostRuntime) {
+    let mut driven = empty_core(&rt, rt.alloc());
+    splits_in_doubt(&rt, rt.alloc(), &mut *driven);
+}
+
+#[test]
+fn a_slot_that_is_moved_keeps_its_doubt(rt: HostRuntime) {
+    let mut driven = empty_core(&rt, rt.alloc());
+    moves_in_doubt(&rt, rt.alloc(), &mut *driven);
+}
+
+#[test]
+fn a_slot_that_does_not_exist_is_told_so(rt: HostRuntime) {
+    let mut driven = empty_core(&rt, rt.alloc());
+    has_one_slot(&rt, rt.alloc(), &mut *driven);
+}
+
+#[test]
+fn a_repair_gives_a_node_its_copy(rt: HostRuntime) {
+    let mut driven = empty_core(&rt, rt.alloc());
+    repairs_the_log(&rt, rt.alloc(), &mut *driven);
+}
+
+#[test]
 fn a_split_that_the_spans_refuse_names_the_cause(rt: HostRuntime) {
     let mut driven = empty_core(&rt, rt.alloc());
     assert!(rt;
@@ -123,22 +250,31 @@ fn the_split_after_the_256th_span_is_refused(rt: HostRuntime) {
     );
 }
 
-// A list of two splits at one key and of a ticket that was not given: the first step is made, and each later one says why it is not.
+// Two splits at one key, a ticket that was not given, and a seal: the first step and the last one are made, and each other step says why it
+// is not.
+fn steps_of_all_kinds(rt: &impl Abort, alloc: Global) -> Vec<Step> {
+    let mut steps = Vec::new(alloc);
+    for slot in [0, 0] {
+        let middle = key(rt, alloc, "q");
+        steps
+            .push(Step::Split { slot, middle })
+            .expect(rt, "memory");
+    }
+    steps.push(Step::Fetch { ticket: 0 }).expect(rt, "memory");
+    steps.push(Step::Seal { slot: 1 }).expect(rt, "memory");
+    steps
+}
+
 #[test]
 fn a_list_of_steps_is_answered_in_turn(rt: HostRuntime) {
     let alloc = rt.alloc();
     let mut driven = empty_core(&rt, alloc);
-    let mut steps = Vec::new(alloc);
-    for slot in [0, 0] {
-        let middle = key(&rt, alloc, "q");
-        steps
-            .push(Step::Split { slot, middle })
-            .expect(&rt, "memory");
-    }
-    steps.push(Step::Fetch { ticket: 0 }).expect(&rt, "memory");
-    let answers = driven.core.run(alloc, steps).expect(&rt, "memory");
-    assert!(rt; answers.len() == 3);
+    let steps = steps_of_all_kinds(&rt, alloc);
+    let Driven { core, wire, .. } = &mut *driven;
+    let answers = core.run(alloc, steps, wire).expect(&rt, "memory");
+    assert!(rt; answers.len() == 4);
     assert!(rt; matches!(&answers[0], Ok(Outcome::Made)));
     assert!(rt; matches!(&answers[1], Err(StepFault::Map(MapFault::NotInside))));
     assert!(rt; matches!(&answers[2], Err(StepFault::NoSuchTicket)));
+    assert!(rt; matches!(&answers[3], Ok(Outcome::Made)));
 }

@@ -1,7 +1,7 @@
 -- Texts that are read byte by byte, and bytes that are repeated.
 use Rattle.std.proofs.Common.{◌≡◌, ℕ, zero, suc, ◌+◌, List, [], ◌∷◌, ◌++◌, Option, Some, None, IsSomeAnd, arith, length}
 use Rattle.std.specs.List.{repeat}
-use Rattle.replay_cases.specs.Texts.{bytes_of}
+use Rattle.replay_cases.specs.Texts.{text_bytes}
 use Rattle.std.specs.Option.{option_map}
 use Rattle.std.proofs.lemmas.Grind.{common_steps}
 
@@ -25,7 +25,7 @@ after_step items b o None whole is e = grind (arith, common_steps)
 after_step items b o (Some more) whole is e = grind (arith, common_steps)
 
 -- what follows if nothing is left
-pub after_all : (items old left : List ℕ) (whole : Option (List ℕ)) → length left ≡ 0 → after items (bytes_of left) ≡ after old whole → IsSomeAnd whole (λ more. items ≡ old ++ more)
+pub after_all : (items old left : List ℕ) (whole : Option (List ℕ)) → length left ≡ 0 → after items (text_bytes left) ≡ after old whole → IsSomeAnd whole (λ more. items ≡ old ++ more)
 after_all items old [] None none e = grind (arith, common_steps)
 after_all items old [] (Some more) none e = grind (arith, common_steps)
 after_all items old (b ∷ left) whole none e = grind (arith, common_steps)

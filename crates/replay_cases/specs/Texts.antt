@@ -69,5 +69,5 @@ bytes_from (Half high) [] = None
 bytes_from (Half high) (b ∷ t) = option_and_then (λ low. option_map (λ bs. (high * 16 + low) ∷ bs) (bytes_from Plain t)) (digit_value b)
 
 -- the bytes that a text means
-abbrev pub bytes_of : List ℕ → Option (List ℕ)
-bytes_of text = bytes_from Plain text
+abbrev pub text_bytes : List ℕ → Option (List ℕ)
+text_bytes text = bytes_from Plain text

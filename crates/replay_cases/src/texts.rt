@@ -3,7 +3,7 @@ ghost use Rattle.std.specs.Prelude.{◌≡◌, ◌<◌, ◌++◌, ◌∷◌, Err
 ghost use Rattle.std.specs.List.{repeat};
 ghost use Rattle.std.specs.Option.{option_map};
 ghost use Rattle.replay_cases.specs.Texts as texts;
-ghost use Rattle.replay_cases.specs.Texts.{bytes_from, bytes_of};
+ghost use Rattle.replay_cases.specs.Texts.{bytes_from, text_bytes};
 ghost use Rattle.replay_cases.specs.Texts.TextState.{Escape, Hex};
 ghost use Rattle.replay_cases.specs.declared.line_fault.LineFault.{LineFault};
 
@@ -24,7 +24,7 @@ fn digit_value(digit: u8) -> Option<u8>
 // The byte that two hexadecimal digits mean, and the bytes after them.
 fn hex_byte(text: &[u8]) -> Option<(u8, &[u8])>
     ensures read { IfSome result (λ p. bytes_from Hex text.now
-        ≡ option_map (λ bs. p.0 ∷ bs) (bytes_of p.1.now)) }
+        ≡ option_map (λ bs. p.0 ∷ bs) (text_bytes p.1.now)) }
     ensures shorter { IfSome result (λ p. length p.1.now < length text.now) }
     ensures refused { IfNone result (bytes_from Hex text.now ≡ None) }
 {
@@ -52,7 +52,7 @@ fn escaped_byte(letter: u8) -> Option<u8>
 // The byte that an escape means, and the bytes after the escape. The backslash is not in `text`.
 fn escape(text: &[u8]) -> Option<(u8, &[u8])>
     ensures read { IfSome result (λ p. bytes_from Escape text.now
-        ≡ option_map (λ bs. p.0 ∷ bs) (bytes_of p.1.now)) }
+        ≡ option_map (λ bs. p.0 ∷ bs) (text_bytes p.1.now)) }
     ensures shorter { IfSome result (λ p. length p.1.now < length text.now) }
     ensures refused { IfNone result (bytes_from Escape text.now ≡ None) }
 {
@@ -66,10 +66,10 @@ fn escape(text: &[u8]) -> Option<(u8, &[u8])>
 // The first byte that a text means, and the rest of the text.
 fn next_byte(text: &[u8]) -> Option<(u8, &[u8])>
     requires { 0 < length text.now }
-    ensures read { IfSome result (λ p. bytes_of text.now
-        ≡ option_map (λ bs. p.0 ∷ bs) (bytes_of p.1.now)) }
+    ensures read { IfSome result (λ p. text_bytes text.now
+        ≡ option_map (λ bs. p.0 ∷ bs) (text_bytes p.1.now)) }
     ensures shorter { IfSome result (λ p. length p.1.now < length text.now) }
-    ensures refused { IfNone result (bytes_of text.now ≡ None) }
+    ensures refused { IfNone result (text_bytes text.now ≡ None) }
 {
     let (first, rest) = text.split_first()?;
     if *first == b'\\' {
@@ -83,9 +83,9 @@ fn next_byte(text: &[u8]) -> Option<(u8, &[u8])>
 /// After `Escape` or `NoMemory`, bytes that come before may have been added.
 #[tactic(auto, using(crate::proofs::TextLemmas::after_step, crate::proofs::TextLemmas::after_all, crate::proofs::TextLemmas::after_none))]
 pub(crate) fn add_text(bytes: &mut Vec<u8>, text: &str) -> Result<(), LineFault>
-    ensures added { OnOk result (IsSomeAnd (bytes_of text.now)
+    ensures added { OnOk result (IsSomeAnd (text_bytes text.now)
         (λ more. bytes.new.items ≡ bytes.old.items ++ more)) }
-    ensures refused { result ≡ Err LineFault.Escape → bytes_of text.now ≡ None }
+    ensures refused { result ≡ Err LineFault.Escape → text_bytes text.now ≡ None }
 {
     let mut left = text.as_bytes();
     while !left.is_empty() {

@@ -1,19 +1,21 @@
 -- The ranges of slots.
-use Rattle.std.proofs.Common.{◌≡◌, ◌≤◌, ◌<◌, ◌+◌, ◌&&◌, ℕ, zero, suc, Bool, true, List, [], ◌∷◌, Option, Some, None, refl, sym, ap, ◌∙◌, arith, length, map}
+use Rattle.std.proofs.Common.{◌≡◌, ◌≤◌, ◌<◌, ◌+◌, ◌&&◌, inl, inr, ℕ, zero, suc, Bool, true, List, [], ◌∷◌, Option, Some, None, refl, sym, ap, ◌∙◌, subst, arith, length, map}
 use Rattle.std.specs.Prelude.{slice_get, slice_set, slice_index_or}
 use Rattle.std.specs.List.{insert}
-use Rattle.std.specs.Option.{option_and_then}
 use Rattle.std.proofs.lemmas.List.{length-map}
-use Rattle.stamp_values.specs.Trees.{is_below}
+use Rattle.stamp_values.specs.Trees.{is_below, is_from}
 use Rattle.stamp_values.specs.declared.key.Key.{Key}
 use Rattle.stamp_types.specs.declared.past.Past.{Past}
 use Rattle.stamp_model.specs.SeenContainers.{is_under}
-use Rattle.partition_map.specs.Spans.{bound_of, first_key, least_key, split_refusal, with_point, with_two}
+use Rattle.partition_map.specs.Spans.{bound_at, bound_of, first_key, least_key, slot_of, split_refusal, with_point, with_two}
+use Rattle.partition_map.proofs.OneSpan.{own_span}
 use Rattle.partition_map.proofs.RefusalLemmas.{allowed_is}
 use Rattle.slot_state.specs.Slots as slots_of
 use Rattle.slot_state.specs.Slots.{SlotState, lower_half, upper_half}
-use Rattle.core_run.specs.Cores.{no_slot}
+use Rattle.stored_slot.specs.Settled.{SettlesSlot, SettlesDoubtBy}
+use Rattle.core_run.specs.Cores.{no_slot, slot_at}
 use Rattle.core_run.proofs.CoreLemmas.{same_bound}
+use Rattle.core_run.proofs.ServedCores.{slot_of-within}
 use Rattle.stamp_core.specs.CoreSteps.{slots_split}
 use Rattle.stamp_core.specs.Ranges.{HaveSpans, Range, range_of, ranges_from}
 
@@ -41,23 +43,17 @@ length-ranges : (first : Key) (points : List Key) → length (ranges_from first 
 length-ranges first [] = refl
 length-ranges first (p ∷ points) = omega (arith, length-ranges p points)
 
-range_at : (first : Key) (points : List Key) (i : ℕ) (d : Range) (e : Key) → i ≤ length points → slice_index_or (ranges_from first points) i d ≡ (slice_index_or (first ∷ points) i e, (slice_get points i, None))
+range_at : (first : Key) (points : List Key) (i : ℕ) (d : Range) (e : Key) → i ≤ length points → slice_index_or (ranges_from first points) i d ≡ (slice_index_or (first ∷ points) i e, slice_get points i)
 range_at first [] zero d e low = refl
 range_at first [] (suc i) d e low = absurd (omega (arith, low))
 range_at first (p ∷ points) zero d e low = refl
 range_at first (p ∷ points) (suc i) d e low = range_at p points i d e (omega (arith, low))
 
-no_doubt : (first : Key) (points : List Key) (i : ℕ) → option_and_then (λ o. o) (slice_get (map (λ (r : Range). r.1.1) (ranges_from first points)) i) ≡ None
-no_doubt first [] zero = refl
-no_doubt first [] (suc i) = refl
-no_doubt first (p ∷ points) zero = refl
-no_doubt first (p ∷ points) (suc i) = no_doubt p points i
-
 abbrev low_range : Range → Key → Range
-low_range r middle = (r.0, (Some middle, r.1.1))
+low_range r middle = (r.0, Some middle)
 
 abbrev high_range : Range → Key → Range
-high_range r middle = (middle, (r.1.0, None))
+high_range r middle = (middle, r.1)
 
 ranges_split : (first : Key) (points : List Key) (i : ℕ) (middle : Key) (d : Range) → i ≤ length points
     → with_two (ranges_from first points) i (low_range (slice_index_or (ranges_from first points) i d) middle) (high_range (slice_index_or (ranges_from first points) i d) middle)
@@ -65,44 +61,63 @@ ranges_split : (first : Key) (points : List Key) (i : ℕ) (middle : Key) (d : R
 ranges_split first [] zero middle d low = refl
 ranges_split first [] (suc i) middle d low = absurd (omega (arith, low))
 ranges_split first (p ∷ points) zero middle d low = refl
-ranges_split first (p ∷ points) (suc i) middle d low = λ j. (first, (Some p, None)) ∷ ranges_split p points i middle d (omega (arith, low)) j
+ranges_split first (p ∷ points) (suc i) middle d low = λ j. (first, Some p) ∷ ranges_split p points i middle d (omega (arith, low)) j
+
+-- ---- a settle
+
+-- a settle leaves the range
+pub settled_range : (h new : SlotState) → SettlesSlot h new → range_of new ≡ range_of h
+settled_range h new is = by h.doubt is
+  where
+    by : (o : Option Past) → SettlesDoubtBy o h new → range_of new ≡ range_of h
+    by None is = ap range_of is
+    by (Some e) (inl is) = ap range_of is
+    by (Some e) (inr is) = ap range_of is
 
 -- ---- slots
-
-fuse : (slots : List SlotState) → map (λ (h : SlotState). h.doubt) slots ≡ map (λ (r : Range). r.1.1) (map range_of slots)
-fuse [] = refl
-fuse (h ∷ slots) = λ i. h.doubt ∷ fuse slots i
 
 module _ (slots : List SlotState) (points : List Key) (have : HaveSpans slots points) where
   pub counted : length slots ≡ length points + 1
   counted = sym (length-map slots range_of) ∙ ap length have ∙ length-ranges least_key points
 
-  -- no slot has a doubt
-  pub calm : (i : ℕ) → option_and_then (λ o. o) (slice_get (map (λ (h : SlotState). h.doubt) slots) i) ≡ None
-  calm i = ap (λ (ds : List (Option Past)). option_and_then (λ o. o) (slice_get ds i)) (fuse slots ∙ ap (map (λ (r : Range). r.1.1)) have) ∙ no_doubt least_key points i
-
   own_range : (i : ℕ) → slice_index_or (ranges_from least_key points) i (range_of no_slot) ≡ range_of (slice_index_or slots i no_slot)
   own_range i = ap (λ (rs : List Range). slice_index_or rs i (range_of no_slot)) (sym have) ∙ read-map range_of slots i no_slot
 
-  -- a slot whose span can be split at a key can be cut there
+  range_is : (i : ℕ) → i ≤ length points → range_of (slice_index_or slots i no_slot) ≡ (first_key points i, bound_of points i)
+  range_is i low = sym (own_range i) ∙ range_at least_key points i (range_of no_slot) least_key low
+
+  -- the range of a slot has the keys of its span
+  pub covered : (key : Key) → slots_of.covers (slot_at slots points key) key ≡ true
+  covered key =
+      ap (λ (r : Range). is_from r.0 key && is_under r.1 key) (range_is (slot_of points key) (slot_of-within points key))
+      ∙ ap (λ (b : Bool). is_from (first_key points (slot_of points key)) key && b) (same_bound (bound_at points key) key)
+      ∙ own_span points key
+
+  -- the range of a slot ends where its span ends
+  pub ends_there : (key : Key) → (slot_at slots points key).to ≡ bound_at points key
+  ends_there key = ap (λ (r : Range). r.1) (range_is (slot_of points key) (slot_of-within points key))
+
+  -- a slot whose span can be split at a key can be split there
   pub inside : (i : ℕ) (middle : Key) → split_refusal points i middle ≡ None → slots_of.is_inside (slice_index_or slots i no_slot) middle ≡ true
   inside i middle allowed =
       let can = (allowed_is points i middle).0 allowed in
-      let is : range_of (slice_index_or slots i no_slot) ≡ (first_key points i, (bound_of points i, None)) = sym (own_range i) ∙ range_at least_key points i (range_of no_slot) least_key can.0 in
-      ap (λ (r : Range). is_below middle r.0 && is_under r.1.0 middle) is
+      ap (λ (r : Range). is_below middle r.0 && is_under r.1 middle) (range_is i can.0)
       ∙ ap (λ (b : Bool). is_below middle (first_key points i) && b) (same_bound (bound_of points i) middle)
       ∙ can.1
 
   pub within : (i : ℕ) (middle : Key) → split_refusal points i middle ≡ None → i < length slots
   within i middle allowed = let can = (allowed_is points i middle).0 allowed in omega (arith, can.0, counted)
 
+  pub low_slot : (key : Key) (at : ℕ) → at ≡ slot_of points key → at < length slots
+  low_slot key at place = omega (arith, place, slot_of-within points key, counted)
+
   -- a slot with the same range is put in the place of one
   pub set_spans : (i : ℕ) (new d : SlotState) → range_of new ≡ range_of (slice_index_or slots i d) → HaveSpans (slice_set slots i new) points
   set_spans i new d same = map-set range_of slots i new d same ∙ have
 
   -- after a split they have those of one span more
-  pub split_spans : (i : ℕ) (middle : Key) → split_refusal points i middle ≡ None → HaveSpans (slots_split slots i middle) (with_point points i middle)
-  split_spans i middle allowed =
-      map-with_two range_of slots i (lower_half (slice_index_or slots i no_slot) middle) (upper_half (slice_index_or slots i no_slot) middle)
-      ∙ (λ j. with_two (have j) i (low_range (sym (own_range i) j) middle) (high_range (sym (own_range i) j) middle))
+  pub split_spans : (i : ℕ) (h : SlotState) (middle : Key) → range_of h ≡ range_of (slice_index_or slots i no_slot) → split_refusal points i middle ≡ None → HaveSpans (slots_split slots i h middle) (with_point points i middle)
+  split_spans i h middle same allowed =
+      map-with_two range_of slots i (lower_half h middle) (upper_half h middle)
+      ∙ (λ j. with_two (have j) i (low_range ((same ∙ sym (own_range i)) j) middle) (high_range ((same ∙ sym (own_range i)) j) middle))
       ∙ ranges_split least_key points i middle (range_of no_slot) ((allowed_is points i middle).0 allowed).0

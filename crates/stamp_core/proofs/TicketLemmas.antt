@@ -1,7 +1,7 @@
 -- Tickets in a tree, as a list.
-use Rattle.std.proofs.Common.{◌≡◌, ◌≤◌, ◌<◌, ◌+◌, ◌⊎◌, inl, inr, ℕ, zero, suc, false, List, [], ◌∷◌, ◌++◌, Option, Some, None, BTreeMap, refl, sym, ap, ◌∙◌, arith, length}
+use Rattle.std.proofs.Common.{◌≡◌, ◌≤◌, ◌<◌, ◌+◌, ◌⊎◌, inl, inr, ℕ, zero, suc, false, List, [], ◌∷◌, ◌++◌, Option, Some, None, BTreeMap, Ok, Err, refl, sym, ap, ◌∙◌, subst, arith, length}
 use Rattle.std.specs.Prelude.{slice_get, slice_set}
-use Rattle.std.specs.BTreeMap.{get, get_by, IsUnchanged, Updates, is_at}
+use Rattle.std.specs.BTreeMap.{IsUnchanged, Updates, is_at}
 use Rattle.std.specs.Map.{lookup}
 use Rattle.std.specs.Option.{option_and_then}
 use Rattle.std.specs.Cmp.{ranked}
@@ -9,7 +9,10 @@ use Rattle.std.specs.Ordering.{is_eq, nat_cmp}
 use Rattle.std.specs.declared.cmp.Ordering.{Ordering}
 use Rattle.std.specs.declared.cmp.Ordering.TheVariants.{Less, Equal, Greater}
 use Rattle.std.proofs.lemmas.List.{length-append}
-use Rattle.stamp_core.specs.Tickets.{held_reply, listed}
+use Rattle.stamp_core.specs.Tickets.{IsTicketFetched, at_number, held_reply, listed}
+use Rattle.stamp_types.specs.declared.reply.Reply.{Reply}
+use Rattle.core_run.specs.declared.step.StepFault.{StepFault}
+use Rattle.core_run.specs.declared.step.StepFault.TheVariants as fault
 
 -- ---- lists of what numbers have
 
@@ -86,7 +89,7 @@ module _ {X : Type 0} where
 
 -- ---- numbers that are compared
 
-untied : (k m : ℕ) → (m ≡ k → ⊥) → is_at (nat_cmp k) m ≡ false
+pub untied : (k m : ℕ) → (m ≡ k → ⊥) → is_at (nat_cmp k) m ≡ false
 untied k m apart = by (nat_cmp k m) refl
   where
     by : (o : Ordering) → nat_cmp k m ≡ o → is_eq o ≡ false
@@ -94,38 +97,72 @@ untied k m apart = by (nat_cmp k m) refl
     by Equal e = absurd (apart (sym (ranked k m Equal (sym e))))
     by Greater e = refl
 
--- ---- trees of replies
-
-abbrev in_tree : {X : Type 0} → BTreeMap ℕ X → ℕ → Option X
-in_tree t n = get nat_cmp t n
+-- ---- trees of tickets
 
 -- in each lemma t is the tree before, n how many tickets were given before, xs the list that both make, and u the tree after
-module _ {X : Type 0} (t : BTreeMap ℕ X) (n : ℕ) (xs : List (Option X)) where
-  pub count_of : listed (in_tree t) n ≡ xs → n ≡ length xs
-  count_of holds = sym (length-listed (in_tree t) n) ∙ ap length holds
+module _ {X : Type 0} (t : BTreeMap ℕ (Option X)) (n : ℕ) (xs : List (Option X)) where
+  pub count_of : listed (at_number t) n ≡ xs → n ≡ length xs
+  count_of holds = sym (length-listed (at_number t) n) ∙ ap length holds
 
   -- one ticket more
-  pub one_more : (u : BTreeMap ℕ X) (m : ℕ) (v : X) → listed (in_tree t) n ≡ xs → Updates nat_cmp t u n (Some v) → m ≡ n + 1 → listed (in_tree u) m ≡ xs ++ Some v ∷ []
+  pub one_more : (u : BTreeMap ℕ (Option X)) (m : ℕ) (v : X) → listed (at_number t) n ≡ xs → Updates nat_cmp t u n (Some (Some v)) → m ≡ n + 1 → listed (at_number u) m ≡ xs ++ Some v ∷ []
   one_more u m v holds updates next =
       let is : m ≡ suc n = omega (arith, next) in
-      ap (listed (in_tree u)) is
-      ∙ (λ i. listed_alike (in_tree u) (in_tree t) n (λ k low. updates.2 k (untied n k (λ same. omega (arith, low, same)))) i ++ updates.1 i ∷ [])
+      ap (listed (at_number u)) is
+      ∙ (λ i. listed_alike (at_number u) (at_number t) n (λ k low. ap (option_and_then (λ o. o)) (updates.2 k (untied n k (λ same. omega (arith, low, same))))) i ++ ap (option_and_then (λ o. o)) updates.1 i ∷ [])
       ∙ ap (λ (ys : List (Option X)). ys ++ Some v ∷ []) holds
 
   -- a tree that stayed as it was
-  pub same_list : (u : BTreeMap ℕ X) → listed (in_tree t) n ≡ xs → IsUnchanged t u → listed (in_tree u) n ≡ xs
-  same_list u holds same = listed_alike (in_tree u) (in_tree t) n (λ k low. ap (lookup (is_at (nat_cmp k))) same) ∙ holds
+  pub same_list : (u : BTreeMap ℕ (Option X)) → listed (at_number t) n ≡ xs → IsUnchanged t u → listed (at_number u) n ≡ xs
+  same_list u holds same = listed_alike (at_number u) (at_number t) n (λ k low. ap (option_and_then (λ o. o)) (ap (lookup (is_at (nat_cmp k))) same)) ∙ holds
 
-  -- a reply that is taken
-  pub taken_list : (u : BTreeMap ℕ X) (k : ℕ) → listed (in_tree t) n ≡ xs → k < n → Updates nat_cmp t u k None → listed (in_tree u) n ≡ slice_set xs k None
-  taken_list u k holds low updates =
-      set-listed (in_tree t) (in_tree u) n k None low updates.1 (λ m apart. updates.2 m (untied k m apart)) ∙ ap (λ (ys : List (Option X)). slice_set ys k None) holds
+  -- what the list has at a number
+  pub held_at : (k : ℕ) → listed (at_number t) n ≡ xs → k < n → held_reply xs k ≡ at_number t k
+  held_at k holds low = ap (λ (ys : List (Option X)). held_reply ys k) (sym holds) ∙ ap (option_and_then (λ x. x)) (get-listed (at_number t) n k low)
 
-  pub taken_reply : (k : ℕ) (o : Option X) → listed (in_tree t) n ≡ xs → k < n → o ≡ get_by (nat_cmp k) t → o ≡ held_reply xs k
-  taken_reply k o holds low is = is ∙ sym (ap (option_and_then (λ x. x)) (get-listed (in_tree t) n k low)) ∙ ap (λ (ys : List (Option X)). held_reply ys k) holds
+  -- a place that changed
+  pub changed_list : (u : BTreeMap ℕ (Option X)) (k : ℕ) (v : Option X) → listed (at_number t) n ≡ xs → k < n → at_number u k ≡ v → ((m : ℕ) → (m ≡ k → ⊥) → at_number u m ≡ at_number t m)
+      → listed (at_number u) n ≡ slice_set xs k v
+  changed_list u k v holds low own others = set-listed (at_number t) (at_number u) n k v low own others ∙ ap (λ (ys : List (Option X)). slice_set ys k v) holds
 
-  pub none_past : (k : ℕ) → listed (in_tree t) n ≡ xs → n ≤ k → None ≡ held_reply xs k
-  none_past k holds over = sym (past xs k (omega (arith, over, count_of holds)))
+  pub none_past : (k : ℕ) → listed (at_number t) n ≡ xs → n ≤ k → held_reply xs k ≡ None
+  none_past k holds over = past xs k (omega (arith, over, count_of holds))
 
-  pub same_past : (k : ℕ) → listed (in_tree t) n ≡ xs → n ≤ k → xs ≡ slice_set xs k None
-  same_past k holds over = sym (none_again xs k (sym (none_past k holds over)))
+-- ---- a fetch
+
+set_held : {X : Type 0} (xs : List (Option X)) (k : ℕ) → slice_set xs k (held_reply xs k) ≡ xs
+set_held [] k = refl
+set_held (x ∷ xs) zero = refl
+set_held (x ∷ xs) (suc k) = λ i. x ∷ set_held xs k i
+
+-- a fetch that fails leaves what was held
+not_taken : (old new : Option Reply) (F : Type 0) (f : StepFault) → IsTicketFetched old F (Err f) new → new ≡ old
+not_taken old new F fault.NoSuchTicket is = is.1
+not_taken old new F fault.Unreachable is = is.1.1
+not_taken old new F fault.NoMemory is = is.1
+not_taken old new F other is = absurd is
+
+-- t is the tree before a fetch of a place, and u the tree after it
+module _ (t u : BTreeMap ℕ (Option Reply)) (n k : ℕ) (xs : List (Option Reply)) (holds : listed (at_number t) n ≡ xs) (low : k < n) (others : (m : ℕ) → (m ≡ k → ⊥) → at_number u m ≡ at_number t m) (F : Type 0) where
+  held_before : at_number t k ≡ held_reply xs k
+  held_before = sym (held_at t n xs k holds low)
+
+  module _ (f : StepFault) (is : IsTicketFetched (at_number t k) F (Err f) (at_number u k)) where
+    pub failed_list : listed (at_number u) n ≡ xs
+    failed_list =
+        changed_list t n xs u k (held_reply xs k) holds low (not_taken (at_number t k) (at_number u k) F f is ∙ held_before) others ∙ set_held xs k
+
+    pub failed_fetch : IsTicketFetched (held_reply xs k) F (Err f) (held_reply (listed (at_number u) n) k)
+    failed_fetch =
+        subst (λ (o : Option Reply). IsTicketFetched (held_reply xs k) F (Err f) o) (sym (held_at u n (listed (at_number u) n) k refl low))
+        (subst (λ (o : Option Reply). IsTicketFetched o F (Err f) (at_number u k)) held_before is)
+
+  -- v is the tree after the place went
+  module _ (v : BTreeMap ℕ (Option Reply)) (r : Reply) (is : IsTicketFetched (at_number t k) F (Ok r) (at_number u k)) (gone : Updates nat_cmp u v k None) where
+    pub ended_list : listed (at_number v) n ≡ slice_set xs k None
+    ended_list =
+        changed_list t n xs v k None holds low (ap (option_and_then (λ o. o)) gone.1)
+        (λ m apart. ap (option_and_then (λ o. o)) (gone.2 m (untied k m apart)) ∙ others m apart)
+
+    pub ended_fetch : IsTicketFetched (held_reply xs k) F (Ok r) (held_reply (listed (at_number v) n) k)
+    ended_fetch = (sym held_before ∙ is.0, held_at v n (listed (at_number v) n) k refl low ∙ ap (option_and_then (λ o. o)) gone.1)

@@ -1,38 +1,48 @@
 //! The core.
-ghost use Rattle.std.specs.Prelude.{◌≡◌, ◌⊎◌, IfErr, IfOk, OnErr, false, length, true};
+ghost use Rattle.std.specs.Prelude.{◌≡◌, ◌⊎◌, IfErr, IfOk, OnErr, length, true};
 ghost use Rattle.std.specs.Arc.{arc_value};
 ghost use Rattle.std.specs.List.{list_all};
 ghost use Rattle.std.specs.Option.{option_copied};
+ghost use Rattle.extent_seal.specs.Counting.{Grows, all_faults};
 ghost use Rattle.policy_book.specs.Judgements.{IsOfAsk};
 ghost use Rattle.range_rows.specs.Readings.{reading_of};
 ghost use Rattle.slot_state.specs.PairFaults.{pairs_fault};
 ghost use Rattle.slot_state.specs.Pairs.{first_pairs};
 ghost use Rattle.slot_state.specs.declared.pairs_fault.PairsFault.TheVariants.{NoMemory};
 ghost use Rattle.core_run.specs.Cores.{StandsFor, first_core};
-ghost use Rattle.core_run.specs.States.{State, opening, reply_in, served};
+ghost use Rattle.core_run.specs.States.{State, opening};
 ghost use Rattle.core_run.specs.Machine.{IsRun, Takes};
 ghost use Rattle.stamp_core.specs.CoreSteps as kinds;
+ghost use Rattle.stamp_core.specs.CoreSteps.{AnswersSteadily, told_answer, has_faults, step_of};
 
+use crate::care::Care;
 use crate::open_tickets::OpenTickets;
-use crate::serving::{fetch, serve_one, tell};
+use crate::serving::{serve_one, serve_unread};
 use crate::splitting::split;
+use crate::telling::{answered, tell, tell_now};
+use crate::tending::tend;
 use access_rules::Keys;
 use core_run::{Outcome, Step, StepFault};
+use extent_node::Wire;
 use partition_map::Spans;
 use policy_book::Judged;
 use range_rows::Reading;
-use slot_state::{AccountPairs, Histories, PairsFault, Slot};
+use slot_state::{AccountPairs, Histories, PairsFault};
 use stamp_types::{Key, Moment, Reply, Request};
 use std::alloc::{AllocError, Global};
 use std::marker::Model;
 use std::sync::Arc;
+use stored_slot::StoredSlot;
 
-/// Slots in memory, the spans of keys that they have, and the replies that are held for tickets.
+/// How many bytes an extent of two or more blocks may have.
+pub const EXTENT_BYTES: u32 = 268_435_456;
+
+/// Slots over streams, the spans of keys that they have, and the tickets that were given.
 ///
-/// Contracts see the slots, the split points and the tickets (`CoreState` of `core_run`).
+/// Contracts see the slots, the split points and the replies that the tickets hold (`CoreState` of `core_run`).
 #[derive(Drop)]
 pub struct Core<H: Histories> {
-    slots: Vec<Slot<H>>,
+    slots: Vec<StoredSlot<H>>,
     spans: Spans,
     tickets: OpenTickets,
 }
@@ -51,10 +61,14 @@ impl<H: Histories> Model for Core<H> {
 }
 
 // A core of one slot of all keys, without containers, for these key pairs.
-fn first<H: Histories>(alloc: Global, pairs: Arc<AccountPairs>) -> Result<Core<H>, AllocError>
+fn first<H: Histories>(
+    alloc: Global,
+    extent_bytes: u32,
+    pairs: Arc<AccountPairs>,
+) -> Result<Core<H>, AllocError>
     ensures { IfOk result (λ core. core ≡ first_core (arc_value pairs)) }
 {
-    let slot = Slot::of_pairs(alloc, pairs);
+    let slot = StoredSlot::of_pairs(alloc, extent_bytes, pairs);
     let mut slots = Vec::new(alloc);
     slots.push(slot)?;
     Ok(Core {
@@ -77,15 +91,29 @@ fn of_all<H: Histories>(alloc: Global, pairs: AccountPairs) -> Result<Core<H>, A
 impl<H: Histories> Core<H> {
     ghost use Rattle.core_run.specs.declared.step.Step.TheVariants.{Fetch, Serve, Split};
 
-    /// A core of one slot of all keys, without containers, for these key pairs. The core shares the pairs.
+    /// A core of one slot of all keys, without containers, for these key pairs. The core shares the pairs. An extent of two or more blocks has
+    /// at most `extent_bytes` bytes.
     ///
     /// `AllocError` if memory runs out for the slot.
-    pub fn of_pairs(alloc: Global, pairs: Arc<AccountPairs>) -> Result<Self, AllocError>
+    pub fn with_extents(
+        alloc: Global,
+        extent_bytes: u32,
+        pairs: Arc<AccountPairs>,
+    ) -> Result<Self, AllocError>
         ensures value { IfOk result (λ core. core ≡ first_core (arc_value pairs)) }
         ensures stands { IfOk result (λ core. StandsFor core (opening (arc_value pairs))) }
     {
         pairs.numbered();
-        let core = first(alloc, pairs)?;
+        let core = first(alloc, extent_bytes, pairs)?;
+        Ok(core)
+    }
+
+    /// The same, with at most `EXTENT_BYTES` bytes in an extent of two or more blocks.
+    pub fn of_pairs(alloc: Global, pairs: Arc<AccountPairs>) -> Result<Self, AllocError>
+        ensures value { IfOk result (λ core. core ≡ first_core (arc_value pairs)) }
+        ensures stands { IfOk result (λ core. StandsFor core (opening (arc_value pairs))) }
+    {
+        let core = Core::with_extents(alloc, EXTENT_BYTES, pairs)?;
         Ok(core)
     }
 
@@ -106,24 +134,27 @@ impl<H: Histories> Core<H> {
     /// One Serve step, on a request whose body was read before. The caller keeps the request, and may have judged its signature before:
     /// `judged` changes no reply, and if it is of the pair in force, no signature is worked out here.
     ///
-    /// The content of a blob is told by a ticket, which `fetch` takes. If memory runs out for the ticket, the reply is told at once.
+    /// First the slot of the request settles its doubt, if it has one, and loads its rows, if they are not loaded. A reply whose content is in
+    /// sealed extents is told by a ticket, which `fetch` takes. If memory runs out for the ticket, the reply is told at once.
     ///
-    /// `NoMemory` if memory runs out for the reply or for the change. The core is then as it was.
-    pub fn serve(
+    /// The reply is the denial of N1 if nodes that were needed did not answer, and the denial of N2 if it is not known whether the change was
+    /// made. `NoMemory` if memory runs out. Then nothing is changed, except that a doubt may have ended; after N2 the change is in doubt.
+    pub fn serve<W: Wire>(
         &mut self,
         alloc: Global,
         request: &Request,
         judged: Option<&Judged>,
         reading: Reading,
         moment: Moment,
+        wire: &mut W,
     ) -> Result<Outcome, StepFault>
         requires judged { IsOfAsk (option_copied judged) request.now.ask }
         requires read { reading ≡ reading_of request.now }
         ensures taken { (s : State) → StandsFor self.old s
-            → (s' : State) × (Takes s (Serve request.now moment) false result s' × StandsFor self.new s') }
-        ensures refused { OnErr result (self.new ≡ self.old) }
+            → (s' : State) × (Takes s (Serve request.now moment) (has_faults (W.faults wire.old) (W.faults wire.new)) result s' × StandsFor self.new s') }
+        ensures grown { Grows (W.faults wire.old) (W.faults wire.new) }
     {
-        match serve_one(
+        let answer = serve_one(
             &mut self.slots,
             &self.spans,
             alloc,
@@ -131,30 +162,33 @@ impl<H: Histories> Core<H> {
             judged,
             reading,
             moment,
-        ) {
-            Ok(reply) => Ok(tell(&mut self.tickets, request, reply)),
-            Err(_) => Err(StepFault::NoMemory),
-        }
+            wire,
+        );
+        tell(&mut self.tickets, alloc, answer, wire)
     }
 
-    /// The reply to a request at once, without a ticket, on a request whose body was read before: for a service that hands each reply on.
+    /// One Serve step whose reply is told at once, without a ticket, on a request whose body was read before: for a service that hands each
+    /// reply on. If the content of the reply is out of reach, the reply is the denial of N1.
     ///
-    /// `AllocError` if memory runs out for the reply or for the change. The core is then as it was.
-    pub fn answer(
+    /// `AllocError` if memory runs out. If no call of the wire fails and no slot is in doubt, each reply is the model's, and after
+    /// `AllocError` the core is as it was.
+    pub fn answer<W: Wire>(
         &mut self,
         alloc: Global,
         request: &Request,
         judged: Option<&Judged>,
         reading: Reading,
         moment: Moment,
+        wire: &mut W,
     ) -> Result<Reply, AllocError>
         requires judged { IsOfAsk (option_copied judged) request.now.ask }
         requires read { reading ≡ reading_of request.now }
-        ensures answered { IfOk result (λ reply. (s : State) → StandsFor self.old s
-            → (reply ≡ reply_in s request.now moment) × StandsFor self.new (served s request.now moment)) }
-        ensures refused { OnErr result (self.new ≡ self.old) }
+        ensures taken { (s : State) → StandsFor self.old s
+            → (s' : State) × (Takes s (Serve request.now moment) (has_faults (W.faults wire.old) (W.faults wire.new)) (told_answer result) s' × StandsFor self.new s') }
+        ensures steady { all_faults (W.faults wire.new) ≡ all_faults (W.faults wire.old) → AnswersSteadily self.old request.now moment result self.new }
+        ensures grown { Grows (W.faults wire.old) (W.faults wire.new) }
     {
-        serve_one(
+        let answer = serve_one(
             &mut self.slots,
             &self.spans,
             alloc,
@@ -162,97 +196,149 @@ impl<H: Histories> Core<H> {
             judged,
             reading,
             moment,
-        )
+            wire,
+        );
+        tell_now(alloc, answer, wire)
     }
 
-    /// One Fetch step: the reply of a ticket, which ends. Takes no memory.
+    /// One Fetch step: the reply of a ticket, which ends.
     ///
-    /// `NoSuchTicket` if the ticket was not given, or was fetched before. The core is then as it was.
-    pub fn fetch(&mut self, ticket: u64) -> Result<Outcome, StepFault>
+    /// `NoSuchTicket` if the ticket was not given, or was fetched before. `Unreachable` if every node with a copy of some content answered no,
+    /// and `NoMemory` if memory runs out: the ticket then stays.
+    pub fn fetch<W: Wire>(&mut self, ticket: u64, wire: &mut W) -> Result<Outcome, StepFault>
         ensures taken { (s : State) → StandsFor self.old s
-            → (s' : State) × (Takes s (Fetch ticket) false result s' × StandsFor self.new s') }
-        ensures refused { OnErr result (self.new ≡ self.old) }
+            → (s' : State) × (Takes s (Fetch ticket) (has_faults (W.faults wire.old) (W.faults wire.new)) result s' × StandsFor self.new s') }
+        ensures grown { Grows (W.faults wire.old) (W.faults wire.new) }
     {
-        fetch(&mut self.tickets, ticket)
+        let fetched = self.tickets.fetch(ticket, wire);
+        answered(fetched)
     }
 
-    /// One Split step: the slot of this number is split at a key, which is the first key of the upper half.
+    /// One Split step: the slot of this number is split at a key, which is the first key of the upper half. The slot settles its doubt first.
     ///
-    /// `Map` with the first cause that refuses the split, or if memory runs out for the split point; `NoMemory` if memory runs out for the
-    /// halves of the slot. The core is then as it was.
-    pub fn split(&mut self, alloc: Global, slot: usize, middle: &Key) -> Result<Outcome, StepFault>
+    /// `Map` with the first cause that refuses the split, or if memory runs out for the split point: nothing is settled then. `Busy` if nodes
+    /// that were needed did not answer, and `NoMemory` if memory runs out for the halves of the slot. After a fault nothing is changed, except
+    /// that a doubt may have ended.
+    pub fn split<W: Wire>(
+        &mut self,
+        alloc: Global,
+        slot: usize,
+        middle: &Key,
+        wire: &mut W,
+    ) -> Result<Outcome, StepFault>
         ensures taken { (s : State) → StandsFor self.old s
-            → (s' : State) × (Takes s (Split slot middle.now) false result s' × StandsFor self.new s') }
-        ensures refused { OnErr result (self.new ≡ self.old) }
+            → (s' : State) × (Takes s (Split slot middle.now) (has_faults (W.faults wire.old) (W.faults wire.new)) result s' × StandsFor self.new s') }
+        ensures grown { Grows (W.faults wire.old) (W.faults wire.new) }
     {
-        split(&mut self.slots, &mut self.spans, alloc, slot, middle)
+        split(&mut self.slots, &mut self.spans, alloc, slot, middle, wire)
+    }
+
+    /// One Settle, Seal, Load, Unload, Move or Repair step, on the slot with this number. All but Unload and Move settle the doubt of the slot
+    /// first.
+    ///
+    /// `NoSuchSlot` if no slot has the number, and `NoSuchExtent` if the stream of a repair has no sealed extent of the number. `Busy`, or
+    /// `Unreachable` of a repair, if nodes that were needed did not answer, and `NoMemory` if memory runs out. After a fault nothing is changed,
+    /// except that a doubt may have ended.
+    pub fn tend<W: Wire>(
+        &mut self,
+        alloc: Global,
+        slot: usize,
+        care: Care,
+        wire: &mut W,
+    ) -> Result<Outcome, StepFault>
+        ensures taken { (s : State) → StandsFor self.old s
+            → (s' : State) × (Takes s (step_of slot care) (has_faults (W.faults wire.old) (W.faults wire.new)) result s' × StandsFor self.new s') }
+        ensures grown { Grows (W.faults wire.old) (W.faults wire.new) }
+    {
+        tend(&mut self.slots, &self.spans, slot, care, alloc, wire)
     }
 
     // One Serve step, on a request whose body is not read yet.
-    fn serve_now(
+    fn serve_now<W: Wire>(
         &mut self,
         alloc: Global,
         request: &Request,
         moment: Moment,
+        wire: &mut W,
     ) -> Result<Outcome, StepFault>
         ensures taken { (s : State) → StandsFor self.old s
-            → (s' : State) × (Takes s (Serve request.now moment) false result s' × StandsFor self.new s') }
-        ensures refused { OnErr result (self.new ≡ self.old) }
+            → (s' : State) × (Takes s (Serve request.now moment) (has_faults (W.faults wire.old) (W.faults wire.new)) result s' × StandsFor self.new s') }
+        ensures grown { Grows (W.faults wire.old) (W.faults wire.new) }
     {
-        let _slots = &self.slots;
-        match Reading::of(alloc, request) {
-            Ok(reading) => self.serve(alloc, request, None, reading, moment),
-            Err(_) => Err(StepFault::NoMemory),
-        }
+        let answer = serve_unread(&mut self.slots, &self.spans, alloc, request, moment, wire);
+        tell(&mut self.tickets, alloc, answer, wire)
     }
 
-    /// Whether the core makes steps of this kind: Serve, Fetch and Split. All other kinds are of slots whose rows are in streams, or change
-    /// the key pairs.
+    /// Whether the core makes steps of this kind: all but Checkpoint, Compact and Rotate.
     pub fn makes(step: &Step) -> bool
         ensures { result ≡ kinds.makes step.now }
     {
-        matches!(
+        !matches!(
             step,
-            Step::Serve { .. } | Step::Fetch { .. } | Step::Split { .. }
+            Step::Checkpoint { .. } | Step::Compact { .. } | Step::Rotate { .. }
         )
     }
 
-    /// One step: it answers what the machine may answer, and leaves what the machine leaves, from each state that the core stands for.
-    ///
-    /// After a fault the core is as it was.
-    pub fn step(&mut self, alloc: Global, step: Step) -> Result<Outcome, StepFault>
+    /// One step: it answers what the machine may answer, and leaves what the machine leaves, from each state that the core stands for. That a
+    /// call failed is what the wire counts during the step.
+    pub fn step<W: Wire>(
+        &mut self,
+        alloc: Global,
+        step: Step,
+        wire: &mut W,
+    ) -> Result<Outcome, StepFault>
         requires { kinds.makes step ≡ true }
         ensures taken { (s : State) → StandsFor self.old s
-            → (s' : State) × (Takes s step false result s' × StandsFor self.new s') }
-        ensures refused { OnErr result (self.new ≡ self.old) }
+            → (s' : State) × (Takes s step (has_faults (W.faults wire.old) (W.faults wire.new)) result s' × StandsFor self.new s') }
+        ensures grown { Grows (W.faults wire.old) (W.faults wire.new) }
     {
         match step {
-            Step::Serve { request, moment } => self.serve_now(alloc, &request, moment),
-            Step::Fetch { ticket } => self.fetch(ticket),
-            Step::Split { slot, middle } => self.split(alloc, slot, &middle),
+            Step::Serve { request, moment } => self.serve_now(alloc, &request, moment, wire),
+            Step::Fetch { ticket } => self.fetch(ticket, wire),
+            Step::Split { slot, middle } => self.split(alloc, slot, &middle, wire),
+            Step::Settle { slot } => self.tend(alloc, slot, Care::Settle, wire),
+            Step::Seal { slot } => self.tend(alloc, slot, Care::Seal, wire),
+            Step::Load { slot } => self.tend(alloc, slot, Care::Load, wire),
+            Step::Unload { slot } => self.tend(alloc, slot, Care::Unload, wire),
+            Step::Move { slot, server } => self.tend(alloc, slot, Care::Move { server }, wire),
+            Step::Repair {
+                slot,
+                stream,
+                extent,
+                node,
+            } => {
+                let care = Care::Repair {
+                    stream,
+                    extent,
+                    node,
+                };
+                self.tend(alloc, slot, care, wire)
+            }
             _ => unreachable!(),
         }
     }
 
-    /// The steps in turn: their answers are a run of the machine, from each state that the core stands for, in which no call of a wire
-    /// fails.
+    /// The steps in turn: from each state that the core stands for their answers are a run of the machine, in which the wire counts the calls
+    /// that failed.
     ///
     /// `AllocError` if memory runs out for the answers. Then no step was made.
-    pub fn run(
+    pub fn run<W: Wire>(
         &mut self,
         alloc: Global,
         steps: Vec<Step>,
+        wire: &mut W,
     ) -> Result<Vec<Result<Outcome, StepFault>>, AllocError>
         requires { list_all kinds.makes steps.items ≡ true }
         ensures ran { IfOk result (λ answers. (s : State) → StandsFor self.old s
-            → (s' : State) × (IsRun s 0 steps.items answers.items s' 0 × StandsFor self.new s')) }
+            → (s' : State) × (IsRun s (all_faults (W.faults wire.old)) steps.items answers.items s' (all_faults (W.faults wire.new)) × StandsFor self.new s')) }
         ensures count { IfOk result (λ answers. length answers.items ≡ length steps.items) }
-        ensures unchanged { OnErr result (self.new ≡ self.old) }
+        ensures unchanged { OnErr result ((self.new ≡ self.old) × (W.faults wire.new ≡ W.faults wire.old)) }
+        ensures grown { Grows (W.faults wire.old) (W.faults wire.new) }
     {
         let mut answers = Vec::with_capacity(alloc, steps.len())?;
         let mut later = steps.into_iter();
         while let Some(step) = later.next() {
-            let answer = self.step(alloc, step);
+            let answer = self.step(alloc, step, wire);
             if answers.push(answer).is_err() {
                 unreachable!();
             }

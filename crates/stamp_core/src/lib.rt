@@ -1,9 +1,13 @@
-//! The core: slots that serve requests by the spans of their keys.
+//! The core: slots over streams, which serve requests by the spans of their keys and make the steps of the machine.
 #![tactic(auto)]
 
+mod care;
 mod cores;
 mod open_tickets;
 mod serving;
 mod splitting;
+mod telling;
+mod tending;
 
-pub use cores::Core;
+pub use care::Care;
+pub use cores::{Core, EXTENT_BYTES};

@@ -1,22 +1,25 @@
 //! One request on the slots of a core.
-ghost use Rattle.std.specs.Prelude.{◌≡◌, ◌≤◌, IfOk, OnErr, OnOk, length};
+ghost use Rattle.std.specs.Prelude.{◌≡◌, ◌≤◌, IfOk, length};
 ghost use Rattle.std.specs.Option.{option_copied};
+ghost use Rattle.extent_seal.specs.Counting.{Grows};
 ghost use Rattle.policy_book.specs.Judgements.{IsOfAsk};
 ghost use Rattle.range_rows.specs.Readings.{reading_of};
-ghost use Rattle.partition_map.specs.Spans.{bound_at, slot_of};
+ghost use Rattle.partition_map.specs.Spans.{slot_of};
 ghost use Rattle.stamp_model.specs.SeenContainers.{routed};
+ghost use Rattle.stored_slot.specs.Served.{Faulted};
 ghost use Rattle.stamp_core.specs.CoreSteps as steps;
-ghost use Rattle.stamp_core.specs.CoreSteps.{IsFetched, IsSlotReply, GivesOutcome, slots_after};
+ghost use Rattle.stamp_core.specs.CoreSteps.{IsServedBySlot};
 ghost use Rattle.stamp_core.specs.Ranges.{HaveSpans};
 
-use crate::open_tickets::OpenTickets;
-use core_run::{Outcome, StepFault};
+use extent_node::Wire;
 use partition_map::Spans;
 use policy_book::Judged;
 use range_rows::Reading;
-use slot_state::{Histories, Slot};
-use stamp_types::{Ask, Key, Moment, Op, Reply, Request, Text};
+use slot_state::Histories;
+use stamp_types::{Ask, Key, Moment, Request, Text};
 use std::alloc::{AllocError, Global};
+use stored_slot::StoredSlot;
+use tickets::Answer;
 
 // The key of the marker at which a List Containers begins.
 fn marked_key(alloc: Global, ask: &Ask) -> Result<Key, AllocError>
@@ -47,18 +50,9 @@ fn slot_for(spans: &Spans, alloc: Global, request: &Request) -> Result<usize, Al
     Ok(spans.find(&marked))
 }
 
-// The bound of the slot that serves the request.
-fn bound_for<'a>(spans: &'a Spans, at: usize, request: &Request) -> Option<&'a Key>
-    requires { at ≡ slot_of spans.now (routed request.now) }
-    ensures { option_copied result ≡ bound_at spans.now (routed request.now) }
-{
-    let _request = request;
-    spans.bound(at)
-}
-
-// The slot of this number serves the request, up to the bound of its span.
-fn serve_at<H: Histories>(
-    slots: &mut Vec<Slot<H>>,
+// The slot of this number serves the request.
+fn serve_at<H: Histories, W: Wire>(
+    slots: &mut Vec<StoredSlot<H>>,
     spans: &Spans,
     at: usize,
     alloc: Global,
@@ -66,79 +60,69 @@ fn serve_at<H: Histories>(
     judged: Option<&Judged>,
     reading: Reading,
     moment: Moment,
-) -> Result<Reply, AllocError>
+    wire: &mut W,
+) -> Answer
     requires before { HaveSpans slots.old.items spans.now }
     requires slot { at ≡ slot_of spans.now (routed request.now) }
     requires judged { IsOfAsk (option_copied judged) request.now.ask }
     requires read { reading ≡ reading_of request.now }
     ensures after { HaveSpans slots.new.items spans.now }
-    ensures reply { IfOk result (λ reply. IsSlotReply slots.old.items spans.now request.now moment reply) }
-    ensures made { OnOk result (slots.new.items ≡ slots_after slots.old.items spans.now request.now moment) }
-    ensures refused { OnErr result (slots.new.items ≡ slots.old.items) }
+    ensures served { IsServedBySlot slots.old.items spans.now request.now moment (Faulted (W.faults wire.old) (W.faults wire.new)) result slots.new.items }
+    ensures grown { Grows (W.faults wire.old) (W.faults wire.new) }
 {
-    let bound = bound_for(spans, at, request);
-    slots[at].serve_read(alloc, request, judged, reading, moment, bound)
+    let _spans = spans;
+    slots[at].serve_read(alloc, request, judged, reading, moment, wire)
 }
 
-/// The slot whose span has the first key of the request serves it, up to the bound of this span.
+/// The slot whose span has the first key of the request serves it.
 ///
-/// `AllocError` if memory runs out. The slots are then as they were.
-pub(crate) fn serve_one<H: Histories>(
-    slots: &mut Vec<Slot<H>>,
+/// NoMemory also if memory runs out for the first key of a List Containers. The slots are then as they were.
+#[tactic(auto, using(stored_rows::proofs::CountLemmas::grows_not))]
+pub(crate) fn serve_one<H: Histories, W: Wire>(
+    slots: &mut Vec<StoredSlot<H>>,
     spans: &Spans,
     alloc: Global,
     request: &Request,
     judged: Option<&Judged>,
     reading: Reading,
     moment: Moment,
-) -> Result<Reply, AllocError>
+    wire: &mut W,
+) -> Answer
     requires before { HaveSpans slots.old.items spans.now }
     requires judged { IsOfAsk (option_copied judged) request.now.ask }
     requires read { reading ≡ reading_of request.now }
     ensures after { HaveSpans slots.new.items spans.now }
-    ensures reply { IfOk result (λ reply. IsSlotReply slots.old.items spans.now request.now moment reply) }
-    ensures made { OnOk result (slots.new.items ≡ slots_after slots.old.items spans.now request.now moment) }
-    ensures refused { OnErr result (slots.new.items ≡ slots.old.items) }
+    ensures served { IsServedBySlot slots.old.items spans.now request.now moment (Faulted (W.faults wire.old) (W.faults wire.new)) result slots.new.items }
+    ensures grown { Grows (W.faults wire.old) (W.faults wire.new) }
 {
     match slot_for(spans, alloc, request) {
-        Ok(at) => serve_at(slots, spans, at, alloc, request, judged, reading, moment),
-        Err(fault) => {
+        Ok(at) => serve_at(
+            slots, spans, at, alloc, request, judged, reading, moment, wire,
+        ),
+        Err(AllocError) => {
             drop(reading);
-            Err(fault)
+            Answer::NoMemory
         }
     }
 }
 
-// Whether the reply has the content of a blob.
-fn has_content(request: &Request, reply: &Reply) -> bool
-    ensures { result ≡ steps.has_content request.now reply.now }
+/// The same of a request whose body is not read yet.
+#[tactic(auto, using(stored_rows::proofs::CountLemmas::grows_not))]
+pub(crate) fn serve_unread<H: Histories, W: Wire>(
+    slots: &mut Vec<StoredSlot<H>>,
+    spans: &Spans,
+    alloc: Global,
+    request: &Request,
+    moment: Moment,
+    wire: &mut W,
+) -> Answer
+    requires before { HaveSpans slots.old.items spans.now }
+    ensures after { HaveSpans slots.new.items spans.now }
+    ensures served { IsServedBySlot slots.old.items spans.now request.now moment (Faulted (W.faults wire.old) (W.faults wire.new)) result slots.new.items }
+    ensures grown { Grows (W.faults wire.old) (W.faults wire.new) }
 {
-    matches!(request.ask().op, Op::GetBlob) && reply.rule.is_none()
-}
-
-/// What is told of a reply: a ticket if the reply has the content of a blob, and else the reply itself. If no ticket can be given, the
-/// reply is told at once.
-pub(crate) fn tell(tickets: &mut OpenTickets, request: &Request, reply: Reply) -> Outcome
-    ensures { GivesOutcome request.now reply tickets.old result tickets.new }
-{
-    if !has_content(request, &reply) {
-        return Outcome::Reply(reply);
-    }
-    match tickets.hold(reply) {
-        Ok(number) => Outcome::Later(number),
-        Err(reply) => Outcome::Reply(reply),
-    }
-}
-
-/// The reply of a ticket, which ends.
-///
-/// `NoSuchTicket` if the ticket was not given, or was fetched before.
-#[tactic(auto, using(crate::proofs::TicketLemmas::none_again))]
-pub(crate) fn fetch(tickets: &mut OpenTickets, number: u64) -> Result<Outcome, StepFault>
-    ensures { IsFetched tickets.old number result tickets.new }
-{
-    match tickets.take(number) {
-        Some(reply) => Ok(Outcome::Reply(reply)),
-        None => Err(StepFault::NoSuchTicket),
+    match Reading::of(alloc, request) {
+        Ok(reading) => serve_one(slots, spans, alloc, request, None, reading, moment, wire),
+        Err(AllocError) => Answer::NoMemory,
     }
 }

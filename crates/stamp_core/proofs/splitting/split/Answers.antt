@@ -1,5 +1,6 @@
+use Rattle.stored_rows.specs.declared.faults.StoredFault.{StoredFault}
 use Rattle.stamp_core.proofs.RangeLemmas.{inside, within}
-use Rattle.stamp_core.proofs.SplitLemmas.{joined, one_point_more, spans_back, spans_made}
+use Rattle.stamp_core.proofs.SplitLemmas.{one_point_more, spans_back, spans_made, split_failed}
 use Rattle.stamp_core.proofs.splitting.split.Goals as goal
 
 pub halve_or_join-requires-clause-within : goal.halve_or_join-requires-clause-within
@@ -13,16 +14,16 @@ halve_or_join-requires-clause-split g c = one_point_more c.args.spans.now c.spli
 
 pub returns-in-Ok-clause-after : goal.returns-in-Ok-clause-after
 returns-in-Ok-clause-after g c =
-    spans_made c.args.slots.now.items c.halve_or_join.new.slots.items c.args.spans.now c.split.new.self c.halve_or_join.new.spans c.args.at c.args.middle.now
-    c.requires.before c.in-Ok.ensures.halved c.in_default.ensures.allowed c.in_default.ensures.split c.in-Ok.ensures.same_spans
+    spans_made c.args.slots.now.items c.halve_or_join.new.slots.items c.args.spans.now c.split.new.self c.halve_or_join.new.spans c.args.at c.args.middle.now c.requires.before c.in_default.ensures.allowed c.in_default.ensures.split
+    StoredFault tt c.in-Ok.ensures.halved c.in-Ok.ensures.same_spans
 
 pub returns-in-Err-halve_or_join-clause-after : goal.returns-in-Err-halve_or_join-clause-after
 returns-in-Err-halve_or_join-clause-after g c =
-    spans_back c.args.slots.now.items c.halve_or_join.new.slots.items c.args.spans.now c.split.new.self c.halve_or_join.new.spans c.args.at c.args.middle.now
-    c.requires.before c.in-Err-halve_or_join.ensures.refused c.in_default.ensures.allowed c.in_default.ensures.split c.in-Err-halve_or_join.ensures.joined
+    spans_back c.args.slots.now.items c.halve_or_join.new.slots.items c.args.spans.now c.split.new.self c.halve_or_join.new.spans c.args.at c.args.middle.now c.requires.before c.in_default.ensures.allowed c.in_default.ensures.split
+    c.in-Err-halve_or_join.ensures.halved c.in-Err-halve_or_join.ensures.joined
 
 pub returns-in-Err-halve_or_join-clause-split : goal.returns-in-Err-halve_or_join-clause-split
-returns-in-Err-halve_or_join-clause-split g c = (
-  c.in_default.ensures.allowed,
-  (c.in-Err-halve_or_join.ensures.refused, joined c.args.spans.now c.split.new.self c.halve_or_join.new.spans c.args.at c.args.middle.now c.in_default.ensures.allowed c.in_default.ensures.split c.in-Err-halve_or_join.ensures.joined),
-)
+returns-in-Err-halve_or_join-clause-split g c =
+    split_failed c.args.slots.now.items c.halve_or_join.new.slots.items c.args.spans.now c.split.new.self c.halve_or_join.new.spans c.args.at c.args.middle.now c.requires.before c.in_default.ensures.allowed c.in_default.ensures.split
+    c.in-Err-halve_or_join.fault (g.W.Wire.faults c.args.wire.now) (g.W.Wire.faults c.halve_or_join.new.wire) c.in-Err-halve_or_join.ensures.counted c.in-Err-halve_or_join.ensures.halved c.in-Err-halve_or_join.ensures.joined
+    c.fault_of_slot.result c.fault_of_slot.ensures

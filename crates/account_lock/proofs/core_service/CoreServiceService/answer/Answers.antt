@@ -3,4 +3,4 @@ use Rattle.account_lock.proofs.core_service.CoreServiceService.answer.Goals as g
 
 pub returns-clause-answered : goal.returns-clause-answered
 returns-clause-answered c =
-    answered_as c.answer.result c.self.inside.core c.args.self.now c.answer.new.self c.args.request c.args.moment c.self.view_is c.answer.ensures.answered
+    answered_as c.answer_steadily.result c.self.inside.core c.args.self.now c.answer_steadily.new.core c.args.request c.args.moment c.self.view_is c.answer_steadily.ensures.answered

@@ -1,0 +1,26 @@
+//! What is done to one slot, beside serving requests and splitting it.
+use extent_node::Node;
+use partition_stream::StreamName;
+
+/// What is done to one slot.
+#[derive(Clone, Copy)]
+pub enum Care {
+    /// Keep or drop the change that is in doubt.
+    Settle,
+    /// Seal the open extents.
+    Seal,
+    /// Read the rows from the streams.
+    Load,
+    /// Drop the rows from memory.
+    Unload,
+    /// Give the slot to another server.
+    Move {
+        server: u32,
+    },
+    /// Copy a sealed extent of one of the streams to a node, unless the node has the whole extent.
+    Repair {
+        stream: StreamName,
+        extent: u64,
+        node: Node,
+    },
+}

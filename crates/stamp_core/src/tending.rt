@@ -1,0 +1,113 @@
+//! What is done to one slot, beside serving requests and splitting it.
+ghost use Rattle.std.specs.Prelude.{◌≡◌};
+ghost use Rattle.extent_seal.specs.Counting.{Grows};
+ghost use Rattle.stored_slot.specs.Served.{Faulted};
+ghost use Rattle.stamp_core.specs.CoreSteps as steps;
+ghost use Rattle.stamp_core.specs.CoreSteps.{IsTended, IsTendedAt};
+ghost use Rattle.stamp_core.specs.Ranges.{HaveSpans};
+
+use crate::care::Care;
+use core_run::{Outcome, StepFault};
+use extent_node::Wire;
+use partition_map::Spans;
+use slot_state::Histories;
+use std::alloc::Global;
+use stored_rows::StoredFault;
+use stored_slot::StoredSlot;
+use stream_manager::RepairFault;
+
+/// Why a step on a slot fails.
+pub(crate) fn fault_of_slot(fault: StoredFault) -> StepFault
+    ensures { result ≡ steps.fault_of_slot fault }
+{
+    match fault {
+        StoredFault::Busy => StepFault::Busy,
+        StoredFault::NoMemory => StepFault::NoMemory,
+    }
+}
+
+// Why a repair fails.
+fn fault_of_repair(fault: RepairFault) -> StepFault
+    ensures { result ≡ steps.fault_of_repair fault }
+{
+    match fault {
+        RepairFault::NoSuchExtent => StepFault::NoSuchExtent,
+        RepairFault::Unreachable => StepFault::Unreachable,
+        RepairFault::NoMemory => StepFault::NoMemory,
+    }
+}
+
+// What a step answers whose call of the slot ended so.
+fn slot_answer(called: Result<(), StoredFault>) -> Result<Outcome, StepFault>
+    ensures { result ≡ steps.slot_answer called }
+{
+    match called {
+        Ok(()) => Ok(Outcome::Made),
+        Err(fault) => Err(fault_of_slot(fault)),
+    }
+}
+
+// What a repair answers that ended so.
+fn repair_answer(called: Result<(), RepairFault>) -> Result<Outcome, StepFault>
+    ensures { result ≡ steps.repair_answer called }
+{
+    match called {
+        Ok(()) => Ok(Outcome::Made),
+        Err(fault) => Err(fault_of_repair(fault)),
+    }
+}
+
+// Takes this care of a slot.
+#[tactic(auto, using(stored_rows::proofs::CountLemmas::grows_not))]
+fn tend_slot<H: Histories, W: Wire>(
+    slot: &mut StoredSlot<H>,
+    care: Care,
+    alloc: Global,
+    wire: &mut W,
+) -> Result<Outcome, StepFault>
+    ensures tended { IsTended care slot.old (Faulted (W.faults wire.old) (W.faults wire.new)) result slot.new }
+    ensures grown { Grows (W.faults wire.old) (W.faults wire.new) }
+{
+    match care {
+        Care::Settle => slot_answer(slot.settle(alloc, wire)),
+        Care::Seal => slot_answer(slot.seal(alloc, wire)),
+        Care::Load => slot_answer(slot.load(alloc, wire)),
+        Care::Unload => {
+            slot.unload();
+            Ok(Outcome::Made)
+        }
+        Care::Move { server } => {
+            slot.move_to(server);
+            Ok(Outcome::Made)
+        }
+        Care::Repair {
+            stream,
+            extent,
+            node,
+        } => repair_answer(slot.repair(alloc, stream, extent, node, wire)),
+    }
+}
+
+/// Takes this care of the slot with this number.
+///
+/// `NoSuchSlot` if no slot has the number.
+#[tactic(auto, using(stored_rows::proofs::CountLemmas::grows_not))]
+pub(crate) fn tend<H: Histories, W: Wire>(
+    slots: &mut Vec<StoredSlot<H>>,
+    spans: &Spans,
+    at: usize,
+    care: Care,
+    alloc: Global,
+    wire: &mut W,
+) -> Result<Outcome, StepFault>
+    requires before { HaveSpans slots.old.items spans.now }
+    ensures after { HaveSpans slots.new.items spans.now }
+    ensures tended { IsTendedAt slots.old.items at care (Faulted (W.faults wire.old) (W.faults wire.new)) result slots.new.items }
+    ensures grown { Grows (W.faults wire.old) (W.faults wire.new) }
+{
+    let _spans = spans;
+    if at >= slots.len() {
+        return Err(StepFault::NoSuchSlot);
+    }
+    tend_slot(&mut slots[at], care, alloc, wire)
+}
