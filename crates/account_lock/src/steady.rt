@@ -29,12 +29,11 @@ impl NodeCounts {
     fn add(&mut self, node: Node)
         ensures { CountsCall node (node_counts self.old) (node_counts self.new) }
     {
-        let count = match node {
-            Node::Zero => &mut self.zero,
-            Node::One => &mut self.one,
-            Node::Two => &mut self.two,
-        };
-        *count = count.saturating_add(1);
+        match node {
+            Node::Zero => self.zero = self.zero.saturating_add(1),
+            Node::One => self.one = self.one.saturating_add(1),
+            Node::Two => self.two = self.two.saturating_add(1),
+        }
     }
 }
 

@@ -1,8 +1,8 @@
 use Rattle.account_lock.proofs.HistoryLemmas.{calm_left, stands_now}
 use Rattle.account_lock.proofs.lock.Locked.answer.Goals as goal
 
-pub answer_by-reply-requires-clause-calm : goal.answer_by-reply-requires-clause-calm
-answer_by-reply-requires-clause-calm g c =
+pub answer_by-requires-clause-calm : goal.answer_by-requires-clause-calm
+answer_by-requires-clause-calm g c =
     calm_left g.A.Account.keys c.in-Ok.core c.args.self.now (stands_now g.A.Account.keys c.self.inside.core c.in-Ok.core c.self.inside.front c.args.self.now _ c.self.invariant.0 c.in-Ok.is c.self.view_is)
 
 pub returns-clause-answered : goal.returns-clause-answered
