@@ -39,6 +39,8 @@ mod record_write_tests;
 #[cfg(test)]
 mod repair_tests;
 #[cfg(test)]
+mod row_checkpoint_tests;
+#[cfg(test)]
 mod sample_acts;
 #[cfg(test)]
 mod sample_fields;

@@ -1,0 +1,9 @@
+pub mod AgainLemmas
+pub mod CountLemmas
+pub mod EntryLemmas
+pub mod PlacedLemmas
+pub mod ReadyLemmas
+pub mod RowLemmas
+pub mod WalkLemmas
+pub mod WritableLemmas
+pub mod WriteLemmas

@@ -1,0 +1,41 @@
+use Rattle.std.proofs.Common.{map, subst, sym}
+use Rattle.row_trees.specs.RowRecords.{blob_row_of}
+use Rattle.checkpoint_rows.specs.Writing.{HasRows, recorded}
+use Rattle.checkpoint_rows.proofs.CountLemmas.{grows_none, grows_twice}
+use Rattle.checkpoint_rows.proofs.ReadyLemmas.{first_ready}
+use Rattle.checkpoint_rows.proofs.WriteLemmas.{blob_more, no_more}
+use Rattle.checkpoint_rows.proofs.writing.add_blobs.Goals as goal
+
+pub loop-name-init : goal.loop-name-init
+loop-name-init g c = record { can = tt; ends = tt; whole = c.requires.whole; ready = c.requires.ready; written = λ t has. has; counted = grows_none (g.W.Wire.faults c.args.wire.now) }
+
+pub add_blob-requires-clause-whole : goal.add_blob-requires-clause-whole
+add_blob-requires-clause-whole g c = c.loop-name.invariant.whole
+
+pub add_blob-requires-clause-writable : goal.add_blob-requires-clause-writable
+add_blob-requires-clause-writable g c =
+    (first_ready c.args.key.now c.loop-name.left c.next.new.self (c.in-Some.name.now, c.in-Some.blob) c.in-Some.ensures.steps c.loop-name.invariant.ready).0.0
+
+pub add_blob-requires-clause-placed : goal.add_blob-requires-clause-placed
+add_blob-requires-clause-placed g c =
+    (first_ready c.args.key.now c.loop-name.left c.next.new.self (c.in-Some.name.now, c.in-Some.blob) c.in-Some.ensures.steps c.loop-name.invariant.ready).0.1
+
+pub loop-name-preserved : goal.loop-name-preserved
+loop-name-preserved g c = record {
+  can = tt;
+  ends = tt;
+  whole = c.in_ok-add_blob.ensures.written.whole;
+  ready = (first_ready c.args.key.now c.loop-name.left c.next.new.self (c.in-Some.name.now, c.in-Some.blob) c.in-Some.ensures.steps c.loop-name.invariant.ready).1;
+  written = λ t has.
+      c.loop-name.invariant.written t (subst (λ l. HasRows c.loop-name.new (map (recorded c.args.key.now) (map blob_row_of l)) t) (sym c.in-Some.ensures.steps)
+      (blob_more c.loop-name.new c.add_blob.new.new t c.args.key.now (c.in-Some.name.now, c.in-Some.blob) c.next.new.self c.in_ok-add_blob.ensures.written has));
+  counted = grows_twice (g.W.Wire.faults c.args.wire.now) (g.W.Wire.faults c.loop-name.wire) (g.W.Wire.faults c.add_blob.new.wire) c.loop-name.invariant.counted c.in_ok-add_blob.ensures.counted;
+}
+
+pub returns-clause-written : goal.returns-clause-written
+returns-clause-written g c =
+    c.loop-name.invariant.written c.loop-name.new
+    (subst (λ l. HasRows c.loop-name.new (map (recorded c.args.key.now) (map blob_row_of l)) c.loop-name.new) (sym c.in_default.ensures.steps.0) (no_more c.loop-name.new c.loop-name.invariant.whole))
+
+pub returns-clause-counted : goal.returns-clause-counted
+returns-clause-counted g c = c.loop-name.invariant.counted
