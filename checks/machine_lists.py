@@ -34,7 +34,7 @@ KINDS = {
 
 
 def request(verb, path, moment, headers=(), body=b"", key=KEYS[0]):
-    """A request as bytes, signed by a key, or without a signature if there is no key."""
+    """A request as bytes, signed by a key, or without a signature if no key is given."""
     fields = [("x-ms-date", http_date(moment)), ("x-ms-version", "2012-02-12"), *headers]
     fields += [("Content-Length", len(body))] if verb == "PUT" else []
     head = f"{verb} /{ACCOUNT}{path} HTTP/1.1\r\n" + "".join(f"{name}: {value}\r\n" for name, value in fields)

@@ -11,7 +11,7 @@ import time
 
 import shown
 
-# The server keeps 16 descriptors for what is no connection.
+# The server keeps 16 descriptors for what is not a connection.
 DESCRIPTORS, PLACES = 24, 8
 REQUEST = b"GET /devstoreaccount1/pics/a.txt HTTP/1.1\r\n\r\n"
 HEAD, BODY = REQUEST[:9], b"PUT /devstoreaccount1/pics/a.txt HTTP/1.1\r\nx-ms-blob-type: BlockBlob\r\nContent-Length: 9\r\n\r\nabc"

@@ -178,7 +178,7 @@ module _ (Fa Fb : Type 0) (b : Bool) (first : Fa → b ≡ true) (later : Fb →
           ),
         )
 
-  -- the step, where c is the value that contracts see
+  -- the step; c is the value that contracts see
   pub serve_at_core : (c seen : CoreState) → c ≡ seen → HaveSpans c.slots c.points → (q : Asked) (t : ℕ) (a : answers.Answer) (slots' : List SlotState) (o : Answer) (tickets : List (Option replies.Reply))
       → IsServedBySlot c.slots c.points q t Fa a slots' → TellsAnswer a c.tickets Fb o tickets → (s : State) → StandsFor seen s
       → (s' : State) × (Takes s (step.Serve q t) b o s' × StandsFor (record { slots = slots'; points = c.points; tickets = tickets }) s')
@@ -317,7 +317,7 @@ module _ (F : Type 0) (b : Bool) (failed : F → b ≡ true) (c : CoreState) (n 
   pub fetch_step : (r : Result replies.Reply StepFault) (new : Option replies.Reply) (tickets : List (Option replies.Reply)) → IsTicketFetched (held_reply c.tickets n) F r new → tickets ≡ left_after r c.tickets n → Fetched r tickets
   fetch_step r new tickets is left = subst (λ (ts : List (Option replies.Reply)). Fetched r ts) (sym left) (fetched_by r new is)
 
--- the step, where c is the value that contracts see
+-- the step; c is the value that contracts see
 pub fetch_at_core : (F : Type 0) (b : Bool) → (F → b ≡ true) → (c seen : CoreState) → c ≡ seen → (n : ℕ) (r : Result replies.Reply StepFault) (new : Option replies.Reply) (tickets : List (Option replies.Reply)) (o : Answer)
     → IsTicketFetched (held_reply c.tickets n) F r new → tickets ≡ left_after r c.tickets n → o ≡ fetch_answer r → (s : State) → StandsFor seen s
     → (s' : State) × (Takes s (step.Fetch n) b o s' × StandsFor (record { slots = c.slots; points = c.points; tickets = tickets }) s')

@@ -160,7 +160,7 @@ module _ (F : Type 0) (b : Bool) (failed : F → b ≡ true) (c : CoreState) (s 
       let made = tended_takes p.0 p.1.0 x p.1.1.0 in
       (made.0, (made.1.0, subst (λ (hs : List SlotState). StandsFor (record c { slots = hs }) made.0) (sym p.1.1.1) made.1.1))
 
--- the step, where c is the value that contracts see
+-- the step; c is the value that contracts see
 pub tend_at_core : (F : Type 0) (b : Bool) → (F → b ≡ true) → (c seen : CoreState) → c ≡ seen → (i : ℕ) (x : Care) (r : Answer) (slots' : List SlotState) → IsTendedAt c.slots i x F r slots'
     → (s : State) → StandsFor seen s → (s' : State) × (Takes s (step_of i x) b r s' × StandsFor (record { slots = slots'; points = c.points; tickets = c.tickets }) s')
 tend_at_core F b failed c seen same i x r slots' is s stands = tend_step F b failed c s (subst (λ (y : CoreState). StandsFor y s) (sym same) stands) i r x slots' is

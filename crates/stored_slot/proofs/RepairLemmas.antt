@@ -36,7 +36,7 @@ pub unrepaired_fails : (f : StoredFault) (g : RepairFault) (a b : Calls) → g �
 unrepaired_fails stored.Busy g a b is counted = subst (λ (x : RepairFault). FailsRepair (Err x) a b) (sym is) counted
 unrepaired_fails stored.NoMemory g a b is counted = subst (λ (x : RepairFault). FailsRepair (Err x) a b) (sym is) counted
 
--- that there is no such extent is not what a failed settle says
+-- a failed settle does not say that the extent does not exist
 pub unrepaired_unrefused : (f : StoredFault) (g : RepairFault) (T : Type 0) → g ≡ repair_fault_of f → failed g ≡ failed repair.NoSuchExtent → T
 unrepaired_unrefused stored.Busy g T is wrong = let no : failed repair.Unreachable ≡ failed repair.NoSuchExtent = ap failed (sym is) ∙ wrong in absurd cc
 unrepaired_unrefused stored.NoMemory g T is wrong = let no : failed repair.NoMemory ≡ failed repair.NoSuchExtent = ap failed (sym is) ∙ wrong in absurd cc
@@ -62,7 +62,7 @@ module _ (pairs : Pairs) (h h' : Histories) (s t : Stored) (d d' : Option Past) 
   pub repair_left : (u : Stored) (r : Result (Unit {0}) RepairFault) → MeansTheSame t u → LeavesRepaired r (slot_with pairs h s d) (slot_with pairs h' u d')
   repair_left u r same = left_repaired r (slot_with pairs h s d) (slot_with pairs h' t d') (slot_with pairs h' u d') settled (slot_same pairs h' t u d' same.range)
 
--- there is no such extent after the repair if there was none before it
+-- the extent does not exist after the repair if it did not exist before it
 pub refused_still : (part : StreamName) (e : ℕ) (s t : Stored) (r : Result (Unit {0}) RepairFault) → ((r ≡ failed repair.NoSuchExtent) ↔ (length (stream_of part s.streams).sealed ≤ e)) → OnErr r (t ≡ s)
     → r ≡ failed repair.NoSuchExtent → length (stream_of part t.streams).sealed ≤ e
 refused_still part e s t (Ok u) refused same is = cc
