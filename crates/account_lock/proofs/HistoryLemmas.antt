@@ -49,7 +49,7 @@ pub stands_now : {F : Type 0} (keys : Keys) (r : Result CoreState F) (core : Cor
 stands_now {F} keys r core front history Q holds is same =
     subst (λ (l : List Entered). StandsFor core (state_left keys l)) same (subst (λ (x : Result CoreState F). MatchResult x (λ c. StandsFor c (state_left keys front)) Q) is holds)
 
--- a core that stands for the state after entries is not in doubt
+-- no slot is in doubt in a core of the state after entries
 pub calm_left : (keys : Keys) (c : CoreState) (history : List Entered) → StandsFor c (state_left keys history) → IsCalm c
 calm_left keys c history stands = calm_of keys c (state_left keys history) stands (left_from keys (opening_of keys) history (of_opening keys)).0
 
