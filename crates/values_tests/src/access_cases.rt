@@ -162,8 +162,8 @@ pub(crate) fn verdict_under(rt: &impl Abort, alloc: Global, case: &Case, keys: &
     verdict(alloc, Some(keys), acl, &request, now).expect(rt, "memory")
 }
 
-// A Get Blob of `a.txt` in `pics` whose query has these parameters.
-fn get_with(rt: &impl Abort, alloc: Global, query: &[(&str, &str)]) -> Request {
+/// A Get Blob of `a.txt` in `pics` whose query has these parameters.
+pub(crate) fn get_with(rt: &impl Abort, alloc: Global, query: &[(&str, &str)]) -> Request {
     let mut fields = FieldList::new(alloc);
     for (name, value) in query {
         let pushed = fields.push(name.as_bytes(), value.as_bytes());

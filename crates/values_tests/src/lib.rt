@@ -8,6 +8,8 @@ mod authorization_tests;
 #[cfg(test)]
 mod base64_tests;
 #[cfg(test)]
+mod book_tests;
+#[cfg(test)]
 mod change_tests;
 #[cfg(test)]
 mod field_tests;
