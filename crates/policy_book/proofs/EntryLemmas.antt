@@ -9,7 +9,7 @@ use Rattle.access_rules.specs.declared.judgement.Way.{Way}
 use Rattle.access_rules.specs.declared.keys.Keys.{Keys}
 use Rattle.access_rules.specs.Rules.{first_rule, holds, verdict_by, verdict_of, way_of}
 use Rattle.access_rules.proofs.OrderLemmas.{first_named}
-use Rattle.policy_book.specs.Entries.{Entered, IsTrueEntry}
+use Rattle.policy_book.specs.Entries.{AuditEntry, IsTrueEntry}
 
 allowed_by : (r : Option Rule) (own way : Way) → verdict_by r own ≡ Allow way → (r ≡ None) × (way ≡ own)
 allowed_by None own way e = (refl, let f : Allow own ≡ Allow way = e in cc)
@@ -40,7 +40,7 @@ allowed_under k k' a a' q t v way is keys acl found =
     (λ some. not_some (first_rule k' a' q t) by_none.0 some, by_none.1)
 
 -- no rule refuses the request of a true entry, and the way of the entry is the route of its request
-pub is_allowed : (e : Entered) → IsTrueEntry e → (first_rule e.revision.keys e.revision.acl e.request.ask e.moment ≡ None) × (e.way ≡ way_of e.request.ask.credential)
+pub is_allowed : (e : AuditEntry) → IsTrueEntry e → (first_rule e.revision.keys e.revision.acl e.request.ask e.moment ≡ None) × (e.way ≡ way_of e.request.ask.credential)
 is_allowed e is = allowed_by (first_rule e.revision.keys e.revision.acl e.request.ask e.moment) (way_of e.request.ask.credential) e.way is.allowed
 
 -- if the verdict on a request allows it, each rule by itself does not hold

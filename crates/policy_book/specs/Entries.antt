@@ -10,7 +10,7 @@ use Rattle.policy_book.specs.Judgements.{Revised}
 
 -- a request at a moment, how many changes its container had taken before, the way by which it was allowed, and the access and the
 -- keys that allowed it
-pub record Entered : Type 0 where
+pub record AuditEntry : Type 0 where
   pub request : Asked
   pub place : ℕ
   pub way : Way
@@ -18,12 +18,12 @@ pub record Entered : Type 0 where
   pub revision : Revised
 
 -- the entry of a request, without the body of the request
-abbrev pub entry_of : Asked → ℕ → Way → ℕ → Revised → Entered
-entry_of q place way t r = record { request = record q { body = [] }; place = place; way = way; moment = t; revision = r }
+abbrev pub audit_entry_of : Asked → ℕ → Way → ℕ → Revised → AuditEntry
+audit_entry_of q place way t r = record { request = record q { body = [] }; place = place; way = way; moment = t; revision = r }
 
 -- the entry is true: the verdict on its request at its moment, under the access and the keys of its revision, is that its way allows
 -- the request; and it keeps no body
-pub record IsTrueEntry (e : Entered) : Type 0 where
+pub record IsTrueEntry (e : AuditEntry) : Type 0 where
   pub allowed : verdict_of e.revision.keys e.revision.acl e.request.ask e.moment ≡ Allow e.way
   pub no_body : e.request.body ≡ []
 
@@ -38,5 +38,5 @@ limit_in [] = 0
 limit_in (limit ∷ others) = limit
 
 -- the receipt is of this book, so the book has the entry of the receipt at the index of the receipt
-abbrev pub IsReceiptOf : Shelved → Where Entered → Type 0
+abbrev pub IsReceiptOf : Shelved → Where AuditEntry → Type 0
 IsReceiptOf book receipt = Shows book.shelves receipt

@@ -57,9 +57,9 @@ pub struct Receipt {
 
 impl Model for Receipt {
     ghost use Rattle.boxcar.specs.Table.{Where};
-    ghost use Rattle.policy_book.specs.Entries.{Entered};
+    ghost use Rattle.policy_book.specs.Entries.{AuditEntry};
 
-    ghost Value = { Where Entered };
+    ghost Value = { Where AuditEntry };
 
     ghost view = { λ r. r.placed };
 }

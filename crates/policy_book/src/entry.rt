@@ -2,7 +2,7 @@
 ghost use Rattle.std.specs.Prelude.{◌≡◌, IfOk, IsNone, IfSome, IsSome, ◌↔◌};
 ghost use Rattle.access_rules.specs.declared.judgement.Verdict.TheVariants.{Allow};
 ghost use Rattle.access_rules.specs.Rules.{first_rule, verdict_of, way_of};
-ghost use Rattle.policy_book.specs.Entries.{IsTrueEntry, entry_of};
+ghost use Rattle.policy_book.specs.Entries.{IsTrueEntry, audit_entry_of};
 
 use crate::revision::Revision;
 use access_rules::{Verdict, Way, verdict};
@@ -24,9 +24,9 @@ pub struct Entry {
 }
 
 impl Model for Entry {
-    ghost use Rattle.policy_book.specs.Entries.{Entered, IsTrueEntry};
+    ghost use Rattle.policy_book.specs.Entries.{AuditEntry, IsTrueEntry};
 
-    ghost Value = { Entered };
+    ghost Value = { AuditEntry };
 
     ghost view = { λ e. record { request = e.request; place = e.place; way = e.way; moment = e.moment; revision = e.revision } };
 
@@ -65,7 +65,7 @@ impl Entry {
         revision: Revision,
     ) -> Result<Self, AllocError>
         requires { verdict_of revision.keys revision.acl request.now.ask moment ≡ Allow way }
-        ensures { IfOk result (λ e. e ≡ entry_of request.now place way moment revision) }
+        ensures { IfOk result (λ e. e ≡ audit_entry_of request.now place way moment revision) }
     {
         let request = request.without_body()?;
         Ok(Self {
@@ -91,7 +91,7 @@ impl Entry {
         ensures refused { IfOk result (λ o.
             IsNone o ↔ IsSome (first_rule revision.keys revision.acl request.now.ask moment)) }
         ensures value { IfOk result (λ o. IfSome o (λ e.
-            e ≡ entry_of request.now place (way_of request.now.ask.credential) moment revision)) }
+            e ≡ audit_entry_of request.now place (way_of request.now.ask.credential) moment revision)) }
     {
         let Some(way) = way_under(alloc, &revision, request, moment)? else {
             return Ok(None);
