@@ -92,7 +92,7 @@ impl Part {
 
     /// The bytes. No byte is copied. If they were read already, no node is called.
     ///
-    /// Unreachable: every node with a copy of the extent was asked, and answered no.
+    /// Unreachable: every node with a copy of the extent was asked, and answered no. NoMemory: the bytes can have no further owner.
     pub fn fetch<W: Wire>(&self, wire: &mut W) -> Result<Share, ReadFault>
         ensures read { IfOk result (λ s. s ≡ self.now.bytes) }
         ensures unheard { self.now.is_read ≡ true → wire.new ≡ wire.old }

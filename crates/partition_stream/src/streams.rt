@@ -83,8 +83,8 @@ impl Streams {
 
     /// Puts content into the data, a block for each piece, and answers the pieces that say where these blocks are. No byte is copied.
     ///
-    /// After a fault blocks may be left in the data to which nothing refers. NoMemory: memory ran out before a node was called for a
-    /// block. No block before it was excluded twice, and no seal failed.
+    /// After a fault blocks may be left in the data to which nothing refers. Busy: a block was tried twice, or no node answered a seal.
+    /// NoMemory: memory ran out before a node was called for a block. No block before it was excluded twice, and no seal failed.
     pub fn put_data<W: Wire>(&mut self, content: &Pieces, wire: &mut W) -> Result<Pieces, PutFault>
         requires { IsTrue (is_held content.now) }
         ensures placed { IfOk result (λ ps. ArePlaced (laid self.new.blobs) content.now ps) }
@@ -101,6 +101,8 @@ impl Streams {
 
     /// Appends the record of a change with its epoch to the log. An older doubt is settled first.
     ///
+    /// Busy: the change is not in the log, since its record was tried twice, or no node answered the seal of a full extent or of an older
+    /// doubt. Doubt: some delivery was not Done, and then no node answered; the change is in doubt until the next settle, seal or change.
     /// NoMemory: no node was called, and the streams are as they were.
     pub fn log_change<W: Wire>(
         &mut self,
@@ -123,6 +125,8 @@ impl Streams {
 
     /// Settles a doubt of the log, if there is one: the change that is in doubt is kept or dropped. A change that is kept has its record
     /// at the place that is answered.
+    ///
+    /// Busy: no node answered. NoMemory: no node was called. After both the streams are as they were, and the doubt stays.
     pub fn settle<W: Wire>(&mut self, wire: &mut W) -> Result<Settled, SettleFault>
         ensures settled { IsLogSettled result self.old self.new }
         ensures at { IsKeptAt result self.old.log self.new.log }
@@ -182,7 +186,8 @@ impl Streams {
 
     /// Seals the log, then the data, and then the rows, and settles their doubts. A stream whose last extent is empty is left as it is.
     ///
-    /// After a fault the streams before the one that failed are sealed.
+    /// Busy: no node answered the seal of a stream. NoMemory: no node was called for a stream. After both the streams before this one are
+    /// sealed.
     pub fn seal<W: Wire>(&mut self, wire: &mut W) -> Result<(), SettleFault>
         ensures sealed { OnOk result (AreSealed self.new) }
         ensures log { IsLogSealed result self.old self.new }
@@ -222,7 +227,7 @@ impl Streams {
 
     /// The bytes of a piece from `start` up to but not including `end`. No byte is copied.
     ///
-    /// Unreachable: every node with a copy was asked, and answered no.
+    /// Unreachable: every node with a copy was asked, and answered no. NoMemory: the bytes can have no further owner.
     pub fn read_part<W: Wire>(
         &self,
         piece: &Piece,
@@ -255,7 +260,7 @@ impl Streams {
     ///
     /// If the block of the piece is in the last extent of the data, the bytes are read now. If it is in a sealed extent, no node is
     /// called, and this extent gets its count of owners when it is first shared. Unreachable: each node was asked for a block of the
-    /// last extent, and answered no.
+    /// last extent, and answered no. NoMemory: memory ran out for the count of owners, or the bytes can have no further owner.
     pub fn part<W: Wire>(
         &mut self,
         piece: &Piece,
@@ -343,7 +348,8 @@ impl Streams {
     /// position then stays after the last change.
     ///
     /// The changes of the rows come first, and then those of the log, each in the order in which they were made. A change that is in
-    /// doubt is not among them. After a fault no change was passed.
+    /// doubt is not among them. After a fault no change was passed. Unreachable: every node with a copy of a block was asked, and answered
+    /// no. NoMemory: memory ran out for the change, or its block can have no further owner.
     pub fn next_change<W: Wire>(
         &self,
         position: &mut Position,

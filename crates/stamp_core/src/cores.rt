@@ -109,6 +109,8 @@ impl<H: Histories> Core<H> {
     }
 
     /// The same, with at most `EXTENT_BYTES` bytes in an extent of two or more blocks.
+    ///
+    /// `AllocError` if memory runs out for the slot.
     pub fn of_pairs(alloc: Global, pairs: Arc<AccountPairs>) -> Result<Self, AllocError>
         ensures value { IfOk result (λ core. core ≡ first_core (arc_value pairs)) }
         ensures stands { IfOk result (λ core. StandsFor core (opening (arc_value pairs))) }
@@ -281,6 +283,9 @@ impl<H: Histories> Core<H> {
 
     /// One step: it answers what the machine may answer, and leaves what the machine leaves, from each state that the core stands for. That a
     /// call failed is what the wire counts during the step.
+    ///
+    /// The faults are those of [`serve`](Core::serve), [`fetch`](Core::fetch), [`split`](Core::split) and [`tend`](Core::tend). `NoMemory` also
+    /// if memory runs out while the body of a Serve step is read: then the core is as it was.
     pub fn step<W: Wire>(
         &mut self,
         alloc: Global,

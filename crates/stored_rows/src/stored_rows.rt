@@ -174,7 +174,7 @@ impl StoredRows {
     /// The bytes of a piece from `start` up to but not including `end`, to be read without the rows and their streams. No byte is copied.
     ///
     /// If the block of the piece is in the last extent of the data, the bytes are read now. Unreachable: each node was asked for a block of
-    /// the last extent, and answered no.
+    /// the last extent, and answered no. NoMemory: memory ran out, or the bytes can have no further owner.
     pub fn part<W: Wire>(
         &mut self,
         piece: &Piece,
@@ -225,8 +225,8 @@ impl StoredRows {
     /// Puts the content of a change into the data, logs the change with its epoch, and then makes it in the rows that are loaded. No byte is
     /// copied.
     ///
-    /// If the rows find no memory they are dropped, and the change is counted. After a fault the change is not counted; blocks may be
-    /// left in the data to which nothing refers.
+    /// If the rows find no memory they are dropped, and the change is counted. Busy and NoMemory: the change is not counted. Doubt: it is
+    /// not known whether it is counted until the next settle. After a fault blocks may be left in the data to which nothing refers.
     pub fn take<W: Wire>(
         &mut self,
         change: Change,
@@ -247,7 +247,8 @@ impl StoredRows {
 
     /// Makes the rows of the changes that the streams keep, if they are not loaded.
     ///
-    /// After a fault they are not loaded, as before. Busy: each node with a copy of some extent was asked, and answered no.
+    /// After a fault they are not loaded, as before. Busy: each node with a copy of some extent was asked, and answered no. NoMemory: memory
+    /// ran out for the rows.
     pub fn load<W: Wire>(&mut self, wire: &mut W) -> Result<(), StoredFault>
         ensures loaded { OnOk result (self.new ≡ record self.old { is_loaded = true }) }
         ensures refused { OnErr result (self.new ≡ self.old) }
@@ -270,7 +271,8 @@ impl StoredRows {
 
     /// Settles a change that is in doubt, if there is one. If it is kept, the rows that are loaded make it.
     ///
-    /// If the rows find no memory for it they are dropped, and the change is counted. After a fault the doubt is as it was.
+    /// If the rows find no memory for it they are dropped, and the change is counted. Busy: no node answered. NoMemory: no node was called.
+    /// After both the doubt is as it was.
     pub fn settle<W: Wire>(&mut self, wire: &mut W) -> Result<Ended, StoredFault>
         ensures settled { SettlesRows result self.old self.new }
         ensures data { self.new.streams.blobs ≡ self.old.streams.blobs }
@@ -281,7 +283,9 @@ impl StoredRows {
         note_settled(self.alloc, &mut self.rows, &mut self.doubt, settled)
     }
 
-    /// Seals the streams.
+    /// Seals the streams. Each container is as it was, also after a fault.
+    ///
+    /// Busy: no node answered the seal of a stream. NoMemory: memory ran out.
     pub fn seal<W: Wire>(&mut self, wire: &mut W) -> Result<(), StoredFault>
         requires sure { doubt_of self.old ≡ None }
         ensures same { MeansTheSame self.old self.new }
@@ -323,7 +327,7 @@ impl StoredRows {
     /// Cuts the range at a key: what is below the key stays, and what is from the key on is answered. Both halves share the sealed extents.
     /// Both halves are loaded if the rows were loaded.
     ///
-    /// After a fault nothing was cut.
+    /// After a fault nothing was cut. Busy: no node answered the seal of a stream. NoMemory: memory ran out.
     pub fn cut<W: Wire>(&mut self, middle: &Key, wire: &mut W) -> Result<Self, StoredFault>
         requires sure { doubt_of self.old ≡ None }
         requires covered { covers self.old.range middle.now ≡ true }

@@ -158,7 +158,7 @@ impl<H: Histories> StoredSlot<H> {
 
     /// Settles the change that is in doubt, if there is one: it is kept with the moment and the epoch at which it was served, or it is dropped.
     ///
-    /// After a fault nothing is changed, and the doubt is as it was. Busy: nodes that were needed did not answer.
+    /// After a fault nothing is changed, and the doubt is as it was. Busy: nodes that were needed did not answer. NoMemory: memory ran out.
     pub fn settle<W: Wire>(&mut self, alloc: Global, wire: &mut W) -> Result<(), StoredFault>
         ensures settled { SettlesOrFails result self.old self.new }
         ensures counted { FailsStored result (W.faults wire.old) (W.faults wire.new) }
@@ -182,7 +182,8 @@ impl<H: Histories> StoredSlot<H> {
 
     /// Settles a doubt, if there is one, and reads the rows from the streams, if they are not loaded.
     ///
-    /// After a fault nothing is changed, except that a doubt may have ended. Busy: nodes that were needed did not answer.
+    /// After a fault nothing is changed, except that a doubt may have ended. Busy: nodes that were needed did not answer. NoMemory: memory ran
+    /// out.
     pub fn load<W: Wire>(&mut self, alloc: Global, wire: &mut W) -> Result<(), StoredFault>
         ensures left { LeavesSettled result self.old self.new }
         ensures counted { FailsStored result (W.faults wire.old) (W.faults wire.new) }
@@ -199,7 +200,8 @@ impl<H: Histories> StoredSlot<H> {
 
     /// Settles a doubt, if there is one, and seals the streams: what is written later goes to new extents.
     ///
-    /// After a fault nothing is changed, except that a doubt may have ended. Busy: nodes that were needed did not answer.
+    /// After a fault nothing is changed, except that a doubt may have ended. Busy: nodes that were needed did not answer. NoMemory: memory ran
+    /// out.
     pub fn seal<W: Wire>(&mut self, alloc: Global, wire: &mut W) -> Result<(), StoredFault>
         ensures left { LeavesSettled result self.old self.new }
         ensures counted { FailsStored result (W.faults wire.old) (W.faults wire.new) }
@@ -242,7 +244,7 @@ impl<H: Histories> StoredSlot<H> {
     /// leave. Each container is in one half, whole, with its history. Both halves share the sealed extents and the key pairs.
     ///
     /// After a fault nothing was cut, and nothing is changed, except that a doubt may have ended. Busy: nodes that were needed did not
-    /// answer.
+    /// answer. NoMemory: memory ran out.
     pub fn split<W: Wire>(
         &mut self,
         alloc: Global,
@@ -283,7 +285,7 @@ impl<H: Histories> StoredSlot<H> {
     ///
     /// After a fault nothing is changed, except that a doubt may have ended. NoSuchExtent: no sealed extent of the stream has this number.
     /// Unreachable: the doubt could not be settled, since nodes that were needed did not answer; or each node with a copy was asked and
-    /// answered no; or a put was not Done.
+    /// answered no; or a put was not Done. NoMemory: memory ran out.
     pub fn repair<W: Wire>(
         &mut self,
         alloc: Global,
