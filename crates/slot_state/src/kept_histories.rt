@@ -58,8 +58,8 @@ impl KeptHistories {
     ghost use Rattle.std.specs.Option.{option_copied};
 
     /// The accepted changes of a container, if it has any.
-    pub(crate) fn history(&self, key: &Key) -> Option<&History>
-        ensures { option_copied result ≡ finite.get self.now.lists key.now }
+    pub fn history(&self, key: &Key) -> Option<&History>
+        ensures { option_copied result ≡ finite.get (⟦<KeptHistories as Histories>⟧.held self.now) key.now }
     {
         self.lists.get(key)
     }

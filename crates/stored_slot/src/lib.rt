@@ -7,6 +7,7 @@ mod cutting;
 mod deciding;
 mod keeping;
 mod laws;
+mod lent;
 mod serving;
 mod settling;
 mod stored_slot;
