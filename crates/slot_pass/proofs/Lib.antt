@@ -1,0 +1,3 @@
+mod ListLemmas
+mod ShownLemmas
+mod SpareLemmas
