@@ -1,3 +1,4 @@
+mod AfterLemmas
 mod ListLemmas
 mod ShownLemmas
 mod SpareLemmas

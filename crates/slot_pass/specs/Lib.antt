@@ -1,3 +1,4 @@
+pub mod After
 pub mod Differences
 pub mod Passes
 pub mod Spares

@@ -1,14 +1,18 @@
 //! Passes: what a caller was shown of a container. A later answer follows from it.
 #![tactic(auto)]
 
+mod after_fault;
 mod comparing;
 mod front;
 mod growing;
 mod meeting;
 mod pass;
+mod serving;
 mod shared_pairs;
 
+pub use after_fault::AfterFault;
 pub use front::Front;
 pub use meeting::{MeetFault, Order, meet};
 pub use pass::Pass;
+pub use serving::serve_after;
 pub use shared_pairs::SharedPairs;
