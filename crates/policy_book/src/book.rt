@@ -97,7 +97,7 @@ impl Book {
             if next >= self.limit || self.entries.reserve_at(next).is_err() {
                 break;
             }
-            // An index is given out after its memory, so that a refused post leaves no index without an entry.
+            // An index is given out after its memory. Otherwise a post that is refused for memory would leave an index without an entry.
             let claimed = self
                 .next
                 .compare_exchange(next, next + 1, Ordering::SeqCst, Ordering::SeqCst);
@@ -196,7 +196,8 @@ impl Book {
         self.limit
     }
 
-    /// How many indexes were given out. As many entries are in the book, or will be when the posts that are under way return.
+    /// How many indexes were given out, so at most as many entries are in the book. Posts that are under way fill the rest, unless memory
+    /// runs out.
     pub fn count(&self) -> usize
         ensures { result ≤ self.now.limit }
     {
