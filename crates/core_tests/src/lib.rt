@@ -16,6 +16,10 @@ mod many_tests;
 #[cfg(test)]
 mod pair_tests;
 #[cfg(test)]
+mod pass_samples;
+#[cfg(test)]
+mod pass_tests;
+#[cfg(test)]
 mod requests;
 #[cfg(test)]
 mod routes;

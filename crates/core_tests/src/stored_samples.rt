@@ -30,9 +30,9 @@ pub(crate) struct Streamed {
     pub(crate) tickets: u64,
 }
 
-// Whether the request names a container of the slot.
+/// Whether the request names a container of the slot.
 #[tactic(auto, using(slot_state::proofs::RangeLemmas::routed_own))]
-fn has_container(slot: &StoredSlot<KeptHistories>, request: &Request) -> bool
+pub(crate) fn has_container(slot: &StoredSlot<KeptHistories>, request: &Request) -> bool
     ensures { result ≡ true → slots.covers slot.now (routed request.now) ≡ true }
 {
     let ask = request.ask();
@@ -54,8 +54,8 @@ fn is_covered(
     Ok(slot.covers(&first))
 }
 
-// The reply of a ticket.
-fn fetched(ticket: Ticket, wire: &mut Script) -> Result<Reply, AllocError> {
+/// The reply of a ticket.
+pub(crate) fn fetched(ticket: Ticket, wire: &mut Script) -> Result<Reply, AllocError> {
     match ticket.fetch(wire) {
         Ok(reply) => Ok(reply),
         Err((ticket, _fault)) => {
