@@ -63,12 +63,15 @@ all_by_len : (ps : List Piece) → list_all is_piece ps ≡ list_all is_piece_le
 all_by_len [] = refl
 all_by_len (p ∷ ps) = ap (λ b. is_piece p && b) (all_by_len ps)
 
-are_by_len : (ps : List Piece) → is_pieces ps ≡ (nat_le (length (map piece_len ps)) 16 && list_all is_piece_len (map piece_len ps))
-are_by_len ps = ap (λ b. nat_le (length ps) 16 && b) (all_by_len ps) ∙ ap (λ n. nat_le n 16 && list_all is_piece_len (map piece_len ps)) (sym (length-map ps piece_len))
+is_pieces_len : (ps : List Piece) → is_pieces ps ≡ (nat_le (length (map piece_len ps)) 16 && list_all is_piece_len (map piece_len ps))
+is_pieces_len ps = ap (λ b. nat_le (length ps) 16 && b) (all_by_len ps) ∙ ap (λ n. nat_le n 16 && list_all is_piece_len (map piece_len ps)) (sym (length-map ps piece_len))
+
+pub are_by_len : (ps content : List Piece) → map piece_len ps ≡ map piece_len content → IsTrue (is_pieces content) → IsTrue (is_pieces ps)
+are_by_len ps content same are =
+    is_pieces_len ps ∙ ap (λ l. nat_le (length l) 16 && list_all is_piece_len l) same ∙ sym (is_pieces_len content) ∙ are
 
 pub placed_are_pieces : (es : List (List Block)) (content ps : List Piece) → ArePlaced es content ps → IsTrue (is_pieces content) → IsTrue (is_pieces ps)
-placed_are_pieces es content ps placed are =
-    are_by_len ps ∙ ap (λ l. nat_le (length l) 16 && list_all is_piece_len l) placed.lengths ∙ sym (are_by_len content) ∙ are
+placed_are_pieces es content ps placed are = are_by_len ps content placed.lengths are
 
 -- ---- content that was cut
 

@@ -52,7 +52,7 @@ pub kept_log_sealed : (r : Result (Unit {0}) SettleFault) (s : ThreeStreams) (lo
 kept_log_sealed r s log kept h = with_log s log kept (each_sealed (IsStoredRecord (laid s.blobs)) r s.log log (log_each s kept) h)
 
 -- a record whose contents are stored stays one
-record_stays : (es fs : List (List Block)) → KeepsPlaces es fs → (block : Block) → IsStoredRecord es block → IsStoredRecord fs block
+pub record_stays : (es fs : List (List Block)) → KeepsPlaces es fs → (block : Block) → IsStoredRecord es block → IsStoredRecord fs block
 record_stays es fs keeps block r = record { change = r.change; epoch = r.epoch; fits = r.fits; within = r.within; bytes = r.bytes; stored = change_stays es fs keeps r.change r.stored }
 
 -- the blocks of the data stay at their places

@@ -1,6 +1,7 @@
 pub mod CallLemmas
 pub mod ChangeLemmas
 pub mod CheckpointLemmas
+pub mod CompactionLemmas
 pub mod ContentLemmas
 pub mod DataLemmas
 pub mod FailedLemmas
@@ -8,6 +9,9 @@ pub mod FirstPartLemmas
 pub mod KeptLemmas
 pub mod LogLemmas
 pub mod MeaningLemmas
+pub mod MoveLemmas
+pub mod MovedRowLemmas
+pub mod MovedReadings
 pub mod OneMoreLemmas
 pub mod PositionLemmas
 pub mod RepairLemmas

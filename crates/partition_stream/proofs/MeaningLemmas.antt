@@ -95,12 +95,12 @@ pub meaning-other : (s t : Logged) (c : Recorded) (key : Key) → IsOneMore s c 
 meaning-other s t c key more other keeps stored = ap (part_value (content_at t.blobs)) (held_of-other s t c key more other) ∙ meaning_after s t key keeps stored
 
 -- what acts make of a container, read at the end, is what they make of it with each content read
-read_last : (f : List Piece → List ℕ) (acts : List Act) (p : Part (List Piece)) → part_value f (after_acts same_pieces acts p) ≡ after_acts f acts (part_value f p)
+pub read_last : (f : List Piece → List ℕ) (acts : List Act) (p : Part (List Piece)) → part_value f (after_acts same_pieces acts p) ≡ after_acts f acts (part_value f p)
 read_last f [] p = refl
 read_last f (a ∷ acts) p = read_last f acts (changed same_pieces a p) ∙ ap (after_acts f acts) (part_value-changed f same_pieces a p)
 
 -- a container that never was has nothing to read
-no_part_read : (f : List Piece → List ℕ) → part_value f no_part ≡ no_part
+pub no_part_read : (f : List Piece → List ℕ) → part_value f no_part ≡ no_part
 no_part_read f = λ i. record { count = 0; standing = None; blobs = map_values-empty names_total names_exact (blob_value f) i }
 
 pub meaning-empty : (s : Logged) (key : Key) → s.rows ≡ [] → s.log ≡ [] → meaning s key ≡ no_part
@@ -125,7 +125,7 @@ held_of-doubt s t true (Some c) key rows log = by (is_on key c) refl
 -- ---- what is stored
 
 -- each change that blocks keep brings content that is stored
-each_stored : (es : List (List Block)) (blocks : List Block) → All (IsStoredRecord es) blocks → All (λ c. IsStoredChange es c.0) (changes_of blocks)
+pub each_stored : (es : List (List Block)) (blocks : List Block) → All (IsStoredRecord es) blocks → All (λ c. IsStoredChange es c.0) (changes_of blocks)
 each_stored es [] all = All-nil (λ (c : Recorded). IsStoredChange es c.0)
 each_stored es (block ∷ blocks) all =
     let r = All-head (IsStoredRecord es) block blocks all in
@@ -140,7 +140,7 @@ stored_next : (es : List (List Block)) (key : Key) (c : Recorded) (cs : List Rec
 stored_next es key c cs p true on new old others = rw on (others (changed same_pieces c.0.act p) (EachContent-changed (AreStored es) same_pieces c.0.act p old new))
 stored_next es key c cs p false off new old others = rw off (others p old)
 
-after_stored : (es : List (List Block)) (key : Key) (cs : List Recorded) (p : Part (List Piece)) → All (λ c. IsStoredChange es c.0) cs → EachContent (AreStored es) p
+pub after_stored : (es : List (List Block)) (key : Key) (cs : List Recorded) (p : Part (List Piece)) → All (λ c. IsStoredChange es c.0) cs → EachContent (AreStored es) p
     → EachContent (AreStored es) (after_acts same_pieces (acts_on key cs) p)
 after_stored es key [] p all old = old
 after_stored es key (c ∷ cs) p all old =

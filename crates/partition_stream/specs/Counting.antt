@@ -1,11 +1,13 @@
 -- How many calls and faults the wire counts over calls of the streams.
-use Rattle.std.specs.Prelude.{◌≡◌, ◌≤◌, ◌⊎◌, ℕ, ◌+◌, ◌*◌, length, Result, Ok, Err}
+use Rattle.std.specs.Prelude.{◌≡◌, ◌≤◌, ◌<◌, ◌⊎◌, ℕ, ◌+◌, ◌*◌, length, Result, Ok, Err}
 use Rattle.extent_node.specs.Faults.{Calls, CountsNone}
-use Rattle.extent_seal.specs.Counting.{AsksEach, FailsEach, Grows}
+use Rattle.extent_seal.specs.Counting.{AsksEach, FailsEach, Grows, all_faults}
 use Rattle.stream_manager.specs.Counting.{AsksAtMost, CallsAtMost, FailsDoubt, FailsEachAtLeast, FailsNoPut, FailsPutsAtLeast, PutsOnceOrTwice, PutsTwice}
 use Rattle.stream_manager.specs.declared.faults.SettleFault.{SettleFault}
 use Rattle.stream_manager.specs.declared.faults.SettleFault.TheVariants as settle_fault
 use Rattle.partition_stream.specs.Streams.{ThreeStreams}
+use Rattle.partition_stream.specs.declared.faults.CompactionFault.{CompactionFault}
+use Rattle.partition_stream.specs.declared.faults.CompactionFault.TheVariants as compaction_fault
 use Rattle.partition_stream.specs.declared.faults.LogFault.{LogFault}
 use Rattle.partition_stream.specs.declared.faults.LogFault.TheVariants as fault
 use Rattle.partition_stream.specs.declared.faults.PutFault.{PutFault}
@@ -36,6 +38,13 @@ abbrev pub CallsPut : {T : Type 0} → Result T PutFault → ℕ → ℕ → ℕ
 CallsPut (Ok ps) pieces before after old new = CallsAtMost (2 * pieces) 0 before after old new
 CallsPut (Err put_fault.Busy) pieces before after old new = CallsAtMost (2 * pieces) 1 before after old new
 CallsPut (Err put_fault.NoMemory) pieces before after old new = CallsAtMost (2 * pieces) 0 before after old new
+
+-- the faults of a row that is moved: if it is Busy, an ask of each node failed, or two puts failed; Unreachable comes only after a fault
+abbrev pub FailsCompaction : {T : Type 0} → Result T CompactionFault → Calls → Calls → Type 0
+FailsCompaction (Ok moved) old new = Grows old new
+FailsCompaction (Err compaction_fault.Busy) old new = FailsEachAtLeast old new ⊎ FailsPutsAtLeast 2 old new
+FailsCompaction (Err compaction_fault.Unreachable) old new = Grows old new × (all_faults old < all_faults new)
+FailsCompaction (Err compaction_fault.NoMemory) old new = Grows old new
 
 -- how many sealed extents the three streams have
 abbrev pub sealed_extents : ThreeStreams → ℕ

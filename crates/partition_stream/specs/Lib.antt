@@ -1,5 +1,6 @@
 pub mod Changes
 pub mod Checkpoints
+pub mod Compactions
 pub mod Contents
 pub mod Counting
 pub mod Logging

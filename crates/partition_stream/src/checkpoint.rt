@@ -22,8 +22,8 @@ use stream_manager::Stream;
 #[derive(Drop)]
 pub struct NewRows {
     alloc: Global,
-    extent_bytes: u32,
-    rows: Stream,
+    pub(crate) extent_bytes: u32,
+    pub(crate) rows: Stream,
 }
 
 impl Model for NewRows {

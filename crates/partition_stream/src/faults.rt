@@ -1,4 +1,4 @@
-//! Why changes were not logged and data was not put.
+//! Why changes were not logged, data was not put, and rows were not moved.
 ghost use Rattle.std.specs.Prelude.{◌≡◌};
 
 use std::alloc::{AllocError, AllocFailed};
@@ -59,6 +59,39 @@ impl From<AllocError> for PutFault {
 impl<T: Drop> From<AllocFailed<T>> for PutFault {
     ghost use Rattle.std.specs.Prelude.{◌≡◌};
     ghost use Rattle.partition_stream.specs.declared.faults.PutFault.TheVariants.{NoMemory};
+
+    ghost from_gives = { λ _ e. e ≡ NoMemory };
+
+    fn from(_error: AllocFailed<T>) -> Self {
+        Self::NoMemory
+    }
+}
+
+/// Why a row was not moved to new streams.
+#[derive(Clone, Copy, Debug, PartialEq, Eq)]
+pub enum CompactionFault {
+    /// A block or a record was tried twice, or no node answered.
+    Busy,
+    /// Every node with a copy of some content was asked, and each answered no.
+    Unreachable,
+    /// Memory ran out.
+    NoMemory,
+}
+
+impl From<AllocError> for CompactionFault {
+    ghost use Rattle.std.specs.Prelude.{◌≡◌};
+    ghost use Rattle.partition_stream.specs.declared.faults.CompactionFault.TheVariants.{NoMemory};
+
+    ghost from_gives = { λ _ e. e ≡ NoMemory };
+
+    fn from(_error: AllocError) -> Self {
+        Self::NoMemory
+    }
+}
+
+impl<T: Drop> From<AllocFailed<T>> for CompactionFault {
+    ghost use Rattle.std.specs.Prelude.{◌≡◌};
+    ghost use Rattle.partition_stream.specs.declared.faults.CompactionFault.TheVariants.{NoMemory};
 
     ghost from_gives = { λ _ e. e ≡ NoMemory };
 

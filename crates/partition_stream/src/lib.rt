@@ -4,10 +4,14 @@
 mod changes;
 mod checkpoint;
 mod checkpoint_laws;
+mod compaction;
+mod compaction_laws;
 mod data;
 mod faults;
 mod laws;
 mod logging;
+mod moving;
+mod moving_rows;
 mod part;
 mod position;
 mod repair;
@@ -15,7 +19,9 @@ mod streams;
 
 pub use checkpoint::{NewRows, Replaced};
 pub use checkpoint_laws::{a_checkpoint_means_its_rows, a_checkpoint_means_what_it_meant};
-pub use faults::{LogFault, PutFault};
+pub use compaction::{NewStreams, ReplacedStreams};
+pub use compaction_laws::{a_compaction_means_what_it_meant, no_content_is_lost_by_a_compaction};
+pub use faults::{CompactionFault, LogFault, PutFault};
 pub use laws::{
     a_body_that_is_cut_may_be_put, a_change_that_fails_is_not_counted,
     a_doubt_is_one_change_or_none, a_shared_log_means_the_same, a_walk_meets_all_changes_in_order,
