@@ -1,7 +1,8 @@
 -- Content that is moved to a new stream of data, and rows that are written anew with it (SOSP 2011, section 5.3: checkpoints).
-use Rattle.std.specs.Prelude.{◌≡◌, ⊤, List, [], ◌++◌, Option, Some, None, map}
+use Rattle.std.specs.Prelude.{◌≡◌, ⊤, All, IsTrue, List, [], ◌∷◌, ◌++◌, Option, Some, None, map}
 use Rattle.std.specs.List.{AllZip}
 use Rattle.extent_node.specs.Copies.{Block}
+use Rattle.stamp_types.specs.ActKinds.{is_row}
 use Rattle.stamp_types.specs.Changes.{KeyedAct}
 use Rattle.stamp_types.specs.Pieces.{piece_len}
 use Rattle.stamp_types.specs.declared.act.Act.{Act}
@@ -17,6 +18,7 @@ use Rattle.stream_manager.specs.Streams.{Streamed, laid}
 use Rattle.partition_stream.specs.Changes.{Recorded}
 use Rattle.partition_stream.specs.Checkpoints.{AreStoredRows, new_rows}
 use Rattle.partition_stream.specs.Contents.{AreStored, bytes_at, content_at}
+use Rattle.partition_stream.specs.Positions.{all_changes}
 use Rattle.partition_stream.specs.Streams.{ThreeStreams}
 
 -- the piece with its bytes
@@ -79,10 +81,10 @@ pub record IsMovedChange (es : List (List Block)) (c : KeyedAct) (fs : List (Lis
   pub key : d.key ≡ c.key
   pub act : IsMovedAct es c.act fs d.act
 
--- the record of the same row with its content moved, and of the same epoch
+-- the record of the same row, with its content moved; a row has the epoch 0
 pub record IsMovedRecord (es : List (List Block)) (c : Recorded) (fs : List (List Block)) (d : Recorded) : Type 0 where
   pub change : IsMovedChange es c.0 fs d.0
-  pub epoch : d.1 ≡ c.1
+  pub epoch : d.1 ≡ 0
 
 -- the records of the same rows in the same order, with their content moved
 abbrev pub AreMovedRecords : List (List Block) → List Recorded → List (List Block) → List Recorded → Type 0
@@ -93,16 +95,30 @@ pub record TwoStreams : Type 0 where
   pub blobs : Streamed
   pub rows : Streamed
 
--- the new rows have these rows more, with their content moved from the data es, and no doubt; each block of the new data stays at its place,
--- and the new rows are stored in the new data if those before are
-pub record HasMovedRows (es : List (List Block)) (s : TwoStreams) (cs : List Recorded) (t : TwoStreams) : Type 0 where
-  -- the rows as they are written
-  pub written : List Recorded
-  pub moved : AreMovedRecords es cs (laid t.blobs) written
-  pub added : new_rows t.rows ≡ new_rows s.rows ++ written
+-- the new rows have this row more, with its content moved from the data es, and no doubt; each block of the new data stays at its place, and
+-- the new rows are stored in the new data if those before are
+pub record HasMovedRow (es : List (List Block)) (s : TwoStreams) (c : KeyedAct) (t : TwoStreams) : Type 0 where
+  -- the row as it is written
+  pub written : KeyedAct
+  pub moved : IsMovedChange es c (laid t.blobs) written
+  pub added : new_rows t.rows ≡ new_rows s.rows ++ (written, 0) ∷ []
   pub whole : t.rows.last.tried ≡ None
   pub kept : KeepsPlaces (laid s.blobs) (laid t.blobs)
   pub stored : AreStoredRows (laid s.blobs) s.rows → AreStoredRows (laid t.blobs) t.rows
+
+-- the new rows are these rows with their content moved from the data es, all of them are stored in the new data, and no row is in doubt
+pub record AreMovedTo (es : List (List Block)) (cs : List Recorded) (t : TwoStreams) : Type 0 where
+  pub rows : AreMovedRecords es cs (laid t.blobs) (new_rows t.rows)
+  pub whole : t.rows.last.tried ≡ None
+  pub stored : AreStoredRows (laid t.blobs) t.rows
+
+-- the change is a row of a checkpoint
+abbrev pub IsRow : Recorded → Type 0
+IsRow c = IsTrue (is_row c.0.act)
+
+-- each change that the streams keep is a row of a checkpoint, as after a checkpoint and before a change is logged
+abbrev pub AreRows : ThreeStreams → Type 0
+AreRows s = All IsRow (all_changes s)
 
 -- extents of two or more blocks may have as many bytes as before
 pub record HaveLimitsOf (s t : TwoStreams) : Type 0 where

@@ -1,6 +1,6 @@
 //! Compactions: the content that exists is put into a new stream of data, beside new rows and an empty log, and all three are then put
 //! in the place of the old streams (SOSP 2011, section 5.3).
-ghost use Rattle.std.specs.Prelude.{◌≡◌, IsTrue, None, OnOk, [], ◌∷◌};
+ghost use Rattle.std.specs.Prelude.{◌≡◌, IsTrue, None, OnOk};
 ghost use Rattle.stamp_types.specs.ActKinds.{is_row};
 ghost use Rattle.stamp_types.specs.Changes.{is_change};
 ghost use Rattle.stamp_types.specs.declared.act.Act.TheVariants as act;
@@ -8,7 +8,7 @@ ghost use Rattle.log_record.specs.Sizes.{IsPlacedChange};
 ghost use Rattle.stream_manager.specs.Places.{KeepsPlaces};
 ghost use Rattle.stream_manager.specs.Streams.{laid};
 ghost use Rattle.partition_stream.specs.Checkpoints.{HasOneRow};
-ghost use Rattle.partition_stream.specs.Compactions.{HasMovedRows, HaveLimitsOf};
+ghost use Rattle.partition_stream.specs.Compactions.{HasMovedRow, HaveLimitsOf};
 ghost use Rattle.partition_stream.specs.Counting.{FailsCompaction};
 ghost use Rattle.partition_stream.specs.Storing.{IsStoredChange};
 
@@ -79,7 +79,7 @@ impl NewStreams {
         requires whole { self.old.rows.last.tried ≡ None }
         requires good { IsTrue (is_change (record { key = key.now; act = act.StoredBlob row.now })) }
         requires stored { IsStoredChange (laid old.now) (record { key = key.now; act = act.StoredBlob row.now }) }
-        ensures moved { OnOk result (HasMovedRows (laid old.now) self.old ((record { key = key.now; act = act.StoredBlob row.now }, 0) ∷ []) self.new) }
+        ensures moved { OnOk result (HasMovedRow (laid old.now) self.old (record { key = key.now; act = act.StoredBlob row.now }) self.new) }
         ensures kept { KeepsPlaces (laid self.old.blobs) (laid self.new.blobs) }
         ensures limits { HaveLimitsOf self.old self.new }
         ensures counted { FailsCompaction result (W.faults wire.old) (W.faults wire.new) }
@@ -102,7 +102,7 @@ impl NewStreams {
         requires whole { self.old.rows.last.tried ≡ None }
         requires row { IsTrue (is_row change.now.act) }
         requires stored { IsStoredChange (laid old.now.blobs) change.now }
-        ensures moved { OnOk result (HasMovedRows (laid old.now.blobs) self.old ((change.now, 0) ∷ []) self.new) }
+        ensures moved { OnOk result (HasMovedRow (laid old.now.blobs) self.old change.now self.new) }
         ensures kept { KeepsPlaces (laid self.old.blobs) (laid self.new.blobs) }
         ensures limits { HaveLimitsOf self.old self.new }
         ensures counted { FailsCompaction result (W.faults wire.old) (W.faults wire.new) }

@@ -20,7 +20,10 @@ mod streams;
 pub use checkpoint::{NewRows, Replaced};
 pub use checkpoint_laws::{a_checkpoint_means_its_rows, a_checkpoint_means_what_it_meant};
 pub use compaction::{NewStreams, ReplacedStreams};
-pub use compaction_laws::{a_compaction_means_what_it_meant, no_content_is_lost_by_a_compaction};
+pub use compaction_laws::{
+    a_compaction_means_what_it_meant, a_row_that_is_added_is_moved,
+    no_content_is_lost_by_a_compaction,
+};
 pub use faults::{CompactionFault, LogFault, PutFault};
 pub use laws::{
     a_body_that_is_cut_may_be_put, a_change_that_fails_is_not_counted,

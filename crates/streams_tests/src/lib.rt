@@ -8,6 +8,8 @@ mod call_tests;
 #[cfg(test)]
 mod checkpoint_tests;
 #[cfg(test)]
+mod compaction_tests;
+#[cfg(test)]
 mod data_tests;
 #[cfg(test)]
 mod every_delivery_tests;

@@ -21,8 +21,8 @@ struct Seen {
     blob: Option<u64>,
 }
 
-// Logs a change without content, or with content, which is put into the data first.
-fn log_change(
+/// Logs a change without content, or with content, which is put into the data first.
+pub(crate) fn log_change(
     rt: &impl Abort,
     alloc: Global,
     streams: &mut Streams,
@@ -84,7 +84,8 @@ fn loaded(rt: &impl Abort, alloc: Global, streams: &Streams, name: &str) -> Seen
     seen
 }
 
-fn checkpoint(rt: &impl Abort, alloc: Global, streams: &mut Streams, wire: &mut Script) -> Told {
+/// Writes a checkpoint of the rows that the changes of the streams make.
+pub(crate) fn checkpoint(rt: &impl Abort, alloc: Global, streams: &mut Streams, wire: &mut Script) -> Told {
     let rows = &load(rt, alloc, streams);
     let replaced = checkpoint_rows(alloc, streams, rows, 1_000_000, wire);
     match replaced {
@@ -137,8 +138,8 @@ fn is_full(rt: &impl Abort, alloc: Global, streams: &Streams) {
     assert_eq!(rt; loaded(rt, alloc, streams, "gone"), GONE);
 }
 
-// Whether so many changes are read.
-fn has_changes(rt: &impl Abort, alloc: Global, streams: &Streams, count: usize) -> bool {
+/// Whether so many changes are read.
+pub(crate) fn has_changes(rt: &impl Abort, alloc: Global, streams: &Streams, count: usize) -> bool {
     let mut wire = script(rt, alloc, &[], &[]);
     let mut position = Position::first();
     for _change in 0..count {
@@ -209,9 +210,9 @@ fn a_load_after_a_checkpoint_gives_the_same_containers(rt: HostRuntime) {
     checkpoint_and_go_on(&rt, rt.alloc(), &mut *streams);
 }
 
-// The deliveries of `count` rows that are Done, and then of one that is excluded twice.
-fn excluded_after(rt: &impl Abort, alloc: Global, count: usize) -> Vec<Delivery> {
-    let mut puts = Vec::with_capacity(alloc, 16).expect(rt, "memory");
+/// The deliveries of `count` blocks that are Done, and then of one that is excluded twice.
+pub(crate) fn excluded_after(rt: &impl Abort, alloc: Global, count: usize) -> Vec<Delivery> {
+    let mut puts = Vec::with_capacity(alloc, 32).expect(rt, "memory");
     for _put in 0..3 * count {
         puts.push(D).expect(rt, "memory");
     }
