@@ -1,11 +1,13 @@
 -- Rows that are written anew with their content moved, and what they mean once they are in place.
-use Rattle.std.proofs.Common.{◌≡◌, ◌∙◌, ℕ, None, List, [], ◌∷◌, ◌++◌, map, ap, sym, refl, subst}
+use Rattle.std.proofs.Common.{◌≡◌, ◌∙◌, ℕ, true, IsTrue, None, List, [], ◌∷◌, ◌++◌, map, ap, sym, refl, subst}
 use Rattle.std.specs.List.{AllZip}
 use Rattle.std.proofs.lemmas.List.Elements.{All-weaker}
 use Rattle.extent_node.specs.Copies.{Block}
+use Rattle.stamp_types.specs.ActKinds.{is_row}
 use Rattle.stamp_types.specs.Changes.{KeyedAct}
-use Rattle.stamp_types.specs.Contents.{EachContent}
-use Rattle.stamp_types.specs.Pieces.{piece_len}
+use Rattle.stamp_types.specs.Contents.{EachActContent, EachContent}
+use Rattle.stamp_types.specs.Pieces.{is_placed, piece_len}
+use Rattle.log_record.specs.Sizes.{IsPlacedChange}
 use Rattle.stamp_types.specs.World.{no_part, part_value}
 use Rattle.stamp_types.specs.declared.act.ContainerRow.{ContainerRow}
 use Rattle.stamp_types.specs.declared.act.Act.TheVariants as act
@@ -16,7 +18,7 @@ use Rattle.stream_manager.specs.Places.{KeepsPlaces, blocks_of}
 use Rattle.stream_manager.specs.Streams.{Streamed, laid}
 use Rattle.partition_stream.specs.Changes.{Recorded}
 use Rattle.partition_stream.specs.Checkpoints.{AreStoredRows, HasOneRow, IsInPlace, made_by, new_rows}
-use Rattle.partition_stream.specs.Compactions.{AreMoved, AreMovedRecords, AreMovedTo, HasMovedRow, IsMovedAct, IsMovedChange, IsMovedRecord, TwoStreams, with_data}
+use Rattle.partition_stream.specs.Compactions.{AreMoved, AreMovedRecords, AreMovedTo, HasMovedRow, IsMovedAct, IsMovedChange, IsMovedRecord, TwoStreams, blob_row, with_data}
 use Rattle.partition_stream.specs.Contents.{AreStored, content_at}
 use Rattle.partition_stream.specs.Meanings.{acts_on, after_acts, held_of, meaning}
 use Rattle.partition_stream.specs.Storing.{IsStoredChange, IsStoredRecord}
@@ -25,7 +27,7 @@ use Rattle.partition_stream.proofs.CheckpointLemmas.{rows_mean, rows_mean_bytes}
 use Rattle.partition_stream.proofs.KeptLemmas.{record_stays}
 use Rattle.partition_stream.proofs.MeaningLemmas.{after_stored, each_stored, no_part_read, read_last}
 use Rattle.partition_stream.proofs.MovedReadings.{rows_read}
-use Rattle.partition_stream.proofs.MovedRowLemmas.{act_stored, records_stay}
+use Rattle.partition_stream.proofs.MovedRowLemmas.{act_stored, is_own_row, records_stay}
 
 -- ---- rows that are added
 
@@ -49,6 +51,14 @@ pub own_added : (es : List (List Block)) (s t : TwoStreams) (c : KeyedAct) (r : 
 own_added es s t c r is same one =
     row_added es s t c c (subst (λ (b : Streamed). KeepsPlaces (laid s.blobs) (laid b)) (sym same) (λ p b here. here))
     (record { key = refl; act = subst (λ a. IsMovedAct es a (laid t.blobs) a) (sym is) refl }) one
+
+-- a row that is not the row of a blob
+pub own_moved : (es : List (List Block)) (s t : TwoStreams) (c : KeyedAct) → is_row c.act ≡ true → blob_row c.act ≡ None → t.blobs ≡ s.blobs → HasOneRow s.rows c t.rows → HasMovedRow es s c t
+own_moved es s t c row none same one = let own = is_own_row c.act row none in own_added es s t c own.0 own.1 same one
+
+-- its content is at places, since it has none
+pub own_placed : (c : KeyedAct) → is_row c.act ≡ true → blob_row c.act ≡ None → IsPlacedChange c
+own_placed c row none = let own = is_own_row c.act row none in subst (EachActContent (λ ps. IsTrue (is_placed ps))) (sym own.1) tt
 
 -- no row
 pub none_moved : (es : List (List Block)) (t : TwoStreams) → new_rows t.rows ≡ [] → t.rows.last.tried ≡ None → AreStoredRows (laid t.blobs) t.rows → AreMovedTo es [] t

@@ -15,4 +15,5 @@ pub mod MovedReadings
 pub mod OneMoreLemmas
 pub mod PositionLemmas
 pub mod RepairLemmas
+pub mod RowWalkLemmas
 pub mod StreamLemmas

@@ -28,6 +28,9 @@ each_twice a b c g f = (omega (arith, g, f), omega (arith, g, f), omega (arith, 
 pub grows_twice : (a b c : Calls) → Grows a b → Grows b c → Grows a c
 grows_twice a b c g f = (each_twice a.puts b.puts c.puts g.0 f.0, each_twice a.asks b.asks c.asks g.1 f.1)
 
+pub grows_none : (a : Calls) → Grows a a
+grows_none a = ((omega arith, omega arith, omega arith), (omega arith, omega arith, omega arith))
+
 -- the faults of a call, after those of the calls before it
 pub fails_later : {T : Type 0} (r : Result T CompactionFault) (a b c : Calls) → Grows a b → FailsCompaction r b c → FailsCompaction r a c
 fails_later (Ok moved) a b c g f = grows_twice a b c g f
@@ -35,6 +38,12 @@ fails_later (Err fault.Busy) a b c g (inl f) = inl (each_twice a.puts b.puts c.p
 fails_later (Err fault.Busy) a b c g (inr f) = inr (omega (arith, g, f), grows_twice a b c g f.1)
 fails_later (Err fault.Unreachable) a b c g f = (grows_twice a b c g f.0, omega (arith, g, f.1))
 fails_later (Err fault.NoMemory) a b c g f = grows_twice a b c g f
+
+-- the faults of a call that failed, whatever it would have given
+pub fails_as : {T U : Type 0} (e : CompactionFault) (old new : Calls) → FailsCompaction {T = T} (Err e) old new → FailsCompaction {T = U} (Err e) old new
+fails_as fault.Busy old new f = f
+fails_as fault.Unreachable old new f = f
+fails_as fault.NoMemory old new f = f
 
 -- ---- content that was read
 

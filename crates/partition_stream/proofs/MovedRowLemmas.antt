@@ -1,5 +1,5 @@
 -- Rows whose content is moved: they stay moved, and they are as good as the rows that were moved.
-use Rattle.std.proofs.Common.{◌≡◌, ◌∙◌, ◌&&◌, ◌||◌, ◌==◌, ℕ, ◌+◌, Bool, IsTrue, Option, Some, None, IfSome, List, [], ◌∷◌, All, is_none, is_some, length, map, nat_le, nat_lt, ap, sym, refl}
+use Rattle.std.proofs.Common.{◌≡◌, ◌∙◌, ◌&&◌, ◌||◌, ◌==◌, ℕ, suc, ◌+◌, Bool, true, IsTrue, Option, Some, None, IfSome, List, [], ◌∷◌, All, is_none, is_some, length, map, nat_le, nat_lt, ap, sym, refl}
 use Rattle.std.specs.Prelude.{sum_by}
 use Rattle.std.specs.List.{AllZip, list_all}
 use Rattle.std.specs.Ordering.{is_lt, nat_cmp}
@@ -11,11 +11,13 @@ use Rattle.extent_node.specs.Copies.{Block}
 use Rattle.stamp_values.specs.Limits.{blob_limit, entries_limit, uncommitted_limit}
 use Rattle.stamp_values.specs.Names.{is_account, is_blob, is_container}
 use Rattle.stamp_values.specs.declared.key.Key.{Key}
+use Rattle.stamp_types.specs.ActKinds.{is_row}
 use Rattle.stamp_types.specs.Changes.{KeyedAct, are_blocks, are_uncommitted, blocks_len, has_ids_of_one_length, has_ids_or_one, has_rising_ids, is_block, is_change, is_committed, is_id_before_next, is_in_one_piece, is_stored_blob}
 use Rattle.stamp_types.specs.Contents.{EachActContent, EachCommittedContent}
 use Rattle.stamp_types.specs.Pieces.{piece_len, pieces_len}
 use Rattle.stamp_types.specs.declared.act.Act.{Act}
 use Rattle.stamp_types.specs.declared.act.Act.TheVariants as act
+use Rattle.stamp_types.specs.declared.act.ContainerRow.{ContainerRow}
 use Rattle.stamp_types.specs.declared.act.StoredBlob.{StoredBlob}
 use Rattle.stamp_types.specs.declared.committed.Block as stored
 use Rattle.stamp_types.specs.declared.committed.Committed.{Committed}
@@ -23,7 +25,7 @@ use Rattle.stamp_types.specs.declared.committed.UncommittedBlock.{UncommittedBlo
 use Rattle.stamp_types.specs.declared.piece.Piece.{Piece}
 use Rattle.stream_manager.specs.Places.{KeepsPlaces}
 use Rattle.partition_stream.specs.Changes.{Recorded}
-use Rattle.partition_stream.specs.Compactions.{AreMovedBlocks, AreMovedRecords, AreMovedUncommitted, IsMovedAct, IsMovedBlock, IsMovedChange, IsMovedCommitted, IsMovedPart, IsMovedRecord, IsMovedRow, IsMovedUncommitted}
+use Rattle.partition_stream.specs.Compactions.{AreMovedBlocks, AreMovedRecords, AreMovedUncommitted, IsMovedAct, IsMovedBlock, IsMovedChange, IsMovedCommitted, IsMovedPart, IsMovedRecord, IsMovedRow, IsMovedUncommitted, blob_row}
 use Rattle.partition_stream.specs.Contents.{AreStored}
 use Rattle.partition_stream.proofs.MoveLemmas.{blocks_stay, uncommitted_stay, zip_then}
 
@@ -34,7 +36,7 @@ module _ {X Y : Type 0} (R : X → Y → Type 0) where
   zip_length [] [] h = refl
   zip_length [] (y ∷ ys) h = absurd h
   zip_length (x ∷ xs) [] h = absurd h
-  zip_length (x ∷ xs) (y ∷ ys) h = ap (λ n. n + 1) (zip_length xs ys h.1)
+  zip_length (x ∷ xs) (y ∷ ys) h = ap suc (zip_length xs ys h.1)
 
   -- tests that agree at each place
   zip_tests : (s : X → Bool) (t : Y → Bool) → ((x : X) (y : Y) → R x y → t y ≡ s x) → (xs : List X) (ys : List Y) → AllZip R xs ys → list_all t ys ≡ list_all s xs
@@ -181,3 +183,17 @@ module _ (es fs : List (List Block)) where
 pub row_moved : (es fs gs : List (List Block)) (a b : StoredBlob) → KeepsPlaces fs gs → b.blob ≡ a.blob → IsMovedPart es a.committed fs b.committed → AreMovedUncommitted es a.uncommitted gs b.uncommitted
     → IsMovedRow es a gs b
 row_moved es fs gs a b keeps blob committed uncommitted = record { blob = blob; committed = part_stays es fs gs keeps a.committed b.committed committed; uncommitted = uncommitted }
+
+-- the row of a blob
+pub is_blob_row : (c : KeyedAct) (r : StoredBlob) → blob_row c.act ≡ Some r → record { key = c.key; act = act.StoredBlob r } ≡ c
+is_blob_row c r is = λ i. record { key = c.key; act = same c.act is i }
+  where
+    same : (a : Act) → blob_row a ≡ Some r → act.StoredBlob r ≡ a
+    same (act.StoredBlob a) e = let own : r ≡ a = cc in ap (λ x. act.StoredBlob x) own
+    same other e = cc
+
+-- a row that is not the row of a blob is the row of a container
+pub is_own_row : (a : Act) → is_row a ≡ true → blob_row a ≡ None → (r : ContainerRow) × (a ≡ act.ContainerRow r)
+is_own_row (act.StoredBlob a) row none = cc
+is_own_row (act.ContainerRow r) row none = (r, refl)
+is_own_row other row none = cc

@@ -1,5 +1,5 @@
 -- Content that is moved to a new stream of data, and rows that are written anew with it (SOSP 2011, section 5.3: checkpoints).
-use Rattle.std.specs.Prelude.{◌≡◌, ⊤, All, IsTrue, List, [], ◌∷◌, ◌++◌, Option, Some, None, map}
+use Rattle.std.specs.Prelude.{◌≡◌, ◌-◌, ⊤, ℕ, All, IsTrue, length, List, [], ◌∷◌, ◌++◌, Option, Some, None, map}
 use Rattle.std.specs.List.{AllZip}
 use Rattle.extent_node.specs.Copies.{Block}
 use Rattle.stamp_types.specs.ActKinds.{is_row}
@@ -18,8 +18,9 @@ use Rattle.stream_manager.specs.Streams.{Streamed, laid}
 use Rattle.partition_stream.specs.Changes.{Recorded}
 use Rattle.partition_stream.specs.Checkpoints.{AreStoredRows, new_rows}
 use Rattle.partition_stream.specs.Contents.{AreStored, bytes_at, content_at}
-use Rattle.partition_stream.specs.Positions.{all_changes}
+use Rattle.partition_stream.specs.Positions.{all_changes, changes_before}
 use Rattle.partition_stream.specs.Streams.{ThreeStreams}
+use Rattle.partition_stream.specs.declared.position.Position.{Position}
 
 -- the piece with its bytes
 abbrev pub read_piece : List (List Block) → Piece → Piece
@@ -119,6 +120,26 @@ IsRow c = IsTrue (is_row c.0.act)
 -- each change that the streams keep is a row of a checkpoint, as after a checkpoint and before a change is logged
 abbrev pub AreRows : ThreeStreams → Type 0
 AreRows s = All IsRow (all_changes s)
+
+-- the row of a blob, if the act is one
+abbrev pub blob_row : Act → Option StoredBlob
+blob_row (act.StoredBlob a) = Some a
+blob_row other = None
+
+-- this row comes after the position, and the other position is after it; or no row comes after it
+abbrev pub IsNextRow : ThreeStreams → Position → Option KeyedAct → Position → Type 0
+IsNextRow s before None after = (changes_before s after ≡ changes_before s before) × (changes_before s after ≡ all_changes s)
+IsNextRow s before (Some c) after = (epoch : ℕ) × (changes_before s after ≡ changes_before s before ++ (c, epoch) ∷ [])
+
+-- how many rows come after the position
+unfoldable pub rows_left : ThreeStreams → Position → ℕ
+rows_left s p = length (all_changes s) - length (changes_before s p)
+
+-- extents of two or more blocks may have so many bytes
+pub record HaveLimit (bytes : ℕ) (s : ThreeStreams) : Type 0 where
+  pub log : s.log.limit ≡ bytes
+  pub blobs : s.blobs.limit ≡ bytes
+  pub rows : s.rows.limit ≡ bytes
 
 -- extents of two or more blocks may have as many bytes as before
 pub record HaveLimitsOf (s t : TwoStreams) : Type 0 where

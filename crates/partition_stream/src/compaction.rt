@@ -1,16 +1,18 @@
 //! Compactions: the content that exists is put into a new stream of data, beside new rows and an empty log, and all three are then put
 //! in the place of the old streams (SOSP 2011, section 5.3).
-ghost use Rattle.std.specs.Prelude.{◌≡◌, IsTrue, None, OnOk};
+ghost use Rattle.std.specs.Prelude.{◌≡◌, IsTrue, None, OnOk, []};
+ghost use Rattle.std.specs.Option.{option_copied};
 ghost use Rattle.stamp_types.specs.ActKinds.{is_row};
 ghost use Rattle.stamp_types.specs.Changes.{is_change};
 ghost use Rattle.stamp_types.specs.declared.act.Act.TheVariants as act;
 ghost use Rattle.log_record.specs.Sizes.{IsPlacedChange};
 ghost use Rattle.stream_manager.specs.Places.{KeepsPlaces};
 ghost use Rattle.stream_manager.specs.Streams.{laid};
-ghost use Rattle.partition_stream.specs.Checkpoints.{HasOneRow};
-ghost use Rattle.partition_stream.specs.Compactions.{HasMovedRow, HaveLimitsOf};
+ghost use Rattle.partition_stream.specs.Checkpoints.{AreStoredRows, HasOneRow};
+ghost use Rattle.partition_stream.specs.Compactions.{HasMovedRow, HaveLimitsOf, blob_row};
 ghost use Rattle.partition_stream.specs.Counting.{FailsCompaction};
 ghost use Rattle.partition_stream.specs.Storing.{IsStoredChange};
+ghost use Rattle.partition_stream.specs.Streams.{logged};
 
 use crate::checkpoint::NewRows;
 use crate::faults::{CompactionFault, PutFault};
@@ -39,13 +41,34 @@ impl Model for NewStreams {
     ghost view = { λ n. record { blobs = n.blobs; rows = n.rows } };
 }
 
-/// The three streams that a compaction replaced. To drop them takes time for each of their blocks, so a caller may drop them once it
-/// holds no lock. An extent that is shared with other streams stays theirs.
-#[derive(Drop)]
-pub struct ReplacedStreams {
-    log: Stream,
-    blobs: Stream,
-    rows: Stream,
+// The new data and rows, with an empty log.
+fn with_log(new: NewStreams) -> Streams
+    requires whole { new.rows.last.tried ≡ None }
+    requires stored { AreStoredRows (laid new.blobs) new.rows }
+    ensures rows { result.rows ≡ new.rows }
+    ensures blobs { result.blobs ≡ new.blobs }
+    ensures log { (logged result).log ≡ [] }
+    ensures doubt { (logged result).doubt ≡ None }
+    ensures limit { result.log.limit ≡ new.rows.limit }
+{
+    let NewStreams { alloc, blobs, rows } = new;
+    let log = Stream::new(alloc, rows.extent_bytes);
+    Streams {
+        alloc,
+        log,
+        blobs,
+        rows: rows.rows,
+    }
+}
+
+// The row of a blob, if the act is one.
+fn blob_row(act: &Act) -> Option<&StoredBlob>
+    ensures { option_copied result ≡ blob_row act.now }
+{
+    match act {
+        Act::StoredBlob(row) => Some(row),
+        _ => None,
+    }
 }
 
 // Adds a row to the new rows.
@@ -107,10 +130,9 @@ impl NewStreams {
         ensures limits { HaveLimitsOf self.old self.new }
         ensures counted { FailsCompaction result (W.faults wire.old) (W.faults wire.new) }
     {
-        match change.act() {
-            Act::StoredBlob(row) => self.add_blob(&old.blobs, change.key(), row, wire),
-            Act::ContainerRow(_) => add_row(&mut self.rows, change, wire),
-            _ => unreachable!(),
+        match blob_row(change.act()) {
+            Some(row) => self.add_blob(&old.blobs, change.key(), row, wire),
+            None => add_row(&mut self.rows, change, wire),
         }
     }
 }
@@ -142,24 +164,20 @@ impl Streams {
         }
     }
 
-    /// Puts the data and the rows of a new compaction in the place of the old ones, and an empty log in the place of the old log. Gives
-    /// what was replaced. Calls no node, and takes no memory.
+    /// Puts the data and the rows of a new compaction in the place of the old ones, and an empty log in the place of the old log. Gives the
+    /// old streams. Calls no node, and takes no memory.
     ///
-    /// A doubt of the log is settled before, so that no change is forgotten.
-    pub fn put_all_in_place(&mut self, new: NewStreams) -> ReplacedStreams
+    /// A doubt of the log is settled before, so that no change is forgotten. To drop the old streams takes time for each of their blocks, so
+    /// a caller may drop them once it holds no lock. An extent that other streams share stays theirs.
+    pub fn put_all_in_place(&mut self, new: NewStreams) -> Self
         requires sure { (logged self.old).doubt ≡ None }
         requires whole { new.rows.last.tried ≡ None }
         requires stored { AreStoredRows (laid new.blobs) new.rows }
         ensures placed { IsInPlace (with_data self.old new.blobs) new.rows self.new }
-        ensures replaced { (result.log ≡ self.old.log) × (result.blobs ≡ self.old.blobs) × (result.rows ≡ self.old.rows) }
+        ensures replaced { result ≡ self.old }
         ensures log_limit { self.new.log.limit ≡ new.rows.limit }
     {
-        let NewStreams { blobs, rows, .. } = new;
-        let log = Stream::new(self.alloc, rows.extent_bytes);
-        ReplacedStreams {
-            log: mem::replace(&mut self.log, log),
-            blobs: mem::replace(&mut self.blobs, blobs),
-            rows: mem::replace(&mut self.rows, rows.rows),
-        }
+        let made = with_log(new);
+        mem::replace(self, made)
     }
 }

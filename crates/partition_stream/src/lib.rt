@@ -4,6 +4,7 @@
 mod changes;
 mod checkpoint;
 mod checkpoint_laws;
+mod compacting;
 mod compaction;
 mod compaction_laws;
 mod data;
@@ -19,7 +20,7 @@ mod streams;
 
 pub use checkpoint::{NewRows, Replaced};
 pub use checkpoint_laws::{a_checkpoint_means_its_rows, a_checkpoint_means_what_it_meant};
-pub use compaction::{NewStreams, ReplacedStreams};
+pub use compaction::NewStreams;
 pub use compaction_laws::{
     a_compaction_means_what_it_meant, a_row_that_is_added_is_moved,
     no_content_is_lost_by_a_compaction,

@@ -121,6 +121,7 @@ fn move_row<W: Wire>(
 }
 
 /// The row of a blob, with its content moved.
+#[tactic(auto, using(crate::proofs::MovedRowLemmas::moved_good))]
 pub(crate) fn moved_blob<W: Wire>(
     alloc: Global,
     old: &Stream,
