@@ -106,6 +106,6 @@ pub compacted_stored : (s t : ThreeStreams) (new : TwoStreams) (cs : List Record
     → EachContent (AreStored (laid t.blobs)) (held_of (logged t) key)
 compacted_stored s t new cs key h placed =
     let made : EachContent (AreStored (laid new.blobs)) (made_by (new_rows new.rows) key) =
-        after_stored (laid new.blobs) key (new_rows new.rows) no_part (each_stored (laid new.blobs) (blocks_of (laid new.rows)) h.stored) (EachContent-no_part (AreStored (laid new.blobs))) in
+    after_stored (laid new.blobs) key (new_rows new.rows) no_part (each_stored (laid new.blobs) (blocks_of (laid new.rows)) h.stored) (EachContent-no_part (AreStored (laid new.blobs))) in
     subst (λ (b : Streamed). EachContent (AreStored (laid b)) (held_of (logged t) key)) (sym placed.blobs)
     (subst (EachContent (AreStored (laid new.blobs))) (sym (rows_mean (with_data s new.blobs) t new.rows key placed)) made)

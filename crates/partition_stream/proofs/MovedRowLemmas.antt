@@ -159,7 +159,7 @@ module _ (es fs : List (List Block)) where
   row_same : (a b : StoredBlob) → IsMovedRow es a fs b → is_stored_blob b ≡ is_stored_blob a
   row_same a b m =
       λ i. is_blob (m.blob i) && (some_same a.committed b.committed m.committed i || nat_lt 0 (zip_length MovedUncommitted a.uncommitted b.uncommitted m.uncommitted i))
-          && committed_same a.committed b.committed m.committed i && uncommitted_same a.uncommitted b.uncommitted m.uncommitted i
+      && committed_same a.committed b.committed m.committed i && uncommitted_same a.uncommitted b.uncommitted m.uncommitted i
 
   -- the row of a good change makes a good change once it is moved
   pub moved_good : (key : Key) (a b : StoredBlob) → IsTrue (is_change (record { key = key; act = act.StoredBlob a })) → IsMovedRow es a fs b

@@ -16,11 +16,7 @@ use std::alloc::Global;
 use stream_manager::Stream;
 
 // The piece with its bytes.
-fn read_piece<W: Wire>(
-    old: &Stream,
-    piece: &Piece,
-    wire: &mut W,
-) -> Result<Piece, CompactionFault>
+fn read_piece<W: Wire>(old: &Stream, piece: &Piece, wire: &mut W) -> Result<Piece, CompactionFault>
     requires { IsStored (laid old.now) piece.now }
     ensures read { IfOk result (λ p. p ≡ read_piece (laid old.now) piece.now) }
     ensures counted { FailsCompaction result (W.faults wire.old) (W.faults wire.new) }

@@ -107,9 +107,11 @@ module _ (m s' : SlotState) (q : Asked) (t : ℕ) (F : Type 0) (own : Option Pas
   histories_next = histories_after m.pairs m.histories q t
 
   entered_next : s' ≡ record m { histories = histories_next } → Entered
-  entered_next after =
-      (subst (λ (h : Histories). (history_at h q.ask.key ≡ history_at m.histories q.ask.key) ⊎ (history_at h q.ask.key ≡ with_last (history_at m.histories q.ask.key) own))
-      (sym (ap (λ (v : SlotState). v.histories) after)) (after_own m.pairs m.histories q t own is_own), ap (λ (v : SlotState). v.pairs) after)
+  entered_next after = (
+    subst (λ (h : Histories). (history_at h q.ask.key ≡ history_at m.histories q.ask.key) ⊎ (history_at h q.ask.key ≡ with_last (history_at m.histories q.ask.key) own))
+        (sym (ap (λ (v : SlotState). v.histories) after)) (after_own m.pairs m.histories q t own is_own),
+    ap (λ (v : SlotState). v.pairs) after,
+  )
 
   unchanged : (history_at s'.histories q.ask.key ≡ history_at m.histories q.ask.key) → s'.pairs ≡ m.pairs → Entered
   unchanged same pairs = (inl same, pairs)

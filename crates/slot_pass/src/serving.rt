@@ -81,10 +81,7 @@ fn own_entry(
 }
 
 // The slot's doubt, if it is a change of this container.
-fn own_doubt(
-    slot: &StoredSlot<KeptHistories>,
-    key: &Key,
-) -> Result<Option<Past>, AllocError>
+fn own_doubt(slot: &StoredSlot<KeptHistories>, key: &Key) -> Result<Option<Past>, AllocError>
     ensures { IfOk result (λ doubt. IsDoubtOf slot.now.doubt key.now doubt) }
 {
     match slot.doubt() {

@@ -125,11 +125,10 @@ fn has_rows(
     while let Ok(Some((change, _epoch))) = streams.next_change(&mut position, &mut wire) {
         match change.act() {
             Act::ContainerRow(row) if row.count == 5 || row.count == 2 => rows += 1,
-            Act::StoredBlob(row)
-                if has_content(rt, alloc, streams, row, committed, uncommitted) =>
-            {
-                blobs += 1;
-            }
+            Act::StoredBlob(row) if has_content(rt, alloc, streams, row, committed, uncommitted) =>
+                {
+                    blobs += 1;
+                }
             _ => return false,
         }
     }

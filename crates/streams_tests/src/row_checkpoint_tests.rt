@@ -85,7 +85,12 @@ fn loaded(rt: &impl Abort, alloc: Global, streams: &Streams, name: &str) -> Seen
 }
 
 /// Writes a checkpoint of the rows that the changes of the streams make.
-pub(crate) fn checkpoint(rt: &impl Abort, alloc: Global, streams: &mut Streams, wire: &mut Script) -> Told {
+pub(crate) fn checkpoint(
+    rt: &impl Abort,
+    alloc: Global,
+    streams: &mut Streams,
+    wire: &mut Script,
+) -> Told {
     let rows = &load(rt, alloc, streams);
     let replaced = checkpoint_rows(alloc, streams, rows, 1_000_000, wire);
     match replaced {

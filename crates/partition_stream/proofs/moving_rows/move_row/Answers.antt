@@ -9,5 +9,5 @@ returns-in_err-uncommitted-clause-kept g c = λ p b here. c.move_uncommitted.ens
 pub returns-clause-moved : goal.returns-clause-moved
 returns-clause-moved g c =
     let part = part_stays (laid c.args.old.now) (laid c.move_part.new.new) (laid c.move_uncommitted.new.new) c.move_uncommitted.ensures.kept
-        c.args.row.now.committed c.in_ok-committed.committed c.in_ok-committed.ensures.moved in
+    c.args.row.now.committed c.in_ok-committed.committed c.in_ok-committed.ensures.moved in
     record { blob = search rules; committed = part; uncommitted = search rules }
