@@ -40,10 +40,10 @@ fails_later (Err fault.Unreachable) a b c g f = (grows_twice a b c g f.0, omega 
 fails_later (Err fault.NoMemory) a b c g f = grows_twice a b c g f
 
 -- the faults of a call that failed, whatever it would have given
-pub fails_as : {T U : Type 0} (e : CompactionFault) (old new : Calls) → FailsCompaction {T = T} (Err e) old new → FailsCompaction {T = U} (Err e) old new
-fails_as fault.Busy old new f = f
-fails_as fault.Unreachable old new f = f
-fails_as fault.NoMemory old new f = f
+pub fails_as : (T U : Type 0) (e : CompactionFault) (old new : Calls) → FailsCompaction {T = T} (Err e) old new → FailsCompaction {T = U} (Err e) old new
+fails_as T U fault.Busy old new f = f
+fails_as T U fault.Unreachable old new f = f
+fails_as T U fault.NoMemory old new f = f
 
 -- ---- content that was read
 

@@ -14,7 +14,7 @@ use Rattle.stamp_types.specs.declared.committed.Committed.{Committed}
 use Rattle.stamp_types.specs.declared.committed.UncommittedBlock.{UncommittedBlock}
 use Rattle.stamp_types.specs.declared.piece.Piece.{Piece}
 use Rattle.partition_stream.specs.Changes.{Recorded}
-use Rattle.partition_stream.specs.Compactions.{AreMoved, AreMovedBlocks, AreMovedRecords, AreMovedUncommitted, IsMovedAct, IsMovedBlock, IsMovedCommitted, IsMovedPart, IsMovedUncommitted}
+use Rattle.partition_stream.specs.Compactions.{AreMoved, AreMovedBlocks, AreMovedRecords, AreMovedUncommitted, IsMovedAct, IsMovedBlock, IsMovedCommitted, IsMovedPart, IsMovedRecord, IsMovedUncommitted}
 use Rattle.partition_stream.specs.Meanings.{acts_on, after_acts, is_on}
 use Rattle.partition_stream.proofs.MovedRowLemmas.{zip_map}
 
@@ -57,22 +57,22 @@ module _ {C : Type 0} (es fs : List (List Block)) (f g : List Piece → C) (alik
   act_read (act.ContainerRow a) (act.ContainerRow b) m p = ap (λ r. changed f (act.ContainerRow r) p) m
   act_read a b m p = absurd m
 
+  -- one row, and then others that make the same of each container
+  next_read : (key : Key) (c d : Recorded) (cs ds : List Recorded) (p : Part C) (b : Bool) → is_on key c ≡ b → IsMovedRecord es c fs d
+      → ((q : Part C) → after_acts g (acts_on key ds) q ≡ after_acts f (acts_on key cs) q)
+      → after_acts g (acts_on key (d ∷ ds)) p ≡ after_acts f (acts_on key (c ∷ cs)) p
+  next_read key c d cs ds p true on m others =
+      ap (λ acts. after_acts g acts p) (acts_next key d ds true (ap (λ k. eq_by_cmp key_cmp k key) m.change.key ∙ on))
+      ∙ others (changed g d.0.act p)
+      ∙ ap (after_acts f (acts_on key cs)) (act_read c.0.act d.0.act m.change.act p)
+      ∙ sym (ap (λ acts. after_acts f acts p) (acts_next key c cs true on))
+  next_read key c d cs ds p false on m others =
+      ap (λ acts. after_acts g acts p) (acts_next key d ds false (ap (λ k. eq_by_cmp key_cmp k key) m.change.key ∙ on)) ∙ others p
+      ∙ sym (ap (λ acts. after_acts f acts p) (acts_next key c cs false on))
+
   -- rows that are moved make the same of each container
   pub rows_read : (key : Key) (cs ds : List Recorded) → AreMovedRecords es cs fs ds → (p : Part C) → after_acts g (acts_on key ds) p ≡ after_acts f (acts_on key cs) p
   rows_read key [] [] m p = refl
   rows_read key [] (d ∷ ds) m p = absurd m
   rows_read key (c ∷ cs) [] m p = absurd m
-  rows_read key (c ∷ cs) (d ∷ ds) m p = by (is_on key c) refl
-    where
-      same : is_on key d ≡ is_on key c
-      same = ap (λ k. eq_by_cmp key_cmp k key) m.0.change.key
-
-      by : (b : Bool) → is_on key c ≡ b → after_acts g (acts_on key (d ∷ ds)) p ≡ after_acts f (acts_on key (c ∷ cs)) p
-      by true on =
-          ap (λ acts. after_acts g acts p) (acts_next key d ds true (same ∙ on))
-          ∙ rows_read key cs ds m.1 (changed g d.0.act p)
-          ∙ ap (after_acts f (acts_on key cs)) (act_read c.0.act d.0.act m.0.change.act p)
-          ∙ sym (ap (λ acts. after_acts f acts p) (acts_next key c cs true on))
-      by false on =
-          ap (λ acts. after_acts g acts p) (acts_next key d ds false (same ∙ on)) ∙ rows_read key cs ds m.1 p
-          ∙ sym (ap (λ acts. after_acts f acts p) (acts_next key c cs false on))
+  rows_read key (c ∷ cs) (d ∷ ds) m p = next_read key c d cs ds p (is_on key c) refl m.0 (λ q. rows_read key cs ds m.1 q)
