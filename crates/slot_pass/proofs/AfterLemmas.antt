@@ -1,6 +1,8 @@
 -- What a slot has of a container after a request of it.
 use Rattle.std.proofs.Common.{◌≡◌, ◌≢◌, ◌⊎◌, inl, inr, ℕ, Bool, true, false, cond, IsTrue, List, [], ◌∷◌, ◌++◌, length, Option, Some, None, unwrap_or, Result, Ok, Err, OnOk, OnErr, IfOk, refl, sym, ap, ◌∙◌, subst, if◌then◌else◌, is_some}
 use Rattle.std.specs.Prelude.{IsSome}
+use Rattle.std.proofs.lemmas.List.{append-nil}
+use mathlib.Core.List.{IsPrefix}
 use Rattle.std.specs.Option.{option_map}
 use Rattle.std.specs.Ordering.{eq_by_cmp}
 use Rattle.std.specs.Cmp.{eq_by_cmp_equiv}
@@ -193,3 +195,60 @@ shown_all s s' key front pairs is same shown = subst (λ (ks : List Keys). IsSho
 pub holds_all : (s s' : SlotState) (key : Key) (old front : List Past) (olds pairs : List Keys) → pairs ≡ pairs_at s.pairs key.account → s'.pairs ≡ s.pairs → front ≡ history_at s'.histories key
     → pass_of key front pairs ≡ pass_with (pass_of key old olds) s'
 holds_all s s' key old front olds pairs is same shows = λ i. record { key = key; front = shows i; pairs = (is ∙ ap (λ (p : Pairs). pairs_at p key.account) (sym same)) i }
+
+-- ---- lists that only get longer
+
+true_false : true ≡ false → ⊥
+true_false h = cc
+
+longer_by : (h : Histories) (e : Past) (key : Key) (b : Bool) → eq_by_cmp key_cmp key e.request.ask.key ≡ b → IsPrefix (history_at h key) (history_at (with_entry h e) key)
+longer_by h e key true tie =
+    subst (λ (k : Key). IsPrefix (history_at h k) (history_at (with_entry h e) k)) (sym (tied key e.request.ask.key tie)) (e ∷ [], sym (own_history h e))
+longer_by h e key false tie =
+    let other : e.request.ask.key ≢ key = λ same. true_false (sym (subst (λ (k : Key). eq_by_cmp key_cmp key k ≡ true) (sym same) ((eq_by_cmp_equiv keys_total).refl key)) ∙ tie) in
+    ([], append-nil (history_at h key) ∙ sym (other_history h e key other))
+
+longer_with : (h : Histories) (e : Past) (key : Key) → IsPrefix (history_at h key) (history_at (with_entry h e) key)
+longer_with h e key = longer_by h e key (eq_by_cmp key_cmp key e.request.ask.key) refl
+
+no_longer : (h g : Histories) (key : Key) → g ≡ h → IsPrefix (history_at h key) (history_at g key)
+no_longer h g key same = ([], append-nil (history_at h key) ∙ ap (λ (x : Histories). history_at x key) (sym same))
+
+-- after a settle
+pub longer_settled : (d : Option Past) (s m : SlotState) (key : Key) → SettlesDoubtBy d s m → IsPrefix (history_at s.histories key) (history_at m.histories key) × (m.pairs ≡ s.pairs)
+longer_settled None s m key same = (no_longer s.histories m.histories key (ap (λ (v : SlotState). v.histories) same), ap (λ (v : SlotState). v.pairs) same)
+longer_settled (Some e) s m key (inl kept) =
+    (subst (λ (g : Histories). IsPrefix (history_at s.histories key) (history_at g key)) (sym (ap (λ (v : SlotState). v.histories) kept)) (longer_with s.histories e key), ap (λ (v : SlotState). v.pairs) kept)
+longer_settled (Some e) s m key (inr dropped) = (no_longer s.histories m.histories key (ap (λ (v : SlotState). v.histories) dropped), ap (λ (v : SlotState). v.pairs) dropped)
+
+longer_if : (h : Histories) (e : Past) (key : Key) (c : Option KeyedAct) → IsPrefix (history_at h key) (history_at (if is_some c then with_entry h e else h) key)
+longer_if h e key None = no_longer h h key refl
+longer_if h e key (Some c) = longer_with h e key
+
+module _ (m s' : SlotState) (q : Asked) (t : ℕ) (F : Type 0) (key : Key) where
+  abbrev Longer : Type 0
+  Longer = IsPrefix (history_at m.histories key) (history_at s'.histories key) × (s'.pairs ≡ m.pairs)
+
+  longer_next : s' ≡ record m { histories = histories_after m.pairs m.histories q t } → Longer
+  longer_next after = (
+    subst (λ (g : Histories). IsPrefix (history_at m.histories key) (history_at g key)) (sym (ap (λ (v : SlotState). v.histories) after))
+        (longer_if m.histories (entry_of m.pairs q t) key (change_now m.pairs m.histories q t)),
+    ap (λ (v : SlotState). v.pairs) after,
+  )
+
+  longer_same : s'.histories ≡ m.histories → s'.pairs ≡ m.pairs → Longer
+  longer_same same pairs = (no_longer m.histories s'.histories key same, pairs)
+
+  -- after a request
+  pub longer_served : (a : Answer) → ServesBy m q t F a s' → Longer
+  longer_served (answer.Done r) (inl served) = longer_next served.after
+  longer_served (answer.Done r) (inr (inl busy)) = longer_same (ap (λ (v : SlotState). v.histories) busy.1.1) (ap (λ (v : SlotState). v.pairs) busy.1.1)
+  longer_served (answer.Done r) (inr (inr unknown)) = longer_same (ap (λ (v : SlotState). v.histories) unknown.1.1.1) (ap (λ (v : SlotState). v.pairs) unknown.1.1.1)
+  longer_served (answer.Later r) served = longer_next served.0.after
+  longer_served answer.NoMemory same = longer_same (ap (λ (v : SlotState). v.histories) same) (ap (λ (v : SlotState). v.pairs) same)
+
+-- the history of the request's container after the request
+pub after_is : (pairs : Pairs) (h : Histories) (q : Asked) (t : ℕ) (c : Option KeyedAct)
+    → history_at (if is_some c then with_entry h (entry_of pairs q t) else h) q.ask.key ≡ (if is_some c then history_at h q.ask.key ++ entry_of pairs q t ∷ [] else history_at h q.ask.key)
+after_is pairs h q t None = refl
+after_is pairs h q t (Some c) = own_history h (entry_of pairs q t)

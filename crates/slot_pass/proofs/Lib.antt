@@ -1,4 +1,5 @@
 mod AfterLemmas
+mod LawLemmas
 mod ListLemmas
 mod ShownLemmas
 mod SpareLemmas
