@@ -65,7 +65,7 @@ impl Service for Passing {
 
 /// A slot over streams with these key pairs, without containers, and a caller with a new pass of this container. The wire gives these
 /// deliveries and answers in turn, and then Done and yes.
-pub(crate) fn passing(
+pub(crate) fn new_passing(
     rt: &impl Abort,
     alloc: Global,
     container: &str,

@@ -1,5 +1,5 @@
 //! What a caller was shown, and how later answers follow from it.
-use crate::pass_samples::{Passing, exchanged, passing};
+use crate::pass_samples::{Passing, exchanged, new_passing};
 use crate::requests::{CREATE, CREATED, GET, GET_BY_POLICY, PUT, PUT_BLOCK, PUT_POLICY, WITHDRAW};
 use crate::samples::{begins, key, pair_with, pairs, says, sent_if};
 use crate::stored_samples::{D, R};
@@ -11,7 +11,7 @@ const OK: &[u8] = b"HTTP/1.1 200 OK\r\n";
 
 // A caller who made the container and put a blob.
 fn caller(rt: &impl Abort, alloc: Global) -> Box<Passing> {
-    let mut first = passing(rt, alloc, "pics", pairs(rt, alloc), &[], &[]);
+    let mut first = new_passing(rt, alloc, "pics", pairs(rt, alloc), &[], &[]);
     assert!(rt; begins(rt, alloc, &mut *first, CREATE, CREATED));
     assert!(rt; begins(rt, alloc, &mut *first, PUT, CREATED));
     first
@@ -57,7 +57,7 @@ fn fault_elsewhere(
 #[test]
 fn a_front_of_another_slot_is_alien(rt: HostRuntime) {
     let mut first = caller(&rt, rt.alloc());
-    let mut other = passing(&rt, rt.alloc(), "pics", pairs(&rt, rt.alloc()), &[], &[]);
+    let mut other = new_passing(&rt, rt.alloc(), "pics", pairs(&rt, rt.alloc()), &[], &[]);
     let fault = fault_elsewhere(&rt, rt.alloc(), &mut *first, &mut *other);
     assert!(rt; fault == Some(AfterFault::Alien(0)));
 }
@@ -68,7 +68,7 @@ fn pairs_of_another_slot_are_named_first(rt: HostRuntime) {
     let mut pairs = Vec::new(rt.alloc());
     let pair = pair_with(&rt, rt.alloc(), "devstoreaccount1", b"new1", 0);
     pairs.push(pair).expect(&rt, "memory");
-    let mut other = passing(&rt, rt.alloc(), "pics", pairs, &[], &[]);
+    let mut other = new_passing(&rt, rt.alloc(), "pics", pairs, &[], &[]);
     let fault = fault_elsewhere(&rt, rt.alloc(), &mut *first, &mut *other);
     assert!(rt; fault == Some(AfterFault::Pairs(0)));
 }
@@ -76,7 +76,7 @@ fn pairs_of_another_slot_are_named_first(rt: HostRuntime) {
 #[test]
 fn fronts_of_two_slots_differ_at_a_place(rt: HostRuntime) {
     let first = caller(&rt, rt.alloc());
-    let mut other = passing(&rt, rt.alloc(), "pics", pairs(&rt, rt.alloc()), &[], &[]);
+    let mut other = new_passing(&rt, rt.alloc(), "pics", pairs(&rt, rt.alloc()), &[], &[]);
     assert!(rt; begins(&rt, rt.alloc(), &mut *other, CREATE, CREATED));
     assert!(rt; begins(&rt, rt.alloc(), &mut *other, PUT_BLOCK, CREATED));
     assert!(rt; meet(&first.pass, &other.pass) == Err(MeetFault::Differ(1)));
@@ -111,7 +111,7 @@ fn keeps_a_doubt(rt: &impl Abort, alloc: Global, slot: &mut Passing) {
 #[test]
 fn a_kept_doubt_is_in_the_front(rt: HostRuntime) {
     let asks = [false, false, false, true, false, false];
-    let mut slot = passing(
+    let mut slot = new_passing(
         &rt,
         rt.alloc(),
         "pics",
