@@ -203,6 +203,7 @@ impl OpenExtent {
     /// The acknowledged block at an index. No byte is copied.
     ///
     /// The nodes are asked in the order 0, 1, 2 until one of them answers yes. Unreachable: each was asked once and answered no.
+    /// NoMemory: a node answered, and the block can have no further owner.
     pub fn read<W: Wire>(&self, index: usize, wire: &mut W) -> Result<Share, ReadFault>
         requires { index < length self.now.extent.blocks }
         ensures read { IfOk result (λ b. slice_get self.now.extent.blocks index ≡ Some b) }

@@ -105,6 +105,8 @@ impl Sealed {
     }
 
     /// The same extent once more: the lists of blocks are copied, and no byte of a block. No node is called.
+    ///
+    /// `AllocError`: memory ran out, or a block can have no further owner.
     pub fn copy(&self, alloc: Global) -> Result<Self, AllocError>
         ensures { IfOk result (λ s. s ≡ self.now) }
     {

@@ -104,7 +104,8 @@ impl Sealed {
     /// The block at an index below the commit length. No byte is copied.
     ///
     /// The nodes that have a copy are asked in the order 0, 1, 2 until one of them answers yes. A node whose replica was discarded
-    /// is never called. Unreachable: every node with a copy was asked once and answered no.
+    /// is never called. Unreachable: every node with a copy was asked once and answered no. NoMemory: a node answered, and the block
+    /// can have no further owner.
     pub fn read<W: Wire>(&self, index: usize, wire: &mut W) -> Result<Share, ReadFault>
         requires { index < length self.now.blocks }
         ensures read { IfOk result (λ b. slice_get self.now.blocks index ≡ Some b) }

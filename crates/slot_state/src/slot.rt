@@ -229,7 +229,7 @@ impl<H: Histories> Slot<H> {
 
     /// Two slots: the first has the keys before `middle`, and the second has `middle` and the keys after it.
     ///
-    /// If memory runs out, the slot comes back as it was.
+    /// `AllocError` if memory runs out. Then the slot comes back as it was.
     pub fn split(self, alloc: Global, middle: &Key) -> Result<(Self, Self), (Self, AllocError)>
         requires { slots.is_inside self middle.now ≡ true }
         ensures halves { IfOk result (λ p.

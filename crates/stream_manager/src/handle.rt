@@ -71,7 +71,7 @@ impl Handle {
     /// The block at an index of the extent. No byte is copied.
     ///
     /// The nodes that have a copy of the extent are asked in the order 0, 1, 2 until one of them answers yes. Unreachable: every node
-    /// with a copy was asked once and answered no.
+    /// with a copy was asked once and answered no. NoMemory: a node answered, and the block can have no further owner.
     pub fn read<W: Wire>(&self, index: usize, wire: &mut W) -> Result<Share, ReadFault>
         requires { index < length self.now.blocks }
         ensures read { IfOk result (λ b. slice_get self.now.blocks index ≡ Some b) }

@@ -61,7 +61,10 @@ impl Stream {
     /// An older doubt is settled first, and an extent that the block would make too large is sealed first. If some delivery is not
     /// Done, the extent is sealed; if the block is not within its commit length, the block is tried once more, on a new extent.
     ///
-    /// All memory that these steps may need is taken first. TooLarge and NoMemory: no node was called, and the stream is as it was.
+    /// All memory that these steps may need is taken first. TooLarge, for a block of over 16,777,216 bytes, and NoMemory: no node was
+    /// called, and the stream is as it was. Busy: the block is in no extent, since it was tried twice, or no node answered the seal of a
+    /// full extent or of an older doubt. Doubt: some delivery was not Done, and then no node answered; the block is in doubt until the
+    /// next settle, append or seal.
     pub fn append<W: Wire>(&mut self, block: &Share, wire: &mut W) -> Result<Place, AppendFault>
         ensures appended { IsAppend result (laid self.old) self.old.last block.now (laid self.new) self.new.last }
         ensures called { CallsAppend result (length self.old.sealed) (length self.new.sealed) (W.calls wire.old) (W.calls wire.new) }
@@ -78,7 +81,7 @@ impl Stream {
 
     /// Settles a doubt, if there is one: the block that is in doubt is kept or dropped.
     ///
-    /// Busy: no node answered, and the stream is as it was.
+    /// Busy: no node answered. NoMemory: no node was called. After both the stream is as it was, and the doubt stays.
     pub fn settle<W: Wire>(&mut self, wire: &mut W) -> Result<Settled, SettleFault>
         ensures settled { IsSettled result (laid self.old) self.old.last (laid self.new) self.new.last }
         ensures called { CallsSettle result (W.calls wire.old) (W.calls wire.new) }
@@ -92,7 +95,7 @@ impl Stream {
     /// Seals the last extent, if it has a block or a doubt. A doubt is settled by this. Each node is asked once, and no node if there is
     /// nothing to seal.
     ///
-    /// Busy: no node answered, and the stream is as it was.
+    /// Busy: no node answered. NoMemory: no node was called. After both the stream is as it was.
     pub fn seal<W: Wire>(&mut self, wire: &mut W) -> Result<(), SettleFault>
         ensures sealed { IsSealed result (laid self.old) self.old.last (laid self.new) self.new.last }
         ensures called { CallsSeal result (length self.old.sealed) (length self.new.sealed) (W.calls wire.old) (W.calls wire.new) }
@@ -108,7 +111,7 @@ impl Stream {
     /// The block at a place. No byte is copied.
     ///
     /// The nodes that have a copy of the extent are asked in the order 0, 1, 2 until one of them answers yes. Unreachable: every node
-    /// with a copy was asked once and answered no.
+    /// with a copy was asked once and answered no. NoMemory: a node answered, and the block can have no further owner.
     pub fn read<W: Wire>(&self, place: Place, wire: &mut W) -> Result<Share, ReadFault>
         requires { IsSome (block_at (laid self.now) place) }
         ensures read { IfOk result (λ b. block_at (laid self.now) place ≡ Some b) }

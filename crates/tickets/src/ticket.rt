@@ -83,7 +83,7 @@ impl Ticket {
     /// The reply. No byte is copied, and no stream is looked at.
     ///
     /// After a fault the ticket comes back, and can be fetched again. Unreachable: every node with a copy of some extent was asked, and
-    /// answered no.
+    /// answered no. NoMemory: memory ran out, or some bytes can have no further owner.
     pub fn fetch<W: Wire>(self, wire: &mut W) -> Result<Reply, (Self, ReadFault)>
         ensures fetched { IfOk result (λ reply. reply ≡ self) }
         ensures back { IfErr result (λ e. e.0 ≡ self) }
