@@ -39,6 +39,7 @@ fn write_rows<W: Wire>(
     requires whole { new.old.last.tried ≡ None }
     requires ready { AreReadyParts (entries rows.now) }
     ensures written { OnOk result (HasRows new.old (all_records (entries rows.now)) new.new) }
+    ensures limit { new.new.limit ≡ new.old.limit }
     ensures counted { FailsPut result (W.faults wire.old) (W.faults wire.new) }
 {
     let containers = all_containers(alloc, rows);
@@ -67,6 +68,7 @@ pub fn checkpoint_rows<W: Wire>(
     ensures log { OnOk result ((logged streams.new).log ≡ []) }
     ensures doubt { (logged streams.new).doubt ≡ None }
     ensures blobs { streams.new.blobs ≡ streams.old.blobs }
+    ensures limits { OnOk result ((streams.new.log.limit ≡ extent_bytes) × (streams.new.rows.limit ≡ extent_bytes)) }
     ensures replaced { IfOk result (λ r. (r.log ≡ streams.old.log) × (r.rows ≡ streams.old.rows)) }
     ensures same { OnErr result (streams.new ≡ streams.old) }
     ensures counted { FailsPut result (W.faults wire.old) (W.faults wire.new) }

@@ -27,6 +27,7 @@ fn add_blob<W: Wire>(
     requires writable { IsWritableBlob key.now name.now blob.now }
     requires placed { IsPlacedRow (name.now, blob.now) }
     ensures written { OnOk result (HasOneRow new.old (recorded key.now (blob_row_of (name.now, blob.now))).0 new.new) }
+    ensures limit { new.new.limit ≡ new.old.limit }
     ensures counted { FailsPut result (W.faults wire.old) (W.faults wire.new) }
 {
     let row = blob_row(alloc, key, name, blob)?;
@@ -44,6 +45,7 @@ fn add_blobs<W: Wire>(
     requires whole { new.old.last.tried ≡ None }
     requires ready { AreReady key.now blobs }
     ensures written { OnOk result (HasRows new.old (map (recorded key.now) (map blob_row_of blobs.entry)) new.new) }
+    ensures limit { new.new.limit ≡ new.old.limit }
     ensures counted { FailsPut result (W.faults wire.old) (W.faults wire.new) }
 {
     let mut left = blobs;
@@ -64,6 +66,7 @@ fn add_container_row<W: Wire>(
     requires named { HasGoodNames key.now }
     requires seen { 1 ≤ found.now.count }
     ensures written { OnOk result (HasOneRow new.old (record { key = key.now; act = act.ContainerRow (container_row_of found.now) }) new.new) }
+    ensures limit { new.new.limit ≡ new.old.limit }
     ensures counted { FailsPut result (W.faults wire.old) (W.faults wire.new) }
 {
     let row = container_row(key, found)?;
@@ -81,6 +84,7 @@ fn add_own<W: Wire>(
     requires whole { new.old.last.tried ≡ None }
     requires writable { IsWritable key.now found.now }
     ensures written { OnOk result (HasRows new.old (map (recorded key.now) (own_acts found.now)) new.new) }
+    ensures limit { new.new.limit ≡ new.old.limit }
     ensures counted { FailsPut result (W.faults wire.old) (W.faults wire.new) }
 {
     if found.count() == 0 {
@@ -109,6 +113,7 @@ fn add_container<W: Wire>(
     requires writable { IsWritable key.now found.now }
     requires ready { AreReady key.now (entries found.now.blobs) }
     ensures written { OnOk result (HasRows new.old (container_records (key.now, found.now)) new.new) }
+    ensures limit { new.new.limit ≡ new.old.limit }
     ensures counted { FailsPut result (W.faults wire.old) (W.faults wire.new) }
 {
     add_own(new, key, found, wire)?;
@@ -127,6 +132,7 @@ pub(crate) fn add_containers<W: Wire>(
     requires whole { new.old.last.tried ≡ None }
     requires ready { AreReadyParts containers }
     ensures written { OnOk result (HasRows new.old (all_records containers.entry) new.new) }
+    ensures limit { new.new.limit ≡ new.old.limit }
     ensures counted { FailsPut result (W.faults wire.old) (W.faults wire.new) }
 {
     let mut left = containers;

@@ -1,4 +1,4 @@
-use Rattle.std.proofs.Common.{map, subst, sym}
+use Rattle.std.proofs.Common.{◌∙◌, map, refl, subst, sym}
 use Rattle.row_trees.specs.RowRecords.{blob_row_of}
 use Rattle.checkpoint_rows.specs.Writing.{HasRows, recorded}
 use Rattle.checkpoint_rows.proofs.CountLemmas.{grows_none, grows_twice}
@@ -7,7 +7,7 @@ use Rattle.checkpoint_rows.proofs.WriteLemmas.{blob_more, no_more}
 use Rattle.checkpoint_rows.proofs.writing.add_blobs.Goals as goal
 
 pub loop-name-init : goal.loop-name-init
-loop-name-init g c = record { can = tt; ends = tt; whole = c.requires.whole; ready = c.requires.ready; written = λ t has. has; counted = grows_none (g.W.Wire.faults c.args.wire.now) }
+loop-name-init g c = record { can = tt; ends = tt; whole = c.requires.whole; ready = c.requires.ready; written = λ t has. has; limit = refl; counted = grows_none (g.W.Wire.faults c.args.wire.now) }
 
 pub add_blob-requires-clause-whole : goal.add_blob-requires-clause-whole
 add_blob-requires-clause-whole g c = c.loop-name.invariant.whole
@@ -29,6 +29,7 @@ loop-name-preserved g c = record {
   written = λ t has.
       c.loop-name.invariant.written t (subst (λ l. HasRows c.loop-name.new (map (recorded c.args.key.now) (map blob_row_of l)) t) (sym c.in-Some.ensures.steps)
       (blob_more c.loop-name.new c.add_blob.new.new t c.args.key.now (c.in-Some.name.now, c.in-Some.blob) c.next.new.self c.in_ok-add_blob.ensures.written has));
+  limit = c.add_blob.ensures.limit ∙ c.loop-name.invariant.limit;
   counted = grows_twice (g.W.Wire.faults c.args.wire.now) (g.W.Wire.faults c.loop-name.wire) (g.W.Wire.faults c.add_blob.new.wire) c.loop-name.invariant.counted c.in_ok-add_blob.ensures.counted;
 }
 
@@ -39,3 +40,6 @@ returns-clause-written g c =
 
 pub returns-clause-counted : goal.returns-clause-counted
 returns-clause-counted g c = c.loop-name.invariant.counted
+
+pub returns-clause-limit : goal.returns-clause-limit
+returns-clause-limit g c = c.loop-name.invariant.limit

@@ -13,6 +13,7 @@ invariant-loop-name g l = record {
   whole : l.new.last.tried ≡ None;
   ready : AreReady l.key l.left;
   written : (t : Streamed) → HasRows l.new (map (recorded l.key) (map blob_row_of l.left)) t → HasRows l.initial.new (map (recorded l.key) (map blob_row_of l.initial.left)) t;
+  limit : l.new.limit ≡ l.initial.new.limit;
   counted : Grows (g.W.Wire.faults l.initial.wire) (g.W.Wire.faults l.wire);
 }
 

@@ -1,4 +1,4 @@
-use Rattle.std.proofs.Common.{subst, sym}
+use Rattle.std.proofs.Common.{◌∙◌, refl, subst, sym}
 use Rattle.checkpoint_rows.specs.Writing.{HasRows, all_records}
 use Rattle.checkpoint_rows.proofs.CountLemmas.{grows_none, grows_twice}
 use Rattle.checkpoint_rows.proofs.ReadyLemmas.{first_part}
@@ -6,7 +6,7 @@ use Rattle.checkpoint_rows.proofs.WriteLemmas.{container_more, no_more}
 use Rattle.checkpoint_rows.proofs.writing.add_containers.Goals as goal
 
 pub loop-key-init : goal.loop-key-init
-loop-key-init g c = record { can = tt; ends = tt; whole = c.requires.whole; ready = c.requires.ready; written = λ t has. has; counted = grows_none (g.W.Wire.faults c.args.wire.now) }
+loop-key-init g c = record { can = tt; ends = tt; whole = c.requires.whole; ready = c.requires.ready; written = λ t has. has; limit = refl; counted = grows_none (g.W.Wire.faults c.args.wire.now) }
 
 pub add_container-requires-clause-whole : goal.add_container-requires-clause-whole
 add_container-requires-clause-whole g c = c.loop-key.invariant.whole
@@ -28,6 +28,7 @@ loop-key-preserved g c = record {
   written = λ t has.
       c.loop-key.invariant.written t (subst (λ l. HasRows c.loop-key.new (all_records l) t) (sym c.in-Some.ensures.steps)
       (container_more c.loop-key.new c.add_container.new.new t (c.in-Some.key.now, c.in-Some.found) c.next.new.self c.in_ok-add_container.ensures.written has));
+  limit = c.add_container.ensures.limit ∙ c.loop-key.invariant.limit;
   counted = grows_twice (g.W.Wire.faults c.args.wire.now) (g.W.Wire.faults c.loop-key.wire) (g.W.Wire.faults c.add_container.new.wire) c.loop-key.invariant.counted c.in_ok-add_container.ensures.counted;
 }
 
@@ -38,3 +39,6 @@ returns-clause-written g c =
 
 pub returns-clause-counted : goal.returns-clause-counted
 returns-clause-counted g c = c.loop-key.invariant.counted
+
+pub returns-clause-limit : goal.returns-clause-limit
+returns-clause-limit g c = c.loop-key.invariant.limit

@@ -12,6 +12,7 @@ invariant-loop-key g l = record {
   whole : l.new.last.tried ≡ None;
   ready : AreReadyParts l.left;
   written : (t : Streamed) → HasRows l.new (all_records l.left) t → HasRows l.initial.new (all_records l.initial.left) t;
+  limit : l.new.limit ≡ l.initial.new.limit;
   counted : Grows (g.W.Wire.faults l.initial.wire) (g.W.Wire.faults l.wire);
 }
 
