@@ -1,3 +1,4 @@
+pub mod CheckpointLemmas
 pub mod CountLemmas
 pub mod CutLemmas
 pub mod FittingLemmas

@@ -29,6 +29,11 @@ abbrev pub stored_fault_of_read : ReadFault → StoredFault
 stored_fault_of_read read.Unreachable = stored.Busy
 stored_fault_of_read read.NoMemory = stored.NoMemory
 
+-- the fault of a checkpoint whose rows were not written
+abbrev pub stored_fault_of_put : PutFault → StoredFault
+stored_fault_of_put put.Busy = stored.Busy
+stored_fault_of_put put.NoMemory = stored.NoMemory
+
 -- the fault of a settle or a seal that failed
 abbrev pub stored_fault_of_settle : SettleFault → StoredFault
 stored_fault_of_settle settle.Busy = stored.Busy

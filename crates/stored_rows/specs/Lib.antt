@@ -1,3 +1,4 @@
+pub mod Checkpoints
 pub mod Counting
 pub mod Faults
 pub mod Fitting

@@ -2,6 +2,7 @@
 ghost use Rattle.std.specs.Prelude.{◌≡◌};
 
 use extent_seal::ReadFault;
+use partition_stream::PutFault;
 use std::alloc::AllocError;
 use stream_manager::SettleFault;
 
@@ -16,7 +17,7 @@ pub enum TakeFault {
     NoMemory,
 }
 
-/// Why rows were not loaded, settled, sealed or cut.
+/// Why rows were not loaded, settled, sealed, cut or written as a checkpoint.
 #[derive(Clone, Copy, PartialEq, Eq)]
 pub enum StoredFault {
     /// No node that was needed answered.
@@ -49,6 +50,20 @@ impl From<SettleFault> for StoredFault {
         match fault {
             SettleFault::Busy => Self::Busy,
             SettleFault::NoMemory => Self::NoMemory,
+        }
+    }
+}
+
+impl From<PutFault> for StoredFault {
+    ghost use Rattle.std.specs.Prelude.{◌≡◌};
+    ghost use Rattle.stored_rows.specs.Faults.{stored_fault_of_put};
+
+    ghost from_gives = { λ f e. e ≡ stored_fault_of_put f };
+
+    fn from(fault: PutFault) -> Self {
+        match fault {
+            PutFault::Busy => Self::Busy,
+            PutFault::NoMemory => Self::NoMemory,
         }
     }
 }

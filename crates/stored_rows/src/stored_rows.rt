@@ -1,6 +1,7 @@
 //! The rows of a range of keys, in streams and in memory.
 ghost use Rattle.std.specs.Prelude.{◌≡◌};
 
+mod checkpoint;
 mod repair;
 
 use crate::cutting::{ends_of, share_upper};
