@@ -1,5 +1,5 @@
 -- What the laws of slots over streams rest on.
-use Rattle.std.proofs.Common.{◌≡◌, ◌∙◌, ◌⊎◌, ◌&&◌, inl, inr, ℕ, Bool, true, false, cond, IsSome, List, [], Option, Some, None, Ok, refl, sym, ap, subst}
+use Rattle.std.proofs.Common.{◌≡◌, ◌∙◌, ◌⊎◌, ◌&&◌, inl, inr, ℕ, Bool, true, false, cond, IsSome, List, [], Option, Some, None, Ok, refl, sym, ap}
 use Rattle.std.specs.FinMap.{retain_keys}
 use Rattle.std.specs.Ordering.{is_gt, is_le}
 use Rattle.std.specs.declared.cmp.Ordering.{Ordering}
@@ -19,7 +19,6 @@ use Rattle.stamp_model.specs.SeenContainers.{is_under}
 use Rattle.stored_rows.specs.Loaded.{AreRowsOf}
 use Rattle.stored_rows.specs.Ranges.{covers, is_before_end}
 use Rattle.stored_rows.specs.States.{Stored, bytes_of}
-use Rattle.stored_rows.specs.declared.key_range.KeyRange.{KeyRange}
 use Rattle.stored_rows.proofs.LoadLemmas.{part_of-apart, part_of-covered}
 use Rattle.slot_state.specs.HistoryMaps.{Histories, history_at, with_entry}
 use Rattle.slot_state.specs.Pairs.{Pairs, pairs_at}

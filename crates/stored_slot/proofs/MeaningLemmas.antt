@@ -31,6 +31,7 @@ use Rattle.stamp_model.proofs.HistoryLemmas.{IsLegalFrom-append, IsLegalFrom-nil
 use Rattle.stamp_model.proofs.CountLemmas.{said_of_act_by}
 use Rattle.stamp_model.proofs.EffectLemmas.{on_key}
 use Rattle.stamp_model.proofs.ReplyLemmas.{unrefused}
+use Rattle.stored_rows.specs.Checkpoints.{MeansTheRange}
 use Rattle.stored_rows.specs.Ranges.{covers}
 use Rattle.stored_rows.specs.States.{IsChanged, IsInDoubt, IsKeptAs, IsTaken, MeansTheSame, SettlesRows, Stored, bytes_of, doubt_of, pieces_of}
 use Rattle.stored_rows.specs.declared.faults.Ended.{Ended}
@@ -242,10 +243,24 @@ replays_nothing pairs h s numbered empty none =
 pub sealed_kept : (pairs : Pairs) (h : Histories) (s t : Stored) → AreReplays pairs h s → MeansTheSame s t → doubt_of t ≡ None → AreOfStreams pairs h t None
 sealed_kept pairs h s t are same none = record { replays = same_replays pairs h s t are same.range same.bytes; doubted = none }
 
+-- the streams mean the same of the range
+pub range_kept : (pairs : Pairs) (h : Histories) (s t : Stored) → AreReplays pairs h s → MeansTheRange s t → doubt_of t ≡ None → AreOfStreams pairs h t None
+range_kept pairs h s t are same none = record {
+  replays = record {
+    numbered = are.numbered;
+    bytes = λ key covered.
+        let own : covers s.range key ≡ true = sym (ap (λ r. covers r key) same.range) ∙ covered in
+        same.bytes key own ∙ are.bytes key own;
+    legal = are.legal;
+    latest = are.latest;
+  };
+  doubted = none;
+}
+
 pub slot_same : (pairs : Pairs) (h : Histories) (s t : Stored) (d : Option Past) → t.range ≡ s.range → slot_with pairs h t d ≡ slot_with pairs h s d
 slot_same pairs h s t d same = λ i. record { histories = h; pairs = pairs; from = (same i).from; to = (same i).to; doubt = d }
 
-pub left_settled : (r : Result (Unit {0}) StoredFault) (s m t : SlotState) → SettlesSlot s m → t ≡ m → LeavesSettled r s t
+pub left_settled : {T : Type 0} (r : Result T StoredFault) (s m t : SlotState) → SettlesSlot s m → t ≡ m → LeavesSettled r s t
 left_settled (Ok u) s m t settled same = subst (λ (x : SlotState). SettlesSlot s x) (sym same) settled
 left_settled (Err e) s m t settled same = inl (subst (λ (x : SlotState). SettlesSlot s x) (sym same) settled)
 

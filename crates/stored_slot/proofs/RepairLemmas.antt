@@ -1,5 +1,5 @@
 -- Repairs of a slot, which settle a doubt first.
-use Rattle.std.proofs.Common.{◌≡◌, ◌≤◌, ◌∙◌, inl, inr, ℕ, IsSome, Option, None, Result, Ok, Err, length, sym, ap, subst}
+use Rattle.std.proofs.Common.{◌≡◌, ◌≤◌, ◌∙◌, inl, inr, ℕ, IsSome, Option, Result, Ok, Err, length, sym, ap, subst}
 use Rattle.std.specs.Prelude.{◌↔◌, OnErr}
 use Rattle.extent_node.specs.Faults.{Calls}
 use Rattle.extent_seal.specs.Counting.{Grows}

@@ -34,7 +34,7 @@ SettlesOrFails (Ok u) s t = SettlesSlot s t
 SettlesOrFails (Err e) s t = IsSome s.doubt × (t ≡ s)
 
 -- a step settles the doubt, and then changes nothing; or it fails, also before the doubt is settled
-abbrev pub LeavesSettled : Result (Unit {0}) StoredFault → SlotState → SlotState → Type 0
+abbrev pub LeavesSettled : {T : Type 0} → Result T StoredFault → SlotState → SlotState → Type 0
 LeavesSettled (Ok u) s t = SettlesSlot s t
 LeavesSettled (Err e) s t = SettlesSlot s t ⊎ (IsSome s.doubt × (t ≡ s))
 

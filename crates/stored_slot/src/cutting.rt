@@ -24,6 +24,7 @@ struct Halves<H: Histories> {
     below: H,
     above: H,
     pairs: Arc<AccountPairs>,
+    extent_bytes: u32,
 }
 
 // What the halves need, from what the slot has.
@@ -31,6 +32,7 @@ fn make_halves<H: Histories>(
     histories: &H,
     pairs: &Arc<AccountPairs>,
     alloc: Global,
+    extent_bytes: u32,
     middle: &Key,
 ) -> Result<Halves<H>, AllocError>
     ensures below { IfOk result (λ ready. H.held ready.below ≡ finite.retain_keys (H.held histories.now) (is_below middle.now)) }
@@ -43,6 +45,7 @@ fn make_halves<H: Histories>(
         below,
         above,
         pairs,
+        extent_bytes,
     })
 }
 
@@ -70,12 +73,14 @@ fn cut_with<H: Histories, W: Wire>(
                 below,
                 above,
                 pairs,
+                extent_bytes,
             } = halves;
             *histories = below;
             Ok(StoredSlot {
                 histories: above,
                 stored: upper,
                 pairs,
+                extent_bytes,
                 doubt: None,
             })
         }
@@ -92,6 +97,7 @@ fn cut_settled<H: Histories, W: Wire>(
     stored: &mut StoredRows,
     pairs: &Arc<AccountPairs>,
     alloc: Global,
+    extent_bytes: u32,
     middle: &Key,
     wire: &mut W,
 ) -> Result<StoredSlot<H>, StoredFault>
@@ -103,7 +109,7 @@ fn cut_settled<H: Histories, W: Wire>(
         (slot_with (arc_value pairs.now) (H.held histories.new) stored.new None) }
     ensures counted { FailsStored result (W.faults wire.old) (W.faults wire.new) }
 {
-    match make_halves(histories, pairs, alloc, middle) {
+    match make_halves(histories, pairs, alloc, extent_bytes, middle) {
         Ok(halves) => cut_with(histories, stored, halves, middle, wire),
         Err(AllocError) => Err(StoredFault::NoMemory),
     }
@@ -116,6 +122,7 @@ pub(crate) fn cutting<H: Histories, W: Wire>(
     doubt: &mut Option<Past>,
     pairs: &Arc<AccountPairs>,
     alloc: Global,
+    extent_bytes: u32,
     middle: &Key,
     wire: &mut W,
 ) -> Result<StoredSlot<H>, StoredFault>
@@ -127,7 +134,7 @@ pub(crate) fn cutting<H: Histories, W: Wire>(
     ensures counted { FailsStored result (W.faults wire.old) (W.faults wire.new) }
 {
     match settling(histories, stored, doubt, pairs, alloc, wire) {
-        Ok(()) => cut_settled(histories, stored, pairs, alloc, middle, wire),
+        Ok(()) => cut_settled(histories, stored, pairs, alloc, extent_bytes, middle, wire),
         Err(fault) => Err(fault),
     }
 }

@@ -1,7 +1,7 @@
 //! Steps of a slot that change nothing of what it keeps, except that they settle a doubt first.
-ghost use Rattle.std.specs.Prelude.{◌≡◌, ◌≤◌, Err, OnOk, length};
+ghost use Rattle.std.specs.Prelude.{◌≡◌, ◌≤◌, [], true, Err, OnOk, length};
 ghost use Rattle.partition_stream.specs.Repairs.{stream_of};
-ghost use Rattle.partition_stream.specs.Streams.{AreSealed};
+ghost use Rattle.partition_stream.specs.Streams.{AreSealed, logged};
 ghost use Rattle.stream_manager.specs.declared.faults.RepairFault.TheVariants.{NoSuchExtent};
 ghost use Rattle.stored_rows.specs.Counting.{FailsStored};
 ghost use Rattle.stored_rows.specs.Repairs.{FailsRepair, HasCopyOn};
@@ -10,7 +10,7 @@ ghost use Rattle.stored_slot.specs.Settled.{LeavesRepaired, LeavesSettled, repai
 
 use crate::settling::settling;
 use extent_node::{Node, Wire};
-use partition_stream::StreamName;
+use partition_stream::{Replaced, StreamName};
 use slot_state::{AccountPairs, Histories};
 use stamp_types::Past;
 use std::alloc::Global;
@@ -30,6 +30,7 @@ pub(crate) fn loading<H: Histories, W: Wire>(
     ensures after { AreOfStreams pairs.now (H.held histories.new) stored.new doubt.new }
     ensures left { LeavesSettled result (slot_with pairs.now (H.held histories.old) stored.old doubt.old)
         (slot_with pairs.now (H.held histories.new) stored.new doubt.new) }
+    ensures loaded { OnOk result (stored.new.is_loaded ≡ true) }
     ensures counted { FailsStored result (W.faults wire.old) (W.faults wire.new) }
 {
     match settling(histories, stored, doubt, pairs, alloc, wire) {
@@ -56,6 +57,31 @@ pub(crate) fn sealing<H: Histories, W: Wire>(
 {
     match settling(histories, stored, doubt, pairs, alloc, wire) {
         Ok(()) => stored.seal(wire),
+        Err(fault) => Err(fault),
+    }
+}
+
+/// Settles a doubt, if there is one, loads the rows, if they are not loaded, and then writes them as a checkpoint: they take the place of
+/// the log and of the older rows, which are answered.
+pub(crate) fn checkpointing<H: Histories, W: Wire>(
+    histories: &mut H,
+    stored: &mut StoredRows,
+    doubt: &mut Option<Past>,
+    pairs: &AccountPairs,
+    alloc: Global,
+    extent_bytes: u32,
+    wire: &mut W,
+) -> Result<Replaced, StoredFault>
+    requires before { AreOfStreams pairs.now (H.held histories.old) stored.old doubt.old }
+    ensures after { AreOfStreams pairs.now (H.held histories.new) stored.new doubt.new }
+    ensures left { LeavesSettled result (slot_with pairs.now (H.held histories.old) stored.old doubt.old)
+        (slot_with pairs.now (H.held histories.new) stored.new doubt.new) }
+    ensures emptied { OnOk result ((logged stored.new.streams).log ≡ []) }
+    ensures limits { OnOk result ((stored.new.streams.log.limit ≡ extent_bytes) × (stored.new.streams.rows.limit ≡ extent_bytes)) }
+    ensures counted { FailsStored result (W.faults wire.old) (W.faults wire.new) }
+{
+    match loading(histories, stored, doubt, pairs, alloc, wire) {
+        Ok(()) => stored.checkpoint(extent_bytes, wire),
         Err(fault) => Err(fault),
     }
 }

@@ -15,11 +15,11 @@ ghost use Rattle.stored_slot.specs.Served.{Faulted, SlotServes};
 ghost use Rattle.stored_slot.specs.Settled.{CutsSettled, LeavesRepaired, LeavesSettled, SettlesOrFails};
 
 use crate::cutting::cutting;
-use crate::keeping::{loading, repairing, sealing};
+use crate::keeping::{checkpointing, loading, repairing, sealing};
 use crate::serving::serving;
 use crate::settling::settling;
 use extent_node::{Node, Wire};
-use partition_stream::StreamName;
+use partition_stream::{Replaced, StreamName};
 use policy_book::Judged;
 use range_rows::Reading;
 use slot_state::{AccountPairs, Histories};
@@ -40,6 +40,8 @@ pub struct StoredSlot<H: Histories> {
     pub(crate) histories: H,
     pub(crate) stored: StoredRows,
     pub(crate) pairs: Arc<AccountPairs>,
+    // The limit of the extents of each log and of all rows that a checkpoint begins.
+    pub(crate) extent_bytes: u32,
     // The change that is in doubt, with the moment and the epoch at which it was served.
     pub(crate) doubt: Option<Past>,
 }
@@ -76,6 +78,7 @@ impl<H: Histories> StoredSlot<H> {
             histories: H::none(alloc),
             stored: StoredRows::new(alloc, extent_bytes, range),
             pairs,
+            extent_bytes,
             doubt: None,
         }
     }
@@ -211,6 +214,30 @@ impl<H: Histories> StoredSlot<H> {
         )
     }
 
+    /// Settles a doubt, if there is one, loads the rows, if they are not loaded, and writes them as a checkpoint: they take the place of the
+    /// log and of the older rows. Gives what was replaced, which may be dropped after a lock. No byte of content is copied.
+    ///
+    /// After a fault nothing is changed, except that a doubt may have ended and that the rows may be loaded; what was written of the new rows
+    /// is dropped. Busy: nodes that were needed did not answer, or a row was tried twice.
+    pub fn checkpoint<W: Wire>(
+        &mut self,
+        alloc: Global,
+        wire: &mut W,
+    ) -> Result<Replaced, StoredFault>
+        ensures left { LeavesSettled result self.old self.new }
+        ensures counted { FailsStored result (W.faults wire.old) (W.faults wire.new) }
+    {
+        checkpointing(
+            &mut self.histories,
+            &mut self.stored,
+            &mut self.doubt,
+            &self.pairs,
+            alloc,
+            self.extent_bytes,
+            wire,
+        )
+    }
+
     /// Settles a doubt, if there is one, seals the streams, and cuts the slot at a key: the containers of `middle` and of the keys after it
     /// leave. Each container is in one half, whole, with its history. Both halves share the sealed extents and the key pairs.
     ///
@@ -232,6 +259,7 @@ impl<H: Histories> StoredSlot<H> {
             &mut self.doubt,
             &self.pairs,
             alloc,
+            self.extent_bytes,
             middle,
             wire,
         )
