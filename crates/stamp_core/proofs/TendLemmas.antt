@@ -34,7 +34,7 @@ use Rattle.stamp_core.proofs.ServeLemmas.{get_any}
 
 module _ (h new : SlotState) (old later : Calls) where
   -- a step that settles, and then leaves the slot
-  pub leaves_cared : (x : Care) → out_of_reach x ≡ Err fault.Busy → (r : Result (Unit {0}) StoredFault) → LeavesSettled r h new → FailsStored r old later
+  pub leaves_cared : {T : Type 0} (x : Care) → out_of_reach x ≡ Err fault.Busy → (r : Result T StoredFault) → LeavesSettled r h new → FailsStored r old later
       → CaresSettled x h (Faulted old later) (slot_answer r) new (slot_answer r ≡ Ok outcome.Made)
   leaves_cared x reach (Ok u) left counted = inl (left, inl refl)
   leaves_cared x reach (Err stored.Busy) (inl left) counted = inl (left, inr (inl (counted.0, sym reach)))
@@ -68,6 +68,7 @@ tended_range care.Settle h new F r (inl p) = settled_range h new p.0
 tended_range care.Settle h new F r (inr p) = ap range_of p.1.1
 tended_range care.Seal h new F r p = cared_range care.Seal h new F r _ p
 tended_range care.Load h new F r p = cared_range care.Load h new F r _ p
+tended_range care.Checkpoint h new F r p = cared_range care.Checkpoint h new F r _ p
 tended_range (care.Repair stream extent node) h new F r p = cared_range (care.Repair stream extent node) h new F r _ p
 tended_range care.Unload h new F r p = ap range_of p.1
 tended_range (care.Move server) h new F r p = ap range_of p.1
@@ -109,6 +110,7 @@ module _ (F : Type 0) (b : Bool) (failed : F → b ≡ true) (c : CoreState) (s 
   no_slot_takes care.Settle over is = not_there _ over is
   no_slot_takes care.Seal over is = not_there _ over is
   no_slot_takes care.Load over is = not_there _ over is
+  no_slot_takes care.Checkpoint over is = not_there _ over is
   no_slot_takes care.Unload over is = not_there _ over is
   no_slot_takes (care.Move server) over is = not_there _ over is
   no_slot_takes (care.Repair stream extent node) over is = not_there _ over is
@@ -149,6 +151,7 @@ module _ (F : Type 0) (b : Bool) (failed : F → b ≡ true) (c : CoreState) (s 
     tended_takes care.Settle p = there _ (settles_only p)
     tended_takes care.Seal p = there _ (cared care.Seal (step.Seal i) (λ f. inl (failed f.0, f.1)) (r ≡ Ok outcome.Made) p)
     tended_takes care.Load p = there _ (cared care.Load (step.Load i) (λ f. inl (failed f.0, f.1)) (r ≡ Ok outcome.Made) p)
+    tended_takes care.Checkpoint p = there _ (cared care.Checkpoint (step.Checkpoint i) (λ f. inl (failed f.0, f.1)) (r ≡ Ok outcome.Made) p)
     tended_takes (care.Repair stream extent node) p =
         there _ (cared (care.Repair stream extent node) (step.Repair i stream extent node) (λ f. inl (failed f.0, f.1)) ((r ≡ Ok outcome.Made) ⊎ (r ≡ Err fault.NoSuchExtent)) p)
     tended_takes care.Unload p = leaves p

@@ -32,7 +32,6 @@ use Rattle.stamp_core.specs.declared.care.Care.TheVariants as care
 
 -- a core makes steps of this kind
 abbrev pub makes : Step → Bool
-makes (step.Checkpoint i) = false
 makes (step.Compact i) = false
 makes (step.Rotate account which key) = false
 makes other = true
@@ -131,6 +130,7 @@ abbrev pub step_of : ℕ → Care → Step
 step_of i care.Settle = step.Settle i
 step_of i care.Seal = step.Seal i
 step_of i care.Load = step.Load i
+step_of i care.Checkpoint = step.Checkpoint i
 step_of i care.Unload = step.Unload i
 step_of i (care.Move server) = step.Move i server
 step_of i (care.Repair stream extent node) = step.Repair i stream extent node
@@ -147,7 +147,7 @@ fault_of_repair repair.Unreachable = fault.Unreachable
 fault_of_repair repair.NoMemory = fault.NoMemory
 
 -- what a step answers whose call of the slot ended so
-abbrev pub slot_answer : Result (Unit {0}) StoredFault → Answer
+abbrev pub slot_answer : {T : Type 0} → Result T StoredFault → Answer
 slot_answer (Ok u) = Ok outcome.Made
 slot_answer (Err e) = Err (fault_of_slot e)
 
@@ -175,6 +175,7 @@ abbrev pub IsTended : Care → SlotState → Type 0 → Answer → SlotState →
 IsTended care.Settle h faulted r h' = (SettlesSlot h h' × (r ≡ Ok outcome.Made)) ⊎ (IsSome h.doubt × (FailsCare care.Settle faulted r × (h' ≡ h)))
 IsTended care.Seal h faulted r h' = CaresSettled care.Seal h faulted r h' (r ≡ Ok outcome.Made)
 IsTended care.Load h faulted r h' = CaresSettled care.Load h faulted r h' (r ≡ Ok outcome.Made)
+IsTended care.Checkpoint h faulted r h' = CaresSettled care.Checkpoint h faulted r h' (r ≡ Ok outcome.Made)
 IsTended (care.Repair stream extent node) h faulted r h' =
     CaresSettled (care.Repair stream extent node) h faulted r h' ((r ≡ Ok outcome.Made) ⊎ (r ≡ Err fault.NoSuchExtent))
 IsTended care.Unload h faulted r h' = (r ≡ Ok outcome.Made) × (h' ≡ h)

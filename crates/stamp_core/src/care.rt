@@ -11,6 +11,8 @@ pub enum Care {
     Seal,
     /// Read the rows from the streams.
     Load,
+    /// Write the rows as a checkpoint, and begin the log anew.
+    Checkpoint,
     /// Drop the rows from memory.
     Unload,
     /// Give the slot to another server.

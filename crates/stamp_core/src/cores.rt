@@ -233,8 +233,8 @@ impl<H: Histories> Core<H> {
         split(&mut self.slots, &mut self.spans, alloc, slot, middle, wire)
     }
 
-    /// One Settle, Seal, Load, Unload, Move or Repair step, on the slot with this number. All but Unload and Move settle the doubt of the slot
-    /// first.
+    /// One Settle, Seal, Load, Checkpoint, Unload, Move or Repair step, on the slot with this number. All but Unload and Move settle the doubt
+    /// of the slot first. What a checkpoint replaces is dropped.
     ///
     /// `NoSuchSlot` if no slot has the number, and `NoSuchExtent` if the stream of a repair has no sealed extent of the number. `Busy`, or
     /// `Unreachable` of a repair, if nodes that were needed did not answer, and `NoMemory` if memory runs out. After a fault nothing is changed,
@@ -269,14 +269,11 @@ impl<H: Histories> Core<H> {
         tell(&mut self.tickets, alloc, answer, wire)
     }
 
-    /// Whether the core makes steps of this kind: all but Checkpoint, Compact and Rotate.
+    /// Whether the core makes steps of this kind: all but Compact and Rotate.
     pub fn makes(step: &Step) -> bool
         ensures { result ≡ kinds.makes step.now }
     {
-        !matches!(
-            step,
-            Step::Checkpoint { .. } | Step::Compact { .. } | Step::Rotate { .. }
-        )
+        !matches!(step, Step::Compact { .. } | Step::Rotate { .. })
     }
 
     /// One step: it answers what the machine may answer, and leaves what the machine leaves, from each state that the core stands for. That a
@@ -299,6 +296,7 @@ impl<H: Histories> Core<H> {
             Step::Settle { slot } => self.tend(alloc, slot, Care::Settle, wire),
             Step::Seal { slot } => self.tend(alloc, slot, Care::Seal, wire),
             Step::Load { slot } => self.tend(alloc, slot, Care::Load, wire),
+            Step::Checkpoint { slot } => self.tend(alloc, slot, Care::Checkpoint, wire),
             Step::Unload { slot } => self.tend(alloc, slot, Care::Unload, wire),
             Step::Move { slot, server } => self.tend(alloc, slot, Care::Move { server }, wire),
             Step::Repair {

@@ -10,6 +10,7 @@ use crate::care::Care;
 use core_run::{Outcome, StepFault};
 use extent_node::Wire;
 use partition_map::Spans;
+use partition_stream::Replaced;
 use slot_state::Histories;
 use std::alloc::Global;
 use stored_rows::StoredFault;
@@ -47,6 +48,19 @@ fn slot_answer(called: Result<(), StoredFault>) -> Result<Outcome, StepFault>
     }
 }
 
+// What a checkpoint answers that ended so. What it replaced is dropped.
+fn checkpoint_answer(called: Result<Replaced, StoredFault>) -> Result<Outcome, StepFault>
+    ensures { result ≡ steps.slot_answer called }
+{
+    match called {
+        Ok(replaced) => {
+            drop(replaced);
+            Ok(Outcome::Made)
+        }
+        Err(fault) => Err(fault_of_slot(fault)),
+    }
+}
+
 // What a repair answers that ended so.
 fn repair_answer(called: Result<(), RepairFault>) -> Result<Outcome, StepFault>
     ensures { result ≡ steps.repair_answer called }
@@ -72,6 +86,7 @@ fn tend_slot<H: Histories, W: Wire>(
         Care::Settle => slot_answer(slot.settle(alloc, wire)),
         Care::Seal => slot_answer(slot.seal(alloc, wire)),
         Care::Load => slot_answer(slot.load(alloc, wire)),
+        Care::Checkpoint => checkpoint_answer(slot.checkpoint(alloc, wire)),
         Care::Unload => {
             slot.unload();
             Ok(Outcome::Made)
