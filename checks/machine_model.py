@@ -5,7 +5,7 @@ whose change is in doubt. Replies are made by replay_model.py, and the lengths o
 docs/theorem.md, and never calls the product.
 """
 from head_model import head_end, read_head
-from record_model import record_length
+from record_model import blob_row_length, container_row_length, record_length
 from replay_model import Asked, Denial, Stamp, denied_bytes, range_of, reply_bytes, route
 from stream_model import Streams
 
@@ -41,6 +41,16 @@ class Logged:
         return self.length
 
 
+class Row:
+    """A row of a checkpoint, as a block."""
+
+    def __init__(self, length):
+        self.length = length
+
+    def __len__(self):
+        return self.length
+
+
 class Containers(Stamp):
     """The containers of all slots. A page of containers ends at a bound."""
 
@@ -55,20 +65,30 @@ class Containers(Stamp):
 
 
 class Slot:
-    """The containers from the first key up to the bound, in streams."""
+    """The containers from the first key up to the bound, in streams. The rows of the last checkpoint are what the entries before it made."""
 
-    def __init__(self, streams, first="", bound=None, is_loaded=True):
-        self.streams, self.first, self.bound, self.is_loaded, self.doubt = streams, first, bound, is_loaded, None
+    def __init__(self, streams, first="", bound=None, is_loaded=True, written=()):
+        self.streams, self.first, self.bound, self.is_loaded, self.written, self.doubt = streams, first, bound, is_loaded, [*written], None
 
     def covers(self, name):
         return self.first <= name and (self.bound is None or name < self.bound)
 
+    def entries(self):
+        """All entries of its containers."""
+        return [it for it in (*self.written, *(it.entry for it in self.streams.changes)) if self.covers(it.asked.container)]
+
     def load(self, wire):
-        """All changes are read in their order, of all names. The first one that no node gives ends the load."""
+        """All rows and then all changes are read in their order, of all names. The first one that no node gives ends the load."""
         if not self.is_loaded:
-            log = self.streams.log
-            self.is_loaded = all(log.read(place, wire) is not None for place, _ in log.places())
+            self.is_loaded = all(it.read(place, wire) is not None for it in (self.streams.rows, self.streams.log) for place, _ in it.places())
         return self.is_loaded
+
+    def checkpoint(self, rows, wire):
+        entries = self.entries()
+        if self.streams.checkpoint(rows, wire) == "busy":
+            return False
+        self.written = entries
+        return True
 
     def keep(self, place, wire):
         """What a piece is read by when its ticket is fetched: the nodes and their copies of a sealed extent. It is empty if the piece is read now,
@@ -102,8 +122,7 @@ class Machine:
         """What the streams of a slot keep is its part of the history, and its doubt is the one of its log."""
         for slot in self.slots:
             slot.streams.check()
-            logged = [it.entry for it in slot.streams.changes if slot.covers(it.entry.asked.container)]
-            assert logged == [it for it in self.history if slot.covers(it.asked.container)]
+            assert slot.entries() == [it for it in self.history if slot.covers(it.asked.container)]
             assert slot.doubt is (slot.streams.doubt and slot.streams.doubt.entry)
 
     # ---- requests
@@ -195,7 +214,7 @@ class Machine:
             return "full"
         if not self.is_settled(slot, wire) or slot.streams.seal(wire) != "done":
             return "busy"
-        self.slots.insert(at + 1, Slot(slot.streams.share(), middle, slot.bound, slot.is_loaded))
+        self.slots.insert(at + 1, Slot(slot.streams.share(), middle, slot.bound, slot.is_loaded, slot.written))
         slot.bound = middle
         return "made"
 
@@ -212,6 +231,20 @@ class Machine:
 
     def load(self, at, wire):
         return self.on_slot(at, lambda slot: "made" if self.is_settled(slot, wire) and slot.load(wire) else "busy")
+
+    def rows(self, slot):
+        """The rows of the containers that a slot has, each before those of its blobs."""
+        for name in filter(slot.covers, sorted(self.stamp.counts)):
+            container = self.stamp.containers.get(name)
+            yield Row(container_row_length(self.stamp.account, name, container))
+            for blob, it in sorted(container.blobs.items() if container else ()):
+                yield Row(blob_row_length(self.stamp.account, name, blob, it))
+
+    def checkpoint(self, at, wire):
+        def write(slot):
+            return "made" if self.is_settled(slot, wire) and slot.load(wire) and slot.checkpoint(self.rows(slot), wire) else "busy"
+
+        return self.on_slot(at, write)
 
     def unload(self, at, _wire):
         def drop(slot):

@@ -134,6 +134,7 @@ fn moves_in_doubt(rt: &impl Abort, alloc: Global, driven: &mut Driven) {
 // What is done to a slot that does not exist.
 fn has_one_slot(rt: &impl Abort, alloc: Global, driven: &mut Driven) {
     assert!(rt; tended(alloc, driven, 1, Care::Settle) == Some(StepFault::NoSuchSlot));
+    assert!(rt; tended(alloc, driven, 1, Care::Checkpoint) == Some(StepFault::NoSuchSlot));
     assert!(rt; tended(alloc, driven, 1, Care::Unload) == Some(StepFault::NoSuchSlot));
     assert!(rt; tended(alloc, driven, 1, repair_of(0)) == Some(StepFault::NoSuchSlot));
 }
@@ -159,6 +160,17 @@ fn repairs_the_log(rt: &impl Abort, alloc: Global, driven: &mut Driven) {
     assert!(rt; tended(alloc, driven, 0, Care::Unload).is_none());
     give(rt, alloc, driven, &[], &[false, true]);
     assert!(rt; tended(alloc, driven, 0, Care::Load).is_none());
+}
+
+// A checkpoint settles first: it is Busy as long as no node answers. Then the container is kept, also after its rows are loaded again.
+fn makes_a_checkpoint(rt: &impl Abort, alloc: Global, driven: &mut Driven) {
+    begin_a_doubt(rt, alloc, driven);
+    give(rt, alloc, driven, &[], &SILENT_TWICE);
+    assert!(rt; tended(alloc, driven, 0, Care::Checkpoint) == Some(StepFault::Busy));
+    assert!(rt; says(rt, alloc, driven, CREATE, "Refused by rule N1."));
+    assert!(rt; tended(alloc, driven, 0, Care::Checkpoint).is_none());
+    assert!(rt; tended(alloc, driven, 0, Care::Unload).is_none());
+    assert!(rt; begins(rt, alloc, driven, CREATE, CONFLICT));
 }
 
 // The container of a split: their names rise, and have three digits.
@@ -228,6 +240,12 @@ fn a_repair_gives_a_node_its_copy(rt: HostRuntime) {
 }
 
 #[test]
+fn a_checkpoint_settles_its_slot_first(rt: HostRuntime) {
+    let mut driven = empty_core(&rt, rt.alloc());
+    makes_a_checkpoint(&rt, rt.alloc(), &mut *driven);
+}
+
+#[test]
 fn a_split_that_the_spans_refuse_names_the_cause(rt: HostRuntime) {
     let mut driven = empty_core(&rt, rt.alloc());
     assert!(rt;
@@ -250,8 +268,8 @@ fn the_split_after_the_256th_span_is_refused(rt: HostRuntime) {
     );
 }
 
-// Two splits at one key, a ticket that was not given, and a seal: the first step and the last one are made, and each other step says why it
-// is not.
+// Two splits at one key, a ticket that was not given, a seal and a checkpoint: the first step and the last two are made, and each other step
+// says why it is not.
 fn steps_of_all_kinds(rt: &impl Abort, alloc: Global) -> Vec<Step> {
     let mut steps = Vec::new(alloc);
     for slot in [0, 0] {
@@ -263,6 +281,9 @@ fn steps_of_all_kinds(rt: &impl Abort, alloc: Global) -> Vec<Step> {
     steps.push(Step::Fetch { ticket: 0 }).expect(rt, "memory");
     steps.push(Step::Seal { slot: 1 }).expect(rt, "memory");
     steps
+        .push(Step::Checkpoint { slot: 0 })
+        .expect(rt, "memory");
+    steps
 }
 
 #[test]
@@ -272,9 +293,10 @@ fn a_list_of_steps_is_answered_in_turn(rt: HostRuntime) {
     let steps = steps_of_all_kinds(&rt, alloc);
     let Driven { core, wire, .. } = &mut *driven;
     let answers = core.run(alloc, steps, wire).expect(&rt, "memory");
-    assert!(rt; answers.len() == 4);
+    assert!(rt; answers.len() == 5);
     assert!(rt; matches!(&answers[0], Ok(Outcome::Made)));
     assert!(rt; matches!(&answers[1], Err(StepFault::Map(MapFault::NotInside))));
     assert!(rt; matches!(&answers[2], Err(StepFault::NoSuchTicket)));
     assert!(rt; matches!(&answers[3], Ok(Outcome::Made)));
+    assert!(rt; matches!(&answers[4], Ok(Outcome::Made)));
 }

@@ -27,6 +27,8 @@ mod service_tests;
 #[cfg(test)]
 mod split_tests;
 #[cfg(test)]
+mod stored_checkpoint_tests;
+#[cfg(test)]
 mod stored_repair_tests;
 #[cfg(test)]
 mod stored_samples;

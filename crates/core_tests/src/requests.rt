@@ -4,6 +4,10 @@
 pub(crate) const CREATE: &[u8] =
     b"PUT /devstoreaccount1/pics?restype=container HTTP/1.1\r\nx-ms-date: Mon, 01 Oct 2012 12:00:00 GMT\r\nx-ms-version: 2012-02-12\r\nContent-Length: 0\r\nAuthorization: SharedKey devstoreaccount1:/Zt/M8NwlklmDGB00sttbyo87McxrIOvJXhMqumuXk0=\r\n\r\n";
 
+/// A Delete Container of `pics`.
+pub(crate) const DELETE_CONTAINER: &[u8] =
+    b"DELETE /devstoreaccount1/pics?restype=container HTTP/1.1\r\nx-ms-date: Mon, 01 Oct 2012 12:00:00 GMT\r\nx-ms-version: 2012-02-12\r\nContent-Length: 0\r\nAuthorization: SharedKey devstoreaccount1:MFxtT0D5CzNluHCVWdBSStFT4XWYpr8nTWrSQe47Df4=\r\n\r\n";
+
 /// A Put Blob of `hello` as `a.txt`.
 pub(crate) const PUT: &[u8] =
     b"PUT /devstoreaccount1/pics/a.txt HTTP/1.1\r\nx-ms-date: Mon, 01 Oct 2012 12:00:00 GMT\r\nx-ms-version: 2012-02-12\r\nContent-Length: 5\r\nx-ms-blob-type: BlockBlob\r\nAuthorization: SharedKey devstoreaccount1:d6Z+te/s0/4E59HxWmnrHiDmMywuU/tdYZOanDvfbmU=\r\n\r\nhello";

@@ -3,8 +3,9 @@ ghost use Rattle.std.specs.Prelude.{⊤, ◌≡◌, IfOk, true};
 ghost use Rattle.stamp_model.specs.SeenContainers.{routed};
 ghost use Rattle.slot_state.specs.Slots as slots;
 
+use crate::requests::{CREATE, CREATED, PUT};
 use crate::routes::first_seen;
-use crate::samples::{key, pairs};
+use crate::samples::{begins, key, pairs};
 use extent_node::{Delivery, Script};
 use http_front::Service;
 use slot_state::{AccountPairs, KeptHistories};
@@ -114,6 +115,12 @@ pub(crate) fn make_streamed(
         tickets: 0,
     };
     Box::new(alloc, streamed).expect(rt, "memory")
+}
+
+/// Creates the container and puts the blob.
+pub(crate) fn put_hello(rt: &impl Abort, alloc: Global, slot: &mut Streamed) {
+    assert!(rt; begins(rt, alloc, slot, CREATE, CREATED));
+    assert!(rt; begins(rt, alloc, slot, PUT, CREATED));
 }
 
 /// The upper half of the slot, which is split at the key of this container; none if the split fails. The wire of the upper half always

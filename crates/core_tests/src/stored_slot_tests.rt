@@ -1,7 +1,7 @@
 //! Slots over streams under written deliveries (SOSP 2011, sections 4.3 and 5).
-use crate::requests::{CREATE, CREATED, GET, PUT};
+use crate::requests::{CREATE, CREATED, GET};
 use crate::samples::{begins, ends, says};
-use crate::stored_samples::{D, L, R, Streamed, make_streamed};
+use crate::stored_samples::{D, L, R, Streamed, make_streamed, put_hello};
 use std::alloc::Global;
 use std::process::Abort;
 
@@ -84,11 +84,6 @@ fn a_doubt_is_dropped(rt: HostRuntime) {
     let asks = [false, false, false, false, false, false, false, true, false];
     let mut slot = make_streamed(&rt, rt.alloc(), &[D, R, R], &asks);
     drop_a_doubt(&rt, rt.alloc(), &mut *slot);
-}
-
-fn put_hello(rt: &impl Abort, alloc: Global, slot: &mut Streamed) {
-    assert!(rt; begins(rt, alloc, slot, CREATE, CREATED));
-    assert!(rt; begins(rt, alloc, slot, PUT, CREATED));
 }
 
 // The content is in the open extent of the data, and is read while the request is served.

@@ -49,12 +49,7 @@ fn add(
 }
 
 // Puts the rows of two containers, `one` of three changes and `two` of five, in the place of log and rows.
-fn checkpoint(
-    rt: &impl Abort,
-    alloc: Global,
-    streams: &mut Streams,
-    wire: &mut Script,
-) -> Told
+fn checkpoint(rt: &impl Abort, alloc: Global, streams: &mut Streams, wire: &mut Script) -> Told
     requires { (logged streams.old).doubt ≡ None }
 {
     let mut rows = streams.begin_checkpoint(1_000_000);
@@ -161,13 +156,7 @@ fn a_change_after_a_checkpoint_comes_after_its_rows(rt: HostRuntime) {
 }
 
 // A checkpoint that fails under these deliveries and answers leaves log and rows, and the next one ends well.
-fn fail(
-    rt: &impl Abort,
-    alloc: Global,
-    streams: &mut Streams,
-    puts: &[Delivery],
-    asks: &[bool],
-) {
+fn fail(rt: &impl Abort, alloc: Global, streams: &mut Streams, puts: &[Delivery], asks: &[bool]) {
     let mut wire = script(rt, alloc, puts, asks);
     log_two(rt, alloc, streams);
     assert!(rt; settled_checkpoint(rt, alloc, streams, &mut wire) == Told::Busy);
@@ -186,5 +175,11 @@ fn a_checkpoint_whose_first_row_is_excluded_twice_leaves_the_log(rt: HostRuntime
 fn a_checkpoint_whose_last_row_is_in_doubt_leaves_the_log(rt: HostRuntime) {
     let mut streams = streams(&rt, rt.alloc(), 1_000_000);
     let puts = [D, D, D, D, R, R];
-    fail(&rt, rt.alloc(), &mut *streams, &puts, &[false, false, false]);
+    fail(
+        &rt,
+        rt.alloc(),
+        &mut *streams,
+        &puts,
+        &[false, false, false],
+    );
 }

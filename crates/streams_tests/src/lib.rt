@@ -53,6 +53,8 @@ mod sample_wires;
 #[cfg(test)]
 mod stored_answer_tests;
 #[cfg(test)]
+mod stored_checkpoint_tests;
+#[cfg(test)]
 mod stored_samples;
 #[cfg(test)]
 mod stored_tests;

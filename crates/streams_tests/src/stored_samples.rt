@@ -159,6 +159,13 @@ pub(crate) fn seal(rt: &impl Abort, stored: &mut StoredRows, wire: &mut Script) 
     told(stored.seal(wire))
 }
 
+/// Writes the rows, which are loaded, as a checkpoint.
+pub(crate) fn checkpoint(rt: &impl Abort, stored: &mut StoredRows, wire: &mut Script) -> Told {
+    assert!(rt; stored.is_loaded());
+    assert!(rt; !stored.has_doubt());
+    told(stored.checkpoint(1_000_000, wire).map(drop))
+}
+
 /// Cuts the rows at the key of the container of this name. `None` if that was Busy.
 pub(crate) fn cut(
     rt: &impl Abort,
