@@ -162,7 +162,8 @@ fn repairs_the_log(rt: &impl Abort, alloc: Global, driven: &mut Driven) {
     assert!(rt; tended(alloc, driven, 0, Care::Load).is_none());
 }
 
-// A checkpoint settles first: it is Busy as long as no node answers. Then the container is kept, also after its rows are loaded again.
+// A checkpoint settles first: it is Busy as long as no node answers. Then the container is kept, also after its rows are loaded again. A checkpoint
+// puts rows: it is Busy if the row of the container is refused twice, and the container is kept.
 fn makes_a_checkpoint(rt: &impl Abort, alloc: Global, driven: &mut Driven) {
     begin_a_doubt(rt, alloc, driven);
     give(rt, alloc, driven, &[], &SILENT_TWICE);
@@ -170,6 +171,9 @@ fn makes_a_checkpoint(rt: &impl Abort, alloc: Global, driven: &mut Driven) {
     assert!(rt; says(rt, alloc, driven, CREATE, "Refused by rule N1."));
     assert!(rt; tended(alloc, driven, 0, Care::Checkpoint).is_none());
     assert!(rt; tended(alloc, driven, 0, Care::Unload).is_none());
+    assert!(rt; begins(rt, alloc, driven, CREATE, CONFLICT));
+    give(rt, alloc, driven, &[R, R, R, R, R, R], &[]);
+    assert!(rt; tended(alloc, driven, 0, Care::Checkpoint) == Some(StepFault::Busy));
     assert!(rt; begins(rt, alloc, driven, CREATE, CONFLICT));
 }
 
