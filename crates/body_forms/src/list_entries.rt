@@ -50,12 +50,14 @@ impl<'a> ListedBlob<'a> {
         self.committed.made
     }
 
+    /// The blob's Content-Type.
     pub fn content_type(&self) -> &'a Visible
         ensures { result.now ≡ self.now.content_type }
     {
         self.committed.props.content_type()
     }
 
+    /// The blob's metadata. A list shows them only if the request asks for them.
     pub fn metadata(&self) -> &'a Metadata
         ensures { result.now ≡ self.now.metadata }
     {
@@ -86,6 +88,7 @@ impl<'a> Model for BlobEntry<'a> {
 }
 
 impl<'a> BlobEntry<'a> {
+    /// The entry of a blob of this name, and of what is shown of it.
     pub fn blob(name: &'a [u8], blob: ListedBlob<'a>) -> Self
         ensures { result ≡ (name.now, Some blob.entry) }
     {
@@ -95,6 +98,7 @@ impl<'a> BlobEntry<'a> {
         }
     }
 
+    /// The entry of a group: of all names that begin with this text.
     pub fn group(text: &'a [u8]) -> Self
         ensures { result ≡ (text.now, None) }
     {
@@ -133,12 +137,14 @@ impl<'a> Model for ContainerEntry<'a> {
 }
 
 impl<'a> ContainerEntry<'a> {
+    /// The entry of a container of this name, and of what it has beside its blobs.
     pub fn of(name: &'a [u8], standing: &'a Standing) -> Self
         ensures { result ≡ (name.now, Some (lists.shown_standing standing.now)) }
     {
         Self { name, standing }
     }
 
+    /// The container's name.
     pub fn name(&self) -> &'a [u8]
         ensures { result.now ≡ self.now.0 }
     {

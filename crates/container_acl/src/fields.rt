@@ -90,6 +90,9 @@ fn find_in<'a>(acl: Option<&'a Acl>, id: &[u8]) -> Option<&'a Policy>
 
 /// What a token and the policy that it names in the container give together. A token without an id has no policy, and neither has a
 /// container that does not exist (`None`). The call takes no memory, and looks at no signature.
+///
+/// `Absent` if the token names a policy that the container does not have. `Both` if token and policy both give the start, the expiry or
+/// the permissions. `Lacks` if neither gives the expiry, or neither gives the permissions. The first of these causes is answered.
 pub fn fields_with(acl: Option<&Acl>, token: &Token<'_>) -> Result<Fields, FieldFault>
     ensures { result
         ≡ specs.fields_with (specs.acl_or_closed (option_copied acl.entry)) token.now }

@@ -29,6 +29,8 @@ impl From<AllocError> for SecretFault {
 /// The key whose Base64 is the text. The text has to be padded, without any other byte, and no bit may be left over. An empty
 /// text gives the empty key.
 ///
+/// `NotBase64` for each other text. `NoMemory` if memory runs out.
+///
 /// RFC 4648, section 4, and sections 3.1 to 3.5 for the texts that are refused.
 pub fn read_key(alloc: Global, text: &[u8]) -> Result<Vec<u8>, SecretFault>
     ensures read { IfOk result (λ key. text.now ≡ base64_of key.items) }

@@ -10,8 +10,8 @@ use stamp_values::Moment;
 
 /// Reads a date of HTTP in any of its three formats.
 ///
-/// Each other text is a fault of form. So is a date with a weekday that is not the weekday of this date. The call takes no
-/// memory. RFC 9110, section 5.6.7.
+/// `Form` for each other text, and for a date with a weekday that is not the weekday of this date. No other fault is answered. The
+/// call takes no memory. RFC 9110, section 5.6.7.
 pub fn read_http(text: &[u8]) -> Result<Moment, TimeFault>
     ensures read { IfOk result (λ moment.
         (p : Parts) × IsHttpText text.now p × (moment ≡ http_ticks p)) }

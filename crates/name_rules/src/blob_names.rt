@@ -75,7 +75,8 @@ pub fn blob_text(alloc: Global, rest: &[u8]) -> Result<Text, NameFault>
 
 /// The name of a blob: what a path has after the container, percent-decoded once (RFC 3986, section 2.1).
 ///
-/// The faults are those of `blob_text`.
+/// The first of the faults `Empty`, `NotUtf8`, `TooLong` and `Control` that the name has, as `blob_text` answers it. `NoMemory` if
+/// memory runs out.
 pub fn blob_name(alloc: Global, rest: &[u8]) -> Result<String, NameFault>
     ensures { MatchResult result
         (λ name. name_of rest.now ≡ Ok (string_bytes name)) (FaultOf rest.now) }

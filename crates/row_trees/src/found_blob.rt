@@ -110,6 +110,8 @@ impl<'a> FoundBlob<'a> {
 
     /// Where each wanted block is found, and the blocks, as `BlobRow::resolve` says it. A blob without
     /// a row has no block.
+    ///
+    /// `NotFound`, `TooMany`, `TooLarge` and `NoMemory` come as `BlobRow::resolve` answers them.
     pub fn resolve(&self, alloc: Global, wanted: &[Wanted]) -> Result<Resolved, BlockFault>
         ensures value { IfOk result (λ found. found ≡ resolved self.now wanted.now) }
         ensures fits { OnOk result (lists.wanted_fault self.now wanted.now ≡ None) }
@@ -122,6 +124,8 @@ impl<'a> FoundBlob<'a> {
     }
 
     /// The blocks of a list whose entries say where they are, as `BlobRow::listed` says it.
+    ///
+    /// `NotFound`, `TooMany`, `TooLarge` and `NoMemory` come as `BlobRow::listed` answers them.
     pub fn listed(&self, alloc: Global, entries: &[Taken]) -> Result<FoundBlocks, BlockFault>
         ensures value { IfOk result (λ found. AreBlocksOf self.now entries.now found) }
         ensures fits { OnOk result (lists.taken_fault self.now entries.now ≡ None) }

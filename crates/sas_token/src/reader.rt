@@ -214,8 +214,9 @@ fn read(query: &FieldList) -> Result<Token<'_>, TokenFault>
 
 /// The token that the query is. The query is decoded. Parameters that are not a token's may be anything.
 ///
-/// The call takes no memory. A fault is the first of its enum that has a cause. Blob service REST reference, 2012-02-12 and 2013-08-15,
-/// Delegating Access with a Shared Access Signature.
+/// The first of the faults `Twice`, `Missing`, `Version`, `Resource`, `Letters`, `Time` and `Header` that has a cause: `TokenFault` says
+/// the cause of each. The call takes no memory. Blob service REST reference, 2012-02-12 and 2013-08-15, Delegating Access with a Shared
+/// Access Signature.
 #[tactic(auto, using(crate::proofs::TokenLemmas::token_read, crate::proofs::ReadingLemmas::token_value))]
 pub fn read_token(query: &FieldList) -> Result<Token<'_>, TokenFault>
     ensures read { IfOk result (IsToken query.now) }
