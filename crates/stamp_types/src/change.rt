@@ -56,6 +56,7 @@ impl Change {
         Self { key, act }
     }
 
+    /// The key of the container that it changes.
     pub fn key(&self) -> &Key
         ensures value { result.now ≡ self.now.key }
         ensures valid { IsTrue (is_change self.now) }
@@ -63,6 +64,7 @@ impl Change {
         &self.key
     }
 
+    /// What it does.
     pub fn act(&self) -> &Act
         ensures value { result.now ≡ self.now.act }
         ensures valid { IsTrue (is_change self.now) }
@@ -70,6 +72,7 @@ impl Change {
         &self.act
     }
 
+    /// The key and the act.
     pub fn into_parts(self) -> (Key, Act)
         ensures key { result.0 ≡ self.key }
         ensures act { result.1 ≡ self.act }

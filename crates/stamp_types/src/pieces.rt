@@ -128,6 +128,7 @@ impl Pieces {
         self.total
     }
 
+    /// The pieces in their order.
     pub fn as_slice(&self) -> &[Piece]
         ensures value { result.now ≡ self.now }
         ensures valid { IsTrue (is_pieces self.now) }

@@ -38,6 +38,7 @@ impl AccountName {
         }
     }
 
+    /// The name.
     pub fn as_str(&self) -> &str
         ensures value { result.now ≡ self.now }
         ensures named { IsTrue (is_account self.now) }
