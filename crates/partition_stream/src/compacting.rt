@@ -82,13 +82,14 @@ impl Streams {
     ghost use Rattle.partition_stream.specs.Positions.{all_changes};
     ghost use Rattle.partition_stream.specs.Streams.{logged};
 
-    /// Puts the content that the rows of a checkpoint say into new data, writes the rows anew with its places, and puts both, and an empty
-    /// log, in the place of the old streams. Gives the old streams. Content to which no row refers is left in the old data. No byte is copied, and one
-    /// row is in memory at a time.
+    /// Puts the content that the rows of a checkpoint say into new data, writes the rows anew with its places, and puts both, and an
+    /// empty log, in the place of the old streams. Gives the old streams. Content to which no row refers is left in the old data. No
+    /// byte is copied, and one row is in memory at a time.
     ///
     /// It is called after a checkpoint, before a change is logged. Places of content change, so whoever keeps rows in memory loads them
-    /// again. After a fault the streams are as they were, and what was written is dropped. Busy: a block or a record was tried twice, or no
-    /// node answered. Unreachable: no node with a copy of a row or of its content answered.
+    /// again. After a fault the streams are as they were, and what was written is dropped. Busy: a block or a record was tried twice, or
+    /// no node answered. Unreachable: no node with a copy of a row or of its content answered. NoMemory: there was no memory for a row
+    /// or a new extent; it may come after some calls of nodes.
     pub fn compact<W: Wire>(
         &mut self,
         extent_bytes: u32,

@@ -115,7 +115,8 @@ impl NewStreams {
     /// the new row says its new place. The old streams are as they were. No byte is copied.
     ///
     /// After a fault the new streams cannot go on. They are dropped, and the old ones are as they were. Busy: a block or a record was
-    /// tried twice, or no node answered. Unreachable: no node with a copy of some content answered.
+    /// tried twice, or no node answered. Unreachable: no node with a copy of some content answered. NoMemory: there was no memory for a
+    /// row or a new extent; it may come after some calls of nodes.
     pub fn add<W: Wire>(
         &mut self,
         old: &Streams,
