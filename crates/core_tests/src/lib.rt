@@ -22,6 +22,8 @@ mod pass_tests;
 #[cfg(test)]
 mod requests;
 #[cfg(test)]
+mod rotation_tests;
+#[cfg(test)]
 mod routes;
 mod sample_pairs;
 #[cfg(test)]

@@ -2,6 +2,7 @@ pub mod CopyLemmas
 pub mod FaultLemmas
 pub mod HalfLemmas
 pub mod MapLemmas
+pub mod NextLemmas
 pub mod PairLemmas
 pub mod RangeLemmas
 pub mod RowLemmas

@@ -1,7 +1,9 @@
 -- The pair in force is the pair of its epoch, and how pairs come to be numbered.
 use Rattle.std.proofs.Common.{◌≡◌, ◌-◌, ℕ, Bool, true, false, cond, List, ◌∷◌, ◌++◌, [], map, length, slice_get, get_or, arith, Option, Some, None, unwrap_or, refl, ap, ◌∙◌, sym}
+use Rattle.std.proofs.lemmas.List.{map-append}
 use Rattle.std.proofs.lemmas.Option.{slice_get-get_or, slice_get-map}
 use Rattle.std.specs.FinMap as finite
+use Rattle.std.specs.List.{AllZip}
 use Rattle.std.specs.Option.{option_map}
 use Rattle.std.specs.Ordering.{eq_by_cmp}
 use Rattle.stamp_values.specs.Order.{name_cmp, names_total}
@@ -57,3 +59,14 @@ numbered_first pairs more k old first is account =
 pub with_first_last : (ks : List Keys) (k : Keys) (pairs : Pairs) → with_first (ks ++ k ∷ []) pairs ≡ with_first ks (finite.insert pairs k.account (k ∷ []))
 with_first_last [] k pairs = refl
 with_first_last (x ∷ ks) k pairs = ap (λ (m : Pairs). finite.insert m x.account (x ∷ [])) (with_first_last ks k pairs)
+
+-- one pair more, as it is read
+pub one_more_read : {A : Type 0} (f : A → Keys) (xs new : List A) (x : A) (k : Keys) → new ≡ xs ++ x ∷ [] → f x ≡ k → map f new ≡ map f xs ++ k ∷ []
+one_more_read f xs new x k is read = ap (map f) is ∙ map-append f xs (x ∷ []) ∙ ap (λ (l : Keys). map f xs ++ l ∷ []) read
+
+-- a list whose elements are read as those of another list
+pub copy_read : {A : Type 0} (f : A → Keys) (xs ys : List A) → AllZip (λ x y. f y ≡ f x) xs ys → map f ys ≡ map f xs
+copy_read f [] [] all = refl
+copy_read f [] (y ∷ ys) all = absurd all
+copy_read f (x ∷ xs) [] all = absurd all
+copy_read f (x ∷ xs) (y ∷ ys) all = λ j. all.0 j ∷ copy_read f xs ys all.1 j

@@ -1,4 +1,5 @@
 pub mod HistoryMaps
+pub mod NextPairs
 pub mod PairFaults
 pub mod Pairs
 pub mod Replays

@@ -20,7 +20,7 @@ use std::sync::Arc;
 /// 0, 1, 2 and so on.
 #[derive(Drop)]
 pub struct AccountPairs {
-    by_account: Named<PairList>,
+    pub(crate) by_account: Named<PairList>,
 }
 
 impl Model for AccountPairs {

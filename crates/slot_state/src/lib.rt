@@ -11,6 +11,7 @@ mod history;
 mod kept;
 mod kept_histories;
 mod laws;
+mod next_pairs;
 mod pair_list;
 mod pairs_fault;
 mod proved;

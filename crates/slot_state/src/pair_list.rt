@@ -1,5 +1,5 @@
 //! The key pairs of one account.
-ghost use Rattle.std.specs.Prelude.{◌≡◌, ◌∷◌, [], IfOk, map};
+ghost use Rattle.std.specs.Prelude.{◌≡◌, ◌∷◌, ◌++◌, [], IfOk, OnErr, OnOk, map};
 ghost use Rattle.std.specs.Arc.{arc_value};
 ghost use Rattle.std.specs.Option.{option_copied};
 ghost use Rattle.slot_state.specs.Pairs.{in_force};
@@ -34,6 +34,40 @@ fn share(alloc: Global, pair: Keys) -> Result<Arc<Keys>, AllocError>
 }
 
 impl PairList {
+    /// No pairs. Takes no memory.
+    pub(crate) fn new(alloc: Global) -> Self
+        ensures { result ≡ [] }
+    {
+        Self {
+            pairs: Vec::new(alloc),
+        }
+    }
+
+    /// One more pair, which comes last.
+    ///
+    /// `AllocError` if memory runs out. The pairs are then as they were.
+    #[tactic(auto, using(crate::proofs::PairLemmas::one_more_read))]
+    pub(crate) fn push(&mut self, alloc: Global, pair: Keys) -> Result<(), AllocError>
+        ensures added { OnOk result (self.new ≡ self.old ++ pair ∷ []) }
+        ensures refused { OnErr result (self.new ≡ self.old) }
+    {
+        let shared = share(alloc, pair)?;
+        self.pairs.push(shared)?;
+        Ok(())
+    }
+
+    /// The same pairs, which both lists share.
+    ///
+    /// `AllocError` if memory runs out, or if a pair can have no further owner.
+    #[tactic(auto, using(crate::proofs::PairLemmas::copy_read))]
+    pub(crate) fn copied(&self) -> Result<Self, AllocError>
+        ensures { IfOk result (λ copy. copy ≡ self.now) }
+    {
+        Ok(Self {
+            pairs: self.pairs.clone()?,
+        })
+    }
+
     /// The list of one pair.
     ///
     /// `AllocError` if memory runs out.

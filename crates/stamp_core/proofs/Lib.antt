@@ -1,6 +1,7 @@
 pub mod CompactLemmas
 pub mod FaultLemmas
 pub mod RangeLemmas
+pub mod RotateLemmas
 pub mod RunLemmas
 pub mod ServeLemmas
 pub mod SplitLemmas

@@ -1,14 +1,11 @@
 -- Runs of steps.
-use Rattle.std.proofs.Common.{◌≡◌, ◌≤◌, ℕ, nat_lt, true, List, [], ◌∷◌, ◌++◌, refl, sym, ap, ◌∙◌, subst, arith, length}
-use Rattle.std.specs.List.{list_all}
-use Rattle.std.proofs.lemmas.Bool.{and_parts}
+use Rattle.std.proofs.Common.{◌≡◌, ◌≤◌, ℕ, nat_lt, List, [], ◌∷◌, ◌++◌, refl, sym, ap, ◌∙◌, subst, arith, length}
 use Rattle.std.proofs.lemmas.List.{append-nil, append_assoc}
 use Rattle.core_run.specs.Cores.{CoreState, StandsFor}
 use Rattle.core_run.specs.Machine.{Answer, IsRun, Takes}
 use Rattle.core_run.specs.States.{State}
 use Rattle.core_run.specs.declared.step.Step.{Step}
 use Rattle.core_run.proofs.PlaceLemmas.{join}
-use Rattle.stamp_core.specs.CoreSteps.{makes}
 
 -- one step, as a run
 one_step : (s s' : State) (x : Step) (r : Answer) (n m : ℕ) → n ≤ m → Takes s x (nat_lt n m) r s' → IsRun s n (x ∷ []) (r ∷ []) s' m
@@ -25,12 +22,6 @@ run_begins c n steps later answers all none s stands = ([], (sym all, (s, (subst
 pub nothing_left : (later : List Step) (n : ℕ) → n ≡ length later → n ≡ 0 → later ≡ []
 nothing_left [] n is none = refl
 nothing_left (x ∷ later) n is none = absurd (omega (arith, is, none))
-
-pub later_made : (steps later : List Step) (x : Step) → list_all makes steps ≡ true → steps ≡ x ∷ later → list_all makes later ≡ true
-later_made steps later x all is = (and_parts (makes x) (list_all makes later) (ap (list_all makes) (sym is) ∙ all)).1
-
-pub first_made : (steps later : List Step) (x : Step) → list_all makes steps ≡ true → steps ≡ x ∷ later → makes x ≡ true
-first_made steps later x all is = (and_parts (makes x) (list_all makes later) (ap (list_all makes) (sym is) ∙ all)).0
 
 pub run_goes_on : (c d e : CoreState) (n k m : ℕ) (steps : List Step) (answers more : List Answer) (x : Step) (later : List Step) (r : Answer)
     → HasRun c n steps answers d k (x ∷ later) → k ≤ m

@@ -30,11 +30,6 @@ use Rattle.core_run.specs.States.{State, reply_in, served}
 use Rattle.stamp_core.specs.declared.care.Care.{Care}
 use Rattle.stamp_core.specs.declared.care.Care.TheVariants as care
 
--- a core makes steps of this kind
-abbrev pub makes : Step → Bool
-makes (step.Rotate account which key) = false
-makes other = true
-
 -- whether a call of the wire failed, by its counts before and after
 abbrev pub has_faults : Calls → Calls → Bool
 has_faults old new = nat_lt (all_faults old) (all_faults new)

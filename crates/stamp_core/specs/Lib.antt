@@ -1,4 +1,5 @@
 pub mod Compactions
 pub mod CoreSteps
 pub mod Ranges
+pub mod Rotations
 pub mod Tickets

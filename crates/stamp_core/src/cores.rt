@@ -1,7 +1,6 @@
 //! The core.
-ghost use Rattle.std.specs.Prelude.{◌≡◌, ◌⊎◌, IfErr, IfOk, OnErr, length, true};
+ghost use Rattle.std.specs.Prelude.{◌≡◌, ◌⊎◌, Bool, IfErr, IfOk, OnErr, length};
 ghost use Rattle.std.specs.Arc.{arc_value};
-ghost use Rattle.std.specs.List.{list_all};
 ghost use Rattle.std.specs.Option.{option_copied};
 ghost use Rattle.extent_seal.specs.Counting.{Grows, all_faults};
 ghost use Rattle.policy_book.specs.Judgements.{IsOfAsk};
@@ -12,25 +11,26 @@ ghost use Rattle.slot_state.specs.declared.pairs_fault.PairsFault.TheVariants.{N
 ghost use Rattle.core_run.specs.Cores.{StandsFor, first_core};
 ghost use Rattle.core_run.specs.States.{State, opening};
 ghost use Rattle.core_run.specs.Machine.{IsRun, Takes};
-ghost use Rattle.stamp_core.specs.CoreSteps as kinds;
 ghost use Rattle.stamp_core.specs.CoreSteps.{AnswersSteadily, told_answer, has_faults, step_of};
 
 mod compact;
 
 use crate::care::Care;
 use crate::open_tickets::OpenTickets;
+use crate::rotating::rotate;
 use crate::serving::{serve_one, serve_unread};
 use crate::splitting::split;
 use crate::telling::{answered, tell, tell_now};
 use crate::tending::tend;
-use access_rules::Keys;
+use access_rules::{Keys, Which};
 use core_run::{Outcome, Step, StepFault};
 use extent_node::Wire;
+use hmac_sign::SigningKey;
 use partition_map::Spans;
 use policy_book::Judged;
 use range_rows::Reading;
 use slot_state::{AccountPairs, Histories, PairsFault};
-use stamp_types::{Key, Moment, Reply, Request};
+use stamp_types::{Key, Moment, Reply, Request, Text};
 use std::alloc::{AllocError, Global};
 use std::marker::Model;
 use std::sync::Arc;
@@ -91,7 +91,7 @@ fn of_all<H: Histories>(alloc: Global, pairs: AccountPairs) -> Result<Core<H>, A
 }
 
 impl<H: Histories> Core<H> {
-    ghost use Rattle.core_run.specs.declared.step.Step.TheVariants.{Fetch, Serve, Split};
+    ghost use Rattle.core_run.specs.declared.step.Step.TheVariants.{Fetch, Rotate, Serve, Split};
 
     /// A core of one slot of all keys, without containers, for these key pairs. The core shares the pairs. An extent of two or more blocks has
     /// at most `extent_bytes` bytes.
@@ -257,6 +257,25 @@ impl<H: Histories> Core<H> {
         tend(&mut self.slots, &self.spans, slot, care, alloc, wire)
     }
 
+    /// One Rotate step: a key of the account's pair in force is replaced, for all slots at once. Answers the epoch of the new pair. From now on
+    /// requests are judged by the new pair. What was accepted before stays as it is, and a change in doubt is judged by the pair that was
+    /// in force when it was served.
+    ///
+    /// `NoAccount` if the stamp has no such account, `Last` if no epoch comes after the epoch of the pair in force, and `NoMemory` if memory
+    /// runs out. After a fault nothing is changed.
+    pub fn rotate(
+        &mut self,
+        alloc: Global,
+        account: &Text,
+        which: Which,
+        key: SigningKey,
+    ) -> Result<Outcome, StepFault>
+        ensures taken { (s : State) (faulted : Bool) → StandsFor self.old s
+            → (s' : State) × (Takes s (Rotate account.now which key) faulted result s' × StandsFor self.new s') }
+    {
+        rotate(&mut self.slots, &self.spans, alloc, account, which, key)
+    }
+
     // One Serve step, on a request whose body is not read yet.
     fn serve_now<W: Wire>(
         &mut self,
@@ -273,25 +292,17 @@ impl<H: Histories> Core<H> {
         tell(&mut self.tickets, alloc, answer, wire)
     }
 
-    /// Whether the core makes steps of this kind: all but Rotate.
-    pub fn makes(step: &Step) -> bool
-        ensures { result ≡ kinds.makes step.now }
-    {
-        !matches!(step, Step::Rotate { .. })
-    }
-
     /// One step: it answers what the machine may answer, and leaves what the machine leaves, from each state that the core stands for. That a
     /// call failed is what the wire counts during the step.
     ///
-    /// The faults are those of [`serve`](Core::serve), [`fetch`](Core::fetch), [`split`](Core::split) and [`tend`](Core::tend). `NoMemory` also
-    /// if memory runs out while the body of a Serve step is read: then the core is as it was.
+    /// The faults are those of [`serve`](Core::serve), [`fetch`](Core::fetch), [`split`](Core::split), [`tend`](Core::tend) and
+    /// [`rotate`](Core::rotate). `NoMemory` also if memory runs out while the body of a Serve step is read: then the core is as it was.
     pub fn step<W: Wire>(
         &mut self,
         alloc: Global,
         step: Step,
         wire: &mut W,
     ) -> Result<Outcome, StepFault>
-        requires { kinds.makes step ≡ true }
         ensures taken { (s : State) → StandsFor self.old s
             → (s' : State) × (Takes s step (has_faults (W.faults wire.old) (W.faults wire.new)) result s' × StandsFor self.new s') }
         ensures grown { Grows (W.faults wire.old) (W.faults wire.new) }
@@ -299,6 +310,11 @@ impl<H: Histories> Core<H> {
         match step {
             Step::Serve { request, moment } => self.serve_now(alloc, &request, moment, wire),
             Step::Fetch { ticket } => self.fetch(ticket, wire),
+            Step::Rotate {
+                account,
+                which,
+                key,
+            } => self.rotate(alloc, &account, which, key),
             Step::Split { slot, middle } => self.split(alloc, slot, &middle, wire),
             Step::Settle { slot } => self.tend(alloc, slot, Care::Settle, wire),
             Step::Seal { slot } => self.tend(alloc, slot, Care::Seal, wire),
@@ -320,7 +336,6 @@ impl<H: Histories> Core<H> {
                 };
                 self.tend(alloc, slot, care, wire)
             }
-            _ => unreachable!(),
         }
     }
 
@@ -334,7 +349,6 @@ impl<H: Histories> Core<H> {
         steps: Vec<Step>,
         wire: &mut W,
     ) -> Result<Vec<Result<Outcome, StepFault>>, AllocError>
-        requires { list_all kinds.makes steps.items ≡ true }
         ensures ran { IfOk result (λ answers. (s : State) → StandsFor self.old s
             → (s' : State) × (IsRun s (all_faults (W.faults wire.old)) steps.items answers.items s' (all_faults (W.faults wire.new)) × StandsFor self.new s')) }
         ensures count { IfOk result (λ answers. length answers.items ≡ length steps.items) }

@@ -5,6 +5,7 @@ mod care;
 mod compacting;
 mod cores;
 mod open_tickets;
+mod rotating;
 mod serving;
 mod splitting;
 mod telling;

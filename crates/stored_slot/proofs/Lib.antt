@@ -5,6 +5,7 @@ pub mod HalfLemmas
 pub mod KeepLemmas
 pub mod LawLemmas
 pub mod MeaningLemmas
+pub mod PairLemmas
 pub mod RepairLemmas
 pub mod ServeLemmas
 pub mod ViewLemmas

@@ -9,6 +9,7 @@ mod deciding;
 mod keeping;
 mod laws;
 mod lent;
+mod rotating;
 mod serving;
 mod settling;
 mod stored_slot;

@@ -1,13 +1,11 @@
 use Rattle.std.proofs.Common.{rules, ◌≡◌, ◌++◌, ◌∷◌, [], length, List, ap, ◌∙◌, refl, subst, arith}
 use Rattle.std.proofs.lemmas.List.{length-append}
-use Rattle.std.specs.List.{list_all}
 use Rattle.std.specs.Vec.Iter.{into_iter_items, into_iter_len}
 use Rattle.extent_seal.specs.Counting.{all_faults}
 use Rattle.stored_rows.proofs.CountLemmas.{grows_not, grows_twice}
 use Rattle.core_run.specs.declared.step.Step.{Step}
-use Rattle.stamp_core.specs.CoreSteps.{makes}
 use Rattle.stamp_core.proofs.FaultLemmas.{grown}
-use Rattle.stamp_core.proofs.RunLemmas.{HasRun, later_made, nothing_left, run_begins, run_ends, run_goes_on}
+use Rattle.stamp_core.proofs.RunLemmas.{HasRun, nothing_left, run_begins, run_ends, run_goes_on}
 use Rattle.stamp_core.proofs.cores.Core.run.Goals as goal
 
 pub loop-step-init : goal.loop-step-init
@@ -16,7 +14,6 @@ loop-step-init g c = record {
   room = omega (arith, c.in_ok-answers.ensures.len, c.in_ok-answers.ensures.capacity, c.len.ensures, c.into_iter-later.ensures.len);
   counted = search rules;
   each = omega (arith, ap length c.in_ok-answers.ensures.items, ap length c.into_iter-later.ensures.rest);
-  made = ap (list_all makes) c.into_iter-later.ensures.rest ∙ c.requires;
   grown = grows_not (g.W.Wire.faults c.args.wire.now) (g.W.Wire.faults c.args.wire.now) refl;
 }
 
@@ -34,7 +31,6 @@ loop-step-preserved g c =
       room = search rules;
       counted = omega (arith, c.loop-step.invariant.counted, ap length c.in-Some.ensures.cases.0, c.in-Some.ensures.cases.1);
       each = omega (arith, c.loop-step.invariant.each, ap length pushed, length-append c.loop-step.answers.items (c.step-answer.result ∷ []), ap length c.in-Some.ensures.cases.0);
-      made = later_made (into_iter_items c.loop-step.later) (into_iter_items c.next.new.self) c.in-Some.step c.loop-step.invariant.made c.in-Some.ensures.cases.0;
       grown = grows_twice first old new c.loop-step.invariant.grown c.step-answer.ensures.grown;
     }
 

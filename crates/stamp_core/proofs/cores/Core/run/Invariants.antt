@@ -1,8 +1,6 @@
-use Rattle.std.proofs.Common.{◌≡◌, ◌≤◌, ◌+◌, true, length, vec_len, vec_capacity}
-use Rattle.std.specs.List.{list_all}
+use Rattle.std.proofs.Common.{◌≡◌, ◌≤◌, ◌+◌, length, vec_len, vec_capacity}
 use Rattle.std.specs.Vec.Iter.{into_iter_items, into_iter_len}
 use Rattle.extent_seal.specs.Counting.{Grows, all_faults}
-use Rattle.stamp_core.specs.CoreSteps.{makes}
 use Rattle.stamp_core.proofs.RunLemmas.{HasRun}
 use Rattle.stamp_core.proofs.cores.Core.run.Given as goal
 
@@ -13,7 +11,6 @@ invariant-loop-step g l = record {
   room : vec_len l.answers + into_iter_len l.later ≤ vec_capacity l.answers;
   counted : into_iter_len l.later ≡ length (into_iter_items l.later);
   each : length l.answers.items + length (into_iter_items l.later) ≡ length l.fn.steps.items;
-  made : list_all makes (into_iter_items l.later) ≡ true;
   grown : Grows (g.W.Wire.faults l.initial.wire) (g.W.Wire.faults l.wire);
 }
 

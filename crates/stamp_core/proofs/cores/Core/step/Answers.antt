@@ -49,3 +49,8 @@ returns-in-Move-clause-taken g c = λ s stands.
 pub returns-in-Repair-clause-taken : goal.returns-in-Repair-clause-taken
 returns-in-Repair-clause-taken g c = λ s stands.
     subst (λ (x : Step). (s' : State) × (Takes s x (has_faults (g.W.Wire.faults c.args.wire.now) (g.W.Wire.faults c.tend-in-Repair.new.wire)) c.tend-in-Repair.result s' × StandsFor c.tend-in-Repair.new.self s')) (sym c.in-Repair.is) (c.tend-in-Repair.ensures.taken s stands)
+
+pub returns-in-Rotate-clause-taken : goal.returns-in-Rotate-clause-taken
+returns-in-Rotate-clause-taken g c = λ s stands.
+    subst (λ (x : Step). (s' : State) × (Takes s x (has_faults (g.W.Wire.faults c.args.wire.now) (g.W.Wire.faults c.args.wire.now)) c.rotate.result s' × StandsFor c.rotate.new.self s')) (sym c.in-Rotate.is)
+    (c.rotate.ensures s (has_faults (g.W.Wire.faults c.args.wire.now) (g.W.Wire.faults c.args.wire.now)) stands)

@@ -1,0 +1,130 @@
+//! How a key of an account is replaced, for all slots at once.
+ghost use Rattle.std.specs.Prelude.{◌≡◌, ◌+◌, IfErr, IfOk, OnErr, OnOk};
+ghost use Rattle.std.specs.Arc.{arc_value};
+ghost use Rattle.slot_state.specs.NextPairs.{IsNext, with_next};
+ghost use Rattle.slot_state.specs.Pairs.{current_at, pairs_at};
+ghost use Rattle.stamp_core.specs.Ranges.{HaveSpans};
+ghost use Rattle.stamp_core.specs.Rotations.{BeginPairs, HasNextPair, HasNoNextPair, HaveCaughtUp, IsNextPair, IsRotated};
+
+use access_rules::{Keys, KeysFault, Which};
+use core_run::{Outcome, StepFault};
+use hmac_sign::SigningKey;
+use partition_map::Spans;
+use slot_state::{AccountPairs, Histories};
+use stamp_types::Text;
+use std::alloc::{AllocError, Global};
+use std::sync::Arc;
+use stored_slot::StoredSlot;
+
+// The pairs of all accounts with a new pair, and the epoch of that pair.
+#[derive(Drop)]
+struct Longer {
+    pairs: Arc<AccountPairs>,
+    epoch: u64,
+}
+
+// The pair after the account's pair in force, with one of its keys replaced.
+fn next_pair(
+    pairs: &AccountPairs,
+    account: &Text,
+    which: Which,
+    key: SigningKey,
+) -> Result<Keys, StepFault>
+    ensures { IsNextPair (current_at pairs.now account.now) which key result }
+{
+    match pairs.current(account) {
+        Some(old) => match old.next(which, key) {
+            Ok(pair) => Ok(pair),
+            Err(KeysFault::Last) => Err(StepFault::Last),
+            Err(KeysFault::NoMemory) => Err(StepFault::NoMemory),
+        },
+        None => {
+            drop(key);
+            Err(StepFault::NoAccount)
+        }
+    }
+}
+
+// The pairs with the next pair of an account, in an allocation that can be shared.
+fn with_pair(
+    pairs: &AccountPairs,
+    alloc: Global,
+    account: &Text,
+    pair: Keys,
+) -> Result<Arc<AccountPairs>, AllocError>
+    requires { IsNext (pairs_at pairs.now account.now) pair }
+    ensures { IfOk result (λ shared. arc_value shared ≡ with_next pairs.now account.now pair) }
+{
+    let longer = pairs.with_next(alloc, account, pair)?;
+    let shared = Arc::new(alloc, longer)?;
+    Ok(shared)
+}
+
+// The pairs of all accounts, after a key of one account was replaced.
+fn next_pairs(
+    pairs: &AccountPairs,
+    alloc: Global,
+    account: &Text,
+    which: Which,
+    key: SigningKey,
+) -> Result<Longer, StepFault>
+    ensures made { IfOk result (λ longer.
+        HasNextPair pairs.now account.now which key longer.epoch (arc_value longer.pairs)) }
+    ensures refused { IfErr result (λ fault. HasNoNextPair pairs.now account.now fault) }
+{
+    match next_pair(pairs, account, which, key) {
+        Ok(pair) => {
+            let epoch = pair.epoch;
+            match with_pair(pairs, alloc, account, pair) {
+                Ok(pairs) => Ok(Longer { pairs, epoch }),
+                Err(AllocError) => Err(StepFault::NoMemory),
+            }
+        }
+        Err(fault) => Err(fault),
+    }
+}
+
+// The slots from this number on take the longer pairs. The share of each slot is made before any slot is changed.
+fn catch_up<H: Histories>(
+    slots: &mut Vec<StoredSlot<H>>,
+    at: usize,
+    pairs: &Arc<AccountPairs>,
+) -> Result<(), AllocError>
+    requires { BeginPairs slots.old.items (arc_value pairs.now) }
+    ensures caught_up { OnOk result (HaveCaughtUp slots.old.items at (arc_value pairs.now) slots.new.items) }
+    ensures refused { OnErr result (slots.new ≡ slots.old) }
+{
+    if at >= slots.len() {
+        return Ok(());
+    }
+    let share = pairs.clone()?;
+    catch_up(slots, at + 1, pairs)?;
+    slots[at].catch_up(share);
+    Ok(())
+}
+
+/// Replaces a key of an account, for all slots at once. Answers the epoch of the new pair.
+///
+/// `NoAccount` if the stamp has no such account, `Last` if no epoch comes after the epoch of the pair in force, and `NoMemory` if memory runs
+/// out. The slots are then as they were.
+pub(crate) fn rotate<H: Histories>(
+    slots: &mut Vec<StoredSlot<H>>,
+    spans: &Spans,
+    alloc: Global,
+    account: &Text,
+    which: Which,
+    key: SigningKey,
+) -> Result<Outcome, StepFault>
+    requires before { HaveSpans slots.old.items spans.now }
+    ensures after { HaveSpans slots.new.items spans.now }
+    ensures rotated { IsRotated slots.old.items account.now which key result slots.new.items }
+{
+    let _spans = spans;
+    match next_pairs(slots[0].account_pairs(), alloc, account, which, key) {
+        Ok(longer) => match catch_up(slots, 0, &longer.pairs) {
+            Ok(()) => Ok(Outcome::Epoch(longer.epoch)),
+            Err(AllocError) => Err(StepFault::NoMemory),
+        },
+        Err(fault) => Err(fault),
+    }
+}
