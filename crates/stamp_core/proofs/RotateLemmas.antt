@@ -1,5 +1,5 @@
 -- Rotations of a core, as steps of the machine.
-use Rattle.std.proofs.Common.{◌≡◌, ◌≤◌, ◌<◌, ◌+◌, arith, inl, inr, ℕ, zero, suc, Bool, List, [], ◌∷◌, Option, Some, None, refl, sym, ap, ◌∙◌, subst, length, map, Ok, Err}
+use Rattle.std.proofs.Common.{◌≡◌, ◌⊎◌, ◌≤◌, ◌<◌, ◌+◌, arith, inl, inr, ℕ, zero, suc, Bool, List, [], ◌∷◌, Option, Some, None, refl, sym, ap, ◌∙◌, subst, length, map, Ok, Err}
 use Rattle.std.specs.Prelude.{IsSome, is_some, slice_index_or, slice_set}
 use Rattle.std.proofs.lemmas.Bool.{cases_order}
 use Rattle.std.proofs.lemmas.List.{length-map}
@@ -104,7 +104,7 @@ module _ (slots : List SlotState) (pairs : Pairs) where
 
 -- ---- slots that share longer pairs
 
-with_range : Pairs → Range → Range
+abbrev with_range : Pairs → Range → Range
 with_range pairs r = (r.0, (r.1.0, pairs))
 
 mapped_ranges : (pairs : Pairs) (slots : List SlotState) → map range_of (map (with_pairs pairs) slots) ≡ map (with_range pairs) (map range_of slots)
@@ -167,17 +167,34 @@ module _ (slots : List SlotState) (points : List Key) (have : HaveSpans slots po
   same_as_first : (i : ℕ) → i < length slots → (slice_index_or slots i no_slot).pairs ≡ pairs_of_all slots
   same_as_first i low = shared_pairs slots points have i (omega (arith, low, counted slots points have)) ∙ sym (shared_pairs slots points have 0 (omega arith))
 
+  pub none_for_all : (own shared : Pairs) (first d : SlotState) → first ≡ slice_index_or slots 0 d → shared ≡ first.pairs → own ≡ shared → (account : List ℕ) (f : StepFault) → HasNoNextPair own account f
+      → HasNoNextPair (pairs_of_all slots) account f
+  none_for_all own shared first d was lent read account f none =
+      subst (λ (ps : Pairs). HasNoNextPair ps account f) (read ∙ lent ∙ ap (λ (h : SlotState). h.pairs) (was ∙ get_any slots 0 d no_slot some_slot)) none
+
   module _ (longer : Pairs) where
     pub begin_pairs : (account : List ℕ) (which : Which) (key : List ℕ) (n : ℕ) → HasNextPair (pairs_of_all slots) account which key n longer → BeginPairs slots longer
     begin_pairs account which key n next i low =
         subst (λ (ps : Pairs). AreFront ps longer) (sym (same_as_first i low))
         (subst (AreFront (pairs_of_all slots)) (sym next.1.1.1) (next_are_longer (pairs_of_all slots) account _ (next_is (pairs_of_all slots) account which key next.0 next.1.0)))
 
+    -- the pairs of the first slot are lent, and read
+    module _ (own shared : Pairs) (first d : SlotState) (was : first ≡ slice_index_or slots 0 d) (lent : shared ≡ first.pairs) (read : own ≡ shared) where
+      first_are : own ≡ pairs_of_all slots
+      first_are = read ∙ lent ∙ ap (λ (h : SlotState). h.pairs) (was ∙ get_any slots 0 d no_slot some_slot)
+
+      pub made_for_all : (account : List ℕ) (which : Which) (key : List ℕ) (n : ℕ) → HasNextPair own account which key n longer → HasNextPair (pairs_of_all slots) account which key n longer
+      made_for_all account which key n made = subst (λ (ps : Pairs). HasNextPair ps account which key n longer) first_are made
+
     pub spans_caught_up : (slots' : List SlotState) → HaveCaughtUp slots 0 longer slots' → HaveSpans slots' points
     spans_caught_up slots' done = (
       longer,
       ap (map range_of) done.0 ∙ mapped_ranges longer slots ∙ ap (map (with_range longer)) have.1 ∙ ranges_with have.0 longer least_key points,
     )
+
+-- an account whose next pair was made has a pair in force
+pub some_current : (pairs longer : Pairs) (account : List ℕ) (which : Which) (key : List ℕ) (n : ℕ) → HasNextPair pairs account which key n longer → IsSome (current_at pairs account)
+some_current pairs longer account which key n made = ap (λ (o : Option Keys). is_some o) made.1.0
 
 -- ---- steps of the machine
 
@@ -238,7 +255,7 @@ module _ (c : CoreState) (have : HaveSpans c.slots c.points) (s : State) (stands
   fails fault.NoAccount none same = (s, (takes (Err fault.NoAccount) s None none (refl, refl), unchanged same))
   fails fault.Last last same = (s, (takes (Err fault.Last) s (Some last.0) last.1.0 (inr (inl (last.1.1, (refl, refl)))), unchanged same))
   fails fault.NoMemory some same = (s, (takes (Err fault.NoMemory) s (current_at pairs account) refl (no_memory (current_at pairs account) some), unchanged same))
-  fails other no same = absurd no
+  fails other never same = absurd never
 
   rotate_step : (r : Answer) → IsRotated c.slots account which key r slots → Steps r
   rotate_step (Ok (outcome.Epoch n)) is =

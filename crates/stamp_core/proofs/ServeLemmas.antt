@@ -142,7 +142,7 @@ module _ (Fa Fb : Type 0) (b : Bool) (first : Fa → b ≡ true) (later : Fb →
     after_settle h new settled by =
         let m = settled_core c s stands place low h settled in
         let its : slot_at (slice_set c.slots place h) c.points (routed q) ≡ h = get_or-set_same c.slots place h no_slot low in
-        let ends = ap (λ (x : SlotState). x.to) its ∙ ap (λ r. r.1) (settled_range old h settled) ∙ ends_there c.slots c.points have (routed q) in
+        let ends = ap (λ (x : SlotState). x.to) its ∙ ap (λ r. r.1.0) (settled_range old h settled) ∙ ends_there c.slots c.points have (routed q) in
         let made = told_by (with_slot c place h) m.0 m.1.1 q t ends a new (subst (λ (x : SlotState). slots.ServesBy x q t Fa a new) (sym its) by) o tickets tells in (
           made.0,
           (

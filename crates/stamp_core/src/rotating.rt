@@ -61,6 +61,7 @@ fn with_pair(
 }
 
 // The pairs of all accounts, after a key of one account was replaced.
+#[tactic(auto, using(crate::proofs::RotateLemmas::made_next, crate::proofs::RotateLemmas::made_longer, crate::proofs::RotateLemmas::made_then_none, crate::proofs::RotateLemmas::not_made))]
 fn next_pairs(
     pairs: &AccountPairs,
     alloc: Global,
@@ -85,7 +86,7 @@ fn next_pairs(
 }
 
 // The slots from this number on take the longer pairs. The share of each slot is made before any slot is changed.
-fn catch_up<H: Histories>(
+fn bring_up<H: Histories>(
     slots: &mut Vec<StoredSlot<H>>,
     at: usize,
     pairs: &Arc<AccountPairs>,
@@ -98,7 +99,7 @@ fn catch_up<H: Histories>(
         return Ok(());
     }
     let share = pairs.clone()?;
-    catch_up(slots, at + 1, pairs)?;
+    bring_up(slots, at + 1, pairs)?;
     slots[at].catch_up(share);
     Ok(())
 }
@@ -121,7 +122,7 @@ pub(crate) fn rotate<H: Histories>(
 {
     let _spans = spans;
     match next_pairs(slots[0].account_pairs(), alloc, account, which, key) {
-        Ok(longer) => match catch_up(slots, 0, &longer.pairs) {
+        Ok(longer) => match bring_up(slots, 0, &longer.pairs) {
             Ok(()) => Ok(Outcome::Epoch(longer.epoch)),
             Err(AllocError) => Err(StepFault::NoMemory),
         },

@@ -9,7 +9,7 @@ use Rattle.range_rows.specs.SentContent.{sizes}
 use Rattle.stamp_model.specs.Refusals.{refusal}
 use Rattle.stored_rows.specs.States.{Stored}
 use Rattle.slot_state.specs.HistoryMaps.{Histories}
-use Rattle.slot_state.specs.NextPairs.{AreFront, IsNext, ReplaysBy, with_next, with_pairs}
+use Rattle.slot_state.specs.NextPairs.{AreFront, IsNext, ReplaysBy, with_next}
 use Rattle.slot_state.specs.Pairs.{AreNumbered, Pairs, pairs_at}
 use Rattle.slot_state.specs.Slots.{SlotState}
 use Rattle.slot_state.proofs.NextLemmas.{epoch_longer, latest_longer, legal_longer, next_are_longer, pair_longer, replayed_longer}
@@ -54,10 +54,6 @@ pub longer_same : (pairs longer : Pairs) (h : Histories) (s : Stored) (d : Optio
     → ReplaysBy longer v
 longer_same pairs longer h s d v seen all front are =
     subst (λ (x : SlotState). AreFront x.pairs longer → ReplaysBy longer x) seen (λ own key. replayed_longer pairs longer are.replays.numbered all own h are.replays.latest key) front
-
--- contracts see other pairs, and nothing else
-pub longer_seen : (pairs longer : Pairs) (h : Histories) (s : Stored) (d : Option Past) (v : SlotState) → slot_with pairs h s d ≡ v → slot_with longer h s d ≡ with_pairs longer v
-longer_seen pairs longer h s d v seen = ap (with_pairs longer) seen
 
 -- pairs with the next pair of an account
 pub next_is_longer : (pairs longer : Pairs) (account : List ℕ) (next : Keys) → IsNext (pairs_at pairs account) next → longer ≡ with_next pairs account next → AreFront pairs longer

@@ -53,4 +53,4 @@ returns-in-Repair-clause-taken g c = λ s stands.
 pub returns-in-Rotate-clause-taken : goal.returns-in-Rotate-clause-taken
 returns-in-Rotate-clause-taken g c = λ s stands.
     subst (λ (x : Step). (s' : State) × (Takes s x (has_faults (g.W.Wire.faults c.args.wire.now) (g.W.Wire.faults c.args.wire.now)) c.rotate.result s' × StandsFor c.rotate.new.self s')) (sym c.in-Rotate.is)
-    (c.rotate.ensures s (has_faults (g.W.Wire.faults c.args.wire.now) (g.W.Wire.faults c.args.wire.now)) stands)
+    (c.rotate.ensures.taken s (has_faults (g.W.Wire.faults c.args.wire.now) (g.W.Wire.faults c.args.wire.now)) stands)
