@@ -208,8 +208,14 @@ impl Service for Judging {
     ) -> Result<Reply, AllocError> {
         let judged = judge(alloc, &self.keys, &request)?;
         let reading = Reading::of(alloc, &request)?;
-        self.core
-            .answer(alloc, &request, Some(&judged), reading, moment, &mut self.wire)
+        self.core.answer(
+            alloc,
+            &request,
+            Some(&judged),
+            reading,
+            moment,
+            &mut self.wire,
+        )
     }
 }
 
@@ -230,7 +236,12 @@ fn forgets_judgements(rt: &impl Abort, alloc: Global, judging: &mut Judging) {
     assert!(rt; ends(rt, alloc, judging, GET_BY_TOKEN, b"\r\n\r\nhello"));
     let account = text(rt, alloc, ACCOUNT);
     let key = key_of(rt, alloc, b"new1");
-    assert!(rt; judging.core.rotate(alloc, &account, Which::First, key).is_ok());
+    assert!(rt;
+        judging
+            .core
+            .rotate(alloc, &account, Which::First, key)
+            .is_ok()
+    );
     assert!(rt; says(rt, alloc, judging, GET_BY_TOKEN, "Refused by rule S4."));
     assert!(rt; says(rt, alloc, judging, PUT, "Refused by rule K5."));
     assert!(rt; begins(rt, alloc, judging, PUT_BY_NEW, CREATED));

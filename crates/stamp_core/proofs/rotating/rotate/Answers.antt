@@ -11,8 +11,8 @@ index-requires g c = omega (arith, some_slot c.args.slots.now.items c.args.spans
 pub bring_up-requires : goal.bring_up-requires
 bring_up-requires g c =
     let made =
-        made_for_all c.args.slots.now.items c.args.spans.now c.requires.before (arc_value c.in-Ok.longer.pairs) c.deref.result.now (arc_value c.account_pairs.result.now) c.index.result.now _ c.index.ensures
-        c.account_pairs.ensures c.deref.ensures c.args.account.now c.args.which c.args.key c.in-Ok.longer.epoch c.in-Ok.ensures.made in
+    made_for_all c.args.slots.now.items c.args.spans.now c.requires.before (arc_value c.in-Ok.longer.pairs) c.deref.result.now (arc_value c.account_pairs.result.now) c.index.result.now _ c.index.ensures
+    c.account_pairs.ensures c.deref.ensures c.args.account.now c.args.which c.args.key c.in-Ok.longer.epoch c.in-Ok.ensures.made in
     begin_pairs c.args.slots.now.items c.args.spans.now c.requires.before (arc_value c.in-Ok.longer.pairs) c.args.account.now c.args.which c.args.key c.in-Ok.longer.epoch made
 
 pub returns-in-Ok-bring_up-clause-after : goal.returns-in-Ok-bring_up-clause-after
@@ -22,8 +22,8 @@ returns-in-Ok-bring_up-clause-after g c =
 pub returns-in-Ok-bring_up-clause-rotated : goal.returns-in-Ok-bring_up-clause-rotated
 returns-in-Ok-bring_up-clause-rotated g c =
     let made =
-        made_for_all c.args.slots.now.items c.args.spans.now c.requires.before (arc_value c.in-Ok.longer.pairs) c.deref.result.now (arc_value c.account_pairs.result.now) c.index.result.now _ c.index.ensures
-        c.account_pairs.ensures c.deref.ensures c.args.account.now c.args.which c.args.key c.in-Ok.longer.epoch c.in-Ok.ensures.made in
+    made_for_all c.args.slots.now.items c.args.spans.now c.requires.before (arc_value c.in-Ok.longer.pairs) c.deref.result.now (arc_value c.account_pairs.result.now) c.index.result.now _ c.index.ensures
+    c.account_pairs.ensures c.deref.ensures c.args.account.now c.args.which c.args.key c.in-Ok.longer.epoch c.in-Ok.ensures.made in
     (arc_value c.in-Ok.longer.pairs, (made, c.in-Ok-bring_up.ensures.caught_up))
 
 pub returns-in-Ok-clause-after : goal.returns-in-Ok-clause-after
@@ -32,13 +32,13 @@ returns-in-Ok-clause-after g c = subst (λ (hs : List SlotState). HaveSpans hs c
 pub returns-in-Ok-clause-rotated : goal.returns-in-Ok-clause-rotated
 returns-in-Ok-clause-rotated g c =
     let made =
-        made_for_all c.args.slots.now.items c.args.spans.now c.requires.before (arc_value c.in-Ok.longer.pairs) c.deref.result.now (arc_value c.account_pairs.result.now) c.index.result.now _ c.index.ensures
-        c.account_pairs.ensures c.deref.ensures c.args.account.now c.args.which c.args.key c.in-Ok.longer.epoch c.in-Ok.ensures.made in
+    made_for_all c.args.slots.now.items c.args.spans.now c.requires.before (arc_value c.in-Ok.longer.pairs) c.deref.result.now (arc_value c.account_pairs.result.now) c.index.result.now _ c.index.ensures
+    c.account_pairs.ensures c.deref.ensures c.args.account.now c.args.which c.args.key c.in-Ok.longer.epoch c.in-Ok.ensures.made in
     (some_current _ (arc_value c.in-Ok.longer.pairs) c.args.account.now c.args.which c.args.key c.in-Ok.longer.epoch made, ap (λ v. v.items) c.in-Err-bring_up.ensures.refused)
 
 pub returns-clause-rotated : goal.returns-clause-rotated
 returns-clause-rotated g c = (
   none_for_all c.args.slots.now.items c.args.spans.now c.requires.before c.deref.result.now (arc_value c.account_pairs.result.now) c.index.result.now _ c.index.ensures c.account_pairs.ensures c.deref.ensures c.args.account.now
-  c.in-Err.fault c.in-Err.ensures.refused,
+      c.in-Err.fault c.in-Err.ensures.refused,
   refl,
 )
