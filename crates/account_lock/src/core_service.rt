@@ -18,6 +18,7 @@ use stamp_core::Core;
 use stamp_types::{Moment, Reply, Request};
 use std::alloc::{AllocError, Global};
 use std::marker::Model;
+use stored_rows::Compacted;
 
 // One more owner of each part of the pair.
 fn copy_of(keys: &Keys) -> Result<Keys, AllocError>
@@ -66,6 +67,20 @@ pub(crate) fn answer_steadily(
     ensures unchanged { OnErr result (core.new ≡ core.old) }
 {
     core.answer(alloc, request, judged, reading, moment, wire)
+}
+
+/// Compacts the first slot of which little is left to which something refers, if there is one, over nodes in memory. Gives what was replaced.
+///
+/// Nothing that a request is answered changes, also if memory runs out for it.
+pub(crate) fn compact_steadily(
+    core: &mut Core<ProvedHistories>,
+    wire: &mut Steady,
+    alloc: Global,
+) -> Option<Compacted>
+    requires calm { IsCalm core.old }
+    ensures { core.new ≡ core.old }
+{
+    core.compact_wasteful(alloc, wire)
 }
 
 /// The service of one account over a core whose nodes are in memory: each reply is the machine's. One connection after the other may use it.
@@ -119,7 +134,7 @@ impl Service for CoreService {
 
     ghost starves = { λ old new. new ≡ old };
 
-    /// The reply of the machine, and its change.
+    /// The reply of the machine, and its change. If earlier changes left much to which nothing refers, the core is compacted first.
     ///
     /// `AllocError` if memory runs out for the reading of the body, the change or the reply. Then nothing is changed.
     fn answer(
@@ -133,6 +148,7 @@ impl Service for CoreService {
     {
         let reading = Reading::of(alloc, &request)?;
         let Self { core, wire } = self;
+        drop(compact_steadily(core, wire, alloc));
         answer_steadily(core, wire, alloc, &request, None, reading, moment)
     }
 }

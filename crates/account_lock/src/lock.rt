@@ -8,7 +8,7 @@ ghost use Rattle.stamp_core.specs.CoreSteps.{IsCalm};
 ghost use Rattle.account_lock.specs.Histories.{Entered, entered, state_left, world_left};
 ghost use Rattle.account_lock.specs.Services.{opening_of};
 
-use crate::core_service::{answer_steadily, core_of};
+use crate::core_service::{answer_steadily, compact_steadily, core_of};
 use crate::history::{Account, EntryCount, Front, NewHistory};
 use crate::steady::Steady;
 use access_rules::Keys;
@@ -22,6 +22,7 @@ use std::alloc::{AllocError, Global};
 use std::marker::Model;
 use std::sync::ledger::{Book, Share};
 use std::sync::{Arc, Mutex, Wait};
+use stored_rows::Compacted;
 
 /// The most entries of a history. A server that answers a million requests a second reaches it after 70,000 years.
 const MOST: u64 = 1 << 61;
@@ -102,6 +103,16 @@ impl<A: Account> Locked<A> {
             return Err(AllocError);
         }
         Ok(front)
+    }
+
+    // Gives up content and rows to which nothing refers, if there are many. What was replaced is dropped once the lock is given back.
+    fn compact(&mut self, alloc: Global) -> Option<Compacted>
+        ensures { self.new ≡ self.old }
+    {
+        match &mut self.core {
+            Ok(core) => compact_steadily(core, &mut Steady::new(), alloc),
+            Err(_) => None,
+        }
     }
 
     // Answers a request whose body was read and whose signature was judged before. The request is then the next entry of the history,
@@ -259,6 +270,9 @@ impl<'a, A: Account, R: Wait> Service for Connection<'a, A, R> {
     /// The reply of the model, at the end of the history. The request is then the last entry of it.
     ///
     /// The signature is judged and the body is read before the lock is taken, and the request is dropped after the lock is given back.
+    /// If earlier changes left much to which nothing refers, the core is compacted first: the replies to these changes are out by then. What
+    /// that replaces is dropped after the lock is given back.
+    ///
     /// `AllocError` if memory runs out: then there is no entry and no change.
     fn answer(
         &mut self,
@@ -268,7 +282,9 @@ impl<'a, A: Account, R: Wait> Service for Connection<'a, A, R> {
     ) -> Result<Reply, AllocError> {
         let judged = judge(alloc, &self.lock.keys, &request)?;
         let reading = Reading::of(alloc, &request)?;
-        let answered = self.lock.locked.lock(self.rt).answer(
+        let mut locked = self.lock.locked.lock(self.rt);
+        let replaced = locked.compact(alloc);
+        let answered = locked.answer(
             alloc,
             &self.lock.count,
             &mut self.known,
@@ -278,6 +294,8 @@ impl<'a, A: Account, R: Wait> Service for Connection<'a, A, R> {
             reading,
             moment,
         );
+        drop(locked);
+        drop(replaced);
         drop(judged);
         drop(request);
         answered
