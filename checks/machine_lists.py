@@ -244,7 +244,7 @@ def random_step(run, dice):
     slots = run.machine.slots
     in_doubt, unloaded = any(it.doubt for it in slots), not all(it.is_loaded for it in slots)
     ways = {"serve": 28, "settle": 1 + 3 * in_doubt, "seal": 2, "load": 0.5 + unloaded, "unload": 1.5, "move": 0.7, "repair": 2.5, "split": 1.5}
-    ways["fetch"] = 0.2 + 3 * any(run.machine.tickets)
+    ways |= {"checkpoint": 1, "compact": 1.5, "fetch": 0.2 + 3 * any(run.machine.tickets)}
     way = dice.choices([*ways], [*ways.values()])[0]
     if way == "serve":
         run.serve(Requests(dice, run.machine.stamp).one)
@@ -289,13 +289,17 @@ def script(run):
     yield read("pics")
     yield run.step("seal", 0)
     yield run.step("repair", 0, "log", 0, 1)
+    yield run.step("checkpoint", 0)
     yield run.step("unload", 0)
     yield read("pics")
     yield run.step("split", 0, "mmm")
     yield serve(put, "aaa", "a", b"world")
     yield run.step("move", 1, 1)
     yield run.step("load", 1)
+    yield run.step("compact", 1)
+    yield read("pics")
     yield serve(put, "pics", "a", b"again")
+    yield run.step("compact", 0)
     yield serve(delete, "aaa")
     yield read("pics")
 

@@ -5,7 +5,7 @@ whose change is in doubt. Replies are made by replay_model.py, and the lengths o
 docs/theorem.md, and never calls the product.
 """
 from head_model import head_end, read_head
-from record_model import record_length
+from record_model import blob_row_length, container_row_length, record_length
 from replay_model import Asked, Denial, Stamp, denied_bytes, range_of, reply_bytes, route
 from stream_model import Streams
 
@@ -20,6 +20,13 @@ class Placed(bytes):
     pieces = ()
 
 
+def placed(content, pieces):
+    """The content with these pieces."""
+    it = Placed(content)
+    it.pieces = pieces
+    return it
+
+
 class Entry:
     """A request at its moment, and what its body says."""
 
@@ -27,8 +34,7 @@ class Entry:
         self.asked, self.moment, self.said = asked, moment, said
 
     def place(self, pieces):
-        self.asked.body = Placed(self.asked.body)
-        self.asked.body.pieces = pieces
+        self.asked.body = placed(self.asked.body, pieces)
 
 
 class Logged:
@@ -39,6 +45,39 @@ class Logged:
 
     def __len__(self):
         return self.length
+
+
+class Row:
+    """A row of a checkpoint, as a block: that of a blob, or of a container, which has no content."""
+
+    def __init__(self, length, blob=None):
+        self.length, self.blob = length, blob
+
+    def __len__(self):
+        return self.length
+
+    def blocks(self):
+        """The committed blocks in their order, and the uncommitted ones in the order of their ids."""
+        if not self.blob:
+            return [], []
+        return self.blob.part.blocks if self.blob.part else [], sorted(self.blob.blocks.items())
+
+    def whole(self):
+        """The bytes of each content."""
+        return [content for blocks in self.blocks() for _, content in blocks]
+
+    def contents(self):
+        """The pieces of each content."""
+        return [content.pieces for content in self.whole()]
+
+    def place(self, contents):
+        """The contents are at new places."""
+        new = iter(contents)
+        committed, uncommitted = ([(it, placed(content, next(new))) for it, content in blocks] for blocks in self.blocks())
+        if committed:
+            self.blob.part.blocks = committed
+        if uncommitted:
+            self.blob.blocks.update(uncommitted)
 
 
 class Containers(Stamp):
@@ -55,20 +94,30 @@ class Containers(Stamp):
 
 
 class Slot:
-    """The containers from the first key up to the bound, in streams."""
+    """The containers from the first key up to the bound, in streams. The rows of the last checkpoint are what the entries before it made."""
 
-    def __init__(self, streams, first="", bound=None, is_loaded=True):
-        self.streams, self.first, self.bound, self.is_loaded, self.doubt = streams, first, bound, is_loaded, None
+    def __init__(self, streams, first="", bound=None, is_loaded=True, written=()):
+        self.streams, self.first, self.bound, self.is_loaded, self.written, self.doubt = streams, first, bound, is_loaded, [*written], None
 
     def covers(self, name):
         return self.first <= name and (self.bound is None or name < self.bound)
 
+    def entries(self):
+        """All entries of its containers."""
+        return [it for it in (*self.written, *(it.entry for it in self.streams.changes)) if self.covers(it.asked.container)]
+
     def load(self, wire):
-        """All changes are read in their order, of all names. The first one that no node gives ends the load."""
+        """All rows and then all changes are read in their order, of all names. The first one that no node gives ends the load."""
         if not self.is_loaded:
-            log = self.streams.log
-            self.is_loaded = all(log.read(place, wire) is not None for place, _ in log.places())
+            self.is_loaded = all(it.read(place, wire) is not None for it in (self.streams.rows, self.streams.log) for place, _ in it.places())
         return self.is_loaded
+
+    def checkpoint(self, rows, wire):
+        entries = self.entries()
+        if self.streams.checkpoint(rows, wire) == "busy":
+            return False
+        self.written = entries
+        return True
 
     def keep(self, place, wire):
         """What a piece is read by when its ticket is fetched: the nodes and their copies of a sealed extent. It is empty if the piece is read now,
@@ -99,12 +148,14 @@ class Machine:
         self.slots, self.tickets = [Slot(Streams(limit))], []
 
     def check(self):
-        """What the streams of a slot keep is its part of the history, and its doubt is the one of its log."""
+        """What the streams of a slot keep is its part of the history, its doubt is the one of its log, and each content is at its places."""
         for slot in self.slots:
             slot.streams.check()
-            logged = [it.entry for it in slot.streams.changes if slot.covers(it.entry.asked.container)]
-            assert logged == [it for it in self.history if slot.covers(it.asked.container)]
+            assert slot.entries() == [it for it in self.history if slot.covers(it.asked.container)]
             assert slot.doubt is (slot.streams.doubt and slot.streams.doubt.entry)
+            data = dict(slot.streams.blobs.places())
+            for row in self.rows(slot):
+                assert row.whole() == [b"".join(data[place] for place, _ in pieces) for pieces in row.contents()]
 
     # ---- requests
 
@@ -195,7 +246,7 @@ class Machine:
             return "full"
         if not self.is_settled(slot, wire) or slot.streams.seal(wire) != "done":
             return "busy"
-        self.slots.insert(at + 1, Slot(slot.streams.share(), middle, slot.bound, slot.is_loaded))
+        self.slots.insert(at + 1, Slot(slot.streams.share(), middle, slot.bound, slot.is_loaded, slot.written))
         slot.bound = middle
         return "made"
 
@@ -212,6 +263,37 @@ class Machine:
 
     def load(self, at, wire):
         return self.on_slot(at, lambda slot: "made" if self.is_settled(slot, wire) and slot.load(wire) else "busy")
+
+    def rows(self, slot):
+        """The rows of the containers that a slot has, each before those of its blobs."""
+        for name in filter(slot.covers, sorted(self.stamp.counts)):
+            container = self.stamp.containers.get(name)
+            yield Row(container_row_length(self.stamp.account, name, container))
+            for blob, it in sorted(container.blobs.items() if container else ()):
+                yield Row(blob_row_length(self.stamp.account, name, blob, it), it)
+
+    def is_written(self, slot, wire):
+        """Writes the rows of a slot as a checkpoint. Says whether that was done."""
+        return self.is_settled(slot, wire) and slot.load(wire) and slot.checkpoint(self.rows(slot), wire)
+
+    def checkpoint(self, at, wire):
+        return self.on_slot(at, lambda slot: "made" if self.is_written(slot, wire) else "busy")
+
+    def compact(self, at, wire):
+        """A checkpoint whose content is moved to new data. The checkpoint stays if the content is not moved."""
+
+        def move(slot):
+            moved = slot.streams.compact(wire) if self.is_written(slot, wire) else None
+            if moved is None:
+                return "busy"
+            for row, contents in moved:
+                row.place(contents)
+            # The rows are loaded again, if nodes answer.
+            slot.is_loaded = False
+            slot.load(wire)
+            return "made"
+
+        return self.on_slot(at, move)
 
     def unload(self, at, _wire):
         def drop(slot):

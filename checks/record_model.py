@@ -1,4 +1,5 @@
-"""How long the record of a change is in the log, by docs/formats/records.md. The change is that of a request at its moment."""
+"""How long the record of a change is in the log, and that of a row in a checkpoint, by docs/formats/records.md. A change is that of a request at
+its moment, and a row is one of replay_model.py's containers or blobs."""
 from replay_model import block_id, kept_by, md5_of, metadata_of
 
 # How many bytes a kind, a level or an option has; a length or a count; and a number or a moment.
@@ -51,6 +52,32 @@ def fields(asked, said, pieces):
     return lengths[asked.name]()
 
 
-def record_length(asked, said, pieces):
+def of_container(account, name, fields):
     """A version, a kind, an epoch, an account, a container, and the fields."""
-    return BYTE + BYTE + LONG + string(asked.head.parts[0]) + string(asked.container.encode()) + fields(asked, said, pieces)
+    return BYTE + BYTE + LONG + string(account) + string(name.encode()) + fields
+
+
+def record_length(asked, said, pieces):
+    return of_container(asked.head.parts[0], asked.container, fields(asked, said, pieces))
+
+
+def described(metadata):
+    return items(string(name) + string(value) for name, value in metadata)
+
+
+def blocks(pairs):
+    """Blocks, each with its id, which may be none, and its content."""
+    return items(string(it or b"") + SHORT + PIECE * len(content.pieces) for it, content in pairs)
+
+
+def container_row_length(account, name, container):
+    """The row of a container, which may be none: it was deleted."""
+    more = container and LONG + LONG + BYTE + described(container.metadata) + items(policy(*it) for it in container.policies)
+    return of_container(account, name, LONG + option(container, more))
+
+
+def blob_row_length(account, name, blob, it):
+    part = it.part
+    headers = part and sum(string(part.kept[it]) for it in HEADERS) + string(part.md5)
+    committed = part and LONG + LONG + headers + described(part.metadata) + blocks(part.blocks)
+    return of_container(account, name, string(blob) + option(part, committed) + blocks(it.blocks.items()))

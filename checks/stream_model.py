@@ -206,9 +206,9 @@ def said(answer):
 class Streams:
     """The three streams of a partition. Beside the nodes it keeps what a user may rely on: the changes, and the data by place."""
 
-    def __init__(self, limit, log=(), blobs=(), changes=(), data=()):
+    def __init__(self, limit, log=(), blobs=(), rows=(), changes=(), data=()):
         self.limit = limit
-        self.log, self.blobs, self.rows = Stream(limit, log), Stream(limit, blobs), Stream(limit)
+        self.log, self.blobs, self.rows = Stream(limit, log), Stream(limit, blobs), Stream(limit, rows)
         self.changes, self.data, self.doubt = [*changes], dict(data), None
 
     def check(self):
@@ -263,11 +263,52 @@ class Streams:
     def repair(self, part, number, node, wire):
         return getattr(self, part).repair(number, node, wire)
 
+    def checkpoint(self, rows, wire):
+        """Rows take the place of the log and of the older rows, if each of them is written."""
+        made = Stream(self.limit)
+        if any(isinstance(made.append(row, wire), str) for row in rows):
+            return "busy"
+        self.log, self.rows, self.changes = Stream(self.limit), made, []
+        return "done"
+
+    def moved(self, pieces, made, wire):
+        """The pieces with their places in new data, or None. All are read before one is put."""
+        blocks, placed = [], []
+        for place, _ in pieces:
+            block = self.blobs.read(place, wire)
+            if block is None:
+                return None
+            blocks.append(block)
+        for block in blocks:
+            place = made.append(block, wire)
+            if isinstance(place, str):
+                return None
+            placed.append((place, len(block)))
+        return placed
+
+    def compact(self, wire):
+        """The content of the rows of a checkpoint takes the place of the data, if all of it is moved and each row is written with its new places.
+        Gives of each row the new pieces of each of its contents, or None."""
+        blobs, rows, moved = Stream(self.limit), Stream(self.limit), []
+        for place, row in self.rows.places():
+            if self.rows.read(place, wire) is None:
+                return None
+            contents = []
+            for pieces in row.contents():
+                contents.append(self.moved(pieces, blobs, wire))
+                if contents[-1] is None:
+                    return None
+            if isinstance(rows.append(row, wire), str):
+                return None
+            moved.append((row, contents))
+        self.log, self.blobs, self.rows, self.data = Stream(self.limit), blobs, rows, dict(blobs.places())
+        return moved
+
     def is_sealed(self):
         return all(it.is_sealed() for it in (self.log, self.blobs, self.rows))
 
     def share(self):
-        return Streams(self.limit, self.log.sealed, self.blobs.sealed, self.changes, self.data)
+        return Streams(self.limit, self.log.sealed, self.blobs.sealed, self.rows.sealed, self.changes, self.data)
 
     def read(self, place, start, end, wire):
         block = self.blobs.read(place, wire)
