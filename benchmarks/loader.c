@@ -1,9 +1,9 @@
-// Sends one request again and again on some connections, and reads each reply by its Content-Length.
+// Sends requests again and again on some connections, and reads each reply by its Content-Length.
 //
-// usage: loader PORT CONNECTIONS SECONDS COUNT keep|close FILE
+// usage: loader PORT CONNECTIONS SECONDS COUNT keep|close FILE..
 //
-// FILE has the bytes of the request, which are made before. Each connection sends them until so many seconds have passed, or COUNT times if
-// COUNT is not 0. With `close`, each request has a connection of its own. The loader prints one line: the requests, the seconds, the bytes of
+// Each FILE has the bytes of a request, which are made before. Each connection sends the requests in turn until so many seconds have passed, or
+// COUNT of them if COUNT is not 0. The connections begin at different requests. With `close`, each request has a connection of its own. The loader prints one line: the requests, the seconds, the bytes of
 // requests and replies, and three numbers about the microseconds from a request to the end of its reply: the 50th and the 99th percentile and
 // the longest. If a connection fails, or a reply has no status of 200 to 299, it says so on standard error and ends with status 1.
 #define _GNU_SOURCE
@@ -21,8 +21,13 @@
 enum { ROOM = 262144, PATIENCE = 60 };
 
 static struct sockaddr_in address;
-static const char *request;
-static size_t request_len;
+struct request {
+    const char *bytes;
+    size_t len;
+};
+
+static struct request *requests;
+static size_t kinds;
 static uint64_t end_time;
 static size_t most;
 static int keeps;
@@ -30,7 +35,7 @@ static int keeps;
 struct client {
     pthread_t thread;
     uint32_t *micros;
-    size_t requests, room;
+    size_t requests, room, next;
     uint64_t bytes;
     const char *fault;
     char buffer[ROOM + 1];
@@ -65,9 +70,9 @@ static int connected(void) {
     return -1;
 }
 
-static const char *send_request(int stream) {
-    for (size_t sent = 0; sent < request_len;) {
-        ssize_t n = send(stream, request + sent, request_len - sent, MSG_NOSIGNAL);
+static const char *send_request(int stream, struct request it) {
+    for (size_t sent = 0; sent < it.len;) {
+        ssize_t n = send(stream, it.bytes + sent, it.len - sent, MSG_NOSIGNAL);
         if (n <= 0) return "a request could not be sent";
         sent += (size_t)n;
     }
@@ -113,7 +118,8 @@ static void record(struct client *it, uint64_t micros) {
         it->micros = checked(realloc(it->micros, it->room * sizeof *it->micros));
     }
     it->micros[it->requests++] = (uint32_t)micros;
-    it->bytes += request_len;
+    it->bytes += requests[it->next].len;
+    it->next = (it->next + 1) % kinds;
 }
 
 static void *run_client(void *given) {
@@ -122,7 +128,7 @@ static void *run_client(void *given) {
     while (!it->fault && (most ? it->requests < most : now_micros() < end_time)) {
         uint64_t began = now_micros();
         if (stream < 0) stream = connected();
-        it->fault = stream < 0 ? "no connection was made" : send_request(stream);
+        it->fault = stream < 0 ? "no connection was made" : send_request(stream, requests[it->next]);
         if (!it->fault) it->fault = read_reply(it, stream);
         if (!it->fault) record(it, now_micros() - began);
         if (!keeps && stream >= 0) {
@@ -133,16 +139,16 @@ static void *run_client(void *given) {
     return NULL;
 }
 
-static void read_request(const char *path) {
+static struct request read_request(const char *path) {
     FILE *file = fopen(path, "rb");
-    if (!file) fail("the file of the request cannot be opened");
+    if (!file) fail("the file of a request cannot be opened");
     fseek(file, 0, SEEK_END);
-    request_len = (size_t)ftell(file);
+    size_t len = (size_t)ftell(file);
     rewind(file);
-    char *bytes = checked(malloc(request_len + 1));
-    if (fread(bytes, 1, request_len, file) != request_len) fail("the file of the request cannot be read");
+    char *bytes = checked(malloc(len + 1));
+    if (fread(bytes, 1, len, file) != len) fail("the file of a request cannot be read");
     fclose(file);
-    request = bytes;
+    return (struct request){.bytes = bytes, .len = len};
 }
 
 static int by_size(const void *first, const void *second) {
@@ -152,30 +158,30 @@ static int by_size(const void *first, const void *second) {
 
 // Prints what all clients together did. Returns the status.
 static int report(struct client *clients, int count, double seconds) {
-    size_t requests = 0;
+    size_t sum = 0;
     uint64_t bytes = 0;
     for (int i = 0; i < count; i++) {
         if (clients[i].fault) {
             fprintf(stderr, "loader: %s, after %zu requests\n", clients[i].fault, clients[i].requests);
             return 1;
         }
-        requests += clients[i].requests;
+        sum += clients[i].requests;
         bytes += clients[i].bytes;
     }
-    uint32_t *all = checked(calloc(requests + 1, sizeof *all)), *next = all;
+    uint32_t *all = checked(calloc(sum + 1, sizeof *all)), *next = all;
     for (int i = 0; i < count; i++) {
         if (clients[i].requests) memcpy(next, clients[i].micros, clients[i].requests * sizeof *all);
         next += clients[i].requests;
     }
-    qsort(all, requests, sizeof *all, by_size);
-    uint32_t longest = requests ? all[requests - 1] : 0;
-    printf("%zu %.6f %lu %u %u %u\n", requests, seconds, (unsigned long)bytes, all[requests / 2], all[requests * 99 / 100], longest);
+    qsort(all, sum, sizeof *all, by_size);
+    uint32_t longest = sum ? all[sum - 1] : 0;
+    printf("%zu %.6f %lu %u %u %u\n", sum, seconds, (unsigned long)bytes, all[sum / 2], all[sum * 99 / 100], longest);
     return 0;
 }
 
 int main(int count, char **words) {
-    if (count != 7) {
-        fprintf(stderr, "usage: loader PORT CONNECTIONS SECONDS COUNT keep|close FILE\n");
+    if (count < 7) {
+        fprintf(stderr, "usage: loader PORT CONNECTIONS SECONDS COUNT keep|close FILE..\n");
         return 2;
     }
     int connections = atoi(words[2]);
@@ -183,11 +189,14 @@ int main(int count, char **words) {
     address.sin_addr.s_addr = htonl(INADDR_LOOPBACK);
     most = strtoull(words[4], NULL, 10);
     keeps = strcmp(words[5], "keep") == 0;
-    read_request(words[6]);
+    kinds = (size_t)count - 6;
+    requests = checked(calloc(kinds, sizeof *requests));
+    for (size_t i = 0; i < kinds; i++) requests[i] = read_request(words[6 + i]);
     struct client *clients = checked(calloc((size_t)connections, sizeof *clients));
     uint64_t began = now_micros();
     end_time = began + (uint64_t)(atof(words[3]) * 1e6);
     for (int i = 0; i < connections; i++) {
+        clients[i].next = kinds * (size_t)i / (size_t)connections;
         if (pthread_create(&clients[i].thread, NULL, run_client, &clients[i])) fail("a thread cannot be made");
     }
     for (int i = 0; i < connections; i++) pthread_join(clients[i].thread, NULL);
