@@ -2,6 +2,7 @@
 #![tactic(auto)]
 
 mod answering;
+mod auditing;
 mod changing;
 mod compacting;
 mod cutting;
@@ -14,6 +15,7 @@ mod serving;
 mod settling;
 mod stored_slot;
 
+pub use auditing::Audited;
 pub use laws::{
     a_doubt_of_a_slot_ends_whole, a_split_loses_nothing,
     after_unload_and_load_the_rows_are_the_replay,
