@@ -1,6 +1,6 @@
 pub mod AnswerLemmas
-pub mod CompactLemmas
 pub mod AuditLemmas
+pub mod CompactLemmas
 pub mod DecisionLemmas
 pub mod HalfLemmas
 pub mod KeepLemmas
