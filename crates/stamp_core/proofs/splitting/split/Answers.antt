@@ -1,4 +1,6 @@
+use Rattle.std.proofs.Common.{subst, sym}
 use Rattle.stored_rows.specs.declared.faults.StoredFault.{StoredFault}
+use Rattle.stamp_core.specs.Ranges.{HaveSpans}
 use Rattle.stamp_core.proofs.RangeLemmas.{inside, within}
 use Rattle.stamp_core.proofs.SplitLemmas.{one_point_more, spans_back, spans_made, split_failed}
 use Rattle.stamp_core.proofs.splitting.split.Goals as goal
@@ -11,6 +13,9 @@ halve_or_join-requires-clause-inside g c = inside c.args.slots.now.items c.args.
 
 pub halve_or_join-requires-clause-split : goal.halve_or_join-requires-clause-split
 halve_or_join-requires-clause-split g c = one_point_more c.args.spans.now c.split.new.self c.args.at c.args.middle.now c.in_default.ensures.allowed c.in_default.ensures.split
+
+pub returns-in-Err-clause-after : goal.returns-in-Err-clause-after
+returns-in-Err-clause-after g c = subst (HaveSpans c.args.slots.now.items) (sym c.in-Err.ensures.unchanged) c.requires.before
 
 pub returns-in-Ok-clause-after : goal.returns-in-Ok-clause-after
 returns-in-Ok-clause-after g c =
