@@ -167,24 +167,15 @@ module _ (slots : List SlotState) (points : List Key) (have : HaveSpans slots po
   same_as_first : (i : ℕ) → i < length slots → (slice_index_or slots i no_slot).pairs ≡ pairs_of_all slots
   same_as_first i low = shared_pairs slots points have i (omega (arith, low, counted slots points have)) ∙ sym (shared_pairs slots points have 0 (omega arith))
 
-  pub none_for_all : (own shared : Pairs) (first d : SlotState) → first ≡ slice_index_or slots 0 d → shared ≡ first.pairs → own ≡ shared → (account : List ℕ) (f : StepFault) → HasNoNextPair own account f
-      → HasNoNextPair (pairs_of_all slots) account f
-  none_for_all own shared first d was lent read account f none =
-      subst (λ (ps : Pairs). HasNoNextPair ps account f) (read ∙ lent ∙ ap (λ (h : SlotState). h.pairs) (was ∙ get_any slots 0 d no_slot some_slot)) none
+  -- the pairs of the first slot are lent, and read
+  pub first_are : (own shared : Pairs) (first d : SlotState) → first ≡ slice_index_or slots 0 d → shared ≡ first.pairs → own ≡ shared → own ≡ pairs_of_all slots
+  first_are own shared first d was lent read = read ∙ lent ∙ ap (λ (h : SlotState). h.pairs) (was ∙ get_any slots 0 d no_slot some_slot)
 
   module _ (longer : Pairs) where
     pub begin_pairs : (account : List ℕ) (which : Which) (key : List ℕ) (n : ℕ) → HasNextPair (pairs_of_all slots) account which key n longer → BeginPairs slots longer
     begin_pairs account which key n next i low =
         subst (λ (ps : Pairs). AreFront ps longer) (sym (same_as_first i low))
         (subst (AreFront (pairs_of_all slots)) (sym next.1.1.1) (next_are_longer (pairs_of_all slots) account _ (next_is (pairs_of_all slots) account which key next.0 next.1.0)))
-
-    -- the pairs of the first slot are lent, and read
-    module _ (own shared : Pairs) (first d : SlotState) (was : first ≡ slice_index_or slots 0 d) (lent : shared ≡ first.pairs) (read : own ≡ shared) where
-      first_are : own ≡ pairs_of_all slots
-      first_are = read ∙ lent ∙ ap (λ (h : SlotState). h.pairs) (was ∙ get_any slots 0 d no_slot some_slot)
-
-      pub made_for_all : (account : List ℕ) (which : Which) (key : List ℕ) (n : ℕ) → HasNextPair own account which key n longer → HasNextPair (pairs_of_all slots) account which key n longer
-      made_for_all account which key n made = subst (λ (ps : Pairs). HasNextPair ps account which key n longer) first_are made
 
     pub spans_caught_up : (slots' : List SlotState) → HaveCaughtUp slots 0 longer slots' → HaveSpans slots' points
     spans_caught_up slots' done = (

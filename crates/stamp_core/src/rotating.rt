@@ -4,7 +4,7 @@ ghost use Rattle.std.specs.Arc.{arc_value};
 ghost use Rattle.slot_state.specs.NextPairs.{IsNext, with_next};
 ghost use Rattle.slot_state.specs.Pairs.{current_at, pairs_at};
 ghost use Rattle.stamp_core.specs.Ranges.{HaveSpans};
-ghost use Rattle.stamp_core.specs.Rotations.{BeginPairs, HasNextPair, HasNoNextPair, HaveCaughtUp, IsNextPair, IsRotated};
+ghost use Rattle.stamp_core.specs.Rotations.{BeginPairs, HasNextPair, HasNoNextPair, HaveCaughtUp, IsNextPair, IsRotated, pairs_of_all};
 
 use access_rules::{Keys, KeysFault, Which};
 use core_run::{Outcome, StepFault};
@@ -85,7 +85,26 @@ fn next_pairs(
     }
 }
 
+// The same of the pairs that all slots have.
+fn longer_pairs<H: Histories>(
+    slots: &Vec<StoredSlot<H>>,
+    spans: &Spans,
+    alloc: Global,
+    account: &Text,
+    which: Which,
+    key: SigningKey,
+) -> Result<Longer, StepFault>
+    requires { HaveSpans slots.now.items spans.now }
+    ensures made { IfOk result (λ longer.
+        HasNextPair (pairs_of_all slots.now.items) account.now which key longer.epoch (arc_value longer.pairs)) }
+    ensures refused { IfErr result (λ fault. HasNoNextPair (pairs_of_all slots.now.items) account.now fault) }
+{
+    let _spans = spans;
+    next_pairs(slots[0].account_pairs(), alloc, account, which, key)
+}
+
 // The slots from this number on take the longer pairs. The share of each slot is made before any slot is changed.
+#[tactic(auto, using(crate::proofs::RotateLemmas::none_left, crate::proofs::RotateLemmas::still_within, crate::proofs::RotateLemmas::may_take))]
 fn bring_up<H: Histories>(
     slots: &mut Vec<StoredSlot<H>>,
     at: usize,
@@ -108,6 +127,7 @@ fn bring_up<H: Histories>(
 ///
 /// `NoAccount` if the stamp has no such account, `Last` if no epoch comes after the epoch of the pair in force, and `NoMemory` if memory runs
 /// out. The slots are then as they were.
+#[tactic(auto, using(crate::proofs::RotateLemmas::some_current))]
 pub(crate) fn rotate<H: Histories>(
     slots: &mut Vec<StoredSlot<H>>,
     spans: &Spans,
@@ -120,8 +140,7 @@ pub(crate) fn rotate<H: Histories>(
     ensures after { HaveSpans slots.new.items spans.now }
     ensures rotated { IsRotated slots.old.items account.now which key result slots.new.items }
 {
-    let _spans = spans;
-    match next_pairs(slots[0].account_pairs(), alloc, account, which, key) {
+    match longer_pairs(slots, spans, alloc, account, which, key) {
         Ok(longer) => match bring_up(slots, 0, &longer.pairs) {
             Ok(()) => Ok(Outcome::Epoch(longer.epoch)),
             Err(AllocError) => Err(StepFault::NoMemory),
