@@ -118,14 +118,16 @@ fn a_line_names_the_policy(rt: HostRuntime) {
     let alloc = rt.alloc();
     let by_key = "2012-10-01T12:00:00.0000000Z token key2 GetBlob /devstoreaccount1/pics/a.txt 2\n";
     assert!(rt; is_line(&rt, alloc, &get_with(&rt, alloc, &TOKEN), 2, by_key));
-    let by_policy = "2012-10-01T12:00:00.0000000Z token policy=read%20only GetBlob /devstoreaccount1/pics/a.txt 3\n";
+    let by_policy =
+        "2012-10-01T12:00:00.0000000Z token policy=read%20only GetBlob /devstoreaccount1/pics/a.txt 3\n";
     assert!(rt; is_line(&rt, alloc, &get_with(&rt, alloc, &BY_POLICY), 3, by_policy));
 }
 
 #[test]
 fn a_name_has_no_spaces_in_a_line(rt: HostRuntime) {
     let alloc = rt.alloc();
-    let line = "2012-10-01T12:00:00.0000000Z anonymous - GetBlob /devstoreaccount1/pics/50%25%20of/\u{e4}.txt 18446744073709551615\n";
+    let line =
+        "2012-10-01T12:00:00.0000000Z anonymous - GetBlob /devstoreaccount1/pics/50%25%20of/\u{e4}.txt 18446744073709551615\n";
     let get = get_named(&rt, alloc, "50% of/\u{e4}.txt");
     assert!(rt; is_line(&rt, alloc, &get, u64::MAX, line));
 }
