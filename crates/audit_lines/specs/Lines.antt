@@ -86,13 +86,13 @@ by_text way.Token keys q = policy_text (id_of (token_in q)) keys q
 by_text way.Anonymous keys q = codes "-"
 
 -- a slash and the name of a blob, if the request names one
-abbrev pub blob_text : Option (List ℕ) → List ℕ
-blob_text None = []
-blob_text (Some name) = codes "/" ++ escaped name
+abbrev pub blob_in_path : Option (List ℕ) → List ℕ
+blob_in_path None = []
+blob_in_path (Some name) = codes "/" ++ escaped name
 
 -- account, container and blob that the request names
 abbrev pub path_text : Ask → List ℕ
-path_text q = (codes "/" ++ escaped q.key.account) ++ (codes "/" ++ escaped q.key.container) ++ blob_text q.blob
+path_text q = (codes "/" ++ escaped q.key.account) ++ (codes "/" ++ escaped q.key.container) ++ blob_in_path q.blob
 
 -- a word, and the space after it
 unfoldable pub field : List ℕ → List ℕ

@@ -171,7 +171,7 @@ fn append_name(out: &mut Vec<u8>, name: &[u8]) -> Result<(), AllocError>
 
 // Appends the blob, if the request names one.
 fn append_blob(out: &mut Vec<u8>, blob: &Option<Text>) -> Result<(), AllocError>
-    ensures { OnOk result (out.new.items ≡ out.old.items ++ lines.blob_text blob.now) }
+    ensures { OnOk result (out.new.items ≡ out.old.items ++ lines.blob_in_path blob.now) }
 {
     match blob {
         None => Ok(()),
