@@ -94,12 +94,13 @@ fn closes_both_halves(rt: &impl Abort, alloc: Global, driven: &mut Driven) {
     assert!(rt; begins(rt, alloc, driven, CREATE_LATER_BY_NEW, CREATED));
 }
 
-// One node took the record of the Create Container, and then no node answers. The key that signed it is replaced, and the settle, at which a
-// node answers, keeps the container.
+// One node took the record of the Create Container, and then no node answers. The key that signed it is replaced. Then only that node answers,
+// so the settle keeps the container.
 fn keeps_a_doubt(rt: &impl Abort, alloc: Global, driven: &mut Driven) {
     give(rt, alloc, driven, &[D, R, R], &[false, false, false]);
     assert!(rt; says(rt, alloc, driven, CREATE, "Refused by rule N2."));
     assert!(rt; rotated(rt, alloc, driven, b"new1") == Some(1));
+    give(rt, alloc, driven, &[], &[true, false, false]);
     assert!(rt; tended(alloc, driven, 0, Care::Settle).is_none());
     assert!(rt; begins(rt, alloc, driven, PUT_BY_NEW, CREATED));
     assert!(rt; says(rt, alloc, driven, CREATE, "Refused by rule K5."));
