@@ -14,7 +14,7 @@ from replay_model import etag_text, hmac_of, string_to_sign
 from machine_model import ACCOUNT, KEYS, Machine
 from stream_model import Fixed, Lines, Random, Streams, Wire
 
-STEPS = 40
+STEPS, SHORT = 40, 10
 # 2012-10-01T12:00:00Z.
 NOON = 13_490_928_000_000_000
 CONTAINERS = ["aaa", "bbb", "ccc", "mmm", "pics", "video", "zzz"]
@@ -239,12 +239,12 @@ def repair(run, dice):
     return run.step("repair", at, part, dice.randrange(len(getattr(streams, part).sealed) + 1), node)
 
 
-def random_step(run, dice):
-    """One random step of a list."""
+def random_step(run, dice, often=1):
+    """One random step of a list. A checkpoint or a compaction comes so many times as often."""
     slots = run.machine.slots
     in_doubt, unloaded = any(it.doubt for it in slots), not all(it.is_loaded for it in slots)
     ways = {"serve": 28, "settle": 1 + 3 * in_doubt, "seal": 2, "load": 0.5 + unloaded, "unload": 1.5, "move": 0.7, "repair": 2.5, "split": 1.5}
-    ways |= {"checkpoint": 1, "compact": 1.5, "fetch": 0.2 + 3 * any(run.machine.tickets)}
+    ways |= {"checkpoint": often, "compact": 1.5 * often, "fetch": 0.2 + 3 * any(run.machine.tickets)}
     way = dice.choices([*ways], [*ways.values()])[0]
     if way == "serve":
         run.serve(Requests(dice, run.machine.stamp).one)
@@ -269,6 +269,29 @@ def random_run(seed, limits=LIMITS):
         random_step(run, dice)
     run.show()
     return lines
+
+
+def turned_run(seed, wire, limits):
+    """The lines of a short random list that often writes the streams anew, and the letters of the calls of the wire in the list."""
+    dice, lines = random.Random(f"turned {seed}"), Lines()
+    run = Run(lines, wire, dice.choice(limits))
+    run.serve(lambda moment: create("pics", moment))
+    run.serve(lambda moment: put("pics", "a", b"hello", moment))
+    while lines.calls < SHORT:
+        random_step(run, dice, 5)
+    calls = "".join(it.rpartition("| ")[2] for it in lines.said.splitlines())
+    run.show()
+    return lines, calls
+
+
+def turned_runs(seed, limits=LIMITS):
+    """A short random list over a wire that is well, and then with a fault at each of its calls in turn. After the fault the list may go on in
+    another way, since what exists may be other things."""
+    clean, calls = turned_run(seed, Fixed(), limits)
+    yield clean
+    for at, letter in enumerate(calls):
+        for fault in (Wire.REFUSED, Wire.LOST) if letter.islower() else (Wire.REFUSED,):
+            yield turned_run(seed, Fixed(at=at, fault=fault), limits)[0]
 
 
 def script(run):
