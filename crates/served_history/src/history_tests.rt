@@ -52,7 +52,6 @@ fn serve<A: Account>(
 }
 
 // A slot of all keys enters a request. Then the slot and a connection know beginnings of one history.
-#[tactic(auto, using(crate::proofs::FirstLemmas::first_serve))]
 fn enter_first<A: Account>(rt: &impl Abort, history: NewHistory, request: &Request, moment: Moment)
     requires book { history.book ≡ A.history }
     requires fresh { history.next ≡ 0 }
