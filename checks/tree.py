@@ -89,11 +89,11 @@ def tests_in(name, root=ROOT):
 
 
 def crates_of_tests(root=ROOT):
-    """The crates that hold only tests: libraries with tests on which no crate depends, in the order of crates.txt."""
+    """The crates that hold only tests: libraries with tests whose names say so, and on which no crate depends, in the order of crates.txt."""
     lines = lines_of_crates(root)
     below = {it for line in lines.values() for it in named_by(line)}
     is_library = lambda name: (root / "crates" / name / "src" / "lib.rt").is_file()
-    return [name for name in lines if name not in below and is_library(name) and tests_in(name, root)]
+    return [name for name in lines if name.endswith("_tests") and name not in below and is_library(name) and tests_in(name, root)]
 
 
 def end_on_signal(number, _frame):
