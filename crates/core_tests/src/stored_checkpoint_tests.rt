@@ -29,8 +29,8 @@ fn checkpoint_by(rt: &impl Abort, alloc: Global, slot: &mut Streamed, calls: usi
     assert_eq!(rt; slot.wire.called().len(), called + calls);
 }
 
-// Loads the rows again, from so many records: one node is asked for each.
-fn reload(rt: &impl Abort, alloc: Global, slot: &mut Streamed, records: usize) {
+/// Loads the rows again, from so many records: one node is asked for each.
+pub(crate) fn reload(rt: &impl Abort, alloc: Global, slot: &mut Streamed, records: usize) {
     slot.slot.unload();
     let called = slot.wire.called().len();
     assert!(rt; slot.slot.load(alloc, &mut slot.wire).is_ok());

@@ -3,6 +3,7 @@ use crate::requests::{
     CREATE, CREATE_LATER, CREATED, DELETE_CONTAINER, GET, GET_B, LIST, PUT, PUT_BLOCK, PUT_LIST,
 };
 use crate::samples::{begins, ends, says, sent};
+use crate::stored_checkpoint_tests::reload;
 use crate::stored_samples::{D, R, Streamed, make_streamed, put_hello, split};
 use extent_node::{Delivery, Script};
 use std::alloc::Global;
@@ -20,14 +21,6 @@ fn compact(alloc: Global, slot: &mut Streamed) -> bool {
         }
         Err(_fault) => false,
     }
-}
-
-// Loads the rows again, from so many records: one node is asked for each.
-fn reload(rt: &impl Abort, alloc: Global, slot: &mut Streamed, records: usize) {
-    slot.slot.unload();
-    let called = slot.wire.called().len();
-    assert!(rt; slot.slot.load(alloc, &mut slot.wire).is_ok());
-    assert_eq!(rt; slot.wire.called().len(), called + records);
 }
 
 // From now on the wire gives these deliveries, and then Done and yes.

@@ -172,8 +172,8 @@ fn the_other_half_keeps_the_old_data(rt: HostRuntime) {
     compact_one_half(&rt, rt.alloc(), &mut *streams);
 }
 
-// Answers of nodes: each of `count` reads is answered by the first node, and then no node answers.
-fn lost_after(rt: &impl Abort, alloc: Global, count: usize) -> Vec<bool> {
+/// Answers of nodes: each of `count` reads is answered by the first node, and then no node answers.
+pub(crate) fn lost_after(rt: &impl Abort, alloc: Global, count: usize) -> Vec<bool> {
     let mut asks = Vec::with_capacity(alloc, 8).expect(rt, "memory");
     for _ask in 0..count {
         asks.push(true).expect(rt, "memory");

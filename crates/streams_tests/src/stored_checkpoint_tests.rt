@@ -10,7 +10,7 @@ use std::alloc::Global;
 use std::process::Abort;
 use stored_rows::StoredRows;
 
-fn made(rt: &impl Abort, alloc: Global, stored: &mut StoredRows, change: Change) {
+pub(crate) fn made(rt: &impl Abort, alloc: Global, stored: &mut StoredRows, change: Change) {
     let mut wire = script(rt, alloc, &[], &[]);
     assert_eq!(rt; take(rt, stored, change, &mut wire), Told::Done);
 }
@@ -37,8 +37,8 @@ fn write(rt: &impl Abort, alloc: Global, stored: &mut StoredRows, puts: usize) {
     assert!(rt; wire.called().len() == puts);
 }
 
-// Loads the rows again. One node is asked for each of so many records.
-fn reload(rt: &impl Abort, alloc: Global, stored: &mut StoredRows, asked: usize) {
+/// Loads the rows again. One node is asked for each of so many records.
+pub(crate) fn reload(rt: &impl Abort, alloc: Global, stored: &mut StoredRows, asked: usize) {
     let mut wire = script(rt, alloc, &[], &[]);
     stored.unload();
     assert_eq!(rt; load(stored, &mut wire), Told::Done);

@@ -1,13 +1,14 @@
 //! Compactions of rows that streams keep: the content that exists is in new data, and nothing else is (SOSP 2011, section 5.3).
+use crate::compaction_tests::lost_after;
 use crate::partition_samples::Told;
+use crate::row_checkpoint_tests::excluded_after;
 use crate::sample_acts::{delete_blob, put_hello, put_no_blocks};
 use crate::sample_fields::{noon, plain, red, text};
-use crate::sample_wires::{D, R, script};
+use crate::sample_wires::{R, script};
+use crate::stored_checkpoint_tests::{made, reload};
 use crate::stored_samples::{
     Seen, compact, create, cut, delete, is_hello, key, load, look, look_in_rows, part, put, stored,
-    take,
 };
-use extent_node::Delivery;
 use stamp_types::{Act, Change, Pieces, PutBlob, Share};
 use std::alloc::Global;
 use std::process::Abort;
@@ -15,11 +16,6 @@ use stored_rows::StoredRows;
 
 // A mebibyte more than the 16 MiB that may be wasted.
 const MANY: usize = 17_825_792;
-
-fn made(rt: &impl Abort, alloc: Global, stored: &mut StoredRows, change: Change) {
-    let mut wire = script(rt, alloc, &[], &[]);
-    assert_eq!(rt; take(rt, stored, change, &mut wire), Told::Done);
-}
 
 // A container with a blob that was put twice, an empty one, and one that was deleted: six changes.
 fn fill(rt: &impl Abort, alloc: Global, stored: &mut StoredRows) {
@@ -35,14 +31,6 @@ fn is_full(rt: &impl Abort, alloc: Global, stored: &StoredRows) {
     assert_eq!(rt; look(rt, alloc, stored, "pics"), Seen::Blob(3, 5));
     assert_eq!(rt; look(rt, alloc, stored, "other"), Seen::Empty(1));
     assert_eq!(rt; look(rt, alloc, stored, "gone"), Seen::Deleted(2));
-}
-
-// Loads the rows again. One node is asked for each of so many records.
-fn reload(rt: &impl Abort, alloc: Global, stored: &mut StoredRows, asked: usize) {
-    let mut wire = script(rt, alloc, &[], &[]);
-    stored.unload();
-    assert_eq!(rt; load(stored, &mut wire), Told::Done);
-    assert!(rt; wire.called().len() == asked);
 }
 
 // The blob is the bytes `hello`.
@@ -77,23 +65,11 @@ fn a_compaction_moves_what_exists(rt: HostRuntime) {
     compact_twice(&rt, rt.alloc(), &mut *stored);
 }
 
-// The deliveries of `blocks` blocks that are Done, and then of one that no node takes.
-fn refused_after(rt: &impl Abort, alloc: Global, blocks: usize) -> Vec<Delivery> {
-    let mut puts = Vec::with_capacity(alloc, 36).expect(rt, "memory");
-    for _put in 0..3 * blocks {
-        puts.push(D).expect(rt, "memory");
-    }
-    for _put in 0..6 {
-        puts.push(R).expect(rt, "memory");
-    }
-    puts
-}
-
 // The four rows of the checkpoint, and then the three rows of containers, the block and the row of the blob.
 fn refuse_each_block(rt: &impl Abort, alloc: Global, stored: &mut StoredRows) {
     fill(rt, alloc, stored);
     for blocks in 0..9 {
-        let puts = refused_after(rt, alloc, blocks);
+        let puts = excluded_after(rt, alloc, blocks);
         let mut wire = script(rt, alloc, puts.as_slice(), &[]);
         assert_eq!(rt; compact(rt, stored, &mut wire), Told::Busy);
         is_full(rt, alloc, stored);
@@ -113,23 +89,11 @@ fn a_compaction_whose_block_is_refused_leaves_what_exists(rt: HostRuntime) {
     refuse_each_block(&rt, rt.alloc(), &mut *stored);
 }
 
-// Answers of nodes: each of `count` reads is answered by the first node, and then no node answers.
-fn silent_after(rt: &impl Abort, alloc: Global, count: usize) -> Vec<bool> {
-    let mut asks = Vec::with_capacity(alloc, 12).expect(rt, "memory");
-    for _ask in 0..count {
-        asks.push(true).expect(rt, "memory");
-    }
-    for _ask in 0..3 {
-        asks.push(false).expect(rt, "memory");
-    }
-    asks
-}
-
 // Of nine reads the first five are those of the compaction, and the last four are those of the load after it.
 fn silence_each_read(rt: &impl Abort, alloc: Global, stored: &mut StoredRows) {
     fill(rt, alloc, stored);
     for count in 0..9 {
-        let asks = silent_after(rt, alloc, count);
+        let asks = lost_after(rt, alloc, count);
         let mut wire = script(rt, alloc, &[], asks.as_slice());
         let told = if count < 5 { Told::Busy } else { Told::Done };
         assert_eq!(rt; compact(rt, stored, &mut wire), told);
