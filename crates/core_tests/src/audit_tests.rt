@@ -173,10 +173,20 @@ fn the_revision_is_the_one_before_the_change(rt: HostRuntime) {
     revisions(&rt, rt.alloc(), &mut *booking);
 }
 
-// The first try is refused by all nodes: it is answered N1. In the second try one node takes the record, and then no node answers.
-fn entry_of_a_doubt(rt: &impl Abort, alloc: Global, booking: &mut Booking) {
+// All nodes refuse the record twice: the request is answered N1.
+fn no_entry_of_n1(rt: &impl Abort, alloc: Global, booking: &mut Booking) {
     assert!(rt; says(rt, alloc, booking, CREATE, "Refused by rule N1."));
     assert_eq!(rt; booking.entries.len(), 0);
+}
+
+#[test]
+fn a_change_that_is_not_made_has_no_entry(rt: HostRuntime) {
+    let mut booking = new_booking(&rt, rt.alloc(), &[R, R, R, R, R, R], &[]);
+    no_entry_of_n1(&rt, rt.alloc(), &mut *booking);
+}
+
+// One node takes the record, and then no node answers.
+fn entry_of_a_doubt(rt: &impl Abort, alloc: Global, booking: &mut Booking) {
     assert!(rt; says(rt, alloc, booking, CREATE, "Refused by rule N2."));
     assert_eq!(rt; booking.entries.len(), 1);
     assert!(rt; is_entry(booking, 0, Op::CreateContainer, 0, Way::Shared));
@@ -184,8 +194,7 @@ fn entry_of_a_doubt(rt: &impl Abort, alloc: Global, booking: &mut Booking) {
 
 #[test]
 fn an_unknown_change_has_an_entry(rt: HostRuntime) {
-    let puts = [R, R, R, R, R, R, D, R, R];
-    let mut booking = new_booking(&rt, rt.alloc(), &puts, &[false, false, false]);
+    let mut booking = new_booking(&rt, rt.alloc(), &[D, R, R], &[false, false, false]);
     entry_of_a_doubt(&rt, rt.alloc(), &mut *booking);
 }
 

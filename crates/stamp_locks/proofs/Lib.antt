@@ -1,4 +1,0 @@
-pub mod LawLemmas
-pub mod LentLemmas
-pub mod TendLemmas
-pub mod TurnLemmas

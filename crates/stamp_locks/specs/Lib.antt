@@ -1,3 +1,0 @@
-pub mod InTurn
-pub mod Lent
-pub mod Shown
