@@ -32,6 +32,10 @@ module _ (s s' : SlotState) (old new : Calls) where
   written (Ok u) left counted = (left, counted)
   written (Err f) left counted = (left, counted)
 
+  pub compacted : (r : Result (Unit {0}) StoredFault) → LeavesSettled r s s' → FailsStored r old new → TendsLent care.Compact s old new (told_slot r) s'
+  compacted (Ok u) left counted = (left, counted)
+  compacted (Err f) left counted = (left, counted)
+
   pub repaired : (stream : StreamName) (extent : ℕ) (node : Node) (r : Result (Unit {0}) RepairFault) → LeavesRepaired r s s' → FailsRepair r old new → TendsLent (care.Repair stream extent node) s old new (told_repair r) s'
   repaired stream extent node (Ok u) left counted = (left, counted)
   repaired stream extent node (Err f) left counted = (left, counted)

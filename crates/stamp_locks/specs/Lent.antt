@@ -82,6 +82,7 @@ TendsLent care.Settle s old new r s' = TellsSlot r (λ e. SettlesOrFails e s s' 
 TendsLent care.Seal s old new r s' = TellsSlot r (λ e. LeavesSettled e s s' × FailsStored e old new)
 TendsLent care.Load s old new r s' = TellsSlot r (λ e. LeavesSettled e s s' × FailsStored e old new)
 TendsLent care.Checkpoint s old new r s' = TellsSlot r (λ e. LeavesSettled e s s' × FailsStored e old new)
+TendsLent care.Compact s old new r s' = TellsSlot r (λ e. LeavesSettled e s s' × FailsStored e old new)
 TendsLent care.Unload s old new r s' = (r ≡ Ok tt) × (s' ≡ s)
 TendsLent (care.Repair stream extent node) s old new r s' = TellsRepair r (λ e. LeavesRepaired e s s' × FailsRepair e old new)
 

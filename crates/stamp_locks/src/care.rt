@@ -13,6 +13,8 @@ pub enum Care {
     Load,
     /// Write the rows as a checkpoint, and begin the log anew.
     Checkpoint,
+    /// Write the rows and the content that they say, and no other content, to new streams.
+    Compact,
     /// Drop the rows from memory.
     Unload,
     /// Copy a sealed extent of one of the streams to a node, unless the node has the whole extent.

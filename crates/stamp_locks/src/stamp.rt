@@ -97,8 +97,8 @@ impl<W: Wire + Drop> Stamp<W> {
         locked.handle_after(alloc, pass, request, &ready, moment)
     }
 
-    /// Settles, seals, loads, unloads or repairs the slot with this number, or makes a checkpoint of it. All but an unload settle the doubt of
-    /// the slot first. What a checkpoint replaces is dropped after the lock.
+    /// Settles, seals, loads, unloads, compacts or repairs the slot with this number, or makes a checkpoint of it. All but an unload settle
+    /// the doubt of the slot first. What a checkpoint or a compaction replaces is dropped after the lock.
     ///
     /// `NoSuchSlot` if no slot has the number, `Slot` with the fault of the slot's call, `Repair` with the fault of the repair.
     pub fn tend<R: Wait>(

@@ -12,9 +12,16 @@ use extent_node::Wire;
 use partition_stream::Replaced;
 use slot_state::KeptHistories;
 use std::alloc::Global;
-use stored_rows::StoredFault;
+use stored_rows::{Compacted, StoredFault};
 use stored_slot::StoredSlot;
 use stream_manager::RepairFault;
+
+/// What a checkpoint or a compaction replaced in the streams of a slot. To drop it takes time for each of its blocks.
+#[derive(Drop)]
+pub(crate) enum ReplacedStreams {
+    Checkpoint(Replaced),
+    Compaction(Compacted),
+}
 
 // What a care answers whose call of the slot ended so.
 fn told_slot(called: Result<(), StoredFault>) -> Result<(), TendFault>
@@ -41,28 +48,46 @@ fn checkpoint<W: Wire>(
     slot: &mut StoredSlot<KeptHistories>,
     wire: &mut W,
     alloc: Global,
-    replaced: &mut Option<Replaced>,
+    replaced: &mut Option<ReplacedStreams>,
 ) -> Result<(), StoredFault>
     ensures left { LeavesSettled result slot.old slot.new }
     ensures counted { FailsStored result (W.faults wire.old) (W.faults wire.new) }
 {
     match slot.checkpoint(alloc, wire) {
         Ok(old) => {
-            drop(replaced.replace(old));
+            drop(replaced.replace(ReplacedStreams::Checkpoint(old)));
             Ok(())
         }
         Err(fault) => Err(fault),
     }
 }
 
-// Takes this care of a slot. What a checkpoint replaced is kept, so that it can be dropped after the lock.
-#[tactic(auto, using(crate::proofs::TendLemmas::settled, crate::proofs::TendLemmas::sealed, crate::proofs::TendLemmas::loaded, crate::proofs::TendLemmas::written, crate::proofs::TendLemmas::repaired))]
+// Writes the rows and their content to new streams, and keeps what was replaced.
+fn compact<W: Wire>(
+    slot: &mut StoredSlot<KeptHistories>,
+    wire: &mut W,
+    alloc: Global,
+    replaced: &mut Option<ReplacedStreams>,
+) -> Result<(), StoredFault>
+    ensures left { LeavesSettled result slot.old slot.new }
+    ensures counted { FailsStored result (W.faults wire.old) (W.faults wire.new) }
+{
+    match slot.compact(alloc, wire) {
+        Ok(old) => {
+            drop(replaced.replace(ReplacedStreams::Compaction(old)));
+            Ok(())
+        }
+        Err(fault) => Err(fault),
+    }
+}
+
+// Takes this care of a slot. What was replaced is kept, so that it can be dropped after the lock.
 fn tend_lent<W: Wire>(
     slot: &mut StoredSlot<KeptHistories>,
     wire: &mut W,
     alloc: Global,
     care: Care,
-    replaced: &mut Option<Replaced>,
+    replaced: &mut Option<ReplacedStreams>,
 ) -> Result<(), TendFault>
     ensures { TendsLent care slot.old (W.faults wire.old) (W.faults wire.new) result slot.new }
 {
@@ -71,6 +96,7 @@ fn tend_lent<W: Wire>(
         Care::Seal => told_slot(slot.seal(alloc, wire)),
         Care::Load => told_slot(slot.load(alloc, wire)),
         Care::Checkpoint => told_slot(checkpoint(slot, wire, alloc, replaced)),
+        Care::Compact => told_slot(compact(slot, wire, alloc, replaced)),
         Care::Unload => {
             slot.unload();
             Ok(())
@@ -83,12 +109,12 @@ fn tend_lent<W: Wire>(
     }
 }
 
-/// Takes this care of a slot, as it is told outside of the lock. What a checkpoint replaced is kept.
+/// Takes this care of a slot, as it is told outside of the lock. What was replaced is kept.
 pub(crate) fn tend<W: Wire + Drop>(
     locked: &mut Locked<W>,
     alloc: Global,
     care: Care,
-    replaced: &mut Option<Replaced>,
+    replaced: &mut Option<ReplacedStreams>,
 ) -> Result<(), TendFault>
     ensures { TendedSlot care result }
 {
