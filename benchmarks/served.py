@@ -75,10 +75,18 @@ class Server:
     def descriptors(self):
         return len([*Path(f"/proc/{self.pid}/fd").iterdir()])
 
+    def size(self, name):
+        """A size in KiB that the system tells of the process."""
+        status = Path(f"/proc/{self.pid}/status").read_text()
+        return int(status.partition(f"{name}:")[2].split()[0])
+
     def memory(self):
         """The resident size in KiB."""
-        status = Path(f"/proc/{self.pid}/status").read_text()
-        return int(status.partition("VmRSS:")[2].split()[0])
+        return self.size("VmRSS")
+
+    def address_space(self):
+        """How many bytes of addresses the process has, which is what `ulimit -v` limits."""
+        return self.size("VmSize") << 10
 
 
 @contextlib.contextmanager
