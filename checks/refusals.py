@@ -1,4 +1,5 @@
-"""The refusals of public calls: for each call that may answer a fault, the clauses of its contract that speak of each fault."""
+"""The refusals of public calls: for each call that may refuse, the clause of its contract that gives the cause of each refusal, and the other clauses
+that speak of refusals."""
 import functools
 import re
 from typing import NamedTuple
@@ -6,17 +7,40 @@ from typing import NamedTuple
 import definitions
 import tree
 
-RESULT = re.compile(r"^ *\) -> (?:io::)?Result<(.*)>|^[^\n]*\) -> (?:io::)?Result<(.*)>", re.M)
+ANSWER = re.compile(r"^[^\n]*\) -> (.*?);?(?: \{[^}]*)?$", re.M)
+RESULT = re.compile(r"(io::)?Result<(.*)>")
 ENUM = re.compile(r"^pub enum (\w+)\b[^{;]*\{\n(.*?)^\}", re.M | re.S)
 UNIT = re.compile(r"^pub struct (\w+);", re.M)
 VARIANT = re.compile(r"^    (\w+)\b", re.M)
+COMMENT = re.compile(r"^ *//.*\n", re.M)
 CLAUSE = re.compile(r"^ *ensures (?:(\w+) )?\{(.*?)\}(?=\n *(?:ensures|requires)\b|\s*\Z)", re.M | re.S)
 TRAIT = re.compile(r"^pub trait (\w+)")
+OF_TRAIT = re.compile(r"^impl(?:<.*?>)? .* for \w+")
 # A clause that speaks of every fault of a result.
 EACH_FAULT = re.compile(r"\b(?:OnErr|IfErr|IsErr|Err)\b")
 # How far a word of a clause is followed through the definitions that it cites.
 DEPTH = 4
-MEMORY = ("AllocError", "NoMemory")
+ONLY = "the only one"
+# The clauses that give the cause of a refusal: by its type and its case, or by its type. The first one that a contract has is the one.
+CAUSES = {
+    "AfterFault": ("fault",), "AllocError": ("memory",), "AppendFault.TooLarge": ("large",), "AppendFault": ("counted",), "BlockFault": ("fault",),
+    "BodyFault": ("refused",), "CompactionFault": ("counted",), "CopyFault": ("unreachable",), "FieldFault": (ONLY,),
+    "FrontFault": ("left", "failed", ONLY), "HeadFault.Denied": ("denied",), "HeaderFault.Form": ("form",), "HeaderFault.Scheme": ("scheme",),
+    "HeaderFault.Twice": ("twice",), "KeysFault.Last": ("last",), "Link": ("between",), "LogFault": ("counted",), "MapFault": ("refused",),
+    "MeetFault": ("fault",), "Missed": ("told",), "NameFault": (ONLY,), "NoReplica": ("unanswered", "same"), "None": ("valid", "complete"),
+    "Over": ("ended",), "PairsFault.NotFirst": ("not_first", "refused"), "PairsFault.Twice": ("twice", "refused"), "PutFault": ("counted",),
+    "ReadFault": ("unreachable",), "RecordFault": ("exact",), "RepairFault.NoSuchExtent": ("refused",), "RepairFault": ("faulty", "counted"),
+    "SecretFault": ("refused",), "SettleFault": ("counted",), "StepFault": ("taken",), "StoredFault": ("counted",), "TakeFault": ("counted",),
+    "TimeFault.Form": ("form",), "TimeFault.Range": ("range",), "TokenFault": ("refused",), "Unreachable": ("unreachable",),
+}
+# The clauses that say that a refusal never comes, in the same way.
+NEVER = {
+    "BodyFault.Letters": ("others",), "BodyFault.Time": ("others",), "BodyFault.TooMany": ("others",), "FrontFault.NoMemory": ("fault",),
+    "FrontFault.Read": ("fault",), "FrontFault.Turns": ("fault",), "HeaderFault.NoMemory": ("memory",), "TimeFault.NoMemory": ("no_memory", "no_other"),
+    "TimeFault.Range": ("no_other",), "TokenFault.NoMemory": ("no_memory",),
+}
+# Of this case of a fault no clause can give the cause.
+NO_MEMORY = "NoMemory"
 
 
 class Fault(NamedTuple):
@@ -90,86 +114,128 @@ def speaks_of(word, case, depth=DEPTH):
     return any(speaks_of(it, case, depth - 1) for it in set(definitions.cited_in(body, words, files)) if it != word)
 
 
+def labels_of(contract):
+    return [label or ONLY for label, _ in CLAUSE.findall(contract)]
+
+
 def clauses_for(contract, case, words, files):
     """The labels of the clauses that name a case, themselves or by a definition."""
     for label, text in CLAUSE.findall(contract):
         is_named = re.search(rf"(?<![\w'])(?:\w+\.)?{case}(?![\w'])", text)
         if is_named or any(speaks_of(it, case) for it in set(definitions.cited_in(text, words, files))):
-            yield label or "the only one"
+            yield label or ONLY
 
 
 def clauses_for_each(contract):
     """The labels of the clauses that speak of every fault of the result."""
-    return [label or "the only one" for label, text in CLAUSE.findall(contract) if EACH_FAULT.search(text)]
+    return [label or ONLY for label, text in CLAUSE.findall(contract) if EACH_FAULT.search(text)]
 
 
-def fault_of(signature):
-    """The type of the fault of a result, and whether the call gives back what it took."""
-    found = RESULT.search(signature)
-    whole = (found[1] or found[2]) if found else None
-    at = top_level_comma(whole) if whole else None
+def fault_of(signature, owner):
+    """The type of what a call may answer in place of what it is asked for, and its cases; no cases if it always answers that."""
+    answer = ANSWER.search(signature)
+    answer = answer[1] if answer else ""
+    if answer == "Option<Self>" or (answer.startswith("Option<") and re.search(r"\bfn read_", signature)):
+        return "None", ["None"]
+    # An answer that is not a result and has a case for lack of memory.
+    if NO_MEMORY in faults_of_types().get(answer, ()) and not answer.endswith("Fault"):
+        return answer, [NO_MEMORY]
+    found = RESULT.match(answer)
+    at = top_level_comma(found[2]) if found else None
     if at is None:
-        return None
-    names = re.findall(r"\w+", whole[at + 1 :])
+        return "io::Error", ["io::Error"] if found and found[1] else []
+    names = [owner if it == "Self" else it for it in re.findall(r"\w+", found[2][at + 1 :])]
     known = [it for it in names if it in faults_of_types()]
-    return known[-1] if known else None
+    # Without a fault, what the call took is given back.
+    name = "AllocFailed" if "AllocFailed" in names else (known[-1:] or names)[0]
+    return name, faults_of_types().get(name, [name])
 
 
 def calls_of(file):
-    """The public calls of a source file that may answer a fault: name, signature and contract of each."""
-    lines, owner, is_trait = file.read_text(encoding="utf-8").splitlines(), "", False
+    """The public calls of a source file, and those by which a type has a trait and that say more than the trait: name, signature, contract and owner."""
+    lines, owner, is_trait, is_of_trait = file.read_text(encoding="utf-8").splitlines(), "", False, False
     for i, line in enumerate(lines):
         if line and not line.startswith(" "):
             implemented, trait = definitions.IMPLEMENTED.match(line), TRAIT.match(line)
-            is_trait = bool(trait)
-            owner = f"{(trait or implemented)[1]}::" if trait or implemented else ""
+            is_trait, is_of_trait = bool(trait), bool(OF_TRAIT.match(line))
+            owner = (trait or implemented)[1] if trait or implemented else ""
         found = definitions.FUNCTION.match(line)
-        if found and (found[2] == "pub " or (is_trait and found[1])):
-            end = next((j for j in range(i, len(lines)) if lines[j].startswith(f"{found[1]}{{") or lines[j].endswith((";", "{}"))), i)
+        if found and (found[2] == "pub " or ((is_trait or is_of_trait) and found[1])):
+            ends = (f"{found[1]}{{", f"{found[1]}}}")
+            end = next((j for j in range(i, len(lines)) if lines[j].startswith(ends) or lines[j].endswith("{}") or (is_trait and lines[j].endswith(";"))), i)
             text = "\n".join(lines[i : end + (lines[end].endswith(";"))])
             signature = re.split(r"^ *(?:ensures|requires)\b", text, flags=re.M)[0]
-            yield (owner if found[1] else "") + found[3], signature, text[len(signature) :].rstrip(";{ \n")
+            contract = COMMENT.sub("", text[len(signature) :]).rstrip(";{ \n")
+            if found[2] == "pub " or is_trait or "ensures" in contract:
+                yield (f"{owner}::" if found[1] and owner else "") + found[3], signature, contract, owner
+
+
+class Refusal(NamedTuple):
+    """A refusal of a call: its type, its case, the clause that gives its cause or says that it never comes, and the other clauses that speak of it."""
+
+    type: str
+    case: str
+    cause: str
+    is_never: bool
+    others: list
+
+
+def first_of(table, fault, case, labels):
+    """The first clause that a table has for a case of a fault and that a contract has too."""
+    return next((it for it in table.get(f"{fault}.{case}", table.get(fault, ())) if it in labels), None)
 
 
 def rows_of(crate):
-    """A row for each fault of each public call of a crate: call, fault, the clauses that name it, those that speak of each fault."""
+    """A refusal for each case of each public call of a crate, with the name of the call."""
     for file in sorted((tree.ROOT / "crates" / crate / "src").rglob("*.rt")):
         words, files = definitions.imports_of(file.read_text(encoding="utf-8"))
-        for name, signature, contract in calls_of(file):
-            fault = fault_of(signature)
-            for case in faults_of_types().get(fault, ()):
-                named = list(dict.fromkeys(clauses_for(contract, case, words, files)))
-                each = [it for it in clauses_for_each(contract) if it not in named]
-                yield name, fault, case, named, each
+        for name, signature, contract, owner in calls_of(file):
+            (fault, cases), labels = fault_of(signature, owner), labels_of(contract)
+            for case in cases:
+                never = first_of(NEVER, fault, case, labels)
+                cause = never or (first_of(CAUSES, fault, case, labels) if case != NO_MEMORY else None)
+                speak = [*dict.fromkeys([*clauses_for(contract, case, words, files), *clauses_for_each(contract)])]
+                yield name, Refusal(fault, case, cause, bool(never), [it for it in speak if it != cause])
 
 
 def calls():
-    """For each crate that is not of tests its public calls that may answer a fault: name, faults with their clauses, clauses for every fault."""
+    """For each crate that is not of tests its public calls that may refuse, each with its refusals."""
     tests = {*tree.crates_of_tests()}
     for crate in (it for it in tree.lines_of_crates() if it not in tests):
         found = {}
-        for name, fault, case, named, each in rows_of(crate):
-            found.setdefault((name, fault), []).append((case, named, each))
+        for name, refusal in rows_of(crate):
+            found.setdefault((name, refusal.type), []).append(refusal)
         yield crate, found
 
 
-def labels(names):
-    return ", ".join("its only clause" if it == "the only one" else f"`{it}`" for it in names)
+def label_text(label):
+    return "its only clause" if label == ONLY else f"`{label}`"
 
 
-def cells(cases):
-    """The cells of a call: each fault that clauses name, with these clauses; the faults that no clause names; the clauses for every fault."""
-    named = [f"{case}: {labels(names)}" for case, names, _ in cases if names]
-    bare = [case for case, names, _ in cases if not names]
-    shared = [it for it in dict.fromkeys(label for *_, each in cases for label in each) if not all(it in names for _, names, _ in cases)]
-    return "; ".join(named), ", ".join(bare), labels(shared)
+def by_clause(refusals):
+    """Refusals by the clause that gives their cause."""
+    found = {}
+    for it in refusals:
+        found.setdefault(it.cause, []).append(it.case)
+    return "; ".join(f"{', '.join(cases)}: {label_text(label)}" for label, cases in found.items())
+
+
+def cells(refusals):
+    """The cells of a call: each refusal with the clause of its cause, those that never come, those without such a clause, and the other clauses."""
+    caused = [it for it in refusals if it.cause and not it.is_never]
+    causes = {it.cause for it in refusals}
+    others = dict.fromkeys(label for it in refusals for label in it.others if label not in causes)
+    return (
+        by_clause(caused), by_clause([it for it in refusals if it.is_never]), ", ".join(it.case for it in refusals if not it.cause),
+        ", ".join(label_text(it) for it in others),
+    )
 
 
 def table():
     """For each crate a heading and a table of its calls."""
     for crate, found in calls():
         if found:
-            yield f"\n## {crate}\n\n| Call | Faults that clauses name | Faults without a clause of their own | Clauses for every fault |\n|---|---|---|---|\n"
-        for (name, _), cases in found.items():
-            yield f"| `{name}` | {' | '.join(cells(cases))} |\n"
+            yield f"\n## {crate}\n\n| Call | Refusals by the clause of their cause | Never | No clause | Other clauses |\n|---|---|---|---|---|\n"
+        for (name, _), refusals in found.items():
+            yield f"| `{name}` | {' | '.join(cells(refusals))} |\n"
     yield "\n"
