@@ -39,8 +39,9 @@ NEVER = {
     "FrontFault.Read": ("fault",), "FrontFault.Turns": ("fault",), "HeaderFault.NoMemory": ("memory",), "TimeFault.NoMemory": ("no_memory", "no_other"),
     "TimeFault.Range": ("no_other",), "TokenFault.NoMemory": ("no_memory",),
 }
-# Of this case of a fault no clause can give the cause.
+# Lack of memory, of which no clause can give the cause.
 NO_MEMORY = "NoMemory"
+MEMORY = ("AllocError", "AllocFailed", NO_MEMORY)
 
 
 class Fault(NamedTuple):
@@ -206,6 +207,16 @@ def calls():
         for name, refusal in rows_of(crate):
             found.setdefault((name, refusal.type), []).append(refusal)
         yield crate, found
+
+
+def unexplained(page):
+    """Refusals for lack of something else than memory whose cause no clause gives, of calls that the page does not name either; and calls that it names
+    though clauses give all their causes."""
+    told = re.search(r"^\*\*No clause gives these causes.*$", page, re.M)
+    told = set(re.findall(r"`([^`]+)`", told[0])) if told else set()
+    bare = {name for _, found in calls() for (name, _), refusals in found.items() for it in refusals if not it.cause and it.case not in MEMORY}
+    yield from (f"docs/refusals.md: no clause gives a cause of {name}, and the page does not name it" for name in sorted(bare - told))
+    yield from (f"docs/refusals.md: clauses give the causes of {name}" for name in sorted(told - bare))
 
 
 def label_text(label):
