@@ -1,0 +1,9 @@
+pub mod Adding
+pub mod AfterLemmas
+pub mod ConnectionLemmas
+pub mod KeyLemmas
+pub mod ReplyLemmas
+pub mod RowLemmas
+pub mod SlotLemmas
+pub mod StayLemmas
+pub mod WriteLemmas

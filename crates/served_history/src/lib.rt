@@ -1,0 +1,16 @@
+//! One history of the requests to all slots, each of which has a lock of its own.
+#![tactic(auto)]
+
+mod entry;
+mod history;
+mod laws;
+mod slot_history;
+
+pub use entry::Call;
+pub use history::{Account, Front, NewHistory, SLOTS, SlotWord};
+pub use laws::{
+    a_connection_reads_its_own_writes, a_slot_has_what_its_entry_leaves, a_slot_keeps_what_it_has,
+    an_entered_request_is_served, each_connection_reads_one_history, two_connections_agree,
+    what_is_known_is_a_history,
+};
+pub use slot_history::SlotHistory;
