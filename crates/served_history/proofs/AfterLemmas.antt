@@ -13,7 +13,7 @@ use Rattle.stamp_model.proofs.EffectLemmas.{part_at-effect_agrees, part_at-effec
 use Rattle.served_history.specs.declared.entry.Entry.{Entry}
 use Rattle.served_history.specs.declared.entry.Entry.TheVariants.{Opened, Served, Split}
 use Rattle.served_history.specs.Growth.{IsEntered}
-use Rattle.served_history.specs.Histories.{bound_after, bound_at, owner, owner_after, request_in, world_left, HasStayed}
+use Rattle.served_history.specs.Histories.{bound_after, bound_at, owner, owner_after, served_request, world_left, HasStayed}
 use Rattle.served_history.proofs.KeyLemmas.{bound-one, owner-one}
 use Rattle.served_history.proofs.StayLemmas.{stays, world_left-append}
 
@@ -37,13 +37,13 @@ one_agrees w v r key same = by (eq_by_cmp key_cmp key r.request.ask.key) refl
         ∙ sym (part_at-effect_others byte_count held r.keys v r.request r.moment key (untied other))
 
 -- the same after an entry
-entry_agrees : (w v : World (List ℕ)) (e : Entry) (key : Key) → part_at w key ≡ part_at v key → part_at (world_after_all w (request_in e)) key ≡ part_at (world_after_all v (request_in e)) key
+entry_agrees : (w v : World (List ℕ)) (e : Entry) (key : Key) → part_at w key ≡ part_at v key → part_at (world_after_all w (served_request e)) key ≡ part_at (world_after_all v (served_request e)) key
 entry_agrees w v (Opened pairs) key same = same
 entry_agrees w v (Served slot r) key same = one_agrees w v r key same
 entry_agrees w v (Split slot middle upper) key same = same
 
 -- what an entry leaves
-left-one : (front : List Entry) (e : Entry) (key : Key) → part_at (world_left (front ++ e ∷ [])) key ≡ part_at (world_after_all (world_left front) (request_in e)) key
+left-one : (front : List Entry) (e : Entry) (key : Key) → part_at (world_left (front ++ e ∷ [])) key ≡ part_at (world_after_all (world_left front) (served_request e)) key
 left-one front (Opened pairs) key = ap (λ (w : World (List ℕ)). part_at w key) (world_left-append front (Opened pairs ∷ []))
 left-one front (Served slot r) key = ap (λ (w : World (List ℕ)). part_at w key) (world_left-append front (Served slot r ∷ []))
 left-one front (Split slot middle upper) key = ap (λ (w : World (List ℕ)). part_at w key) (world_left-append front (Split slot middle upper ∷ []))

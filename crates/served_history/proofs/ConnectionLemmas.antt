@@ -13,7 +13,7 @@ use Rattle.http_front.specs.Streams.{Item}
 use Rattle.http_front.specs.Streams.Item.{Requested, Refused}
 use Rattle.served_history.specs.declared.entry.Entry.{Entry}
 use Rattle.served_history.specs.declared.entry.Entry.TheVariants.{Opened, Served, Split}
-use Rattle.served_history.specs.Histories.{entry_at, request_in, requests_of, timed_at, world_left, IsServed, IsUnchanged}
+use Rattle.served_history.specs.Histories.{entry_after, served_request, served_requests, timed_at, world_left, IsServed, IsUnchanged}
 use Rattle.served_history.specs.Connections.{Call, entered, call_at, calls_of, calls_along, IsAmong, ReadsHistory, AddsOneAtMost, IsReadAfter}
 use Rattle.served_history.proofs.StayLemmas.{world_left-append}
 
@@ -27,10 +27,10 @@ served_then : (known mid known' : List Entry) (q : Asked) (t : ℕ) (reply : Rep
     → IsServed known q t reply mid → ReadsHistory mid calls known' → ReadsHistory known ((entered q t, reply) ∷ calls) known'
 served_then known mid known' q t reply calls step rest =
     let before = known ++ step.others in
-    let entry = entry_at before q t in
+    let entry = entry_after before q t in
     let r = timed_at before q t in
     let w = world_left known in
-    let others = requests_of step.others in
+    let others = served_requests step.others in
     let then_held = world_after_all w others in
     let here : world_left before ≡ then_held = world_left-append known step.others in
     let next : world_left mid ≡ world_after_one then_held r =
@@ -40,11 +40,11 @@ served_then known mid known' q t reply calls step rest =
       continued = rest.continued ∙ (ap (λ (l : List Entry). l ++ rest.entries) step.enters ∙ (append_assoc before (entry ∷ []) rest.entries ∙ append_assoc known step.others (entry ∷ rest.entries)));
       own = (
         calls_along w others,
-        calls_along (world_after_one then_held r) (requests_of rest.entries),
-        ap (calls_along w) (flat_map-append request_in step.others (entry ∷ rest.entries))
-            ∙ (calls_along-append w others (r ∷ requests_of rest.entries)
-            ∙ ap (λ (x : Reply). calls_along w others ++ (entered q t, x) ∷ calls_along (world_after_one then_held r) (requests_of rest.entries)) answer),
-        subst (λ (v : World (List ℕ)). IsAmong calls (calls_along v (requests_of rest.entries))) next rest.own,
+        calls_along (world_after_one then_held r) (served_requests rest.entries),
+        ap (calls_along w) (flat_map-append served_request step.others (entry ∷ rest.entries))
+            ∙ (calls_along-append w others (r ∷ served_requests rest.entries)
+            ∙ ap (λ (x : Reply). calls_along w others ++ (entered q t, x) ∷ calls_along (world_after_one then_held r) (served_requests rest.entries)) answer),
+        subst (λ (v : World (List ℕ)). IsAmong calls (calls_along v (served_requests rest.entries))) next rest.own,
       );
     }
 
@@ -105,29 +105,29 @@ pub record IsPlaced (w : World (List ℕ)) (call : Call) (after : List Call) : T
   pub rest : List Entry
   pub slot : ℕ
   pub request : Timed
-  pub call_is : call ≡ call_at (world_after_all w (requests_of front)) request
-  pub after_is : after ≡ calls_along (world_after_one (world_after_all w (requests_of front)) request) (requests_of rest)
+  pub call_is : call ≡ call_at (world_after_all w (served_requests front)) request
+  pub after_is : after ≡ calls_along (world_after_one (world_after_all w (served_requests front)) request) (served_requests rest)
 
 -- the same after an entry before
-placed_after : (w v : World (List ℕ)) (e : Entry) (call : Call) (after : List Call) → ((rs : List Timed) → world_after_all w (request_in e ++ rs) ≡ world_after_all v rs) → IsPlaced v call after → IsPlaced w call after
+placed_after : (w v : World (List ℕ)) (e : Entry) (call : Call) (after : List Call) → ((rs : List Timed) → world_after_all w (served_request e ++ rs) ≡ world_after_all v rs) → IsPlaced v call after → IsPlaced w call after
 placed_after w v e call after steps placed =
-    let same : world_after_all w (requests_of (e ∷ placed.front)) ≡ world_after_all v (requests_of placed.front) = steps (requests_of placed.front) in record {
+    let same : world_after_all w (served_requests (e ∷ placed.front)) ≡ world_after_all v (served_requests placed.front) = steps (served_requests placed.front) in record {
       front = e ∷ placed.front;
       rest = placed.rest;
       slot = placed.slot;
       request = placed.request;
       call_is = placed.call_is ∙ ap (λ (x : World (List ℕ)). call_at x placed.request) (sym same);
-      after_is = placed.after_is ∙ ap (λ (x : World (List ℕ)). calls_along (world_after_one x placed.request) (requests_of placed.rest)) (sym same);
+      after_is = placed.after_is ∙ ap (λ (x : World (List ℕ)). calls_along (world_after_one x placed.request) (served_requests placed.rest)) (sym same);
     }
 
-at_place : (w : World (List ℕ)) (entries : List Entry) (before : List Call) (call : Call) (after : List Call) → calls_along w (requests_of entries) ≡ before ++ call ∷ after → IsPlaced w call after
+at_place : (w : World (List ℕ)) (entries : List Entry) (before : List Call) (call : Call) (after : List Call) → calls_along w (served_requests entries) ≡ before ++ call ∷ after → IsPlaced w call after
 at_place w [] [] call after is = absurd (cc (is))
 at_place w [] (x ∷ before) call after is = absurd (cc (is))
 at_place w (Opened pairs ∷ entries) before call after is = placed_after w w (Opened pairs) call after (λ rs. refl) (at_place w entries before call after is)
 at_place w (Split slot middle upper ∷ entries) before call after is = placed_after w w (Split slot middle upper) call after (λ rs. refl) (at_place w entries before call after is)
 at_place w (Served slot r ∷ entries) [] call after is =
     let head : call_at w r ≡ call = cc (is) in
-    let tail : calls_along (world_after_one w r) (requests_of entries) ≡ after = cc (is) in record {
+    let tail : calls_along (world_after_one w r) (served_requests entries) ≡ after = cc (is) in record {
       front = [];
       rest = entries;
       slot = slot;
@@ -136,17 +136,17 @@ at_place w (Served slot r ∷ entries) [] call after is =
       after_is = sym tail;
     }
 at_place w (Served slot r ∷ entries) (x ∷ before) call after is =
-    let tail : calls_along (world_after_one w r) (requests_of entries) ≡ before ++ call ∷ after = cc (is) in
+    let tail : calls_along (world_after_one w r) (served_requests entries) ≡ before ++ call ∷ after = cc (is) in
     placed_after w (world_after_one w r) (Served slot r) call after (λ rs. refl) (at_place (world_after_one w r) entries before call after tail)
 
 pub later_reads : (known known' : List Entry) (front : List Call) (earlier : Call) (middle : List Call) (later : Call) (back : List Call)
     → ReadsHistory known (front ++ earlier ∷ (middle ++ later ∷ back)) known' → IsReadAfter earlier later
 later_reads known known' front earlier middle later back reads =
     let w = world_left known in
-    let one = next_after front earlier (middle ++ later ∷ back) (calls_along w (requests_of reads.entries)) reads.own in
+    let one = next_after front earlier (middle ++ later ∷ back) (calls_along w (served_requests reads.entries)) reads.own in
     let two = next_after middle later back one.1 one.3 in
     let first = at_place w reads.entries one.0 earlier one.1 one.2 in
-    let then_held = world_after_all w (requests_of first.front) in
+    let then_held = world_after_all w (served_requests first.front) in
     let second = at_place (world_after_one then_held first.request) first.rest two.0 later two.1 (sym first.after_is ∙ two.2) in
     let before = known ++ first.front in
     let here : world_left before ≡ then_held = world_left-append known first.front in record {
@@ -157,5 +157,5 @@ later_reads known known' front earlier middle later back reads =
       second = second.request;
       first_is = first.call_is ∙ ap (λ (v : World (List ℕ)). call_at v first.request) (sym here);
       second_is = second.call_is ∙ ap (λ (v : World (List ℕ)). call_at v second.request)
-          (sym (world_left-append before (Served first.slot first.request ∷ second.front) ∙ ap (λ (v : World (List ℕ)). world_after_all (world_after_one v first.request) (requests_of second.front)) here));
+          (sym (world_left-append before (Served first.slot first.request ∷ second.front) ∙ ap (λ (v : World (List ℕ)). world_after_all (world_after_one v first.request) (served_requests second.front)) here));
     }

@@ -1,6 +1,7 @@
 pub mod Adding
 pub mod AfterLemmas
 pub mod ConnectionLemmas
+pub mod FirstLemmas
 pub mod KeyLemmas
 pub mod ReplyLemmas
 pub mod RowLemmas

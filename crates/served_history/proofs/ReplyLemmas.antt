@@ -1,9 +1,7 @@
 -- A reply that a slot gives from what it knows is the model's after all entries before the request.
-use Rattle.std.proofs.Common.{◌≡◌, ℕ, ◌&&◌, Bool, true, false, cond, List, [], ◌∷◌, ◌++◌, Option, refl, sym, ap, ◌∙◌, subst}
+use Rattle.std.proofs.Common.{◌≡◌, ℕ, ◌&&◌, Bool, true, false, cond, List, [], ◌∷◌, ◌++◌, refl, sym, ap, ◌∙◌}
 use Rattle.std.specs.Ordering.{eq_by_cmp}
 use Rattle.std.proofs.lemmas.Bool.{and_parts}
-use Rattle.std.proofs.lemmas.List.{append_assoc}
-use mathlib.Core.List.{IsPrefix}
 use Rattle.stamp_values.specs.Operations.{names_container}
 use Rattle.stamp_values.specs.Order.{key_cmp, keys_exact}
 use Rattle.stamp_values.specs.Trees.{is_from}
@@ -17,11 +15,11 @@ use Rattle.stamp_model.specs.Responses.{reply}
 use Rattle.stamp_model.specs.Runs.{Timed, reply_to_one}
 use Rattle.stamp_model.specs.SeenContainers.{is_between, is_in_account, is_seen, is_under, routed}
 use Rattle.stamp_model.proofs.SeenContainerLemmas.{reply-seen}
-use Rattle.slot_state.specs.Pairs.{Pairs, current_at}
+use Rattle.slot_state.specs.Pairs.{current_at}
 use Rattle.served_history.specs.declared.entry.Entry.{Entry}
 use Rattle.served_history.specs.declared.entry.Entry.TheVariants.{Served}
 use Rattle.served_history.specs.Growth.{IsEntered}
-use Rattle.served_history.specs.Histories.{bound_at, entry_at, owner, pairs_of, timed_at, world_left, GoesOnWithout, IsServed}
+use Rattle.served_history.specs.Histories.{bound_at, entry_after, owner, opening_pairs, timed_at, world_left, GoesOnWithout, IsServed}
 use Rattle.served_history.proofs.KeyLemmas.{one_owner, under_own}
 use Rattle.served_history.proofs.StayLemmas.{pairs_stay, routed_own, stays}
 
@@ -49,7 +47,7 @@ module _ (slot : ℕ) (front log : List Entry) (goes : GoesOnWithout slot front 
       λ i. record { request = q; moment = t; keys = current_at (pairs i) q.ask.key.account; bound = bound i }
 
   -- by the same slot
-  pub entry_stays : entry_at log q t ≡ entry_at front q t
+  pub entry_stays : entry_after log q t ≡ entry_after front q t
   entry_stays =
       let same = (stays slot (routed q) front log goes has).slot in
       λ i. Served (same i) (timed_stays i)
@@ -62,18 +60,18 @@ module _ (slot : ℕ) (front log : List Entry) (goes : GoesOnWithout slot front 
   pub reply_stays : IsAsk q.ask → reply_to_one (world_left log) (timed_at log q t) ≡ reply_to_one (world_left front) (timed_at front q t)
   reply_stays fits =
       ap (λ (r : Timed). reply_to_one (world_left log) r) timed_stays
-      ∙ reply-seen (current_at (pairs_of front) q.ask.key.account) (world_left log) (world_left front) q t (bound_at front (routed q)) fits (λ lists. under_own front (routed q)) seen_stays
+      ∙ reply-seen (current_at (opening_pairs front) q.ask.key.account) (world_left log) (world_left front) q t (bound_at front (routed q)) fits (λ lists. under_own front (routed q)) seen_stays
 
 -- a request that was entered was served
 pub entered_is_served : (slot : ℕ) (front known known' : List Entry) (q : Asked) (t : ℕ) (r : Reply) → IsAsk q.ask → owner front (routed q) ≡ slot
-    → IsEntered slot front known (entry_at front q t) known' → r ≡ reply_to_one (world_left front) (timed_at front q t) → IsServed known q t r known'
+    → IsEntered slot front known (entry_after front q t) known' → r ≡ reply_to_one (world_left front) (timed_at front q t) → IsServed known q t r known'
 entered_is_served slot front known known' q t r fits has entered is =
     let whole : known ++ entered.others_knew.0 ≡ entered.log = entered.others_knew.1 in record {
       others = entered.others_knew.0;
       enters =
           entered.enters
           ∙ ap (λ (e : Entry). entered.log ++ e ∷ []) (sym (entry_stays slot front entered.log entered.slot_knew q t has))
-          ∙ ap (λ (l : List Entry). l ++ entry_at l q t ∷ []) (sym whole);
+          ∙ ap (λ (l : List Entry). l ++ entry_after l q t ∷ []) (sym whole);
       replied =
           is
           ∙ sym (reply_stays slot front entered.log entered.slot_knew q t has fits)

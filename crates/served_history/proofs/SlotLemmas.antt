@@ -1,5 +1,5 @@
 -- What a slot may enter, and what it knows then.
-use Rattle.std.proofs.Common.{◌≡◌, ℕ, ◌+◌, nat_eq, Bool, true, false, cond, List, [], ◌∷◌, ◌++◌, sym, ap, ◌∙◌, arith, append_assoc}
+use Rattle.std.proofs.Common.{◌≡◌, ℕ, ◌+◌, nat_eq, Bool, true, cond, List, [], ◌∷◌, ◌++◌, sym, ap, ◌∙◌, arith, append_assoc}
 use Rattle.std.proofs.lemmas.Bool.Decides.{nat_tests}
 use Rattle.std.proofs.lemmas.List.{append-nil}
 use mathlib.Core.List.{IsPrefix}
@@ -9,7 +9,7 @@ use Rattle.stamp_model.specs.SeenContainers.{routed}
 use Rattle.served_history.specs.declared.entry.Entry.{Entry}
 use Rattle.served_history.specs.declared.entry.Entry.TheVariants.{Served, Split}
 use Rattle.served_history.specs.Growth.{IsAdded, IsEntered}
-use Rattle.served_history.specs.Histories.{count_of, is_of, owner, GoesOnWithout, IsHistory, IsOwn}
+use Rattle.served_history.specs.Histories.{count_of, is_of, GoesOnWithout, IsHistory, IsOwn}
 use Rattle.served_history.proofs.ReplyLemmas.{timed_stays}
 use Rattle.served_history.proofs.RowLemmas.{count-append}
 use Rattle.served_history.proofs.StayLemmas.{stays}

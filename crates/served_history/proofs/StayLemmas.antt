@@ -1,5 +1,5 @@
 -- What stays while a slot makes no entry: its keys, their bounds and their containers.
-use Rattle.std.proofs.Common.{◌≡◌, ℕ, ◌+◌, ◌&&◌, nat_eq, Bool, true, false, cond, List, [], ◌∷◌, ◌++◌, Option, Some, refl, sym, ap, ◌∙◌, subst, arith}
+use Rattle.std.proofs.Common.{◌≡◌, ℕ, ◌+◌, ◌&&◌, nat_eq, Bool, true, false, cond, List, [], ◌∷◌, ◌++◌, Some, refl, sym, ap, ◌∙◌, subst, arith}
 use Rattle.std.specs.FinMap as finite
 use Rattle.std.proofs.lemmas.Bool.{and_parts}
 use Rattle.std.proofs.lemmas.Bool.Decides.{nat_tests}
@@ -12,26 +12,25 @@ use Rattle.stamp_values.specs.Trees.{is_below, is_from}
 use Rattle.stamp_values.specs.declared.key.Key.{Key}
 use Rattle.stamp_types.specs.Pieces.{held}
 use Rattle.stamp_types.specs.Requests.{Asked}
-use Rattle.stamp_types.specs.World.{Part, World, part_at}
+use Rattle.stamp_types.specs.World.{World, part_at}
 use Rattle.range_rows.specs.SentContent.{byte_count}
 use Rattle.stamp_model.specs.Runs.{Timed, world_after_one, world_after_all}
 use Rattle.stamp_model.specs.SeenContainers.{is_under, routed}
 use Rattle.stamp_model.proofs.EffectLemmas.{part_at-effect_others}
 use Rattle.stamp_model.proofs.ReadLemmas.{effect-read}
 use Rattle.stamp_model.proofs.SeenContainerLemmas.{lists_containers}
-use Rattle.slot_state.specs.Pairs.{Pairs}
 use Rattle.served_history.specs.declared.entry.Entry.{Entry}
 use Rattle.served_history.specs.declared.entry.Entry.TheVariants.{Opened, Served, Split}
-use Rattle.served_history.specs.Histories.{bound_after, bound_at, count_of, is_of, owner, pairs_of, request_in, requests_of, world_left, GoesOnWithout, HasStayed, IsHistory, IsOpened, IsOwn}
+use Rattle.served_history.specs.Histories.{bound_at, count_of, is_of, owner, opening_pairs, served_request, served_requests, world_left, GoesOnWithout, HasStayed, IsHistory, IsOpened, IsOwn}
 use Rattle.served_history.proofs.KeyLemmas.{bound-one, by_false, by_true, from_of_below, one_owner, owner-one}
 use Rattle.served_history.proofs.RowLemmas.{count-append}
 
 -- ---- the containers after more entries
 
 -- what a front part and the entries after it leave
-pub world_left-append : (front rest : List Entry) → world_left (front ++ rest) ≡ world_after_all (world_left front) (requests_of rest)
+pub world_left-append : (front rest : List Entry) → world_left (front ++ rest) ≡ world_after_all (world_left front) (served_requests rest)
 world_left-append front rest =
-    ap (λ (rs : List Timed). world_after_all finite.empty rs) (flat_map-append request_in front rest) ∙ fold-append world_after_one finite.empty (requests_of front) (requests_of rest)
+    ap (λ (rs : List Timed). world_after_all finite.empty rs) (flat_map-append served_request front rest) ∙ fold-append world_after_one finite.empty (served_requests front) (served_requests rest)
 
 -- a request that names a container begins with its key
 pub routed_own : (q : Asked) → names_container q.ask.op ≡ true → routed q ≡ q.ask.key
@@ -80,7 +79,7 @@ module _ (tag : ℕ) (key : Key) (front : List Entry) (has : owner front key ≡
         ∙ request_stays (world_left front) r key (λ same. not_both slot tag other (sym own ∙ ap (owner front) (sym same) ∙ has));
   }
 
-  opened_stays : (e : Entry) → owner (front ++ e ∷ []) key ≡ owner front key → bound_at (front ++ e ∷ []) key ≡ bound_at front key → request_in e ≡ [] → HasStayed key front (front ++ e ∷ [])
+  opened_stays : (e : Entry) → owner (front ++ e ∷ []) key ≡ owner front key → bound_at (front ++ e ∷ []) key ≡ bound_at front key → served_request e ≡ [] → HasStayed key front (front ++ e ∷ [])
   opened_stays e slot bound none = record {
     slot = slot;
     bound = bound;
@@ -129,10 +128,10 @@ stays tag key front log goes has =
 
 -- ---- key pairs
 
-pairs_front : (front rest : List Entry) → IsOpened front → pairs_of (front ++ rest) ≡ pairs_of front
+pairs_front : (front rest : List Entry) → IsOpened front → opening_pairs (front ++ rest) ≡ opening_pairs front
 pairs_front [] rest is = absurd is
 pairs_front (e ∷ front) rest is = refl
 
 -- the key pairs of a history stay
-pub pairs_stay : (front log : List Entry) → IsPrefix front log → IsHistory front → pairs_of log ≡ pairs_of front
-pairs_stay front log begins history = ap pairs_of (sym begins.1) ∙ pairs_front front begins.0 history.opened
+pub pairs_stay : (front log : List Entry) → IsPrefix front log → IsHistory front → opening_pairs log ≡ opening_pairs front
+pairs_stay front log begins history = ap opening_pairs (sym begins.1) ∙ pairs_front front begins.0 history.opened

@@ -8,22 +8,22 @@ use Rattle.stamp_types.specs.World.{World, blob_in, part_at}
 use Rattle.range_rows.specs.Readings.{wanted_blocks}
 use Rattle.stamp_model.specs.Blocks.{wanted_bytes}
 use Rattle.stamp_model.specs.Kept.{LeavesContent}
-use Rattle.stamp_model.specs.Runs.{Timed, IsOn, reply_to_one, world_after_all}
+use Rattle.stamp_model.specs.Runs.{IsOn, reply_to_one, world_after_all}
 use Rattle.stamp_model.proofs.BlockLemmas.{kept-list}
 use Rattle.stamp_model.proofs.LastLemmas.{body-list_last, body-put_last}
 use Rattle.stamp_model.proofs.WrittenLemmas.{kept-put}
 use Rattle.served_history.specs.declared.entry.Entry.TheVariants.{Served}
-use Rattle.served_history.specs.Histories.{requests_of, world_left}
+use Rattle.served_history.specs.Histories.{served_requests, world_left}
 use Rattle.served_history.specs.Connections.{Call, IsReadAfter}
 use Rattle.served_history.proofs.StayLemmas.{world_left-append}
 
-module _ (key : Key) (name : List ℕ) (write get : Call) (reads : IsReadAfter write get) (all : All (λ r. LeavesContent key name r.request) (requests_of reads.between))
+module _ (key : Key) (name : List ℕ) (write get : Call) (reads : IsReadAfter write get) (all : All (λ r. LeavesContent key name r.request) (served_requests reads.between))
     (gets : IsOn GetBlob key name get.0.request) (whole : get.0.request.ask.args.range ≡ None) (accepted : write.1.rule ≡ None) (read : get.1.rule ≡ None) where
   abbrev before : World (List ℕ)
   before = world_left reads.before
 
   abbrev later : World (List ℕ)
-  later = world_after_all before (reads.first ∷ requests_of reads.between)
+  later = world_after_all before (reads.first ∷ served_requests reads.between)
 
   wrote : write.0.request ≡ reads.first.request
   wrote = ap (λ (c : Call). c.0.request) reads.first_is
@@ -54,7 +54,7 @@ module _ (key : Key) (name : List ℕ) (write get : Call) (reads : IsReadAfter w
       let there = subst (λ (q : Asked). IsOn PutBlob key name q) wrote puts in
       let keeps = kept-put reads.first.request key name (subst (λ (q : Asked). IsAsk q.ask) wrote fits) there in
       ap (λ (r : Reply). r.body) answer
-      ∙ body-put_last before key name keeps.0 reads.first there keeps.1 none (requests_of reads.between) all reads.second gets_there whole_there free
+      ∙ body-put_last before key name keeps.0 reads.first there keeps.1 none (served_requests reads.between) all reads.second gets_there whole_there free
       ∙ ap (λ (q : Asked). q.body) (sym wrote)
 
   -- the same of the blocks that a Put Block List commits
@@ -64,5 +64,5 @@ module _ (key : Key) (name : List ℕ) (write get : Call) (reads : IsReadAfter w
       let there = subst (λ (q : Asked). IsOn PutBlockList key name q) wrote lists in
       let keeps = kept-list reads.first.request key name (subst (λ (q : Asked). IsAsk q.ask) wrote fits) there in
       ap (λ (r : Reply). r.body) answer
-      ∙ body-list_last before key name reads.first there none keeps.0 keeps.1 (requests_of reads.between) all reads.second gets_there whole_there free
+      ∙ body-list_last before key name reads.first there none keeps.0 keeps.1 (served_requests reads.between) all reads.second gets_there whole_there free
       ∙ ap (λ (q : Asked). wanted_bytes (blob_in (part_at before key) name) (wanted_blocks q)) (sym wrote)

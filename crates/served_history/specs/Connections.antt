@@ -10,7 +10,7 @@ use Rattle.http_front.specs.Conversations.{Exchange}
 use Rattle.http_front.specs.Conversations.Exchange.{Answered, RefusedAt}
 use Rattle.served_history.specs.declared.entry.Entry.{Entry}
 use Rattle.served_history.specs.declared.entry.Entry.TheVariants.{Served}
-use Rattle.served_history.specs.Histories.{IsServed, requests_of, world_left}
+use Rattle.served_history.specs.Histories.{IsServed, served_requests, world_left}
 
 -- a request, and the moment at which it is answered
 pub record Entered : Type 0 where
@@ -53,7 +53,7 @@ IsAmong {X} (x ∷ xs) ys = (before : List X) × (after : List X) × (ys ≡ bef
 pub record ReadsHistory (known : List Entry) (calls : List Call) (known' : List Entry) : Type 0 where
   pub entries : List Entry
   pub continued : known' ≡ known ++ entries
-  pub own : IsAmong calls (calls_along (world_left known) (requests_of entries))
+  pub own : IsAmong calls (calls_along (world_left known) (served_requests entries))
 
 -- the connection knows what it knew, or one request of its own was entered after what it knew
 abbrev pub AddsOneAtMost : List Entry → List Entry → Type 0

@@ -58,31 +58,31 @@ pairs_in (Served slot r) = finite.empty
 pairs_in (Split slot middle upper) = finite.empty
 
 -- the key pairs of the accounts: those of the first entry
-abbrev pub pairs_of : List Entry → Pairs
-pairs_of [] = finite.empty
-pairs_of (e ∷ es) = pairs_in e
+abbrev pub opening_pairs : List Entry → Pairs
+opening_pairs [] = finite.empty
+opening_pairs (e ∷ es) = pairs_in e
 
 -- the request as it is served after these entries: by the key pair of its account, and up to the bound of its slot
 abbrev pub timed_at : List Entry → Asked → ℕ → Timed
-timed_at log q t = record { request = q; moment = t; keys = current_at (pairs_of log) q.ask.key.account; bound = bound_at log (routed q) }
+timed_at log q t = record { request = q; moment = t; keys = current_at (opening_pairs log) q.ask.key.account; bound = bound_at log (routed q) }
 
 -- the entry of the request if it is served after these entries, by the slot that has its key then
-abbrev pub entry_at : List Entry → Asked → ℕ → Entry
-entry_at log q t = Served (owner log (routed q)) (timed_at log q t)
+abbrev pub entry_after : List Entry → Asked → ℕ → Entry
+entry_after log q t = Served (owner log (routed q)) (timed_at log q t)
 
 -- the request that the entry is of, if it is of a request
-abbrev pub request_in : Entry → List Timed
-request_in (Opened pairs) = []
-request_in (Served slot r) = r ∷ []
-request_in (Split slot middle upper) = []
+abbrev pub served_request : Entry → List Timed
+served_request (Opened pairs) = []
+served_request (Served slot r) = r ∷ []
+served_request (Split slot middle upper) = []
 
 -- the requests of the entries, in their order
-abbrev pub requests_of : List Entry → List Timed
-requests_of log = flat_map request_in log
+abbrev pub served_requests : List Entry → List Timed
+served_requests log = flat_map served_request log
 
 -- the containers that the entries leave, from those of a new stamp
 abbrev pub world_left : List Entry → World (List ℕ)
-world_left log = world_after_all finite.empty (requests_of log)
+world_left log = world_after_all finite.empty (served_requests log)
 
 -- ---- histories
 
@@ -132,7 +132,7 @@ pub record HasStayed (key : Key) (front log : List Entry) : Type 0 where
 -- containers that all entries before the request leave, by the key pair of its account and up to the bound of its slot then.
 pub record IsServed (known : List Entry) (q : Asked) (t : ℕ) (reply : Reply) (known' : List Entry) : Type 0 where
   pub others : List Entry
-  pub enters : known' ≡ (known ++ others) ++ entry_at (known ++ others) q t ∷ []
+  pub enters : known' ≡ (known ++ others) ++ entry_after (known ++ others) q t ∷ []
   pub replied : reply ≡ reply_to_one (world_left (known ++ others)) (timed_at (known ++ others) q t)
 
 -- a connection knows of the history what it knew

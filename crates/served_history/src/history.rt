@@ -1,6 +1,6 @@
 //! One history of the requests to all slots. It only grows, and it exists in proofs alone: each slot has a word, which is the number of its
 //! entries.
-ghost use Rattle.std.specs.Prelude.{◌≡◌, ◌+◌, ◌<◌, ◌^◌, ◌∷◌, ◌++◌, List, [], MatchBool};
+ghost use Rattle.std.specs.Prelude.{◌≡◌, ◌+◌, ◌<◌, ◌^◌, ◌∷◌, List, [], MatchBool};
 ghost use mathlib.Core.List.{IsPrefix};
 ghost use Rattle.served_history.specs.declared.entry.Entry.{Entry as History_entry};
 ghost use Rattle.served_history.specs.declared.entry.Entry.TheVariants.{Opened, Served, Split};
@@ -85,11 +85,11 @@ impl Play<Entry, u64> for Look {
 /// The first history has one entry: the key pairs.
 pub struct First;
 
-impl Opening<Vec<Keys>, Entry> for First {
+impl<'a> Opening<&'a [Keys], Entry> for First {
     ghost use Rattle.std.specs.Prelude.{[], ◌∷◌};
     ghost use Rattle.served_history.specs.declared.entry.Entry.TheVariants.{Opened};
 
-    ghost log = { λ n pairs. Opened pairs.items ∷ [] };
+    ghost log = { λ n pairs. Opened pairs.now ∷ [] };
 }
 
 /// The stamp that slots serve: its history. Each call of a program picks it.
@@ -124,11 +124,11 @@ impl Model for NewHistory {
 
 impl NewHistory {
     /// A history that begins with these first key pairs of the accounts. Takes no memory.
-    pub fn new(pairs: &Vec<Keys>) -> NewHistory
-        ensures opened { result.log ≡ Opened pairs.now.items ∷ [] }
+    pub fn new(pairs: &[Keys]) -> NewHistory
+        ensures opened { result.log ≡ Opened pairs.now ∷ [] }
         ensures fresh { result.next ≡ 0 }
     {
-        let (seen, pens) = Seen::open_row::<Vec<Keys>, First>(pairs, Start::alone(), SLOTS);
+        let (seen, pens) = Seen::open_row::<&[Keys], First>(&pairs, Start::alone(), SLOTS);
         NewHistory { seen, pens }
     }
 

@@ -16,7 +16,7 @@ ghost use Rattle.http_front.specs.Connections.{ConnectionState};
 ghost use Rattle.http_front.specs.Conversations.{AnswersInput, BreaksOff, EndsOutOfMemory};
 ghost use Rattle.served_history.specs.declared.entry.Entry.{Entry};
 ghost use Rattle.served_history.specs.Growth.{IsEntered};
-ghost use Rattle.served_history.specs.Histories.{GoesOnWithout, HasStayed, IsHistory, IsServed, IsUnchanged, entry_at, owner, pairs_of, requests_of, timed_at, world_left};
+ghost use Rattle.served_history.specs.Histories.{GoesOnWithout, HasStayed, IsHistory, IsServed, IsUnchanged, entry_after, owner, opening_pairs, served_requests, timed_at, world_left};
 ghost use Rattle.served_history.specs.Connections.{AddsOneAtMost, AreOfOneHistory, Call, IsReadAfter, ReadsHistory, calls_of};
 
 use crate::history::{Account, Front};
@@ -28,7 +28,7 @@ pub fn a_slot_keeps_what_it_has()
     ensures stays { (slot : ℕ) (front log : List Entry) (key : Key)
         → GoesOnWithout slot front log → owner front key ≡ slot → HasStayed key front log }
     ensures pairs { (slot : ℕ) (front log : List Entry)
-        → GoesOnWithout slot front log → pairs_of log ≡ pairs_of front }
+        → GoesOnWithout slot front log → opening_pairs log ≡ opening_pairs front }
     ensures reply { (slot : ℕ) (front log : List Entry) (q : Asked) (t : ℕ)
         → GoesOnWithout slot front log → owner front (routed q) ≡ slot → IsAsk q.ask
         → reply_to_one (world_left log) (timed_at log q t)
@@ -46,7 +46,7 @@ pub fn a_slot_has_what_its_entry_leaves()
 pub fn an_entered_request_is_served()
     ensures { (slot : ℕ) (front known known' : List Entry) (q : Asked) (t : ℕ) (reply : Reply)
         → IsAsk q.ask → owner front (routed q) ≡ slot
-        → IsEntered slot front known (entry_at front q t) known'
+        → IsEntered slot front known (entry_after front q t) known'
         → reply ≡ reply_to_one (world_left front) (timed_at front q t)
         → IsServed known q t reply known' }
 {}
@@ -98,13 +98,13 @@ pub fn a_connection_reads_its_own_writes()
         → IsReadAfter earlier later }
     ensures put { (key : Key) (name : List ℕ) (put get : Call)
         (reads : IsReadAfter put get)
-        → All (λ r. LeavesContent key name r.request) (requests_of reads.between)
+        → All (λ r. LeavesContent key name r.request) (served_requests reads.between)
         → IsAsk put.0.request.ask → IsOn PutBlob key name put.0.request
         → IsOn GetBlob key name get.0.request → get.0.request.ask.args.range ≡ None
         → put.1.rule ≡ None → get.1.rule ≡ None → get.1.body ≡ put.0.request.body }
     ensures commit { (key : Key) (name : List ℕ) (list get : Call)
         (reads : IsReadAfter list get)
-        → All (λ r. LeavesContent key name r.request) (requests_of reads.between)
+        → All (λ r. LeavesContent key name r.request) (served_requests reads.between)
         → IsAsk list.0.request.ask → IsOn PutBlockList key name list.0.request
         → IsOn GetBlob key name get.0.request → get.0.request.ask.args.range ≡ None
         → list.1.rule ≡ None → get.1.rule ≡ None

@@ -3,6 +3,8 @@
 
 mod entry;
 mod history;
+#[cfg(test)]
+mod history_tests;
 mod laws;
 mod slot_history;
 
