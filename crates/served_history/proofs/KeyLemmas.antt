@@ -1,7 +1,10 @@
 -- The slots that have keys, and their bounds.
-use Rattle.std.proofs.Common.{◌≡◌, ℕ, ◌&&◌, not, nat_eq, Bool, true, false, cond, List, [], ◌∷◌, ◌++◌, Option, Some, None, refl, sym, ap, ◌∙◌}
+use Rattle.std.proofs.Common.{◌≡◌, ℕ, ◌&&◌, not, nat_eq, Bool, true, false, cond, List, [], ◌∷◌, ◌++◌, Option, Some, None, refl, sym, ap, ◌∙◌, subst}
 use Rattle.std.specs.List.{fold}
 use Rattle.std.specs.Ordering.{is_le}
+use Rattle.std.specs.declared.cmp.Ordering.{Ordering}
+use Rattle.std.specs.declared.cmp.Ordering.TheVariants.{Less, Equal, Greater}
+use Rattle.stamp_values.specs.Order.{key_cmp, keys_exact, keys_total}
 use Rattle.std.proofs.lemmas.List.Sums.{fold-append}
 use Rattle.std.proofs.lemmas.Bool.{and_parts}
 use Rattle.stamp_values.specs.Trees.{is_below, is_from}
@@ -37,6 +40,20 @@ both false b p q = cc
 -- a key that comes after another is from it on
 pub from_of_below : (key later : Key) → is_below later key ≡ true → is_from key later ≡ true
 from_of_below key later before = ap is_le (less_of_below key later before)
+
+-- a ≤ b and b ≤ c give a ≤ c
+pub from_from : (a b c : Key) → is_from a b ≡ true → is_from b c ≡ true → is_from a c ≡ true
+from_from a b c e f = by (key_cmp a b) refl e
+  where
+    by_less : (r : Ordering) → key_cmp b c ≡ r → is_le r ≡ true → key_cmp a b ≡ Less → is_from a c ≡ true
+    by_less Less is le less = ap is_le (keys_total.trans a b c less is)
+    by_less Equal is le less = subst (λ (k : Key). is_from a k ≡ true) (keys_exact b c is) e
+    by_less Greater is le less = cc
+
+    by : (r : Ordering) → key_cmp a b ≡ r → is_le r ≡ true → is_from a c ≡ true
+    by Less is le = by_less (key_cmp b c) refl f is
+    by Equal is le = subst (λ (k : Key). is_from k c ≡ true) (sym (keys_exact a b is)) f
+    by Greater is le = cc
 
 -- a key comes before the bound if a key that comes after it does
 pub under_before : (bound : Option Key) (key later : Key) → is_below later key ≡ true → is_under bound later ≡ true → is_under bound key ≡ true

@@ -5,6 +5,7 @@ pub mod FirstLemmas
 pub mod KeyLemmas
 pub mod ReplyLemmas
 pub mod RowLemmas
+pub mod ServingLemmas
 pub mod SlotLemmas
 pub mod StayLemmas
 pub mod WriteLemmas
