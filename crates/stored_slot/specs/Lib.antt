@@ -1,3 +1,4 @@
+pub mod Audits
 pub mod Changes
 pub mod Decided
 pub mod Meanings

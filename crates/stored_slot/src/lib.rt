@@ -2,6 +2,7 @@
 #![tactic(auto)]
 
 mod answering;
+mod auditing;
 mod changing;
 mod cutting;
 mod deciding;
@@ -12,6 +13,7 @@ mod serving;
 mod settling;
 mod stored_slot;
 
+pub use auditing::Audited;
 pub use laws::{
     a_doubt_of_a_slot_ends_whole, a_split_loses_nothing,
     after_unload_and_load_the_rows_are_the_replay,
