@@ -20,6 +20,8 @@ mod key_tests;
 #[cfg(test)]
 mod level_tests;
 #[cfg(test)]
+mod line_tests;
+#[cfg(test)]
 mod name_tests;
 #[cfg(test)]
 mod policy_tests;
