@@ -2,6 +2,8 @@
 #![tactic(auto)]
 
 #[cfg(test)]
+mod audit_tests;
+#[cfg(test)]
 mod bound_tests;
 #[cfg(test)]
 mod core_samples;

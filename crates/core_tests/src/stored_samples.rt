@@ -39,8 +39,8 @@ pub(crate) fn has_container(slot: &StoredSlot<KeptHistories>, request: &Request)
     ask.op.names_container() && slot.covers(&ask.key)
 }
 
-// Whether the first key that the request looks at is one of the slot.
-fn is_covered(
+/// Whether the first key that the request looks at is one of the slot.
+pub(crate) fn is_covered(
     alloc: Global,
     slot: &StoredSlot<KeptHistories>,
     request: &Request,
