@@ -1,3 +1,4 @@
+pub mod CompactLemmas
 pub mod FaultLemmas
 pub mod RangeLemmas
 pub mod RunLemmas

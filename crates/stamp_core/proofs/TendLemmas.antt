@@ -69,6 +69,7 @@ tended_range care.Settle h new F r (inr p) = ap range_of p.1.1
 tended_range care.Seal h new F r p = cared_range care.Seal h new F r _ p
 tended_range care.Load h new F r p = cared_range care.Load h new F r _ p
 tended_range care.Checkpoint h new F r p = cared_range care.Checkpoint h new F r _ p
+tended_range care.Compact h new F r p = cared_range care.Compact h new F r _ p
 tended_range (care.Repair stream extent node) h new F r p = cared_range (care.Repair stream extent node) h new F r _ p
 tended_range care.Unload h new F r p = ap range_of p.1
 tended_range (care.Move server) h new F r p = ap range_of p.1
@@ -111,6 +112,7 @@ module _ (F : Type 0) (b : Bool) (failed : F → b ≡ true) (c : CoreState) (s 
   no_slot_takes care.Seal over is = not_there _ over is
   no_slot_takes care.Load over is = not_there _ over is
   no_slot_takes care.Checkpoint over is = not_there _ over is
+  no_slot_takes care.Compact over is = not_there _ over is
   no_slot_takes care.Unload over is = not_there _ over is
   no_slot_takes (care.Move server) over is = not_there _ over is
   no_slot_takes (care.Repair stream extent node) over is = not_there _ over is
@@ -152,6 +154,7 @@ module _ (F : Type 0) (b : Bool) (failed : F → b ≡ true) (c : CoreState) (s 
     tended_takes care.Seal p = there _ (cared care.Seal (step.Seal i) (λ f. inl (failed f.0, f.1)) (r ≡ Ok outcome.Made) p)
     tended_takes care.Load p = there _ (cared care.Load (step.Load i) (λ f. inl (failed f.0, f.1)) (r ≡ Ok outcome.Made) p)
     tended_takes care.Checkpoint p = there _ (cared care.Checkpoint (step.Checkpoint i) (λ f. inl (failed f.0, f.1)) (r ≡ Ok outcome.Made) p)
+    tended_takes care.Compact p = there _ (cared care.Compact (step.Compact i) (λ f. inl (failed f.0, f.1)) (r ≡ Ok outcome.Made) p)
     tended_takes (care.Repair stream extent node) p =
         there _ (cared (care.Repair stream extent node) (step.Repair i stream extent node) (λ f. inl (failed f.0, f.1)) ((r ≡ Ok outcome.Made) ⊎ (r ≡ Err fault.NoSuchExtent)) p)
     tended_takes care.Unload p = leaves p

@@ -32,7 +32,6 @@ use Rattle.stamp_core.specs.declared.care.Care.TheVariants as care
 
 -- a core makes steps of this kind
 abbrev pub makes : Step → Bool
-makes (step.Compact i) = false
 makes (step.Rotate account which key) = false
 makes other = true
 
@@ -131,6 +130,7 @@ step_of i care.Settle = step.Settle i
 step_of i care.Seal = step.Seal i
 step_of i care.Load = step.Load i
 step_of i care.Checkpoint = step.Checkpoint i
+step_of i care.Compact = step.Compact i
 step_of i care.Unload = step.Unload i
 step_of i (care.Move server) = step.Move i server
 step_of i (care.Repair stream extent node) = step.Repair i stream extent node
@@ -176,6 +176,7 @@ IsTended care.Settle h faulted r h' = (SettlesSlot h h' × (r ≡ Ok outcome.Mad
 IsTended care.Seal h faulted r h' = CaresSettled care.Seal h faulted r h' (r ≡ Ok outcome.Made)
 IsTended care.Load h faulted r h' = CaresSettled care.Load h faulted r h' (r ≡ Ok outcome.Made)
 IsTended care.Checkpoint h faulted r h' = CaresSettled care.Checkpoint h faulted r h' (r ≡ Ok outcome.Made)
+IsTended care.Compact h faulted r h' = CaresSettled care.Compact h faulted r h' (r ≡ Ok outcome.Made)
 IsTended (care.Repair stream extent node) h faulted r h' =
     CaresSettled (care.Repair stream extent node) h faulted r h' ((r ≡ Ok outcome.Made) ⊎ (r ≡ Err fault.NoSuchExtent))
 IsTended care.Unload h faulted r h' = (r ≡ Ok outcome.Made) × (h' ≡ h)

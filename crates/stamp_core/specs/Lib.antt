@@ -1,3 +1,4 @@
+pub mod Compactions
 pub mod CoreSteps
 pub mod Ranges
 pub mod Tickets

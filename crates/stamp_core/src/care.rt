@@ -13,6 +13,8 @@ pub enum Care {
     Load,
     /// Write the rows as a checkpoint, and begin the log anew.
     Checkpoint,
+    /// Write the rows and the content that they say to new streams.
+    Compact,
     /// Drop the rows from memory.
     Unload,
     /// Give the slot to another server.

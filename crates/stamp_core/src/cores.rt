@@ -15,6 +15,8 @@ ghost use Rattle.core_run.specs.Machine.{IsRun, Takes};
 ghost use Rattle.stamp_core.specs.CoreSteps as kinds;
 ghost use Rattle.stamp_core.specs.CoreSteps.{AnswersSteadily, told_answer, has_faults, step_of};
 
+mod compact;
+
 use crate::care::Care;
 use crate::open_tickets::OpenTickets;
 use crate::serving::{serve_one, serve_unread};
@@ -235,8 +237,8 @@ impl<H: Histories> Core<H> {
         split(&mut self.slots, &mut self.spans, alloc, slot, middle, wire)
     }
 
-    /// One Settle, Seal, Load, Checkpoint, Unload, Move or Repair step, on the slot with this number. All but Unload and Move settle the doubt
-    /// of the slot first. What a checkpoint replaces is dropped.
+    /// One Settle, Seal, Load, Checkpoint, Compact, Unload, Move or Repair step, on the slot with this number. All but Unload and Move settle
+    /// the doubt of the slot first. What a checkpoint or a compaction replaces is dropped.
     ///
     /// `NoSuchSlot` if no slot has the number, and `NoSuchExtent` if the stream of a repair has no sealed extent of the number. `Busy`, or
     /// `Unreachable` of a repair, if nodes that were needed did not answer, and `NoMemory` if memory runs out. After a fault nothing is changed,
@@ -271,11 +273,11 @@ impl<H: Histories> Core<H> {
         tell(&mut self.tickets, alloc, answer, wire)
     }
 
-    /// Whether the core makes steps of this kind: all but Compact and Rotate.
+    /// Whether the core makes steps of this kind: all but Rotate.
     pub fn makes(step: &Step) -> bool
         ensures { result ≡ kinds.makes step.now }
     {
-        !matches!(step, Step::Compact { .. } | Step::Rotate { .. })
+        !matches!(step, Step::Rotate { .. })
     }
 
     /// One step: it answers what the machine may answer, and leaves what the machine leaves, from each state that the core stands for. That a
@@ -302,6 +304,7 @@ impl<H: Histories> Core<H> {
             Step::Seal { slot } => self.tend(alloc, slot, Care::Seal, wire),
             Step::Load { slot } => self.tend(alloc, slot, Care::Load, wire),
             Step::Checkpoint { slot } => self.tend(alloc, slot, Care::Checkpoint, wire),
+            Step::Compact { slot } => self.tend(alloc, slot, Care::Compact, wire),
             Step::Unload { slot } => self.tend(alloc, slot, Care::Unload, wire),
             Step::Move { slot, server } => self.tend(alloc, slot, Care::Move { server }, wire),
             Step::Repair {

@@ -2,6 +2,7 @@
 #![tactic(auto)]
 
 mod care;
+mod compacting;
 mod cores;
 mod open_tickets;
 mod serving;

@@ -13,7 +13,7 @@ use partition_map::Spans;
 use partition_stream::Replaced;
 use slot_state::Histories;
 use std::alloc::Global;
-use stored_rows::StoredFault;
+use stored_rows::{Compacted, StoredFault};
 use stored_slot::StoredSlot;
 use stream_manager::RepairFault;
 
@@ -61,6 +61,19 @@ fn checkpoint_answer(called: Result<Replaced, StoredFault>) -> Result<Outcome, S
     }
 }
 
+// What a compaction answers that ended so. What it replaced is dropped.
+fn compact_answer(called: Result<Compacted, StoredFault>) -> Result<Outcome, StepFault>
+    ensures { result ≡ steps.slot_answer called }
+{
+    match called {
+        Ok(compacted) => {
+            drop(compacted);
+            Ok(Outcome::Made)
+        }
+        Err(fault) => Err(fault_of_slot(fault)),
+    }
+}
+
 // What a repair answers that ended so.
 fn repair_answer(called: Result<(), RepairFault>) -> Result<Outcome, StepFault>
     ensures { result ≡ steps.repair_answer called }
@@ -87,6 +100,7 @@ fn tend_slot<H: Histories, W: Wire>(
         Care::Seal => slot_answer(slot.seal(alloc, wire)),
         Care::Load => slot_answer(slot.load(alloc, wire)),
         Care::Checkpoint => checkpoint_answer(slot.checkpoint(alloc, wire)),
+        Care::Compact => compact_answer(slot.compact(alloc, wire)),
         Care::Unload => {
             slot.unload();
             Ok(Outcome::Made)

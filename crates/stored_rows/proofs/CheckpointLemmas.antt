@@ -37,7 +37,7 @@ use Rattle.stored_rows.proofs.TakeLemmas.{no_doubt, still_none}
 -- ---- rows fit in any turn
 
 -- the change is a row
-abbrev IsRow : Recorded → Type 0
+abbrev pub IsRow : Recorded → Type 0
 IsRow c = is_row c.0.act ≡ true
 
 or_left : (a b : Bool) → a ≡ true → (a || b) ≡ true
@@ -53,7 +53,7 @@ row_first key c cs p true on row others =
     subst (λ acts. FitInTurn acts p) (sym (acts_on-next key c cs true on)) (row_fits p c.0.act row, others (changed same_pieces c.0.act p))
 row_first key c cs p false off row others = subst (λ acts. FitInTurn acts p) (sym (acts_on-next key c cs false off)) (others p)
 
-rows_fit : (key : Key) (cs : List Recorded) (p : Part (List Piece)) → All IsRow cs → FitInTurn (acts_on key cs) p
+pub rows_fit : (key : Key) (cs : List Recorded) (p : Part (List Piece)) → All IsRow cs → FitInTurn (acts_on key cs) p
 rows_fit key [] p all = tt
 rows_fit key (c ∷ cs) p all = row_first key c cs p (is_on key c) refl (All-head IsRow c cs all) (λ q. rows_fit key cs q (All-tail IsRow c cs all))
 
@@ -72,7 +72,7 @@ container_rows e =
     (own_row e.0 e.1 (e.1.count == 0)) (blob_rows e.0 (entries e.1.blobs)))
 
 -- the records of the rows of containers are rows
-all_rows : (es : List (Key × Part (List Piece))) → All IsRow (all_records es)
+pub all_rows : (es : List (Key × Part (List Piece))) → All IsRow (all_records es)
 all_rows [] = All-nil IsRow
 all_rows (e ∷ es) =
     All-same IsRow _ _ (flat_map-cons container_records e es) (All-append IsRow (container_records e) (all_records es) (container_rows e) (all_rows es))

@@ -35,11 +35,11 @@ pub fails_later : (a b c : Calls) → Grows a b → Fails b c → Fails a c
 fails_later a b c g f = (omega (arith, g, f), grows_twice a b c g f.1)
 
 -- an ask of each node failed
-each_fails : (a b : Calls) → FailsEachAtLeast a b → Fails a b
+pub each_fails : (a b : Calls) → FailsEachAtLeast a b → Fails a b
 each_fails a b h = (omega (arith, h), (h.0, (omega (arith, h), omega (arith, h), omega (arith, h))))
 
 -- two puts failed
-puts_fail : (a b : Calls) → FailsPutsAtLeast 2 a b → Fails a b
+pub puts_fail : (a b : Calls) → FailsPutsAtLeast 2 a b → Fails a b
 puts_fail a b h = (omega (arith, h), h.1)
 
 each_once : (a b : Calls) → FailsEach a b → Fails a b

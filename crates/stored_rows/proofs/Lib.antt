@@ -1,4 +1,5 @@
 pub mod CheckpointLemmas
+pub mod CompactionLemmas
 pub mod CountLemmas
 pub mod CutLemmas
 pub mod FittingLemmas

@@ -4,6 +4,8 @@ use Rattle.extent_seal.specs.declared.sealed.ReadFault.TheVariants as read
 use Rattle.stream_manager.specs.declared.faults.SettleFault.{SettleFault}
 use Rattle.stream_manager.specs.declared.faults.SettleFault.TheVariants as settle
 use Rattle.stamp_types.specs.Changes.{KeyedAct}
+use Rattle.partition_stream.specs.declared.faults.CompactionFault.{CompactionFault}
+use Rattle.partition_stream.specs.declared.faults.CompactionFault.TheVariants as compaction
 use Rattle.partition_stream.specs.declared.faults.LogFault.{LogFault}
 use Rattle.partition_stream.specs.declared.faults.LogFault.TheVariants as log
 use Rattle.partition_stream.specs.declared.faults.PutFault.{PutFault}
@@ -33,6 +35,12 @@ stored_fault_of_read read.NoMemory = stored.NoMemory
 abbrev pub stored_fault_of_put : PutFault → StoredFault
 stored_fault_of_put put.Busy = stored.Busy
 stored_fault_of_put put.NoMemory = stored.NoMemory
+
+-- the fault of a compaction whose content was not moved
+abbrev pub stored_fault_of_compaction : CompactionFault → StoredFault
+stored_fault_of_compaction compaction.Busy = stored.Busy
+stored_fault_of_compaction compaction.Unreachable = stored.Busy
+stored_fault_of_compaction compaction.NoMemory = stored.NoMemory
 
 -- the fault of a settle or a seal that failed
 abbrev pub stored_fault_of_settle : SettleFault → StoredFault

@@ -1,4 +1,5 @@
 pub mod Checkpoints
+pub mod Compactions
 pub mod Counting
 pub mod Faults
 pub mod Fitting

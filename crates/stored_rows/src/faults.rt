@@ -2,7 +2,7 @@
 ghost use Rattle.std.specs.Prelude.{◌≡◌};
 
 use extent_seal::ReadFault;
-use partition_stream::PutFault;
+use partition_stream::{CompactionFault, PutFault};
 use std::alloc::AllocError;
 use stream_manager::SettleFault;
 
@@ -17,7 +17,7 @@ pub enum TakeFault {
     NoMemory,
 }
 
-/// Why rows were not loaded, settled, sealed, cut or written as a checkpoint.
+/// Why rows were not loaded, settled, sealed, cut, written as a checkpoint or compacted.
 #[derive(Clone, Copy, PartialEq, Eq)]
 pub enum StoredFault {
     /// No node that was needed answered.
@@ -64,6 +64,20 @@ impl From<PutFault> for StoredFault {
         match fault {
             PutFault::Busy => Self::Busy,
             PutFault::NoMemory => Self::NoMemory,
+        }
+    }
+}
+
+impl From<CompactionFault> for StoredFault {
+    ghost use Rattle.std.specs.Prelude.{◌≡◌};
+    ghost use Rattle.stored_rows.specs.Faults.{stored_fault_of_compaction};
+
+    ghost from_gives = { λ f e. e ≡ stored_fault_of_compaction f };
+
+    fn from(fault: CompactionFault) -> Self {
+        match fault {
+            CompactionFault::Busy | CompactionFault::Unreachable => Self::Busy,
+            CompactionFault::NoMemory => Self::NoMemory,
         }
     }
 }

@@ -1,6 +1,7 @@
 //! The rows of a range of keys that streams keep, and that are in memory while they are loaded.
 #![tactic(auto)]
 
+mod compacted;
 mod cutting;
 mod faults;
 mod key_range;
@@ -9,7 +10,9 @@ mod loading;
 mod logging;
 mod noting;
 mod stored_rows;
+mod waste;
 
+pub use compacted::Compacted;
 pub use faults::{Ended, StoredFault, TakeFault};
 pub use key_range::KeyRange;
 pub use laws::{

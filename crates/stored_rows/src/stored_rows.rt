@@ -2,7 +2,9 @@
 ghost use Rattle.std.specs.Prelude.{◌≡◌};
 
 mod checkpoint;
+mod compact;
 mod repair;
+mod wasting;
 
 use crate::cutting::{ends_of, share_upper};
 use crate::faults::{Ended, StoredFault, TakeFault};
@@ -10,6 +12,7 @@ use crate::key_range::KeyRange;
 use crate::loading::rows_of;
 use crate::logging::put_and_log;
 use crate::noting::{note, note_loaded, note_sealed, note_settled};
+use crate::waste::{Waste, list_of, list_size, recounted, weigh};
 use extent_node::Wire;
 use extent_seal::ReadFault;
 use partition_stream::{Part, Streams};
@@ -30,6 +33,8 @@ pub struct StoredRows {
     range: KeyRange,
     // The change that is in doubt, as the log may keep it.
     doubt: Option<Change>,
+    // What the streams have, and what exists of it. It is not seen in contracts.
+    waste: Waste,
 }
 
 impl Model for StoredRows {
@@ -86,6 +91,7 @@ impl StoredRows {
             rows: Some(Rows::new(alloc)),
             range,
             doubt: None,
+            waste: Waste::none(),
         }
     }
 
@@ -222,6 +228,25 @@ impl StoredRows {
         make_answer(self.alloc, &mut self.streams, frame, spans, wire)
     }
 
+    // Puts the content of a change into the data, logs the change, and then makes it in the rows that are loaded.
+    fn take_change<W: Wire>(
+        &mut self,
+        change: Change,
+        epoch: u64,
+        wire: &mut W,
+    ) -> Result<(), TakeFault>
+        requires covered { covers self.old.range change.key ≡ true }
+        requires plain { is_row change.act ≡ false }
+        requires held { IfSome (content_of change.act) (λ ps. IsTrue (is_held ps)) }
+        requires fits { IsTrue (fits (part_value pieces_len (pieces_of self.old change.key)) change.act) }
+        requires sure { doubt_of self.old ≡ None }
+        ensures taken { IsTaken result self.old (change, epoch) self.new }
+        ensures counted { FailsTake result (W.faults wire.old) (W.faults wire.new) }
+    {
+        let logged = put_and_log(&mut self.streams, change, epoch, wire);
+        note(self.alloc, &mut self.rows, &mut self.doubt, logged)
+    }
+
     /// Puts the content of a change into the data, logs the change with its epoch, and then makes it in the rows that are loaded. No byte is
     /// copied.
     ///
@@ -241,8 +266,12 @@ impl StoredRows {
         ensures taken { IsTaken result self.old (change, epoch) self.new }
         ensures counted { FailsTake result (W.faults wire.old) (W.faults wire.new) }
     {
-        let logged = put_and_log(&mut self.streams, change, epoch, wire);
-        note(self.alloc, &mut self.rows, &mut self.doubt, logged)
+        let weighed = weigh(self.alloc, &self.rows, &change);
+        let list = list_of(&change);
+        let taken = self.take_change(change, epoch, wire);
+        let listed = list_size(&self.rows, &list);
+        self.waste = self.waste.after(weighed, listed, taken);
+        taken
     }
 
     /// Makes the rows of the changes that the streams keep, if they are not loaded.
@@ -259,7 +288,9 @@ impl StoredRows {
             return Ok(());
         }
         let made = rows_of(self.alloc, &self.streams, &self.range, wire);
-        note_loaded(&mut self.rows, made)
+        let loaded = note_loaded(&mut self.rows, made);
+        self.waste = recounted(self.alloc, self.waste, &self.rows);
+        loaded
     }
 
     /// Drops the rows that are in memory. A change that is in doubt stays in doubt.
@@ -312,12 +343,15 @@ impl StoredRows {
         match share_upper(&mut self.streams, &mut self.rows, &middle) {
             Ok((streams, rows)) => {
                 self.range.to = Some(middle);
+                let waste = recounted(self.alloc, self.waste, &rows);
+                self.waste = recounted(self.alloc, self.waste, &self.rows);
                 Ok(Self {
                     alloc: self.alloc,
                     streams,
                     rows,
                     range: upper,
                     doubt: None,
+                    waste,
                 })
             }
             Err(AllocError) => Err(StoredFault::NoMemory),

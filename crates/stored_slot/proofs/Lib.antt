@@ -1,4 +1,5 @@
 pub mod AnswerLemmas
+pub mod CompactLemmas
 pub mod DecisionLemmas
 pub mod HalfLemmas
 pub mod KeepLemmas

@@ -3,6 +3,7 @@
 
 mod answering;
 mod changing;
+mod compacting;
 mod cutting;
 mod deciding;
 mod keeping;

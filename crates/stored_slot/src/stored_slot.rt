@@ -14,6 +14,8 @@ ghost use Rattle.tickets.specs.declared.answer.Answer.TheVariants as answer;
 ghost use Rattle.stored_slot.specs.Served.{Faulted, SlotServes};
 ghost use Rattle.stored_slot.specs.Settled.{CutsSettled, LeavesRepaired, LeavesSettled, SettlesOrFails};
 
+mod compact;
+
 use crate::cutting::cutting;
 use crate::keeping::{checkpointing, loading, repairing, sealing};
 use crate::serving::serving;

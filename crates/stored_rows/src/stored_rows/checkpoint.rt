@@ -42,7 +42,10 @@ impl StoredRows {
             unreachable!();
         };
         match checkpoint_rows(self.alloc, &mut self.streams, rows, extent_bytes, wire) {
-            Ok(replaced) => Ok(replaced),
+            Ok(replaced) => {
+                self.waste = self.waste.after_checkpoint();
+                Ok(replaced)
+            }
             Err(fault) => Err(StoredFault::from(fault)),
         }
     }

@@ -34,6 +34,10 @@ pub returns-in-Checkpoint-clause-taken : goal.returns-in-Checkpoint-clause-taken
 returns-in-Checkpoint-clause-taken g c = λ s stands.
     subst (λ (x : Step). (s' : State) × (Takes s x (has_faults (g.W.Wire.faults c.args.wire.now) (g.W.Wire.faults c.tend-in-Checkpoint.new.wire)) c.tend-in-Checkpoint.result s' × StandsFor c.tend-in-Checkpoint.new.self s')) (sym c.in-Checkpoint.is) (c.tend-in-Checkpoint.ensures.taken s stands)
 
+pub returns-in-Compact-clause-taken : goal.returns-in-Compact-clause-taken
+returns-in-Compact-clause-taken g c = λ s stands.
+    subst (λ (x : Step). (s' : State) × (Takes s x (has_faults (g.W.Wire.faults c.args.wire.now) (g.W.Wire.faults c.tend-in-Compact.new.wire)) c.tend-in-Compact.result s' × StandsFor c.tend-in-Compact.new.self s')) (sym c.in-Compact.is) (c.tend-in-Compact.ensures.taken s stands)
+
 pub returns-in-Unload-clause-taken : goal.returns-in-Unload-clause-taken
 returns-in-Unload-clause-taken g c = λ s stands.
     subst (λ (x : Step). (s' : State) × (Takes s x (has_faults (g.W.Wire.faults c.args.wire.now) (g.W.Wire.faults c.tend-in-Unload.new.wire)) c.tend-in-Unload.result s' × StandsFor c.tend-in-Unload.new.self s')) (sym c.in-Unload.is) (c.tend-in-Unload.ensures.taken s stands)

@@ -8,7 +8,7 @@ use Rattle.stored_rows.specs.Ranges.{covers}
 use Rattle.stored_rows.specs.States.{IsTaken, Stored, doubt_of, pieces_of}
 use Rattle.stored_rows.specs.declared.faults.TakeFault.{TakeFault}
 use Rattle.stored_rows.proofs.NotedLemmas.{logged_fits, noted_fails, noted_loaded, noted_taken}
-use Rattle.stored_rows.proofs.stored_rows.StoredRows.take.Goals as goal
+use Rattle.stored_rows.proofs.stored_rows.StoredRows.take_change.Goals as goal
 
 pub note-requires : goal.note-requires
 note-requires g c =

@@ -1,0 +1,13 @@
+//! Whether streams have more bytes to which nothing refers than bytes that exist.
+
+use super::StoredRows;
+
+impl StoredRows {
+    /// Whether the bytes of the streams to which no container refers are more than the bytes that exist and 16 MiB, so that a compaction is
+    /// worth its time. Content and records are counted, a record by an estimate.
+    ///
+    /// No answer depends on it. It is counted as changes are taken, and again from the rows when they are loaded or cut.
+    pub fn is_wasteful(&self) -> bool {
+        self.waste.is_wasteful()
+    }
+}
