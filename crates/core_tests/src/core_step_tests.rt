@@ -177,6 +177,58 @@ fn makes_a_checkpoint(rt: &impl Abort, alloc: Global, driven: &mut Driven) {
     assert!(rt; begins(rt, alloc, driven, CREATE, CONFLICT));
 }
 
+// A compaction settles first, as a checkpoint does. It is Busy if a row is refused twice, and the container is kept.
+fn makes_a_compaction(rt: &impl Abort, alloc: Global, driven: &mut Driven) {
+    begin_a_doubt(rt, alloc, driven);
+    give(rt, alloc, driven, &[], &SILENT_TWICE);
+    assert!(rt; tended(alloc, driven, 0, Care::Compact) == Some(StepFault::Busy));
+    assert!(rt; says(rt, alloc, driven, CREATE, "Refused by rule N1."));
+    assert!(rt; tended(alloc, driven, 0, Care::Compact).is_none());
+    assert!(rt; begins(rt, alloc, driven, PUT, CREATED));
+    assert!(rt; tended(alloc, driven, 0, Care::Compact).is_none());
+    assert!(rt; ends(rt, alloc, driven, GET, b"\r\n\r\nhello"));
+    give(rt, alloc, driven, &[R, R, R, R, R, R], &[]);
+    assert!(rt; tended(alloc, driven, 0, Care::Compact) == Some(StepFault::Busy));
+    assert!(rt; ends(rt, alloc, driven, GET, b"\r\n\r\nhello"));
+}
+
+// A ticket reads the old data, also if its blob is written again and the slot is compacted.
+fn reads_the_old_data(rt: &impl Abort, alloc: Global, driven: &mut Driven) {
+    keep_a_ticket(rt, alloc, driven);
+    assert!(rt; begins(rt, alloc, driven, PUT_WORLD, CREATED));
+    assert!(rt; tended(alloc, driven, 0, Care::Compact).is_none());
+    assert!(rt; ends(rt, alloc, driven, GET, b"\r\n\r\nworld"));
+    let content = fetched(rt, alloc, driven, 0).expect(rt, "a reply");
+    assert!(rt; content.as_slice() == b"hello".as_slice());
+}
+
+// Each Put Blob of five bytes wastes the five bytes before it and a record.
+fn puts_again(rt: &impl Abort, alloc: Global, driven: &mut Driven, count: usize) {
+    for _put in 0..count {
+        assert!(rt; begins(rt, alloc, driven, PUT, CREATED));
+    }
+}
+
+// Some 32,000 of them waste 16 MiB. Nothing is compacted before.
+fn compacts_if_it_is_due(rt: &impl Abort, alloc: Global, driven: &mut Driven) {
+    assert!(rt; begins(rt, alloc, driven, CREATE, CREATED));
+    puts_again(rt, alloc, driven, 31_000);
+    assert!(rt; !driven.core.is_wasteful());
+    assert!(rt;
+        driven
+            .core
+            .compact_wasteful(alloc, &mut driven.wire)
+            .is_none()
+    );
+    puts_again(rt, alloc, driven, 2_000);
+    assert!(rt; driven.core.is_wasteful());
+    let compacted = driven.core.compact_wasteful(alloc, &mut driven.wire);
+    assert!(rt; compacted.is_some());
+    drop(compacted);
+    assert!(rt; !driven.core.is_wasteful());
+    assert!(rt; ends(rt, alloc, driven, GET, b"\r\n\r\nhello"));
+}
+
 // The container of a split: their names rise, and have three digits.
 fn split_at(rt: &impl Abort, alloc: Global, driven: &mut Driven, slot: usize) -> Option<StepFault> {
     let name = format!(in alloc; "k{}", 100 + slot).expect(rt, "memory");
@@ -247,6 +299,24 @@ fn a_repair_gives_a_node_its_copy(rt: HostRuntime) {
 fn a_checkpoint_settles_its_slot_first(rt: HostRuntime) {
     let mut driven = empty_core(&rt, rt.alloc());
     makes_a_checkpoint(&rt, rt.alloc(), &mut *driven);
+}
+
+#[test]
+fn a_compaction_settles_its_slot_first(rt: HostRuntime) {
+    let mut driven = empty_core(&rt, rt.alloc());
+    makes_a_compaction(&rt, rt.alloc(), &mut *driven);
+}
+
+#[test]
+fn a_ticket_keeps_what_it_reads_over_a_compaction(rt: HostRuntime) {
+    let mut driven = empty_core(&rt, rt.alloc());
+    reads_the_old_data(&rt, rt.alloc(), &mut *driven);
+}
+
+#[test]
+fn a_core_compacts_once_enough_is_wasted(rt: HostRuntime) {
+    let mut driven = empty_core(&rt, rt.alloc());
+    compacts_if_it_is_due(&rt, rt.alloc(), &mut *driven);
 }
 
 #[test]

@@ -33,6 +33,8 @@ mod split_tests;
 #[cfg(test)]
 mod stored_checkpoint_tests;
 #[cfg(test)]
+mod stored_compaction_tests;
+#[cfg(test)]
 mod stored_repair_tests;
 #[cfg(test)]
 mod stored_samples;

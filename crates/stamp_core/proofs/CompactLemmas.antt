@@ -81,9 +81,14 @@ module _ (c seen : CoreState) (same : c ≡ seen) (F : Type 0) (slots' : List Sl
   compacts_taken b failed (Some x) is s stands =
       let made = tend_at_core F b failed c seen same is.0 care.Compact (Ok outcome.Made) slots' is.1 s stands in
       (made.0, ((is.0, made.1.0), made.1.1))
-  compacts_taken b failed None (inl is) s stands =
-      (s, (inl refl, subst (λ (hs : List SlotState). StandsFor (record { slots = hs; points = c.points; tickets = c.tickets }) s) (sym is)
-          (subst (λ (x : CoreState). StandsFor x s) (sym same) stands)))
+  compacts_taken b failed None (inl is) s stands = (
+    s,
+    (
+      inl refl,
+      subst (λ (hs : List SlotState). StandsFor (record { slots = hs; points = c.points; tickets = c.tickets }) s) (sym is)
+          (subst (λ (x : CoreState). StandsFor x s) (sym same) stands),
+    ),
+  )
   compacts_taken b failed None (inr is) s stands =
       let made = tend_at_core F b failed c seen same is.0 care.Compact is.1.0 slots' is.1.1 s stands in
       (made.0, (inr (is.0, (is.1.0, made.1.0)), made.1.1))

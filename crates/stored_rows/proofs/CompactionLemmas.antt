@@ -21,6 +21,7 @@ use Rattle.partition_stream.specs.Counting.{FailsCompaction}
 use Rattle.partition_stream.specs.Meanings.{acts_on, meaning}
 use Rattle.partition_stream.specs.Positions.{all_changes}
 use Rattle.partition_stream.specs.Streams.{ThreeStreams, logged}
+use Rattle.partition_stream.specs.declared.checkpoint.Replaced.{Replaced}
 use Rattle.partition_stream.specs.declared.faults.CompactionFault.{CompactionFault}
 use Rattle.partition_stream.specs.declared.faults.CompactionFault.TheVariants as compaction
 use Rattle.partition_stream.proofs.MeaningLemmas.{no_part_read}
@@ -32,6 +33,7 @@ use Rattle.stored_rows.specs.Fitting.{AllFit, FitInTurn}
 use Rattle.stored_rows.specs.Loaded.{AreLoaded}
 use Rattle.stored_rows.specs.Ranges.{covers}
 use Rattle.stored_rows.specs.States.{Stored, bytes_of}
+use Rattle.stored_rows.specs.declared.compacted.Compacted.{Compacted}
 use Rattle.stored_rows.specs.declared.faults.StoredFault.{StoredFault}
 use Rattle.stored_rows.specs.declared.faults.StoredFault.TheVariants as stored
 use Rattle.stored_rows.specs.declared.key_range.KeyRange.{KeyRange}
@@ -230,3 +232,20 @@ module _ {T : Type 0} (r : Result T StoredFault) (n : ℕ) (s t u : Stored) (loa
       by : (q : Result T StoredFault) → OnErr q ((u ≡ t) ⊎ IsCheckpointed t u) → OnErr q (IsLeft s u)
       by (Ok x) h = tt
       by (Err e) h = left_before n s u (subst (λ v. (u ≡ v) ⊎ IsCheckpointed v u) loaded h)
+
+-- ---- what was replaced
+
+pub written_old : (r : Result Compacted StoredFault) (s t : Stored) (old : Replaced) → (old.log ≡ s.streams.log) × (old.rows ≡ s.streams.rows) → t.streams.blobs ≡ s.streams.blobs
+    → IfOk r (λ c. (c.replaced ≡ old) × (c.streams ≡ t.streams)) → IfOk r (λ c. HasOld c.replaced.log c.replaced.rows c.streams s)
+written_old (Ok c) s t old is blobs given = record {
+  log_is = ap (λ (x : Replaced). x.log) given.0 ∙ is.0;
+  rows_are = ap (λ (x : Replaced). x.rows) given.0 ∙ is.1;
+  blobs_are = ap (λ (x : ThreeStreams). x.blobs) given.1 ∙ blobs;
+}
+written_old (Err e) s t old is blobs given = tt
+
+pub loaded_old : (r : Result Compacted StoredFault) (s t : Stored) → t ≡ in_memory s → IfOk r (λ c. HasOld c.replaced.log c.replaced.rows c.streams t) → IfOk r (λ c. HasOld c.replaced.log c.replaced.rows c.streams s)
+loaded_old (Ok c) s t same is =
+    let own : HasOld c.replaced.log c.replaced.rows c.streams (in_memory s) = subst (HasOld c.replaced.log c.replaced.rows c.streams) same is in
+    record { log_is = own.log_is; rows_are = own.rows_are; blobs_are = own.blobs_are }
+loaded_old (Err e) s t same is = tt

@@ -57,6 +57,8 @@ mod stored_answer_tests;
 #[cfg(test)]
 mod stored_checkpoint_tests;
 #[cfg(test)]
+mod stored_compaction_tests;
+#[cfg(test)]
 mod stored_samples;
 #[cfg(test)]
 mod stored_tests;

@@ -130,6 +130,10 @@ fn put_block_list_of(rt: &impl Abort, alloc: Global, entries: Items<Taken>) -> A
     })
 }
 
+pub(crate) fn put_no_blocks(rt: &impl Abort, alloc: Global) -> Act {
+    put_block_list_of(rt, alloc, Items::new(Vec::new(alloc)))
+}
+
 pub(crate) fn put_block_list(rt: &impl Abort, alloc: Global) -> Act {
     put_block_list_of(rt, alloc, entries(rt, alloc))
 }

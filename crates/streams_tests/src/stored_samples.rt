@@ -166,6 +166,12 @@ pub(crate) fn checkpoint(rt: &impl Abort, stored: &mut StoredRows, wire: &mut Sc
     told(stored.checkpoint(1_000_000, wire).map(drop))
 }
 
+/// Puts what exists into new streams.
+pub(crate) fn compact(rt: &impl Abort, stored: &mut StoredRows, wire: &mut Script) -> Told {
+    assert!(rt; !stored.has_doubt());
+    told(stored.compact(1_000_000, wire).map(drop))
+}
+
 /// Cuts the rows at the key of the container of this name. `None` if that was Busy.
 pub(crate) fn cut(
     rt: &impl Abort,

@@ -25,11 +25,7 @@ impl<H: Histories> Core<H> {
     ///
     /// `None` if no slot is wasteful, or if the compaction failed: nodes that were needed did not answer, or memory ran out. Then nothing is
     /// changed, except that a doubt may have ended. The slot is then tried again once as many bytes more are wasted.
-    pub fn compact_wasteful<W: Wire>(
-        &mut self,
-        alloc: Global,
-        wire: &mut W,
-    ) -> Option<Compacted>
+    pub fn compact_wasteful<W: Wire>(&mut self, alloc: Global, wire: &mut W) -> Option<Compacted>
         ensures compacted { CompactsFirst result self.old.slots (Faulted (W.faults wire.old) (W.faults wire.new)) self.new.slots }
         ensures points { self.new.points ≡ self.old.points }
         ensures tickets { self.new.tickets ≡ self.old.tickets }
