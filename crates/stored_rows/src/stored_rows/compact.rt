@@ -8,7 +8,7 @@ use extent_node::Wire;
 use partition_stream::{Replaced, Streams};
 
 impl StoredRows {
-    ghost use Rattle.std.specs.Prelude.{◌≡◌, ◌×◌, ◌⊎◌, true, None, IfOk, OnOk, OnErr};
+    ghost use Rattle.std.specs.Prelude.{◌≡◌, ◌⊎◌, true, None, IfOk, OnOk, OnErr};
     ghost use Rattle.extent_seal.specs.Counting.{Grows};
     ghost use Rattle.partition_stream.specs.Compactions.{AreRows};
     ghost use Rattle.stored_rows.specs.Compactions.{HasOld, IsCheckpointed, IsCompacted, IsLeft, IsMoved, KeepsTheRange};

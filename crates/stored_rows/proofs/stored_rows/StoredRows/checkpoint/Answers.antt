@@ -4,9 +4,8 @@ use Rattle.partition_stream.specs.Streams.{logged}
 use Rattle.stored_rows.specs.Checkpoints.{IsWrittenAnew, MeansTheRange}
 use Rattle.stored_rows.specs.Loaded.{AreRowsOf}
 use Rattle.stored_rows.specs.States.{Stored, doubt_of}
-use Rattle.stored_rows.proofs.CheckpointLemmas.{if_err, if_ok, kept_loaded, means_range, rows_stored, rows_writable, written_anew}
+use Rattle.stored_rows.proofs.CheckpointLemmas.{kept_loaded, means_range, rows_stored, rows_writable, written_anew}
 use Rattle.stored_rows.proofs.stored_rows.StoredRows.checkpoint.Goals as goal
-use Rattle.stored_rows.proofs.stored_rows.StoredRows.checkpoint.Goals.{in-Ok, in-Err}
 
 pub checkpoint_rows-requires-clause-writable : goal.checkpoint_rows-requires-clause-writable
 checkpoint_rows-requires-clause-writable g c =
@@ -26,26 +25,18 @@ invariant_of-self g c =
     kept_loaded c.checkpoint_rows.result c.self.inside.streams c.checkpoint_rows.new.streams c.self.inside.range c.self.inside.rows c.in-Some.rows c.self.inside.doubt c.in-Some.is c.self.invariant none
     c.checkpoint_rows.ensures.doubt c.checkpoint_rows.ensures.meaning c.checkpoint_rows.ensures.rows c.checkpoint_rows.ensures.log c.checkpoint_rows.ensures.same
 
-pub returns-clause-same : goal.returns-clause-same
-returns-clause-same g c =
+pub returns-in-Ok-clause-same : goal.returns-in-Ok-clause-same
+returns-in-Ok-clause-same g c =
     let new : Stored = record { streams = c.checkpoint_rows.new.streams; range = c.self.inside.range; is_loaded = is_some c.self.inside.rows } in
     let own : AreRowsOf c.self.inside.range c.self.inside.streams c.in-Some.rows =
     subst (λ o. IfSome o (AreRowsOf c.self.inside.range c.self.inside.streams)) c.in-Some.is c.self.invariant.rows in
-    elim c.match-checkpoint_rows.branch [
-      | in-Ok w ↦ if_ok c.match-checkpoint_rows.result _ (MeansTheRange c.args.self.now new) w.result-is
-          (subst (λ (v : Stored). MeansTheRange v new) c.self.view_is
-          (means_range c.self.inside.streams c.checkpoint_rows.new.streams c.self.inside.range c.in-Some.rows own w.in-Ok.ensures.meaning (is_some c.self.inside.rows) c.checkpoint_rows.ensures.blobs))
-      | in-Err w ↦ if_err c.match-checkpoint_rows.result _ (MeansTheRange c.args.self.now new) w.result-is
-    ]
+    subst (λ (v : Stored). MeansTheRange v new) c.self.view_is
+    (means_range c.self.inside.streams c.checkpoint_rows.new.streams c.self.inside.range c.in-Some.rows own c.in-Ok.ensures.meaning (is_some c.self.inside.rows) c.checkpoint_rows.ensures.blobs)
 
-pub returns-clause-written : goal.returns-clause-written
-returns-clause-written g c =
+pub returns-in-Ok-clause-written : goal.returns-in-Ok-clause-written
+returns-in-Ok-clause-written g c =
     let new : Stored = record { streams = c.checkpoint_rows.new.streams; range = c.self.inside.range; is_loaded = is_some c.self.inside.rows } in
     let own : AreRowsOf c.self.inside.range c.self.inside.streams c.in-Some.rows =
     subst (λ o. IfSome o (AreRowsOf c.self.inside.range c.self.inside.streams)) c.in-Some.is c.self.invariant.rows in
-    elim c.match-checkpoint_rows.branch [
-      | in-Ok w ↦ if_ok c.match-checkpoint_rows.result _ (IsWrittenAnew c.args.self.now new) w.result-is
-          (subst (λ (v : Stored). IsWrittenAnew v new) c.self.view_is
-          (written_anew c.self.inside.streams c.checkpoint_rows.new.streams c.self.inside.range c.in-Some.rows own w.in-Ok.ensures.meaning w.in-Ok.ensures.rows w.in-Ok.ensures.log (is_some c.self.inside.rows)))
-      | in-Err w ↦ if_err c.match-checkpoint_rows.result _ (IsWrittenAnew c.args.self.now new) w.result-is
-    ]
+    subst (λ (v : Stored). IsWrittenAnew v new) c.self.view_is
+    (written_anew c.self.inside.streams c.checkpoint_rows.new.streams c.self.inside.range c.in-Some.rows own c.in-Ok.ensures.meaning c.in-Ok.ensures.rows c.in-Ok.ensures.log (is_some c.self.inside.rows))

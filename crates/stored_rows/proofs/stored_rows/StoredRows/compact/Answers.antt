@@ -1,3 +1,5 @@
+use Rattle.std.proofs.Common.{sym, subst}
+use Rattle.stored_rows.specs.Compactions.{KeepsTheRange}
 use Rattle.stored_rows.proofs.CompactionLemmas.{keeps_itself, loaded_compacted, loaded_keeps, loaded_left, loaded_old, stored_later}
 use Rattle.stored_rows.proofs.stored_rows.StoredRows.compact.Goals as goal
 
@@ -17,7 +19,7 @@ pub returns-in-Ok-clause-counted : goal.returns-in-Ok-clause-counted
 returns-in-Ok-clause-counted g c = stored_later c.compact_loaded.result _ _ _ c.in-Ok.ensures.counted c.compact_loaded.ensures.counted
 
 pub returns-in-Err-clause-kept : goal.returns-in-Err-clause-kept
-returns-in-Err-clause-kept g c = keeps_itself c.args.self.now c.load.new.self c.in-Err.ensures.refused
+returns-in-Err-clause-kept g c = subst (KeepsTheRange c.args.self.now) (sym c.self.view_is) (keeps_itself c.args.self.now c.load.new.self c.in-Err.ensures.refused)
 
 pub returns-in-Ok-clause-replaced : goal.returns-in-Ok-clause-replaced
 returns-in-Ok-clause-replaced g c = loaded_old c.compact_loaded.result c.args.self.now c.load.new.self c.in-Ok.ensures.loaded c.compact_loaded.ensures.replaced

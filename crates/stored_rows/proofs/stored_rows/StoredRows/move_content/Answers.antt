@@ -10,8 +10,8 @@ use Rattle.stored_rows.proofs.CompactionLemmas.{moved_fails, moved_loaded, moved
 use Rattle.stored_rows.proofs.NotedLemmas.{stored_at}
 use Rattle.stored_rows.proofs.stored_rows.StoredRows.move_content.Goals as goal
 
-pub compact-requires-clause-rows : goal.compact-requires-clause-rows
-compact-requires-clause-rows g c = subst (λ (v : Stored). AreRows v.streams) (sym c.self.view_is) c.requires.rows
+pub compact-moved-requires-clause-rows : goal.compact-moved-requires-clause-rows
+compact-moved-requires-clause-rows g c = subst (λ (v : Stored). AreRows v.streams) (sym c.self.view_is) c.requires.rows
 
 pub invariant_of-self : goal.invariant_of-self
 invariant_of-self g c =
