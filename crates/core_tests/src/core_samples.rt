@@ -23,6 +23,10 @@ pub(crate) const LIST_FROM_Q: &[u8] =
 pub(crate) const PUT_WORLD: &[u8] =
     b"PUT /devstoreaccount1/pics/a.txt HTTP/1.1\r\nx-ms-date: Mon, 01 Oct 2012 12:00:00 GMT\r\nx-ms-version: 2012-02-12\r\nContent-Length: 5\r\nx-ms-blob-type: BlockBlob\r\nAuthorization: SharedKey devstoreaccount1:d6Z+te/s0/4E59HxWmnrHiDmMywuU/tdYZOanDvfbmU=\r\n\r\nworld";
 
+/// The head of a Put Blob of 768 KiB under `a.txt`.
+pub(crate) const PUT_MORE: &[u8] =
+    b"PUT /devstoreaccount1/pics/a.txt HTTP/1.1\r\nx-ms-date: Mon, 01 Oct 2012 12:00:00 GMT\r\nx-ms-version: 2012-02-12\r\nContent-Length: 786432\r\nx-ms-blob-type: BlockBlob\r\nAuthorization: SharedKey devstoreaccount1:okVdVr3/03AIAeHGa4f4Cm3lD6PU4gOoOJOmZaFacx4=\r\n\r\n";
+
 /// A core that answers each request by its steps. The tickets that it gives are fetched at once, but for those that are to be kept.
 #[derive(Drop)]
 pub(crate) struct Driven {

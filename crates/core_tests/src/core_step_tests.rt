@@ -1,7 +1,8 @@
 //! Steps of a core under written deliveries: splits, tickets, doubts, and what is done to one slot.
 
 use crate::core_samples::{
-    DELETE, Driven, LIST_FROM_Q, PUT_WORLD, empty_core, fetched, give, not_fetched, split, tended,
+    DELETE, Driven, LIST_FROM_Q, PUT_MORE, PUT_WORLD, empty_core, fetched, give, not_fetched,
+    split, tended,
 };
 use crate::requests::{
     CREATE, CREATE_LATER, CREATED, GET, GET_B, GET_BY_POLICY, LIST, MISSING, PUT, PUT_BLOCK,
@@ -202,17 +203,27 @@ fn reads_the_old_data(rt: &impl Abort, alloc: Global, driven: &mut Driven) {
     assert!(rt; content.as_slice() == b"hello".as_slice());
 }
 
-// Each Put Blob of five bytes wastes the five bytes before it and a record.
+// A Put Blob of 768 KiB under `a.txt`.
+fn put_more(rt: &impl Abort, alloc: Global) -> Vec<u8> {
+    let mut request = PUT_MORE.to_vec(alloc).expect(rt, "memory");
+    let body = vec![in alloc; 7u8; 786_432].expect(rt, "memory");
+    request
+        .extend_from_slice(body.as_slice())
+        .expect(rt, "memory");
+    request
+}
+
 fn puts_again(rt: &impl Abort, alloc: Global, driven: &mut Driven, count: usize) {
+    let request = put_more(rt, alloc);
     for _put in 0..count {
-        assert!(rt; begins(rt, alloc, driven, PUT, CREATED));
+        assert!(rt; begins(rt, alloc, driven, request.as_slice(), CREATED));
     }
 }
 
-// Some 32,000 of them waste 16 MiB. Nothing is compacted before.
+// Each Put Blob but the last wastes 768 KiB, so 23 of them waste more than the 16 MiB and the blob that exists. Nothing is compacted before.
 fn compacts_if_it_is_due(rt: &impl Abort, alloc: Global, driven: &mut Driven) {
     assert!(rt; begins(rt, alloc, driven, CREATE, CREATED));
-    puts_again(rt, alloc, driven, 31_000);
+    puts_again(rt, alloc, driven, 22);
     assert!(rt; !driven.core.is_wasteful());
     assert!(rt;
         driven
@@ -220,12 +231,13 @@ fn compacts_if_it_is_due(rt: &impl Abort, alloc: Global, driven: &mut Driven) {
             .compact_wasteful(alloc, &mut driven.wire)
             .is_none()
     );
-    puts_again(rt, alloc, driven, 2_000);
+    puts_again(rt, alloc, driven, 2);
     assert!(rt; driven.core.is_wasteful());
     let compacted = driven.core.compact_wasteful(alloc, &mut driven.wire);
     assert!(rt; compacted.is_some());
     drop(compacted);
     assert!(rt; !driven.core.is_wasteful());
+    assert!(rt; begins(rt, alloc, driven, PUT, CREATED));
     assert!(rt; ends(rt, alloc, driven, GET, b"\r\n\r\nhello"));
 }
 

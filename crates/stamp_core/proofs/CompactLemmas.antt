@@ -28,9 +28,9 @@ pub slot_compacted : {T : Type 0} (h new : SlotState) (old later : Calls) (x : T
     → IsTended care.Compact h (Faulted old later) (Ok outcome.Made) new
 slot_compacted {T} h new old later x left counted = leaves_cared h new old later {T = T} care.Compact refl (Ok x) left counted
 
-pub slot_failed : {T : Type 0} (h new : SlotState) (old later : Calls) (e : StoredFault) → LeavesSettled {T = T} (Err e) h new → FailsStored {T = T} (Err e) old later
+pub slot_failed : (T : Type 0) (h new : SlotState) (old later : Calls) (e : StoredFault) → LeavesSettled {T = T} (Err e) h new → FailsStored {T = T} (Err e) old later
     → (r : Answer) × IsTended care.Compact h (Faulted old later) r new
-slot_failed {T} h new old later e left counted = (slot_answer {T = T} (Err e), leaves_cared h new old later {T = T} care.Compact refl (Err e) left counted)
+slot_failed T h new old later e left counted = (slot_answer {T = T} (Err e), leaves_cared h new old later {T = T} care.Compact refl (Err e) left counted)
 
 -- ---- one of the slots
 
