@@ -34,7 +34,7 @@ impl Model for ServedRequest {
     ghost view = { λ r. record { request = r.request; moment = r.moment; keys = r.keys; bound = r.bound } };
 }
 
-/// An entry. The code makes no value of this type: the history exists in proofs alone.
+/// An entry. The code makes no value of this type: the history exists only in proofs.
 pub enum Entry {
     /// The history begins, with the first key pair of each account.
     Opened { pairs: FirstPairs },

@@ -1,4 +1,4 @@
-//! One history of the requests to all slots. It only grows, and it exists in proofs alone: each slot has a word, which is the number of its
+//! One history of the requests to all slots. It only grows, and it exists only in proofs: each slot has a word, which is the number of its
 //! entries.
 ghost use Rattle.std.specs.Prelude.{◌≡◌, ◌+◌, ◌<◌, ◌^◌, ◌∷◌, List, [], MatchBool};
 ghost use mathlib.Core.List.{IsPrefix};
