@@ -8,7 +8,7 @@ ghost use Rattle.stamp_locks.specs.Shown.{IsBack, IsHandledAfter};
 use crate::care::Care;
 use crate::faults::{NoSuchSlot, SplitError, TendFault};
 use crate::table::Table;
-use crate::tending::tend;
+use crate::tending::{ReplacedStreams, tend};
 use access_rules::Keys;
 use extent_node::Wire;
 use range_rows::Reading;
@@ -97,6 +97,24 @@ impl<W: Wire + Drop> Stamp<W> {
         locked.handle_after(alloc, pass, request, &ready, moment)
     }
 
+    // Takes a care of the slot with this number. What was replaced is kept.
+    fn tend_locked<R: Wait>(
+        &self,
+        rt: &R,
+        alloc: Global,
+        slot: usize,
+        care: Care,
+        replaced: &mut Option<ReplacedStreams>,
+    ) -> Result<(), TendFault>
+        ensures { IsTended slot care result }
+    {
+        let table = self.table.read(rt);
+        match table.lock_at(slot) {
+            Some(lock) => tend(&mut lock.lock(rt), alloc, care, replaced),
+            None => Err(TendFault::NoSuchSlot),
+        }
+    }
+
     /// Settles, seals, loads, unloads, compacts or repairs the slot with this number, or makes a checkpoint of it. All but an unload settle
     /// the doubt of the slot first. What a checkpoint or a compaction replaces is dropped after the lock.
     ///
@@ -111,14 +129,7 @@ impl<W: Wire + Drop> Stamp<W> {
         ensures { IsTended slot care result }
     {
         let mut replaced = None;
-        let table = self.table.read(rt);
-        let Some(lock) = table.lock_at(slot) else {
-            return Err(TendFault::NoSuchSlot);
-        };
-        let mut locked = lock.lock(rt);
-        let tended = tend(&mut locked, alloc, care, &mut replaced);
-        drop(locked);
-        drop(table);
+        let tended = self.tend_locked(rt, alloc, slot, care, &mut replaced);
         drop(replaced);
         tended
     }
