@@ -1,6 +1,6 @@
 -- A slot that the core compacts by itself.
-use Rattle.std.proofs.Common.{◌≡◌, ◌⊎◌, ◌<◌, ◌≤◌, inl, inr, ℕ, Bool, true, List, Option, Some, None, refl, sym, ap, ◌∙◌, subst, length, Ok, Err}
-use Rattle.std.specs.Prelude.{IsSome, Result, slice_index_or, slice_set}
+use Rattle.std.proofs.Common.{◌≡◌, ◌<◌, inl, inr, ℕ, Bool, true, List, Option, Some, None, refl, sym, ap, ◌∙◌, subst, length, Ok, Err}
+use Rattle.std.specs.Prelude.{IsSome, slice_index_or, slice_set}
 use Rattle.extent_node.specs.Faults.{Calls}
 use Rattle.stamp_values.specs.declared.key.Key.{Key}
 use Rattle.stamp_types.specs.declared.past.Past.{Past}
@@ -11,9 +11,8 @@ use Rattle.stored_slot.specs.Served.{Faulted}
 use Rattle.stored_slot.specs.Settled as settles
 use Rattle.stored_slot.specs.Settled.{LeavesSettled}
 use Rattle.core_run.specs.Cores.{CoreState, StandsFor, no_slot}
-use Rattle.core_run.specs.Machine.{Answer, Takes}
+use Rattle.core_run.specs.Machine.{Answer}
 use Rattle.core_run.specs.States.{State}
-use Rattle.core_run.specs.declared.step.Step.TheVariants as step
 use Rattle.core_run.specs.declared.step.Outcome.TheVariants as outcome
 use Rattle.core_run.proofs.ChangedCores.{set_same}
 use Rattle.stamp_core.specs.Compactions.{CompactsFirst, IsCompactedSlot, TakesCompact}

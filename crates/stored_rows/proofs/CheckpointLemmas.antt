@@ -145,10 +145,3 @@ kept_loaded (Ok x) s t range o w d is old none now means rows log same =
     let own : AreLoaded s (Some w) d range = subst (λ v. AreLoaded s v d range) is old in
     subst (λ v. AreLoaded t v d range) (sym is) (checkpoint_loaded s t range w own.rows means rows log d own none now)
 kept_loaded (Err f) s t range o w d is old none now means rows log same = subst (λ u. AreLoaded u o d range) (sym same) old
-
--- what is so once a call ended well
-pub if_ok : {T E : Type 0} (r : Result T E) (x : T) (P : Type 0) → r ≡ Ok x → P → OnOk r P
-if_ok r x P is holds = subst (λ q. OnOk q P) (sym is) holds
-
-pub if_err : {T E : Type 0} (r : Result T E) (f : E) (P : Type 0) → r ≡ Err f → OnOk r P
-if_err r f P is = subst (λ q. OnOk q P) (sym is) tt

@@ -1,5 +1,5 @@
 -- Rows of a checkpoint whose content is moved to new data.
-use Rattle.std.proofs.Common.{◌≡◌, ◌∙◌, ◌⊎◌, inl, inr, Bool, true, false, List, [], ◌∷◌, ◌++◌, All, Option, Some, None, IfOk, Result, Ok, Err, is_some, refl, sym, ap, subst, append-nil}
+use Rattle.std.proofs.Common.{◌≡◌, ◌∙◌, ◌⊎◌, inl, inr, Bool, true, false, List, [], ◌∷◌, ◌++◌, All, Option, None, IfOk, Result, Ok, Err, is_some, refl, sym, ap, subst, append-nil}
 use Rattle.std.specs.Prelude.{ℕ, OnErr, OnOk}
 use Rattle.std.specs.FinMap.{entries}
 use Rattle.std.proofs.lemmas.List.Elements.{All-nil, All-cons, All-same}

@@ -1,5 +1,5 @@
 -- What a compaction of stored rows leaves (SOSP 2011, section 5.3: checkpoints).
-use Rattle.std.specs.Prelude.{◌≡◌, ◌⊎◌, ⊤, ℕ, true, false, List, [], Option, None, Result, Ok, Err}
+use Rattle.std.specs.Prelude.{◌≡◌, ◌⊎◌, ℕ, true, false, List, [], Option, None, Result, Ok, Err}
 use Rattle.std.specs.FinMap.{entries}
 use Rattle.stamp_values.specs.declared.key.Key.{Key}
 use Rattle.stamp_types.specs.World.{World, no_part}

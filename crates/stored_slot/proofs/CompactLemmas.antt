@@ -1,5 +1,5 @@
 -- The compaction of a slot: it settles a doubt, and then each container means what it meant.
-use Rattle.std.proofs.Common.{◌≡◌, ◌∙◌, true, List, [], Option, None, Result, Ok, Err, sym, ap, subst}
+use Rattle.std.proofs.Common.{◌≡◌, ◌∙◌, true, [], Option, None, Result, Ok, Err, sym, ap, subst}
 use Rattle.std.specs.Prelude.{ℕ, OnOk}
 use Rattle.partition_stream.specs.Compactions.{HaveLimit}
 use Rattle.partition_stream.specs.Streams.{logged}
