@@ -20,7 +20,7 @@ use Rattle.partition_stream.specs.Contents.{content_at}
 use Rattle.partition_stream.specs.Counting.{FailsCompaction}
 use Rattle.partition_stream.specs.Meanings.{acts_on, meaning}
 use Rattle.partition_stream.specs.Positions.{all_changes}
-use Rattle.partition_stream.specs.Streams.{ThreeStreams, logged}
+use Rattle.partition_stream.specs.Streams.{HaveSameLimits, ThreeStreams, logged}
 use Rattle.partition_stream.specs.declared.checkpoint.Replaced.{Replaced}
 use Rattle.partition_stream.specs.declared.faults.CompactionFault.{CompactionFault}
 use Rattle.partition_stream.specs.declared.faults.CompactionFault.TheVariants as compaction
@@ -39,6 +39,7 @@ use Rattle.stored_rows.specs.declared.faults.StoredFault.TheVariants as stored
 use Rattle.stored_rows.specs.declared.key_range.KeyRange.{KeyRange}
 use Rattle.stored_rows.proofs.CheckpointLemmas.{IsRow, all_rows, rows_fit}
 use Rattle.stored_rows.proofs.CountLemmas.{each_fails, fails_later, grows_twice, puts_fail}
+use Rattle.stored_rows.proofs.LimitLemmas.{limits_equal, limits_itself, limits_twice}
 use Rattle.stored_rows.proofs.NotedLemmas.{stored_at}
 use Rattle.stored_rows.proofs.TakeLemmas.{no_doubt, still_none}
 
@@ -85,10 +86,10 @@ moved_loaded (Err e) s t range v w d old none now rows log same f =
     subst (λ x. AreLoaded t x d range) (sym f) (subst (λ u. AreLoaded u v d range) (sym same) old)
 
 pub moved_means : (r : Result ThreeStreams CompactionFault) (n : ℕ) (s t : ThreeStreams) (range : KeyRange) (b c : Bool) → OnOk r ((key : Key) → meaning (logged t) key ≡ meaning (logged s) key)
-    → OnOk r (AreMovedRecords (laid s.blobs) (all_changes s) (laid t.blobs) (logged t).rows) → OnOk r ((logged t).log ≡ []) → OnOk r (HaveLimit n t)
-    → OnOk (moved_by r) (IsMoved n (stored_at s range b) (stored_at t range c))
-moved_means (Ok o) n s t range b c means rows log limits = record { means = means; rows = rows; log = log; limits = limits; range = refl }
-moved_means (Err e) n s t range b c means rows log limits = tt
+    → OnOk r (AreMovedRecords (laid s.blobs) (all_changes s) (laid t.blobs) (logged t).rows) → OnOk r ((logged t).log ≡ []) → HaveLimit n s → OnOk r (HaveLimit n t)
+    → OnOk (moved_by r) (IsMoved (stored_at s range b) (stored_at t range c))
+moved_means (Ok o) n s t range b c means rows log old limits = record { means = means; rows = rows; log = log; limits = limits_equal n s t old limits; range = refl }
+moved_means (Err e) n s t range b c means rows log old limits = tt
 
 pub moved_old : (r : Result ThreeStreams CompactionFault) (s : ThreeStreams) → IfOk r (λ old. old ≡ s) → IfOk (moved_by r) (λ old. old ≡ s)
 moved_old (Ok o) s is = is
@@ -119,22 +120,22 @@ stored_grows (Ok x) a b h = h
 stored_grows (Err stored.Busy) a b h = h.1
 stored_grows (Err stored.NoMemory) a b h = h
 
-module _ (n : ℕ) (s t u : Stored) (same : MeansTheRange s t) (written : IsWrittenAnew s t) (blobs : t.streams.blobs ≡ s.streams.blobs) where
+module _ (s t u : Stored) (same : MeansTheRange s t) (written : IsWrittenAnew s t) (blobs : t.streams.blobs ≡ s.streams.blobs) (limits : HaveSameLimits s.streams t.streams) where
   pub checkpoint_keeps : KeepsTheRange s t
-  checkpoint_keeps = record { bytes = same.bytes; range = same.range }
+  checkpoint_keeps = record { bytes = same.bytes; range = same.range; limits = limits }
 
   pub checkpointed : IsCheckpointed s t
   checkpointed = record { same = same; written = written; blobs = blobs }
 
-  module _ (moved : IsMoved n t u) where
+  module _ (moved : IsMoved t u) where
     pub moved_keeps : KeepsTheRange s u
-    moved_keeps = record { bytes = λ key covered. moved.means key ∙ same.bytes key covered; range = moved.range ∙ same.range }
+    moved_keeps = record { bytes = λ key covered. moved.means key ∙ same.bytes key covered; range = moved.range ∙ same.range; limits = limits_twice s.streams t.streams u.streams limits moved.limits }
 
     moved_others : (key : Key) → covers s.range key ≡ false → bytes_of u key ≡ no_part
     moved_others key apart =
         moved.means key ∙ ap (part_value (content_at (laid t.streams.blobs))) (same.others key apart) ∙ no_part_read (content_at (laid t.streams.blobs))
 
-    pub compacted : IsCompacted n s u
+    pub compacted : IsCompacted s u
     compacted = record {
       same = moved_keeps;
       others = moved_others;
@@ -144,35 +145,34 @@ module _ (n : ℕ) (s t u : Stored) (same : MeansTheRange s t) (written : IsWrit
           (only_rows t.streams (all_records (entries written.world)) written.rows written.log)
           (subst (λ b. AreMovedRecords (laid b) (all_changes t.streams) (laid u.streams.blobs) (logged u.streams).rows) blobs moved.rows);
       log = moved.log;
-      limits = moved.limits;
     }
 
 -- both, by what the move answers
-module _ {T : Type 0} (r : Result T StoredFault) (n : ℕ) (s t u : Stored) (same : MeansTheRange s t) (written : IsWrittenAnew s t) (blobs : t.streams.blobs ≡ s.streams.blobs) where
-  pub written_compacted : OnOk r (IsMoved n t u) → OnOk r (IsCompacted n s u)
+module _ {T : Type 0} (r : Result T StoredFault) (s t u : Stored) (same : MeansTheRange s t) (written : IsWrittenAnew s t) (blobs : t.streams.blobs ≡ s.streams.blobs) (limits : HaveSameLimits s.streams t.streams) where
+  pub written_compacted : OnOk r (IsMoved t u) → OnOk r (IsCompacted s u)
   written_compacted moved = by r moved
     where
-      by : (q : Result T StoredFault) → OnOk q (IsMoved n t u) → OnOk q (IsCompacted n s u)
-      by (Ok x) h = compacted n s t u same written blobs h
+      by : (q : Result T StoredFault) → OnOk q (IsMoved t u) → OnOk q (IsCompacted s u)
+      by (Ok x) h = compacted s t u same written blobs limits h
       by (Err e) h = tt
 
-  pub written_keeps : OnOk r (IsMoved n t u) → OnErr r (u ≡ t) → KeepsTheRange s u
+  pub written_keeps : OnOk r (IsMoved t u) → OnErr r (u ≡ t) → KeepsTheRange s u
   written_keeps moved left = by r moved left
     where
-      by : (q : Result T StoredFault) → OnOk q (IsMoved n t u) → OnErr q (u ≡ t) → KeepsTheRange s u
-      by (Ok x) h e = moved_keeps n s t u same written blobs h
-      by (Err f) h e = subst (KeepsTheRange s) (sym e) (checkpoint_keeps n s t u same written blobs)
+      by : (q : Result T StoredFault) → OnOk q (IsMoved t u) → OnErr q (u ≡ t) → KeepsTheRange s u
+      by (Ok x) h e = moved_keeps s t u same written blobs limits h
+      by (Err f) h e = subst (KeepsTheRange s) (sym e) (checkpoint_keeps s t u same written blobs limits)
 
   pub written_left : OnErr r (u ≡ t) → OnErr r ((u ≡ s) ⊎ IsCheckpointed s u)
   written_left left = by r left
     where
       by : (q : Result T StoredFault) → OnErr q (u ≡ t) → OnErr q ((u ≡ s) ⊎ IsCheckpointed s u)
       by (Ok x) e = tt
-      by (Err f) e = inr (subst (IsCheckpointed s) (sym e) (checkpointed n s t u same written blobs))
+      by (Err f) e = inr (subst (IsCheckpointed s) (sym e) (checkpointed s t u same written blobs limits))
 
 -- nothing changed
 pub keeps_itself : (s t : Stored) → t ≡ s → KeepsTheRange s t
-keeps_itself s t same = subst (KeepsTheRange s) (sym same) (record { bytes = λ key covered. refl; range = refl })
+keeps_itself s t same = subst (KeepsTheRange s) (sym same) (record { bytes = λ key covered. refl; range = refl; limits = limits_itself s.streams s.streams refl })
 
 -- ---- rows that are loaded before and after it
 
@@ -183,25 +183,24 @@ load_streams (Err e) s t ok err = (ap (λ (v : Stored). v.streams) err, ap (λ (
 
 module _ (s t u : Stored) (streams : u.streams ≡ t.streams) (range : u.range ≡ t.range) where
   pub keeps_again : KeepsTheRange s t → KeepsTheRange s u
-  keeps_again is = record { bytes = λ key covered. ap (λ (x : ThreeStreams). meaning (logged x) key) streams ∙ is.bytes key covered; range = range ∙ is.range }
+  keeps_again is = record { bytes = λ key covered. ap (λ (x : ThreeStreams). meaning (logged x) key) streams ∙ is.bytes key covered; range = range ∙ is.range; limits = subst (HaveSameLimits s.streams) (sym streams) is.limits }
 
-  pub compacted_again : (n : ℕ) → IsCompacted n s t → IsCompacted n s u
-  compacted_again n is = record {
+  pub compacted_again : IsCompacted s t → IsCompacted s u
+  compacted_again is = record {
     same = keeps_again is.same;
     others = λ key apart. ap (λ (x : ThreeStreams). meaning (logged x) key) streams ∙ is.others key apart;
     world = is.world;
     own = is.own;
     rows = subst (λ (x : ThreeStreams). AreMovedRecords (laid s.streams.blobs) (all_records (entries is.world)) (laid x.blobs) (logged x).rows) (sym streams) is.rows;
     log = subst (λ (x : ThreeStreams). (logged x).log ≡ []) (sym streams) is.log;
-    limits = subst (HaveLimit n) (sym streams) is.limits;
   }
 
 -- rows that were loaded before; t is seen as the rows in memory
-module _ (n : ℕ) (s u : Stored) where
+module _ (s u : Stored) where
   keeps_before : KeepsTheRange (in_memory s) u → KeepsTheRange s u
-  keeps_before is = record { bytes = is.bytes; range = is.range }
+  keeps_before is = record { bytes = is.bytes; range = is.range; limits = is.limits }
 
-  compacted_before : IsCompacted n (in_memory s) u → IsCompacted n s u
+  compacted_before : IsCompacted (in_memory s) u → IsCompacted s u
   compacted_before is = record {
     same = keeps_before is.same;
     others = is.others;
@@ -209,21 +208,20 @@ module _ (n : ℕ) (s u : Stored) where
     own = is.own;
     rows = is.rows;
     log = is.log;
-    limits = is.limits;
   }
 
   left_before : (u ≡ in_memory s) ⊎ IsCheckpointed (in_memory s) u → IsLeft s u
   left_before is = inr is
 
-module _ {T : Type 0} (r : Result T StoredFault) (n : ℕ) (s t u : Stored) (loaded : t ≡ in_memory s) where
+module _ {T : Type 0} (r : Result T StoredFault) (s t u : Stored) (loaded : t ≡ in_memory s) where
   pub loaded_keeps : KeepsTheRange t u → KeepsTheRange s u
-  loaded_keeps is = keeps_before n s u (subst (λ v. KeepsTheRange v u) loaded is)
+  loaded_keeps is = keeps_before s u (subst (λ v. KeepsTheRange v u) loaded is)
 
-  pub loaded_compacted : OnOk r (IsCompacted n t u) → OnOk r (IsCompacted n s u)
+  pub loaded_compacted : OnOk r (IsCompacted t u) → OnOk r (IsCompacted s u)
   loaded_compacted is = by r is
     where
-      by : (q : Result T StoredFault) → OnOk q (IsCompacted n t u) → OnOk q (IsCompacted n s u)
-      by (Ok x) h = compacted_before n s u (subst (λ v. IsCompacted n v u) loaded h)
+      by : (q : Result T StoredFault) → OnOk q (IsCompacted t u) → OnOk q (IsCompacted s u)
+      by (Ok x) h = compacted_before s u (subst (λ v. IsCompacted v u) loaded h)
       by (Err e) h = tt
 
   pub loaded_left : OnErr r ((u ≡ t) ⊎ IsCheckpointed t u) → OnErr r (IsLeft s u)
@@ -231,7 +229,7 @@ module _ {T : Type 0} (r : Result T StoredFault) (n : ℕ) (s t u : Stored) (loa
     where
       by : (q : Result T StoredFault) → OnErr q ((u ≡ t) ⊎ IsCheckpointed t u) → OnErr q (IsLeft s u)
       by (Ok x) h = tt
-      by (Err e) h = left_before n s u (subst (λ v. (u ≡ v) ⊎ IsCheckpointed v u) loaded h)
+      by (Err e) h = left_before s u (subst (λ v. (u ≡ v) ⊎ IsCheckpointed v u) loaded h)
 
 -- ---- what was replaced
 

@@ -5,6 +5,7 @@ pub mod CutLemmas
 pub mod FittingLemmas
 pub mod KeptAsLemmas
 pub mod LawLemmas
+pub mod LimitLemmas
 pub mod LoadLemmas
 pub mod LoggingLemmas
 pub mod NotedLemmas

@@ -1,13 +1,13 @@
 -- What a compaction of stored rows leaves (SOSP 2011, section 5.3: checkpoints).
-use Rattle.std.specs.Prelude.{◌≡◌, ◌⊎◌, ℕ, true, false, List, [], Option, None, Result, Ok, Err}
+use Rattle.std.specs.Prelude.{◌≡◌, ◌⊎◌, true, false, List, [], Option, None, Result, Ok, Err}
 use Rattle.std.specs.FinMap.{entries}
 use Rattle.stamp_values.specs.declared.key.Key.{Key}
 use Rattle.stamp_types.specs.World.{World, no_part}
 use Rattle.stamp_types.specs.declared.piece.Piece.{Piece}
 use Rattle.stream_manager.specs.Streams.{Streamed, laid}
-use Rattle.partition_stream.specs.Compactions.{AreMovedRecords, HaveLimit}
+use Rattle.partition_stream.specs.Compactions.{AreMovedRecords}
 use Rattle.partition_stream.specs.Positions.{all_changes}
-use Rattle.partition_stream.specs.Streams.{ThreeStreams, logged}
+use Rattle.partition_stream.specs.Streams.{HaveSameLimits, ThreeStreams, logged}
 use Rattle.partition_stream.specs.declared.faults.CompactionFault.{CompactionFault}
 use Rattle.checkpoint_rows.specs.Writing.{all_records}
 use Rattle.stored_rows.specs.Checkpoints.{IsWrittenAnew, MeansTheRange}
@@ -17,31 +17,30 @@ use Rattle.stored_rows.specs.Ranges.{covers}
 use Rattle.stored_rows.specs.States.{Stored, bytes_of}
 use Rattle.stored_rows.specs.declared.faults.StoredFault.{StoredFault}
 
--- each container of the range is as it was, in bytes
+-- each container of the range is as it was, in bytes, and extents of two or more blocks may have as many bytes as before
 pub record KeepsTheRange (s t : Stored) : Type 0 where
   pub bytes : (key : Key) → covers s.range key ≡ true → bytes_of t key ≡ bytes_of s key
   pub range : t.range ≡ s.range
+  pub limits : HaveSameLimits s.streams t.streams
 
 -- the content of the rows is moved from the old data to new data: each container is as it was, in bytes, the log has no change, and extents of
--- two or more blocks may have so many bytes
-pub record IsMoved (bytes : ℕ) (s t : Stored) : Type 0 where
+-- two or more blocks may have as many bytes as before
+pub record IsMoved (s t : Stored) : Type 0 where
   pub means : (key : Key) → bytes_of t key ≡ bytes_of s key
   pub rows : AreMovedRecords (laid s.streams.blobs) (all_changes s.streams) (laid t.streams.blobs) (logged t.streams).rows
   pub log : (logged t.streams).log ≡ []
-  pub limits : HaveLimit bytes t.streams
+  pub limits : HaveSameLimits s.streams t.streams
   pub range : t.range ≡ s.range
 
 -- each container of the range is as it was, in bytes, and the streams mean no other container; the rows are those of the containers of the
--- range as the streams meant them, with their content moved from the old data to new data, the log has no change, and extents of two or more
--- blocks may have so many bytes
-pub record IsCompacted (bytes : ℕ) (s t : Stored) : Type 0 where
+-- range as the streams meant them, with their content moved from the old data to new data, and the log has no change
+pub record IsCompacted (s t : Stored) : Type 0 where
   pub same : KeepsTheRange s t
   pub others : (key : Key) → covers s.range key ≡ false → bytes_of t key ≡ no_part
   pub world : World (List Piece)
   pub own : AreRowsOf s.range s.streams world
   pub rows : AreMovedRecords (laid s.streams.blobs) (all_records (entries world)) (laid t.streams.blobs) (logged t.streams).rows
   pub log : (logged t.streams).log ≡ []
-  pub limits : HaveLimit bytes t.streams
 
 -- the log, the rows and the data are the old ones
 pub record HasOld (log rows : Streamed) (replaced : ThreeStreams) (s : Stored) : Type 0 where

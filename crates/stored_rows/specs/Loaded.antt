@@ -6,6 +6,7 @@ use Rattle.stamp_types.specs.Changes.{KeyedAct}
 use Rattle.stamp_types.specs.declared.piece.Piece.{Piece}
 use Rattle.stamp_types.specs.World.{Part, World, changed_in, no_part, part_at, same_pieces}
 use Rattle.partition_stream.specs.Changes.{Recorded}
+use Rattle.partition_stream.specs.Compactions.{HaveLimit}
 use Rattle.partition_stream.specs.Meanings.{acts_on, after_acts}
 use Rattle.partition_stream.specs.Positions.{all_changes, changes_before}
 use Rattle.partition_stream.specs.Streams.{ThreeStreams, logged}
@@ -54,3 +55,8 @@ pub record AreLoaded (s : ThreeStreams) (o : Option (World (List Piece))) (d : O
   pub doubt : FitsDoubt range s
   pub tried : d ≡ doubted s
   pub rows : IfSome o (AreRowsOf range s)
+
+-- what is true of all stored rows: that of `AreLoaded`, and extents of two or more blocks may have so many bytes
+pub record AreLimited (bytes : ℕ) (s : ThreeStreams) (o : Option (World (List Piece))) (d : Option KeyedAct) (range : KeyRange) : Type 0 where
+  pub loaded : AreLoaded s o d range
+  pub limits : HaveLimit bytes s

@@ -3,7 +3,7 @@ ghost use Rattle.std.specs.Prelude.{◌≡◌, IfOk, OnErr, OnOk};
 ghost use Rattle.std.specs.Option.{option_map};
 ghost use Rattle.std.specs.FinMap as finite;
 ghost use Rattle.stamp_values.specs.Trees.{is_below, is_from};
-ghost use Rattle.partition_stream.specs.Streams.{AreSealed, HaveSameBlocks};
+ghost use Rattle.partition_stream.specs.Streams.{AreSealed, HaveSameBlocks, HaveSameLimits};
 
 use crate::key_range::KeyRange;
 use partition_stream::Streams;
@@ -49,6 +49,7 @@ pub(crate) fn share_upper(
     ensures same { streams.new ≡ streams.old }
     ensures shared { IfOk result (λ upper. HaveSameBlocks streams.old upper.0) }
     ensures whole { IfOk result (λ upper. AreSealed upper.0) }
+    ensures limits { IfOk result (λ upper. HaveSameLimits streams.old upper.0) }
     ensures below { OnOk result (rows.new ≡ option_map (λ w. finite.retain_keys w (is_below middle.now)) rows.old) }
     ensures from { IfOk result (λ upper. upper.1 ≡ option_map (λ w. finite.retain_keys w (is_from middle.now)) rows.old) }
     ensures refused { OnErr result (rows.new ≡ rows.old) }

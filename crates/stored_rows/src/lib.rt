@@ -9,7 +9,10 @@ mod laws;
 mod loading;
 mod logging;
 mod noting;
+mod repaired;
+mod sealed;
 mod stored_rows;
+mod unloaded;
 mod waste;
 
 pub use compacted::Compacted;
@@ -19,4 +22,7 @@ pub use laws::{
     a_doubt_is_one_change_or_none, a_load_is_what_the_streams_mean, a_refused_take_changes_nothing,
     a_taken_change_is_one_more,
 };
+pub use repaired::{NoExtent, Repaired, Unrepaired};
+pub use sealed::Sealed;
 pub use stored_rows::StoredRows;
+pub use unloaded::Unloaded;

@@ -7,7 +7,7 @@ ghost use Rattle.stream_manager.specs.Places.{KeepsPlaces};
 ghost use Rattle.stream_manager.specs.Streams.{laid};
 ghost use Rattle.partition_stream.specs.Counting.{FailsPut};
 ghost use Rattle.partition_stream.specs.Storing.{AreKept};
-ghost use Rattle.partition_stream.specs.Streams.{logged};
+ghost use Rattle.partition_stream.specs.Streams.{HaveSameLimits, logged};
 ghost use Rattle.stored_rows.specs.Counting.{FailsLogged};
 ghost use Rattle.stored_rows.specs.Faults.{unlogged_by, unlogged_of_put};
 ghost use Rattle.stored_rows.specs.Logging.{IsPutAt, IsPutAndLogged, with_placed};
@@ -69,6 +69,7 @@ fn put_pieces<W: Wire>(
     ensures places { KeepsPlaces (laid streams.old.blobs) (laid streams.new.blobs) }
     ensures log { streams.new.log ≡ streams.old.log }
     ensures rows { streams.new.rows ≡ streams.old.rows }
+    ensures limit { streams.new.blobs.limit ≡ streams.old.blobs.limit }
     ensures counted { FailsPut result (W.faults wire.old) (W.faults wire.new) }
 {
     match change.content() {
@@ -105,6 +106,7 @@ pub(crate) fn put_and_log<W: Wire>(
     ensures logged { IsPutAndLogged result streams.old (change, epoch) streams.new }
     ensures counted { FailsLogged result (W.faults wire.old) (W.faults wire.new) }
     ensures whole { AreKept streams.old }
+    ensures limits { HaveSameLimits streams.old streams.new }
 {
     streams.kept();
     let pieces = match put_pieces(streams, &change, wire) {

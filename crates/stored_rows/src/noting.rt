@@ -1,10 +1,10 @@
-//! What is done beside the streams once a change was logged or settled, once streams were sealed, and once rows were made.
+//! What is done beside the streams once a change was logged or settled, and once rows were made.
 ghost use Rattle.std.specs.Prelude.{◌≡◌, IfOk, IfSome, IsTrue, None, Some};
 ghost use Rattle.stamp_types.specs.Pieces.{pieces_len};
 ghost use Rattle.stamp_types.specs.World.{part_at, part_value};
 ghost use Rattle.row_trees.specs.Fits.{fits};
 ghost use Rattle.stored_rows.specs.Loaded.{IsFollowed};
-ghost use Rattle.stored_rows.specs.Noting.{IfKept, IsKeptBeside, IsLoadedBeside, IsSettledBeside, ended_by, loaded_by, sealed_by, taken_by};
+ghost use Rattle.stored_rows.specs.Noting.{IfKept, IsKeptBeside, IsLoadedBeside, IsSettledBeside, ended_by, loaded_by, taken_by};
 
 use crate::faults::{Ended, StoredFault, TakeFault};
 use crate::loading::{follow, follow_doubt};
@@ -85,16 +85,6 @@ pub(crate) fn note_settled(
             keep_none(doubt);
             Ok(Ended::Dropped)
         }
-        Err(fault) => Err(StoredFault::from(fault)),
-    }
-}
-
-/// The answer of a seal.
-pub(crate) fn note_sealed(sealed: Result<(), SettleFault>) -> Result<(), StoredFault>
-    ensures { result ≡ sealed_by sealed }
-{
-    match sealed {
-        Ok(()) => Ok(()),
         Err(fault) => Err(StoredFault::from(fault)),
     }
 }

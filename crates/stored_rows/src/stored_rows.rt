@@ -11,7 +11,9 @@ use crate::faults::{Ended, StoredFault, TakeFault};
 use crate::key_range::KeyRange;
 use crate::loading::rows_of;
 use crate::logging::put_and_log;
-use crate::noting::{note, note_loaded, note_sealed, note_settled};
+use crate::noting::{note, note_loaded, note_settled};
+use crate::sealed::{Sealed, note_sealed};
+use crate::unloaded::Unloaded;
 use crate::waste::{Waste, list_of, list_size, recounted, weigh};
 use extent_node::Wire;
 use extent_seal::ReadFault;
@@ -28,6 +30,8 @@ use tickets::{Answer, Unreachable, make_answer};
 pub struct StoredRows {
     alloc: Global,
     streams: Streams,
+    // How many bytes an extent of two or more blocks may have, in each of the streams and in those that take their place.
+    extent_bytes: u32,
     // The rows that the streams mean, while they are loaded.
     rows: Option<Rows>,
     range: KeyRange,
@@ -40,13 +44,13 @@ pub struct StoredRows {
 impl Model for StoredRows {
     ghost use Rattle.std.specs.Option.{is_some};
     ghost use Rattle.stored_rows.specs.States.{Stored};
-    ghost use Rattle.stored_rows.specs.Loaded.{AreLoaded};
+    ghost use Rattle.stored_rows.specs.Loaded.{AreLimited};
 
     ghost Value = { Stored };
 
     ghost view = { λ s. record { streams = s.streams; range = s.range; is_loaded = is_some s.rows } };
 
-    ghost invariant = { λ s. AreLoaded s.streams s.rows s.doubt s.range };
+    ghost invariant = { λ s. AreLimited s.extent_bytes s.streams s.rows s.doubt s.range };
 }
 
 impl StoredRows {
@@ -64,10 +68,11 @@ impl StoredRows {
     ghost use Rattle.stamp_values.specs.declared.key.Key.{Key};
     ghost use Rattle.row_trees.specs.Fits.{commits, fits};
     ghost use Rattle.stream_manager.specs.Streams.{laid};
+    ghost use Rattle.partition_stream.specs.Compactions.{HaveLimit};
     ghost use Rattle.partition_stream.specs.Contents.{AreStored, IsStored, bytes_at};
     ghost use Rattle.partition_stream.specs.Parts.{is_piece_in_last};
     ghost use Rattle.partition_stream.specs.Storing.{AreKept};
-    ghost use Rattle.partition_stream.specs.Streams.{AreSealed};
+    ghost use Rattle.partition_stream.specs.Streams.{AreSealed, HaveSameLimits};
     ghost use Rattle.range_rows.specs.SentContent as sent;
     ghost use Rattle.range_rows.specs.SentContent.{bytes_sent, is_within, span_bytes, spans_len, with_content};
     ghost use Rattle.tickets.specs.Answers.{IsAnswer, IsSpanStored, are_in_last};
@@ -77,17 +82,19 @@ impl StoredRows {
     ghost use Rattle.stored_rows.specs.Ranges.{covers};
     ghost use Rattle.stored_rows.specs.States.{IsHalf, SettlesRows, IsTaken, MeansTheSame, bytes_of, doubt_of, pieces_of};
 
-    /// The rows of a range without a container, which are loaded. Takes no memory.
+    /// The rows of a range without a container, which are loaded. The extents of their streams, and of those that take the place of these
+    /// streams later, have at most `extent_bytes` bytes if they have two or more blocks. Takes no memory.
     pub fn new(alloc: Global, extent_bytes: u32, range: KeyRange) -> Self
         ensures none { (key : Key) → pieces_of result key ≡ no_part }
         ensures sure { doubt_of result ≡ None }
         ensures loaded { result.is_loaded ≡ true }
         ensures range { result.range ≡ range }
-        ensures limits { (result.streams.log.limit ≡ extent_bytes) × ((result.streams.blobs.limit ≡ extent_bytes) × (result.streams.rows.limit ≡ extent_bytes)) }
+        ensures limits { HaveLimit extent_bytes result.streams }
     {
         Self {
             alloc,
             streams: Streams::new(alloc, extent_bytes),
+            extent_bytes,
             rows: Some(Rows::new(alloc)),
             range,
             doubt: None,
@@ -241,6 +248,7 @@ impl StoredRows {
         requires fits { IsTrue (fits (part_value pieces_len (pieces_of self.old change.key)) change.act) }
         requires sure { doubt_of self.old ≡ None }
         ensures taken { IsTaken result self.old (change, epoch) self.new }
+        ensures limits { HaveSameLimits self.old.streams self.new.streams }
         ensures counted { FailsTake result (W.faults wire.old) (W.faults wire.new) }
     {
         let logged = put_and_log(&mut self.streams, change, epoch, wire);
@@ -264,6 +272,7 @@ impl StoredRows {
         requires fits { IsTrue (fits (part_value pieces_len (pieces_of self.old change.key)) change.act) }
         requires sure { doubt_of self.old ≡ None }
         ensures taken { IsTaken result self.old (change, epoch) self.new }
+        ensures limits { HaveSameLimits self.old.streams self.new.streams }
         ensures counted { FailsTake result (W.faults wire.old) (W.faults wire.new) }
     {
         let weighed = weigh(self.alloc, &self.rows, &change);
@@ -293,11 +302,14 @@ impl StoredRows {
         loaded
     }
 
-    /// Drops the rows that are in memory. A change that is in doubt stays in doubt.
-    pub fn unload(&mut self)
-        ensures { self.new ≡ record self.old { is_loaded = false } }
+    /// Takes the rows out of memory, and gives them. A change that is in doubt stays in doubt.
+    pub fn unload(&mut self) -> Unloaded
+        ensures left { self.new ≡ record self.old { is_loaded = false } }
+        ensures rows { MatchOption result.rows (self.old.is_loaded ≡ false) (λ w. (self.old.is_loaded ≡ true) × AreRowsOf self.old.range self.old.streams w) }
     {
-        self.rows = None;
+        Unloaded {
+            rows: self.rows.take(),
+        }
     }
 
     /// Settles a change that is in doubt, if there is one. If it is kept, the rows that are loaded make it.
@@ -306,6 +318,7 @@ impl StoredRows {
     /// After both the doubt is as it was.
     pub fn settle<W: Wire>(&mut self, wire: &mut W) -> Result<Ended, StoredFault>
         ensures settled { SettlesRows result self.old self.new }
+        ensures limits { HaveSameLimits self.old.streams self.new.streams }
         ensures data { self.new.streams.blobs ≡ self.old.streams.blobs }
         ensures counted { FailsStored result (W.faults wire.old) (W.faults wire.new) }
     {
@@ -317,11 +330,12 @@ impl StoredRows {
     /// Seals the streams. Each container is as it was, also after a fault.
     ///
     /// Busy: no node answered the seal of a stream. NoMemory: memory ran out.
-    pub fn seal<W: Wire>(&mut self, wire: &mut W) -> Result<(), StoredFault>
+    pub fn seal<W: Wire>(&mut self, wire: &mut W) -> Result<Sealed, StoredFault>
         requires sure { doubt_of self.old ≡ None }
         ensures same { MeansTheSame self.old self.new }
         ensures doubt { doubt_of self.new ≡ None }
         ensures sealed { OnOk result (AreSealed self.new.streams) }
+        ensures limits { HaveSameLimits self.old.streams self.new.streams }
         ensures counted { FailsStored result (W.faults wire.old) (W.faults wire.new) }
     {
         self.streams.kept();
@@ -337,6 +351,8 @@ impl StoredRows {
         requires upper { upper ≡ record { from = middle; to = self.old.range.to } }
         ensures lower { OnOk result (IsHalf (record self.old.range { to = Some middle }) self.old self.new) }
         ensures upper { IfOk result (λ half. IsHalf upper self.old half) }
+        ensures limits { HaveSameLimits self.old.streams self.new.streams }
+        ensures own_limits { IfOk result (λ half. HaveSameLimits self.old.streams half.streams) }
         ensures refused { OnErr result (MeansTheSame self.old self.new × (doubt_of self.new ≡ None)) }
         ensures memory { result ≢ Err stored_fault.Busy }
     {
@@ -348,6 +364,7 @@ impl StoredRows {
                 Ok(Self {
                     alloc: self.alloc,
                     streams,
+                    extent_bytes: self.extent_bytes,
                     rows,
                     range: upper,
                     doubt: None,
@@ -367,6 +384,8 @@ impl StoredRows {
         requires covered { covers self.old.range middle.now ≡ true }
         ensures lower { OnOk result (IsHalf (record self.old.range { to = Some middle.now }) self.old self.new) }
         ensures upper { IfOk result (λ upper. IsHalf (record { from = middle.now; to = self.old.range.to }) self.old upper) }
+        ensures limits { HaveSameLimits self.old.streams self.new.streams }
+        ensures own_limits { IfOk result (λ upper. HaveSameLimits self.old.streams upper.streams) }
         ensures refused { OnErr result (MeansTheSame self.old self.new × (doubt_of self.new ≡ None)) }
         ensures counted { FailsStored result (W.faults wire.old) (W.faults wire.new) }
     {
@@ -374,7 +393,7 @@ impl StoredRows {
             return Err(StoredFault::NoMemory);
         };
         match self.seal(wire) {
-            Ok(()) => self.halve(end, upper),
+            Ok(_sealed) => self.halve(end, upper),
             Err(fault) => {
                 drop(end);
                 drop(upper);

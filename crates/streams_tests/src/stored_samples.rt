@@ -156,20 +156,20 @@ pub(crate) fn settle(stored: &mut StoredRows, wire: &mut Script) -> Told {
 
 pub(crate) fn seal(rt: &impl Abort, stored: &mut StoredRows, wire: &mut Script) -> Told {
     assert!(rt; !stored.has_doubt());
-    told(stored.seal(wire))
+    told(stored.seal(wire).map(drop))
 }
 
 /// Writes the rows, which are loaded, as a checkpoint.
 pub(crate) fn checkpoint(rt: &impl Abort, stored: &mut StoredRows, wire: &mut Script) -> Told {
     assert!(rt; stored.is_loaded());
     assert!(rt; !stored.has_doubt());
-    told(stored.checkpoint(1_000_000, wire).map(drop))
+    told(stored.checkpoint(wire).map(drop))
 }
 
 /// Puts what exists into new streams.
 pub(crate) fn compact(rt: &impl Abort, stored: &mut StoredRows, wire: &mut Script) -> Told {
     assert!(rt; !stored.has_doubt());
-    told(stored.compact(1_000_000, wire).map(drop))
+    told(stored.compact(wire).map(drop))
 }
 
 /// Cuts the rows at the key of the container of this name. `None` if that was Busy.

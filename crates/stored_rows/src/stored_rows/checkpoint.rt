@@ -9,6 +9,7 @@ use partition_stream::Replaced;
 
 impl StoredRows {
     ghost use Rattle.std.specs.Prelude.{◌≡◌, true, None, IfOk, OnOk, OnErr};
+    ghost use Rattle.partition_stream.specs.Streams.{HaveSameLimits};
     ghost use Rattle.stored_rows.specs.Checkpoints.{IsWrittenAnew, MeansTheRange};
     ghost use Rattle.stored_rows.specs.Counting.{FailsStored};
     ghost use Rattle.stored_rows.specs.States.{doubt_of};
@@ -17,22 +18,17 @@ impl StoredRows {
     /// the log and the rows that were replaced, which may be dropped after a lock. No byte of content is copied.
     ///
     /// Each container of the range stays as it is. Containers of other ranges that the streams had, as the streams of a half have them after
-    /// a cut, are not written again. The extents of the new log and of the new rows have at most `extent_bytes` bytes if they have two or
-    /// more blocks.
+    /// a cut, are not written again. The extents of the new log and of the new rows have the limit of the old ones.
     ///
     /// After a fault nothing is changed. Busy: a row was tried twice, or no node answered.
-    pub fn checkpoint<W: Wire>(
-        &mut self,
-        extent_bytes: u32,
-        wire: &mut W,
-    ) -> Result<Replaced, StoredFault>
+    pub fn checkpoint<W: Wire>(&mut self, wire: &mut W) -> Result<Replaced, StoredFault>
         requires sure { doubt_of self.old ≡ None }
         requires loaded { self.old.is_loaded ≡ true }
         ensures same { OnOk result (MeansTheRange self.old self.new) }
         ensures written { OnOk result (IsWrittenAnew self.old self.new) }
         ensures doubt { doubt_of self.new ≡ None }
         ensures data { self.new.streams.blobs ≡ self.old.streams.blobs }
-        ensures limits { OnOk result ((self.new.streams.log.limit ≡ extent_bytes) × (self.new.streams.rows.limit ≡ extent_bytes)) }
+        ensures limits { HaveSameLimits self.old.streams self.new.streams }
         ensures replaced { IfOk result (λ r. (r.log ≡ self.old.streams.log) × (r.rows ≡ self.old.streams.rows)) }
         ensures refused { OnErr result (self.new ≡ self.old) }
         ensures counted { FailsStored result (W.faults wire.old) (W.faults wire.new) }
@@ -41,7 +37,7 @@ impl StoredRows {
         let Some(rows) = &self.rows else {
             unreachable!();
         };
-        match checkpoint_rows(self.alloc, &mut self.streams, rows, extent_bytes, wire) {
+        match checkpoint_rows(self.alloc, &mut self.streams, rows, self.extent_bytes, wire) {
             Ok(replaced) => {
                 self.waste = self.waste.after_checkpoint();
                 Ok(replaced)

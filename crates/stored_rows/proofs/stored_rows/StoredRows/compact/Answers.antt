@@ -5,15 +5,15 @@ use Rattle.stored_rows.proofs.stored_rows.StoredRows.compact.Goals as goal
 
 pub returns-in-Ok-clause-compacted : goal.returns-in-Ok-clause-compacted
 returns-in-Ok-clause-compacted g c =
-    loaded_compacted c.compact_loaded.result c.args.extent_bytes c.args.self.now c.load.new.self c.compact_loaded.new.self c.in-Ok.ensures.loaded c.compact_loaded.ensures.compacted
+    loaded_compacted c.compact_loaded.result c.args.self.now c.load.new.self c.compact_loaded.new.self c.in-Ok.ensures.loaded c.compact_loaded.ensures.compacted
 
 pub returns-in-Ok-clause-kept : goal.returns-in-Ok-clause-kept
 returns-in-Ok-clause-kept g c =
-    loaded_keeps c.compact_loaded.result c.args.extent_bytes c.args.self.now c.load.new.self c.compact_loaded.new.self c.in-Ok.ensures.loaded c.compact_loaded.ensures.kept
+    loaded_keeps c.compact_loaded.result c.args.self.now c.load.new.self c.compact_loaded.new.self c.in-Ok.ensures.loaded c.compact_loaded.ensures.kept
 
 pub returns-in-Ok-clause-refused : goal.returns-in-Ok-clause-refused
 returns-in-Ok-clause-refused g c =
-    loaded_left c.compact_loaded.result c.args.extent_bytes c.args.self.now c.load.new.self c.compact_loaded.new.self c.in-Ok.ensures.loaded c.compact_loaded.ensures.refused
+    loaded_left c.compact_loaded.result c.args.self.now c.load.new.self c.compact_loaded.new.self c.in-Ok.ensures.loaded c.compact_loaded.ensures.refused
 
 pub returns-in-Ok-clause-counted : goal.returns-in-Ok-clause-counted
 returns-in-Ok-clause-counted g c = stored_later c.compact_loaded.result _ _ _ c.in-Ok.ensures.counted c.compact_loaded.ensures.counted

@@ -7,7 +7,9 @@ use Rattle.stored_rows.specs.Loaded.{AreLoaded}
 use Rattle.stored_rows.specs.Ranges.{covers}
 use Rattle.stored_rows.specs.States.{IsHalf, MeansTheSame, Stored, doubt_of}
 use Rattle.stored_rows.specs.declared.key_range.KeyRange.{KeyRange}
+use Rattle.partition_stream.specs.Compactions.{HaveLimit}
 use Rattle.stored_rows.proofs.CutLemmas.{is_some-map}
+use Rattle.stored_rows.proofs.LimitLemmas.{limit_kept}
 use Rattle.stored_rows.proofs.TakeLemmas.{half_means, lower_loaded, means_itself, same_streams, sealed_sure, still_none, upper_loaded}
 use Rattle.stored_rows.proofs.stored_rows.StoredRows.halve.Goals as goal
 
@@ -16,10 +18,13 @@ invariant_of-result c =
     let covered : covers c.self.inside.range c.args.middle ≡ true = subst (λ (v : Stored). covers v.range c.args.middle ≡ true) (sym c.self.view_is) c.requires.covered in
     let own : c.args.upper ≡ record { from = c.args.middle; to = c.self.inside.range.to } =
     subst (λ (v : Stored). c.args.upper ≡ record { from = c.args.middle; to = v.range.to }) (sym c.self.view_is) c.requires.upper in
-    subst (λ (r : KeyRange). AreLoaded c.in-Ok.streams c.in-Ok.rows None r) (sym own)
-    (subst (λ o. AreLoaded c.in-Ok.streams o None (record { from = c.args.middle; to = c.self.inside.range.to })) (sym c.in-Ok.ensures.from)
-    (upper_loaded c.self.inside.streams c.in-Ok.streams c.self.inside.rows c.self.inside.doubt c.self.inside.range c.args.middle c.self.invariant covered
-    c.in-Ok.ensures.shared (sealed_sure c.in-Ok.streams c.in-Ok.ensures.whole)))
+    record {
+      loaded = subst (λ (r : KeyRange). AreLoaded c.in-Ok.streams c.in-Ok.rows None r) (sym own)
+          (subst (λ o. AreLoaded c.in-Ok.streams o None (record { from = c.args.middle; to = c.self.inside.range.to })) (sym c.in-Ok.ensures.from)
+          (upper_loaded c.self.inside.streams c.in-Ok.streams c.self.inside.rows c.self.inside.doubt c.self.inside.range c.args.middle c.self.invariant.loaded covered
+          c.in-Ok.ensures.shared (sealed_sure c.in-Ok.streams c.in-Ok.ensures.whole)));
+      limits = limit_kept c.self.inside.extent_bytes c.self.inside.streams c.in-Ok.streams c.self.invariant.limits c.in-Ok.ensures.limits;
+    }
 
 pub invariant_of-self : goal.invariant_of-self
 invariant_of-self c =
@@ -29,9 +34,12 @@ invariant_of-self c =
     let none : (logged s).doubt ≡ None = subst (λ (v : Stored). doubt_of v ≡ None) (sym c.self.view_is) c.requires.sure in
     let same : HaveSameBlocks s t = subst (HaveSameBlocks s) (sym c.share_upper.ensures.same) (same_streams s) in
     let sure : (logged t).doubt ≡ None = subst (λ (u : ThreeStreams). (logged u).doubt ≡ None) (sym c.share_upper.ensures.same) none in
-    subst (λ o. AreLoaded t o c.self.inside.doubt (record { from = c.self.inside.range.from; to = Some c.args.middle })) (sym c.in-Ok.ensures.below)
-    (lower_loaded s t c.self.inside.rows c.self.inside.doubt c.self.inside.range c.args.middle c.self.invariant covered same sure
-    (still_none s t c.self.inside.doubt c.self.invariant.tried none sure))
+    record {
+      loaded = subst (λ o. AreLoaded t o c.self.inside.doubt (record { from = c.self.inside.range.from; to = Some c.args.middle })) (sym c.in-Ok.ensures.below)
+          (lower_loaded s t c.self.inside.rows c.self.inside.doubt c.self.inside.range c.args.middle c.self.invariant.loaded covered same sure
+          (still_none s t c.self.inside.doubt c.self.invariant.loaded.tried none sure));
+      limits = subst (HaveLimit c.self.inside.extent_bytes) (sym c.share_upper.ensures.same) c.self.invariant.limits;
+    }
 
 pub returns-in-Ok-clause-lower : goal.returns-in-Ok-clause-lower
 returns-in-Ok-clause-lower c =

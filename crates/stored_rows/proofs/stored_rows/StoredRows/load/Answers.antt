@@ -8,8 +8,11 @@ use Rattle.stored_rows.proofs.stored_rows.StoredRows.load.Goals as goal
 
 pub invariant_of-self : goal.invariant_of-self
 invariant_of-self g c =
-    made_loaded c.rows_of-made.result c.self.inside.streams c.self.inside.range c.self.inside.rows c.note_loaded-loaded.new.rows c.self.inside.doubt c.self.invariant
-    c.rows_of-made.ensures.loaded c.note_loaded-loaded.ensures.noted
+    record {
+      loaded = made_loaded c.rows_of-made.result c.self.inside.streams c.self.inside.range c.self.inside.rows c.note_loaded-loaded.new.rows c.self.inside.doubt c.self.invariant.loaded
+          c.rows_of-made.ensures.loaded c.note_loaded-loaded.ensures.noted;
+      limits = c.self.invariant.limits;
+    }
 
 pub returns-clause-counted : goal.returns-clause-counted
 returns-clause-counted g c =

@@ -7,6 +7,7 @@ use Rattle.stored_rows.specs.Counting.{FailsStored}
 use Rattle.stored_rows.specs.States.{Stored, doubt_of}
 use Rattle.stored_rows.specs.declared.faults.StoredFault.{StoredFault}
 use Rattle.stored_rows.proofs.CompactionLemmas.{moved_fails, moved_loaded, moved_means, moved_old, moved_same}
+use Rattle.stored_rows.proofs.LimitLemmas.{moved_limit}
 use Rattle.stored_rows.proofs.NotedLemmas.{stored_at}
 use Rattle.stored_rows.proofs.stored_rows.StoredRows.move_content.Goals as goal
 
@@ -16,16 +17,19 @@ compact-moved-requires-clause-rows g c = subst (λ (v : Stored). AreRows v.strea
 pub invariant_of-self : goal.invariant_of-self
 invariant_of-self g c =
     let none : (logged c.self.inside.streams).doubt ≡ None = subst (λ (v : Stored). doubt_of v ≡ None) (sym c.self.view_is) c.requires.sure in
-    moved_loaded c.compact-moved.result c.self.inside.streams c.compact-moved.new.self c.self.inside.range c.self.inside.rows c.note_moved.new.rows c.self.inside.doubt c.self.invariant
-    none c.compact-moved.ensures.doubt c.compact-moved.ensures.rows c.compact-moved.ensures.log c.compact-moved.ensures.same c.note_moved.ensures.noted
+    record {
+      loaded = moved_loaded c.compact-moved.result c.self.inside.streams c.compact-moved.new.self c.self.inside.range c.self.inside.rows c.note_moved.new.rows c.self.inside.doubt c.self.invariant.loaded
+          none c.compact-moved.ensures.doubt c.compact-moved.ensures.rows c.compact-moved.ensures.log c.compact-moved.ensures.same c.note_moved.ensures.noted;
+      limits = moved_limit c.self.inside.extent_bytes c.self.inside.streams c.compact-moved.new.self c.compact-moved.result c.self.invariant.limits c.compact-moved.ensures.limits c.compact-moved.ensures.same;
+    }
 
 pub returns-clause-moved : goal.returns-clause-moved
 returns-clause-moved g c =
     let new : Stored = stored_at c.compact-moved.new.self c.self.inside.range (is_some c.note_moved.new.rows) in
-    subst (λ (v : Stored). OnOk c.note_moved.result (IsMoved c.args.extent_bytes v new)) c.self.view_is
-    (subst (λ (r : Result ThreeStreams StoredFault). OnOk r (IsMoved c.args.extent_bytes (stored_at c.self.inside.streams c.self.inside.range (is_some c.self.inside.rows)) new)) (sym c.note_moved.ensures.answer)
-    (moved_means c.compact-moved.result c.args.extent_bytes c.self.inside.streams c.compact-moved.new.self c.self.inside.range (is_some c.self.inside.rows) (is_some c.note_moved.new.rows)
-    c.compact-moved.ensures.meaning c.compact-moved.ensures.rows c.compact-moved.ensures.log c.compact-moved.ensures.limits))
+    subst (λ (v : Stored). OnOk c.note_moved.result (IsMoved v new)) c.self.view_is
+    (subst (λ (r : Result ThreeStreams StoredFault). OnOk r (IsMoved (stored_at c.self.inside.streams c.self.inside.range (is_some c.self.inside.rows)) new)) (sym c.note_moved.ensures.answer)
+    (moved_means c.compact-moved.result c.self.inside.extent_bytes c.self.inside.streams c.compact-moved.new.self c.self.inside.range (is_some c.self.inside.rows) (is_some c.note_moved.new.rows)
+    c.compact-moved.ensures.meaning c.compact-moved.ensures.rows c.compact-moved.ensures.log c.self.invariant.limits c.compact-moved.ensures.limits))
 
 pub returns-clause-replaced : goal.returns-clause-replaced
 returns-clause-replaced g c =

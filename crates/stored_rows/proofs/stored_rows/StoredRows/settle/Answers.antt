@@ -4,18 +4,23 @@ use Rattle.stored_rows.specs.Counting.{FailsStored}
 use Rattle.stored_rows.specs.States.{SettlesRows, Stored}
 use Rattle.stored_rows.specs.declared.faults.Ended.{Ended}
 use Rattle.stored_rows.specs.declared.faults.StoredFault.{StoredFault}
+use Rattle.stored_rows.proofs.LimitLemmas.{limit_kept, settled_limits}
 use Rattle.stored_rows.proofs.NotedLemmas.{settled_fails, settled_fits, settled_loaded, settled_rows}
 use Rattle.stored_rows.proofs.stored_rows.StoredRows.settle.Goals as goal
 
 pub note_settled-requires : goal.note_settled-requires
 note_settled-requires g c =
-    settled_fits c.settle-settled.result c.self.inside.streams c.settle-settled.new.self c.self.inside.range c.self.inside.rows c.self.inside.doubt c.self.invariant
+    settled_fits c.settle-settled.result c.self.inside.streams c.settle-settled.new.self c.self.inside.range c.self.inside.rows c.self.inside.doubt c.self.invariant.loaded
     c.settle-settled.ensures.blobs c.settle-settled.ensures.rows c.settle-settled.ensures.settled
 
 pub invariant_of-self : goal.invariant_of-self
 invariant_of-self g c =
-    settled_loaded c.settle-settled.result c.self.inside.streams c.settle-settled.new.self c.self.inside.range c.self.inside.rows c.note_settled.new.rows c.self.inside.doubt c.note_settled.new.doubt
-    c.self.invariant c.settle-settled.ensures.blobs c.settle-settled.ensures.rows c.settle-settled.ensures.settled c.note_settled.ensures.noted
+    record {
+      loaded = settled_loaded c.settle-settled.result c.self.inside.streams c.settle-settled.new.self c.self.inside.range c.self.inside.rows c.note_settled.new.rows c.self.inside.doubt c.note_settled.new.doubt
+          c.self.invariant.loaded c.settle-settled.ensures.blobs c.settle-settled.ensures.rows c.settle-settled.ensures.settled c.note_settled.ensures.noted;
+      limits = limit_kept c.self.inside.extent_bytes c.self.inside.streams c.settle-settled.new.self c.self.invariant.limits
+          (settled_limits c.self.inside.streams c.settle-settled.new.self c.settle-settled.ensures.blobs c.settle-settled.ensures.rows c.settle-settled.ensures.limit);
+    }
 
 pub returns-clause-settled : goal.returns-clause-settled
 returns-clause-settled g c =
@@ -24,7 +29,7 @@ returns-clause-settled g c =
     (subst (λ (r : Result Ended StoredFault). SettlesRows r (record { streams = c.self.inside.streams; range = c.self.inside.range; is_loaded = is_some c.self.inside.rows }) new)
     (sym c.note_settled.ensures.answer)
     (settled_rows c.settle-settled.result c.self.inside.streams c.settle-settled.new.self c.self.inside.range c.self.inside.rows c.note_settled.new.rows c.self.inside.doubt c.note_settled.new.doubt
-    c.self.invariant c.kept.ensures c.settle-settled.ensures.blobs c.settle-settled.ensures.rows c.settle-settled.ensures.settled c.note_settled.ensures.noted))
+    c.self.invariant.loaded c.kept.ensures c.settle-settled.ensures.blobs c.settle-settled.ensures.rows c.settle-settled.ensures.settled c.note_settled.ensures.noted))
 
 pub returns-clause-counted : goal.returns-clause-counted
 returns-clause-counted g c =

@@ -7,6 +7,7 @@ use Rattle.stored_rows.specs.Fitting.{Fits}
 use Rattle.stored_rows.specs.Ranges.{covers}
 use Rattle.stored_rows.specs.States.{IsTaken, Stored, doubt_of, pieces_of}
 use Rattle.stored_rows.specs.declared.faults.TakeFault.{TakeFault}
+use Rattle.stored_rows.proofs.LimitLemmas.{limit_kept}
 use Rattle.stored_rows.proofs.NotedLemmas.{logged_fits, noted_fails, noted_loaded, noted_taken}
 use Rattle.stored_rows.proofs.stored_rows.StoredRows.take_change.Goals as goal
 
@@ -16,7 +17,7 @@ note-requires g c =
     let own : Fits (held_of (logged c.self.inside.streams) c.args.change.key) c.args.change.act =
     subst (λ (v : Stored). Fits (pieces_of v c.args.change.key) c.args.change.act) (sym c.self.view_is) c.requires.fits in
     logged_fits c.put_and_log-logged.result c.self.inside.streams c.put_and_log-logged.new.streams (c.args.change, c.args.epoch) c.self.inside.range covered own c.put_and_log-logged.ensures.logged
-    c.self.inside.rows c.self.invariant.rows
+    c.self.inside.rows c.self.invariant.loaded.rows
 
 pub invariant_of-self : goal.invariant_of-self
 invariant_of-self g c =
@@ -24,8 +25,11 @@ invariant_of-self g c =
     let own : Fits (held_of (logged c.self.inside.streams) c.args.change.key) c.args.change.act =
     subst (λ (v : Stored). Fits (pieces_of v c.args.change.key) c.args.change.act) (sym c.self.view_is) c.requires.fits in
     let none : (logged c.self.inside.streams).doubt ≡ None = subst (λ (v : Stored). doubt_of v ≡ None) (sym c.self.view_is) c.requires.sure in
-    noted_loaded c.put_and_log-logged.result c.self.inside.streams c.put_and_log-logged.new.streams (c.args.change, c.args.epoch) c.self.inside.range covered own c.put_and_log-logged.ensures.logged
-    c.self.inside.rows c.note.new.rows c.self.inside.doubt c.note.new.doubt none c.self.invariant c.note.ensures.noted
+    record {
+      loaded = noted_loaded c.put_and_log-logged.result c.self.inside.streams c.put_and_log-logged.new.streams (c.args.change, c.args.epoch) c.self.inside.range covered own c.put_and_log-logged.ensures.logged
+          c.self.inside.rows c.note.new.rows c.self.inside.doubt c.note.new.doubt none c.self.invariant.loaded c.note.ensures.noted;
+      limits = limit_kept c.self.inside.extent_bytes c.self.inside.streams c.put_and_log-logged.new.streams c.self.invariant.limits c.put_and_log-logged.ensures.limits;
+    }
 
 pub returns-clause-taken : goal.returns-clause-taken
 returns-clause-taken g c =

@@ -6,17 +6,17 @@ move_checkpoint-requires-clause-rows g c = checkpoint_is_rows c.args.self.now c.
 
 pub returns-in-Ok-clause-compacted : goal.returns-in-Ok-clause-compacted
 returns-in-Ok-clause-compacted g c =
-    written_compacted c.move_checkpoint.result c.args.extent_bytes c.args.self.now c.checkpoint.new.self c.move_checkpoint.new.self c.in-Ok.ensures.same c.in-Ok.ensures.written c.checkpoint.ensures.data
+    written_compacted c.move_checkpoint.result c.args.self.now c.checkpoint.new.self c.move_checkpoint.new.self c.in-Ok.ensures.same c.in-Ok.ensures.written c.checkpoint.ensures.data c.checkpoint.ensures.limits
     c.move_checkpoint.ensures.moved
 
 pub returns-in-Ok-clause-kept : goal.returns-in-Ok-clause-kept
 returns-in-Ok-clause-kept g c =
-    written_keeps c.move_checkpoint.result c.args.extent_bytes c.args.self.now c.checkpoint.new.self c.move_checkpoint.new.self c.in-Ok.ensures.same c.in-Ok.ensures.written c.checkpoint.ensures.data
+    written_keeps c.move_checkpoint.result c.args.self.now c.checkpoint.new.self c.move_checkpoint.new.self c.in-Ok.ensures.same c.in-Ok.ensures.written c.checkpoint.ensures.data c.checkpoint.ensures.limits
     c.move_checkpoint.ensures.moved c.move_checkpoint.ensures.refused
 
 pub returns-in-Ok-clause-refused : goal.returns-in-Ok-clause-refused
 returns-in-Ok-clause-refused g c =
-    written_left c.move_checkpoint.result c.args.extent_bytes c.args.self.now c.checkpoint.new.self c.move_checkpoint.new.self c.in-Ok.ensures.same c.in-Ok.ensures.written c.checkpoint.ensures.data
+    written_left c.move_checkpoint.result c.args.self.now c.checkpoint.new.self c.move_checkpoint.new.self c.in-Ok.ensures.same c.in-Ok.ensures.written c.checkpoint.ensures.data c.checkpoint.ensures.limits
     c.move_checkpoint.ensures.refused
 
 pub returns-in-Ok-clause-counted : goal.returns-in-Ok-clause-counted

@@ -1,0 +1,17 @@
+use Rattle.std.proofs.Common.{subst}
+use Rattle.std.specs.Option.{is_some}
+use Rattle.stored_rows.specs.States.{MeansTheSame, Stored}
+use Rattle.stored_rows.proofs.LimitLemmas.{limit_kept}
+use Rattle.stored_rows.proofs.RepairLemmas.{repaired_loaded, repaired_means}
+use Rattle.stored_rows.proofs.stored_rows.StoredRows.copy_extent.Goals as goal
+
+pub invariant_of-self : goal.invariant_of-self
+invariant_of-self g c = record {
+  loaded = repaired_loaded c.self.inside.streams c.repair.new.self c.repair.ensures.logged c.self.inside.rows c.self.inside.doubt c.self.inside.range c.self.invariant.loaded;
+  limits = limit_kept c.self.inside.extent_bytes c.self.inside.streams c.repair.new.self c.self.invariant.limits c.repair.ensures.limits;
+}
+
+pub returns-clause-same : goal.returns-clause-same
+returns-clause-same g c =
+    subst (λ (v : Stored). MeansTheSame v (record { streams = c.repair.new.self; range = c.self.inside.range; is_loaded = is_some c.self.inside.rows })) c.self.view_is
+    (repaired_means c.self.inside.streams c.repair.new.self c.repair.ensures.logged c.self.inside.range (is_some c.self.inside.rows))

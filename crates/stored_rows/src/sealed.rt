@@ -1,0 +1,22 @@
+//! What a seal answers.
+ghost use Rattle.std.specs.Prelude.{◌≡◌};
+ghost use Rattle.stored_rows.specs.Noting.{sealed_by};
+
+use crate::faults::StoredFault;
+use stream_manager::SettleFault;
+
+/// The log, the data and the rows were sealed. Only [`StoredRows::seal`](crate::StoredRows::seal) makes such a value.
+#[derive(Clone, Copy)]
+pub struct Sealed {
+    pub(crate) done: (),
+}
+
+/// The answer of a seal.
+pub(crate) fn note_sealed(sealed: Result<(), SettleFault>) -> Result<Sealed, StoredFault>
+    ensures { result ≡ sealed_by sealed }
+{
+    match sealed {
+        Ok(()) => Ok(Sealed { done: () }),
+        Err(fault) => Err(StoredFault::from(fault)),
+    }
+}
