@@ -5,7 +5,7 @@ use crate::requests::{
     CREATE, CREATED, GET, GET_B, GET_BY_POLICY, LIST, MISSING, PUT, PUT_BY_NEW, PUT_POLICY,
 };
 use crate::samples::{begins, ends, pairs, says};
-use crate::stored_samples::{D, R, fetched, is_covered};
+use crate::stored_samples::{D, R, fetched, is_covered, rows};
 use access_rules::Way;
 use extent_node::{Delivery, Script};
 use http_front::Service;
@@ -93,7 +93,7 @@ fn new_booking(rt: &impl Abort, alloc: Global, puts: &[Delivery], asks: &[bool])
     let puts = puts.to_vec(alloc).expect(rt, "memory");
     let asks = asks.to_vec(alloc).expect(rt, "memory");
     let booking = Booking {
-        slot: StoredSlot::of_pairs(alloc, 1_000_000, pairs),
+        slot: StoredSlot::of_rows(alloc, rows(alloc), pairs),
         wire: Script::new(alloc, puts, asks),
         entries: Vec::new(alloc),
     };

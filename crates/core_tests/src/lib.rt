@@ -41,6 +41,8 @@ mod stored_compaction_tests;
 #[cfg(test)]
 mod stored_repair_tests;
 #[cfg(test)]
+mod stored_rotation_tests;
+#[cfg(test)]
 mod stored_samples;
 #[cfg(test)]
 mod stored_slot_tests;

@@ -2,7 +2,7 @@
 ghost use Rattle.std.specs.Prelude.{⊤};
 
 use crate::samples::key;
-use crate::stored_samples::{fetched, has_container};
+use crate::stored_samples::{fetched, has_container, rows};
 use access_rules::Keys;
 use extent_node::{Delivery, Script};
 use http_front::Service;
@@ -78,7 +78,7 @@ pub(crate) fn new_passing(
     let puts = puts.to_vec(alloc).expect(rt, "memory");
     let asks = asks.to_vec(alloc).expect(rt, "memory");
     let passing = Passing {
-        slot: StoredSlot::of_pairs(alloc, 1_000_000, pairs),
+        slot: StoredSlot::of_rows(alloc, rows(alloc), pairs),
         wire: Script::new(alloc, puts, asks),
         pass: Pass::new(alloc, key(rt, alloc, container)),
         fault: None,

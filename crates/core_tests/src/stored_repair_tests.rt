@@ -6,6 +6,7 @@ use extent_node::Node;
 use partition_stream::StreamName;
 use std::alloc::Global;
 use std::process::Abort;
+use stored_rows::Unrepaired;
 use stream_manager::RepairFault;
 
 // What the reply to a second Create Container of the same name begins with.
@@ -24,8 +25,15 @@ fn repair(
     part: StreamName,
     extent: u64,
 ) -> Result<(), RepairFault> {
-    slot.slot
+    match slot
+        .slot
         .repair(alloc, part, extent, Node::Two, &mut slot.wire)
+    {
+        Ok(_repaired) => Ok(()),
+        Err(Unrepaired::NoSuchExtent(_none)) => Err(RepairFault::NoSuchExtent),
+        Err(Unrepaired::Unreachable) => Err(RepairFault::Unreachable),
+        Err(Unrepaired::NoMemory) => Err(RepairFault::NoMemory),
+    }
 }
 
 // A slot with a blob, whose streams are sealed. Node Two has no copy of the sealed extents.

@@ -1,6 +1,9 @@
 //! A slot over streams that connections are served by, with a wire that answers from lists.
-ghost use Rattle.std.specs.Prelude.{⊤, ◌≡◌, IfOk, true};
+ghost use Rattle.std.specs.Prelude.{⊤, ◌≡◌, IfOk, None, true};
+ghost use Rattle.stamp_types.specs.World.{no_part};
+ghost use Rattle.stamp_values.specs.declared.key.Key.{Key};
 ghost use Rattle.stamp_model.specs.SeenContainers.{routed};
+ghost use Rattle.stored_rows.specs.States.{doubt_of, pieces_of};
 ghost use Rattle.slot_state.specs.Slots as slots;
 
 use crate::requests::{CREATE, CREATED, PUT};
@@ -13,6 +16,7 @@ use stamp_types::{Moment, Reply, Request};
 use std::alloc::{AllocError, Global};
 use std::process::Abort;
 use std::sync::Arc;
+use stored_rows::{KeyRange, StoredRows};
 use stored_slot::StoredSlot;
 use tickets::{Answer, Ticket};
 
@@ -97,6 +101,14 @@ impl Service for Streamed {
     }
 }
 
+/// New rows of all keys, in extents of a million bytes.
+pub(crate) fn rows(alloc: Global) -> StoredRows
+    ensures none { (key : Key) → pieces_of result key ≡ no_part }
+    ensures sure { doubt_of result ≡ None }
+{
+    StoredRows::new(alloc, 1_000_000, KeyRange::all(alloc))
+}
+
 /// A slot over streams of the account, without containers. Its wire gives these deliveries and answers in turn, and then Done and yes. The
 /// slot is in a box, since a value with so many fields is slow to prove.
 pub(crate) fn make_streamed(
@@ -110,7 +122,7 @@ pub(crate) fn make_streamed(
     let puts = puts.to_vec(alloc).expect(rt, "memory");
     let asks = asks.to_vec(alloc).expect(rt, "memory");
     let streamed = Streamed {
-        slot: StoredSlot::of_pairs(alloc, 1_000_000, pairs),
+        slot: StoredSlot::of_rows(alloc, rows(alloc), pairs),
         wire: Script::new(alloc, puts, asks),
         tickets: 0,
     };

@@ -1,6 +1,6 @@
 //! Slots over streams under written deliveries (SOSP 2011, sections 4.3 and 5).
 use crate::requests::{CREATE, CREATED, GET};
-use crate::samples::{begins, ends, says};
+use crate::samples::{begins, ends, key, says};
 use crate::stored_samples::{D, L, R, Streamed, make_streamed, put_hello};
 use std::alloc::Global;
 use std::process::Abort;
@@ -114,6 +114,23 @@ fn get_later(rt: &impl Abort, alloc: Global, slot: &mut Streamed) {
 fn content_in_a_sealed_extent_is_read_by_a_ticket(rt: HostRuntime) {
     let mut slot = make_streamed(&rt, rt.alloc(), &[], &[]);
     get_later(&rt, rt.alloc(), &mut *slot);
+}
+
+// The rows that were in memory have the container, and are given once.
+fn unload_rows(rt: &impl Abort, alloc: Global, slot: &mut Streamed) {
+    put_hello(rt, alloc, slot);
+    let unloaded = slot.slot.unload();
+    let rows = unloaded.rows().expect(rt, "rows that were in memory");
+    assert_eq!(rt; rows.find(&key(rt, alloc, "pics")).count(), 2);
+    assert!(rt; slot.slot.unload().rows().is_none());
+    assert!(rt; ends(rt, alloc, slot, GET, b"\r\n\r\nhello"));
+    assert!(rt; slot.slot.move_to(1).rows().is_some());
+}
+
+#[test]
+fn an_unloaded_slot_hands_its_rows_out(rt: HostRuntime) {
+    let mut slot = make_streamed(&rt, rt.alloc(), &[], &[]);
+    unload_rows(&rt, rt.alloc(), &mut *slot);
 }
 
 // Rows that are not in memory are read from the streams, and the request is served if the nodes answer.

@@ -1,6 +1,7 @@
 -- The ranges of slots.
 use Rattle.std.proofs.Common.{◌≡◌, ◌≤◌, ◌<◌, ◌+◌, ◌&&◌, inl, inr, ℕ, zero, suc, Bool, true, List, [], ◌∷◌, Option, Some, None, refl, sym, ap, ◌∙◌, subst, arith, length, map}
 use Rattle.std.specs.Prelude.{slice_get, slice_set, slice_index_or}
+use Rattle.std.specs.FinMap as finite
 use Rattle.std.specs.List.{insert}
 use Rattle.std.proofs.lemmas.List.{length-map}
 use Rattle.stamp_values.specs.Trees.{is_below, is_from}
@@ -10,15 +11,27 @@ use Rattle.stamp_model.specs.SeenContainers.{is_under}
 use Rattle.partition_map.specs.Spans.{bound_at, bound_of, first_key, least_key, slot_of, split_refusal, with_point, with_two}
 use Rattle.partition_map.proofs.OneSpan.{own_span}
 use Rattle.partition_map.proofs.RefusalLemmas.{allowed_is}
+use Rattle.stored_rows.specs.Ranges.{all_keys}
+use Rattle.stored_rows.specs.States.{Stored}
+use Rattle.stored_rows.specs.declared.key_range.KeyRange.{KeyRange}
 use Rattle.slot_state.specs.Pairs.{Pairs}
 use Rattle.slot_state.specs.Slots as slots_of
 use Rattle.slot_state.specs.Slots.{SlotState, empty_slot, lower_half, upper_half}
+use Rattle.stored_slot.specs.Meanings.{slot_with}
 use Rattle.stored_slot.specs.Settled.{SettlesSlot, SettlesDoubtBy}
 use Rattle.core_run.specs.Cores.{no_slot, slot_at}
 use Rattle.core_run.proofs.CoreLemmas.{same_bound}
 use Rattle.core_run.proofs.ServedCores.{slot_of-within}
 use Rattle.stamp_core.specs.CoreSteps.{slots_split}
 use Rattle.stamp_core.specs.Ranges.{HaveSpans, Range, range_of, ranges_from}
+
+-- ---- a slot of all keys
+
+abbrev slot_of_range : Pairs → KeyRange → SlotState
+slot_of_range pairs r = record { histories = finite.empty; pairs = pairs; from = r.from; to = r.to; doubt = None }
+
+pub slot_of_all : (pairs : Pairs) (rows : Stored) → rows.range ≡ all_keys → slot_with pairs finite.empty rows None ≡ empty_slot pairs
+slot_of_all pairs rows whole = ap (λ (r : KeyRange). slot_of_range pairs r) whole
 
 -- ---- lists
 

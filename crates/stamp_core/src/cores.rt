@@ -1,12 +1,17 @@
 //! The core.
-ghost use Rattle.std.specs.Prelude.{◌≡◌, ◌⊎◌, Bool, IfErr, IfOk, OnErr, length};
+ghost use Rattle.std.specs.Prelude.{◌≡◌, ◌⊎◌, Bool, IfErr, IfOk, None, OnErr, length};
 ghost use Rattle.std.specs.Arc.{arc_value};
 ghost use Rattle.std.specs.Option.{option_copied};
 ghost use Rattle.extent_seal.specs.Counting.{Grows, all_faults};
+ghost use Rattle.stamp_types.specs.World.{no_part};
+ghost use Rattle.stamp_values.specs.declared.key.Key.{Key};
 ghost use Rattle.policy_book.specs.Judgements.{IsOfAsk};
 ghost use Rattle.range_rows.specs.Readings.{reading_of};
+ghost use Rattle.stored_rows.specs.Ranges.{all_keys};
+ghost use Rattle.stored_rows.specs.States.{doubt_of, pieces_of};
 ghost use Rattle.slot_state.specs.PairFaults.{pairs_fault};
 ghost use Rattle.slot_state.specs.Pairs.{first_pairs};
+ghost use Rattle.slot_state.specs.Slots.{empty_slot};
 ghost use Rattle.slot_state.specs.declared.pairs_fault.PairsFault.TheVariants.{NoMemory};
 ghost use Rattle.core_run.specs.Cores.{StandsFor, first_core};
 ghost use Rattle.core_run.specs.States.{State, opening};
@@ -34,6 +39,7 @@ use stamp_types::{Key, Moment, Reply, Request, Text};
 use std::alloc::{AllocError, Global};
 use std::marker::Model;
 use std::sync::Arc;
+use stored_rows::{KeyRange, StoredRows};
 use stored_slot::StoredSlot;
 
 /// How many bytes an extent of two or more blocks may have.
@@ -62,15 +68,33 @@ impl<H: Histories> Model for Core<H> {
     ghost invariant = { λ c. HaveSpans c.slots.items c.spans };
 }
 
+// A slot of all keys with these rows.
+#[tactic(auto, using(crate::proofs::RangeLemmas::slot_of_all))]
+fn first_slot<H: Histories>(
+    alloc: Global,
+    rows: StoredRows,
+    pairs: Arc<AccountPairs>,
+) -> StoredSlot<H>
+    requires none { (key : Key) → pieces_of rows key ≡ no_part }
+    requires sure { doubt_of rows ≡ None }
+    requires whole { rows.range ≡ all_keys }
+    ensures { result ≡ empty_slot (arc_value pairs) }
+{
+    StoredSlot::of_rows(alloc, rows, pairs)
+}
+
 // A core of one slot of all keys, without containers, for these key pairs.
 fn first<H: Histories>(
     alloc: Global,
-    extent_bytes: u32,
+    rows: StoredRows,
     pairs: Arc<AccountPairs>,
 ) -> Result<Core<H>, AllocError>
+    requires none { (key : Key) → pieces_of rows key ≡ no_part }
+    requires sure { doubt_of rows ≡ None }
+    requires whole { rows.range ≡ all_keys }
     ensures { IfOk result (λ core. core ≡ first_core (arc_value pairs)) }
 {
-    let slot = StoredSlot::of_pairs(alloc, extent_bytes, pairs);
+    let slot = first_slot(alloc, rows, pairs);
     let mut slots = Vec::new(alloc);
     slots.push(slot)?;
     Ok(Core {
@@ -93,20 +117,23 @@ fn of_all<H: Histories>(alloc: Global, pairs: AccountPairs) -> Result<Core<H>, A
 impl<H: Histories> Core<H> {
     ghost use Rattle.core_run.specs.declared.step.Step.TheVariants.{Fetch, Rotate, Serve, Split};
 
-    /// A core of one slot of all keys, without containers, for these key pairs. The core shares the pairs. An extent of two or more blocks has
-    /// at most `extent_bytes` bytes.
+    /// A core of one slot of all keys, without containers, for these key pairs. The slot takes these rows, which are new, of all keys and
+    /// without a container, and its extents have their limit. The core shares the pairs.
     ///
     /// `AllocError` if memory runs out for the slot.
-    pub fn with_extents(
+    pub fn of_rows(
         alloc: Global,
-        extent_bytes: u32,
+        rows: StoredRows,
         pairs: Arc<AccountPairs>,
     ) -> Result<Self, AllocError>
+        requires none { (key : Key) → pieces_of rows key ≡ no_part }
+        requires sure { doubt_of rows ≡ None }
+        requires whole { rows.range ≡ all_keys }
         ensures value { IfOk result (λ core. core ≡ first_core (arc_value pairs)) }
         ensures stands { IfOk result (λ core. StandsFor core (opening (arc_value pairs))) }
     {
         pairs.numbered();
-        let core = first(alloc, extent_bytes, pairs)?;
+        let core = first(alloc, rows, pairs)?;
         Ok(core)
     }
 
@@ -117,7 +144,8 @@ impl<H: Histories> Core<H> {
         ensures value { IfOk result (λ core. core ≡ first_core (arc_value pairs)) }
         ensures stands { IfOk result (λ core. StandsFor core (opening (arc_value pairs))) }
     {
-        let core = Core::with_extents(alloc, EXTENT_BYTES, pairs)?;
+        let rows = StoredRows::new(alloc, EXTENT_BYTES, KeyRange::all(alloc));
+        let core = Core::of_rows(alloc, rows, pairs)?;
         Ok(core)
     }
 

@@ -1,6 +1,7 @@
 //! What is done to one slot, beside serving requests and splitting it.
 ghost use Rattle.std.specs.Prelude.{◌≡◌};
 ghost use Rattle.extent_seal.specs.Counting.{Grows};
+ghost use Rattle.stored_rows.specs.Repairs.{fault_of, unnamed};
 ghost use Rattle.stored_slot.specs.Served.{Faulted};
 ghost use Rattle.stamp_core.specs.CoreSteps as steps;
 ghost use Rattle.stamp_core.specs.CoreSteps.{IsTended, IsTendedAt};
@@ -13,9 +14,8 @@ use partition_map::Spans;
 use partition_stream::Replaced;
 use slot_state::Histories;
 use std::alloc::Global;
-use stored_rows::{Compacted, StoredFault};
+use stored_rows::{Compacted, Repaired, Sealed, StoredFault, Unrepaired};
 use stored_slot::StoredSlot;
-use stream_manager::RepairFault;
 
 /// Why a step on a slot fails.
 pub(crate) fn fault_of_slot(fault: StoredFault) -> StepFault
@@ -28,13 +28,13 @@ pub(crate) fn fault_of_slot(fault: StoredFault) -> StepFault
 }
 
 // Why a repair fails.
-fn fault_of_repair(fault: RepairFault) -> StepFault
-    ensures { result ≡ steps.fault_of_repair fault }
+fn fault_of_repair(fault: Unrepaired) -> StepFault
+    ensures { result ≡ steps.fault_of_repair (fault_of fault) }
 {
     match fault {
-        RepairFault::NoSuchExtent => StepFault::NoSuchExtent,
-        RepairFault::Unreachable => StepFault::Unreachable,
-        RepairFault::NoMemory => StepFault::NoMemory,
+        Unrepaired::NoSuchExtent(_none) => StepFault::NoSuchExtent,
+        Unrepaired::Unreachable => StepFault::Unreachable,
+        Unrepaired::NoMemory => StepFault::NoMemory,
     }
 }
 
@@ -44,6 +44,16 @@ fn slot_answer(called: Result<(), StoredFault>) -> Result<Outcome, StepFault>
 {
     match called {
         Ok(()) => Ok(Outcome::Made),
+        Err(fault) => Err(fault_of_slot(fault)),
+    }
+}
+
+// What a seal answers that ended so.
+fn seal_answer(called: Result<Sealed, StoredFault>) -> Result<Outcome, StepFault>
+    ensures { result ≡ steps.slot_answer called }
+{
+    match called {
+        Ok(_sealed) => Ok(Outcome::Made),
         Err(fault) => Err(fault_of_slot(fault)),
     }
 }
@@ -75,11 +85,11 @@ fn compact_answer(called: Result<Compacted, StoredFault>) -> Result<Outcome, Ste
 }
 
 // What a repair answers that ended so.
-fn repair_answer(called: Result<(), RepairFault>) -> Result<Outcome, StepFault>
-    ensures { result ≡ steps.repair_answer called }
+fn repair_answer(called: Result<Repaired, Unrepaired>) -> Result<Outcome, StepFault>
+    ensures { result ≡ steps.repair_answer (unnamed called) }
 {
     match called {
-        Ok(()) => Ok(Outcome::Made),
+        Ok(_repaired) => Ok(Outcome::Made),
         Err(fault) => Err(fault_of_repair(fault)),
     }
 }
@@ -97,16 +107,16 @@ fn tend_slot<H: Histories, W: Wire>(
 {
     match care {
         Care::Settle => slot_answer(slot.settle(alloc, wire)),
-        Care::Seal => slot_answer(slot.seal(alloc, wire)),
+        Care::Seal => seal_answer(slot.seal(alloc, wire)),
         Care::Load => slot_answer(slot.load(alloc, wire)),
         Care::Checkpoint => checkpoint_answer(slot.checkpoint(alloc, wire)),
         Care::Compact => compact_answer(slot.compact(alloc, wire)),
         Care::Unload => {
-            slot.unload();
+            drop(slot.unload());
             Ok(Outcome::Made)
         }
         Care::Move { server } => {
-            slot.move_to(server);
+            drop(slot.move_to(server));
             Ok(Outcome::Made)
         }
         Care::Repair {

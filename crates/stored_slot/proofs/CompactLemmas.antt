@@ -1,7 +1,6 @@
 -- The compaction of a slot: it settles a doubt, and then each container means what it meant.
 use Rattle.std.proofs.Common.{◌≡◌, ◌∙◌, true, [], Option, None, Result, Ok, Err, sym, ap, subst}
-use Rattle.std.specs.Prelude.{ℕ, OnOk}
-use Rattle.partition_stream.specs.Compactions.{HaveLimit}
+use Rattle.std.specs.Prelude.{OnOk}
 use Rattle.partition_stream.specs.Streams.{logged}
 use Rattle.stamp_types.specs.declared.past.Past.{Past}
 use Rattle.stored_rows.specs.Compactions.{IsCompacted, KeepsTheRange}
@@ -37,10 +36,6 @@ module _ (pairs : Pairs) (h h' : Histories) (s t : Stored) (d d' : Option Past) 
   pub compact_left : {T : Type 0} (u : Stored) (r : Result T StoredFault) → KeepsTheRange t u → LeavesSettled r (slot_with pairs h s d) (slot_with pairs h' u d')
   compact_left u r same = left_settled r (slot_with pairs h s d) (slot_with pairs h' t d') (slot_with pairs h' u d') settled (slot_same pairs h' t u d' same.range)
 
-pub compact_empties : {T : Type 0} (r : Result T StoredFault) (n : ℕ) (t u : Stored) → OnOk r (IsCompacted n t u) → OnOk r ((logged u.streams).log ≡ [])
-compact_empties (Ok x) n t u is = is.log
-compact_empties (Err e) n t u is = tt
-
-pub compact_limits : {T : Type 0} (r : Result T StoredFault) (n : ℕ) (t u : Stored) → OnOk r (IsCompacted n t u) → OnOk r (HaveLimit n u.streams)
-compact_limits (Ok x) n t u is = is.limits
-compact_limits (Err e) n t u is = tt
+pub compact_empties : {T : Type 0} (r : Result T StoredFault) (t u : Stored) → OnOk r (IsCompacted t u) → OnOk r ((logged u.streams).log ≡ [])
+compact_empties (Ok x) t u is = is.log
+compact_empties (Err e) t u is = tt

@@ -48,7 +48,7 @@ module _ (pairs : Pairs) (h h' : Histories) (s t : Stored) (d d' : Option Past) 
   pub seal_kept : (u : Stored) → MeansTheSame t u → doubt_of u ≡ None → AreOfStreams pairs h' u d'
   seal_kept u same sure = subst (λ (x : Option Past). AreOfStreams pairs h' u x) (sym none) (sealed_kept pairs h' t u are.replays same sure)
 
-  pub seal_left : (u : Stored) (r : Result (Unit {0}) StoredFault) → MeansTheSame t u → LeavesSettled r (slot_with pairs h s d) (slot_with pairs h' u d')
+  pub seal_left : {T : Type 0} (u : Stored) (r : Result T StoredFault) → MeansTheSame t u → LeavesSettled r (slot_with pairs h s d) (slot_with pairs h' u d')
   seal_left u r same = left_settled r (slot_with pairs h s d) (slot_with pairs h' t d') (slot_with pairs h' u d') settled (slot_same pairs h' t u d' same.range)
 
   -- a checkpoint

@@ -2,6 +2,7 @@
 use Rattle.std.proofs.Common.{◌≡◌, ◌≤◌, ◌∙◌, inl, inr, ℕ, IsSome, Option, Result, Ok, Err, length, sym, ap, subst}
 use Rattle.std.specs.Prelude.{◌↔◌, OnErr}
 use Rattle.extent_node.specs.Faults.{Calls}
+use Rattle.extent_node.specs.declared.wire.Node.{Node}
 use Rattle.extent_seal.specs.Counting.{Grows}
 use Rattle.stamp_types.specs.declared.past.Past.{Past}
 use Rattle.stream_manager.specs.declared.faults.RepairFault.{RepairFault}
@@ -9,10 +10,12 @@ use Rattle.stream_manager.specs.declared.faults.RepairFault.TheVariants as repai
 use Rattle.partition_stream.specs.Repairs.{stream_of}
 use Rattle.partition_stream.specs.declared.repair.StreamName.{StreamName}
 use Rattle.stored_rows.specs.Counting.{FailsStored}
-use Rattle.stored_rows.specs.Repairs.{FailsRepair}
+use Rattle.stored_rows.specs.Repairs.{FailsRepair, IsRepairOf, unnamed}
 use Rattle.stored_rows.specs.States.{MeansTheSame, Stored, doubt_of}
 use Rattle.stored_rows.specs.declared.faults.StoredFault.{StoredFault}
 use Rattle.stored_rows.specs.declared.faults.StoredFault.TheVariants as stored
+use Rattle.stored_rows.specs.declared.repaired.Repaired.{Repaired}
+use Rattle.stored_rows.specs.declared.repaired.Unrepaired.{Unrepaired}
 use Rattle.stored_rows.proofs.CountLemmas.{fails_later, grows_twice}
 use Rattle.slot_state.specs.HistoryMaps.{Histories}
 use Rattle.slot_state.specs.Pairs.{Pairs}
@@ -28,18 +31,23 @@ failed f = Err f
 
 -- ---- the settle failed
 
-pub unrepaired : (f : StoredFault) (g : RepairFault) (s t : SlotState) → g ≡ repair_fault_of f → IsSome s.doubt × (t ≡ s) → LeavesRepaired (Err g) s t
-unrepaired stored.Busy g s t is same = subst (λ (x : RepairFault). LeavesRepaired (Err x) s t) (sym is) (inr same)
-unrepaired stored.NoMemory g s t is same = subst (λ (x : RepairFault). LeavesRepaired (Err x) s t) (sym is) (inr same)
+pub unrepaired : (f : StoredFault) (g : Unrepaired) (s t : SlotState) → g ≡ repair_fault_of f → IsSome s.doubt × (t ≡ s) → LeavesRepaired (unnamed (Err g)) s t
+unrepaired stored.Busy g s t is same = subst (λ (x : Unrepaired). LeavesRepaired (unnamed (Err x)) s t) (sym is) (inr same)
+unrepaired stored.NoMemory g s t is same = subst (λ (x : Unrepaired). LeavesRepaired (unnamed (Err x)) s t) (sym is) (inr same)
 
-pub unrepaired_fails : (f : StoredFault) (g : RepairFault) (a b : Calls) → g ≡ repair_fault_of f → FailsStored {T = Unit {0}} (Err f) a b → FailsRepair (Err g) a b
-unrepaired_fails stored.Busy g a b is counted = subst (λ (x : RepairFault). FailsRepair (Err x) a b) (sym is) counted
-unrepaired_fails stored.NoMemory g a b is counted = subst (λ (x : RepairFault). FailsRepair (Err x) a b) (sym is) counted
+pub unrepaired_fails : (f : StoredFault) (g : Unrepaired) (a b : Calls) → g ≡ repair_fault_of f → FailsStored {T = Unit {0}} (Err f) a b → FailsRepair (unnamed (Err g)) a b
+unrepaired_fails stored.Busy g a b is counted = subst (λ (x : Unrepaired). FailsRepair (unnamed (Err x)) a b) (sym is) counted
+unrepaired_fails stored.NoMemory g a b is counted = subst (λ (x : Unrepaired). FailsRepair (unnamed (Err x)) a b) (sym is) counted
+
+-- a failed settle names nothing
+pub unrepaired_own : (f : StoredFault) (g : Unrepaired) (part : StreamName) (extent : ℕ) (node : Node) → g ≡ repair_fault_of f → IsRepairOf part extent node (Err g)
+unrepaired_own stored.Busy g part extent node is = subst (λ (x : Unrepaired). IsRepairOf part extent node (Err x)) (sym is) tt
+unrepaired_own stored.NoMemory g part extent node is = subst (λ (x : Unrepaired). IsRepairOf part extent node (Err x)) (sym is) tt
 
 -- a failed settle does not say that the extent does not exist
-pub unrepaired_unrefused : (f : StoredFault) (g : RepairFault) (T : Type 0) → g ≡ repair_fault_of f → failed g ≡ failed repair.NoSuchExtent → T
-unrepaired_unrefused stored.Busy g T is wrong = let no : failed repair.Unreachable ≡ failed repair.NoSuchExtent = ap failed (sym is) ∙ wrong in absurd cc
-unrepaired_unrefused stored.NoMemory g T is wrong = let no : failed repair.NoMemory ≡ failed repair.NoSuchExtent = ap failed (sym is) ∙ wrong in absurd cc
+pub unrepaired_unrefused : (f : StoredFault) (g : Unrepaired) (T : Type 0) → g ≡ repair_fault_of f → unnamed (Err g) ≡ failed repair.NoSuchExtent → T
+unrepaired_unrefused stored.Busy g T is wrong = let no : failed repair.Unreachable ≡ failed repair.NoSuchExtent = ap (λ (x : Unrepaired). unnamed (Err x)) (sym is) ∙ wrong in absurd cc
+unrepaired_unrefused stored.NoMemory g T is wrong = let no : failed repair.NoMemory ≡ failed repair.NoSuchExtent = ap (λ (x : Unrepaired). unnamed (Err x)) (sym is) ∙ wrong in absurd cc
 
 -- ---- a repair after a settle
 
@@ -63,7 +71,7 @@ module _ (pairs : Pairs) (h h' : Histories) (s t : Stored) (d d' : Option Past) 
   repair_left u r same = left_repaired r (slot_with pairs h s d) (slot_with pairs h' t d') (slot_with pairs h' u d') settled (slot_same pairs h' t u d' same.range)
 
 -- the extent does not exist after the repair if it did not exist before it
-pub refused_still : (part : StreamName) (e : ℕ) (s t : Stored) (r : Result (Unit {0}) RepairFault) → ((r ≡ failed repair.NoSuchExtent) ↔ (length (stream_of part s.streams).sealed ≤ e)) → OnErr r (t ≡ s)
-    → r ≡ failed repair.NoSuchExtent → length (stream_of part t.streams).sealed ≤ e
+pub refused_still : (part : StreamName) (e : ℕ) (s t : Stored) (r : Result Repaired Unrepaired) → ((unnamed r ≡ failed repair.NoSuchExtent) ↔ (length (stream_of part s.streams).sealed ≤ e)) → OnErr r (t ≡ s)
+    → unnamed r ≡ failed repair.NoSuchExtent → length (stream_of part t.streams).sealed ≤ e
 refused_still part e s t (Ok u) refused same is = cc
 refused_still part e s t (Err f) refused same is = subst (λ (x : Stored). length (stream_of part x.streams).sealed ≤ e) (sym same) (refused.0 is)

@@ -8,6 +8,8 @@ use Rattle.stored_rows.specs.declared.faults.Ended.{Ended}
 use Rattle.stored_rows.specs.declared.faults.Ended.TheVariants as ended
 use Rattle.stored_rows.specs.declared.faults.StoredFault.{StoredFault}
 use Rattle.stored_rows.specs.declared.faults.StoredFault.TheVariants as stored
+use Rattle.stored_rows.specs.declared.repaired.Unrepaired.{Unrepaired}
+use Rattle.stored_rows.specs.declared.repaired.Unrepaired.TheVariants as unrepaired
 use Rattle.slot_state.specs.HistoryMaps.{Histories, with_entry, without_last}
 use Rattle.slot_state.specs.Slots.{SlotState, lower_half, upper_half}
 
@@ -56,9 +58,9 @@ LeavesRepaired (Err repair.Unreachable) s t = SettlesSlot s t ⊎ (IsSome s.doub
 LeavesRepaired (Err repair.NoMemory) s t = SettlesSlot s t ⊎ (IsSome s.doubt × (t ≡ s))
 
 -- what a repair answers if the doubt cannot be settled
-abbrev pub repair_fault_of : StoredFault → RepairFault
-repair_fault_of stored.Busy = repair.Unreachable
-repair_fault_of stored.NoMemory = repair.NoMemory
+abbrev pub repair_fault_of : StoredFault → Unrepaired
+repair_fault_of stored.Busy = unrepaired.Unreachable
+repair_fault_of stored.NoMemory = unrepaired.NoMemory
 
 -- the histories after the change of an entry was settled: they have the entry if the change is kept
 abbrev pub follows : Result Ended StoredFault → Histories → Past → Histories

@@ -1,6 +1,5 @@
 //! The compaction of a slot.
 ghost use Rattle.std.specs.Prelude.{◌≡◌, [], OnOk};
-ghost use Rattle.partition_stream.specs.Compactions.{HaveLimit};
 ghost use Rattle.partition_stream.specs.Streams.{logged};
 ghost use Rattle.stored_rows.specs.Counting.{FailsStored};
 ghost use Rattle.stored_slot.specs.Meanings.{AreOfStreams, slot_with};
@@ -21,7 +20,6 @@ pub(crate) fn compacting<H: Histories, W: Wire>(
     doubt: &mut Option<Past>,
     pairs: &AccountPairs,
     alloc: Global,
-    extent_bytes: u32,
     wire: &mut W,
 ) -> Result<Compacted, StoredFault>
     requires before { AreOfStreams pairs.now (H.held histories.old) stored.old doubt.old }
@@ -29,11 +27,10 @@ pub(crate) fn compacting<H: Histories, W: Wire>(
     ensures left { LeavesSettled result (slot_with pairs.now (H.held histories.old) stored.old doubt.old)
         (slot_with pairs.now (H.held histories.new) stored.new doubt.new) }
     ensures emptied { OnOk result ((logged stored.new.streams).log ≡ []) }
-    ensures limits { OnOk result (HaveLimit extent_bytes stored.new.streams) }
     ensures counted { FailsStored result (W.faults wire.old) (W.faults wire.new) }
 {
     match settling(histories, stored, doubt, pairs, alloc, wire) {
-        Ok(()) => stored.compact(extent_bytes, wire),
+        Ok(()) => stored.compact(wire),
         Err(fault) => Err(fault),
     }
 }

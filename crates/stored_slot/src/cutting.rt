@@ -24,7 +24,6 @@ struct Halves<H: Histories> {
     below: H,
     above: H,
     pairs: Arc<AccountPairs>,
-    extent_bytes: u32,
 }
 
 // What the halves need, from what the slot has.
@@ -32,7 +31,6 @@ fn make_halves<H: Histories>(
     histories: &H,
     pairs: &Arc<AccountPairs>,
     alloc: Global,
-    extent_bytes: u32,
     middle: &Key,
 ) -> Result<Halves<H>, AllocError>
     ensures below { IfOk result (λ ready. H.held ready.below ≡ finite.retain_keys (H.held histories.now) (is_below middle.now)) }
@@ -45,7 +43,6 @@ fn make_halves<H: Histories>(
         below,
         above,
         pairs,
-        extent_bytes,
     })
 }
 
@@ -73,15 +70,13 @@ fn cut_with<H: Histories, W: Wire>(
                 below,
                 above,
                 pairs,
-                extent_bytes,
-            } = halves;
+                    } = halves;
             *histories = below;
             Ok(StoredSlot {
                 histories: above,
                 stored: upper,
                 pairs,
-                extent_bytes,
-                doubt: None,
+                        doubt: None,
             })
         }
         Err(fault) => {
@@ -97,7 +92,6 @@ fn cut_settled<H: Histories, W: Wire>(
     stored: &mut StoredRows,
     pairs: &Arc<AccountPairs>,
     alloc: Global,
-    extent_bytes: u32,
     middle: &Key,
     wire: &mut W,
 ) -> Result<StoredSlot<H>, StoredFault>
@@ -109,7 +103,7 @@ fn cut_settled<H: Histories, W: Wire>(
         (slot_with (arc_value pairs.now) (H.held histories.new) stored.new None) }
     ensures counted { FailsStored result (W.faults wire.old) (W.faults wire.new) }
 {
-    match make_halves(histories, pairs, alloc, extent_bytes, middle) {
+    match make_halves(histories, pairs, alloc, middle) {
         Ok(halves) => cut_with(histories, stored, halves, middle, wire),
         Err(AllocError) => Err(StoredFault::NoMemory),
     }
@@ -122,7 +116,6 @@ pub(crate) fn cutting<H: Histories, W: Wire>(
     doubt: &mut Option<Past>,
     pairs: &Arc<AccountPairs>,
     alloc: Global,
-    extent_bytes: u32,
     middle: &Key,
     wire: &mut W,
 ) -> Result<StoredSlot<H>, StoredFault>
@@ -134,7 +127,7 @@ pub(crate) fn cutting<H: Histories, W: Wire>(
     ensures counted { FailsStored result (W.faults wire.old) (W.faults wire.new) }
 {
     match settling(histories, stored, doubt, pairs, alloc, wire) {
-        Ok(()) => cut_settled(histories, stored, pairs, alloc, extent_bytes, middle, wire),
+        Ok(()) => cut_settled(histories, stored, pairs, alloc, middle, wire),
         Err(fault) => Err(fault),
     }
 }

@@ -4,7 +4,7 @@ ghost use Rattle.partition_stream.specs.Repairs.{stream_of};
 ghost use Rattle.partition_stream.specs.Streams.{AreSealed, logged};
 ghost use Rattle.stream_manager.specs.declared.faults.RepairFault.TheVariants.{NoSuchExtent};
 ghost use Rattle.stored_rows.specs.Counting.{FailsStored};
-ghost use Rattle.stored_rows.specs.Repairs.{FailsRepair, HasCopyOn};
+ghost use Rattle.stored_rows.specs.Repairs.{FailsRepair, HasCopyOn, IsRepairOf, unnamed};
 ghost use Rattle.stored_slot.specs.Meanings.{AreOfStreams, slot_with};
 ghost use Rattle.stored_slot.specs.Settled.{LeavesRepaired, LeavesSettled, repair_fault_of};
 
@@ -14,8 +14,7 @@ use partition_stream::{Replaced, StreamName};
 use slot_state::{AccountPairs, Histories};
 use stamp_types::Past;
 use std::alloc::Global;
-use stored_rows::{StoredFault, StoredRows};
-use stream_manager::RepairFault;
+use stored_rows::{Repaired, Sealed, StoredFault, StoredRows, Unrepaired};
 
 /// Settles a doubt, if there is one, and then loads the rows, if they are not loaded.
 pub(crate) fn loading<H: Histories, W: Wire>(
@@ -47,7 +46,7 @@ pub(crate) fn sealing<H: Histories, W: Wire>(
     pairs: &AccountPairs,
     alloc: Global,
     wire: &mut W,
-) -> Result<(), StoredFault>
+) -> Result<Sealed, StoredFault>
     requires before { AreOfStreams pairs.now (H.held histories.old) stored.old doubt.old }
     ensures after { AreOfStreams pairs.now (H.held histories.new) stored.new doubt.new }
     ensures left { LeavesSettled result (slot_with pairs.now (H.held histories.old) stored.old doubt.old)
@@ -69,7 +68,6 @@ pub(crate) fn checkpointing<H: Histories, W: Wire>(
     doubt: &mut Option<Past>,
     pairs: &AccountPairs,
     alloc: Global,
-    extent_bytes: u32,
     wire: &mut W,
 ) -> Result<Replaced, StoredFault>
     requires before { AreOfStreams pairs.now (H.held histories.old) stored.old doubt.old }
@@ -77,22 +75,21 @@ pub(crate) fn checkpointing<H: Histories, W: Wire>(
     ensures left { LeavesSettled result (slot_with pairs.now (H.held histories.old) stored.old doubt.old)
         (slot_with pairs.now (H.held histories.new) stored.new doubt.new) }
     ensures emptied { OnOk result ((logged stored.new.streams).log ≡ []) }
-    ensures limits { OnOk result ((stored.new.streams.log.limit ≡ extent_bytes) × (stored.new.streams.rows.limit ≡ extent_bytes)) }
     ensures counted { FailsStored result (W.faults wire.old) (W.faults wire.new) }
 {
     match loading(histories, stored, doubt, pairs, alloc, wire) {
-        Ok(()) => stored.checkpoint(extent_bytes, wire),
+        Ok(()) => stored.checkpoint(wire),
         Err(fault) => Err(fault),
     }
 }
 
 // What a repair answers if the doubt cannot be settled.
-fn repair_fault(fault: StoredFault) -> RepairFault
+fn repair_fault(fault: StoredFault) -> Unrepaired
     ensures { result ≡ repair_fault_of fault }
 {
     match fault {
-        StoredFault::Busy => RepairFault::Unreachable,
-        StoredFault::NoMemory => RepairFault::NoMemory,
+        StoredFault::Busy => Unrepaired::Unreachable,
+        StoredFault::NoMemory => Unrepaired::NoMemory,
     }
 }
 
@@ -109,14 +106,15 @@ pub(crate) fn repairing<H: Histories, W: Wire>(
     extent: u64,
     node: Node,
     wire: &mut W,
-) -> Result<(), RepairFault>
+) -> Result<Repaired, Unrepaired>
     requires before { AreOfStreams pairs.now (H.held histories.old) stored.old doubt.old }
     ensures after { AreOfStreams pairs.now (H.held histories.new) stored.new doubt.new }
-    ensures left { LeavesRepaired result (slot_with pairs.now (H.held histories.old) stored.old doubt.old)
+    ensures own { IsRepairOf part extent node result }
+    ensures left { LeavesRepaired (unnamed result) (slot_with pairs.now (H.held histories.old) stored.old doubt.old)
         (slot_with pairs.now (H.held histories.new) stored.new doubt.new) }
     ensures copied { OnOk result (HasCopyOn node extent (stream_of part stored.new.streams)) }
-    ensures refused { result ≡ Err NoSuchExtent → length (stream_of part stored.new.streams).sealed ≤ extent }
-    ensures counted { FailsRepair result (W.faults wire.old) (W.faults wire.new) }
+    ensures refused { unnamed result ≡ Err NoSuchExtent → length (stream_of part stored.new.streams).sealed ≤ extent }
+    ensures counted { FailsRepair (unnamed result) (W.faults wire.old) (W.faults wire.new) }
 {
     match settling(histories, stored, doubt, pairs, alloc, wire) {
         Ok(()) => stored.repair(part, extent, node, wire),

@@ -1,16 +1,20 @@
 //! The slot whose containers are kept in streams.
-ghost use Rattle.std.specs.Prelude.{◌≡◌, ◌⊎◌, true};
+ghost use Rattle.std.specs.Prelude.{◌≡◌, ◌⊎◌, None, true};
 ghost use Rattle.std.specs.Arc.{arc_value};
+ghost use Rattle.std.specs.FinMap as finite;
 ghost use Rattle.std.specs.Option.{option_copied};
 ghost use Rattle.extent_seal.specs.Counting.{Grows};
 ghost use Rattle.policy_book.specs.Judgements.{IsOfAsk};
 ghost use Rattle.range_rows.specs.Readings.{reading_of};
+ghost use Rattle.stamp_types.specs.World.{no_part};
+ghost use Rattle.stamp_values.specs.declared.key.Key.{Key};
 ghost use Rattle.stamp_model.specs.SeenContainers.{routed};
 ghost use Rattle.stored_rows.specs.Counting.{FailsStored};
-ghost use Rattle.stored_rows.specs.Repairs.{FailsRepair};
+ghost use Rattle.stored_rows.specs.Repairs.{FailsRepair, IsRepairOf, unnamed};
+ghost use Rattle.stored_rows.specs.States.{doubt_of, pieces_of};
 ghost use Rattle.slot_state.specs.Slots as slots;
-ghost use Rattle.slot_state.specs.Slots.{empty_slot};
 ghost use Rattle.tickets.specs.declared.answer.Answer.TheVariants as answer;
+ghost use Rattle.stored_slot.specs.Meanings.{slot_with};
 ghost use Rattle.stored_slot.specs.Served.{Faulted, SlotServes};
 ghost use Rattle.stored_slot.specs.Settled.{CutsSettled, LeavesRepaired, LeavesSettled, SettlesOrFails};
 
@@ -25,12 +29,11 @@ use partition_stream::{Replaced, StreamName};
 use policy_book::Judged;
 use range_rows::Reading;
 use slot_state::{AccountPairs, Histories};
-use stamp_types::{Key, Moment, Past, Request, Text};
+use stamp_types::{Key, Moment, Past, Request};
 use std::alloc::{AllocError, Global};
 use std::marker::Model;
 use std::sync::Arc;
-use stored_rows::{KeyRange, StoredFault, StoredRows};
-use stream_manager::RepairFault;
+use stored_rows::{Repaired, Sealed, StoredFault, StoredRows, Unloaded, Unrepaired};
 use tickets::Answer;
 
 /// The containers of a range of keys, which three streams keep, and the accepted changes of each, with the key pairs of all accounts.
@@ -42,14 +45,13 @@ pub struct StoredSlot<H: Histories> {
     pub(crate) histories: H,
     pub(crate) stored: StoredRows,
     pub(crate) pairs: Arc<AccountPairs>,
-    // The limit of the extents of each log and of all rows that a checkpoint begins.
-    pub(crate) extent_bytes: u32,
     // The change that is in doubt, with the moment and the epoch at which it was served.
     pub(crate) doubt: Option<Past>,
 }
 
 impl<H: Histories> Model for StoredSlot<H> {
     ghost use Rattle.std.specs.Arc.{arc_value};
+ghost use Rattle.std.specs.FinMap as finite;
     ghost use Rattle.slot_state.specs.Slots.{SlotState, slot_code};
     ghost use Rattle.stored_slot.specs.Meanings.{AreOfStreams, slot_with};
 
@@ -63,24 +65,18 @@ impl<H: Histories> Model for StoredSlot<H> {
 }
 
 impl<H: Histories> StoredSlot<H> {
-    /// A slot of all keys, without containers, for these key pairs. An extent of two or more blocks has at most `extent_bytes` bytes. Takes
-    /// no memory: the slot shares the pairs.
-    pub fn of_pairs(alloc: Global, extent_bytes: u32, pairs: Arc<AccountPairs>) -> Self
-        ensures { result ≡ empty_slot (arc_value pairs) }
+    /// A slot of the range of these rows, which are new and have no container, for these key pairs. Its extents have the limit of the rows.
+    /// Takes no memory: the slot shares the pairs.
+    pub fn of_rows(alloc: Global, rows: StoredRows, pairs: Arc<AccountPairs>) -> Self
+        requires none { (key : Key) → pieces_of rows key ≡ no_part }
+        requires sure { doubt_of rows ≡ None }
+        ensures { result ≡ slot_with (arc_value pairs) finite.empty rows None }
     {
         pairs.numbered();
-        let range = KeyRange {
-            from: Key {
-                account: Text::empty(alloc),
-                container: Text::empty(alloc),
-            },
-            to: None,
-        };
         Self {
             histories: H::none(alloc),
-            stored: StoredRows::new(alloc, extent_bytes, range),
+            stored: rows,
             pairs,
-            extent_bytes,
             doubt: None,
         }
     }
@@ -175,11 +171,12 @@ impl<H: Histories> StoredSlot<H> {
         )
     }
 
-    /// Drops the rows from memory. A change that is in doubt stays in doubt.
-    pub fn unload(&mut self)
+    /// Takes the rows out of memory, and gives them, so that a caller may drop them once it holds no lock. A change that is in doubt stays in
+    /// doubt.
+    pub fn unload(&mut self) -> Unloaded
         ensures { self.new ≡ self.old }
     {
-        self.stored.unload();
+        self.stored.unload()
     }
 
     /// Settles a doubt, if there is one, and reads the rows from the streams, if they are not loaded.
@@ -204,7 +201,7 @@ impl<H: Histories> StoredSlot<H> {
     ///
     /// After a fault nothing is changed, except that a doubt may have ended. Busy: nodes that were needed did not answer. NoMemory: memory ran
     /// out.
-    pub fn seal<W: Wire>(&mut self, alloc: Global, wire: &mut W) -> Result<(), StoredFault>
+    pub fn seal<W: Wire>(&mut self, alloc: Global, wire: &mut W) -> Result<Sealed, StoredFault>
         ensures left { LeavesSettled result self.old self.new }
         ensures counted { FailsStored result (W.faults wire.old) (W.faults wire.new) }
     {
@@ -237,7 +234,6 @@ impl<H: Histories> StoredSlot<H> {
             &mut self.doubt,
             &self.pairs,
             alloc,
-            self.extent_bytes,
             wire,
         )
     }
@@ -263,20 +259,19 @@ impl<H: Histories> StoredSlot<H> {
             &mut self.doubt,
             &self.pairs,
             alloc,
-            self.extent_bytes,
             middle,
             wire,
         )
     }
 
     /// Another partition server takes the slot: it has none of the rows in memory, and reads them from the streams when they are needed. A
-    /// change that is in doubt stays in doubt.
+    /// change that is in doubt stays in doubt. Gives the rows that were in memory.
     ///
     /// The server's number is not kept, since nothing that a slot answers depends on it.
-    pub fn move_to(&mut self, _server: u32)
+    pub fn move_to(&mut self, _server: u32) -> Unloaded
         ensures { self.new ≡ self.old }
     {
-        self.stored.unload();
+        self.stored.unload()
     }
 
     /// Settles a doubt, if there is one, and gives the node a copy of a whole sealed extent of one stream, if it has no copy. No byte is
@@ -285,9 +280,9 @@ impl<H: Histories> StoredSlot<H> {
     /// The other nodes, which have a copy, are asked in the order 0, 1, 2 until one of them answers yes. Then each block of the extent is put
     /// to the node once. Only the extent of this slot is repaired, also if other slots share it.
     ///
-    /// After a fault nothing is changed, except that a doubt may have ended. NoSuchExtent: no sealed extent of the stream has this number.
-    /// Unreachable: the doubt could not be settled, since nodes that were needed did not answer; or each node with a copy was asked and
-    /// answered no; or a put was not Done. NoMemory: memory ran out.
+    /// The answer is of the stream, the extent and the node that were named. After a fault nothing is changed, except that a doubt may have
+    /// ended. NoSuchExtent: no sealed extent of the stream has this number. Unreachable: the doubt could not be settled, since nodes that
+    /// were needed did not answer; or each node with a copy was asked and answered no; or a put was not Done. NoMemory: memory ran out.
     pub fn repair<W: Wire>(
         &mut self,
         alloc: Global,
@@ -295,9 +290,10 @@ impl<H: Histories> StoredSlot<H> {
         extent: u64,
         node: Node,
         wire: &mut W,
-    ) -> Result<(), RepairFault>
-        ensures left { LeavesRepaired result self.old self.new }
-        ensures counted { FailsRepair result (W.faults wire.old) (W.faults wire.new) }
+    ) -> Result<Repaired, Unrepaired>
+        ensures own { IsRepairOf part extent node result }
+        ensures left { LeavesRepaired (unnamed result) self.old self.new }
+        ensures counted { FailsRepair (unnamed result) (W.faults wire.old) (W.faults wire.new) }
     {
         repairing(
             &mut self.histories,

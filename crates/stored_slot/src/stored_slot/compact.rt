@@ -30,7 +30,6 @@ impl<H: Histories> StoredSlot<H> {
             &mut self.doubt,
             &self.pairs,
             alloc,
-            self.extent_bytes,
             wire,
         )
     }

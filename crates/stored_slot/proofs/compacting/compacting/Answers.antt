@@ -1,5 +1,5 @@
 use Rattle.std.proofs.Common.{inr}
-use Rattle.stored_slot.proofs.CompactLemmas.{compact_empties, compact_kept, compact_left, compact_limits}
+use Rattle.stored_slot.proofs.CompactLemmas.{compact_empties, compact_kept, compact_left}
 use Rattle.stored_slot.proofs.KeepLemmas.{stored_later}
 use Rattle.stored_slot.proofs.ServeLemmas.{settled_sure}
 use Rattle.stored_slot.proofs.compacting.compacting.Goals as goal
@@ -22,10 +22,7 @@ returns-in-Ok-clause-left g c =
     compact_left c.args.pairs.now (held c.args.histories.now) (held c.settling.new.histories) c.args.stored.now c.settling.new.stored c.args.doubt.now c.settling.new.doubt c.in-Ok.ensures.settled c.settling.ensures.after c.compact.new.self c.compact.result c.compact.ensures.kept
 
 pub returns-in-Ok-clause-emptied : goal.returns-in-Ok-clause-emptied
-returns-in-Ok-clause-emptied g c = compact_empties c.compact.result c.args.extent_bytes c.settling.new.stored c.compact.new.self c.compact.ensures.compacted
-
-pub returns-in-Ok-clause-limits : goal.returns-in-Ok-clause-limits
-returns-in-Ok-clause-limits g c = compact_limits c.compact.result c.args.extent_bytes c.settling.new.stored c.compact.new.self c.compact.ensures.compacted
+returns-in-Ok-clause-emptied g c = compact_empties c.compact.result c.settling.new.stored c.compact.new.self c.compact.ensures.compacted
 
 pub returns-in-Ok-clause-counted : goal.returns-in-Ok-clause-counted
 returns-in-Ok-clause-counted g c = stored_later c.compact.result _ _ _ c.in-Ok.ensures.counted c.compact.ensures.counted

@@ -4,7 +4,7 @@ use Rattle.slot_state.specs.Pairs.{AreNumbered, Pairs}
 use Rattle.core_run.specs.Cores.{CoreState, StandsFor}
 use Rattle.core_run.specs.States.{opening}
 use Rattle.core_run.proofs.CoreLemmas.{stands_opening}
-use Rattle.stamp_core.proofs.cores.Core.with_extents.Goals as goal
+use Rattle.stamp_core.proofs.cores.Core.of_rows.Goals as goal
 
 pub returns-clause-stands : goal.returns-clause-stands
 returns-clause-stands g c =
