@@ -30,6 +30,7 @@ CAUSES = {
     "MeetFault": ("fault",), "Missed": ("told",), "NameFault": (ONLY,), "NoReplica": ("unanswered", "same"), "None": ("valid", "complete"),
     "Over": ("ended",), "PairsFault.NotFirst": ("not_first", "refused"), "PairsFault.Twice": ("twice", "refused"), "PutFault": ("counted",),
     "ReadFault": ("unreachable",), "RecordFault": ("exact",), "RepairFault.NoSuchExtent": ("refused",), "RepairFault": ("faulty", "counted"),
+    "Unrepaired.NoSuchExtent": ("refused",), "Unrepaired": ("counted",),
     "SecretFault": ("refused",), "SettleFault": ("counted",), "StepFault": ("taken",), "StoredFault": ("counted",), "TakeFault": ("counted",),
     "TimeFault.Form": ("form",), "TimeFault.Range": ("range",), "TokenFault": ("refused",), "Unreachable": ("unreachable",),
 }
