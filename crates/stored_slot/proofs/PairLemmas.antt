@@ -1,5 +1,5 @@
 -- A slot by longer key pairs.
-use Rattle.std.proofs.Common.{◌≡◌, ◌≤◌, ◌∙◌, arith, ℕ, List, Option, Some, None, refl, sym, ap, subst}
+use Rattle.std.proofs.Common.{◌≡◌, ◌∙◌, arith, ℕ, List, Option, Some, None, sym, ap, subst}
 use Rattle.stamp_types.specs.declared.past.Past.{Past}
 use Rattle.stamp_types.specs.Changes.{KeyedAct}
 use Rattle.stamp_types.specs.World.{Part}

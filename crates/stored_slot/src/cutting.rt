@@ -70,13 +70,13 @@ fn cut_with<H: Histories, W: Wire>(
                 below,
                 above,
                 pairs,
-                    } = halves;
+            } = halves;
             *histories = below;
             Ok(StoredSlot {
                 histories: above,
                 stored: upper,
                 pairs,
-                        doubt: None,
+                doubt: None,
             })
         }
         Err(fault) => {

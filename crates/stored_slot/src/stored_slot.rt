@@ -51,7 +51,7 @@ pub struct StoredSlot<H: Histories> {
 
 impl<H: Histories> Model for StoredSlot<H> {
     ghost use Rattle.std.specs.Arc.{arc_value};
-ghost use Rattle.std.specs.FinMap as finite;
+    ghost use Rattle.std.specs.FinMap as finite;
     ghost use Rattle.slot_state.specs.Slots.{SlotState, slot_code};
     ghost use Rattle.stored_slot.specs.Meanings.{AreOfStreams, slot_with};
 
