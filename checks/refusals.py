@@ -23,16 +23,16 @@ DEPTH = 4
 ONLY = "the only one"
 # The clauses that give the cause of a refusal: by its type and its case, or by its type. The first one that a contract has is the one.
 CAUSES = {
-    "AfterFault": ("fault",), "AllocError": ("memory",), "AppendFault.TooLarge": ("large",), "AppendFault": ("counted",), "BlockFault": ("fault",),
-    "BodyFault": ("refused",), "CompactionFault": ("counted",), "CopyFault": ("unreachable",), "FieldFault": (ONLY,),
+    "AfterFault": ("fault", "back"), "AllocError": ("memory",), "AppendFault.TooLarge": ("large",), "AppendFault": ("counted",),
+    "BlockFault": ("fault",), "BodyFault": ("refused",), "CompactionFault": ("counted",), "CopyFault": ("unreachable",), "FieldFault": (ONLY,),
     "FrontFault": ("left", "failed", ONLY), "HeadFault.Denied": ("denied",), "HeaderFault.Form": ("form",), "HeaderFault.Scheme": ("scheme",),
     "HeaderFault.Twice": ("twice",), "KeysFault.Last": ("last",), "Link": ("between",), "LogFault": ("counted",), "MapFault": ("refused",),
-    "MeetFault": ("fault",), "Missed": ("told",), "NameFault": (ONLY,), "NoReplica": ("unanswered", "same"), "None": ("valid", "complete"),
-    "Over": ("ended",), "PairsFault.NotFirst": ("not_first", "refused"), "PairsFault.Twice": ("twice", "refused"), "PutFault": ("counted",),
-    "ReadFault": ("unreachable",), "RecordFault": ("exact",), "RepairFault.NoSuchExtent": ("refused",), "RepairFault": ("faulty", "counted"),
-    "Unrepaired.NoSuchExtent": ("refused",), "Unrepaired": ("counted",),
-    "SecretFault": ("refused",), "SettleFault": ("counted",), "StepFault": ("taken",), "StoredFault": ("counted",), "TakeFault": ("counted",),
-    "TimeFault.Form": ("form",), "TimeFault.Range": ("range",), "TokenFault": ("refused",), "Unreachable": ("unreachable",),
+    "MeetFault": ("fault",), "Missed": ("told",), "NameFault": (ONLY,), "NoReplica": ("unanswered", "same"), "NoSuchSlot": (ONLY,),
+    "None": ("valid", "complete"), "Over": ("ended",), "PairsFault.NotFirst": ("not_first", "refused"), "PairsFault.Twice": ("twice", "refused"),
+    "PutFault": ("counted",), "ReadFault": ("unreachable",), "RecordFault": ("exact",), "RepairFault.NoSuchExtent": ("refused",),
+    "RepairFault": ("faulty", "counted"), "Unrepaired.NoSuchExtent": ("refused",), "Unrepaired": ("counted",), "SecretFault": ("refused",), "SettleFault": ("counted",), "SplitError": ("fault",), "StepFault": ("taken",),
+    "StoredFault": ("counted",), "TakeFault": ("counted",), "TendFault": (ONLY,), "TimeFault.Form": ("form",), "TimeFault.Range": ("range",),
+    "TokenFault": ("refused",), "Unreachable": ("unreachable",),
 }
 # The clauses that say that a refusal never comes, in the same way.
 NEVER = {

@@ -35,6 +35,10 @@ mod service_tests;
 #[cfg(test)]
 mod split_tests;
 #[cfg(test)]
+mod stamp_samples;
+#[cfg(test)]
+mod stamp_tests;
+#[cfg(test)]
 mod stored_checkpoint_tests;
 #[cfg(test)]
 mod stored_compaction_tests;

@@ -1,0 +1,4 @@
+pub mod LawLemmas
+pub mod LentLemmas
+pub mod TendLemmas
+pub mod TurnLemmas

@@ -1,0 +1,26 @@
+//! What is done to one slot of a stamp, beside serving, moving and splitting it.
+use extent_node::Node;
+use partition_stream::StreamName;
+
+/// What is done to one slot of a stamp, beside serving, moving and splitting it.
+#[derive(Clone, Copy)]
+pub enum Care {
+    /// Keep or drop the change that is in doubt.
+    Settle,
+    /// Seal the open extents.
+    Seal,
+    /// Read the rows from the streams.
+    Load,
+    /// Write the rows as a checkpoint, and begin the log anew.
+    Checkpoint,
+    /// Write the rows and the content that they say, and no other content, to new streams.
+    Compact,
+    /// Drop the rows from memory.
+    Unload,
+    /// Copy a sealed extent of one of the streams to a node, unless the node has the whole extent.
+    Repair {
+        stream: StreamName,
+        extent: u64,
+        node: Node,
+    },
+}

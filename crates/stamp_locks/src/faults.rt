@@ -1,0 +1,27 @@
+//! Why calls on the slots of a stamp failed.
+use partition_map::MapFault;
+use stored_rows::{StoredFault, Unrepaired};
+
+/// No slot has the number.
+#[derive(Clone, Copy, PartialEq, Eq)]
+pub struct NoSuchSlot;
+
+/// Why a care of a slot failed.
+#[derive(Clone, Copy)]
+pub enum TendFault {
+    /// No slot has the number.
+    NoSuchSlot,
+    /// Nodes that were needed did not answer, or memory ran out.
+    Slot(StoredFault),
+    /// The repair failed.
+    Repair(Unrepaired),
+}
+
+/// Why a slot was not split.
+#[derive(Clone, Copy)]
+pub enum SplitError {
+    /// The spans do not allow the split, or memory ran out for the split point.
+    Map(MapFault),
+    /// Nodes that were needed did not answer, or memory ran out for the halves of the slot.
+    Slot(StoredFault),
+}
