@@ -9,7 +9,7 @@ from functools import cache
 from pathlib import Path
 
 from body_model import STEPS as SECOND, http_date
-from head_model import read_head
+from head_model import head_end, read_head
 from replay_model import etag_text, hmac_of, string_to_sign
 from machine_model import ACCOUNT, KEYS, Machine
 from stream_model import Fixed, Lines, Random, Streams, Wire
@@ -22,6 +22,7 @@ BLOBS = ["a", "b"]
 IDS = ["AAAA", "BBBB", "CCCC"]
 CUTS = ["aab", "bbb", "ccd", "m00", "mmm", "q00", "video", "zz0"]
 PARTS = ("log", "blobs", "rows")
+NEW_KEYS = ("key1", "new1", "new2")
 LIMITS = (1, 200, 500, 2_000, 1_000_000)
 BUSY_LINE, UNKNOWN_LINE = b"\r\nx-stamp-rule: N1\r\n", b"\r\nx-stamp-rule: N2\r\n"
 POLICY = "<SignedIdentifier><Id>p</Id><AccessPolicy><Permission>r</Permission></AccessPolicy></SignedIdentifier>"
@@ -42,6 +43,15 @@ def request(verb, path, moment, headers=(), body=b"", key=KEYS[0]):
         signature = hmac_of(key, string_to_sign(read_head(head.encode() + b"\r\n"))).decode()
         head += f"Authorization: SharedKey {ACCOUNT}:{signature}\r\n"
     return head.encode() + b"\r\n" + body
+
+
+def signed_anew(asked, keys):
+    """A request with a signature by one of these keys in place of the one by the first pair's key of the same number, if it has that."""
+    text = string_to_sign(read_head(asked[: head_end(asked, 0)]))
+    for old, new in zip(KEYS, keys):
+        if old != new and (signature := hmac_of(old, text)) in asked:
+            return asked.replace(signature, hmac_of(new, text))
+    return asked
 
 
 def create(name, moment, *headers):
@@ -189,11 +199,12 @@ class Run:
         self.wire.begin()
         return self.made(name, words, getattr(self.machine, name)(*words, self.wire))
 
-    def serve(self, make):
-        """Serves the request that is made of the next moment."""
+    def serve(self, make, is_stale=False):
+        """Serves the request that is made of the next moment. It is signed by the pair in force, or by the first pair."""
         self.moment += SECOND
         self.wire.begin()
         asked = make(self.moment)
+        asked = asked if is_stale else signed_anew(asked, self.machine.stamp.keys)
         answer = self.made("serve", [self.moment, asked.hex()], self.machine.serve(asked, self.moment, self.wire))
         if asked[:3] in (b"PUT", b"DEL"):
             self.known += [self.moment] * answer.startswith(b"HTTP/1.1 20")
@@ -244,15 +255,17 @@ def random_step(run, dice, often=1):
     slots = run.machine.slots
     in_doubt, unloaded = any(it.doubt for it in slots), not all(it.is_loaded for it in slots)
     ways = {"serve": 28, "settle": 1 + 3 * in_doubt, "seal": 2, "load": 0.5 + unloaded, "unload": 1.5, "move": 0.7, "repair": 2.5, "split": 1.5}
-    ways |= {"checkpoint": often, "compact": 1.5 * often, "fetch": 0.2 + 3 * any(run.machine.tickets)}
+    ways |= {"checkpoint": often, "compact": 1.5 * often, "fetch": 0.2 + 3 * any(run.machine.tickets), "rotate": 2}
     way = dice.choices([*ways], [*ways.values()])[0]
     if way == "serve":
-        run.serve(Requests(dice, run.machine.stamp).one)
+        run.serve(Requests(dice, run.machine.stamp).one, dice.random() < 0.1)
     elif way == "fetch":
         held = [number for number, it in enumerate(run.machine.tickets) if it]
         run.fetch(dice.choice(held) if held and dice.random() < 0.9 else dice.randrange(len(run.machine.tickets) + 1))
     elif way == "split":
         run.step("split", random_slot(run, dice), dice.choice(CUTS))
+    elif way == "rotate":
+        run.step("rotate", "other" if dice.random() < 0.1 else ACCOUNT, dice.choice(("first", "second")), dice.choice(NEW_KEYS))
     elif way == "move":
         run.step("move", random_slot(run, dice), dice.randrange(3))
     elif way == "repair":
@@ -316,6 +329,7 @@ def script(run):
     yield run.step("unload", 0)
     yield read("pics")
     yield run.step("split", 0, "mmm")
+    yield run.step("rotate", ACCOUNT, "first", "new1")
     yield serve(put, "aaa", "a", b"world")
     yield run.step("move", 1, 1)
     yield run.step("load", 1)

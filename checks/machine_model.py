@@ -144,7 +144,7 @@ class Machine:
     """Slots, split points and tickets. Each step answers one word, or a reply."""
 
     def __init__(self, limit):
-        self.stamp, self.history = Containers(ACCOUNT, KEYS), []
+        self.stamp, self.history, self.epoch = Containers(ACCOUNT, [*KEYS]), [], 0
         self.slots, self.tickets = [Slot(Streams(limit))], []
 
     def check(self):
@@ -233,6 +233,14 @@ class Machine:
                 return "unreachable"
         self.tickets[number] = None
         return told(asked, moment, reply)
+
+    def rotate(self, account, which, key, _wire):
+        """Replaces a key, for all slots at once. What was accepted before stays, and so does a doubt, since no request is judged twice."""
+        if account != ACCOUNT:
+            return "no account"
+        self.stamp.keys[("first", "second").index(which)] = key.encode()
+        self.epoch += 1
+        return f"epoch {self.epoch}"
 
     # ---- slots
 
