@@ -83,6 +83,17 @@ pub(crate) fn compact_steadily(
     core.compact_wasteful(alloc, wire)
 }
 
+// Compacts as `compact_steadily` does, and drops what was replaced. What a compaction gives is large, so it is not even made as None if
+// nothing is to be compacted.
+fn compact_if_wasteful(core: &mut Core<ProvedHistories>, wire: &mut Steady, alloc: Global)
+    requires calm { IsCalm core.old }
+    ensures { core.new ≡ core.old }
+{
+    if core.is_wasteful() {
+        drop(compact_steadily(core, wire, alloc));
+    }
+}
+
 /// The service of one account over a core whose nodes are in memory: each reply is the machine's. One connection after the other may use it.
 ///
 /// Contracts see it as the core (`CoreState` of `core_run`).
@@ -123,6 +134,14 @@ impl CoreService {
     }
 }
 
+#[cfg(test)]
+impl CoreService {
+    // Whether the core is to be compacted.
+    pub(crate) fn is_wasteful(&self) -> bool {
+        self.core.is_wasteful()
+    }
+}
+
 impl Service for CoreService {
     ghost use Rattle.core_run.specs.Cores.{CoreState};
 
@@ -148,7 +167,7 @@ impl Service for CoreService {
     {
         let reading = Reading::of(alloc, &request)?;
         let Self { core, wire } = self;
-        drop(compact_steadily(core, wire, alloc));
+        compact_if_wasteful(core, wire, alloc);
         answer_steadily(core, wire, alloc, &request, None, reading, moment)
     }
 }

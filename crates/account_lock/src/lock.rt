@@ -21,7 +21,7 @@ use stamp_types::{Moment, Reply, Request};
 use std::alloc::{AllocError, Global};
 use std::marker::Model;
 use std::sync::ledger::{Book, Share};
-use std::sync::{Arc, Mutex, Wait};
+use std::sync::{Arc, Mutex, MutexGuard, Wait};
 use stored_rows::Compacted;
 
 /// The most entries of a history. A server that answers a million requests a second reaches it after 70,000 years.
@@ -103,6 +103,14 @@ impl<A: Account> Locked<A> {
             return Err(AllocError);
         }
         Ok(front)
+    }
+
+    // Whether the core has many bytes of content and rows to which nothing refers.
+    fn is_wasteful(&self) -> bool {
+        match &self.core {
+            Ok(core) => core.is_wasteful(),
+            Err(_) => false,
+        }
     }
 
     // Gives up content and rows to which nothing refers, if there are many. What was replaced is dropped once the lock is given back.
@@ -197,6 +205,19 @@ impl<A: Account> AccountLock<A> {
         Ok((lock, share))
     }
 
+    // Waits for the lock. If earlier changes left much to which nothing refers, the core is compacted first, and what that replaces is
+    // dropped while the lock is free.
+    fn ready<R: Wait>(&self, rt: &R, alloc: Global) -> MutexGuard<'_, Locked<A>> {
+        let mut locked = self.locked.lock(rt);
+        if !locked.is_wasteful() {
+            return locked;
+        }
+        let replaced = locked.compact(alloc);
+        drop(locked);
+        drop(replaced);
+        self.locked.lock(rt)
+    }
+
     /// A history of the lock's requests. Waits for the lock.
     ///
     /// It has at least as many entries as the share counts. If the caller owns all shares in one, it has exactly as many. To the
@@ -209,6 +230,14 @@ impl<A: Account> AccountLock<A> {
         let mut locked = self.locked.lock(rt);
         locked.made.audit(share);
         locked.front.again()
+    }
+}
+
+#[cfg(test)]
+impl<A: Account> AccountLock<A> {
+    // Whether the core is to be compacted. Waits for the lock.
+    pub(crate) fn is_wasteful<R: Wait>(&self, rt: &R) -> bool {
+        self.locked.lock(rt).is_wasteful()
     }
 }
 
@@ -271,7 +300,7 @@ impl<'a, A: Account, R: Wait> Service for Connection<'a, A, R> {
     ///
     /// The signature is judged and the body is read before the lock is taken, and the request is dropped after the lock is given back.
     /// If earlier changes left much to which nothing refers, the core is compacted first: the replies to these changes are out by then. What
-    /// that replaces is dropped after the lock is given back.
+    /// that replaces is dropped while nobody has the lock, which is then taken again.
     ///
     /// `AllocError` if memory runs out: then there is no entry and no change.
     fn answer(
@@ -282,8 +311,7 @@ impl<'a, A: Account, R: Wait> Service for Connection<'a, A, R> {
     ) -> Result<Reply, AllocError> {
         let judged = judge(alloc, &self.lock.keys, &request)?;
         let reading = Reading::of(alloc, &request)?;
-        let mut locked = self.lock.locked.lock(self.rt);
-        let replaced = locked.compact(alloc);
+        let mut locked = self.lock.ready(self.rt, alloc);
         let answered = locked.answer(
             alloc,
             &self.lock.count,
@@ -295,7 +323,6 @@ impl<'a, A: Account, R: Wait> Service for Connection<'a, A, R> {
             moment,
         );
         drop(locked);
-        drop(replaced);
         drop(judged);
         drop(request);
         answered

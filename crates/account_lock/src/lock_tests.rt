@@ -28,6 +28,10 @@ const CREATE: &[u8] =
 const PUT: &[u8] =
     b"PUT /devstoreaccount1/pics/a.txt HTTP/1.1\r\nHost: 127.0.0.1:10000\r\nContent-Length: 5\r\nx-ms-blob-type: BlockBlob\r\nx-ms-version: 2012-02-12\r\nx-ms-date: Mon, 01 Oct 2012 12:00:00 GMT\r\nAuthorization: SharedKey devstoreaccount1:O9UZNW452QDPdLw1F6p3ZC4NHU5qWVzYuTPZoHu3yXw=\r\n\r\nhello";
 
+// The head of a Put Block of 3,500,000 bytes, signed by `key1`.
+const PUT_BLOCK: &[u8] =
+    b"PUT /devstoreaccount1/pics/a.txt?comp=block&blockid=AAAA HTTP/1.1\r\nx-ms-date: Mon, 01 Oct 2012 12:00:00 GMT\r\nx-ms-version: 2012-02-12\r\nContent-Length: 3500000\r\nAuthorization: SharedKey devstoreaccount1:nEov6sNyTR++xDdeS1fSSQbYU+lTqqbgLXdRS+TMJi0=\r\n\r\n";
+
 // A Get Blob of it, signed by `key1`.
 const GET: &[u8] =
     b"GET /devstoreaccount1/pics/a.txt HTTP/1.1\r\nHost: 127.0.0.1:10000\r\nx-ms-date: Mon, 01 Oct 2012 12:00:00 GMT\r\nx-ms-version: 2012-02-12\r\nAuthorization: SharedKey devstoreaccount1:1faO58/enDoA9unDNvD2pMLw3jmfkbnVyTRBzimElkI=\r\n\r\n";
@@ -53,7 +57,7 @@ impl Clock for Still {
 // Sends the input to the service, and returns all that is written.
 fn sent<S: Service, R: Abort>(rt: &R, alloc: Global, service: &mut S, input: &[u8]) -> Vec<u8> {
     let moment = Moment::new(NOON).expect(rt, "a moment");
-    let mut http = http_front::Connection::new(alloc, input, Vec::new(alloc), 100);
+    let mut http = http_front::Connection::new(alloc, input, Vec::new(alloc), 1_000);
     let end = run(alloc, &mut http, &mut Still { moment }, service);
     assert!(rt; end == Ok(End::Clean));
     let (_, out) = http.into_parts();
@@ -111,6 +115,42 @@ fn two_share<A: Account + Send + Sync, R: Threads + Wait + Abort + Sync>(
     assert!(rt; lock.history(rt, &mut made).len() == 4);
 }
 
+// A block is put five times under one id. A block that is not committed counts as wasted before a compaction, and five are more than 16 MiB.
+fn waste<S: Service, R: Abort>(rt: &R, alloc: Global, service: &mut S) {
+    assert!(rt; sent(rt, alloc, service, CREATE).starts_with(CREATED));
+    let mut request = PUT_BLOCK.to_vec(alloc).expect(rt, "memory");
+    let body = vec![in alloc; 7u8; 3_500_000].expect(rt, "memory");
+    request
+        .extend_from_slice(body.as_slice())
+        .expect(rt, "memory");
+    for _put in 0..5 {
+        assert!(rt; sent(rt, alloc, service, request.as_slice()).starts_with(CREATED));
+    }
+}
+
+// What one connection wastes is compacted at the next request of another one.
+fn compacts_for_another<A: Account, R: Wait + Abort>(
+    rt: &R,
+    alloc: Global,
+    keys: Keys,
+    history: NewHistory,
+)
+    requires keys { keys ≡ A.keys }
+    requires first { keys.epoch ≡ 0 }
+    requires history { history.seen.book ≡ A.history }
+    requires shares { (history.shares.name ≡ A.name) × (history.shares.parts ≡ A.parts) }
+    requires two { history.shares.parts ≡ 2 }
+{
+    let (lock, mut shares) = AccountLock::<A>::new(alloc, keys, history).expect(rt, "memory");
+    let mut writer = Connection::new(rt, &lock, shares.split_off(1, 0));
+    let mut reader = Connection::new(rt, &lock, shares.split_off(1, 0));
+    waste(rt, alloc, &mut writer);
+    assert!(rt; lock.is_wasteful(rt));
+    assert!(rt; sent(rt, alloc, &mut reader, PUT).starts_with(CREATED));
+    assert!(rt; !lock.is_wasteful(rt));
+    assert!(rt; sent(rt, alloc, &mut reader, GET).ends_with(b"\r\n\r\nhello"));
+}
+
 // The bytes of a key that signs.
 fn key(rt: &impl Abort, alloc: Global, bytes: &[u8]) -> SigningKey {
     SigningKey::new(bytes.to_vec(alloc).expect(rt, "memory"))
@@ -145,4 +185,21 @@ fn a_service_over_a_core_keeps_what_it_creates(rt: HostRuntime) {
     assert!(rt; sent(&rt, rt.alloc(), &mut service, CREATE).starts_with(CONFLICT));
     assert!(rt; sent(&rt, rt.alloc(), &mut service, PUT).starts_with(CREATED));
     assert!(rt; sent(&rt, rt.alloc(), &mut service, GET).ends_with(b"\r\n\r\nhello"));
+}
+
+#[test]
+fn a_service_compacts_what_is_wasted(rt: HostRuntime) {
+    let keys = keys(&rt, rt.alloc());
+    let mut service = CoreService::new(rt.alloc(), &keys).expect(&rt, "memory");
+    waste(&rt, rt.alloc(), &mut service);
+    assert!(rt; service.is_wasteful());
+    assert!(rt; sent(&rt, rt.alloc(), &mut service, PUT).starts_with(CREATED));
+    assert!(rt; !service.is_wasteful());
+    assert!(rt; sent(&rt, rt.alloc(), &mut service, GET).ends_with(b"\r\n\r\nhello"));
+}
+
+#[test]
+fn a_lock_compacts_what_a_connection_wastes(rt: HostRuntime) {
+    let keys = keys(&rt, rt.alloc());
+    compacts_for_another::<Brand, _>(&rt, rt.alloc(), keys, NewHistory::new(2));
 }
