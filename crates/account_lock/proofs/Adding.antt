@@ -5,20 +5,20 @@ use Rattle.std.proofs.lemmas.Bool.Decides.{nat_tests}
 use mathlib.Core.List.{IsPrefix}
 use prog.Atomic.{either}
 use Rattle.logbook.specs.Pages.{Cell, cell, keeps, no_nib, step, Moves, Goes}
-use Rattle.account_lock.specs.Histories.{Entered}
+use Rattle.account_lock.specs.declared.entry.Entry.{Entry}
 use Rattle.account_lock.specs.Growth.{IsCounted, Adds}
 use Rattle.account_lock.proofs.Fronts.{prefix_whole}
 
 -- clients see nothing of the history beside what they know
-abbrev pub shown : List Entered → List Entered
+abbrev pub shown : List Entry → List Entry
 shown history = []
 
 -- any step moves what clients see
-abbrev pub moved : List Entered → List Entered → ℕ → Type 0
+abbrev pub moved : List Entry → List Entry → ℕ → Type 0
 moved old new n = Unit {0}
 
 -- at a history of which a beginning is known
-pub adds_goes : (history known : List Entered) (entry : Entered) (count : ℕ) → length known ≡ count → IsPrefix known history
+pub adds_goes : (history known : List Entry) (entry : Entry) (count : ℕ) → length known ≡ count → IsPrefix known history
     → (b : Bool) → (length history == count) ≡ b
     → Goes IsCounted shown moved 0 (known, (no_nib, None)) (λ n. either (n == count) (count + 1) n) (Adds (step 0 count (count + 1) entry) (known, (no_nib, None))) ((length history, true) ∷ (0, true) ∷ []) history
 adds_goes history known entry count len begins true is =
@@ -46,7 +46,7 @@ adds_goes history known entry count len begins false is =
     )
 
 -- whatever the history is, the step adds the entry to all that was known, or finds that the history is longer
-pub adds_moves : (known : List Entered) (entry : Entered) (count : ℕ) → length known ≡ count
+pub adds_moves : (known : List Entry) (entry : Entry) (count : ℕ) → length known ≡ count
     → Moves IsCounted shown moved 0 (known, (no_nib, None)) (λ n. either (n == count) (count + 1) n) (Adds (step 0 count (count + 1) entry) (known, (no_nib, None)))
 adds_moves known entry count len cells history kept begins away =
     let P : List Cell → Type 0 = λ c. (0 < length c) × ((cell c 0).1 ≡ true) × Goes IsCounted shown moved 0 (known, (no_nib, None)) (λ n. either (n == count) (count + 1) n) (Adds (step 0 count (count + 1) entry) (known, (no_nib, None))) c history in

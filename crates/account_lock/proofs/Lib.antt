@@ -2,5 +2,6 @@ pub mod Adding
 pub mod ConnectionLemmas
 pub mod Fronts
 pub mod HistoryLemmas
+pub mod RotationLemmas
 pub mod ServiceLemmas
 pub mod WriteLemmas

@@ -17,8 +17,7 @@ use Rattle.core_run.specs.States.{State, reply_in, served}
 use Rattle.core_run.proofs.AccountLemmas.{one_reply, one_world}
 use Rattle.core_run.proofs.SplitCores.{read-doubt}
 use Rattle.stamp_core.specs.CoreSteps.{AnswersSteadily, IsCalm}
-use Rattle.account_lock.specs.Histories.{Entered, judged}
-use Rattle.account_lock.specs.Services.{AnswersAsMachine, opening_of, served_in_turn}
+use Rattle.account_lock.specs.Services.{AnswersAsMachine, opening_of}
 
 -- the state has one slot, which is not in doubt, and this key pair is the only one
 pub record IsOfAccount (keys : Keys) (s : State) : Type 0 where
@@ -39,15 +38,6 @@ module _ (keys : Keys) (s : State) (q : Asked) (t : ℕ) (of : IsOfAccount keys 
   pub world_of : (served s q t).world ≡ world_after_one s.world (timed keys q t)
   world_of = one_world keys s q t of.pairs
 
--- after entries in turn, the machine has the containers of the model
-pub left_from : (keys : Keys) (s : State) (history : List Entered) → IsOfAccount keys s
-    → IsOfAccount keys (served_in_turn s (map (judged keys) history))
-    × ((served_in_turn s (map (judged keys) history)).world ≡ world_after_all s.world (map (judged keys) history))
-left_from keys s [] of = (of, refl)
-left_from keys s (e ∷ es) of =
-    let more = left_from keys (served s e.request e.moment) es (of_served keys s e.request e.moment of) in
-    (more.0, more.1 ∙ ap (λ (w : World (List ℕ)). world_after_all w (map (judged keys) es)) (world_of keys s e.request e.moment of))
-
 -- what the core of a service answers, the service answers
 pub answered_as : {E : Type 0} (result : Result Reply E) (core c c' : CoreState) (q : Asked) (t : ℕ) → core ≡ c
     → IfOk result (λ reply. AnswersAsMachine core q t reply c') → IfOk result (λ reply. AnswersAsMachine c q t reply c')
@@ -60,10 +50,10 @@ none_there zero = refl
 none_there (suc i) = refl
 
 -- a core of one slot is not in doubt if its state is not
-pub calm_of : (keys : Keys) (c : CoreState) (s : State) → StandsFor c s → IsOfAccount keys s → IsCalm c
-calm_of keys c s stands of = λ i.
+pub calm_of : (c : CoreState) (s : State) → StandsFor c s → s.doubts ≡ None ∷ [] → IsCalm c
+calm_of c s stands doubts = λ i.
     sym (read-doubt c.slots i)
-    ∙ ap (λ (ds : List (Option Past)). option_and_then (λ (o : Option Past). o) (slice_get ds i)) (sym stands.doubts ∙ of.doubts)
+    ∙ ap (λ (ds : List (Option Past)). option_and_then (λ (o : Option Past). o) (slice_get ds i)) (sym stands.doubts ∙ doubts)
     ∙ none_there i
 
 -- a new core is not in doubt

@@ -1,21 +1,15 @@
 //! Entries of the history.
 
+use access_rules::Which;
+use hmac_sign::SigningKey;
 use stamp_types::{Moment, Request};
-use std::marker::Model;
 
-/// A request that was answered, and the moment of its answer. The code makes no value of this type: the history has its entries
-/// in proofs alone.
-pub struct Entry {
-    request: Request,
-    moment: Moment,
-}
-
-impl Model for Entry {
-    ghost use Rattle.account_lock.specs.Histories.{Entered};
-
-    ghost Value = { Entered };
-
-    ghost view = { λ e. record { request = e.request; moment = e.moment } };
+/// An entry. The code makes no value of this type: the history has its entries in proofs alone.
+pub enum Entry {
+    /// A request was answered at a moment.
+    Served { request: Request, moment: Moment },
+    /// One of the two keys of the account was replaced by this key.
+    Rotated { which: Which, key: SigningKey },
 }
 
 /// The entry that comes next, of a request that is lent.
@@ -25,10 +19,9 @@ pub struct NextEntry<'a> {
     pub moment: Moment,
 }
 
-impl<'a> Model for NextEntry<'a> {
-    ghost use Rattle.account_lock.specs.Histories.{Entered};
-
-    ghost Value = { Entered };
-
-    ghost view = { λ e. record { request = e.request.now; moment = e.moment } };
+/// The entry that comes next, of a rotation to a key that is lent.
+#[derive(Drop)]
+pub struct NextRotation<'a> {
+    pub which: Which,
+    pub key: &'a SigningKey,
 }

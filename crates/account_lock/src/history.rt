@@ -3,9 +3,12 @@
 ghost use Rattle.std.specs.Prelude.{◌≡◌, ◌+◌, ◌==◌, ◌<◌, ◌^◌, ◌++◌, ◌∷◌, ◌⊎◌, [], length, MatchBool};
 ghost use mathlib.Core.List.{IsPrefix};
 ghost use Rattle.account_lock.specs.Growth.{count_word, IsLonger};
+ghost use Rattle.account_lock.specs.declared.entry.Entry.TheVariants.{Rotated};
 ghost use Rattle.account_lock.specs.Histories.{entered};
 
-use crate::entry::{Entry, NextEntry};
+use crate::entry::{Entry, NextEntry, NextRotation};
+use access_rules::Which;
+use hmac_sign::SigningKey;
 use logbook::{Gain, Offer, Plain, Play, Rule, Seen, Start, Word};
 use stamp_types::{Moment, Request};
 use std::marker::{Brand, Model, PhantomData};
@@ -53,10 +56,21 @@ impl Play<Entry, u64> for Add {
 // What a step asks for: the entry.
 impl<'a> Plain<NextEntry<'a>, Entry, u64> for Add {
     ghost use Rattle.std.specs.Prelude.{None};
+    ghost use Rattle.account_lock.specs.Histories.{entered};
 
-    ghost ask = { λ entry. entry };
+    ghost ask = { λ e. entered e.request.now e.moment };
 
-    ghost state = { λ entry. None };
+    ghost state = { λ e. None };
+}
+
+// The same of a rotation.
+impl<'a> Plain<NextRotation<'a>, Entry, u64> for Add {
+    ghost use Rattle.std.specs.Prelude.{None};
+    ghost use Rattle.account_lock.specs.declared.entry.Entry.TheVariants.{Rotated};
+
+    ghost ask = { λ e. Rotated e.which e.key.now };
+
+    ghost state = { λ e. None };
 }
 
 /// The account that a lock serves: its history, the pair of keys that judges its requests, and the ledger of who made which number of
@@ -145,9 +159,9 @@ pub struct Front<A: Account> {
 
 impl<A: Account> Model for Front<A> {
     ghost use Rattle.std.specs.Prelude.{◌≡◌, List, length};
-    ghost use Rattle.account_lock.specs.Histories.{Entered};
+    ghost use Rattle.account_lock.specs.declared.entry.Entry.{Entry as History_entry};
 
-    ghost Value = { List Entered };
+    ghost Value = { List History_entry };
 
     ghost view = { λ f. f.seen.log };
 
@@ -212,6 +226,47 @@ impl<A: Account> Front<A> {
         let mut offer: Offer<Entry, u64, Counted, Nothing> = self
             .seen
             .plain::<Nothing, NextEntry<'_>, Add>(&next);
+        let mut pen = self.seen.no_pen();
+        let known = self.count;
+        let found = count
+            .word
+            .compare_exchange::<Add, Nothing>(
+                known,
+                known + 1,
+                &mut self.seen,
+                &mut offer,
+                &mut pen,
+            );
+        self.count = if found == known { known + 1 } else { found };
+        if found == known {
+            made.add(share, 1);
+        }
+        found == known
+    }
+
+    /// The same of the entry of a rotation.
+    pub(crate) fn add_rotation(
+        &mut self,
+        count: &EntryCount<A>,
+        made: &mut Book<A>,
+        share: &mut Share<A>,
+        which: Which,
+        key: &SigningKey,
+    ) -> bool
+        requires room { length self.old < 2 ^ 62 }
+        requires part { 0 < share.old.parts }
+        ensures entry { MatchBool result (self.new ≡ self.old ++ Rotated which key.now ∷ [])
+            (IsLonger self.old self.new) }
+        ensures sum { MatchBool result (made.new.total ≡ made.old.total + 1)
+            (made.new.total ≡ made.old.total) }
+        ensures share { MatchBool result (share.new.amount ≡ share.old.amount + 1)
+            (share.new.amount ≡ share.old.amount) }
+        ensures parts { share.new.parts ≡ share.old.parts }
+    {
+        let next = NextRotation { which, key };
+        let mut offer: Offer<Entry, u64, Counted, Nothing> = self
+            .seen
+            .plain::<Nothing, NextRotation<'_>, Add>(&next);
         let mut pen = self.seen.no_pen();
         let known = self.count;
         let found = count

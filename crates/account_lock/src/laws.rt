@@ -14,7 +14,7 @@ ghost use Rattle.http_front.specs.declared.end.End.{End};
 ghost use Rattle.http_front.specs.declared.end.FrontFault.{FrontFault};
 ghost use Rattle.http_front.specs.Connections.{ConnectionState};
 ghost use Rattle.http_front.specs.Conversations.{AnswersInput, BreaksOff, EndsOutOfMemory};
-ghost use Rattle.account_lock.specs.Histories.{Known, IsServed, IsUnchanged, world_left};
+ghost use Rattle.account_lock.specs.Histories.{Known, IsServed, IsUnchanged, sent_in, world_left};
 ghost use Rattle.account_lock.specs.Connections.{AddsOneAtMost, AreOfOneHistory, Call, IsReadAfter, ReadsHistory, calls_of};
 
 use crate::history::Account;
@@ -66,13 +66,13 @@ pub fn a_connection_reads_its_own_writes()
         → IsReadAfter keys earlier later }
     ensures put { (keys : Keys) (key : Key) (name : List ℕ) (put get : Call)
         (reads : IsReadAfter keys put get)
-        → All (λ r. LeavesContent key name r.request) reads.between
+        → All (λ r. LeavesContent key name r.request) (sent_in reads.between)
         → IsAsk put.0.request.ask → IsOn PutBlob key name put.0.request
         → IsOn GetBlob key name get.0.request → get.0.request.ask.args.range ≡ None
         → put.1.rule ≡ None → get.1.rule ≡ None → get.1.body ≡ put.0.request.body }
     ensures commit { (keys : Keys) (key : Key) (name : List ℕ) (list get : Call)
         (reads : IsReadAfter keys list get)
-        → All (λ r. LeavesContent key name r.request) reads.between
+        → All (λ r. LeavesContent key name r.request) (sent_in reads.between)
         → IsAsk list.0.request.ask → IsOn PutBlockList key name list.0.request
         → IsOn GetBlob key name get.0.request → get.0.request.ask.args.range ≡ None
         → list.1.rule ≡ None → get.1.rule ≡ None

@@ -8,6 +8,10 @@ mod laws;
 mod lock;
 #[cfg(test)]
 mod lock_tests;
+mod pair;
+mod rotation_laws;
+#[cfg(test)]
+mod rotation_tests;
 mod steady;
 
 pub use core_service::CoreService;
@@ -15,5 +19,8 @@ pub use history::{Account, Front, NewHistory};
 pub use laws::{
     a_connection_reads_its_own_writes, each_connection_reads_one_history, two_connections_agree,
 };
-pub use lock::{AccountLock, Connection};
+pub use lock::{AccountLock, Connection, Operator};
+pub use rotation_laws::{
+    a_rotation_replaces_one_key, who_knows_a_rotation_gets_no_answer_by_the_replaced_pair,
+};
 pub use steady::Steady;

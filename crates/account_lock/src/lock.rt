@@ -2,14 +2,16 @@
 ghost use Rattle.std.specs.Prelude.{◌≡◌, List, [], ◌∷◌, ◌+◌, ◌++◌, ◌<◌, ◌≤◌, ◌^◌, IfOk, OnErr, OnOk, length};
 ghost use mathlib.Core.List.{IsPrefix};
 ghost use Rattle.range_rows.specs.Readings.{reading_of};
-ghost use Rattle.stamp_model.specs.Runs.{timed, reply_to_one};
+ghost use Rattle.stamp_model.specs.Runs.{reply_to_one};
 ghost use Rattle.core_run.specs.Cores.{StandsFor};
 ghost use Rattle.stamp_core.specs.CoreSteps.{IsCalm};
-ghost use Rattle.account_lock.specs.Histories.{Entered, entered, state_left, world_left};
+ghost use Rattle.account_lock.specs.declared.entry.Entry.{Entry};
+ghost use Rattle.account_lock.specs.Histories.{entered, judged_after, state_left, world_left};
 ghost use Rattle.account_lock.specs.Services.{opening_of};
 
 use crate::core_service::{answer_steadily, compact_steadily, core_of};
 use crate::history::{Account, EntryCount, Front, NewHistory};
+use crate::pair::PairInUse;
 use crate::steady::Steady;
 use access_rules::Keys;
 use http_front::Service;
@@ -21,8 +23,12 @@ use stamp_types::{Moment, Reply, Request};
 use std::alloc::{AllocError, Global};
 use std::marker::Model;
 use std::sync::ledger::{Book, Share};
-use std::sync::{Arc, Mutex, MutexGuard, Wait};
+use std::sync::{Mutex, MutexGuard, Wait};
 use stored_rows::Compacted;
+
+mod operator;
+
+pub use operator::Operator;
 
 /// The most entries of a history. A server that answers a million requests a second reaches it after 70,000 years.
 const MOST: u64 = 1 << 61;
@@ -41,10 +47,11 @@ struct Locked<A: Account> {
 impl<A: Account> Model for Locked<A> {
     ghost use Rattle.std.specs.Prelude.{◌≡◌, List, MatchResult, length};
     ghost use Rattle.core_run.specs.Cores.{StandsFor};
+    ghost use Rattle.account_lock.specs.declared.entry.Entry.{Entry};
     ghost use Rattle.account_lock.specs.Growth.{IsLonger};
-    ghost use Rattle.account_lock.specs.Histories.{Entered, state_left};
+    ghost use Rattle.account_lock.specs.Histories.{state_left};
 
-    ghost Value = { List Entered };
+    ghost Value = { List Entry };
 
     ghost view = { λ l. l.front };
 
@@ -67,9 +74,9 @@ fn answer_by<A: Account>(
     requires calm { IsCalm core.old }
     requires judged { judged.now.ask ≡ request.now.ask }
     requires read { reading ≡ reading_of request.now }
-    ensures answered { (history : List Entered) → StandsFor core.old (state_left A.keys history)
+    ensures answered { (history : List Entry) → StandsFor core.old (state_left A.keys history)
         → IfOk result (λ reply.
-        (reply ≡ reply_to_one (world_left A.keys history) (timed A.keys request.now moment))
+        (reply ≡ reply_to_one (world_left A.keys history) (judged_after A.keys history request.now moment))
         × StandsFor core.new (state_left A.keys (history ++ entered request.now moment ∷ []))) }
     ensures unchanged { OnErr result (core.new ≡ core.old) }
 {
@@ -143,7 +150,7 @@ impl<A: Account> Locked<A> {
         requires read { reading ≡ reading_of request.now }
         requires part { 0 < share.old.parts }
         ensures answered { IfOk result (λ reply.
-            reply ≡ reply_to_one (world_left A.keys self.old) (timed A.keys request.now moment)) }
+            reply ≡ reply_to_one (world_left A.keys self.old) (judged_after A.keys self.old request.now moment)) }
         ensures entered { OnOk result (self.new ≡ self.old ++ entered request.now moment ∷ []) }
         ensures begun { OnOk result (IsPrefix known.old self.old) }
         ensures known { OnOk result (known.new ≡ self.new) }
@@ -173,7 +180,7 @@ impl<A: Account> Locked<A> {
 /// judge signatures without it.
 #[derive(Drop)]
 pub struct AccountLock<A: Account> {
-    keys: Arc<Keys>,
+    pair: Mutex<PairInUse<A>>,
     count: EntryCount<A>,
     locked: Mutex<Locked<A>>,
 }
@@ -195,10 +202,10 @@ impl<A: Account> AccountLock<A> {
         ensures share { IfOk result (λ made. (made.1.parts ≡ A.parts) × (made.1.amount ≡ 0)) }
     {
         let core = core_of(alloc, &keys)?;
-        let keys = Arc::new(alloc, keys)?;
+        let pair = PairInUse::new(alloc, keys)?;
         let (count, front, made, share) = history.of::<A>();
         let lock = AccountLock {
-            keys,
+            pair: Mutex::new(pair),
             count,
             locked: Mutex::new(Locked::new(core, front, made)),
         };
@@ -309,7 +316,8 @@ impl<'a, A: Account, R: Wait> Service for Connection<'a, A, R> {
         request: Request,
         moment: Moment,
     ) -> Result<Reply, AllocError> {
-        let judged = judge(alloc, &self.lock.keys, &request)?;
+        let keys = self.lock.pair.lock(self.rt).share()?;
+        let judged = judge(alloc, &keys, &request)?;
         let reading = Reading::of(alloc, &request)?;
         let mut locked = self.lock.ready(self.rt, alloc);
         let answered = locked.answer(
@@ -324,6 +332,7 @@ impl<'a, A: Account, R: Wait> Service for Connection<'a, A, R> {
         );
         drop(locked);
         drop(judged);
+        drop(keys);
         drop(request);
         answered
     }

@@ -18,14 +18,14 @@ use std::thread;
 use std::thread::Threads;
 
 // 2012-10-01T12:00:00Z, in steps of 100 ns since 1970.
-const NOON: i64 = 13_490_928_000_000_000;
+pub(crate) const NOON: i64 = 13_490_928_000_000_000;
 
 // A Create Container of `pics`, signed by `key1`.
-const CREATE: &[u8] =
+pub(crate) const CREATE: &[u8] =
     b"PUT /devstoreaccount1/pics?restype=container HTTP/1.1\r\nHost: 127.0.0.1:10000\r\nContent-Length: 0\r\nx-ms-date: Mon, 01 Oct 2012 12:00:00 GMT\r\nx-ms-version: 2012-02-12\r\nAuthorization: SharedKey devstoreaccount1:/Zt/M8NwlklmDGB00sttbyo87McxrIOvJXhMqumuXk0=\r\n\r\n";
 
 // A Put Blob of `hello`, signed by `key2`.
-const PUT: &[u8] =
+pub(crate) const PUT: &[u8] =
     b"PUT /devstoreaccount1/pics/a.txt HTTP/1.1\r\nHost: 127.0.0.1:10000\r\nContent-Length: 5\r\nx-ms-blob-type: BlockBlob\r\nx-ms-version: 2012-02-12\r\nx-ms-date: Mon, 01 Oct 2012 12:00:00 GMT\r\nAuthorization: SharedKey devstoreaccount1:O9UZNW452QDPdLw1F6p3ZC4NHU5qWVzYuTPZoHu3yXw=\r\n\r\nhello";
 
 // The head of a Put Block of 3,500,000 bytes, signed by `key1`.
@@ -33,10 +33,10 @@ const PUT_BLOCK: &[u8] =
     b"PUT /devstoreaccount1/pics/a.txt?comp=block&blockid=AAAA HTTP/1.1\r\nx-ms-date: Mon, 01 Oct 2012 12:00:00 GMT\r\nx-ms-version: 2012-02-12\r\nContent-Length: 3500000\r\nAuthorization: SharedKey devstoreaccount1:nEov6sNyTR++xDdeS1fSSQbYU+lTqqbgLXdRS+TMJi0=\r\n\r\n";
 
 // A Get Blob of it, signed by `key1`.
-const GET: &[u8] =
+pub(crate) const GET: &[u8] =
     b"GET /devstoreaccount1/pics/a.txt HTTP/1.1\r\nHost: 127.0.0.1:10000\r\nx-ms-date: Mon, 01 Oct 2012 12:00:00 GMT\r\nx-ms-version: 2012-02-12\r\nAuthorization: SharedKey devstoreaccount1:1faO58/enDoA9unDNvD2pMLw3jmfkbnVyTRBzimElkI=\r\n\r\n";
 
-const CREATED: &[u8] = b"HTTP/1.1 201 Created\r\n";
+pub(crate) const CREATED: &[u8] = b"HTTP/1.1 201 Created\r\n";
 
 const CONFLICT: &[u8] = b"HTTP/1.1 409 Conflict\r\n";
 
@@ -55,7 +55,12 @@ impl Clock for Still {
 }
 
 // Sends the input to the service, and returns all that is written.
-fn sent<S: Service, R: Abort>(rt: &R, alloc: Global, service: &mut S, input: &[u8]) -> Vec<u8> {
+pub(crate) fn sent<S: Service, R: Abort>(
+    rt: &R,
+    alloc: Global,
+    service: &mut S,
+    input: &[u8],
+) -> Vec<u8> {
     let moment = Moment::new(NOON).expect(rt, "a moment");
     let mut http = http_front::Connection::new(alloc, input, Vec::new(alloc), 1_000);
     let end = run(alloc, &mut http, &mut Still { moment }, service);
@@ -152,12 +157,12 @@ fn compacts_for_another<A: Account, R: Wait + Abort>(
 }
 
 // The bytes of a key that signs.
-fn key(rt: &impl Abort, alloc: Global, bytes: &[u8]) -> SigningKey {
+pub(crate) fn key(rt: &impl Abort, alloc: Global, bytes: &[u8]) -> SigningKey {
     SigningKey::new(bytes.to_vec(alloc).expect(rt, "memory"))
 }
 
 // The account `devstoreaccount1` with the keys `key1` and `key2`.
-fn keys(rt: &impl Abort, alloc: Global) -> Keys
+pub(crate) fn keys(rt: &impl Abort, alloc: Global) -> Keys
     ensures { result.epoch ≡ 0 }
 {
     let name = String::from_str(alloc, "devstoreaccount1").expect(rt, "memory");
