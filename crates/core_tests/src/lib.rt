@@ -6,6 +6,8 @@ mod audit_tests;
 #[cfg(test)]
 mod bound_tests;
 #[cfg(test)]
+mod core_audit_tests;
+#[cfg(test)]
 mod core_samples;
 #[cfg(test)]
 mod core_step_tests;

@@ -1,3 +1,4 @@
+pub mod AuditLemmas
 pub mod CompactLemmas
 pub mod FaultLemmas
 pub mod RangeLemmas

@@ -1,4 +1,5 @@
 pub mod Compactions
+pub mod CoreAudits
 pub mod CoreSteps
 pub mod Ranges
 pub mod Rotations

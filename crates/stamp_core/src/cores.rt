@@ -18,6 +18,7 @@ ghost use Rattle.core_run.specs.States.{State, opening};
 ghost use Rattle.core_run.specs.Machine.{IsRun, Takes};
 ghost use Rattle.stamp_core.specs.CoreSteps.{AnswersSteadily, told_answer, has_faults, step_of};
 
+mod audit;
 mod compact;
 
 use crate::care::Care;

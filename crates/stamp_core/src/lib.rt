@@ -1,6 +1,7 @@
 //! The core: slots over streams, which serve requests by the spans of their keys and make the steps of the machine.
 #![tactic(auto)]
 
+mod auditing;
 mod care;
 mod compacting;
 mod cores;
@@ -11,5 +12,6 @@ mod splitting;
 mod telling;
 mod tending;
 
+pub use auditing::AuditedReply;
 pub use care::Care;
 pub use cores::{Core, EXTENT_BYTES};

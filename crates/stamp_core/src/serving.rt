@@ -37,8 +37,8 @@ fn marked_key(alloc: Global, ask: &Ask) -> Result<Key, AllocError>
     Ok(Key { account, container })
 }
 
-// The number of the slot that serves the request. Only a List Containers takes memory for it.
-fn slot_for(spans: &Spans, alloc: Global, request: &Request) -> Result<usize, AllocError>
+/// The number of the slot that serves the request. Only a List Containers takes memory for it.
+pub(crate) fn slot_for(spans: &Spans, alloc: Global, request: &Request) -> Result<usize, AllocError>
     ensures slot { IfOk result (λ at. at ≡ slot_of spans.now (routed request.now)) }
     ensures within { IfOk result (λ at. at ≤ length spans.now) }
 {
