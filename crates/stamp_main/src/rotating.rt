@@ -101,7 +101,10 @@ impl Answer {
     {
         match self {
             Self::Epoch(epoch) => epoch_text(alloc, epoch),
-            Self::Form => String::from_str(alloc, "refused: a line is rotate first KEY or rotate second KEY"),
+            Self::Form => String::from_str(
+                alloc,
+                "refused: a line is rotate first KEY or rotate second KEY",
+            ),
             Self::Key => String::from_str(alloc, "refused: the key is empty or not padded Base64"),
             Self::Long => String::from_str(alloc, "refused: the line has more than 4096 bytes"),
             Self::Last => String::from_str(alloc, "refused: no epoch is left"),

@@ -64,7 +64,14 @@ fn obeys<A: Account, R: Wait + Abort>(rt: &R, alloc: Global, keys: Keys, history
 
 #[test]
 fn lines_of_an_operator_are_obeyed(rt: HostRuntime) {
-    let served = read_served(rt.alloc(), "", "1", "devstoreaccount1", "a2V5MQ==", "a2V5Mg==");
+    let served = read_served(
+        rt.alloc(),
+        "",
+        "1",
+        "devstoreaccount1",
+        "a2V5MQ==",
+        "a2V5Mg==",
+    );
     let Ok(Served { keys, .. }) = served else {
         return;
     };

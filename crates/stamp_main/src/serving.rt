@@ -93,11 +93,7 @@ fn listening(alloc: Global, address: &str) -> Result<String, AllocError>
 
 // Serves by these workers and keys, the first pair of the account, until the listener fails for good. Of all shares of the history, the
 // operator has one.
-fn serve_all<
-    R: Net + Threads + Wait + Clock + Sync,
-    L: Read + Drop + Send,
-    O: Write + Drop + Send,
->(
+fn serve_all<R: Net + Threads + Wait + Clock + Sync, L: Read + Drop + Send, O: Write + Drop + Send>(
     rt: &R,
     alloc: Global,
     listener: &TcpListener,

@@ -8,14 +8,13 @@ use access_rules::Keys;
 use account_lock::{Account, AccountLock, Connection, NewHistory, Operator};
 use socket_gate::{Limits, Services, serve_listener};
 use std::alloc::Global;
-use std::io;
 use std::io::{Read, Write};
 use std::net::{Net, TcpListener};
 use std::sync::atomic::{AtomicBool, Ordering};
 use std::sync::{Mutex, Wait};
-use std::thread;
 use std::thread::Threads;
 use std::time::Clock;
+use std::{io, thread};
 
 /// Makes the services of a number of connections. Each has a share of the history of one lock.
 #[derive(Drop)]
