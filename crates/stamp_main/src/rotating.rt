@@ -38,23 +38,24 @@ pub(crate) enum Answer {
 fn rotation_in(line: &[u8]) -> Option<(Which, &[u8])>
     ensures { option_map (λ asked. (asked.0, asked.1.now)) result ≡ rotating.rotation_in line.now }
 {
-    if line.starts_with(FIRST) {
-        Some((Which::First, &line[FIRST.len()..]))
-    } else if line.starts_with(SECOND) {
-        Some((Which::Second, &line[SECOND.len()..]))
-    } else {
-        None
+    if let Some(text) = line.strip_prefix(FIRST) {
+        return Some((Which::First, text));
+    }
+    match line.strip_prefix(SECOND) {
+        Some(text) => Some((Which::Second, text)),
+        None => None,
     }
 }
 
 // The key that is given in Base64.
+#[tactic(auto, using(crate::proofs::RotatingLemmas::no_other_key))]
 fn key_in(alloc: Global, text: &[u8]) -> Result<SigningKey, Answer>
     ensures read { IfOk result (λ key. (text.now ≡ base64_of key) × (key ≢ [])) }
     ensures refused { result ≡ Err Key → (key : List ℕ) → IsBytes key → key ≢ [] → text.now ≢ base64_of key }
     ensures failed { IfErr result (λ answer. (answer ≡ Key) ⊎ (answer ≡ NoMemory)) }
 {
     match read_key(alloc, text) {
-        Ok(key) if key.is_empty() => Err(Answer::Key),
+        Ok(key) if key.as_slice().is_empty() => Err(Answer::Key),
         Ok(key) => Ok(SigningKey::new(key)),
         Err(SecretFault::NotBase64) => Err(Answer::Key),
         Err(SecretFault::NoMemory) => Err(Answer::NoMemory),
