@@ -9,6 +9,7 @@ mod lock;
 #[cfg(test)]
 mod lock_tests;
 mod pair;
+mod posting;
 mod rotation_laws;
 #[cfg(test)]
 mod rotation_tests;
