@@ -14,15 +14,17 @@ use replay::run_replay;
 use serving::run_serve;
 use signing::run_sign;
 use std::alloc::Global;
+use std::fs::File;
 use std::io::{Read, Write};
 use std::net::{Net, TcpListener, TcpStream};
 use std::process::ExitCode;
-use std::rt::Env;
+use std::rt::{Env, Files};
 use std::sync::Wait;
 use std::thread::Threads;
 use std::time::Clock;
 use std::{env, io};
 
+mod audit;
 mod command;
 mod ending;
 mod machine;
@@ -81,7 +83,13 @@ fn read_words(rt: &(impl Env + AllocGlobal)) -> Result<Vec<String>, Ending>
 fn run<
     R: Read,
     W: Write,
-    H: Net<Stream = TcpStream, Listener = TcpListener> + Threads + Wait + Clock + Sync,
+    H: Net<Stream = TcpStream, Listener = TcpListener>
+        + Threads
+        + Wait
+        + Clock
+        + Env
+        + Files<File = File>
+        + Sync,
 >(rt: &H, alloc: Global, words: &[String], connection: &mut Connection<R, W>) -> Ending
     requires { IsFresh connection.old }
     ensures outcome { Outcome (texts_of words.now) connection.old connection.new result }

@@ -6,6 +6,7 @@ ghost use Rattle.stamp_main.specs.declared.ending.Ending.TheVariants.{ListenerFa
 ghost use Rattle.stamp_main.specs.Ending.{ends_serving};
 ghost use Rattle.stamp_main.specs.Serving.{HasListened, IsServe, listening_line, serve_line};
 
+use crate::audit::{open_audit, serve_audited};
 use crate::ending::Ending;
 use crate::signing::send;
 use crate::sockets::serve_on;
@@ -14,23 +15,33 @@ use account_lock::NewHistory;
 use http_front::Connection;
 use socket_gate::Limits;
 use std::alloc::{AllocError, Global};
+use std::fs::File;
+use std::io;
 use std::io::{ErrorKind, Read, Write};
 use std::marker::Brand;
 use std::net::{Net, TcpListener, TcpStream};
+use std::rt::{Env, Files};
 use std::sync::Wait;
 use std::thread::Threads;
 use std::time::Clock;
 
-/// Carries out `stamp serve ADDRESS WORKERS ACCOUNT KEY1 KEY2`: takes the address, writes `listening ADDRESS` and LF, and serves.
+/// Carries out `stamp serve ADDRESS WORKERS ACCOUNT KEY1 KEY2`: opens the audit file, if the environment names one, takes the address,
+/// writes `listening ADDRESS` and LF, and serves.
 ///
-/// If a word is bad, the ending is `Usage`, and nothing is written. If the address cannot be taken, the ending is `ListenerFault`,
-/// and nothing is written. What is served is not a matter of these clauses: `account_lock` and `http_front` have the contracts of
+/// If a word is bad, the ending is `Usage`, and nothing is written. If the audit file cannot be opened or the address cannot be taken, the
+/// ending is `ListenerFault`, and nothing is written. What is served is not a matter of these clauses: `account_lock` and `http_front` have the contracts of
 /// connections.
 #[tactic(auto, using(crate::proofs::ServeLemmas::asked, crate::proofs::ServeLemmas::listened))]
 pub(crate) fn run_serve<
     I: Read,
     W: Write,
-    R: Net<Stream = TcpStream, Listener = TcpListener> + Threads + Wait + Clock + Sync,
+    R: Net<Stream = TcpStream, Listener = TcpListener>
+        + Threads
+        + Wait
+        + Clock
+        + Env
+        + Files<File = File>
+        + Sync,
 >(
     rt: &R,
     alloc: Global,
@@ -64,6 +75,10 @@ pub(crate) fn run_serve<
         Ok(served) => served,
         Err(ending) => return ending,
     };
+    let audit = match open_audit(rt, alloc) {
+        Ok(audit) => audit,
+        Err(ending) => return ending,
+    };
     let Ok(listener) = TcpListener::bind(rt, served.address) else {
         return Ending::ListenerFault;
     };
@@ -73,7 +88,10 @@ pub(crate) fn run_serve<
     if send(connection, line.as_bytes()).is_err() {
         return Ending::WriteFault;
     }
-    serve_all(rt, alloc, &listener, served)
+    match audit {
+        Some(mut file) => serve_beside(rt, alloc, &listener, served, &mut file),
+        None => serve_all(rt, alloc, &listener, served),
+    }
 }
 
 // The line that tells that connections are taken.
@@ -97,7 +115,7 @@ fn serve_all<R: Net + Threads + Wait + Clock + Sync>(
     ensures { (result ≡ ListenerFault) ⊎ (result ≡ NoMemory) }
 {
     let history = NewHistory::new(u64::MAX);
-    match serve_on::<Brand, R, R>(
+    let ended = serve_on::<Brand, R, R>(
         rt,
         rt,
         alloc,
@@ -107,7 +125,42 @@ fn serve_all<R: Net + Threads + Wait + Clock + Sync>(
         served.workers,
         u64::MAX,
         Limits::standard(),
-    ) {
+        None,
+    );
+    ending_of(ended)
+}
+
+// The same, with a line in the audit file for each request that was let in.
+fn serve_beside<R: Net + Threads + Wait + Clock + Sync, F: Write + Send>(
+    rt: &R,
+    alloc: Global,
+    listener: &TcpListener,
+    served: Served<'_>,
+    file: &mut F,
+) -> Ending
+    requires { served.keys.epoch ≡ 0 }
+    ensures { (result ≡ ListenerFault) ⊎ (result ≡ NoMemory) }
+{
+    let history = NewHistory::new(u64::MAX);
+    let ended = serve_audited::<Brand, R, F>(
+        rt,
+        alloc,
+        history,
+        served.keys,
+        listener,
+        served.workers,
+        u64::MAX,
+        Limits::standard(),
+        file,
+    );
+    ending_of(ended)
+}
+
+// How the program ends after serving ended so.
+fn ending_of(served: io::Result<()>) -> Ending
+    ensures { (result ≡ ListenerFault) ⊎ (result ≡ NoMemory) }
+{
+    match served {
         Err(error) if error.kind() == ErrorKind::OutOfMemory => Ending::NoMemory,
         _ => Ending::ListenerFault,
     }

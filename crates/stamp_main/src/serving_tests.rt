@@ -214,6 +214,7 @@ fn both_ends<
                 workers,
                 connections,
                 limits(patience),
+                None,
             )
             .is_ok()
         },
@@ -365,6 +366,7 @@ fn a_listener_that_fails_for_good_ends_serving(rt: HostRuntime) -> Result<(), Fa
         2,
         10,
         limits(PATIENCE),
+        None,
     );
     assert!(rt; served.is_ok());
     Ok(())

@@ -5,6 +5,7 @@ use crate::machine::Machine;
 use crate::shares::SharesLeft;
 use access_rules::Keys;
 use account_lock::{Account, AccountLock, Connection, NewHistory};
+use audit_lines::Books;
 use socket_gate::{Limits, Services, serve_listener};
 use std::alloc::Global;
 use std::io;
@@ -19,11 +20,12 @@ pub(crate) struct AccountServices<'a, A: Account, R: Wait, C: Clock> {
     rt: &'a R,
     clock: &'a C,
     lock: &'a AccountLock<A>,
+    books: Option<&'a Books>,
     left: Mutex<SharesLeft<A>>,
 }
 
 /// Serves so many connections of a listener, by so many workers at once. The account has no containers at first. A connection that is
-/// beyond the limits ends.
+/// beyond the limits ends. If there are books, each request is entered that was let in and names a container.
 ///
 /// It ends before that if the listener fails for good. The error says why it could not begin.
 pub(crate) fn serve_on<A: Account + Send + Sync, R: Net + Threads + Wait + Sync, C: Clock + Sync>(
@@ -36,6 +38,7 @@ pub(crate) fn serve_on<A: Account + Send + Sync, R: Net + Threads + Wait + Sync,
     workers: usize,
     connections: u64,
     limits: Limits,
+    books: Option<&Books>,
 ) -> io::Result<()>
     requires history { history.seen.book ≡ A.history }
     requires shares { (history.shares.name ≡ A.name) × (history.shares.parts ≡ A.parts) }
@@ -48,6 +51,7 @@ pub(crate) fn serve_on<A: Account + Send + Sync, R: Net + Threads + Wait + Sync,
         rt,
         clock,
         lock: &lock,
+        books,
         left: Mutex::new(SharesLeft::new(connections, shares)),
     };
     serve_listener(rt, clock, alloc, listener, workers, &services, limits)
@@ -59,7 +63,7 @@ impl<'a, A: Account, R: Wait, C: Clock> Services<Machine<'a, C>, Connection<'a, 
         let share = self.left.lock(self.rt).take()?;
         Some((
             Machine::new(self.clock),
-            Connection::new(self.rt, self.lock, share),
+            Connection::audited(self.rt, self.lock, share, self.books),
         ))
     }
 }
