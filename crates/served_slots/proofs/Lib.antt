@@ -1,3 +1,4 @@
 pub mod FirstLemmas
 pub mod ServeLemmas
 pub mod SplitLemmas
+pub mod SteadyLemmas
