@@ -1,3 +1,4 @@
+pub mod EnterLemmas
 pub mod FirstLemmas
 pub mod ServeLemmas
 pub mod SplitLemmas
