@@ -12,7 +12,7 @@ use Rattle.stored_rows.specs.declared.faults.StoredFault.{StoredFault}
 use Rattle.slot_state.specs.HistoryMaps.{with_entry}
 use Rattle.slot_state.specs.Slots.{IsServed, SlotState, change_now, entry_of, lower_half, upper_half}
 use Rattle.stored_slot.specs.Served.{ServesBy, SlotServes}
-use Rattle.stored_slot.specs.Settled.{CutsSettled, LeavesSettled, SettlesDoubtBy, SettlesSlot}
+use Rattle.stored_slot.specs.Settled.{CutsSettled, SettlesDoubtBy, SettlesSlot}
 use Rattle.served_slots.specs.Steps.{IsTold}
 
 some_none : (o : Option Past) → o ≡ None → IsSome o → ⊥
@@ -45,11 +45,7 @@ module _ (F : Type 0) (never : F → ⊥) (s s' : SlotState) (q : Asked) (t : �
   served_steadily a r (inl is) told = served_by a r (subst (λ (m : SlotState). ServesBy m q t F a s') (settled_is s is.0 calm is.1.0) is.1.1) told
   served_steadily a r (inr is) told = absurd (some_none s.doubt calm is.0)
 
--- a step that fails leaves a slot without a doubt
-pub left_as_was : {T : Type 0} (f : StoredFault) (s s' : SlotState) → s.doubt ≡ None → LeavesSettled {T = T} (Err f) s s' → s' ≡ s
-left_as_was f s s' calm (inl is) = settled_is s s' calm is
-left_as_was f s s' calm (inr is) = is.1
-
+-- a slot without a doubt that is cut
 pub cut_steadily : (upper : SlotState) (s s' : SlotState) (middle : Key) → s.doubt ≡ None → CutsSettled (Ok upper) s middle s' → (s' ≡ lower_half s middle) × (upper ≡ upper_half s middle)
 cut_steadily upper s s' middle calm is =
     let same = settled_is s is.0 calm is.1.0 in

@@ -1,5 +1,5 @@
 //! What the lock of a slot has, and what is done with it while the lock is held.
-ghost use Rattle.std.specs.Prelude.{◌≡◌, IfOk, IfSome, None, OnErr};
+ghost use Rattle.std.specs.Prelude.{◌≡◌, IfOk, None, OnErr};
 ghost use Rattle.std.specs.Arc.{arc_value};
 ghost use Rattle.policy_book.specs.Judgements.{IsOfAsk};
 ghost use Rattle.range_rows.specs.Readings.{reading_of};
@@ -16,6 +16,7 @@ use served_history::{Account, Front, SlotHistory, SlotWord};
 use slot_state::{AccountPairs, ProvedHistories};
 use stamp_types::{Key, Moment, Reply, Request};
 use std::alloc::{AllocError, Global};
+use std::marker::Model;
 use std::sync::Arc;
 use stored_rows::Compacted;
 use stored_slot::StoredSlot;
@@ -31,7 +32,18 @@ pub(crate) struct LockedSlot<A: Account> {
     slot: StoredSlot<ProvedHistories>,
     to: Option<Key>,
     history: Option<SlotHistory<A>>,
-    ghost left: { IfSome history (λ own. IsLeftBy own to slot) },
+}
+
+impl<A: Account> Model for LockedSlot<A> {
+    ghost use Rattle.std.specs.Prelude.{IfSome, Option};
+    ghost use Rattle.served_history.specs.Growth.{SlotFront};
+    ghost use Rattle.served_slots.specs.Slots.{IsLeftBy};
+
+    ghost Value = { Option SlotFront };
+
+    ghost view = { λ l. l.history };
+
+    ghost invariant = { λ l. IfSome l.history (λ own. IsLeftBy own l.to l.slot) };
 }
 
 // The key once more. No byte of it is copied.
