@@ -4,7 +4,7 @@ use access_rules::Which;
 use hmac_sign::SigningKey;
 use stamp_types::{Moment, Request};
 
-/// An entry. The code makes no value of this type: the history has its entries in proofs alone.
+/// An entry. The code makes no value of this type: only proofs have the entries of the history.
 pub enum Entry {
     /// A request was answered at a moment.
     Served { request: Request, moment: Moment },

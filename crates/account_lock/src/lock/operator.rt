@@ -75,7 +75,7 @@ fn rotate_by<A: Account>(
 
 impl<A: Account> Locked<A> {
     // Replaces a key. The rotation is then the next entry of the history, the caller knows the whole history, and its share counts one entry
-    // more. If no epoch is left or memory runs out, there is no entry and no change.
+    // more. If no epoch is left or memory runs out, nothing is entered and nothing changes.
     #[tactic(auto, using(crate::proofs::HistoryLemmas::length_rotated))]
     fn rotate(
         &mut self,
@@ -153,7 +153,7 @@ impl<'a, A: Account, R: Wait> Operator<'a, A, R> {
     /// Replaces a key of the account, and returns the epoch of the new pair. The rotation is then the last entry of the history: requests
     /// that come after it in the history are judged by the new pair. Waits for the lock.
     ///
-    /// `Last` if no epoch is left, and `NoMemory` if memory runs out: then there is no entry and no change.
+    /// `Last` if no epoch is left, and `NoMemory` if memory runs out: then nothing is entered and nothing changes.
     pub fn rotate(
         &mut self,
         alloc: Global,
