@@ -1,0 +1,5 @@
+pub mod EnterLemmas
+pub mod FirstLemmas
+pub mod ServeLemmas
+pub mod SplitLemmas
+pub mod SteadyLemmas

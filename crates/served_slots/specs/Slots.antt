@@ -1,0 +1,33 @@
+-- A slot whose containers are those that its history leaves (Calder et al., SOSP 2011, section 5: a partition makes its changes one after the
+-- other). That a history is of all slots is the stamp's own.
+use Rattle.std.specs.Prelude.{◌≡◌, ℕ, true, Option, None}
+use Rattle.stamp_values.specs.declared.key.Key.{Key}
+use Rattle.stamp_types.specs.Requests.{Asked}
+use Rattle.stamp_types.specs.World.{part_at}
+use Rattle.stamp_model.specs.Runs.{Timed}
+use Rattle.slot_state.specs.Pairs.{AreNumbered, current_at}
+use Rattle.slot_state.specs.Slots.{SlotState, covers, replayed_at}
+use Rattle.served_history.specs.declared.entry.Entry.TheVariants.{Split}
+use Rattle.served_history.specs.Growth.{IsEntered, SlotFront}
+use Rattle.served_history.specs.Histories.{bound_at, opening_pairs, owner, world_left, GoesOnWithout}
+
+-- The slot has the keys of its range in the history, and this bound is the end of its range and the bound that the history gives each of these
+-- keys. Its key pairs are those of the history. No change of it is in doubt. Each container of its range replays to what the history leaves
+pub record IsLeftBy (front : SlotFront) (to : Option Key) (s : SlotState) : Type 0 where
+  pub has : (key : Key) → covers s key ≡ true → owner front.log key ≡ front.slot
+  pub ends : s.to ≡ to
+  pub bound : (key : Key) → covers s key ≡ true → bound_at front.log key ≡ s.to
+  pub pairs : s.pairs ≡ opening_pairs front.log
+  pub numbered : AreNumbered s.pairs
+  pub calm : s.doubt ≡ None
+  pub containers : (key : Key) → covers s key ≡ true → part_at (world_left front.log) key ≡ replayed_at s.pairs s.histories key
+
+-- the request as a slot serves it: by its account's key pair in force, and up to this bound
+abbrev pub timed_in : SlotState → Option Key → Asked → ℕ → Timed
+timed_in s to q t = record { request = q; moment = t; keys = current_at s.pairs q.ask.key.account; bound = to }
+
+-- the slot entered a split at this key, and the upper slot made no entry
+pub record IsParted (front : SlotFront) (middle : Key) (lower upper : SlotFront) : Type 0 where
+  pub entered : IsEntered front.slot front.log front.log (Split front.slot middle upper.slot) lower.log
+  pub fresh : GoesOnWithout upper.slot lower.log upper.log
+  pub same : lower.slot ≡ front.slot

@@ -1,0 +1,77 @@
+-- What the steps on a locked slot answer (Calder et al., SOSP 2011, section 5: a range partition; section 5.5: a partition is split).
+use Rattle.std.specs.Prelude.{◌≡◌, ◌⊎◌, ◌+◌, ⊤, ℕ, List, Option, Some, None, Result, Ok, Err}
+use Rattle.stamp_values.specs.declared.key.Key.{Key}
+use Rattle.stamp_types.specs.declared.reply.Reply.{Reply}
+use Rattle.partition_map.specs.Spans.{cause_of, split_refusal}
+use Rattle.partition_map.specs.declared.fault.MapFault.{MapFault}
+use Rattle.tickets.specs.declared.answer.Answer.{Answer}
+use Rattle.tickets.specs.declared.answer.Answer.TheVariants as answer
+use Rattle.served_history.specs.declared.entry.Entry.{Entry}
+use Rattle.served_history.specs.Growth.{SlotFront}
+use Rattle.served_history.specs.Histories.{count_of}
+use Rattle.served_slots.specs.Slots.{IsParted}
+use Rattle.served_slots.specs.declared.entering.Missed.{Missed}
+use Rattle.served_slots.specs.declared.entering.Missed.TheVariants as missed
+use Rattle.served_slots.specs.declared.splitting.SplitError.{SplitError}
+use Rattle.served_slots.specs.declared.splitting.SplitError.TheVariants as split
+
+-- the reply that is there, or that the ticket gives
+abbrev pub told_reply : Result Reply Reply → Reply
+told_reply (Ok r) = r
+told_reply (Err ticket) = ticket
+
+-- the reply of the answer, now or by its ticket; or memory ran out
+abbrev pub SaysReply : {E : Type 0} → Answer → Result Reply E → Type 0
+SaysReply (answer.Done r) (Ok o) = o ≡ r
+SaysReply (answer.Done r) (Err e) = ⊥
+SaysReply (answer.Later r) (Ok o) = o ≡ r
+SaysReply (answer.Later r) (Err e) = ⊥
+SaysReply answer.NoMemory (Ok o) = ⊥
+SaysReply answer.NoMemory (Err e) = ⊤
+
+-- this holds, unless the slot has a change that the history does not have
+abbrev pub UnlessLost : {T : Type 0} → Result T Missed → Type 0 → Type 0
+UnlessLost (Err missed.Lost) holds = ⊤
+UnlessLost other holds = holds
+
+-- this holds if memory ran out
+abbrev pub IfNoMemory : {T : Type 0} → Result T Missed → Type 0 → Type 0
+IfNoMemory (Err missed.NoMemory) holds = holds
+IfNoMemory other holds = ⊤
+
+-- the slot made one entry, and knows then what the connection knows
+pub record HasOneMore (front : SlotFront) (known' : List Entry) (front' : SlotFront) : Type 0 where
+  pub log : front' ≡ record front { log = known' }
+  pub made : count_of front.slot front'.log ≡ count_of front.slot front.log + 1
+
+-- the same of a slot that knows the history before and after
+abbrev pub MakesOne : Option SlotFront → List Entry → Option SlotFront → Type 0
+MakesOne (Some front) known' (Some front') = HasOneMore front known' front'
+MakesOne (Some front) known' None = ⊥
+MakesOne None known' after = ⊥
+
+-- the slot knows what it knew, or it is of no use any more
+abbrev pub StaysOrEnds : Option SlotFront → Option SlotFront → Type 0
+StaysOrEnds before after = (after ≡ before) ⊎ (after ≡ None)
+
+-- a slot that knows the history before and after was split at this key, and this is what the upper slot knows
+abbrev pub IsPartedFrom : Option SlotFront → Key → Option SlotFront → Option SlotFront → Type 0
+IsPartedFrom (Some front) middle (Some lower) (Some upper) = IsParted front middle lower upper
+IsPartedFrom (Some front) middle (Some lower) None = ⊥
+IsPartedFrom (Some front) middle None upper = ⊥
+IsPartedFrom None middle lower upper = ⊥
+
+-- spans answer so if the slot with this number is to be split at this key: they refuse it with this cause, or allow it
+pub record SpansSay (slot : ℕ) (middle : Key) (cause : Option MapFault) : Type 0 where
+  pub points : List Key
+  pub said : split_refusal points slot middle ≡ cause
+
+-- a slot that spans allow to be split has no cause of theirs
+abbrev pub IsHalveFault : SplitError → Type 0
+IsHalveFault (split.Map f) = ⊥
+IsHalveFault split.NoMemory = ⊤
+
+-- why a slot is not split: the spans refuse it, or have no memory for it; or they allow it, and the slot is not cut
+abbrev pub IsSplitFault : ℕ → Key → SplitError → Type 0
+IsSplitFault slot middle (split.Map f) = SpansSay slot middle (cause_of f)
+IsSplitFault slot middle split.NoMemory = SpansSay slot middle None

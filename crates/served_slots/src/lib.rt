@@ -1,0 +1,23 @@
+//! Slots with a lock each, whose requests are the entries of one history.
+#![tactic(auto)]
+
+mod connection;
+mod entering;
+mod laws;
+mod locked;
+mod ready;
+mod replied;
+mod slots;
+#[cfg(test)]
+mod slots_tests;
+mod splitting;
+mod steadily;
+mod steady;
+mod table;
+
+pub use connection::{Connection, two_connections_agree};
+pub use laws::{
+    a_slot_has_what_its_requests_leave, both_halves_have_what_is_left, the_first_slot_has_all_keys,
+};
+pub use slots::Slots;
+pub use splitting::SplitError;

@@ -1,0 +1,201 @@
+//! What the lock of a slot has, and what is done with it while the lock is held.
+ghost use Rattle.std.specs.Prelude.{◌≡◌, ◌<◌, ◌^◌, IfOk, IsTrue, None, OnErr, OnOk, Some, true};
+ghost use Rattle.std.specs.Arc.{arc_value};
+ghost use Rattle.policy_book.specs.Judgements.{IsOfAsk};
+ghost use Rattle.range_rows.specs.Readings.{reading_of};
+ghost use Rattle.stamp_model.specs.SeenContainers.{routed};
+ghost use Rattle.slot_state.specs.Slots.{empty_slot, is_inside};
+ghost use Rattle.served_history.specs.Histories.{IsServed, count_of};
+ghost use Rattle.served_slots.specs.Slots.{IsLeftBy};
+ghost use Rattle.served_slots.specs.Steps.{IsPartedFrom, MakesOne, StaysOrEnds};
+
+use crate::entering::{Missed, Upper, cut_and_enter, serve_and_enter};
+use crate::ready::Ready;
+use crate::replied::Replied;
+use crate::steadily::{compact_steadily, first_slot};
+use range_rows::Reading;
+use served_history::{Account, Front, SlotHistory, SlotWord};
+use slot_state::{AccountPairs, ProvedHistories};
+use stamp_types::{Key, Moment, Request};
+use std::alloc::{AllocError, Global};
+use std::marker::Model;
+use std::sync::Arc;
+use stored_rows::Compacted;
+use stored_slot::StoredSlot;
+
+/// A slot, the end of its range, and what it knows of the history. The containers of the slot are those that this history leaves.
+///
+/// It knows nothing of the history if the slot has a change that the history does not have. No thread makes that so, though no clause says so.
+#[derive(Drop)]
+pub(crate) struct LockedSlot<A: Account> {
+    slot: StoredSlot<ProvedHistories>,
+    to: Option<Key>,
+    history: Option<SlotHistory<A>>,
+}
+
+impl<A: Account> Model for LockedSlot<A> {
+    ghost use Rattle.std.specs.Prelude.{IfSome, Option};
+    ghost use Rattle.served_history.specs.Growth.{SlotFront};
+    ghost use Rattle.served_slots.specs.Slots.{IsLeftBy};
+
+    ghost Value = { Option SlotFront };
+
+    ghost view = { λ l. l.history };
+
+    ghost invariant = { λ l. IfSome l.history (λ own. IsLeftBy own l.to l.slot) };
+}
+
+// The key once more. No byte of it is copied.
+fn copy_of(key: &Key) -> Result<Key, AllocError>
+    ensures { IfOk result (λ copy. copy ≡ key.now) }
+{
+    key.clone()
+}
+
+// Whether the slot can be cut at a key: the key is inside its range, a word is spare, and the slot may make one entry more.
+fn can_cut<A: Account>(
+    slot: &StoredSlot<ProvedHistories>,
+    own: &SlotHistory<A>,
+    middle: &Key,
+    spares: &Vec<SlotWord<A>>,
+) -> bool
+    ensures inside { IsTrue result → is_inside slot.now middle.now ≡ true }
+    ensures room { IsTrue result → count_of own.now.slot own.now.log < 2 ^ 62 }
+{
+    if own.is_full() {
+        return false;
+    }
+    if spares.is_empty() {
+        return false;
+    }
+    slot.is_inside(middle)
+}
+
+impl<A: Account> LockedSlot<A> {
+    // What the lock of the upper half of a slot has.
+    fn of(upper: Upper<A>) -> Self
+        requires { IsLeftBy upper.own upper.to upper.slot }
+        ensures { result ≡ Some upper.own }
+    {
+        let Upper { slot, to, own } = upper;
+        Self {
+            slot,
+            to,
+            history: Some(own),
+        }
+    }
+
+    /// A slot of all keys, without containers, for these key pairs.
+    pub(crate) fn new(alloc: Global, pairs: Arc<AccountPairs>, own: SlotHistory<A>) -> Self
+        requires { IsLeftBy own None (empty_slot (arc_value pairs)) }
+        ensures { result ≡ Some own }
+    {
+        let slot = first_slot(alloc, pairs);
+        Self {
+            slot,
+            to: None,
+            history: Some(own),
+        }
+    }
+
+    /// The model's reply to a request after all entries before it, those of other slots too. The request is then the last entry that the
+    /// slot and the connection know.
+    ///
+    /// `AllocError` if memory runs out, or if the slot does not have the key, or if it has made as many entries as it may: then nothing is
+    /// changed. Also if another thread has made an entry of this slot.
+    pub(crate) fn answer(
+        &mut self,
+        alloc: Global,
+        known: &mut Front<A>,
+        request: &Request,
+        ready: &Ready,
+        reading: Reading,
+        moment: Moment,
+    ) -> Result<Replied, AllocError>
+        requires first { ready.now.first ≡ routed request.now }
+        requires judged { IsOfAsk ready.now.judged request.now.ask }
+        requires read { reading ≡ reading_of request.now }
+        ensures served { IfOk result (λ reply. IsServed known.old request.now moment reply known.new) }
+        ensures same { OnErr result (known.new ≡ known.old) }
+        ensures made { OnOk result (MakesOne self.old known.new self.new) }
+        ensures stays { OnErr result (StaysOrEnds self.old self.new) }
+    {
+        let Some(own) = &mut self.history else {
+            drop(reading);
+            return Err(AllocError);
+        };
+        match serve_and_enter(
+            &mut self.slot,
+            own,
+            &self.to,
+            alloc,
+            known,
+            request,
+            &ready.first,
+            ready.judged.as_ref(),
+            reading,
+            moment,
+        ) {
+            Ok(replied) => Ok(replied),
+            Err(Missed::NoMemory) => Err(AllocError),
+            Err(Missed::Lost) => {
+                drop(self.history.take());
+                Err(AllocError)
+            }
+        }
+    }
+
+    /// Cuts the slot at a key. The upper half is answered, with one of the spare words.
+    ///
+    /// `AllocError` if the key is not inside the slot's range, if no word is spare, if the slot has made as many entries as it may, or if memory
+    /// runs out: then nothing is changed. Also if another thread has made an entry of this slot.
+    pub(crate) fn cut(
+        &mut self,
+        alloc: Global,
+        middle: &Key,
+        spares: &mut Vec<SlotWord<A>>,
+    ) -> Result<LockedSlot<A>, AllocError>
+        ensures parted { IfOk result (λ upper. IsPartedFrom self.old middle.now self.new upper) }
+        ensures stays { OnErr result (StaysOrEnds self.old self.new) }
+    {
+        let Some(own) = &mut self.history else {
+            return Err(AllocError);
+        };
+        if !can_cut(&self.slot, own, middle, spares) {
+            return Err(AllocError);
+        }
+        let end = copy_of(middle)?;
+        match cut_and_enter(
+            &mut self.slot,
+            own,
+            &mut self.to,
+            alloc,
+            middle,
+            end,
+            spares,
+        ) {
+            Ok(upper) => Ok(LockedSlot::of(upper)),
+            Err(Missed::NoMemory) => Err(AllocError),
+            Err(Missed::Lost) => {
+                let lost = self.history.take();
+                drop(lost);
+                Err(AllocError)
+            }
+        }
+    }
+
+    /// Whether the slot has many bytes of content and rows to which nothing refers.
+    pub(crate) fn is_wasteful(&self) -> bool {
+        self.slot.is_wasteful()
+    }
+
+    /// Gives up content and rows to which nothing refers. What was replaced may be dropped after the lock.
+    pub(crate) fn compact(&mut self, alloc: Global) -> Option<Compacted>
+        ensures { self.new ≡ self.old }
+    {
+        let Some(_own) = &self.history else {
+            return None;
+        };
+        compact_steadily(&mut self.slot, alloc)
+    }
+}

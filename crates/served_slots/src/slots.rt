@@ -1,0 +1,208 @@
+//! The slots of a stamp.
+ghost use Rattle.std.specs.Prelude.{◌≡◌, ◌⊎◌, ◌∷◌, [], IfErr, IfOk, None, OnErr, OnOk, Some};
+ghost use Rattle.std.specs.Arc.{arc_value};
+ghost use Rattle.policy_book.specs.Judgements.{IsOfAsk};
+ghost use Rattle.range_rows.specs.Readings.{reading_of};
+ghost use Rattle.stamp_model.specs.SeenContainers.{routed};
+ghost use Rattle.slot_state.specs.PairFaults.{pairs_fault};
+ghost use Rattle.slot_state.specs.Pairs.{AreNumbered, first_pairs};
+ghost use Rattle.slot_state.specs.declared.pairs_fault.PairsFault.TheVariants.{NoMemory};
+ghost use Rattle.slot_state.specs.Slots.{empty_slot};
+ghost use Rattle.served_history.specs.declared.entry.Entry.TheVariants.{Opened};
+ghost use Rattle.served_history.specs.Histories.{IsServed, count_of};
+ghost use Rattle.served_slots.specs.Slots.{IsLeftBy};
+ghost use Rattle.served_slots.specs.Steps.{IsSplitFault, SpansSay};
+
+use crate::ready::Ready;
+use crate::replied::Replied;
+use crate::splitting::SplitError;
+use crate::table::Table;
+use access_rules::Keys;
+use range_rows::Reading;
+use served_history::{Account, Front, NewHistory, SlotHistory, SlotWord};
+use slot_state::{AccountPairs, PairsFault};
+use stamp_types::{Key, Moment, Request};
+use std::alloc::{AllocError, Global};
+use std::marker::PhantomData;
+use std::sync::{Arc, RwLock, Wait};
+
+// A history, and the number of the slot whose word comes next.
+#[derive(Drop)]
+struct Words<A: Account> {
+    history: NewHistory,
+    next: u64,
+    account: PhantomData<A>,
+    ghost book: { history.book ≡ A.history },
+    ghost words: { history.next ≡ next },
+}
+
+impl<A: Account> Words<A> {
+    // The word of the next slot; none if all slots have theirs.
+    fn next(&mut self) -> Option<SlotWord<A>> {
+        if self.next >= 256 {
+            return None;
+        }
+        let word = self.history.word::<A>(self.next);
+        self.next += 1;
+        Some(word)
+    }
+}
+
+// The words of all slots but the first.
+fn spares<A: Account>(alloc: Global, words: Words<A>) -> Result<Vec<SlotWord<A>>, AllocError> {
+    let mut words = words;
+    let mut spares = Vec::with_capacity(alloc, 255)?;
+    for _ in 0..255u32 {
+        if let Some(word) = words.next() {
+            spares.push(word)?;
+        }
+    }
+    Ok(spares)
+}
+
+// The key pairs in an allocation that can be shared.
+fn share(alloc: Global, pairs: AccountPairs) -> Result<Arc<AccountPairs>, AllocError>
+    ensures { IfOk result (λ shared. arc_value shared ≡ pairs) }
+{
+    let shared = Arc::new(alloc, pairs)?;
+    Ok(shared)
+}
+
+// The first key pairs of the accounts, in an allocation that can be shared.
+fn shared_pairs(alloc: Global, pairs: Vec<Keys>) -> Result<Arc<AccountPairs>, PairsFault>
+    ensures value { IfOk result (λ all. arc_value all ≡ first_pairs pairs.items) }
+    ensures numbered { IfOk result (λ all. AreNumbered (arc_value all)) }
+    ensures taken { OnOk result (pairs_fault pairs.items ≡ None) }
+    ensures refused { IfErr result (λ fault. (fault ≡ NoMemory) ⊎ (pairs_fault pairs.items ≡ Some fault)) }
+{
+    let pairs = AccountPairs::of(alloc, pairs)?;
+    pairs.numbered();
+    let shared = share(alloc, pairs)?;
+    Ok(shared)
+}
+
+// What the first slot knows of a new history.
+fn first_own<A: Account>(history: &mut NewHistory, front: &Front<A>) -> SlotHistory<A>
+    requires book { history.old.book ≡ A.history }
+    requires fresh { history.old.next ≡ 0 }
+    requires none { count_of 0 front.now ≡ 0 }
+    ensures slot { result.slot ≡ 0 }
+    ensures log { result.log ≡ front.now }
+    ensures book { history.new.book ≡ history.old.book }
+    ensures next { history.new.next ≡ 1 }
+{
+    let word = history.word::<A>(0);
+    SlotHistory::new(word, front.again())
+}
+
+// The table of one slot of all keys.
+fn first_table<A: Account>(
+    alloc: Global,
+    pairs: &Arc<AccountPairs>,
+    own: SlotHistory<A>,
+    spares: Vec<SlotWord<A>>,
+) -> Result<Table<A>, AllocError>
+    requires { IsLeftBy own None (empty_slot (arc_value pairs.now)) }
+{
+    let shared = pairs.clone()?;
+    let table = Table::new(alloc, shared, own, spares)?;
+    Ok(table)
+}
+
+/// Slots that many threads share: a lock for their table, and a lock for each slot. The requests to all of them are the entries of one history.
+///
+/// A split takes the table's lock to write. A request takes it to read, and then the lock of one slot. The key pairs of the accounts are under no
+/// lock, so that signatures are judged without one.
+#[derive(Drop)]
+pub struct Slots<A: Account> {
+    pairs: Arc<AccountPairs>,
+    table: RwLock<Table<A>>,
+}
+
+impl<A: Account> Slots<A> {
+    /// One slot of all keys, without containers, for the accounts of these first key pairs, with which the history begins; and what is known of
+    /// this history.
+    ///
+    /// `NotFirst` if the epoch of a pair is not 0, `Twice` if two pairs are of one account, and `NoMemory` if memory runs out.
+    pub fn new(
+        alloc: Global,
+        pairs: Vec<Keys>,
+        history: NewHistory,
+    ) -> Result<(Slots<A>, Front<A>), PairsFault>
+        requires book { history.book ≡ A.history }
+        requires fresh { history.next ≡ 0 }
+        requires log { history.log ≡ Opened pairs.items ∷ [] }
+        ensures known { IfOk result (λ made. made.1 ≡ Opened pairs.items ∷ []) }
+        ensures taken { OnOk result (pairs_fault pairs.items ≡ None) }
+        ensures refused { IfErr result (λ fault. (fault ≡ NoMemory) ⊎ (pairs_fault pairs.items ≡ Some fault)) }
+    {
+        let mut history = history;
+        let front = history.front::<A>();
+        let own = first_own(&mut history, &front);
+        let spares = spares(
+            alloc,
+            Words {
+                history,
+                next: 1,
+                account: PhantomData,
+            },
+        )?;
+        let pairs = shared_pairs(alloc, pairs)?;
+        let table = first_table(alloc, &pairs, own, spares)?;
+        let table = RwLock::new(table);
+        Ok((Slots { pairs, table }, front))
+    }
+
+    /// What is made of the request before a lock is taken.
+    ///
+    /// `AllocError` if memory runs out.
+    pub(crate) fn ready(&self, alloc: Global, request: &Request) -> Result<Ready, AllocError>
+        ensures first { IfOk result (λ ready. ready.first ≡ routed request.now) }
+        ensures judged { IfOk result (λ ready. IsOfAsk ready.judged request.now.ask) }
+    {
+        Ready::of(alloc, &self.pairs, request)
+    }
+
+    /// Serves a request by the slot that has its first key. The request is then the last entry that the connection knows.
+    ///
+    /// `AllocError` as of the slot. Then the connection knows what it knew.
+    pub(crate) fn serve<R: Wait>(
+        &self,
+        rt: &R,
+        alloc: Global,
+        known: &mut Front<A>,
+        request: &Request,
+        ready: &Ready,
+        reading: Reading,
+        moment: Moment,
+    ) -> Result<Replied, AllocError>
+        requires first { ready.now.first ≡ routed request.now }
+        requires judged { IsOfAsk ready.now.judged request.now.ask }
+        requires read { reading ≡ reading_of request.now }
+        ensures served { IfOk result (λ reply. IsServed known.old request.now moment reply known.new) }
+        ensures same { OnErr result (known.new ≡ known.old) }
+    {
+        let table = self.table.read(rt);
+        let mut locked = table.locked(rt, alloc, &ready.first);
+        locked.answer(alloc, known, request, ready, reading, moment)
+    }
+
+    /// Splits the slot with this number at a key, which is the first key of the upper half. The upper half has the next number, and each later
+    /// slot has a number that is higher by one. No request is answered meanwhile.
+    ///
+    /// `Map` with the first cause that refuses the split, or if memory runs out for the split point. `NoMemory` if memory runs out for the halves,
+    /// if no word is left for the upper half, or if the slot is of no use any more. After a fault nothing is changed.
+    pub fn split<R: Wait>(
+        &self,
+        rt: &R,
+        alloc: Global,
+        slot: usize,
+        middle: &Key,
+    ) -> Result<(), SplitError>
+        ensures allowed { OnOk result (SpansSay slot middle.now None) }
+        ensures fault { IfErr result (IsSplitFault slot middle.now) }
+    {
+        let mut table = self.table.write(rt);
+        table.split(alloc, slot, middle)
+    }
+}

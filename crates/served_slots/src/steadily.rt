@@ -1,0 +1,105 @@
+//! What a slot does over nodes in memory, which answer each call.
+ghost use Rattle.std.specs.Prelude.{◌≡◌, IfOk, None, OnErr, OnOk, true};
+ghost use Rattle.std.specs.Arc.{arc_value};
+ghost use Rattle.std.specs.Option.{option_copied};
+ghost use Rattle.stamp_types.specs.World.{no_part};
+ghost use Rattle.stamp_values.specs.declared.key.Key.{Key};
+ghost use Rattle.policy_book.specs.Judgements.{IsOfAsk};
+ghost use Rattle.range_rows.specs.Readings.{reading_of};
+ghost use Rattle.stamp_model.specs.SeenContainers.{routed};
+ghost use Rattle.stored_rows.specs.Ranges.{all_keys};
+ghost use Rattle.stored_rows.specs.States.{doubt_of, pieces_of};
+ghost use Rattle.slot_state.specs.Slots as slots;
+ghost use Rattle.slot_state.specs.Slots.{empty_slot, lower_half, upper_half};
+
+use crate::replied::Replied;
+use crate::steady::Steady;
+use policy_book::Judged;
+use range_rows::Reading;
+use slot_state::{AccountPairs, ProvedHistories};
+use stamp_types::{Key, Moment, Request};
+use std::alloc::{AllocError, Global};
+use std::sync::Arc;
+use stored_rows::{Compacted, KeyRange, StoredRows};
+use stored_slot::StoredSlot;
+
+/// How many bytes an extent of two or more blocks may have.
+const EXTENT_BYTES: u32 = 268_435_456;
+
+// A slot of all keys with these rows.
+#[tactic(auto, using(crate::proofs::FirstLemmas::slot_of_all))]
+fn slot_of(alloc: Global, rows: StoredRows, pairs: Arc<AccountPairs>) -> StoredSlot<ProvedHistories>
+    requires none { (key : Key) → pieces_of rows key ≡ no_part }
+    requires sure { doubt_of rows ≡ None }
+    requires whole { rows.range ≡ all_keys }
+    ensures { result ≡ empty_slot (arc_value pairs) }
+{
+    StoredSlot::of_rows(alloc, rows, pairs)
+}
+
+/// A slot of all keys, without containers, for these key pairs. Takes no memory.
+pub(crate) fn first_slot(alloc: Global, pairs: Arc<AccountPairs>) -> StoredSlot<ProvedHistories>
+    ensures { result ≡ empty_slot (arc_value pairs) }
+{
+    let rows = StoredRows::new(alloc, EXTENT_BYTES, KeyRange::all(alloc));
+    slot_of(alloc, rows, pairs)
+}
+
+/// Serves a request: one step of the model.
+///
+/// `AllocError` if memory runs out. Then the slot is as it was.
+pub(crate) fn serve_steadily(
+    slot: &mut StoredSlot<ProvedHistories>,
+    alloc: Global,
+    request: &Request,
+    judged: Option<&Judged>,
+    reading: Reading,
+    moment: Moment,
+) -> Result<Replied, AllocError>
+    requires covered { slots.covers slot.old (routed request.now) ≡ true }
+    requires judged { IsOfAsk (option_copied judged) request.now.ask }
+    requires read { reading ≡ reading_of request.now }
+    requires sure { slot.old.doubt ≡ None }
+    ensures served { IfOk result (λ reply. slots.IsServed slot.old request.now moment slot.old.to reply slot.new) }
+    ensures same { OnErr result (slot.new ≡ slot.old) }
+{
+    let wire = &mut Steady::new();
+    let answer = slot.serve_read(alloc, request, judged, reading, moment, wire);
+    Replied::of(answer)
+}
+
+/// Cuts a slot at a key of its range: the upper half is answered.
+///
+/// `AllocError` if memory runs out. Then the slot is as it was.
+pub(crate) fn cut_steadily(
+    slot: &mut StoredSlot<ProvedHistories>,
+    alloc: Global,
+    middle: &Key,
+) -> Result<StoredSlot<ProvedHistories>, AllocError>
+    requires inside { slots.is_inside slot.old middle.now ≡ true }
+    requires sure { slot.old.doubt ≡ None }
+    ensures lower { OnOk result (slot.new ≡ lower_half slot.old middle.now) }
+    ensures upper { IfOk result (λ upper. upper ≡ upper_half slot.old middle.now) }
+    ensures same { OnErr result (slot.new ≡ slot.old) }
+{
+    let wire = &mut Steady::new();
+    match slot.split(alloc, middle, wire) {
+        Ok(upper) => Ok(upper),
+        Err(_fault) => Err(AllocError),
+    }
+}
+
+/// Gives up content and rows to which nothing refers. Gives what was replaced; none if memory runs out.
+pub(crate) fn compact_steadily(
+    slot: &mut StoredSlot<ProvedHistories>,
+    alloc: Global,
+) -> Option<Compacted>
+    requires { slot.old.doubt ≡ None }
+    ensures { slot.new ≡ slot.old }
+{
+    let wire = &mut Steady::new();
+    match slot.compact(alloc, wire) {
+        Ok(replaced) => Some(replaced),
+        Err(_fault) => None,
+    }
+}

@@ -1,0 +1,145 @@
+//! The table of the slots.
+ghost use Rattle.std.specs.Prelude.{◌≡◌, ◌+◌, ◌<◌, IfErr, None, OnErr, OnOk, length, vec_capacity, vec_len};
+ghost use Rattle.std.specs.Arc.{arc_value};
+ghost use Rattle.slot_state.specs.Slots.{empty_slot};
+ghost use Rattle.served_slots.specs.Slots.{IsLeftBy};
+ghost use Rattle.served_slots.specs.Steps.{IsHalveFault, IsSplitFault, SpansSay};
+
+use crate::locked::LockedSlot;
+use crate::splitting::SplitError;
+use partition_map::Spans;
+use served_history::{Account, SlotHistory, SlotWord};
+use slot_state::AccountPairs;
+use stamp_types::Key;
+use std::alloc::{AllocError, Global};
+use std::sync::{Arc, Mutex, MutexGuard, Wait};
+
+/// The spans of keys, a slot under a lock of its own for each, and the words of slots that are to come.
+#[derive(Drop)]
+pub(crate) struct Table<A: Account> {
+    spans: Spans,
+    slots: Vec<Mutex<LockedSlot<A>>>,
+    spares: Vec<SlotWord<A>>,
+    ghost one_each: { vec_len slots ≡ length spans + 1 },
+}
+
+// Cuts the slot of this lock. The upper half is answered.
+fn cut_in<A: Account>(
+    lock: &mut Mutex<LockedSlot<A>>,
+    alloc: Global,
+    middle: &Key,
+    spares: &mut Vec<SlotWord<A>>,
+) -> Result<LockedSlot<A>, AllocError> {
+    lock.get_mut().cut(alloc, middle, spares)
+}
+
+// Puts the two halves of a slot in its place, in which there is room for one slot more.
+fn halve_reserved<A: Account>(
+    slots: &mut Vec<Mutex<LockedSlot<A>>>,
+    alloc: Global,
+    at: usize,
+    middle: &Key,
+    spares: &mut Vec<SlotWord<A>>,
+) -> Result<(), SplitError>
+    requires within { at < vec_len slots.old }
+    requires room { vec_len slots.old < vec_capacity slots.old }
+    ensures more { OnOk result (vec_len slots.new ≡ vec_len slots.old + 1) }
+    ensures same { OnErr result (vec_len slots.new ≡ vec_len slots.old) }
+    ensures fault { IfErr result IsHalveFault }
+{
+    match cut_in(&mut slots[at], alloc, middle, spares) {
+        Ok(upper) => match slots.insert(at + 1, Mutex::new(upper)) {
+            Ok(()) => Ok(()),
+            Err(_) => unreachable!(),
+        },
+        Err(AllocError) => Err(SplitError::NoMemory),
+    }
+}
+
+// Puts the two halves of a slot in its place. Room for one slot more is made first.
+fn halve<A: Account>(
+    slots: &mut Vec<Mutex<LockedSlot<A>>>,
+    alloc: Global,
+    at: usize,
+    middle: &Key,
+    spares: &mut Vec<SlotWord<A>>,
+) -> Result<(), SplitError>
+    requires within { at < vec_len slots.old }
+    ensures more { OnOk result (vec_len slots.new ≡ vec_len slots.old + 1) }
+    ensures same { OnErr result (vec_len slots.new ≡ vec_len slots.old) }
+    ensures fault { IfErr result IsHalveFault }
+{
+    match slots.reserve(1) {
+        Ok(()) => halve_reserved(slots, alloc, at, middle, spares),
+        Err(_) => Err(SplitError::NoMemory),
+    }
+}
+
+impl<A: Account> Table<A> {
+    /// One slot of all keys, without containers, for the accounts of these first key pairs.
+    ///
+    /// `AllocError` if memory runs out.
+    pub(crate) fn new(
+        alloc: Global,
+        pairs: Arc<AccountPairs>,
+        own: SlotHistory<A>,
+        spares: Vec<SlotWord<A>>,
+    ) -> Result<Self, AllocError>
+        requires { IsLeftBy own None (empty_slot (arc_value pairs)) }
+    {
+        let slot = LockedSlot::new(alloc, pairs, own);
+        let mut slots = Vec::new(alloc);
+        slots.push(Mutex::new(slot))?;
+        Ok(Self {
+            spans: Spans::new(alloc),
+            slots,
+            spares,
+        })
+    }
+
+    /// The lock of the slot that has the key.
+    fn lock_of(&self, key: &Key) -> &Mutex<LockedSlot<A>> {
+        &self.slots[self.spans.find(key)]
+    }
+
+    /// Waits for the lock of the slot that has the key. If earlier changes left much to which nothing refers, the slot is compacted first, and what
+    /// that replaces is dropped while the lock is free.
+    pub(crate) fn locked<R: Wait>(
+        &self,
+        rt: &R,
+        alloc: Global,
+        key: &Key,
+    ) -> MutexGuard<'_, LockedSlot<A>> {
+        let lock = self.lock_of(key);
+        let mut locked = lock.lock(rt);
+        if !locked.is_wasteful() {
+            return locked;
+        }
+        let replaced = locked.compact(alloc);
+        drop(locked);
+        drop(replaced);
+        lock.lock(rt)
+    }
+
+    /// Splits the span of a slot, and then the slot. If the slot fails, its two spans are joined again.
+    ///
+    /// `Map` with the first cause that refuses the split, or if memory runs out for the split point.
+    pub(crate) fn split(
+        &mut self,
+        alloc: Global,
+        slot: usize,
+        middle: &Key,
+    ) -> Result<(), SplitError>
+        ensures allowed { OnOk result (SpansSay slot middle.now None) }
+        ensures fault { IfErr result (IsSplitFault slot middle.now) }
+    {
+        if let Err(fault) = self.spans.split(slot, middle) {
+            return Err(SplitError::Map(fault));
+        }
+        let halved = halve(&mut self.slots, alloc, slot, middle, &mut self.spares);
+        if halved.is_err() {
+            self.spans.join(slot);
+        }
+        halved
+    }
+}
