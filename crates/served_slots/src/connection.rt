@@ -32,6 +32,13 @@ impl<'a, A: Account, R: Wait> Connection<'a, A, R> {
     {
         &self.known
     }
+
+    /// Ends the connection, and gives what it knows of the history.
+    pub fn into_known(self) -> Front<A>
+        ensures { result ≡ self.entry.known }
+    {
+        self.known
+    }
 }
 
 impl<'a, A: Account, R: Wait> Service for Connection<'a, A, R> {

@@ -7,7 +7,7 @@ use crate::slots::Slots;
 use access_rules::Keys;
 use hmac_sign::SigningKey;
 use http_front::{Clock, End, run};
-use served_history::{Account, NewHistory};
+use served_history::{Account, Front, NewHistory};
 use stamp_types::{AccountName, Key, Moment, Text};
 use std::alloc::Global;
 use std::marker::Brand;
@@ -49,20 +49,31 @@ impl Clock for Still {
     }
 }
 
-// Sends the input on the connection, and gives all that is written, and the connection.
-fn sent<'a, A: Account, R: Wait + Abort>(
-    rt: &'a R,
+// Sends the input on the connection, and gives all that is written.
+fn sent<A: Account, R: Wait + Abort>(
+    rt: &R,
     alloc: Global,
-    connection: Connection<'a, A, R>,
+    connection: &mut Connection<'_, A, R>,
     input: &[u8],
-) -> (Vec<u8>, Connection<'a, A, R>) {
-    let mut connection = connection;
+) -> Vec<u8> {
     let moment = Moment::new(NOON).expect(rt, "a moment");
-    let mut http = http_front::Connection::new(alloc, input, Vec::new(alloc), 100);
-    let end = run(alloc, &mut http, &mut Still { moment }, &mut connection);
+    let mut http = http_front::Connection::new(alloc, input, Vec::new(alloc), 1_000);
+    let end = run(alloc, &mut http, &mut Still { moment }, connection);
     assert!(rt; end == Ok(End::Clean));
     let (_, out) = http.into_parts();
-    (out, connection)
+    out
+}
+
+// The same, on a connection that ends then and gives what it knows.
+fn sent_on<A: Account, R: Wait + Abort>(
+    rt: &R,
+    alloc: Global,
+    connection: Connection<'_, A, R>,
+    input: &[u8],
+) -> (Vec<u8>, Front<A>) {
+    let mut connection = connection;
+    let out = sent(rt, alloc, &mut connection, input);
+    (out, connection.into_known())
 }
 
 // A key of the account.
@@ -91,19 +102,19 @@ fn two_slots<A: Account + Send + Sync, R: Threads + Wait + Abort + Sync>(
     assert!(rt; slots.split(rt, alloc, 0, &key(rt, alloc, "q")).is_ok());
     let first = Connection::new(rt, slots, front.again());
     let second = Connection::new(rt, slots, front);
-    let ((one, first), (two, second)) = thread::join(
+    let ((one, known), (two, also)) = thread::join(
         rt,
-        move || sent(rt, alloc, first, CREATE_PICS),
-        move || sent(rt, alloc, second, CREATE_ZOO),
+        move || -> (Vec<u8>, Front<A>) { sent_on(rt, alloc, first, CREATE_PICS) },
+        move || -> (Vec<u8>, Front<A>) { sent_on(rt, alloc, second, CREATE_ZOO) },
     );
     assert!(rt; one.starts_with(CREATED));
     assert!(rt; two.starts_with(CREATED));
     assert!(rt; slots.split(rt, alloc, 1, &key(rt, alloc, "z")).is_ok());
     assert!(rt; slots.split(rt, alloc, 1, &key(rt, alloc, "z")).is_err());
-    let (put, first) = sent(rt, alloc, first, PUT_ZOO);
-    assert!(rt; put.starts_with(CREATED));
-    let (got, second) = sent(rt, alloc, second, GET_ZOO);
-    assert!(rt; got.ends_with(b"\r\n\r\nhello"));
+    let mut first = Connection::new(rt, slots, known);
+    let mut second = Connection::new(rt, slots, also);
+    assert!(rt; sent(rt, alloc, &mut first, PUT_ZOO).starts_with(CREATED));
+    assert!(rt; sent(rt, alloc, &mut second, GET_ZOO).ends_with(b"\r\n\r\nhello"));
     two_connections_agree(&first, &second);
 }
 
