@@ -371,10 +371,10 @@ fn tends<R: Wait + Abort>(rt: &R, alloc: Global) {
         assert!(rt; ends(rt, alloc, &mut caller, GET, b"\r\n\r\nhello"));
         assert!(rt; matches!(stamp.tend(rt, alloc, 9, care), Err(TendFault::NoSuchSlot)));
     }
-    assert!(rt; stamp.move_to(rt, 0, 7).is_ok());
+    assert!(rt; stamp.move_to(rt, alloc, 0, 7).is_ok());
     assert!(rt; ends(rt, alloc, &mut caller, GET, b"\r\n\r\nhello"));
     assert!(rt; begins(rt, alloc, &mut caller, GET_B, MISSING));
-    assert!(rt; stamp.move_to(rt, 1, 7).is_err());
+    assert!(rt; stamp.move_to(rt, alloc, 1, 7).is_err());
 }
 
 #[test]

@@ -1,59 +1,66 @@
 -- Requests to a slot that its lock lends.
-use Rattle.std.proofs.Common.{◌≡◌, inl, inr, ℕ, true, false, refl, subst}
+use Rattle.std.proofs.Common.{◌≡◌, ℕ, true, List, None, Ok, subst}
 use Rattle.extent_node.specs.Faults.{Calls}
 use Rattle.stamp_values.specs.declared.key.Key.{Key}
 use Rattle.stamp_types.specs.Requests.{Asked}
 use Rattle.stamp_types.specs.declared.ask.Ask.{Ask}
 use Rattle.stamp_model.specs.SeenContainers.{routed}
-use Rattle.tickets.specs.Answers.{IsAnswer}
+use Rattle.partition_map.specs.Spans.{slot_of, split_refusal, with_point}
 use Rattle.tickets.specs.declared.answer.Answer.{Answer}
 use Rattle.tickets.specs.declared.answer.Answer.TheVariants as answer
 use Rattle.slot_state.specs.HistoryMaps.{history_at}
-use Rattle.slot_state.specs.Pairs.{pairs_at}
+use Rattle.slot_state.specs.Pairs.{Pairs, current_at, pairs_at}
 use Rattle.slot_state.specs.Slots.{SlotState, covers}
-use Rattle.stored_slot.specs.Served.{Faulted, SlotServes, busy}
-use Rattle.slot_pass.specs.After.{Begins, IsAfterFault, ServesOrNot, pass_with}
+use Rattle.stored_slot.specs.Served.{Faulted, SlotServes}
+use Rattle.stored_slot.specs.Settled.{CutsSettled}
+use Rattle.slot_pass.specs.After.{IsAfterFault}
+use Rattle.slot_pass.specs.Calls.{AnswersAfter}
 use Rattle.slot_pass.specs.Passes.{IsShown, PassState}
 use Rattle.slot_pass.specs.declared.after_fault.AfterFault.{AfterFault}
 use Rattle.slot_pass.specs.declared.after_fault.AfterFault.TheVariants as after
-use Rattle.stamp_locks.specs.Lent.{IsHandled, IsOutside, ServesLent}
-use Rattle.stamp_locks.specs.Shown.{IsBack, IsHandledAfter, ServesAfterLent}
+use Rattle.stamp_locks.specs.declared.faults.SplitError.{SplitError}
+use Rattle.stamp_locks.specs.declared.faults.SplitError.TheVariants as split
+use Rattle.stamp_locks.specs.Lent.{BeginsSpan, CutsSlot, FailsCut, HandlesBy, IsCutFault, IsSlotFor, IsSplit}
+use Rattle.stamp_locks.specs.Shown.{HandlesAfterBy, IsBack}
 
--- the slot does not have the key
-outside_of : (s : SlotState) (q : Asked) (first : Key) (a : Answer) → first ≡ routed q → covers s first ≡ false → IsAnswer a true busy → IsOutside s q a
-outside_of s q first a is out answered = (subst (λ (k : Key). covers s k ≡ false) is out, answered)
+-- a slot with the first key of a request is the slot of the request
+pub slot_for : (points : List Key) (first : Key) (q : Asked) (s : SlotState) → first ≡ routed q → BeginsSpan points (slot_of points first) s → covers s first ≡ true → IsSlotFor points q s
+slot_for points first q s is begins covered = record {
+  begins = subst (λ (key : Key). BeginsSpan points (slot_of points key) s) is begins;
+  covered = subst (λ (key : Key). covers s key ≡ true) is covered;
+}
 
-pub outside : (s : SlotState) (q : Asked) (t : ℕ) (old new : Calls) (first : Key) (a : Answer) → first ≡ routed q → covers s first ≡ false → IsAnswer a true busy → ServesLent s q t old new a s
-outside s q t old new first a is out answered = inr (outside_of s q first a is out answered, refl)
+-- ---- as it is told outside of the lock
 
-pub inside : (s s' : SlotState) (q : Asked) (t : ℕ) (old new : Calls) (a : Answer) → SlotServes s q t (Faulted old new) a s' → ServesLent s q t old new a s'
-inside s s' q t old new a served = inl served
+module _ {W : Type 0} (faults : W → Calls) (pairs : Pairs) (points : List Key) (s s' : SlotState) (q : Asked) (t : ℕ) (old new : W) where
+  told : (a : Answer) → IsSlotFor points q s → current_at s.pairs q.ask.key.account ≡ current_at pairs q.ask.key.account → IsShown (pairs_at s.pairs q.ask.key.account) q.ask.key (history_at s.histories q.ask.key) → SlotServes s q t (Faulted (faults old) (faults new)) a s'
+      → HandlesBy faults pairs q t a
+  told (answer.Done r) is_for current shown served = record { points = points; slot = s; next = s'; old = old; new = new; is_for = is_for; current = current; shown = shown; served = served }
+  told (answer.Later r) is_for current shown served = record { points = points; slot = s; next = s'; old = old; new = new; is_for = is_for; current = current; shown = shown; served = served }
+  told answer.NoMemory is_for current shown served = tt
 
--- as it is told outside of the lock
-told : (s s' : SlotState) (q : Asked) (t : ℕ) (old new : Calls) (a : Answer) → IsShown (pairs_at s.pairs q.ask.key.account) q.ask.key (history_at s.histories q.ask.key) → ServesLent s q t old new a s' → IsHandled q t a
-told s s' q t old new (answer.Done r) shown served = record { slot = s; next = s'; old = old; new = new; shown = shown; served = served }
-told s s' q t old new (answer.Later r) shown served = record { slot = s; next = s'; old = old; new = new; shown = shown; served = served }
-told s s' q t old new answer.NoMemory shown served = tt
+  pub met : (ask : Ask) (a : Answer) → ask ≡ q.ask → IsSlotFor points q s → current_at s.pairs q.ask.key.account ≡ current_at pairs q.ask.key.account → IsShown (pairs_at s.pairs ask.key.account) ask.key (history_at s.histories ask.key)
+      → SlotServes s q t (Faulted (faults old) (faults new)) a s' → HandlesBy faults pairs q t a
+  met ask a is is_for current shown served =
+      told a is_for current (subst (λ (x : Ask). IsShown (pairs_at s.pairs x.key.account) x.key (history_at s.histories x.key)) is shown) served
 
-pub met : (s s' : SlotState) (q : Asked) (t : ℕ) (old new : Calls) (ask : Ask) (a : Answer) → ask ≡ q.ask → IsShown (pairs_at s.pairs ask.key.account) ask.key (history_at s.histories ask.key) → ServesLent s q t old new a s'
-    → IsHandled q t a
-met s s' q t old new ask a is shown served =
-    told s s' q t old new a (subst (λ (x : Ask). IsShown (pairs_at s.pairs x.key.account) x.key (history_at s.histories x.key)) is shown) served
+  pub told_after : (p p' : PassState) (a : Answer) → IsSlotFor points q s → current_at s.pairs q.ask.key.account ≡ current_at pairs q.ask.key.account
+      → AnswersAfter p s q t (faults old) (faults new) a p' s' → HandlesAfterBy faults pairs p q t a p'
+  told_after p p' a is_for current answers = record { points = points; slot = s; next = s'; old = old; new = new; is_for = is_for; current = current; answers = answers }
 
--- ---- with a pass
+pub told_back : (points : List Key) (s : SlotState) (q : Asked) (p p' : PassState) (f : AfterFault) → IsSlotFor points q s → p' ≡ p → IsAfterFault p s f → IsBack p q p' f
+told_back points s q p p' (after.Pairs place) is_for same refuses = (same, record { points = points; slot = s; is_for = is_for; refuses = refuses })
+told_back points s q p p' (after.Alien place) is_for same refuses = (same, record { points = points; slot = s; is_for = is_for; refuses = refuses })
+told_back points s q p p' after.NoMemory is_for same refuses = same
 
-pub outside_after : (p : PassState) (s : SlotState) (q : Asked) (t : ℕ) (old new : Calls) (first : Key) (a : Answer) → first ≡ routed q → covers s first ≡ false → IsAnswer a true busy → ServesAfterLent p s q t old new a p s
-outside_after p s q t old new first a is out answered = inr (outside_of s q first a is out answered, (refl, refl))
+-- ---- splits
 
-pub inside_after : (p p' : PassState) (s s' : SlotState) (q : Asked) (t : ℕ) (old new : Calls) (a : Answer) → q.ask.key ≡ p.key → Begins p s → ServesOrNot s q t (Faulted old new) a s' → p' ≡ pass_with p s'
-    → ServesAfterLent p s q t old new a p' s'
-inside_after p p' s s' q t old new a names begins answered holds = inl (record { names = names; begins = begins; answered = answered; holds = holds })
+pub told_cut : (points : List Key) (i : ℕ) (middle : Key) (s upper next : SlotState) → BeginsSpan points i s → CutsSettled (Ok upper) s middle next → CutsSlot points i middle
+told_cut points i middle s upper next begins cut = record { slot = s; upper = upper; next = next; begins = begins; cut = cut }
 
-pub told_after : (p p' : PassState) (s s' : SlotState) (q : Asked) (t : ℕ) (old new : Calls) (a : Answer) → ServesAfterLent p s q t old new a p' s' → IsHandledAfter p q t a p'
-told_after p p' s s' q t old new a (inl answers) = inl (record { slot = s; next = s'; old = old; new = new; answers = answers })
-told_after p p' s s' q t old new a (inr out) = inr (out.0.1, out.1.0)
+pub told_fault : (s s' : SlotState) (middle : Key) (old new : Calls) (f : SplitError) → FailsCut s middle old new f s' → IsCutFault f
+told_fault s s' middle old new (split.Map f) fails = fails.0
+told_fault s s' middle old new (split.Slot f) fails = tt
 
-pub told_back : (p p' : PassState) (s : SlotState) (f : AfterFault) → p' ≡ p → IsAfterFault p s f → IsBack p p' f
-told_back p p' s (after.Pairs place) same differs = (same, differs.below)
-told_back p p' s (after.Alien place) same differs = (same, differs.1.below)
-told_back p p' s after.NoMemory same begins = same
+pub told_split : (points new : List Key) (i : ℕ) (middle : Key) → split_refusal points i middle ≡ None → new ≡ with_point points i middle → CutsSlot new i middle → IsSplit i middle
+told_split points new i middle allowed is cuts = record { points = points; allowed = allowed; cuts = subst (λ (ps : List Key). CutsSlot ps i middle) is cuts }

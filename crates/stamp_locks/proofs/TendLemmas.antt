@@ -10,10 +10,8 @@ use Rattle.stored_rows.specs.declared.repaired.Unrepaired.{Unrepaired}
 use Rattle.stored_rows.specs.declared.faults.StoredFault.{StoredFault}
 use Rattle.slot_state.specs.Slots.{SlotState}
 use Rattle.stored_slot.specs.Settled.{LeavesRepaired, LeavesSettled, SettlesOrFails}
-use Rattle.stamp_locks.specs.declared.care.Care.{Care}
 use Rattle.stamp_locks.specs.declared.care.Care.TheVariants as care
-use Rattle.stamp_locks.specs.declared.faults.TendFault.{TendFault}
-use Rattle.stamp_locks.specs.Lent.{TendedSlot, TendsLent, told_repair, told_slot}
+use Rattle.stamp_locks.specs.Lent.{TendsLent, told_repair, told_slot}
 
 module _ (s s' : SlotState) (old new : Calls) where
   pub settled : (r : Result (Unit {0}) StoredFault) → SettlesOrFails r s s' → FailsStored r old new → TendsLent care.Settle s old new (told_slot r) s'
@@ -39,7 +37,3 @@ module _ (s s' : SlotState) (old new : Calls) where
   pub repaired : (stream : StreamName) (extent : ℕ) (node : Node) (r : Result Repaired Unrepaired) → IsRepairOf stream extent node r → LeavesRepaired (unnamed r) s s' → FailsRepair (unnamed r) old new
       → TendsLent (care.Repair stream extent node) s old new (told_repair r) s'
   repaired stream extent node r own left counted = record { called = r; told = refl; own = own; left = left; counted = counted }
-
-  -- as it is told outside of the lock
-  pub met_care : (x : Care) (r : Result (Unit {0}) TendFault) → TendsLent x s old new r s' → TendedSlot x r
-  met_care x r tended = record { slot = s; next = s'; old = old; new = new; tended = tended }

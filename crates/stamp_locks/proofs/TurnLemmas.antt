@@ -1,21 +1,18 @@
 -- Lists of calls with passes.
-use Rattle.std.proofs.Common.{◌≡◌, inl, inr, ℕ, Bool, true, false, List, [], ◌∷◌, ◌++◌, Option, Some, None, refl, sym, ap, ◌∙◌, subst, if◌then◌else◌, is_none, is_some}
+use Rattle.std.proofs.Common.{◌≡◌, ℕ, Bool, true, false, List, [], ◌∷◌, ◌++◌, Option, Some, None, refl, sym, ap, ◌∙◌, subst, if◌then◌else◌, is_none, is_some}
 use Rattle.std.proofs.lemmas.List.{append-nil, append_assoc}
 use mathlib.Core.List.{IsPrefix}
 use Rattle.extent_node.specs.Faults.{Calls}
 use Rattle.stamp_types.specs.declared.past.Past.{Past}
-use Rattle.stamp_types.specs.declared.reply.Reply.{Reply}
 use Rattle.stamp_types.specs.declared.rule.Rule.{Rule}
 use Rattle.stamp_types.specs.Requests.{Asked}
 use Rattle.range_rows.specs.SentContent.{sizes}
 use Rattle.stamp_model.specs.Effects.{accepted}
 use Rattle.stamp_model.specs.Histories.{replay}
-use Rattle.tickets.specs.Answers.{IsAnswer}
 use Rattle.tickets.specs.declared.answer.Answer.{Answer}
 use Rattle.tickets.specs.declared.answer.Answer.TheVariants as answer
 use Rattle.slot_state.specs.Pairs.{epoch_of, in_force}
 use Rattle.slot_state.specs.Slots.{SlotState}
-use Rattle.stored_slot.specs.Served.{busy}
 use Rattle.slot_pass.specs.Calls.{AnswersAfter, MeetsIfServed, MetHistory}
 use Rattle.slot_pass.specs.Passes.{IsOrder, PassState}
 use Rattle.slot_pass.specs.declared.meeting.Order.{Order}
@@ -83,11 +80,6 @@ module _ (p : PassState) (c : PassCall) (more : IsPrefix p.front c.after.front) 
   adds_by (answer.Later r) is met = adds_own p c (ap names_no_rule is) met
   adds_by answer.NoMemory is met = adds_none p c (ap names_no_rule is) more
 
-refused : (a : Answer) → IsAnswer a true busy → names_no_rule a ≡ false
-refused (answer.Done r) is = ap (λ (x : Reply). is_none x.rule) is.0
-refused (answer.Later r) is = cc is.1
-refused answer.NoMemory is = refl
-
 -- what one call of a slot does with a pass (`changes_of_two_passes_are_in_one_list` of slot_pass)
 abbrev pub Made : Type 0
 Made = (p after : PassState) (s next : SlotState) (q : Asked) (t : ℕ) (old new : Calls) (a : Answer) → AnswersAfter p s q t old new a after next → MeetsIfServed p q t a after
@@ -102,31 +94,29 @@ goes_on : (shown : List Past) (calls : List PassCall) (xs ys : List Past) → Ha
 goes_on shown [] xs ys has more = begins_then shown xs ys has more
 goes_on shown (c ∷ cs) xs ys has more = (has.0, goes_on (front_with shown has.0 (changed c (shown ++ has.0))) cs xs ys has.1 more)
 
-module _ (made : Made) (more : Grown) where
-  grown_by : (p p' : PassState) (q : Asked) (t : ℕ) (a : Answer) → IsHandledAfter p q t a p' → IsPrefix p.front p'.front × IsPrefix p.pairs p'.pairs
-  grown_by p p' q t a (inl m) = more p p' m.slot m.next q t m.old m.new a m.answers
-  grown_by p p' q t a (inr out) = (begins_same p.front p'.front (ap (λ (x : PassState). x.front) out.1), begins_same p.pairs p'.pairs (ap (λ (x : PassState). x.pairs) out.1))
+module _ {W : Type 0} (faults : W → Calls) (made : Made) (more : Grown) where
+  grown_by : (p p' : PassState) (q : Asked) (t : ℕ) (a : Answer) → IsHandledAfter faults p q t a p' → IsPrefix p.front p'.front × IsPrefix p.pairs p'.pairs
+  grown_by p p' q t a (pairs, m) = more p p' m.slot m.next q t (faults m.old) (faults m.new) a m.answers
 
-  adds : (p : PassState) (c : PassCall) → IsHandledAfter p c.request c.moment c.answer c.after → Adds p c
-  adds p c (inl m) =
-      adds_by p c (more p c.after m.slot m.next c.request c.moment m.old m.new c.answer m.answers).0 c.answer refl
-      (made p c.after m.slot m.next c.request c.moment m.old m.new c.answer m.answers)
-  adds p c (inr out) = adds_none p c (refused c.answer out.0) (begins_same p.front c.after.front (ap (λ (x : PassState). x.front) out.1))
+  adds : (p : PassState) (c : PassCall) → IsHandledAfter faults p c.request c.moment c.answer c.after → Adds p c
+  adds p c (pairs, m) =
+      adds_by p c (more p c.after m.slot m.next c.request c.moment (faults m.old) (faults m.new) c.answer m.answers).0 c.answer refl
+      (made p c.after m.slot m.next c.request c.moment (faults m.old) (faults m.new) c.answer m.answers)
 
-  pub in_turn : (p after : PassState) (calls : List PassCall) → AreCalls p calls after → HasInTurn p.front calls after.front
+  pub in_turn : (p after : PassState) (calls : List PassCall) → AreCalls faults p calls after → HasInTurn p.front calls after.front
   in_turn p after [] are = begins_same p.front after.front (ap (λ (x : PassState). x.front) are)
   in_turn p after (c ∷ cs) are =
       let a = adds p c are.0 in
       (a.0, subst (λ (l : List Past). HasInTurn l cs after.front) a.1 (in_turn c.after after cs are.1))
 
-  pub grown : (p after : PassState) (calls : List PassCall) → AreCalls p calls after → IsPrefix p.front after.front × IsPrefix p.pairs after.pairs
+  pub grown : (p after : PassState) (calls : List PassCall) → AreCalls faults p calls after → IsPrefix p.front after.front × IsPrefix p.pairs after.pairs
   grown p after [] are = (begins_same p.front after.front (ap (λ (x : PassState). x.front) are), begins_same p.pairs after.pairs (ap (λ (x : PassState). x.pairs) are))
   grown p after (c ∷ cs) are =
       let one = grown_by p c.after c.request c.moment c.answer are.0 in
       let rest = grown c.after after cs are.1 in
       (begins_then p.front c.after.front after.front one.0 rest.0, begins_then p.pairs c.after.pairs after.pairs one.1 rest.1)
 
-  module _ (p after o last : PassState) (calls others : List PassCall) (are : AreCalls p calls after) (also : AreCalls o others last) where
+  module _ (p after o last : PassState) (calls others : List PassCall) (are : AreCalls faults p calls after) (also : AreCalls faults o others last) where
     in_list : (list : List Past) → IsPrefix after.front list → IsPrefix last.front list → AreInOneList p.front o.front calls others
     in_list list one other = record {
       list = list;

@@ -1,6 +1,7 @@
 -- Lists of calls with passes, and what they leave in a front (the passes are the stamp's own).
 use Rattle.std.specs.Prelude.{◌≡◌, ℕ, Bool, true, false, List, [], ◌∷◌, ◌++◌, if◌then◌else◌, is_none, is_some}
 use mathlib.Core.List.{IsPrefix}
+use Rattle.extent_node.specs.Faults.{Calls}
 use Rattle.stamp_types.specs.declared.past.Past.{Past}
 use Rattle.stamp_types.specs.Requests.{Asked}
 use Rattle.range_rows.specs.SentContent.{sizes}
@@ -20,9 +21,9 @@ pub record PassCall : Type 0 where
   pub after : PassState
 
 -- calls with one pass, one after the other: each call takes the pass as the call before it left the pass
-abbrev pub AreCalls : PassState → List PassCall → PassState → Type 0
-AreCalls p [] p' = p' ≡ p
-AreCalls p (c ∷ cs) p' = IsHandledAfter p c.request c.moment c.answer c.after × AreCalls c.after cs p'
+abbrev pub AreCalls : {W : Type 0} → (W → Calls) → PassState → List PassCall → PassState → Type 0
+AreCalls faults p [] p' = p' ≡ p
+AreCalls faults p (c ∷ cs) p' = IsHandledAfter faults p c.request c.moment c.answer c.after × AreCalls faults c.after cs p'
 
 -- the reply that the answer has, now or later, names no rule
 abbrev pub names_no_rule : Answer → Bool

@@ -1,13 +1,12 @@
 -- What is done with a slot that its lock lends (Calder et al., SOSP 2011, section 5: what a partition server does with its range).
-use Rattle.std.specs.Prelude.{◌≡◌, ◌⊎◌, ◌<◌, ⊤, ℕ, true, false, List, None, Result, Ok, Err}
+use Rattle.std.specs.Prelude.{◌≡◌, ◌⊎◌, ◌<◌, ◌≤◌, ⊤, ℕ, Bool, true, false, not, ◌&&◌, List, length, None, Result, Ok, Err}
 use Rattle.extent_node.specs.Faults.{Calls}
 use Rattle.stamp_values.specs.declared.key.Key.{Key}
 use Rattle.stamp_types.specs.Requests.{Asked}
-use Rattle.partition_map.specs.Spans.{cause_of, split_refusal}
+use Rattle.partition_map.specs.Spans.{AreSpans, cause_of, first_key, slot_of, split_refusal, with_point}
 use Rattle.partition_map.specs.declared.fault.MapFault.{MapFault}
 use Rattle.partition_map.specs.declared.fault.MapFault.TheVariants as map
 use Rattle.stamp_model.specs.SeenContainers.{routed}
-use Rattle.tickets.specs.Answers.{IsAnswer}
 use Rattle.tickets.specs.declared.answer.Answer.{Answer}
 use Rattle.tickets.specs.declared.answer.Answer.TheVariants as answer
 use Rattle.extent_node.specs.declared.wire.Node.{Node}
@@ -18,10 +17,10 @@ use Rattle.stored_rows.specs.declared.repaired.Repaired.{Repaired}
 use Rattle.stored_rows.specs.declared.repaired.Unrepaired.{Unrepaired}
 use Rattle.stored_rows.specs.declared.faults.StoredFault.{StoredFault}
 use Rattle.slot_state.specs.HistoryMaps.{history_at}
-use Rattle.slot_state.specs.Pairs.{pairs_at}
+use Rattle.slot_state.specs.Pairs.{Pairs, current_at, pairs_at}
 use Rattle.slot_state.specs.Slots.{SlotState, covers, is_inside}
-use Rattle.stored_slot.specs.Served.{Faulted, SlotServes, busy}
-use Rattle.stored_slot.specs.Settled.{LeavesRepaired, LeavesSettled, SettlesOrFails}
+use Rattle.stored_slot.specs.Served.{Faulted, SlotServes}
+use Rattle.stored_slot.specs.Settled.{CutsSettled, LeavesRepaired, LeavesSettled, SettlesOrFails}
 use Rattle.slot_pass.specs.Passes.{IsShown}
 use Rattle.stamp_locks.specs.declared.care.Care.{Care}
 use Rattle.stamp_locks.specs.declared.care.Care.TheVariants as care
@@ -30,30 +29,52 @@ use Rattle.stamp_locks.specs.declared.faults.SplitError.TheVariants as split
 use Rattle.stamp_locks.specs.declared.faults.TendFault.{TendFault}
 use Rattle.stamp_locks.specs.declared.faults.TendFault.TheVariants as tend
 
+-- ---- which slot
+
+-- the slot has the key, and no key of the slot comes before it
+abbrev pub is_first_key : SlotState → Key → Bool
+is_first_key s key = covers s key && not (is_inside s key)
+
+-- these are split points of spans, a span has this number, and the slot begins with the first key of this span
+pub record BeginsSpan (points : List Key) (i : ℕ) (s : SlotState) : Type 0 where
+  pub are_spans : AreSpans points
+  pub within : i ≤ length points
+  pub from : s.from ≡ first_key points i
+
+-- the slot begins with the first key of the span that has the first key of the request, and the slot has that key too
+pub record IsSlotFor (points : List Key) (q : Asked) (s : SlotState) : Type 0 where
+  pub begins : BeginsSpan points (slot_of points (routed q)) s
+  pub covered : covers s (routed q) ≡ true
+
+-- a slot begins with the first key of the span with this number
+pub record HasSlot (i : ℕ) : Type 0 where
+  pub points : List Key
+  pub slot : SlotState
+  pub begins : BeginsSpan points i slot
+
 -- ---- requests
 
--- the slot does not have the first key of the request: the answer is the denial of N1, or memory ran out for it
-abbrev pub IsOutside : SlotState → Asked → Answer → Type 0
-IsOutside s q a = (covers s (routed q) ≡ false) × IsAnswer a true busy
-
--- A slot that has the first key of a request serves the request. A slot that does not have it changes nothing
-abbrev pub ServesLent : SlotState → Asked → ℕ → Calls → Calls → Answer → SlotState → Type 0
-ServesLent s q t old new a s' = SlotServes s q t (Faulted old new) a s' ⊎ (IsOutside s q a × (s' ≡ s))
-
--- A request met this slot under its lock, by these counts of its wire. What the slot had of the request's container was legal by the key pairs
--- of its account
-pub record MetSlot (q : Asked) (t : ℕ) (a : Answer) : Type 0 where
+-- The slot of the request met it under its lock, with a wire that had these values before and after. The slot's pair in force of the account
+-- was that of these pairs, and what the slot had of the request's container was legal by the slot's key pairs
+pub record MetSlot {W : Type 0} (faults : W → Calls) (pairs : Pairs) (q : Asked) (t : ℕ) (a : Answer) : Type 0 where
+  pub points : List Key
   pub slot : SlotState
   pub next : SlotState
-  pub old : Calls
-  pub new : Calls
+  pub old : W
+  pub new : W
+  pub is_for : IsSlotFor points q slot
+  pub current : current_at slot.pairs q.ask.key.account ≡ current_at pairs q.ask.key.account
   pub shown : IsShown (pairs_at slot.pairs q.ask.key.account) q.ask.key (history_at slot.histories q.ask.key)
-  pub served : ServesLent slot q t old new a next
+  pub served : SlotServes slot q t (Faulted (faults old) (faults new)) a next
 
--- what a stamp answers to a request: what a slot answers, or that memory ran out
-abbrev pub IsHandled : Asked → ℕ → Answer → Type 0
-IsHandled q t answer.NoMemory = ⊤
-IsHandled q t a = MetSlot q t a
+-- what a table with these key pairs answers to a request: what the slot of the request answers, or that memory ran out
+abbrev pub HandlesBy : {W : Type 0} → (W → Calls) → Pairs → Asked → ℕ → Answer → Type 0
+HandlesBy faults pairs q t answer.NoMemory = ⊤
+HandlesBy faults pairs q t a = MetSlot faults pairs q t a
+
+-- what a stamp answers to a request, by some key pairs
+abbrev pub IsHandled : {W : Type 0} → (W → Calls) → Asked → ℕ → Answer → Type 0
+IsHandled faults q t a = (pairs : Pairs) × HandlesBy faults pairs q t a
 
 -- ---- cares
 
@@ -91,18 +112,20 @@ TendsLent care.Compact s old new r s' = TellsSlot r (λ e. LeavesSettled e s s' 
 TendsLent care.Unload s old new r s' = (r ≡ Ok tt) × (s' ≡ s)
 TendsLent (care.Repair stream extent node) s old new r s' = TellsRepair stream extent node s old new r s'
 
--- a care met this slot under its lock, by these counts of its wire
-pub record TendedSlot (x : Care) (r : Result (Unit {0}) TendFault) : Type 0 where
+-- the slot with this number met a care under its lock, with a wire that had these values before and after
+pub record TendedSlot {W : Type 0} (faults : W → Calls) (i : ℕ) (x : Care) (r : Result (Unit {0}) TendFault) : Type 0 where
+  pub points : List Key
   pub slot : SlotState
   pub next : SlotState
-  pub old : Calls
-  pub new : Calls
-  pub tended : TendsLent x slot old new r next
+  pub old : W
+  pub new : W
+  pub begins : BeginsSpan points i slot
+  pub tended : TendsLent x slot (faults old) (faults new) r next
 
 -- what a stamp answers to a care of the slot with this number: no slot has the number, which is never so of 0; or what the slot answers
-abbrev pub IsTended : ℕ → Care → Result (Unit {0}) TendFault → Type 0
-IsTended i x (Err tend.NoSuchSlot) = 0 < i
-IsTended i x r = TendedSlot x r
+abbrev pub IsTended : {W : Type 0} → (W → Calls) → ℕ → Care → Result (Unit {0}) TendFault → Type 0
+IsTended faults i x (Err tend.NoSuchSlot) = 0 < i
+IsTended faults i x r = TendedSlot faults i x r
 
 -- ---- splits
 
@@ -110,6 +133,14 @@ IsTended i x r = TendedSlot x r
 abbrev pub FailsCut : SlotState → Key → Calls → Calls → SplitError → SlotState → Type 0
 FailsCut s middle old new (split.Map f) s' = (f ≡ map.NotInside) × ((is_inside s middle ≡ false) × (s' ≡ s))
 FailsCut s middle old new (split.Slot f) s' = LeavesSettled {T = Unit {0}} (Err f) s s' × FailsStored {T = Unit {0}} (Err f) old new
+
+-- a slot that begins with the first key of the span with this number is cut at this key
+pub record CutsSlot (points : List Key) (i : ℕ) (middle : Key) : Type 0 where
+  pub slot : SlotState
+  pub upper : SlotState
+  pub next : SlotState
+  pub begins : BeginsSpan points i slot
+  pub cut : CutsSettled (Ok upper) slot middle next
 
 -- a slot that spans allow to be split is refused so: the key is not inside its own range, or its cut failed
 abbrev pub IsCutFault : SplitError → Type 0
@@ -120,6 +151,12 @@ IsCutFault (split.Slot f) = ⊤
 pub record IsSplitAllowed (i : ℕ) (middle : Key) : Type 0 where
   pub points : List Key
   pub allowed : split_refusal points i middle ≡ None
+
+-- spans allow the split of the slot with this number at this key, and the slot is cut
+pub record IsSplit (i : ℕ) (middle : Key) : Type 0 where
+  pub points : List Key
+  pub allowed : split_refusal points i middle ≡ None
+  pub cuts : CutsSlot (with_point points i middle) i middle
 
 -- spans refuse the split of the slot with this number at this key with this cause, or have no memory for it
 pub record IsSplitRefused (i : ℕ) (middle : Key) (f : MapFault) : Type 0 where

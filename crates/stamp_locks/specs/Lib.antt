@@ -1,3 +1,4 @@
 pub mod InTurn
 pub mod Lent
+pub mod Rotations
 pub mod Shown

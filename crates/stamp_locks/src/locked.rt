@@ -1,27 +1,33 @@
 //! What the lock of a slot has, and what is done with it while the lock is held.
-ghost use Rattle.std.specs.Prelude.{◌≡◌, IfErr, IfOk, Ok, OnErr, true};
+ghost use Rattle.std.specs.Prelude.{◌≡◌, ◌≤◌, IfErr, IfOk, Ok, OnErr, OnOk, length, true};
+ghost use Rattle.partition_map.specs.Spans.{AreSpans};
 ghost use Rattle.policy_book.specs.Judgements.{IsOfAsk};
 ghost use Rattle.range_rows.specs.Readings.{reading_of};
 ghost use Rattle.stamp_model.specs.SeenContainers.{routed};
-ghost use Rattle.tickets.specs.Answers.{IsAnswer};
 ghost use Rattle.slot_state.specs.HistoryMaps.{history_at};
-ghost use Rattle.slot_state.specs.Pairs.{pairs_at};
-ghost use Rattle.stored_slot.specs.Served as served;
+ghost use Rattle.slot_state.specs.Pairs.{current_at, pairs_at};
+ghost use Rattle.slot_state.specs.Slots as slots;
+ghost use Rattle.stored_slot.specs.Served.{Faulted, SlotServes};
 ghost use Rattle.stored_slot.specs.Settled.{CutsSettled};
 ghost use Rattle.slot_pass.specs.After.{IsAfterFault};
+ghost use Rattle.slot_pass.specs.Calls.{AnswersAfter};
 ghost use Rattle.slot_pass.specs.Passes.{IsShown};
-ghost use Rattle.stamp_locks.specs.Lent.{FailsCut, IsHandled, ServesLent};
-ghost use Rattle.stamp_locks.specs.Shown.{IsBack, IsHandledAfter, ServesAfterLent};
+ghost use Rattle.stamp_locks.specs.Lent.{CutsSlot, FailsCut, HandlesBy, HasSlot, IsCutFault};
+ghost use Rattle.stamp_locks.specs.Shown.{HandlesAfterBy, IsBack};
 
 use crate::faults::SplitError;
+use crate::numbered::{has_number, is_for};
 use crate::ready::Ready;
+use crate::rotating::bring_up;
 use extent_node::Wire;
-use partition_map::MapFault;
+use partition_map::{MapFault, Spans};
 use range_rows::Reading;
 use slot_pass::{AfterFault, Pass, serve_after};
-use slot_state::KeptHistories;
-use stamp_types::{Code, Key, Moment, Refusal, Reply, Request, Rule};
+use slot_state::{AccountPairs, KeptHistories};
+use stamp_types::{Key, Moment, Request};
 use std::alloc::{AllocError, Global};
+use std::sync::Wait;
+use stored_rows::Unloaded;
 use stored_slot::StoredSlot;
 use tickets::Answer;
 
@@ -32,20 +38,6 @@ pub(crate) struct Locked<W: Wire + Drop> {
     pub(crate) wire: W,
 }
 
-// The answer to a request whose slot does not have the key.
-fn not_here(alloc: Global) -> Answer
-    ensures { IsAnswer result true served.busy }
-{
-    let refusal = Refusal {
-        rule: Rule::N1,
-        code: Code::ServerBusy,
-    };
-    match Reply::denied(alloc, refusal) {
-        Ok(reply) => Answer::Done(reply),
-        Err(AllocError) => Answer::NoMemory,
-    }
-}
-
 // What the slot has of a container is legal by the key pairs of its account. Does nothing.
 fn show(slot: &StoredSlot<KeptHistories>, key: &Key)
     ensures { IsShown (pairs_at slot.now.pairs key.now.account) key.now (history_at slot.now.histories key.now) }
@@ -54,8 +46,7 @@ fn show(slot: &StoredSlot<KeptHistories>, key: &Key)
 }
 
 impl<W: Wire + Drop> Locked<W> {
-    /// Serves the request if the slot has the first key that the request looks at.
-    #[tactic(auto, using(crate::proofs::LentLemmas::outside, crate::proofs::LentLemmas::inside))]
+    // Serves the request.
     fn serve(
         &mut self,
         alloc: Global,
@@ -64,41 +55,79 @@ impl<W: Wire + Drop> Locked<W> {
         reading: Reading,
         moment: Moment,
     ) -> Answer
-        requires first { ready.now.first ≡ routed request.now }
+        requires covered { slots.covers self.old.slot (routed request.now) ≡ true }
         requires judged { IsOfAsk ready.now.judged request.now.ask }
         requires read { reading ≡ reading_of request.now }
-        ensures { ServesLent self.old.slot request.now moment (W.faults self.old.wire) (W.faults self.new.wire) result self.new.slot }
+        ensures { SlotServes self.old.slot request.now moment (Faulted (W.faults self.old.wire) (W.faults self.new.wire)) result self.new.slot }
     {
-        let Self { slot, wire } = self;
-        if !slot.covers(&ready.first) {
-            drop(reading);
-            return not_here(alloc);
-        }
-        slot.serve_read(alloc, request, ready.judged.as_ref(), reading, moment, wire)
+        self.slot.serve_read(
+            alloc,
+            request,
+            ready.judged.as_ref(),
+            reading,
+            moment,
+            &mut self.wire,
+        )
     }
 
-    /// The same, as it is told outside of the lock.
-    pub(crate) fn handle(
+    // Serves the request by a slot whose pair in force is that of these pairs, as it is told outside of the lock.
+    fn handle_current<R: Wait>(
         &mut self,
+        rt: &R,
         alloc: Global,
+        spans: &Spans,
+        pairs: &AccountPairs,
         request: &Request,
         ready: &Ready,
         reading: Reading,
         moment: Moment,
     ) -> Answer
+        requires rise { AreSpans spans.now }
+        requires current { current_at self.old.slot.pairs request.now.ask.key.account ≡ current_at pairs.now request.now.ask.key.account }
         requires first { ready.now.first ≡ routed request.now }
         requires judged { IsOfAsk ready.now.judged request.now.ask }
         requires read { reading ≡ reading_of request.now }
-        ensures { IsHandled request.now moment result }
+        ensures { HandlesBy W.faults pairs.now request.now moment result }
     {
+        let _pairs = pairs;
+        is_for(&self.slot, rt, alloc, spans, &ready.first);
         show(&self.slot, &request.ask().key);
         self.serve(alloc, request, ready, reading, moment)
     }
 
-    /// Serves the request after what the pass shows, if the slot has the first key that the request looks at.
-    ///
-    /// The faults are those of [`serve_after`]. Then the slot is as it was, and the pass comes back as it was.
-    #[tactic(auto, using(crate::proofs::LentLemmas::outside_after, crate::proofs::LentLemmas::inside_after))]
+    /// Serves the request by the slot whose number is that of the request's span, as it is told outside of the lock. First the slot takes those
+    /// of the pairs of the request's account that it does not have.
+    pub(crate) fn handle<R: Wait>(
+        &mut self,
+        rt: &R,
+        alloc: Global,
+        spans: &Spans,
+        pairs: &AccountPairs,
+        request: &Request,
+        ready: &Ready,
+        reading: Reading,
+        moment: Moment,
+    ) -> Answer
+        requires rise { AreSpans spans.now }
+        requires first { ready.now.first ≡ routed request.now }
+        requires judged { IsOfAsk ready.now.judged request.now.ask }
+        requires read { reading ≡ reading_of request.now }
+        ensures { HandlesBy W.faults pairs.now request.now moment result }
+    {
+        match bring_up(&mut self.slot, rt, alloc, &request.ask().key.account, pairs) {
+            Ok(()) => {
+                self.handle_current(rt, alloc, spans, pairs, request, ready, reading, moment)
+            }
+            Err(AllocError) => {
+                drop(reading);
+                Answer::NoMemory
+            }
+        }
+    }
+
+    // Serves the request after what the pass shows.
+    //
+    // The faults are those of `serve_after`. Then the slot is as it was, and the pass comes back as it was.
     fn serve_after(
         &mut self,
         alloc: Global,
@@ -108,17 +137,14 @@ impl<W: Wire + Drop> Locked<W> {
         moment: Moment,
     ) -> Result<(Answer, Pass), (Pass, AfterFault)>
         requires names { request.now.ask.key ≡ pass.key }
-        requires first { ready.now.first ≡ routed request.now }
+        requires covered { slots.covers self.old.slot (routed request.now) ≡ true }
         requires judged { IsOfAsk ready.now.judged request.now.ask }
-        ensures answered { IfOk result (λ r. ServesAfterLent pass self.old.slot request.now moment (W.faults self.old.wire) (W.faults self.new.wire) r.0 r.1 self.new.slot) }
+        ensures answered { IfOk result (λ r. AnswersAfter pass self.old.slot request.now moment (W.faults self.old.wire) (W.faults self.new.wire) r.0 r.1 self.new.slot) }
         ensures fault { IfErr result (λ r. IsAfterFault pass self.old.slot r.1) }
         ensures back { IfErr result (λ r. r.0 ≡ pass) }
         ensures same { OnErr result (self.new.slot ≡ self.old.slot) }
     {
         let Self { slot, wire } = self;
-        if !slot.covers(&ready.first) {
-            return Ok((not_here(alloc), pass));
-        }
         let mut pass = pass;
         match serve_after(
             slot,
@@ -134,37 +160,84 @@ impl<W: Wire + Drop> Locked<W> {
         }
     }
 
-    /// The same, as it is told outside of the lock.
-    #[tactic(auto, using(crate::proofs::LentLemmas::told_after, crate::proofs::LentLemmas::told_back))]
-    pub(crate) fn handle_after(
+    // Serves the request after what the pass shows, by a slot whose pair in force is that of these pairs, as it is told outside of the lock.
+    fn handle_shown<R: Wait>(
         &mut self,
+        rt: &R,
         alloc: Global,
+        spans: &Spans,
+        pairs: &AccountPairs,
         pass: Pass,
         request: &Request,
         ready: &Ready,
         moment: Moment,
     ) -> Result<(Answer, Pass), (Pass, AfterFault)>
+        requires rise { AreSpans spans.now }
+        requires current { current_at self.old.slot.pairs request.now.ask.key.account ≡ current_at pairs.now request.now.ask.key.account }
         requires names { request.now.ask.key ≡ pass.key }
         requires first { ready.now.first ≡ routed request.now }
         requires judged { IsOfAsk ready.now.judged request.now.ask }
-        ensures handled { IfOk result (λ r. IsHandledAfter pass request.now moment r.0 r.1) }
-        ensures back { IfErr result (λ r. IsBack pass r.0 r.1) }
+        ensures handled { IfOk result (λ r. HandlesAfterBy W.faults pairs.now pass request.now moment r.0 r.1) }
+        ensures back { IfErr result (λ r. IsBack pass request.now r.0 r.1) }
     {
+        let _pairs = pairs;
+        is_for(&self.slot, rt, alloc, spans, &ready.first);
         match self.serve_after(alloc, pass, request, ready, moment) {
             Ok((answer, pass)) => Ok((answer, pass)),
             Err((pass, fault)) => Err((pass, fault)),
         }
     }
 
-    /// Cuts the slot at a key. The upper half is answered, with this wire.
+    /// Serves the request after what the pass shows, by the slot whose number is that of the request's span, as it is told outside of the lock.
+    /// First the slot takes those of the pairs of the request's account that it does not have.
     ///
-    /// After a fault the wire comes back. `Map` if the key is not inside the range of the slot, and `Slot` with the fault of the slot's split.
-    pub(crate) fn cut(
+    /// The faults are those of [`serve_after`], and `NoMemory` if memory runs out for the pairs. Then the pass comes back as it was.
+    pub(crate) fn handle_after<R: Wait>(
         &mut self,
+        rt: &R,
         alloc: Global,
-        middle: &Key,
-        wire: W,
-    ) -> Result<Locked<W>, (W, SplitError)>
+        spans: &Spans,
+        pairs: &AccountPairs,
+        pass: Pass,
+        request: &Request,
+        ready: &Ready,
+        moment: Moment,
+    ) -> Result<(Answer, Pass), (Pass, AfterFault)>
+        requires rise { AreSpans spans.now }
+        requires names { request.now.ask.key ≡ pass.key }
+        requires first { ready.now.first ≡ routed request.now }
+        requires judged { IsOfAsk ready.now.judged request.now.ask }
+        ensures handled { IfOk result (λ r. HandlesAfterBy W.faults pairs.now pass request.now moment r.0 r.1) }
+        ensures back { IfErr result (λ r. IsBack pass request.now r.0 r.1) }
+    {
+        match bring_up(&mut self.slot, rt, alloc, &request.ask().key.account, pairs) {
+            Ok(()) => self.handle_shown(rt, alloc, spans, pairs, pass, request, ready, moment),
+            Err(AllocError) => Err((pass, AfterFault::NoMemory)),
+        }
+    }
+
+    /// Takes the rows of the slot with this number out of memory, for another partition server.
+    pub(crate) fn take_rows<R: Wait>(
+        &mut self,
+        rt: &R,
+        alloc: Global,
+        spans: &Spans,
+        at: usize,
+        server: u32,
+    ) -> Unloaded
+        requires rise { AreSpans spans.now }
+        requires within { at ≤ length spans.now }
+        ensures same { self.new ≡ self.old }
+        ensures has { HasSlot at }
+    {
+        has_number(&self.slot, rt, alloc, spans, at);
+        self.slot.move_to(server)
+    }
+
+    // Cuts the slot at a key. The upper half is answered, with this wire.
+    //
+    // After a fault the wire comes back. `Map` if the key is not inside the range of the slot, and `Slot` with the fault of the slot's split.
+    fn cut(&mut self, alloc: Global, middle: &Key, wire: W) -> Result<Locked<W>, (W, SplitError)>
         ensures cut { IfOk result (λ upper. CutsSettled (Ok upper.slot) self.old.slot middle.now self.new.slot) }
         ensures wire { IfOk result (λ upper. upper.wire ≡ wire) }
         ensures back { IfErr result (λ r. r.0 ≡ wire) }
@@ -176,6 +249,30 @@ impl<W: Wire + Drop> Locked<W> {
         match self.slot.split(alloc, middle, &mut self.wire) {
             Ok(slot) => Ok(Locked { slot, wire }),
             Err(fault) => Err((wire, SplitError::Slot(fault))),
+        }
+    }
+
+    /// The same with the slot of this number, as it is told outside of the lock. The spans are split at the key already.
+    #[tactic(auto, using(crate::proofs::LentLemmas::told_cut, crate::proofs::LentLemmas::told_fault))]
+    pub(crate) fn cut_at<R: Wait>(
+        &mut self,
+        rt: &R,
+        alloc: Global,
+        spans: &Spans,
+        at: usize,
+        middle: &Key,
+        wire: W,
+    ) -> Result<Locked<W>, (W, SplitError)>
+        requires rise { AreSpans spans.now }
+        requires within { at ≤ length spans.now }
+        ensures cut { OnOk result (CutsSlot spans.now at middle.now) }
+        ensures back { IfErr result (λ r. r.0 ≡ wire) }
+        ensures fault { IfErr result (λ r. IsCutFault r.1) }
+    {
+        has_number(&self.slot, rt, alloc, spans, at);
+        match self.cut(alloc, middle, wire) {
+            Ok(upper) => Ok(upper),
+            Err(back) => Err(back),
         }
     }
 }

@@ -2,20 +2,22 @@
 ghost use Rattle.std.specs.Prelude.{◌≡◌, ◌⊎◌, ◌<◌, IfErr, IfOk, OnErr, OnOk, None, Some};
 ghost use Rattle.slot_state.specs.PairFaults.{pairs_fault};
 ghost use Rattle.slot_state.specs.declared.pairs_fault.PairsFault.TheVariants.{NoMemory};
-ghost use Rattle.stamp_locks.specs.Lent.{FailsSplit, IsSplitAllowed, IsHandled, IsTended};
+ghost use Rattle.stamp_locks.specs.Lent.{FailsSplit, HasSlot, IsHandled, IsSplit, IsTended};
+ghost use Rattle.stamp_locks.specs.Rotations.{IsNotRotated, IsRotated};
 ghost use Rattle.stamp_locks.specs.Shown.{IsBack, IsHandledAfter};
 
 use crate::care::Care;
-use crate::faults::{NoSuchSlot, SplitError, TendFault};
+use crate::faults::{NoSuchSlot, RotateFault, SplitError, TendFault};
 use crate::table::Table;
-use crate::tending::{TakenOut, tend};
-use access_rules::Keys;
+use crate::tending::TakenOut;
+use access_rules::{Keys, Which};
 use extent_node::Wire;
+use hmac_sign::SigningKey;
 use range_rows::Reading;
 use slot_pass::{AfterFault, Pass};
 use slot_state::{AccountPairs, PairsFault};
-use stamp_types::{Key, Moment, Request};
-use std::alloc::{AllocError, Global};
+use stamp_types::{Key, Moment, Request, Text};
+use std::alloc::Global;
 use std::sync::{RwLock, Wait};
 use stored_rows::Unloaded;
 use tickets::Answer;
@@ -47,8 +49,8 @@ impl<W: Wire + Drop> Stamp<W> {
 
     /// One step of the model, by the slot that has the first key that the request looks at.
     ///
-    /// The signature is judged and the body is read before the slot's lock is taken. The answer is that of [`StoredSlot::serve`]. It is the denial
-    /// of N1 too if the slot does not have the key, and `NoMemory` also if memory runs out before the slot's lock is taken.
+    /// The signature is judged and the body is read before the slot's lock is taken. The answer is that of [`StoredSlot::serve`]. It is
+    /// `NoMemory` also if memory runs out before the slot's lock is taken.
     ///
     /// [`StoredSlot::serve`]: stored_slot::StoredSlot::serve
     pub fn handle<R: Wait>(
@@ -58,18 +60,13 @@ impl<W: Wire + Drop> Stamp<W> {
         request: &Request,
         moment: Moment,
     ) -> Answer
-        ensures { IsHandled request.now moment result }
+        ensures { IsHandled W.faults request.now moment result }
     {
         let Ok(reading) = Reading::of(alloc, request) else {
             return Answer::NoMemory;
         };
         let table = self.table.read(rt);
-        let ready = match table.ready(alloc, request) {
-            Ok(ready) => ready,
-            Err(AllocError) => return Answer::NoMemory,
-        };
-        let mut locked = table.lock_of(&ready.first).lock(rt);
-        locked.handle(alloc, request, &ready, reading, moment)
+        table.handle(rt, alloc, request, reading, moment)
     }
 
     /// One step of the model, by a slot that has what the caller of the pass was shown. Then the pass shows all that the slot has of its
@@ -86,16 +83,11 @@ impl<W: Wire + Drop> Stamp<W> {
         moment: Moment,
     ) -> Result<(Answer, Pass), (Pass, AfterFault)>
         requires { request.now.ask.key ≡ pass.key }
-        ensures handled { IfOk result (λ r. IsHandledAfter pass request.now moment r.0 r.1) }
-        ensures back { IfErr result (λ r. IsBack pass r.0 r.1) }
+        ensures handled { IfOk result (λ r. IsHandledAfter W.faults pass request.now moment r.0 r.1) }
+        ensures back { IfErr result (λ r. IsBack pass request.now r.0 r.1) }
     {
         let table = self.table.read(rt);
-        let ready = match table.ready(alloc, request) {
-            Ok(ready) => ready,
-            Err(AllocError) => return Err((pass, AfterFault::NoMemory)),
-        };
-        let mut locked = table.lock_of(&ready.first).lock(rt);
-        locked.handle_after(alloc, pass, request, &ready, moment)
+        table.handle_after(rt, alloc, pass, request, moment)
     }
 
     // Takes a care of the slot with this number. What is taken out is kept.
@@ -107,13 +99,10 @@ impl<W: Wire + Drop> Stamp<W> {
         care: Care,
         taken: &mut Option<TakenOut>,
     ) -> Result<(), TendFault>
-        ensures { IsTended slot care result }
+        ensures { IsTended W.faults slot care result }
     {
         let table = self.table.read(rt);
-        match table.lock_at(slot) {
-            Some(lock) => tend(&mut lock.lock(rt), alloc, care, taken),
-            None => Err(TendFault::NoSuchSlot),
-        }
+        table.tend(rt, alloc, slot, care, taken)
     }
 
     /// Settles, seals, loads, unloads, compacts or repairs the slot with this number, or makes a checkpoint of it. All but an unload settle
@@ -127,7 +116,7 @@ impl<W: Wire + Drop> Stamp<W> {
         slot: usize,
         care: Care,
     ) -> Result<(), TendFault>
-        ensures { IsTended slot care result }
+        ensures { IsTended W.faults slot care result }
     {
         let mut taken = None;
         let tended = self.tend_locked(rt, alloc, slot, care, &mut taken);
@@ -135,27 +124,22 @@ impl<W: Wire + Drop> Stamp<W> {
         tended
     }
 
-    // Takes the rows of the slot with this number out of memory, for another partition server.
-    fn take_rows<R: Wait>(&self, rt: &R, slot: usize, server: u32) -> Result<Unloaded, NoSuchSlot>
-        ensures { OnErr result (0 < slot) }
-    {
-        let table = self.table.read(rt);
-        match table.lock_at(slot) {
-            Some(lock) => Ok(lock.lock(rt).slot.move_to(server)),
-            None => Err(NoSuchSlot),
-        }
-    }
-
-    /// Gives the slot with this number to another partition server, which has none of the rows in memory. A change in doubt stays in doubt. The
-    /// rows are dropped after the locks.
+    /// Gives the slot with this number to another partition server, which has none of the rows in memory. A change in doubt stays in doubt.
+    /// Gives the rows that were in memory, which may be dropped after a lock of the caller.
     ///
     /// `NoSuchSlot` if no slot has the number.
-    pub fn move_to<R: Wait>(&self, rt: &R, slot: usize, server: u32) -> Result<(), NoSuchSlot>
-        ensures { OnErr result (0 < slot) }
+    pub fn move_to<R: Wait>(
+        &self,
+        rt: &R,
+        alloc: Global,
+        slot: usize,
+        server: u32,
+    ) -> Result<Unloaded, NoSuchSlot>
+        ensures has { OnOk result (HasSlot slot) }
+        ensures none { OnErr result (0 < slot) }
     {
-        let rows = self.take_rows(rt, slot, server)?;
-        drop(rows);
-        Ok(())
+        let table = self.table.read(rt);
+        table.take_rows(rt, alloc, slot, server)
     }
 
     /// Splits the slot with this number at a key, which is the first key of the upper half. The slot settles its doubt first. The upper half has
@@ -172,11 +156,32 @@ impl<W: Wire + Drop> Stamp<W> {
         middle: &Key,
         wire: W,
     ) -> Result<(), (W, SplitError)>
-        ensures allowed { OnOk result (IsSplitAllowed slot middle.now) }
+        ensures split { OnOk result (IsSplit slot middle.now) }
         ensures back { IfErr result (λ r. r.0 ≡ wire) }
         ensures fault { IfErr result (λ r. FailsSplit slot middle.now r.1) }
     {
         let mut table = self.table.write(rt);
-        table.split(alloc, slot, middle, wire)
+        table.split(rt, alloc, slot, middle, wire)
+    }
+
+    /// A key of the account's pair in force is replaced, for all slots at once. Answers the epoch of the new pair. From now on requests are judged
+    /// by the new pair: each slot takes it before the slot serves a request of the account. What was accepted before stays as it is, and a change
+    /// in doubt is judged by the pair that was in force when it was served. No other call of the stamp runs meanwhile.
+    ///
+    /// `NoAccount` if the stamp has no such account, `Last` if no epoch comes after the epoch of the pair in force, and `NoMemory` if memory
+    /// runs out. Then no key is replaced.
+    pub fn rotate<R: Wait>(
+        &self,
+        rt: &R,
+        alloc: Global,
+        account: &Text,
+        which: Which,
+        key: SigningKey,
+    ) -> Result<u64, RotateFault>
+        ensures rotated { IfOk result (λ epoch. IsRotated account.now which key epoch) }
+        ensures refused { IfErr result (λ fault. IsNotRotated account.now fault) }
+    {
+        let mut table = self.table.write(rt);
+        table.rotate(alloc, account, which, key)
     }
 }

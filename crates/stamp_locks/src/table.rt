@@ -1,21 +1,32 @@
 //! The table of the slots.
-ghost use Rattle.std.specs.Prelude.{◌≡◌, ◌+◌, ◌<◌, ◌≤◌, IfErr, IfNone, IfOk, OnErr, OnOk, length, vec_capacity, vec_len};
-ghost use Rattle.std.specs.List.{remove};
-ghost use Rattle.policy_book.specs.Judgements.{IsOfAsk};
-ghost use Rattle.stamp_model.specs.SeenContainers.{routed};
-ghost use Rattle.stamp_locks.specs.Lent.{FailsSplit, IsSplitAllowed, IsCutFault};
+ghost use Rattle.std.specs.Prelude.{◌≡◌, ◌+◌, ◌<◌, ◌≤◌, IfErr, IfNone, IfOk, OnErr, OnOk, OnSome, length, vec_capacity, vec_len};
+ghost use Rattle.std.proofs.Props.{props};
+ghost use Rattle.std.specs.Arc.{arc_value};
+ghost use Rattle.partition_map.specs.Spans.{AreSpans};
+ghost use Rattle.range_rows.specs.Readings.{reading_of};
+ghost use Rattle.stamp_locks.specs.Lent.{CutsSlot, FailsSplit, HandlesBy, HasSlot, IsCutFault, IsSplit, IsTended};
+ghost use Rattle.stamp_locks.specs.Rotations.{HasNextPair, HasNoNextPair};
+ghost use Rattle.stamp_locks.specs.Shown.{HandlesAfterBy, IsBack};
 
-use crate::faults::SplitError;
+use crate::care::Care;
+use crate::faults::{NoSuchSlot, RotateFault, SplitError, TendFault};
 use crate::locked::Locked;
 use crate::ready::Ready;
+use crate::rotating::{next_pair, with_pair};
+use crate::tending::{TakenOut, tend};
+use access_rules::Which;
 use extent_node::Wire;
+use hmac_sign::SigningKey;
 use partition_map::Spans;
+use range_rows::Reading;
+use slot_pass::{AfterFault, Pass};
 use slot_state::AccountPairs;
-use stamp_types::{Key, Request};
+use stamp_types::{Key, Moment, Request, Text};
 use std::alloc::{AllocError, Global};
-use std::sync::{Arc, Mutex};
-use stored_rows::{KeyRange, StoredFault, StoredRows};
+use std::sync::{Arc, Mutex, Wait};
+use stored_rows::{KeyRange, StoredFault, StoredRows, Unloaded};
 use stored_slot::StoredSlot;
+use tickets::Answer;
 
 /// How many bytes an extent of two or more blocks may have.
 const EXTENT_BYTES: u32 = 268_435_456;
@@ -27,37 +38,49 @@ pub(crate) struct Table<W: Wire + Drop> {
     slots: Vec<Mutex<Locked<W>>>,
     pairs: Arc<AccountPairs>,
     ghost one_each: { vec_len slots ≡ length spans + 1 },
+    ghost rise: { AreSpans spans } by { Prim.hlevel props },
 }
 
 // Cuts the slot of this lock. The upper half is answered, with this wire.
-fn cut_in<W: Wire + Drop>(
+fn cut_in<R: Wait, W: Wire + Drop>(
     lock: &mut Mutex<Locked<W>>,
+    rt: &R,
     alloc: Global,
+    spans: &Spans,
+    at: usize,
     middle: &Key,
     wire: W,
 ) -> Result<Locked<W>, (W, SplitError)>
+    requires rise { AreSpans spans.now }
+    requires number { at ≤ length spans.now }
+    ensures cut { OnOk result (CutsSlot spans.now at middle.now) }
     ensures back { IfErr result (λ r. r.0 ≡ wire) }
     ensures fault { IfErr result (λ r. IsCutFault r.1) }
 {
-    lock.get_mut().cut(alloc, middle, wire)
+    lock.get_mut().cut_at(rt, alloc, spans, at, middle, wire)
 }
 
 // Puts the two halves of a slot in its place, in which there is room for one slot more.
-fn halve_reserved<W: Wire + Drop>(
+fn halve_reserved<R: Wait, W: Wire + Drop>(
     slots: &mut Vec<Mutex<Locked<W>>>,
+    rt: &R,
     alloc: Global,
+    spans: &Spans,
     at: usize,
     middle: &Key,
     wire: W,
 ) -> Result<(), (W, SplitError)>
     requires within { at < vec_len slots.old }
     requires room { vec_len slots.old < vec_capacity slots.old }
+    requires rise { AreSpans spans.now }
+    requires number { at ≤ length spans.now }
+    ensures cut { OnOk result (CutsSlot spans.now at middle.now) }
     ensures more { OnOk result (vec_len slots.new ≡ vec_len slots.old + 1) }
     ensures same { OnErr result (vec_len slots.new ≡ vec_len slots.old) }
     ensures back { IfErr result (λ r. r.0 ≡ wire) }
     ensures fault { IfErr result (λ r. IsCutFault r.1) }
 {
-    match cut_in(&mut slots[at], alloc, middle, wire) {
+    match cut_in(&mut slots[at], rt, alloc, spans, at, middle, wire) {
         Ok(upper) => match slots.insert(at + 1, Mutex::new(upper)) {
             Ok(()) => Ok(()),
             Err(_) => unreachable!(),
@@ -67,21 +90,26 @@ fn halve_reserved<W: Wire + Drop>(
 }
 
 // Puts the two halves of a slot in its place. Room for one slot more is made first.
-fn halve<W: Wire + Drop>(
+fn halve<R: Wait, W: Wire + Drop>(
     slots: &mut Vec<Mutex<Locked<W>>>,
+    rt: &R,
     alloc: Global,
+    spans: &Spans,
     at: usize,
     middle: &Key,
     wire: W,
 ) -> Result<(), (W, SplitError)>
     requires within { at < vec_len slots.old }
+    requires rise { AreSpans spans.now }
+    requires number { at ≤ length spans.now }
+    ensures cut { OnOk result (CutsSlot spans.now at middle.now) }
     ensures more { OnOk result (vec_len slots.new ≡ vec_len slots.old + 1) }
     ensures same { OnErr result (vec_len slots.new ≡ vec_len slots.old) }
     ensures back { IfErr result (λ r. r.0 ≡ wire) }
     ensures fault { IfErr result (λ r. IsCutFault r.1) }
 {
     match slots.reserve(1) {
-        Ok(()) => halve_reserved(slots, alloc, at, middle, wire),
+        Ok(()) => halve_reserved(slots, rt, alloc, spans, at, middle, wire),
         Err(_) => Err((wire, SplitError::Slot(StoredFault::NoMemory))),
     }
 }
@@ -90,6 +118,7 @@ impl<W: Wire + Drop> Table<W> {
     /// One slot of all keys, without containers, for these key pairs.
     ///
     /// `AllocError` if memory runs out.
+    #[tactic(auto, using(crate::proofs::NumberLemmas::spans_none))]
     pub(crate) fn new(alloc: Global, pairs: AccountPairs, wire: W) -> Result<Self, AllocError> {
         let pairs = Arc::new(alloc, pairs)?;
         let shared = pairs.clone()?;
@@ -104,50 +133,182 @@ impl<W: Wire + Drop> Table<W> {
         })
     }
 
-    /// What is made of the request before the lock of a slot is taken.
+    /// One request, by the slot of the span that has its first key.
     ///
-    /// `AllocError` if memory runs out.
-    pub(crate) fn ready(&self, alloc: Global, request: &Request) -> Result<Ready, AllocError>
-        ensures first { IfOk result (λ ready. ready.first ≡ routed request.now) }
-        ensures judged { IfOk result (λ ready. IsOfAsk ready.judged request.now.ask) }
+    /// The answer is `NoMemory` also if memory runs out before the slot's lock is taken.
+    pub(crate) fn handle<R: Wait>(
+        &self,
+        rt: &R,
+        alloc: Global,
+        request: &Request,
+        reading: Reading,
+        moment: Moment,
+    ) -> Answer
+        requires { reading ≡ reading_of request.now }
+        ensures { HandlesBy W.faults (arc_value self.now.pairs) request.now moment result }
     {
-        Ready::of(alloc, &self.pairs, request)
+        let ready = match Ready::of(alloc, &self.pairs, request) {
+            Ok(ready) => ready,
+            Err(AllocError) => return Answer::NoMemory,
+        };
+        let mut locked = self.slots[self.spans.find(&ready.first)].lock(rt);
+        locked.handle(
+            rt,
+            alloc,
+            &self.spans,
+            &self.pairs,
+            request,
+            &ready,
+            reading,
+            moment,
+        )
     }
 
-    /// The lock of the slot that has the key.
-    pub(crate) fn lock_of(&self, key: &Key) -> &Mutex<Locked<W>> {
-        &self.slots[self.spans.find(key)]
+    /// One request after what the pass shows, by the slot of the span that has its first key.
+    ///
+    /// The faults are those of [`Locked::handle_after`]. `NoMemory` also if memory runs out before the slot's lock is taken.
+    pub(crate) fn handle_after<R: Wait>(
+        &self,
+        rt: &R,
+        alloc: Global,
+        pass: Pass,
+        request: &Request,
+        moment: Moment,
+    ) -> Result<(Answer, Pass), (Pass, AfterFault)>
+        requires { request.now.ask.key ≡ pass.key }
+        ensures handled { IfOk result (λ r. HandlesAfterBy W.faults (arc_value self.now.pairs) pass request.now moment r.0 r.1) }
+        ensures back { IfErr result (λ r. IsBack pass request.now r.0 r.1) }
+    {
+        let ready = match Ready::of(alloc, &self.pairs, request) {
+            Ok(ready) => ready,
+            Err(AllocError) => return Err((pass, AfterFault::NoMemory)),
+        };
+        let mut locked = self.slots[self.spans.find(&ready.first)].lock(rt);
+        locked.handle_after(
+            rt,
+            alloc,
+            &self.spans,
+            &self.pairs,
+            pass,
+            request,
+            &ready,
+            moment,
+        )
     }
 
-    /// The lock of the slot with this number; none if no slot has the number.
-    pub(crate) fn lock_at(&self, slot: usize) -> Option<&Mutex<Locked<W>>>
-        ensures { IfNone result (0 < slot) }
+    // The lock of the slot with this number; none if no slot has the number.
+    fn lock_at(&self, slot: usize) -> Option<&Mutex<Locked<W>>>
+        ensures within { OnSome result (slot ≤ length self.now.spans) }
+        ensures none { IfNone result (0 < slot) }
     {
         self.slots.get(slot)
+    }
+
+    /// Takes a care of the slot with this number. What is taken out is kept.
+    ///
+    /// `NoSuchSlot` if no slot has the number.
+    pub(crate) fn tend<R: Wait>(
+        &self,
+        rt: &R,
+        alloc: Global,
+        slot: usize,
+        care: Care,
+        taken: &mut Option<TakenOut>,
+    ) -> Result<(), TendFault>
+        ensures { IsTended W.faults slot care result }
+    {
+        match self.lock_at(slot) {
+            Some(lock) => tend(
+                &mut lock.lock(rt),
+                rt,
+                alloc,
+                &self.spans,
+                slot,
+                care,
+                taken,
+            ),
+            None => Err(TendFault::NoSuchSlot),
+        }
+    }
+
+    /// Takes the rows of the slot with this number out of memory, for another partition server.
+    ///
+    /// `NoSuchSlot` if no slot has the number.
+    pub(crate) fn take_rows<R: Wait>(
+        &self,
+        rt: &R,
+        alloc: Global,
+        slot: usize,
+        server: u32,
+    ) -> Result<Unloaded, NoSuchSlot>
+        ensures has { OnOk result (HasSlot slot) }
+        ensures none { OnErr result (0 < slot) }
+    {
+        match self.lock_at(slot) {
+            Some(lock) => Ok(
+                lock.lock(rt)
+                    .take_rows(rt, alloc, &self.spans, slot, server),
+            ),
+            None => Err(NoSuchSlot),
+        }
     }
 
     /// Splits the span of a slot, and then the slot. If the slot fails, its two spans are joined again.
     ///
     /// The wire is the upper half's, and comes back after a fault. `Map` with the first cause that refuses the split, or if memory runs out for
     /// the split point, or if the key is not inside the slot's own range. `Slot` with the fault of the slot.
-    pub(crate) fn split(
+    #[tactic(auto, using(crate::proofs::NumberLemmas::spans_more, crate::proofs::NumberLemmas::number_more, crate::proofs::LentLemmas::told_split))]
+    pub(crate) fn split<R: Wait>(
         &mut self,
+        rt: &R,
         alloc: Global,
         slot: usize,
         middle: &Key,
         wire: W,
     ) -> Result<(), (W, SplitError)>
-        ensures allowed { OnOk result (IsSplitAllowed slot middle.now) }
+        ensures split { OnOk result (IsSplit slot middle.now) }
         ensures back { IfErr result (λ r. r.0 ≡ wire) }
         ensures fault { IfErr result (λ r. FailsSplit slot middle.now r.1) }
     {
         if let Err(fault) = self.spans.split(slot, middle) {
             return Err((wire, SplitError::Map(fault)));
         }
-        let halved = halve(&mut self.slots, alloc, slot, middle, wire);
+        let halved = halve(&mut self.slots, rt, alloc, &self.spans, slot, middle, wire);
         if halved.is_err() {
             self.spans.join(slot);
         }
         halved
+    }
+
+    /// The account has one pair more, in which one of its keys is replaced. Answers the epoch of the new pair. Each slot takes the pair before it
+    /// serves a request of the account.
+    ///
+    /// `NoAccount` if the stamp has no such account, `Last` if no epoch comes after the epoch of the pair in force, and `NoMemory` if memory
+    /// runs out. The pairs are then as they were.
+    #[tactic(auto, using(crate::proofs::RotateLemmas::made_next, crate::proofs::RotateLemmas::made_longer, crate::proofs::RotateLemmas::made_then_none, crate::proofs::RotateLemmas::not_made))]
+    pub(crate) fn rotate(
+        &mut self,
+        alloc: Global,
+        account: &Text,
+        which: Which,
+        key: SigningKey,
+    ) -> Result<u64, RotateFault>
+        ensures rotated { IfOk result (λ epoch. HasNextPair (arc_value self.old.pairs) account.now which key epoch (arc_value self.new.pairs)) }
+        ensures refused { IfErr result (λ fault. HasNoNextPair (arc_value self.old.pairs) account.now fault) }
+        ensures same { OnErr result (self.new.pairs ≡ self.old.pairs) }
+    {
+        match next_pair(&self.pairs, account, which, key) {
+            Ok(pair) => {
+                let epoch = pair.epoch;
+                match with_pair(&self.pairs, alloc, account, pair) {
+                    Ok(longer) => {
+                        self.pairs = longer;
+                        Ok(epoch)
+                    }
+                    Err(AllocError) => Err(RotateFault::NoMemory),
+                }
+            }
+            Err(fault) => Err(fault),
+        }
     }
 }

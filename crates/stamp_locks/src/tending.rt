@@ -1,5 +1,6 @@
 //! What is done to a slot that its lock lends, beside serving and cutting it.
-ghost use Rattle.std.specs.Prelude.{◌≡◌};
+ghost use Rattle.std.specs.Prelude.{◌≡◌, ◌≤◌, length};
+ghost use Rattle.partition_map.specs.Spans.{AreSpans};
 ghost use Rattle.stored_rows.specs.Counting.{FailsStored};
 ghost use Rattle.stored_slot.specs.Settled.{LeavesSettled};
 ghost use Rattle.stamp_locks.specs.Lent as lent;
@@ -8,10 +9,13 @@ ghost use Rattle.stamp_locks.specs.Lent.{TendedSlot, TendsLent};
 use crate::care::Care;
 use crate::faults::TendFault;
 use crate::locked::Locked;
+use crate::numbered::has_number;
 use extent_node::Wire;
+use partition_map::Spans;
 use partition_stream::Replaced;
 use slot_state::KeptHistories;
 use std::alloc::Global;
+use std::sync::Wait;
 use stored_rows::{Compacted, Repaired, StoredFault, Unloaded, Unrepaired};
 use stored_slot::StoredSlot;
 
@@ -133,14 +137,20 @@ fn tend_lent<W: Wire>(
     }
 }
 
-/// Takes this care of a slot, as it is told outside of the lock. What is taken out is kept.
-pub(crate) fn tend<W: Wire + Drop>(
+/// Takes this care of the slot with this number, as it is told outside of the lock. What is taken out is kept.
+pub(crate) fn tend<R: Wait, W: Wire + Drop>(
     locked: &mut Locked<W>,
+    rt: &R,
     alloc: Global,
+    spans: &Spans,
+    at: usize,
     care: Care,
     taken: &mut Option<TakenOut>,
 ) -> Result<(), TendFault>
-    ensures { TendedSlot care result }
+    requires rise { AreSpans spans.now }
+    requires within { at ≤ length spans.now }
+    ensures { TendedSlot W.faults at care result }
 {
+    has_number(&locked.slot, rt, alloc, spans, at);
     tend_lent(&mut locked.slot, &mut locked.wire, alloc, care, taken)
 }

@@ -1,7 +1,8 @@
-use Rattle.stamp_locks.proofs.LentLemmas.{met}
+use Rattle.std.proofs.Common.{◌≡◌, subst}
+use Rattle.stamp_types.specs.declared.ask.Ask.{Ask}
+use Rattle.slot_state.specs.Pairs.{current_at}
 use Rattle.stamp_locks.proofs.locked.Locked.handle.Goals as goal
 
-pub returns : goal.returns
-returns g c =
-    met c.args.self.now.slot c.serve.new.self.slot c.args.request.now c.args.moment (g.W.Wire.faults c.args.self.now.wire) (g.W.Wire.faults c.serve.new.self.wire) c.ask.result.now c.serve.result
-    c.ask.ensures.value c.show.ensures c.serve.ensures
+pub handle_current-requires-clause-current : goal.handle_current-requires-clause-current
+handle_current-requires-clause-current g c =
+    subst (λ (x : Ask). current_at c.bring_up.new.slot.pairs x.key.account ≡ current_at c.args.pairs.now x.key.account) c.ask.ensures.value c.in-Ok.ensures

@@ -1,7 +1,8 @@
-use Rattle.stamp_locks.proofs.LentLemmas.{told_after}
+use Rattle.std.proofs.Common.{◌≡◌, subst}
+use Rattle.stamp_types.specs.declared.ask.Ask.{Ask}
+use Rattle.slot_state.specs.Pairs.{current_at}
 use Rattle.stamp_locks.proofs.locked.Locked.handle_after.Goals as goal
 
-pub returns-in-Ok-clause-handled : goal.returns-in-Ok-clause-handled
-returns-in-Ok-clause-handled g c =
-    told_after c.args.pass c.in-Ok.pass c.args.self.now.slot c.serve_after.new.self.slot c.args.request.now c.args.moment (g.W.Wire.faults c.args.self.now.wire)
-    (g.W.Wire.faults c.serve_after.new.self.wire) c.in-Ok.answer c.in-Ok.ensures.answered
+pub handle_shown-requires-clause-current : goal.handle_shown-requires-clause-current
+handle_shown-requires-clause-current g c =
+    subst (λ (x : Ask). current_at c.bring_up.new.slot.pairs x.key.account ≡ current_at c.args.pairs.now x.key.account) c.ask.ensures.value c.in-Ok.ensures

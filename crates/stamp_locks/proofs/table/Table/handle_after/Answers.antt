@@ -1,0 +1,8 @@
+use Rattle.std.proofs.Common.{IfOk, subst}
+use Rattle.slot_state.specs.Pairs.{Pairs}
+use Rattle.stamp_locks.specs.Shown.{HandlesAfterBy}
+use Rattle.stamp_locks.proofs.table.Table.handle_after.Goals as goal
+
+pub returns-clause-handled : goal.returns-clause-handled
+returns-clause-handled g c =
+    subst (λ (ps : Pairs). IfOk c.handle_after.result (λ r. HandlesAfterBy g.W.Wire.faults ps c.args.pass c.args.request.now c.args.moment r.0 r.1)) c.deref-2.ensures c.handle_after.ensures.handled

@@ -1,0 +1,87 @@
+//! Which slot a lock lends: no clause of a lock says it, so it is seen each time.
+ghost use Rattle.std.specs.Prelude.{◌≡◌, ◌≤◌, length, true};
+ghost use Rattle.partition_map.specs.Spans.{AreSpans, first_key, slot_of};
+ghost use Rattle.slot_state.specs.Slots.{covers};
+ghost use Rattle.stamp_locks.specs.Lent as lent;
+ghost use Rattle.stamp_locks.specs.Lent.{BeginsSpan};
+
+use partition_map::Spans;
+use slot_state::KeptHistories;
+use stamp_types::Key;
+use std::alloc::Global;
+use std::sync::Wait;
+use stored_rows::KeyRange;
+use stored_slot::StoredSlot;
+
+/// Waits for ever.
+pub(crate) fn wait_for_ever<R: Wait>(rt: &R)
+    ensures { ⊥ }
+{
+    for _ in rt.forever() {}
+    unreachable!()
+}
+
+// Whether this is the first key of the slot.
+fn is_first_key(slot: &StoredSlot<KeptHistories>, key: &Key) -> bool
+    ensures { result ≡ lent.is_first_key slot.now key.now }
+{
+    slot.covers(key) && !slot.is_inside(key)
+}
+
+// Whether the range of the slot begins with the first key of the span with this number.
+#[tactic(auto, using(crate::proofs::NumberLemmas::begins_first, crate::proofs::NumberLemmas::begins_later))]
+fn begins_span(slot: &StoredSlot<KeptHistories>, alloc: Global, spans: &Spans, at: usize) -> bool
+    requires { at ≤ length spans.now }
+    ensures { result ≡ true → slot.now.from ≡ first_key spans.now at }
+{
+    if at == 0 {
+        let all = KeyRange::all(alloc);
+        return is_first_key(slot, &all.from);
+    }
+    match spans.bound(at - 1) {
+        Some(first) => is_first_key(slot, first),
+        None => false,
+    }
+}
+
+/// The slot begins with the first key of the span with this number. If a slot did not, the call would wait for ever.
+pub(crate) fn has_number<R: Wait>(
+    slot: &StoredSlot<KeptHistories>,
+    rt: &R,
+    alloc: Global,
+    spans: &Spans,
+    at: usize,
+)
+    requires rise { AreSpans spans.now }
+    requires within { at ≤ length spans.now }
+    ensures { BeginsSpan spans.now at slot.now }
+{
+    if !begins_span(slot, alloc, spans, at) {
+        wait_for_ever(rt);
+    }
+}
+
+// The slot has the key. If it did not, the call would wait for ever.
+fn has_key<R: Wait>(slot: &StoredSlot<KeptHistories>, rt: &R, key: &Key)
+    ensures { covers slot.now key.now ≡ true }
+{
+    if !slot.covers(key) {
+        wait_for_ever(rt);
+    }
+}
+
+/// The slot begins with the first key of the span that has this key, and has this key too. If a slot did not, the call would wait for ever.
+pub(crate) fn is_for<R: Wait>(
+    slot: &StoredSlot<KeptHistories>,
+    rt: &R,
+    alloc: Global,
+    spans: &Spans,
+    key: &Key,
+)
+    requires { AreSpans spans.now }
+    ensures begins { BeginsSpan spans.now (slot_of spans.now key.now) slot.now }
+    ensures covered { covers slot.now key.now ≡ true }
+{
+    has_number(slot, rt, alloc, spans, spans.find(key));
+    has_key(slot, rt, key);
+}

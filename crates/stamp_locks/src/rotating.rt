@@ -1,0 +1,143 @@
+//! How a key of an account is replaced, for all slots at once: the table has the next pair, and each slot takes it before it serves.
+ghost use Rattle.std.specs.Prelude.{◌≡◌, IfOk, OnOk, true};
+ghost use Rattle.std.specs.Arc.{arc_value};
+ghost use Rattle.slot_state.specs.NextPairs.{IsNext, with_next};
+ghost use Rattle.slot_state.specs.Pairs.{current_at, pairs_at};
+ghost use Rattle.stamp_locks.specs.Rotations.{IsNextPair};
+
+use crate::faults::RotateFault;
+use crate::numbered::wait_for_ever;
+use access_rules::{Keys, KeysFault, Which};
+use hmac_sign::SigningKey;
+use slot_state::{AccountPairs, KeptHistories};
+use stamp_types::Text;
+use std::alloc::{AllocError, Global};
+use std::sync::{Arc, Wait};
+use stored_slot::StoredSlot;
+
+/// The pair after the account's pair in force, with one of its keys replaced.
+pub(crate) fn next_pair(
+    pairs: &AccountPairs,
+    account: &Text,
+    which: Which,
+    key: SigningKey,
+) -> Result<Keys, RotateFault>
+    ensures { IsNextPair (current_at pairs.now account.now) which key result }
+{
+    match pairs.current(account) {
+        Some(old) => match old.next(which, key) {
+            Ok(pair) => Ok(pair),
+            Err(KeysFault::Last) => Err(RotateFault::Last),
+            Err(KeysFault::NoMemory) => Err(RotateFault::NoMemory),
+        },
+        None => {
+            drop(key);
+            Err(RotateFault::NoAccount)
+        }
+    }
+}
+
+/// The pairs with the next pair of an account, in an allocation that can be shared.
+pub(crate) fn with_pair(
+    pairs: &AccountPairs,
+    alloc: Global,
+    account: &Text,
+    pair: Keys,
+) -> Result<Arc<AccountPairs>, AllocError>
+    requires { IsNext (pairs_at pairs.now account.now) pair }
+    ensures { IfOk result (λ shared. arc_value shared ≡ with_next pairs.now account.now pair) }
+{
+    let longer = pairs.with_next(alloc, account, pair)?;
+    let shared = Arc::new(alloc, longer)?;
+    Ok(shared)
+}
+
+// Whether both are the same pair: the same account, the same two keys and the same epoch.
+fn is_same_pair(pair: &Keys, other: &Keys) -> bool
+    ensures { result ≡ true → pair.now ≡ other.now }
+{
+    pair.epoch == other.epoch
+        && pair.account == other.account
+        && pair.first == other.first
+        && pair.second == other.second
+}
+
+// The pair is the next one of the slot. If it were not, the call would wait for ever.
+#[tactic(auto, using(crate::proofs::RotateLemmas::next_of))]
+fn is_next<R: Wait>(slot: &StoredSlot<KeptHistories>, rt: &R, account: &Text, pair: &Keys)
+    ensures { IsNext (pairs_at slot.now.pairs account.now) pair.now }
+{
+    if let Some(old) = slot.account_pairs().current(account) {
+        if old.epoch < pair.epoch {
+            if pair.epoch - old.epoch == 1 {
+                return;
+            }
+        }
+    }
+    wait_for_ever(rt);
+}
+
+// Whether the slot's pair in force is that of these pairs.
+fn has_current(slot: &StoredSlot<KeptHistories>, account: &Text, pairs: &AccountPairs) -> bool
+    ensures { result ≡ true → current_at slot.now.pairs account.now ≡ current_at pairs.now account.now }
+{
+    match slot.account_pairs().current(account) {
+        Some(own) => match pairs.current(account) {
+            Some(pair) => is_same_pair(own, pair),
+            None => false,
+        },
+        None => match pairs.current(account) {
+            Some(_pair) => false,
+            None => true,
+        },
+    }
+}
+
+// The slot's pair in force is that of these pairs. If it were not, the call would wait for ever.
+fn is_current<R: Wait>(
+    slot: &StoredSlot<KeptHistories>,
+    rt: &R,
+    account: &Text,
+    pairs: &AccountPairs,
+)
+    ensures { current_at slot.now.pairs account.now ≡ current_at pairs.now account.now }
+{
+    if !has_current(slot, account, pairs) {
+        wait_for_ever(rt);
+    }
+}
+
+// The slot takes this pair of the account, which is its next one.
+//
+// `AllocError` if memory runs out. The slot is then as it was.
+fn take_pair<R: Wait>(
+    slot: &mut StoredSlot<KeptHistories>,
+    rt: &R,
+    alloc: Global,
+    account: &Text,
+    pair: &Keys,
+) -> Result<(), AllocError> {
+    let pair = pair.clone()?;
+    is_next(slot, rt, account, &pair);
+    slot.rotate(alloc, account, pair)
+}
+
+/// The slot takes the pairs of the account that it does not have yet. Then its pair in force is that of these pairs.
+///
+/// `AllocError` if memory runs out. The slot may then have some of the pairs, each of which is the next one.
+pub(crate) fn bring_up<R: Wait>(
+    slot: &mut StoredSlot<KeptHistories>,
+    rt: &R,
+    alloc: Global,
+    account: &Text,
+    pairs: &AccountPairs,
+) -> Result<(), AllocError>
+    ensures { OnOk result (current_at slot.new.pairs account.now ≡ current_at pairs.now account.now) }
+{
+    let all = pairs.of_account(account);
+    for at in slot.pairs(account).len()..all.len() {
+        take_pair(slot, rt, alloc, account, &all[at])?;
+    }
+    is_current(slot, rt, account, pairs);
+    Ok(())
+}
