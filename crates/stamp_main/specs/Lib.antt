@@ -1,7 +1,9 @@
 pub mod Command
 pub mod Ending
+pub mod Line
 pub mod ReplayStates
 pub mod Replays
+pub mod Rotating
 pub mod Runs
 pub mod Serving
 pub mod Signing

@@ -8,13 +8,14 @@ ghost use Rattle.stamp_main.specs.Command.{texts_of};
 ghost use Rattle.stamp_main.specs.Runs.{Outcome};
 
 use command::{Command, read_command};
+use console::{Console, Input};
 use ending::Ending;
 use http_front::Connection;
 use replay::run_replay;
 use serving::run_serve;
 use signing::run_sign;
 use std::alloc::Global;
-use std::io::{Read, Write};
+use std::io::{IsTerminal, Read, Write};
 use std::net::{Net, TcpListener, TcpStream};
 use std::process::ExitCode;
 use std::rt::Env;
@@ -24,7 +25,9 @@ use std::time::Clock;
 use std::{env, io};
 
 mod command;
+mod console;
 mod ending;
+mod line;
 mod machine;
 #[cfg(test)]
 mod pieces;
@@ -32,6 +35,9 @@ mod replay;
 mod replay_laws;
 #[cfg(test)]
 mod replay_tests;
+mod rotating;
+#[cfg(test)]
+mod rotating_tests;
 mod serving;
 #[cfg(test)]
 mod serving_tests;
@@ -54,7 +60,10 @@ fn main(rt: HostRuntime) -> ExitCode {
     let ending = match read_words(&rt) {
         Ok(words) => {
             let mut connection = Connection::new(rt.alloc(), rt.reader(), io::writer(&rt), TURNS);
-            run(&rt, rt.alloc(), &words, &mut connection)
+            let lines = rt.reader();
+            let input = input_of(lines.is_terminal());
+            let mut console = Console::new(lines, io::writer(&rt), input);
+            run(&rt, rt.alloc(), &words, &mut connection, &mut console)
         }
         Err(ending) => ending,
     };
@@ -62,6 +71,16 @@ fn main(rt: HostRuntime) -> ExitCode {
         show_usage(&rt);
     }
     ExitCode::from(ending.status())
+}
+
+/// How an operator's lines come from standard input. A terminal is not read: the system stops a program in the background that reads its
+/// terminal, and a key would be seen on it.
+fn input_of(is_terminal: bool) -> Input {
+    if is_terminal {
+        Input::Unread
+    } else {
+        Input::Descriptor(libc::STDIN_FILENO)
+    }
 }
 
 /// The words after the program's name.
@@ -82,7 +101,15 @@ fn run<
     R: Read,
     W: Write,
     H: Net<Stream = TcpStream, Listener = TcpListener> + Threads + Wait + Clock + Sync,
->(rt: &H, alloc: Global, words: &[String], connection: &mut Connection<R, W>) -> Ending
+    L: Read + Drop + Send,
+    O: Write + Drop + Send,
+>(
+    rt: &H,
+    alloc: Global,
+    words: &[String],
+    connection: &mut Connection<R, W>,
+    console: &mut Console<L, O>,
+) -> Ending
     requires { IsFresh connection.old }
     ensures outcome { Outcome (texts_of words.now) connection.old connection.new result }
 {
@@ -105,7 +132,7 @@ fn run<
                 second_key,
             },
         ) => run_serve(
-            rt, alloc, connection, address, workers, account, first_key, second_key,
+            rt, alloc, connection, address, workers, account, first_key, second_key, console,
         ),
         None => Ending::Usage,
     }
@@ -119,6 +146,7 @@ fn show_usage(rt: &impl Eprint) {
 #[cfg(test)]
 mod tests {
     use super::{read_words, run, show_usage};
+    use crate::console::{Console, Input};
     use crate::ending::Ending;
     use http_front::Connection;
     use std::alloc::{AllocError, Global};
@@ -273,7 +301,8 @@ mod tests {
                 Vec::new(rt.alloc()),
                 9,
             );
-            let ended = run(&rt, rt.alloc(), &words, &mut connection);
+            let mut console = Console::new(b"".as_slice(), Vec::new(rt.alloc()), Input::Unread);
+            let ended = run(&rt, rt.alloc(), &words, &mut connection, &mut console);
             let (_, out) = connection.into_parts();
             assert!(rt; ended == ending, "{line}");
             assert!(rt; out.as_slice() == output, "{line}");

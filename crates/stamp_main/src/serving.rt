@@ -6,6 +6,7 @@ ghost use Rattle.stamp_main.specs.declared.ending.Ending.TheVariants.{ListenerFa
 ghost use Rattle.stamp_main.specs.Ending.{ends_serving};
 ghost use Rattle.stamp_main.specs.Serving.{HasListened, IsServe, listening_line, serve_line};
 
+use crate::console::Console;
 use crate::ending::Ending;
 use crate::signing::send;
 use crate::sockets::serve_on;
@@ -21,7 +22,8 @@ use std::sync::Wait;
 use std::thread::Threads;
 use std::time::Clock;
 
-/// Carries out `stamp serve ADDRESS WORKERS ACCOUNT KEY1 KEY2`: takes the address, writes `listening ADDRESS` and LF, and serves.
+/// Carries out `stamp serve ADDRESS WORKERS ACCOUNT KEY1 KEY2`: takes the address, writes `listening ADDRESS` and LF, and serves. Meanwhile the
+/// lines of the console are obeyed, which the clauses say nothing of: the console has a reader and a writer of its own.
 ///
 /// If a word is bad, the ending is `Usage`, and nothing is written. If the address cannot be taken, the ending is `ListenerFault`,
 /// and nothing is written. What is served is not a matter of these clauses: `account_lock` and `http_front` have the contracts of
@@ -31,6 +33,8 @@ pub(crate) fn run_serve<
     I: Read,
     W: Write,
     R: Net<Stream = TcpStream, Listener = TcpListener> + Threads + Wait + Clock + Sync,
+    L: Read + Drop + Send,
+    O: Write + Drop + Send,
 >(
     rt: &R,
     alloc: Global,
@@ -40,6 +44,7 @@ pub(crate) fn run_serve<
     account: &str,
     first: &str,
     second: &str,
+    console: &mut Console<L, O>,
 ) -> Ending
     requires { IsFresh connection.old }
     ensures refused { result ≡ Usage →
@@ -73,7 +78,7 @@ pub(crate) fn run_serve<
     if send(connection, line.as_bytes()).is_err() {
         return Ending::WriteFault;
     }
-    serve_all(rt, alloc, &listener, served)
+    serve_all(rt, alloc, &listener, served, console)
 }
 
 // The line that tells that connections are taken.
@@ -86,18 +91,20 @@ fn listening(alloc: Global, address: &str) -> Result<String, AllocError>
     Ok(line)
 }
 
-// Serves by these workers and keys, the first pair of the account, until the listener fails for good.
-fn serve_all<R: Net + Threads + Wait + Clock + Sync>(
+// Serves by these workers and keys, the first pair of the account, until the listener fails for good. Of all shares of the history, the
+// operator has one.
+fn serve_all<R: Net + Threads + Wait + Clock + Sync, L: Read + Drop + Send, O: Write + Drop + Send>(
     rt: &R,
     alloc: Global,
     listener: &TcpListener,
     served: Served<'_>,
+    console: &mut Console<L, O>,
 ) -> Ending
     requires { served.keys.epoch ≡ 0 }
     ensures { (result ≡ ListenerFault) ⊎ (result ≡ NoMemory) }
 {
     let history = NewHistory::new(u64::MAX);
-    match serve_on::<Brand, R, R>(
+    match serve_on::<Brand, R, R, L, O>(
         rt,
         rt,
         alloc,
@@ -105,8 +112,9 @@ fn serve_all<R: Net + Threads + Wait + Clock + Sync>(
         served.keys,
         listener,
         served.workers,
-        u64::MAX,
+        u64::MAX - 1,
         Limits::standard(),
+        console,
     ) {
         Err(error) if error.kind() == ErrorKind::OutOfMemory => Ending::NoMemory,
         _ => Ending::ListenerFault,

@@ -1,7 +1,8 @@
 //! Both ends of connections in one process, on a port that the system gives. A client gives up after ten seconds, so each test ends by itself.
 //! Signatures, sums and replies were made outside of this repository's code.
-ghost use Rattle.std.specs.Prelude.{◌≡◌, ◌≤◌, IfOk};
+ghost use Rattle.std.specs.Prelude.{◌≡◌, ◌<◌, IfOk};
 
+use crate::console::{Console, Input};
 use crate::machine::Machine;
 use crate::sockets::serve_on;
 use crate::words::{Served, read_served};
@@ -158,7 +159,7 @@ fn play<R: Net<Stream = TcpStream>>(
 }
 
 // The account `devstoreaccount1` with the keys `key1` and `key2`.
-fn keys(alloc: Global) -> Result<Keys, AllocError>
+pub(crate) fn keys(alloc: Global) -> Result<Keys, AllocError>
     ensures { IfOk result (λ keys. keys.epoch ≡ 0) }
 {
     let served = read_served(alloc, "", "1", "devstoreaccount1", "a2V5MQ==", "a2V5Mg==");
@@ -191,7 +192,7 @@ fn both_ends<
 ) -> io::Result<(bool, Option<usize>)>
     requires history { history.seen.book ≡ A.history }
     requires shares { (history.shares.name ≡ A.name) × (history.shares.parts ≡ A.parts) }
-    requires one_each { connections ≤ history.shares.parts }
+    requires one_each { connections < history.shares.parts }
     requires keys { keys ≡ A.keys }
     requires first { keys.epoch ≡ 0 }
 {
@@ -202,9 +203,10 @@ fn both_ends<
         || -> bool
             requires { (history.seen.book ≡ A.history) × (keys ≡ A.keys) × (keys.epoch ≡ 0)
                 × (history.shares.name ≡ A.name) × (history.shares.parts ≡ A.parts)
-                × (connections ≤ history.shares.parts) }
+                × (connections < history.shares.parts) }
         {
-            serve_on::<A, R, Noon<'_, R>>(
+            let mut console = Console::new(b"".as_slice(), Vec::new(alloc), Input::Ready);
+            serve_on::<A, R, Noon<'_, R>, &[u8], Vec<u8>>(
                 rt,
                 &Noon(rt),
                 alloc,
@@ -214,6 +216,7 @@ fn both_ends<
                 workers,
                 connections,
                 limits(patience),
+                &mut console,
             )
             .is_ok()
         },
@@ -232,7 +235,7 @@ fn both_ends<
 #[test]
 fn connections_are_served_over_loopback(rt: HostRuntime) -> Result<(), Fail> {
     use Turn::{Gets, IsClosed, Leaves, Opens, Sends, SendsMore};
-    let table: [(&str, usize, u64, u64, &[Turn]); 7] = [
+    let table: [(&str, usize, u32, u64, &[Turn]); 7] = [
         (
             "two at once",
             2,
@@ -333,10 +336,11 @@ fn connections_are_served_over_loopback(rt: HostRuntime) -> Result<(), Fail> {
     ];
     for (name, workers, connections, patience, turns) in table {
         let keys = keys(rt.alloc())?;
+        let connections = u64::from(connections);
         let (served, differs) = both_ends::<Brand, _>(
             &rt,
             rt.alloc(),
-            NewHistory::new(connections),
+            NewHistory::new(connections + 1),
             keys,
             workers,
             connections,
@@ -355,7 +359,8 @@ fn a_listener_that_fails_for_good_ends_serving(rt: HostRuntime) -> Result<(), Fa
     // A socket that was shut down takes no connections any more.
     TcpStream::from(OwnedFd::from(listener.try_clone()?)).shutdown(Shutdown::Both)?;
     let keys = keys(rt.alloc())?;
-    let served = serve_on::<Brand, _, Noon<'_, HostRuntime>>(
+    let mut console = Console::new(b"".as_slice(), Vec::new(rt.alloc()), Input::Ready);
+    let served = serve_on::<Brand, _, Noon<'_, HostRuntime>, &[u8], Vec<u8>>(
         &rt,
         &Noon(&rt),
         rt.alloc(),
@@ -363,8 +368,9 @@ fn a_listener_that_fails_for_good_ends_serving(rt: HostRuntime) -> Result<(), Fa
         keys,
         &listener,
         2,
-        10,
+        9,
         limits(PATIENCE),
+        &mut console,
     );
     assert!(rt; served.is_ok());
     Ok(())

@@ -1,17 +1,21 @@
 //! The connections of `serve`: each gets a clock, and a service that shares one lock with the others.
-ghost use Rattle.std.specs.Prelude.{◌≡◌, ◌≤◌};
+ghost use Rattle.std.specs.Prelude.{◌≡◌, ◌<◌, ◌≤◌};
 
+use crate::console::Console;
 use crate::machine::Machine;
 use crate::shares::SharesLeft;
 use access_rules::Keys;
-use account_lock::{Account, AccountLock, Connection, NewHistory};
+use account_lock::{Account, AccountLock, Connection, NewHistory, Operator};
 use socket_gate::{Limits, Services, serve_listener};
 use std::alloc::Global;
-use std::io;
+use std::io::{Read, Write};
 use std::net::{Net, TcpListener};
+use std::sync::atomic::{AtomicBool, Ordering};
+use std::sync::ledger::Share;
 use std::sync::{Mutex, Wait};
 use std::thread::Threads;
 use std::time::Clock;
+use std::{io, thread};
 
 /// Makes the services of a number of connections. Each has a share of the history of one lock.
 #[derive(Drop)]
@@ -22,11 +26,17 @@ pub(crate) struct AccountServices<'a, A: Account, R: Wait, C: Clock> {
     left: Mutex<SharesLeft<A>>,
 }
 
-/// Serves so many connections of a listener, by so many workers at once. The account has no containers at first. A connection that is
-/// beyond the limits ends.
+/// Serves so many connections of a listener, by so many workers at once, and obeys the lines of a console meanwhile. The account has no
+/// containers at first. A connection that is beyond the limits ends.
 ///
 /// It ends before that if the listener fails for good. The error says why it could not begin.
-pub(crate) fn serve_on<A: Account + Send + Sync, R: Net + Threads + Wait + Sync, C: Clock + Sync>(
+pub(crate) fn serve_on<
+    A: Account + Send + Sync,
+    R: Net + Threads + Wait + Sync,
+    C: Clock + Sync,
+    L: Read + Drop + Send,
+    O: Write + Drop + Send,
+>(
     rt: &R,
     clock: &C,
     alloc: Global,
@@ -36,21 +46,75 @@ pub(crate) fn serve_on<A: Account + Send + Sync, R: Net + Threads + Wait + Sync,
     workers: usize,
     connections: u64,
     limits: Limits,
+    console: &mut Console<L, O>,
 ) -> io::Result<()>
     requires history { history.seen.book ≡ A.history }
     requires shares { (history.shares.name ≡ A.name) × (history.shares.parts ≡ A.parts) }
-    requires one_each { connections ≤ history.shares.parts }
+    requires one_each { connections < history.shares.parts }
     requires keys { keys ≡ A.keys }
     requires first { keys.epoch ≡ 0 }
 {
-    let (lock, shares) = AccountLock::<A>::new(alloc, keys, history)?;
+    let (lock, mut shares) = AccountLock::<A>::new(alloc, keys, history)?;
+    let one = shares.split_off(1, 0);
+    serve_by(
+        rt,
+        clock,
+        alloc,
+        &lock,
+        one,
+        shares,
+        listener,
+        workers,
+        connections,
+        limits,
+        console,
+    )
+}
+
+// The same by a lock, with the share of its operator and those of the connections. What is borrowed has one lifetime, since operator and services
+// hold it.
+fn serve_by<
+    'a,
+    A: Account + Send + Sync,
+    R: Net + Threads + Wait + Sync,
+    C: Clock + Sync,
+    L: Read + Drop + Send,
+    O: Write + Drop + Send,
+>(
+    rt: &'a R,
+    clock: &'a C,
+    alloc: Global,
+    lock: &'a AccountLock<A>,
+    one: Share<A>,
+    shares: Share<A>,
+    listener: &TcpListener,
+    workers: usize,
+    connections: u64,
+    limits: Limits,
+    console: &mut Console<L, O>,
+) -> io::Result<()>
+    requires one { one.parts ≡ 1 }
+    requires one_each { connections ≤ shares.parts }
+    requires none_made { shares.amount ≡ 0 }
+{
+    let mut operator = Operator::new(rt, lock, one);
     let services = AccountServices {
         rt,
         clock,
-        lock: &lock,
+        lock,
         left: Mutex::new(SharesLeft::new(connections, shares)),
     };
-    serve_listener(rt, clock, alloc, listener, workers, &services, limits)
+    let is_over = AtomicBool::new(false);
+    let (_, served) = thread::join(
+        rt,
+        || console.attend(rt, &mut operator, alloc, &is_over),
+        || {
+            let served = serve_listener(rt, clock, alloc, listener, workers, &services, limits);
+            is_over.store(true, Ordering::SeqCst);
+            served
+        },
+    );
+    served
 }
 
 impl<'a, A: Account, R: Wait, C: Clock> Services<Machine<'a, C>, Connection<'a, A, R>>

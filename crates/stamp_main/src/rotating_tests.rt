@@ -1,0 +1,71 @@
+//! Lines of an operator, read from memory.
+ghost use Rattle.std.specs.Prelude.{◌≡◌, ◌≤◌};
+
+use crate::console::{Console, Input};
+use crate::serving_tests::keys;
+use access_rules::Keys;
+use account_lock::{Account, AccountLock, NewHistory, Operator};
+use std::alloc::Global;
+use std::marker::Brand;
+use std::process::Abort;
+use std::sync::Wait;
+use std::sync::atomic::AtomicBool;
+use std::test::Fail;
+
+// Both keys are replaced, the first one once more by the same key. Then come lines that ask for nothing. The last line has no end.
+const LINES: &[u8] =
+    b"rotate first bmV3MQ==\nrotate second bmV3Mg==\nrotate first bmV3MQ==\nrotate third bmV3MQ==\nRotate first bmV3MQ==\n\nrotate first \nrotate first bmV3M\nrotate first bmV3MQ== \nrotate second bmV3Mg==";
+
+const ANSWERS: &[u8] =
+    b"epoch 1\nepoch 2\nepoch 3\nrefused: a line is rotate first KEY or rotate second KEY\nrefused: a line is rotate first KEY or rotate second KEY\nrefused: a line is rotate first KEY or rotate second KEY\nrefused: the key is empty or not padded Base64\nrefused: the key is empty or not padded Base64\nrefused: the key is empty or not padded Base64\n";
+
+const LONG: &[u8] = b"refused: the line has more than 4096 bytes\nepoch 4\n";
+
+// What the lines are answered by an operator.
+fn answers_to<A: Account, R: Wait + Abort>(
+    rt: &R,
+    alloc: Global,
+    operator: &mut Operator<'_, A, R>,
+    lines: &[u8],
+) -> Vec<u8> {
+    let mut console = Console::new(lines, Vec::new(alloc), Input::Ready);
+    console.attend(rt, operator, alloc, &AtomicBool::new(false));
+    console.into_answers()
+}
+
+// A line of 4,097 bytes, and a rotation after it.
+fn long_lines(rt: &impl Abort, alloc: Global) -> Vec<u8> {
+    let mut lines = Vec::new(alloc);
+    for _ in 0..4097 {
+        lines.push(b'x').expect(rt, "memory");
+    }
+    lines
+        .extend_from_slice(b"\nrotate first bmV3MQ==\n")
+        .expect(rt, "memory");
+    lines
+}
+
+fn obeys<A: Account, R: Wait + Abort>(rt: &R, alloc: Global, keys: Keys, history: NewHistory)
+    requires keys { keys ≡ A.keys }
+    requires first { keys.epoch ≡ 0 }
+    requires history { history.seen.book ≡ A.history }
+    requires shares { (history.shares.name ≡ A.name) × (history.shares.parts ≡ A.parts) }
+    requires two { history.shares.parts ≡ 2 }
+{
+    let (lock, mut shares) = AccountLock::<A>::new(alloc, keys, history).expect(rt, "memory");
+    let mut operator = Operator::new(rt, &lock, shares.split_off(1, 0));
+    let answers = answers_to(rt, alloc, &mut operator, LINES);
+    assert!(rt; answers.as_slice() == ANSWERS);
+    let lines = long_lines(rt, alloc);
+    let answers = answers_to(rt, alloc, &mut operator, &lines);
+    assert!(rt; answers.as_slice() == LONG);
+    shares.merge(operator.into_share());
+    assert!(rt; lock.history(rt, &mut shares).len() == 4);
+}
+
+#[test]
+fn lines_of_an_operator_are_obeyed(rt: HostRuntime) -> Result<(), Fail> {
+    let keys = keys(rt.alloc())?;
+    obeys::<Brand, _>(&rt, rt.alloc(), keys, NewHistory::new(2));
+    Ok(())
+}
