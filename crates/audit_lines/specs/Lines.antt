@@ -1,5 +1,6 @@
 -- Lines of the audit book (RFC 3986, section 2.1, for bytes that are escaped; ISO 8601:2004 for moments). The form of a line is the stamp's own.
-use Rattle.std.specs.Prelude.{◌≡◌, ℕ, Bool, ◌&&◌, ◌==◌, not, nat_lt, if◌then◌else◌, List, [], ◌∷◌, ◌++◌, Option, Some, None, codes, decimal, flat_map, slice_index, ◌/◌, ◌%◌}
+use Rattle.std.specs.Prelude.{◌≡◌, ⊤, ℕ, ◌+◌, Bool, ◌&&◌, ◌==◌, not, nat_lt, if◌then◌else◌, List, [], ◌∷◌, ◌++◌, Option, Some, None, codes, decimal, flat_map, length, slice_index, ◌/◌, ◌%◌}
+use Rattle.std.specs.Io.KnownBytes.{Appends}
 use Rattle.stamp_values.specs.declared.op.Op.{Op}
 use Rattle.stamp_values.specs.declared.op.Op.TheVariants as op
 use Rattle.stamp_types.specs.declared.ask.Ask.{Ask}
@@ -111,3 +112,16 @@ line_of e = line_with e.moment e.way e.revision.keys e.request.ask e.place
 -- the book has this entry at this index
 abbrev pub IsAt : Shelved → ℕ → AuditEntry → Type 0
 IsAt book index e = (r : Where AuditEntry) × (IsReceiptOf book r × ((r.index ≡ index) × (r.value ≡ e)))
+
+-- the book has these entries at the indexes from this one on
+abbrev pub AreAt : Shelved → ℕ → List AuditEntry → Type 0
+AreAt book n [] = ⊤
+AreAt book n (e ∷ es) = IsAt book n e × AreAt book (n + 1) es
+
+-- the lines of the entries that a book has from one index up to another were appended
+abbrev pub AppendsLines : Shelved → ℕ → ℕ → List ℕ → List ℕ → Type 0
+AppendsLines book from to old new = (es : List AuditEntry) × (AreAt book from es × ((to ≡ from + length es) × (new ≡ old ++ flat_map line_of es)))
+
+-- bytes that are first in what was left were written, and the others are left
+abbrev pub WritesFrom : Option (List ℕ) → Option (List ℕ) → List ℕ → List ℕ → Type 0
+WritesFrom held held' left left' = (bytes : List ℕ) × ((left ≡ bytes ++ left') × Appends held held' bytes)
