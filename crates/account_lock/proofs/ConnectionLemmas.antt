@@ -13,7 +13,7 @@ use Rattle.http_front.specs.Streams.{Item}
 use Rattle.http_front.specs.Streams.Item.{Requested, Refused}
 use Rattle.account_lock.specs.declared.entry.Entry.{Entry}
 use Rattle.account_lock.specs.declared.entry.Entry.TheVariants.{Served, Rotated}
-use Rattle.account_lock.specs.Histories.{Known, Sent, entered, judged, judged_along, sent, world_left, IsServed, IsUnchanged}
+use Rattle.account_lock.specs.Histories.{Known, entered, judged, judged_along, sent, world_left, IsServed, IsUnchanged}
 use Rattle.account_lock.specs.Rotations.{next_pair, pair_left}
 use Rattle.account_lock.specs.Connections.{Call, calls_of, calls_along, entry_of, IsAmong, ReadsHistory, AddsOneAtMost, IsReadAfter}
 use Rattle.account_lock.proofs.HistoryLemmas.{world_left-append}

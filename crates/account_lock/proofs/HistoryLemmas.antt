@@ -1,5 +1,5 @@
 -- What one more entry leaves, and how a request is served.
-use Rattle.std.proofs.Common.{◌≡◌, ◌+◌, ℕ, List, [], ◌∷◌, ◌++◌, Result, Ok, Err, IfErr, IfOk, MatchResult, OnErr, OnOk, length, length-append, ap, sym, subst, ◌∙◌}
+use Rattle.std.proofs.Common.{◌≡◌, ◌+◌, ℕ, List, [], ◌∷◌, ◌++◌, Result, Ok, Err, IfOk, MatchResult, OnOk, length, length-append, ap, sym, subst, ◌∙◌}
 use Rattle.std.proofs.lemmas.List.Sums.{fold-append}
 use Rattle.std.specs.FinMap as finite
 use mathlib.Core.List.{IsPrefix}
@@ -8,7 +8,7 @@ use Rattle.stamp_types.specs.Requests.{Asked}
 use Rattle.stamp_types.specs.World.{World}
 use Rattle.access_rules.specs.declared.keys.Keys.{Keys}
 use Rattle.access_rules.specs.declared.rotation.Which.{Which}
-use Rattle.stamp_model.specs.Runs.{Timed, timed, world_after_one, world_after_all, reply_to_one}
+use Rattle.stamp_model.specs.Runs.{Timed, world_after_one, world_after_all, reply_to_one}
 use Rattle.core_run.specs.Cores.{CoreState, StandsFor}
 use Rattle.core_run.specs.Machine.{last_epoch}
 use Rattle.core_run.specs.States as states

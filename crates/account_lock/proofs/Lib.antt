@@ -1,4 +1,5 @@
 pub mod Adding
+pub mod AuditLemmas
 pub mod ConnectionLemmas
 pub mod Fronts
 pub mod HistoryLemmas

@@ -1,5 +1,5 @@
 -- The machine that has one account and one slot answers as the model by the pair that is in force, whatever rotations came before.
-use Rattle.std.proofs.Common.{◌≡◌, ◌≢◌, ◌⊎◌, inl, inr, ◌+◌, ◌≤◌, ℕ, suc, Bool, true, false, cond, List, [], ◌∷◌, ◌++◌, All, Option, Some, None, Result, Ok, Err, IfOk, OnErr, OnOk, refl, sym, ap, subst, ◌∙◌, arith, unwrap_or}
+use Rattle.std.proofs.Common.{◌≡◌, ◌≢◌, inl, inr, ◌+◌, ◌≤◌, ℕ, suc, Bool, true, false, cond, List, [], ◌∷◌, ◌++◌, All, Option, Some, None, Result, Ok, Err, IfOk, OnErr, OnOk, refl, sym, ap, subst, ◌∙◌, arith, unwrap_or}
 use Rattle.std.specs.FinMap.{empty, get-empty}
 use Rattle.std.specs.Ordering.{eq_by_cmp}
 use Rattle.std.proofs.lemmas.List.Sums.{fold-append}
@@ -7,7 +7,6 @@ use Rattle.stamp_values.specs.declared.key.Key.{Key}
 use Rattle.stamp_values.specs.Names.{is_account}
 use Rattle.stamp_values.specs.Order.{name_cmp}
 use Rattle.stamp_values.specs.Texts.{is_clean}
-use Rattle.stamp_types.specs.declared.past.Past.{Past}
 use Rattle.stamp_types.specs.Requests.{Asked}
 use Rattle.stamp_types.specs.World.{World}
 use Rattle.access_rules.specs.declared.keys.Keys.{Keys}
@@ -18,7 +17,7 @@ use Rattle.access_rules.specs.Rotation.{epoch_after, rotated}
 use Rattle.partition_map.specs.Spans.{bound_at}
 use Rattle.stamp_model.specs.Runs.{Timed, timed, reply_to_one, world_after_all, world_after_one}
 use Rattle.stamp_model.specs.SeenContainers.{routed}
-use Rattle.slot_state.specs.Pairs.{Pairs, current_at, first_pairs, in_force, pairs_at}
+use Rattle.slot_state.specs.Pairs.{current_at, first_pairs, in_force, pairs_at}
 use Rattle.core_run.specs.Machine.{Answer, RotatesBy, Takes, last_epoch}
 use Rattle.core_run.specs.States.{State, reply_in, served, with_pair}
 use Rattle.core_run.specs.Cores.{CoreState, StandsFor}

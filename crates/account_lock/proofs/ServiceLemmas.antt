@@ -1,15 +1,14 @@
 -- The machine that has one account and one slot answers as the model by the account's key pair.
-use Rattle.std.proofs.Common.{◌≡◌, ℕ, zero, suc, List, [], ◌∷◌, map, Option, Some, None, Result, Ok, Err, IfOk, OnErr, refl, sym, ap, subst, ◌∙◌}
+use Rattle.std.proofs.Common.{◌≡◌, ℕ, zero, suc, List, [], ◌∷◌, Option, None, Result, Ok, Err, IfOk, OnErr, refl, sym, ap, subst, ◌∙◌}
 use Rattle.std.specs.Prelude.{slice_get, slice_index_or}
 use Rattle.std.specs.Option.{option_and_then}
 use Rattle.stamp_values.specs.declared.key.Key.{Key}
 use Rattle.stamp_types.specs.declared.past.Past.{Past}
 use Rattle.stamp_types.specs.declared.reply.Reply.{Reply}
 use Rattle.stamp_types.specs.Requests.{Asked}
-use Rattle.stamp_types.specs.World.{World}
 use Rattle.access_rules.specs.declared.keys.Keys.{Keys}
 use Rattle.partition_map.specs.Spans.{bound_at}
-use Rattle.stamp_model.specs.Runs.{timed, reply_to_one, world_after_all, world_after_one}
+use Rattle.stamp_model.specs.Runs.{timed, reply_to_one, world_after_one}
 use Rattle.stamp_model.specs.SeenContainers.{routed}
 use Rattle.slot_state.specs.Pairs.{Pairs, first_pairs}
 use Rattle.core_run.specs.Cores.{CoreState, StandsFor, first_core, no_slot}

@@ -1,5 +1,5 @@
 -- What a connection wrote is what it reads.
-use Rattle.std.proofs.Common.{◌≡◌, ◌<◌, ℕ, zero, suc, List, [], ◌∷◌, ◌++◌, All, None, length, sym, ap, ◌∙◌, arith}
+use Rattle.std.proofs.Common.{◌≡◌, ℕ, zero, suc, List, [], ◌∷◌, ◌++◌, All, None, sym, ap, ◌∙◌, arith}
 use Rattle.stamp_values.specs.declared.key.Key.{Key}
 use Rattle.stamp_values.specs.declared.op.Op.TheVariants.{GetBlob, PutBlob, PutBlockList}
 use Rattle.stamp_types.specs.declared.reply.Reply.{Reply}
@@ -15,11 +15,10 @@ use Rattle.stamp_model.proofs.LastLemmas.{body-list_last, body-put_last}
 use Rattle.stamp_model.proofs.WrittenLemmas.{kept-put}
 use Rattle.account_lock.specs.declared.entry.Entry.{Entry}
 use Rattle.account_lock.specs.declared.entry.Entry.TheVariants.{Served, Rotated}
-use Rattle.account_lock.specs.Histories.{Sent, judged, judged_along, sent_in, sent, world_left}
+use Rattle.account_lock.specs.Histories.{judged, judged_along, sent_in, sent, world_left}
 use Rattle.account_lock.specs.Rotations.{next_pair, pair_left}
 use Rattle.account_lock.specs.Connections.{Call, IsReadAfter, entry_of}
 use Rattle.account_lock.proofs.HistoryLemmas.{world_left-append}
-use Rattle.account_lock.proofs.RotationLemmas.{pair_left-append}
 
 -- one more request of which it holds
 all_more : (P : Asked → Type 0) (pair : Keys) (q : Asked) (t : ℕ) (rs : List Timed) → P q → All (λ (r : Timed). P r.request) rs → All (λ (r : Timed). P r.request) (timed pair q t ∷ rs)

@@ -1,3 +1,4 @@
+pub mod Audits
 pub mod Connections
 pub mod Growth
 pub mod Histories

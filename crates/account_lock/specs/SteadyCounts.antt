@@ -1,5 +1,4 @@
 -- What the wire of nodes in memory counts (SOSP 2011, section 4.3: the calls of an append; that no call fails is the stamp's own).
-use Rattle.std.specs.Prelude.{ℕ}
 use Rattle.extent_node.specs.Faults.{Calls, Counts}
 use Rattle.account_lock.specs.declared.steady.NodeCounts.{NodeCounts}
 

@@ -5,6 +5,7 @@ ghost use Rattle.policy_book.specs.Judgements.{IsOfAsk};
 ghost use Rattle.range_rows.specs.Readings.{reading_of};
 ghost use Rattle.slot_state.specs.Pairs.{first_pairs};
 ghost use Rattle.core_run.specs.Cores.{StandsFor, first_core};
+ghost use Rattle.stamp_core.specs.CoreAudits.{CoreAudits};
 ghost use Rattle.stamp_core.specs.CoreSteps.{IsCalm};
 ghost use Rattle.account_lock.specs.Services.{AnswersAsMachine, opening_of};
 
@@ -14,7 +15,7 @@ use http_front::Service;
 use policy_book::Judged;
 use range_rows::Reading;
 use slot_state::{PairsFault, ProvedHistories};
-use stamp_core::Core;
+use stamp_core::{AuditedReply, Core};
 use stamp_types::{Moment, Reply, Request};
 use std::alloc::{AllocError, Global};
 use std::marker::Model;
@@ -67,6 +68,27 @@ pub(crate) fn answer_steadily(
     ensures unchanged { OnErr result (core.new ≡ core.old) }
 {
     core.answer(alloc, request, judged, reading, moment, wire)
+}
+
+/// The same, with the entry of the request in the audit book.
+pub(crate) fn audit_steadily(
+    core: &mut Core<ProvedHistories>,
+    wire: &mut Steady,
+    alloc: Global,
+    request: &Request,
+    judged: Option<&Judged>,
+    reading: Reading,
+    moment: Moment,
+) -> AuditedReply
+    requires calm { IsCalm core.old }
+    requires judged { IsOfAsk (option_copied judged) request.now.ask }
+    requires read { reading ≡ reading_of request.now }
+    ensures calm { IsCalm core.new }
+    ensures answered { IfOk result.reply (λ reply. AnswersAsMachine core.old request.now moment reply core.new) }
+    ensures audited { CoreAudits core.old request.now moment result.reply result.entry }
+    ensures unchanged { OnErr result.reply (core.new ≡ core.old) }
+{
+    core.answer_audited(alloc, request, judged, reading, moment, wire)
 }
 
 /// Compacts the first slot of which little is left to which something refers, if there is one, over nodes in memory. Gives what was replaced.

@@ -9,6 +9,9 @@ mod lock;
 #[cfg(test)]
 mod lock_tests;
 mod pair;
+mod posting;
+#[cfg(test)]
+mod posting_tests;
 mod rotation_laws;
 #[cfg(test)]
 mod rotation_tests;

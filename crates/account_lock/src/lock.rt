@@ -5,20 +5,24 @@ ghost use Rattle.range_rows.specs.Readings.{reading_of};
 ghost use Rattle.stamp_model.specs.Runs.{reply_to_one};
 ghost use Rattle.core_run.specs.Cores.{StandsFor};
 ghost use Rattle.stamp_core.specs.CoreSteps.{IsCalm};
+ghost use Rattle.account_lock.specs.Audits.{AuditsAt};
 ghost use Rattle.account_lock.specs.declared.entry.Entry.{Entry};
 ghost use Rattle.account_lock.specs.Histories.{entered, judged_after, state_left, world_left};
+ghost use Rattle.account_lock.specs.Rotations.{pair_left};
 ghost use Rattle.account_lock.specs.Services.{opening_of};
 
-use crate::core_service::{answer_steadily, compact_steadily, core_of};
+use crate::core_service::{answer_steadily, audit_steadily, compact_steadily, core_of};
 use crate::history::{Account, EntryCount, Front, NewHistory};
 use crate::pair::PairInUse;
+use crate::posting::post;
 use crate::steady::Steady;
 use access_rules::Keys;
+use audit_lines::Books;
 use http_front::Service;
 use policy_book::{Judged, judge};
 use range_rows::Reading;
 use slot_state::ProvedHistories;
-use stamp_core::Core;
+use stamp_core::{AuditedReply, Core};
 use stamp_types::{Moment, Reply, Request};
 use std::alloc::{AllocError, Global};
 use std::marker::Model;
@@ -84,6 +88,99 @@ fn answer_by<A: Account>(
     answer_steadily(core, wire, alloc, request, Some(judged), reading, moment)
 }
 
+/// The reply to a request, and its entry of the audit book. `None` if no entry was asked for or made.
+#[derive(Drop)]
+struct Told {
+    reply: Reply,
+    entry: Option<policy_book::Entry>,
+}
+
+// The same as `answer_by`, with the entry of the request, as the history was before it.
+fn audit_by<A: Account>(
+    core: &mut Core<ProvedHistories>,
+    alloc: Global,
+    request: &Request,
+    judged: &Judged,
+    reading: Reading,
+    moment: Moment,
+) -> AuditedReply
+    requires calm { IsCalm core.old }
+    requires judged { judged.now.ask ≡ request.now.ask }
+    requires read { reading ≡ reading_of request.now }
+    ensures answered { (history : List Entry) → StandsFor core.old (state_left A.keys history)
+        → IfOk result.reply (λ reply.
+        (reply ≡ reply_to_one (world_left A.keys history) (judged_after A.keys history request.now moment))
+        × StandsFor core.new (state_left A.keys (history ++ entered request.now moment ∷ []))) }
+    ensures audited { (history : List Entry) → StandsFor core.old (state_left A.keys history)
+        → IfOk result.reply (λ reply. AuditsAt (pair_left A.keys history) (world_left A.keys history) request.now moment reply result.entry) }
+    ensures unchanged { OnErr result.reply (core.new ≡ core.old) }
+{
+    let wire = &mut Steady::new();
+    audit_steadily(core, wire, alloc, request, Some(judged), reading, moment)
+}
+
+// Answers the request, with its entry if entries are posted.
+fn answer_or_audit_by<A: Account>(
+    core: &mut Core<ProvedHistories>,
+    alloc: Global,
+    request: &Request,
+    judged: &Judged,
+    reading: Reading,
+    moment: Moment,
+    is_audited: bool,
+) -> AuditedReply
+    requires calm { IsCalm core.old }
+    requires judged { judged.now.ask ≡ request.now.ask }
+    requires read { reading ≡ reading_of request.now }
+    ensures answered { (history : List Entry) → StandsFor core.old (state_left A.keys history)
+        → IfOk result.reply (λ reply.
+        (reply ≡ reply_to_one (world_left A.keys history) (judged_after A.keys history request.now moment))
+        × StandsFor core.new (state_left A.keys (history ++ entered request.now moment ∷ []))) }
+    ensures audited { (history : List Entry) → StandsFor core.old (state_left A.keys history)
+        → IfOk result.reply (λ reply. AuditsAt (pair_left A.keys history) (world_left A.keys history) request.now moment reply result.entry) }
+    ensures unchanged { OnErr result.reply (core.new ≡ core.old) }
+{
+    if is_audited {
+        audit_by::<A>(core, alloc, request, judged, reading, moment)
+    } else {
+        let reply = answer_by::<A>(core, alloc, request, judged, reading, moment);
+        AuditedReply { reply, entry: None }
+    }
+}
+
+// The same, with the reply and the entry in one, if memory does not run out.
+fn tell_by<A: Account>(
+    core: &mut Core<ProvedHistories>,
+    alloc: Global,
+    request: &Request,
+    judged: &Judged,
+    reading: Reading,
+    moment: Moment,
+    is_audited: bool,
+) -> Result<Told, AllocError>
+    requires calm { IsCalm core.old }
+    requires judged { judged.now.ask ≡ request.now.ask }
+    requires read { reading ≡ reading_of request.now }
+    ensures answered { (history : List Entry) → StandsFor core.old (state_left A.keys history)
+        → IfOk result (λ told.
+        (told.reply ≡ reply_to_one (world_left A.keys history) (judged_after A.keys history request.now moment))
+        × StandsFor core.new (state_left A.keys (history ++ entered request.now moment ∷ []))) }
+    ensures audited { (history : List Entry) → StandsFor core.old (state_left A.keys history)
+        → IfOk result (λ told. AuditsAt (pair_left A.keys history) (world_left A.keys history) request.now moment told.reply told.entry) }
+    ensures unchanged { OnErr result (core.new ≡ core.old) }
+{
+    let AuditedReply { reply, entry } = answer_or_audit_by::<A>(
+        core, alloc, request, judged, reading, moment, is_audited,
+    );
+    match reply {
+        Ok(reply) => Ok(Told { reply, entry }),
+        Err(fault) => {
+            drop(entry);
+            Err(fault)
+        }
+    }
+}
+
 impl<A: Account> Locked<A> {
     fn new(core: Core<ProvedHistories>, front: Front<A>, made: Book<A>) -> Locked<A>
         requires core { StandsFor core (opening_of A.keys) }
@@ -133,7 +230,7 @@ impl<A: Account> Locked<A> {
     // Answers a request whose body was read and whose signature was judged before. The request is then the next entry of the history,
     // the caller knows the whole history, and its share counts one entry more. If memory runs out, there is no entry and no change.
     // An entry that the lock does not know has the same answer: the connection ends, and so does each connection that sends a
-    // request after it.
+    // request after it. The entry of the audit book is what the history was before the request.
     #[tactic(auto, using(crate::proofs::HistoryLemmas::length_more))]
     fn answer(
         &mut self,
@@ -145,12 +242,15 @@ impl<A: Account> Locked<A> {
         judged: &Judged,
         reading: Reading,
         moment: Moment,
-    ) -> Result<Reply, AllocError>
+        is_audited: bool,
+    ) -> Result<Told, AllocError>
         requires judged { judged.now.ask ≡ request.now.ask }
         requires read { reading ≡ reading_of request.now }
         requires part { 0 < share.old.parts }
-        ensures answered { IfOk result (λ reply.
-            reply ≡ reply_to_one (world_left A.keys self.old) (judged_after A.keys self.old request.now moment)) }
+        ensures answered { IfOk result (λ told.
+            told.reply ≡ reply_to_one (world_left A.keys self.old) (judged_after A.keys self.old request.now moment)) }
+        ensures audited { IfOk result (λ told.
+            AuditsAt (pair_left A.keys self.old) (world_left A.keys self.old) request.now moment told.reply told.entry) }
         ensures entered { OnOk result (self.new ≡ self.old ++ entered request.now moment ∷ []) }
         ensures begun { OnOk result (IsPrefix known.old self.old) }
         ensures known { OnOk result (known.new ≡ self.new) }
@@ -163,16 +263,16 @@ impl<A: Account> Locked<A> {
         let Ok(core) = &mut self.core else {
             return Err(AllocError);
         };
-        let reply = answer_by::<A>(core, alloc, request, judged, reading, moment)?;
+        let told = tell_by::<A>(core, alloc, request, judged, reading, moment, is_audited)?;
         if !front.add(count, &mut self.made, share, request, moment) {
             // The core has a change that the history does not have, so nothing is answered by it again.
-            drop(reply);
+            drop(told);
             self.core = Err(front);
             return Err(AllocError);
         }
         *known = front.again();
         self.front = front;
-        Ok(reply)
+        Ok(told)
     }
 }
 
@@ -256,6 +356,8 @@ pub struct Connection<'a, A: Account, R: Wait> {
     lock: &'a AccountLock<A>,
     known: Front<A>,
     share: Share<A>,
+    // Where the entries of the requests are posted, if entries are made.
+    books: Option<&'a Books>,
     // With one part nobody can split off a share that counts entries too.
     ghost one_part: { share.parts ≡ 1 },
 }
@@ -268,12 +370,26 @@ impl<'a, A: Account, R: Wait> Connection<'a, A, R> {
         requires { share.parts ≡ 1 }
         ensures { result.share.amount ≡ share.amount }
     {
+        Self::audited(rt, lock, share, None)
+    }
+
+    /// The same, with books in which each request is entered that was let in and names a container. Without books no entry is made.
+    pub fn audited(
+        rt: &'a R,
+        lock: &'a AccountLock<A>,
+        share: Share<A>,
+        books: Option<&'a Books>,
+    ) -> Self
+        requires { share.parts ≡ 1 }
+        ensures { result.share.amount ≡ share.amount }
+    {
         let known = lock.locked.lock(rt).front.again();
         Self {
             rt,
             lock,
             known,
             share,
+            books,
         }
     }
 
@@ -307,7 +423,8 @@ impl<'a, A: Account, R: Wait> Service for Connection<'a, A, R> {
     ///
     /// The signature is judged and the body is read before the lock is taken, and the request is dropped after the lock is given back.
     /// If earlier changes left much to which nothing refers, the core is compacted first: the replies to these changes are out by then. What
-    /// that replaces is dropped while nobody has the lock, which is then taken again.
+    /// that replaces is dropped while nobody has the lock, which is then taken again. The entry of the audit book is posted after the lock
+    /// is given back.
     ///
     /// `AllocError` if memory runs out: then there is no entry and no change.
     fn answer(
@@ -329,11 +446,14 @@ impl<'a, A: Account, R: Wait> Service for Connection<'a, A, R> {
             &judged,
             reading,
             moment,
+            self.books.is_some(),
         );
         drop(locked);
         drop(judged);
         drop(keys);
         drop(request);
-        answered
+        let Told { reply, entry } = answered?;
+        post(self.rt, self.books, entry);
+        Ok(reply)
     }
 }

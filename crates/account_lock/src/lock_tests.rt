@@ -38,7 +38,7 @@ pub(crate) const GET: &[u8] =
 
 pub(crate) const CREATED: &[u8] = b"HTTP/1.1 201 Created\r\n";
 
-const CONFLICT: &[u8] = b"HTTP/1.1 409 Conflict\r\n";
+pub(crate) const CONFLICT: &[u8] = b"HTTP/1.1 409 Conflict\r\n";
 
 /// A clock that always gives the same moment.
 #[derive(Drop)]

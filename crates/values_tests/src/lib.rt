@@ -10,6 +10,8 @@ mod base64_tests;
 #[cfg(test)]
 mod book_tests;
 #[cfg(test)]
+mod books_tests;
+#[cfg(test)]
 mod change_tests;
 #[cfg(test)]
 mod field_tests;

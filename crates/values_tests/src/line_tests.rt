@@ -46,8 +46,8 @@ fn acl(rt: &impl Abort, alloc: Global) -> Acl {
     }
 }
 
-// The entry of the request at noon.
-fn entry(rt: &impl Abort, alloc: Global, request: &Request, place: u64) -> Entry {
+/// The entry of the request at noon.
+pub(crate) fn entry(rt: &impl Abort, alloc: Global, request: &Request, place: u64) -> Entry {
     let noon = Moment::new(NOON).expect(rt, "a moment");
     let acl = Arc::new(alloc, acl(rt, alloc)).expect(rt, "memory");
     let keys = Arc::new(alloc, keys(rt, alloc, ACCOUNT)).expect(rt, "memory");
@@ -64,8 +64,12 @@ fn is_line(rt: &impl Abort, alloc: Global, request: &Request, place: u64, line: 
     out.as_slice() == line.as_bytes()
 }
 
-// A Put Blob of `a.txt` with this Authorization.
-fn put_by(rt: &impl Abort, alloc: Global, authorization: &'static [&'static str]) -> Request {
+/// A Put Blob of `a.txt` with this Authorization.
+pub(crate) fn put_by(
+    rt: &impl Abort,
+    alloc: Global,
+    authorization: &'static [&'static str],
+) -> Request {
     let case = Case {
         op: Op::PutBlob,
         kinds: None,
@@ -100,10 +104,10 @@ fn get_named(rt: &impl Abort, alloc: Global, name: &str) -> Request {
     request.expect(rt, "parts that fit")
 }
 
-const BY_FIRST: &str =
+pub(crate) const BY_FIRST: &str =
     "2012-10-01T12:00:00.0000000Z shared key1 PutBlob /devstoreaccount1/pics/a.txt 7\n";
 
-const BY_SECOND: &str =
+pub(crate) const BY_SECOND: &str =
     "2012-10-01T12:00:00.0000000Z shared key2 PutBlob /devstoreaccount1/pics/a.txt 8\n";
 
 #[test]
