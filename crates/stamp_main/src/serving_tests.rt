@@ -217,6 +217,7 @@ fn both_ends<
                 connections,
                 limits(patience),
                 &mut console,
+                None,
             )
             .is_ok()
         },
@@ -371,6 +372,7 @@ fn a_listener_that_fails_for_good_ends_serving(rt: HostRuntime) -> Result<(), Fa
         9,
         limits(PATIENCE),
         &mut console,
+        None,
     );
     assert!(rt; served.is_ok());
     Ok(())

@@ -6,6 +6,7 @@ use crate::machine::Machine;
 use crate::shares::SharesLeft;
 use access_rules::Keys;
 use account_lock::{Account, AccountLock, Connection, NewHistory, Operator};
+use audit_lines::Books;
 use socket_gate::{Limits, Services, serve_listener};
 use std::alloc::Global;
 use std::io::{Read, Write};
@@ -23,11 +24,13 @@ pub(crate) struct AccountServices<'a, A: Account, R: Wait, C: Clock> {
     rt: &'a R,
     clock: &'a C,
     lock: &'a AccountLock<A>,
+    books: Option<&'a Books>,
     left: Mutex<SharesLeft<A>>,
 }
 
 /// Serves so many connections of a listener, by so many workers at once, and obeys the lines of a console meanwhile. The account has no
-/// containers at first. A connection that is beyond the limits ends.
+/// containers at first. A connection that is beyond the limits ends. If there are books, each request is entered that was let in and names a
+/// container.
 ///
 /// It ends before that if the listener fails for good. The error says why it could not begin.
 pub(crate) fn serve_on<
@@ -47,6 +50,7 @@ pub(crate) fn serve_on<
     connections: u64,
     limits: Limits,
     console: &mut Console<L, O>,
+    books: Option<&Books>,
 ) -> io::Result<()>
     requires history { history.seen.book ≡ A.history }
     requires shares { (history.shares.name ≡ A.name) × (history.shares.parts ≡ A.parts) }
@@ -68,6 +72,7 @@ pub(crate) fn serve_on<
         connections,
         limits,
         console,
+        books,
     )
 }
 
@@ -92,6 +97,7 @@ fn serve_by<
     connections: u64,
     limits: Limits,
     console: &mut Console<L, O>,
+    books: Option<&'a Books>,
 ) -> io::Result<()>
     requires one { one.parts ≡ 1 }
     requires one_each { connections ≤ shares.parts }
@@ -102,6 +108,7 @@ fn serve_by<
         rt,
         clock,
         lock,
+        books,
         left: Mutex::new(SharesLeft::new(connections, shares)),
     };
     let is_over = AtomicBool::new(false);
@@ -123,7 +130,7 @@ impl<'a, A: Account, R: Wait, C: Clock> Services<Machine<'a, C>, Connection<'a, 
         let share = self.left.lock(self.rt).take()?;
         Some((
             Machine::new(self.clock),
-            Connection::new(self.rt, self.lock, share),
+            Connection::audited(self.rt, self.lock, share, self.books),
         ))
     }
 }
