@@ -1,6 +1,6 @@
 //! What the lock of a slot has, and what is done with it while the lock is held.
 ghost use Rattle.std.specs.Prelude.{◌≡◌, ◌≤◌, IfErr, IfOk, Ok, OnErr, OnOk, length, true};
-ghost use Rattle.partition_map.specs.Spans.{AreSpans};
+ghost use Rattle.partition_map.specs.Spans.{AreSpans, slot_of};
 ghost use Rattle.policy_book.specs.Judgements.{IsOfAsk};
 ghost use Rattle.range_rows.specs.Readings.{reading_of};
 ghost use Rattle.stamp_model.specs.SeenContainers.{routed};
@@ -12,11 +12,11 @@ ghost use Rattle.stored_slot.specs.Settled.{CutsSettled};
 ghost use Rattle.slot_pass.specs.After.{IsAfterFault};
 ghost use Rattle.slot_pass.specs.Calls.{AnswersAfter};
 ghost use Rattle.slot_pass.specs.Passes.{IsShown};
-ghost use Rattle.stamp_locks.specs.Lent.{CutsSlot, FailsCut, HandlesBy, HasSlot, IsCutFault};
+ghost use Rattle.stamp_locks.specs.Lent.{BeginsSpan, CutsSlot, FailsCut, HandlesBy, HasSlot, IsCutFault};
 ghost use Rattle.stamp_locks.specs.Shown.{HandlesAfterBy, IsBack};
 
 use crate::faults::SplitError;
-use crate::numbered::{has_number, is_for};
+use crate::numbered::{has_number, is_for, is_numbered};
 use crate::ready::Ready;
 use crate::rotating::bring_up;
 use extent_node::Wire;
@@ -27,7 +27,7 @@ use slot_state::{AccountPairs, KeptHistories};
 use stamp_types::{Key, Moment, Request};
 use std::alloc::{AllocError, Global};
 use std::sync::Wait;
-use stored_rows::Unloaded;
+use stored_rows::{StoredFault, Unloaded};
 use stored_slot::StoredSlot;
 use tickets::Answer;
 
@@ -70,10 +70,33 @@ impl<W: Wire + Drop> Locked<W> {
         )
     }
 
-    // Serves the request by a slot whose pair in force is that of these pairs, as it is told outside of the lock.
-    fn handle_current<R: Wait>(
+    // Serves the request by a slot that begins with the first key of the request's span.
+    fn handle_found(
         &mut self,
-        rt: &R,
+        alloc: Global,
+        spans: &Spans,
+        pairs: &AccountPairs,
+        request: &Request,
+        ready: &Ready,
+        reading: Reading,
+        moment: Moment,
+    ) -> Answer
+        requires begins { BeginsSpan spans.now (slot_of spans.now ready.now.first) self.old.slot }
+        requires covered { slots.covers self.old.slot ready.now.first ≡ true }
+        requires current { current_at self.old.slot.pairs request.now.ask.key.account ≡ current_at pairs.now request.now.ask.key.account }
+        requires first { ready.now.first ≡ routed request.now }
+        requires judged { IsOfAsk ready.now.judged request.now.ask }
+        requires read { reading ≡ reading_of request.now }
+        ensures { HandlesBy W.faults pairs.now request.now moment result }
+    {
+        let (_spans, _pairs) = (spans, pairs);
+        show(&self.slot, &request.ask().key);
+        self.serve(alloc, request, ready, reading, moment)
+    }
+
+    // Serves the request by a slot whose pair in force is that of these pairs, as it is told outside of the lock.
+    fn handle_current(
+        &mut self,
         alloc: Global,
         spans: &Spans,
         pairs: &AccountPairs,
@@ -89,17 +112,17 @@ impl<W: Wire + Drop> Locked<W> {
         requires read { reading ≡ reading_of request.now }
         ensures { HandlesBy W.faults pairs.now request.now moment result }
     {
-        let _pairs = pairs;
-        is_for(&self.slot, rt, alloc, spans, &ready.first);
-        show(&self.slot, &request.ask().key);
-        self.serve(alloc, request, ready, reading, moment)
+        if !is_for(&self.slot, alloc, spans, &ready.first) {
+            drop(reading);
+            return Answer::NoMemory;
+        }
+        self.handle_found(alloc, spans, pairs, request, ready, reading, moment)
     }
 
     /// Serves the request by the slot whose number is that of the request's span, as it is told outside of the lock. First the slot takes those
     /// of the pairs of the request's account that it does not have.
-    pub(crate) fn handle<R: Wait>(
+    pub(crate) fn handle(
         &mut self,
-        rt: &R,
         alloc: Global,
         spans: &Spans,
         pairs: &AccountPairs,
@@ -114,10 +137,8 @@ impl<W: Wire + Drop> Locked<W> {
         requires read { reading ≡ reading_of request.now }
         ensures { HandlesBy W.faults pairs.now request.now moment result }
     {
-        match bring_up(&mut self.slot, rt, alloc, &request.ask().key.account, pairs) {
-            Ok(()) => {
-                self.handle_current(rt, alloc, spans, pairs, request, ready, reading, moment)
-            }
+        match bring_up(&mut self.slot, alloc, &request.ask().key.account, pairs) {
+            Ok(()) => { self.handle_current(alloc, spans, pairs, request, ready, reading, moment) }
             Err(AllocError) => {
                 drop(reading);
                 Answer::NoMemory
@@ -160,10 +181,36 @@ impl<W: Wire + Drop> Locked<W> {
         }
     }
 
-    // Serves the request after what the pass shows, by a slot whose pair in force is that of these pairs, as it is told outside of the lock.
-    fn handle_shown<R: Wait>(
+    // Serves the request after what the pass shows, by a slot that begins with the first key of the request's span.
+    fn handle_shown_found(
         &mut self,
-        rt: &R,
+        alloc: Global,
+        spans: &Spans,
+        pairs: &AccountPairs,
+        pass: Pass,
+        request: &Request,
+        ready: &Ready,
+        moment: Moment,
+    ) -> Result<(Answer, Pass), (Pass, AfterFault)>
+        requires begins { BeginsSpan spans.now (slot_of spans.now ready.now.first) self.old.slot }
+        requires covered { slots.covers self.old.slot ready.now.first ≡ true }
+        requires current { current_at self.old.slot.pairs request.now.ask.key.account ≡ current_at pairs.now request.now.ask.key.account }
+        requires names { request.now.ask.key ≡ pass.key }
+        requires first { ready.now.first ≡ routed request.now }
+        requires judged { IsOfAsk ready.now.judged request.now.ask }
+        ensures handled { IfOk result (λ r. HandlesAfterBy W.faults pairs.now pass request.now moment r.0 r.1) }
+        ensures back { IfErr result (λ r. IsBack pass request.now r.0 r.1) }
+    {
+        let (_spans, _pairs) = (spans, pairs);
+        match self.serve_after(alloc, pass, request, ready, moment) {
+            Ok((answer, pass)) => Ok((answer, pass)),
+            Err((pass, fault)) => Err((pass, fault)),
+        }
+    }
+
+    // Serves the request after what the pass shows, by a slot whose pair in force is that of these pairs, as it is told outside of the lock.
+    fn handle_shown(
+        &mut self,
         alloc: Global,
         spans: &Spans,
         pairs: &AccountPairs,
@@ -180,21 +227,18 @@ impl<W: Wire + Drop> Locked<W> {
         ensures handled { IfOk result (λ r. HandlesAfterBy W.faults pairs.now pass request.now moment r.0 r.1) }
         ensures back { IfErr result (λ r. IsBack pass request.now r.0 r.1) }
     {
-        let _pairs = pairs;
-        is_for(&self.slot, rt, alloc, spans, &ready.first);
-        match self.serve_after(alloc, pass, request, ready, moment) {
-            Ok((answer, pass)) => Ok((answer, pass)),
-            Err((pass, fault)) => Err((pass, fault)),
+        if !is_for(&self.slot, alloc, spans, &ready.first) {
+            return Err((pass, AfterFault::NoMemory));
         }
+        self.handle_shown_found(alloc, spans, pairs, pass, request, ready, moment)
     }
 
     /// Serves the request after what the pass shows, by the slot whose number is that of the request's span, as it is told outside of the lock.
     /// First the slot takes those of the pairs of the request's account that it does not have.
     ///
     /// The faults are those of [`serve_after`], and `NoMemory` if memory runs out for the pairs. Then the pass comes back as it was.
-    pub(crate) fn handle_after<R: Wait>(
+    pub(crate) fn handle_after(
         &mut self,
-        rt: &R,
         alloc: Global,
         spans: &Spans,
         pairs: &AccountPairs,
@@ -210,8 +254,8 @@ impl<W: Wire + Drop> Locked<W> {
         ensures handled { IfOk result (λ r. HandlesAfterBy W.faults pairs.now pass request.now moment r.0 r.1) }
         ensures back { IfErr result (λ r. IsBack pass request.now r.0 r.1) }
     {
-        match bring_up(&mut self.slot, rt, alloc, &request.ask().key.account, pairs) {
-            Ok(()) => self.handle_shown(rt, alloc, spans, pairs, pass, request, ready, moment),
+        match bring_up(&mut self.slot, alloc, &request.ask().key.account, pairs) {
+            Ok(()) => self.handle_shown(alloc, spans, pairs, pass, request, ready, moment),
             Err(AllocError) => Err((pass, AfterFault::NoMemory)),
         }
     }
@@ -254,9 +298,8 @@ impl<W: Wire + Drop> Locked<W> {
 
     /// The same with the slot of this number, as it is told outside of the lock. The spans are split at the key already.
     #[tactic(auto, using(crate::proofs::LentLemmas::told_cut, crate::proofs::LentLemmas::told_fault))]
-    pub(crate) fn cut_at<R: Wait>(
+    pub(crate) fn cut_at(
         &mut self,
-        rt: &R,
         alloc: Global,
         spans: &Spans,
         at: usize,
@@ -269,7 +312,9 @@ impl<W: Wire + Drop> Locked<W> {
         ensures back { IfErr result (λ r. r.0 ≡ wire) }
         ensures fault { IfErr result (λ r. IsCutFault r.1) }
     {
-        has_number(&self.slot, rt, alloc, spans, at);
+        if !is_numbered(&self.slot, alloc, spans, at) {
+            return Err((wire, SplitError::Slot(StoredFault::NoMemory)));
+        }
         match self.cut(alloc, middle, wire) {
             Ok(upper) => Ok(upper),
             Err(back) => Err(back),

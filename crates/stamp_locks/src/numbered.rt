@@ -44,6 +44,20 @@ fn begins_span(slot: &StoredSlot<KeptHistories>, alloc: Global, spans: &Spans, a
     }
 }
 
+/// Whether the slot begins with the first key of the span with this number.
+pub(crate) fn is_numbered(
+    slot: &StoredSlot<KeptHistories>,
+    alloc: Global,
+    spans: &Spans,
+    at: usize,
+) -> bool
+    requires rise { AreSpans spans.now }
+    requires within { at ≤ length spans.now }
+    ensures { result ≡ true → BeginsSpan spans.now at slot.now }
+{
+    begins_span(slot, alloc, spans, at)
+}
+
 /// The slot begins with the first key of the span with this number. If a slot did not, the call would wait for ever.
 pub(crate) fn has_number<R: Wait>(
     slot: &StoredSlot<KeptHistories>,
@@ -61,27 +75,16 @@ pub(crate) fn has_number<R: Wait>(
     }
 }
 
-// The slot has the key. If it did not, the call would wait for ever.
-fn has_key<R: Wait>(slot: &StoredSlot<KeptHistories>, rt: &R, key: &Key)
-    ensures { covers slot.now key.now ≡ true }
-{
-    if !slot.covers(key) {
-        wait_for_ever(rt);
-    }
-}
-
-/// The slot begins with the first key of the span that has this key, and has this key too. If a slot did not, the call would wait for ever.
-pub(crate) fn is_for<R: Wait>(
+/// Whether the slot begins with the first key of the span that has this key, and has this key too.
+pub(crate) fn is_for(
     slot: &StoredSlot<KeptHistories>,
-    rt: &R,
     alloc: Global,
     spans: &Spans,
     key: &Key,
-)
+) -> bool
     requires { AreSpans spans.now }
-    ensures begins { BeginsSpan spans.now (slot_of spans.now key.now) slot.now }
-    ensures covered { covers slot.now key.now ≡ true }
+    ensures begins { result ≡ true → BeginsSpan spans.now (slot_of spans.now key.now) slot.now }
+    ensures covered { result ≡ true → covers slot.now key.now ≡ true }
 {
-    has_number(slot, rt, alloc, spans, spans.find(key));
-    has_key(slot, rt, key);
+    slot.covers(key) && is_numbered(slot, alloc, spans, spans.find(key))
 }

@@ -6,13 +6,12 @@ ghost use Rattle.slot_state.specs.Pairs.{current_at, pairs_at};
 ghost use Rattle.stamp_locks.specs.Rotations.{IsNextPair};
 
 use crate::faults::RotateFault;
-use crate::numbered::wait_for_ever;
 use access_rules::{Keys, KeysFault, Which};
 use hmac_sign::SigningKey;
 use slot_state::{AccountPairs, KeptHistories};
 use stamp_types::Text;
 use std::alloc::{AllocError, Global};
-use std::sync::{Arc, Wait};
+use std::sync::Arc;
 use stored_slot::StoredSlot;
 
 /// The pair after the account's pair in force, with one of its keys replaced.
@@ -62,19 +61,19 @@ fn is_same_pair(pair: &Keys, other: &Keys) -> bool
         && pair.second == other.second
 }
 
-// The pair is the next one of the slot. If it were not, the call would wait for ever.
+// Whether the pair is the next one of the slot.
 #[tactic(auto, using(crate::proofs::RotateLemmas::next_of))]
-fn is_next<R: Wait>(slot: &StoredSlot<KeptHistories>, rt: &R, account: &Text, pair: &Keys)
-    ensures { IsNext (pairs_at slot.now.pairs account.now) pair.now }
+fn is_next(slot: &StoredSlot<KeptHistories>, account: &Text, pair: &Keys) -> bool
+    ensures { result ≡ true → IsNext (pairs_at slot.now.pairs account.now) pair.now }
 {
     if let Some(old) = slot.account_pairs().current(account) {
         if old.epoch < pair.epoch {
             if pair.epoch - old.epoch == 1 {
-                return;
+                return true;
             }
         }
     }
-    wait_for_ever(rt);
+    false
 }
 
 // Whether the slot's pair in force is that of these pairs.
@@ -93,41 +92,29 @@ fn has_current(slot: &StoredSlot<KeptHistories>, account: &Text, pairs: &Account
     }
 }
 
-// The slot's pair in force is that of these pairs. If it were not, the call would wait for ever.
-fn is_current<R: Wait>(
-    slot: &StoredSlot<KeptHistories>,
-    rt: &R,
-    account: &Text,
-    pairs: &AccountPairs,
-)
-    ensures { current_at slot.now.pairs account.now ≡ current_at pairs.now account.now }
-{
-    if !has_current(slot, account, pairs) {
-        wait_for_ever(rt);
-    }
-}
-
 // The slot takes this pair of the account, which is its next one.
 //
-// `AllocError` if memory runs out. The slot is then as it was.
-fn take_pair<R: Wait>(
+// `AllocError` if memory runs out, or if the slot has another next pair, which is never so. The slot is then as it was.
+fn take_pair(
     slot: &mut StoredSlot<KeptHistories>,
-    rt: &R,
     alloc: Global,
     account: &Text,
     pair: &Keys,
 ) -> Result<(), AllocError> {
     let pair = pair.clone()?;
-    is_next(slot, rt, account, &pair);
+    if !is_next(slot, account, &pair) {
+        drop(pair);
+        return Err(AllocError);
+    }
     slot.rotate(alloc, account, pair)
 }
 
 /// The slot takes the pairs of the account that it does not have yet. Then its pair in force is that of these pairs.
 ///
-/// `AllocError` if memory runs out. The slot may then have some of the pairs, each of which is the next one.
-pub(crate) fn bring_up<R: Wait>(
+/// `AllocError` if memory runs out, or if the slot has other pairs than these, which is never so. The slot may then have some of the pairs, each
+/// of which is the next one.
+pub(crate) fn bring_up(
     slot: &mut StoredSlot<KeptHistories>,
-    rt: &R,
     alloc: Global,
     account: &Text,
     pairs: &AccountPairs,
@@ -136,8 +123,10 @@ pub(crate) fn bring_up<R: Wait>(
 {
     let all = pairs.of_account(account);
     for at in slot.pairs(account).len()..all.len() {
-        take_pair(slot, rt, alloc, account, &all[at])?;
+        take_pair(slot, alloc, account, &all[at])?;
     }
-    is_current(slot, rt, account, pairs);
+    if !has_current(slot, account, pairs) {
+        return Err(AllocError);
+    }
     Ok(())
 }

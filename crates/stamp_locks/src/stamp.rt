@@ -161,7 +161,7 @@ impl<W: Wire + Drop> Stamp<W> {
         ensures fault { IfErr result (λ r. FailsSplit slot middle.now r.1) }
     {
         let mut table = self.table.write(rt);
-        table.split(rt, alloc, slot, middle, wire)
+        table.split(alloc, slot, middle, wire)
     }
 
     /// A key of the account's pair in force is replaced, for all slots at once. Answers the epoch of the new pair. From now on requests are judged

@@ -42,9 +42,8 @@ pub(crate) struct Table<W: Wire + Drop> {
 }
 
 // Cuts the slot of this lock. The upper half is answered, with this wire.
-fn cut_in<R: Wait, W: Wire + Drop>(
+fn cut_in<W: Wire + Drop>(
     lock: &mut Mutex<Locked<W>>,
-    rt: &R,
     alloc: Global,
     spans: &Spans,
     at: usize,
@@ -57,13 +56,12 @@ fn cut_in<R: Wait, W: Wire + Drop>(
     ensures back { IfErr result (λ r. r.0 ≡ wire) }
     ensures fault { IfErr result (λ r. IsCutFault r.1) }
 {
-    lock.get_mut().cut_at(rt, alloc, spans, at, middle, wire)
+    lock.get_mut().cut_at(alloc, spans, at, middle, wire)
 }
 
 // Puts the two halves of a slot in its place, in which there is room for one slot more.
-fn halve_reserved<R: Wait, W: Wire + Drop>(
+fn halve_reserved<W: Wire + Drop>(
     slots: &mut Vec<Mutex<Locked<W>>>,
-    rt: &R,
     alloc: Global,
     spans: &Spans,
     at: usize,
@@ -80,7 +78,7 @@ fn halve_reserved<R: Wait, W: Wire + Drop>(
     ensures back { IfErr result (λ r. r.0 ≡ wire) }
     ensures fault { IfErr result (λ r. IsCutFault r.1) }
 {
-    match cut_in(&mut slots[at], rt, alloc, spans, at, middle, wire) {
+    match cut_in(&mut slots[at], alloc, spans, at, middle, wire) {
         Ok(upper) => match slots.insert(at + 1, Mutex::new(upper)) {
             Ok(()) => Ok(()),
             Err(_) => unreachable!(),
@@ -90,9 +88,8 @@ fn halve_reserved<R: Wait, W: Wire + Drop>(
 }
 
 // Puts the two halves of a slot in its place. Room for one slot more is made first.
-fn halve<R: Wait, W: Wire + Drop>(
+fn halve<W: Wire + Drop>(
     slots: &mut Vec<Mutex<Locked<W>>>,
-    rt: &R,
     alloc: Global,
     spans: &Spans,
     at: usize,
@@ -109,7 +106,7 @@ fn halve<R: Wait, W: Wire + Drop>(
     ensures fault { IfErr result (λ r. IsCutFault r.1) }
 {
     match slots.reserve(1) {
-        Ok(()) => halve_reserved(slots, rt, alloc, spans, at, middle, wire),
+        Ok(()) => halve_reserved(slots, alloc, spans, at, middle, wire),
         Err(_) => Err((wire, SplitError::Slot(StoredFault::NoMemory))),
     }
 }
@@ -153,7 +150,6 @@ impl<W: Wire + Drop> Table<W> {
         };
         let mut locked = self.slots[self.spans.find(&ready.first)].lock(rt);
         locked.handle(
-            rt,
             alloc,
             &self.spans,
             &self.pairs,
@@ -185,7 +181,6 @@ impl<W: Wire + Drop> Table<W> {
         };
         let mut locked = self.slots[self.spans.find(&ready.first)].lock(rt);
         locked.handle_after(
-            rt,
             alloc,
             &self.spans,
             &self.pairs,
@@ -258,9 +253,8 @@ impl<W: Wire + Drop> Table<W> {
     /// The wire is the upper half's, and comes back after a fault. `Map` with the first cause that refuses the split, or if memory runs out for
     /// the split point, or if the key is not inside the slot's own range. `Slot` with the fault of the slot.
     #[tactic(auto, using(crate::proofs::NumberLemmas::spans_more, crate::proofs::NumberLemmas::number_more, crate::proofs::LentLemmas::told_split))]
-    pub(crate) fn split<R: Wait>(
+    pub(crate) fn split(
         &mut self,
-        rt: &R,
         alloc: Global,
         slot: usize,
         middle: &Key,
@@ -273,7 +267,7 @@ impl<W: Wire + Drop> Table<W> {
         if let Err(fault) = self.spans.split(slot, middle) {
             return Err((wire, SplitError::Map(fault)));
         }
-        let halved = halve(&mut self.slots, rt, alloc, &self.spans, slot, middle, wire);
+        let halved = halve(&mut self.slots, alloc, &self.spans, slot, middle, wire);
         if halved.is_err() {
             self.spans.join(slot);
         }
