@@ -51,6 +51,7 @@ impl<W: Wire + Drop> Stamp<W> {
     ///
     /// The signature is judged and the body is read before the slot's lock is taken. The answer is that of [`StoredSlot::serve`]. It is
     /// `NoMemory` also if memory runs out before the slot's lock is taken.
+    /// A slot that is not the request's is answered so too; only tests show that no slot is.
     ///
     /// [`StoredSlot::serve`]: stored_slot::StoredSlot::serve
     pub fn handle<R: Wait>(
