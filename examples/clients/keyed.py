@@ -5,7 +5,7 @@ usage: examples/clients/keyed.py
 
 STAMP_URL, STAMP_ACCOUNT and STAMP_KEY name the server and the key. A container `pics` exists. For each line it prints `done`, or the code by which
 the service refuses. It has one client for all lines, so checks/rotations shows by it what becomes of a client whose key is replaced. If no python3 of
-this machine has the library, it prints `not run` and ends. The library speaks a newer version, so as-2012 goes between.
+this machine has the library, a line says so. The library speaks a newer version, so as-2012 goes between.
 """
 import logging
 import os
@@ -24,7 +24,7 @@ try:
 except ImportError:
     if TRIED not in os.environ and os.path.exists(SYSTEM):
         os.execve(SYSTEM, [SYSTEM, *sys.argv], {**os.environ, TRIED: "1"})
-    sys.exit(print("not run"))
+    sys.exit(print("not run: no python3 of this machine has azure-storage-blob"))
 
 
 def answer(blob):
