@@ -20,7 +20,7 @@ use Rattle.slot_pass.specs.declared.after_fault.AfterFault.{AfterFault}
 use Rattle.slot_pass.specs.declared.after_fault.AfterFault.TheVariants as after
 use Rattle.stamp_locks.specs.declared.faults.SplitError.{SplitError}
 use Rattle.stamp_locks.specs.declared.faults.SplitError.TheVariants as split
-use Rattle.stamp_locks.specs.Lent.{BeginsSpan, CutsSlot, FailsCut, HandlesBy, IsCutFault, IsSlotFor, IsSplit}
+use Rattle.stamp_locks.specs.Lent.{BeginsSpan, CutsSlot, FailsCut, HandlesBy, HasSlot, IsCutFault, IsSlotFor, IsSplit}
 use Rattle.stamp_locks.specs.Shown.{HandlesAfterBy, IsBack}
 
 -- a slot with the first key of a request is the slot of the request
@@ -52,6 +52,9 @@ pub told_back : (points : List Key) (s : SlotState) (q : Asked) (p p' : PassStat
 told_back points s q p p' (after.Pairs place) is_for same refuses = (same, record { points = points; slot = s; is_for = is_for; refuses = refuses })
 told_back points s q p p' (after.Alien place) is_for same refuses = (same, record { points = points; slot = s; is_for = is_for; refuses = refuses })
 told_back points s q p p' after.NoMemory is_for same refuses = same
+
+pub has_slot : (points : List Key) (i : ℕ) (s : SlotState) → BeginsSpan points i s → HasSlot i
+has_slot points i s begins = record { points = points; slot = s; begins = begins }
 
 -- ---- splits
 

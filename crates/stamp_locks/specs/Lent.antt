@@ -16,6 +16,7 @@ use Rattle.stored_rows.specs.Repairs.{FailsRepair, IsRepairOf, unnamed}
 use Rattle.stored_rows.specs.declared.repaired.Repaired.{Repaired}
 use Rattle.stored_rows.specs.declared.repaired.Unrepaired.{Unrepaired}
 use Rattle.stored_rows.specs.declared.faults.StoredFault.{StoredFault}
+use Rattle.stored_rows.specs.declared.faults.StoredFault.TheVariants as stored
 use Rattle.slot_state.specs.HistoryMaps.{history_at}
 use Rattle.slot_state.specs.Pairs.{Pairs, current_at, pairs_at}
 use Rattle.slot_state.specs.Slots.{SlotState, covers, is_inside}
@@ -122,9 +123,11 @@ pub record TendedSlot {W : Type 0} (faults : W → Calls) (i : ℕ) (x : Care) (
   pub begins : BeginsSpan points i slot
   pub tended : TendsLent x slot (faults old) (faults new) r next
 
--- what a stamp answers to a care of the slot with this number: no slot has the number, which is never so of 0; or what the slot answers
+-- what a stamp answers to a care of the slot with this number: no slot has the number, which is never so of 0; or memory ran out; or what the
+-- slot answers
 abbrev pub IsTended : {W : Type 0} → (W → Calls) → ℕ → Care → Result (Unit {0}) TendFault → Type 0
 IsTended faults i x (Err tend.NoSuchSlot) = 0 < i
+IsTended faults i x (Err (tend.Slot stored.NoMemory)) = ⊤
 IsTended faults i x r = TendedSlot faults i x r
 
 -- ---- splits
