@@ -145,10 +145,17 @@ pub record CutsSlot (points : List Key) (i : ℕ) (middle : Key) : Type 0 where
   pub begins : BeginsSpan points i slot
   pub cut : CutsSettled (Ok upper) slot middle next
 
--- a slot that spans allow to be split is refused so: the key is not inside its own range, or its cut failed
-abbrev pub IsCutFault : SplitError → Type 0
-IsCutFault (split.Map f) = f ≡ map.NotInside
-IsCutFault (split.Slot f) = ⊤
+-- a wire had these values before and after a call of the slot that failed since nodes did not answer
+pub record HasFailedCall {W : Type 0} (faults : W → Calls) : Type 0 where
+  pub old : W
+  pub new : W
+  pub counted : FailsStored {T = Unit {0}} (Err stored.Busy) (faults old) (faults new)
+
+-- a slot that spans allow to be split is refused so: the key is not inside its own range; or nodes did not answer; or memory ran out
+abbrev pub IsCutFault : {W : Type 0} → (W → Calls) → SplitError → Type 0
+IsCutFault faults (split.Map f) = f ≡ map.NotInside
+IsCutFault faults (split.Slot stored.Busy) = HasFailedCall faults
+IsCutFault faults (split.Slot stored.NoMemory) = ⊤
 
 -- spans allow the split of the slot with this number at this key
 pub record IsSplitAllowed (i : ℕ) (middle : Key) : Type 0 where
@@ -167,6 +174,6 @@ pub record IsSplitRefused (i : ℕ) (middle : Key) (f : MapFault) : Type 0 where
   pub refused : split_refusal points i middle ≡ cause_of f
 
 -- why a stamp does not split a slot: the spans refuse it; or they allow it, and the slot is not cut
-abbrev pub FailsSplit : ℕ → Key → SplitError → Type 0
-FailsSplit i middle (split.Map f) = IsSplitRefused i middle f ⊎ (IsSplitAllowed i middle × (f ≡ map.NotInside))
-FailsSplit i middle (split.Slot f) = IsSplitAllowed i middle
+abbrev pub FailsSplit : {W : Type 0} → (W → Calls) → ℕ → Key → SplitError → Type 0
+FailsSplit faults i middle (split.Map f) = IsSplitRefused i middle f ⊎ (IsSplitAllowed i middle × (f ≡ map.NotInside))
+FailsSplit faults i middle (split.Slot f) = IsSplitAllowed i middle × IsCutFault faults (split.Slot f)

@@ -314,7 +314,7 @@ impl<W: Wire + Drop> Locked<W> {
         requires within { at ≤ length spans.now }
         ensures cut { OnOk result (CutsSlot spans.now at middle.now) }
         ensures back { IfErr result (λ r. r.0 ≡ wire) }
-        ensures fault { IfErr result (λ r. IsCutFault r.1) }
+        ensures fault { IfErr result (λ r. IsCutFault W.faults r.1) }
     {
         if !is_numbered(&self.slot, alloc, spans, at) {
             return Err((wire, SplitError::Slot(StoredFault::NoMemory)));

@@ -165,7 +165,7 @@ impl<W: Wire + Drop> Stamp<W> {
     ) -> Result<(), (W, SplitError)>
         ensures split { OnOk result (IsSplit slot middle.now) }
         ensures back { IfErr result (λ r. r.0 ≡ wire) }
-        ensures fault { IfErr result (λ r. FailsSplit slot middle.now r.1) }
+        ensures fault { IfErr result (λ r. FailsSplit W.faults slot middle.now r.1) }
     {
         let mut table = self.table.write(rt);
         table.split(alloc, slot, middle, wire)

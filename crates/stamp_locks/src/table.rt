@@ -56,7 +56,7 @@ fn cut_in<W: Wire + Drop>(
     requires number { at ≤ length spans.now }
     ensures cut { OnOk result (CutsSlot spans.now at middle.now) }
     ensures back { IfErr result (λ r. r.0 ≡ wire) }
-    ensures fault { IfErr result (λ r. IsCutFault r.1) }
+    ensures fault { IfErr result (λ r. IsCutFault W.faults r.1) }
 {
     lock.get_mut().cut_at(alloc, spans, at, middle, wire)
 }
@@ -78,7 +78,7 @@ fn halve_reserved<W: Wire + Drop>(
     ensures more { OnOk result (vec_len slots.new ≡ vec_len slots.old + 1) }
     ensures same { OnErr result (vec_len slots.new ≡ vec_len slots.old) }
     ensures back { IfErr result (λ r. r.0 ≡ wire) }
-    ensures fault { IfErr result (λ r. IsCutFault r.1) }
+    ensures fault { IfErr result (λ r. IsCutFault W.faults r.1) }
 {
     match cut_in(&mut slots[at], alloc, spans, at, middle, wire) {
         Ok(upper) => match slots.insert(at + 1, Mutex::new(upper)) {
@@ -105,7 +105,7 @@ fn halve<W: Wire + Drop>(
     ensures more { OnOk result (vec_len slots.new ≡ vec_len slots.old + 1) }
     ensures same { OnErr result (vec_len slots.new ≡ vec_len slots.old) }
     ensures back { IfErr result (λ r. r.0 ≡ wire) }
-    ensures fault { IfErr result (λ r. IsCutFault r.1) }
+    ensures fault { IfErr result (λ r. IsCutFault W.faults r.1) }
 {
     match slots.reserve(1) {
         Ok(()) => halve_reserved(slots, alloc, spans, at, middle, wire),
@@ -244,7 +244,7 @@ impl<W: Wire + Drop> Table<W> {
     ///
     /// The wire is the upper half's, and comes back after a fault. `Map` with the first cause that refuses the split, or if memory runs out for
     /// the split point, or if the key is not inside the slot's own range. `Slot` with the fault of the slot.
-    #[tactic(auto, using(crate::proofs::NumberLemmas::spans_more, crate::proofs::NumberLemmas::number_more, crate::proofs::LentLemmas::told_split))]
+    #[tactic(auto, using(crate::proofs::NumberLemmas::spans_more, crate::proofs::NumberLemmas::number_more, crate::proofs::LentLemmas::told_split, crate::proofs::LentLemmas::told_failed))]
     pub(crate) fn split(
         &mut self,
         alloc: Global,
@@ -254,7 +254,7 @@ impl<W: Wire + Drop> Table<W> {
     ) -> Result<(), (W, SplitError)>
         ensures split { OnOk result (IsSplit slot middle.now) }
         ensures back { IfErr result (λ r. r.0 ≡ wire) }
-        ensures fault { IfErr result (λ r. FailsSplit slot middle.now r.1) }
+        ensures fault { IfErr result (λ r. FailsSplit W.faults slot middle.now r.1) }
     {
         if let Err(fault) = self.spans.split(slot, middle) {
             return Err((wire, SplitError::Map(fault)));
