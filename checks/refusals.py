@@ -34,11 +34,11 @@ CAUSES = {
     "BlockFault": ("fault",), "BodyFault": ("refused",), "CompactionFault": ("counted",), "CopyFault": ("unreachable",), "FieldFault": (ONLY,),
     "FrontFault": ("left", "failed", ONLY), "HeadFault.Denied": ("denied",), "HeaderFault.Form": ("form",), "HeaderFault.Scheme": ("scheme",),
     "HeaderFault.Twice": ("twice",), "KeysFault.Last": ("last",), "Link": ("between",), "LogFault": ("counted",), "MapFault": ("refused",),
-    "MeetFault": ("fault",), "Missed": ("told",), "NameFault": (ONLY,), "NoReplica": ("unanswered", "same"), "NoSuchSlot": ("none",),
+    "MeetFault": ("fault",), "Missed": ("told",), "MoveFault": ("none",), "NameFault": (ONLY,), "NoReplica": ("unanswered", "same"),
     "None": ("valid", "complete"), "Over": ("ended",), "PairsFault.NotFirst": ("not_first", "refused"), "PairsFault.Twice": ("twice", "refused"),
     "PutFault": ("counted",), "ReadFault": ("unreachable",), "RecordFault": ("exact",), "RepairFault.NoSuchExtent": ("refused",),
     "RepairFault": ("faulty", "counted"), "RotateFault": ("refused",), "SecretFault": ("refused",), "SettleFault": ("counted",),
-    "SplitError.Slot(Busy)": (), "SplitError": ("fault",), "StepFault": ("taken", "ran"), "StoredFault": ("counted",), "TakeFault": ("counted",),
+    "SplitError": ("fault",), "StepFault": ("taken", "ran"), "StoredFault": ("counted",), "TakeFault": ("counted",),
     "TendFault.Repair(NoSuchExtent)": (), "TendFault": (ONLY,), "TimeFault.Form": ("form",), "TimeFault.Range": ("range",),
     "TokenFault": ("refused",), "Unreachable": ("unreachable",), "Unrepaired.NoSuchExtent": ("refused",), "Unrepaired": ("counted",),
 }

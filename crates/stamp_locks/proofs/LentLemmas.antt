@@ -1,5 +1,5 @@
 -- Requests to a slot that its lock lends.
-use Rattle.std.proofs.Common.{◌≡◌, ℕ, true, List, None, Ok, subst}
+use Rattle.std.proofs.Common.{◌≡◌, inr, ℕ, true, List, None, Ok, subst}
 use Rattle.extent_node.specs.Faults.{Calls}
 use Rattle.stamp_values.specs.declared.key.Key.{Key}
 use Rattle.stamp_types.specs.Requests.{Asked}
@@ -18,9 +18,10 @@ use Rattle.slot_pass.specs.Calls.{AnswersAfter}
 use Rattle.slot_pass.specs.Passes.{IsShown, PassState}
 use Rattle.slot_pass.specs.declared.after_fault.AfterFault.{AfterFault}
 use Rattle.slot_pass.specs.declared.after_fault.AfterFault.TheVariants as after
+use Rattle.stored_rows.specs.declared.faults.StoredFault.TheVariants as stored
 use Rattle.stamp_locks.specs.declared.faults.SplitError.{SplitError}
 use Rattle.stamp_locks.specs.declared.faults.SplitError.TheVariants as split
-use Rattle.stamp_locks.specs.Lent.{BeginsSpan, CutsSlot, FailsCut, HandlesBy, IsCutFault, IsSlotFor, IsSplit}
+use Rattle.stamp_locks.specs.Lent.{BeginsSpan, CutsSlot, FailsCut, FailsSplit, HandlesBy, HasSlot, IsCutFault, IsSlotFor, IsSplit}
 use Rattle.stamp_locks.specs.Shown.{HandlesAfterBy, IsBack}
 
 -- a slot with the first key of a request is the slot of the request
@@ -53,14 +54,24 @@ told_back points s q p p' (after.Pairs place) is_for same refuses = (same, recor
 told_back points s q p p' (after.Alien place) is_for same refuses = (same, record { points = points; slot = s; is_for = is_for; refuses = refuses })
 told_back points s q p p' after.NoMemory is_for same refuses = same
 
+pub has_slot : (points : List Key) (i : ℕ) (s : SlotState) → BeginsSpan points i s → HasSlot i
+has_slot points i s begins = record { points = points; slot = s; begins = begins }
+
 -- ---- splits
 
 pub told_cut : (points : List Key) (i : ℕ) (middle : Key) (s upper next : SlotState) → BeginsSpan points i s → CutsSettled (Ok upper) s middle next → CutsSlot points i middle
 told_cut points i middle s upper next begins cut = record { slot = s; upper = upper; next = next; begins = begins; cut = cut }
 
-pub told_fault : (s s' : SlotState) (middle : Key) (old new : Calls) (f : SplitError) → FailsCut s middle old new f s' → IsCutFault f
-told_fault s s' middle old new (split.Map f) fails = fails.0
-told_fault s s' middle old new (split.Slot f) fails = tt
+module _ {W : Type 0} (faults : W → Calls) (s s' : SlotState) (middle : Key) (old new : W) where
+  pub told_fault : (f : SplitError) → FailsCut s middle (faults old) (faults new) f s' → IsCutFault faults f
+  told_fault (split.Map f) fails = fails.0
+  told_fault (split.Slot stored.Busy) fails = record { old = old; new = new; counted = fails.1 }
+  told_fault (split.Slot stored.NoMemory) fails = tt
+
+-- spans allow the split of a slot, and its cut fails
+pub told_failed : {W : Type 0} (faults : W → Calls) (points : List Key) (i : ℕ) (middle : Key) (f : SplitError) → split_refusal points i middle ≡ None → IsCutFault faults f → FailsSplit faults i middle f
+told_failed faults points i middle (split.Map f) allowed fails = inr (record { points = points; allowed = allowed }, fails)
+told_failed faults points i middle (split.Slot f) allowed fails = (record { points = points; allowed = allowed }, fails)
 
 pub told_split : (points new : List Key) (i : ℕ) (middle : Key) → split_refusal points i middle ≡ None → new ≡ with_point points i middle → CutsSlot new i middle → IsSplit i middle
 told_split points new i middle allowed is cuts = record { points = points; allowed = allowed; cuts = subst (λ (ps : List Key). CutsSlot ps i middle) is cuts }

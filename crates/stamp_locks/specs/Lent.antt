@@ -16,6 +16,7 @@ use Rattle.stored_rows.specs.Repairs.{FailsRepair, IsRepairOf, unnamed}
 use Rattle.stored_rows.specs.declared.repaired.Repaired.{Repaired}
 use Rattle.stored_rows.specs.declared.repaired.Unrepaired.{Unrepaired}
 use Rattle.stored_rows.specs.declared.faults.StoredFault.{StoredFault}
+use Rattle.stored_rows.specs.declared.faults.StoredFault.TheVariants as stored
 use Rattle.slot_state.specs.HistoryMaps.{history_at}
 use Rattle.slot_state.specs.Pairs.{Pairs, current_at, pairs_at}
 use Rattle.slot_state.specs.Slots.{SlotState, covers, is_inside}
@@ -122,9 +123,11 @@ pub record TendedSlot {W : Type 0} (faults : W → Calls) (i : ℕ) (x : Care) (
   pub begins : BeginsSpan points i slot
   pub tended : TendsLent x slot (faults old) (faults new) r next
 
--- what a stamp answers to a care of the slot with this number: no slot has the number, which is never so of 0; or what the slot answers
+-- what a stamp answers to a care of the slot with this number: no slot has the number, which is never so of 0; or memory ran out; or what the
+-- slot answers
 abbrev pub IsTended : {W : Type 0} → (W → Calls) → ℕ → Care → Result (Unit {0}) TendFault → Type 0
 IsTended faults i x (Err tend.NoSuchSlot) = 0 < i
+IsTended faults i x (Err (tend.Slot stored.NoMemory)) = ⊤
 IsTended faults i x r = TendedSlot faults i x r
 
 -- ---- splits
@@ -142,10 +145,17 @@ pub record CutsSlot (points : List Key) (i : ℕ) (middle : Key) : Type 0 where
   pub begins : BeginsSpan points i slot
   pub cut : CutsSettled (Ok upper) slot middle next
 
--- a slot that spans allow to be split is refused so: the key is not inside its own range, or its cut failed
-abbrev pub IsCutFault : SplitError → Type 0
-IsCutFault (split.Map f) = f ≡ map.NotInside
-IsCutFault (split.Slot f) = ⊤
+-- a wire had these values before and after a call of the slot that failed since nodes did not answer
+pub record HasFailedCall {W : Type 0} (faults : W → Calls) : Type 0 where
+  pub old : W
+  pub new : W
+  pub counted : FailsStored {T = Unit {0}} (Err stored.Busy) (faults old) (faults new)
+
+-- a slot that spans allow to be split is refused so: the key is not inside its own range; or nodes did not answer; or memory ran out
+abbrev pub IsCutFault : {W : Type 0} → (W → Calls) → SplitError → Type 0
+IsCutFault faults (split.Map f) = f ≡ map.NotInside
+IsCutFault faults (split.Slot stored.Busy) = HasFailedCall faults
+IsCutFault faults (split.Slot stored.NoMemory) = ⊤
 
 -- spans allow the split of the slot with this number at this key
 pub record IsSplitAllowed (i : ℕ) (middle : Key) : Type 0 where
@@ -164,6 +174,6 @@ pub record IsSplitRefused (i : ℕ) (middle : Key) (f : MapFault) : Type 0 where
   pub refused : split_refusal points i middle ≡ cause_of f
 
 -- why a stamp does not split a slot: the spans refuse it; or they allow it, and the slot is not cut
-abbrev pub FailsSplit : ℕ → Key → SplitError → Type 0
-FailsSplit i middle (split.Map f) = IsSplitRefused i middle f ⊎ (IsSplitAllowed i middle × (f ≡ map.NotInside))
-FailsSplit i middle (split.Slot f) = IsSplitAllowed i middle
+abbrev pub FailsSplit : {W : Type 0} → (W → Calls) → ℕ → Key → SplitError → Type 0
+FailsSplit faults i middle (split.Map f) = IsSplitRefused i middle f ⊎ (IsSplitAllowed i middle × (f ≡ map.NotInside))
+FailsSplit faults i middle (split.Slot f) = IsSplitAllowed i middle × IsCutFault faults (split.Slot f)

@@ -3,10 +3,6 @@ use partition_map::MapFault;
 use std::alloc::AllocError;
 use stored_rows::{StoredFault, Unrepaired};
 
-/// No slot has the number.
-#[derive(Clone, Copy, PartialEq, Eq)]
-pub struct NoSuchSlot;
-
 /// Why a care of a slot failed.
 #[derive(Clone, Copy)]
 pub enum TendFault {
@@ -16,6 +12,15 @@ pub enum TendFault {
     Slot(StoredFault),
     /// The repair failed.
     Repair(Unrepaired),
+}
+
+/// Why a slot was not given to another partition server.
+#[derive(Clone, Copy, PartialEq, Eq)]
+pub enum MoveFault {
+    /// No slot has the number.
+    NoSuchSlot,
+    /// The slot does not begin with the first key of its span, which is answered as lack of memory. A move takes no memory.
+    NoMemory,
 }
 
 /// Why a slot was not split.

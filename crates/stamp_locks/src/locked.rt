@@ -1,5 +1,5 @@
 //! What the lock of a slot has, and what is done with it while the lock is held.
-ghost use Rattle.std.specs.Prelude.{◌≡◌, ◌≤◌, IfErr, IfOk, Ok, OnErr, OnOk, length, true};
+ghost use Rattle.std.specs.Prelude.{◌≡◌, ◌≢◌, ◌≤◌, Err, IfErr, IfOk, Ok, OnErr, OnOk, length, true};
 ghost use Rattle.partition_map.specs.Spans.{AreSpans, slot_of};
 ghost use Rattle.policy_book.specs.Judgements.{IsOfAsk};
 ghost use Rattle.range_rows.specs.Readings.{reading_of};
@@ -14,9 +14,10 @@ ghost use Rattle.slot_pass.specs.Calls.{AnswersAfter};
 ghost use Rattle.slot_pass.specs.Passes.{IsShown};
 ghost use Rattle.stamp_locks.specs.Lent.{BeginsSpan, CutsSlot, FailsCut, HandlesBy, HasSlot, IsCutFault};
 ghost use Rattle.stamp_locks.specs.Shown.{HandlesAfterBy, IsBack};
+ghost use Rattle.stamp_locks.specs.declared.faults.MoveFault.TheVariants as move_fault;
 
-use crate::faults::SplitError;
-use crate::numbered::{has_number, is_for, is_numbered};
+use crate::faults::{MoveFault, SplitError};
+use crate::numbered::{is_for, is_numbered};
 use crate::ready::Ready;
 use crate::rotating::bring_up;
 use extent_node::Wire;
@@ -26,7 +27,6 @@ use slot_pass::{AfterFault, Pass, serve_after};
 use slot_state::{AccountPairs, KeptHistories};
 use stamp_types::{Key, Moment, Request};
 use std::alloc::{AllocError, Global};
-use std::sync::Wait;
 use stored_rows::{StoredFault, Unloaded};
 use stored_slot::StoredSlot;
 use tickets::Answer;
@@ -261,21 +261,25 @@ impl<W: Wire + Drop> Locked<W> {
     }
 
     /// Takes the rows of the slot with this number out of memory, for another partition server.
-    pub(crate) fn take_rows<R: Wait>(
+    ///
+    /// `NoMemory` only if the slot does not begin with the first key of its span. The rows then stay in memory.
+    pub(crate) fn take_rows(
         &mut self,
-        rt: &R,
         alloc: Global,
         spans: &Spans,
         at: usize,
         server: u32,
-    ) -> Unloaded
+    ) -> Result<Unloaded, MoveFault>
         requires rise { AreSpans spans.now }
         requires within { at ≤ length spans.now }
         ensures same { self.new ≡ self.old }
-        ensures has { HasSlot at }
+        ensures has { OnOk result (HasSlot at) }
+        ensures found { result ≢ Err move_fault.NoSuchSlot }
     {
-        has_number(&self.slot, rt, alloc, spans, at);
-        self.slot.move_to(server)
+        if !is_numbered(&self.slot, alloc, spans, at) {
+            return Err(MoveFault::NoMemory);
+        }
+        Ok(self.slot.move_to(server))
     }
 
     // Cuts the slot at a key. The upper half is answered, with this wire.
@@ -310,7 +314,7 @@ impl<W: Wire + Drop> Locked<W> {
         requires within { at ≤ length spans.now }
         ensures cut { OnOk result (CutsSlot spans.now at middle.now) }
         ensures back { IfErr result (λ r. r.0 ≡ wire) }
-        ensures fault { IfErr result (λ r. IsCutFault r.1) }
+        ensures fault { IfErr result (λ r. IsCutFault W.faults r.1) }
     {
         if !is_numbered(&self.slot, alloc, spans, at) {
             return Err((wire, SplitError::Slot(StoredFault::NoMemory)));

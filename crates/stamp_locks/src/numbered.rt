@@ -9,17 +9,8 @@ use partition_map::Spans;
 use slot_state::KeptHistories;
 use stamp_types::Key;
 use std::alloc::Global;
-use std::sync::Wait;
 use stored_rows::KeyRange;
 use stored_slot::StoredSlot;
-
-/// Waits for ever.
-pub(crate) fn wait_for_ever<R: Wait>(rt: &R)
-    ensures { ⊥ }
-{
-    for _ in rt.forever() {}
-    unreachable!()
-}
 
 // Whether this is the first key of the slot.
 fn is_first_key(slot: &StoredSlot<KeptHistories>, key: &Key) -> bool
@@ -56,23 +47,6 @@ pub(crate) fn is_numbered(
     ensures { result ≡ true → BeginsSpan spans.now at slot.now }
 {
     begins_span(slot, alloc, spans, at)
-}
-
-/// The slot begins with the first key of the span with this number. If a slot did not, the call would wait for ever.
-pub(crate) fn has_number<R: Wait>(
-    slot: &StoredSlot<KeptHistories>,
-    rt: &R,
-    alloc: Global,
-    spans: &Spans,
-    at: usize,
-)
-    requires rise { AreSpans spans.now }
-    requires within { at ≤ length spans.now }
-    ensures { BeginsSpan spans.now at slot.now }
-{
-    if !begins_span(slot, alloc, spans, at) {
-        wait_for_ever(rt);
-    }
 }
 
 /// Whether the slot begins with the first key of the span that has this key, and has this key too.

@@ -1,13 +1,14 @@
 //! The stamp.
-ghost use Rattle.std.specs.Prelude.{◌≡◌, ◌⊎◌, ◌<◌, IfErr, IfOk, OnErr, OnOk, None, Some};
+ghost use Rattle.std.specs.Prelude.{◌≡◌, ◌⊎◌, ◌<◌, Err, IfErr, IfOk, OnOk, None, Some};
 ghost use Rattle.slot_state.specs.PairFaults.{pairs_fault};
 ghost use Rattle.slot_state.specs.declared.pairs_fault.PairsFault.TheVariants.{NoMemory};
 ghost use Rattle.stamp_locks.specs.Lent.{FailsSplit, HasSlot, IsHandled, IsSplit, IsTended};
 ghost use Rattle.stamp_locks.specs.Rotations.{IsNotRotated, IsRotated};
 ghost use Rattle.stamp_locks.specs.Shown.{IsBack, IsHandledAfter};
+ghost use Rattle.stamp_locks.specs.declared.faults.MoveFault.TheVariants as move_fault;
 
 use crate::care::Care;
-use crate::faults::{NoSuchSlot, RotateFault, SplitError, TendFault};
+use crate::faults::{MoveFault, RotateFault, SplitError, TendFault};
 use crate::table::Table;
 use crate::tending::TakenOut;
 use access_rules::{Keys, Which};
@@ -50,8 +51,8 @@ impl<W: Wire + Drop> Stamp<W> {
     /// One step of the model, by the slot that has the first key that the request looks at.
     ///
     /// The signature is judged and the body is read before the slot's lock is taken. The answer is that of [`StoredSlot::serve`]. It is
-    /// `NoMemory` also if memory runs out before the slot's lock is taken.
-    /// A slot that is not the request's is answered so too; only tests show that no slot is.
+    /// `NoMemory` also if memory runs out before the slot's lock is taken, and if the slot that was found is not the request's: only tests show
+    /// that it always is.
     ///
     /// [`StoredSlot::serve`]: stored_slot::StoredSlot::serve
     pub fn handle<R: Wait>(
@@ -74,7 +75,9 @@ impl<W: Wire + Drop> Stamp<W> {
     /// container. The time is linear in the front, and the slot is locked all the while.
     ///
     /// After a fault the pass comes back as it was, and nothing is served: `Pairs` if the pass shows a key pair that is not the slot's, or else
-    /// `Alien` if its front is not a beginning of the slot's accepted changes, or else `NoMemory` if memory runs out for the new front.
+    /// `Alien` if its front is not a beginning of the slot's accepted changes, or else `NoMemory` if memory runs out for the new front. It is
+    /// `NoMemory` too if memory runs out before the pass is compared, and if the slot that was found is not the request's: only tests show that
+    /// it always is.
     pub fn handle_after<R: Wait>(
         &self,
         rt: &R,
@@ -109,7 +112,8 @@ impl<W: Wire + Drop> Stamp<W> {
     /// Settles, seals, loads, unloads, compacts or repairs the slot with this number, or makes a checkpoint of it. All but an unload settle
     /// the doubt of the slot first. What a checkpoint or a compaction replaces, and what an unload takes out of memory, is dropped after the locks.
     ///
-    /// `NoSuchSlot` if no slot has the number, `Slot` with the fault of the slot's call, `Repair` with the fault of the repair.
+    /// `NoSuchSlot` if no slot has the number, `Slot` with the fault of the slot's call, `Repair` with the fault of the repair. If the slot does
+    /// not begin with the first key of its span, the answer is `Slot` with `NoMemory`, and the slot stays: only tests show that each slot does.
     pub fn tend<R: Wait>(
         &self,
         rt: &R,
@@ -128,16 +132,17 @@ impl<W: Wire + Drop> Stamp<W> {
     /// Gives the slot with this number to another partition server, which has none of the rows in memory. A change in doubt stays in doubt.
     /// Gives the rows that were in memory, which may be dropped after a lock of the caller.
     ///
-    /// `NoSuchSlot` if no slot has the number.
+    /// `NoSuchSlot` if no slot has the number. `NoMemory` only if the slot does not begin with the first key of its span, and the rows then
+    /// stay in memory: only tests show that each slot does.
     pub fn move_to<R: Wait>(
         &self,
         rt: &R,
         alloc: Global,
         slot: usize,
         server: u32,
-    ) -> Result<Unloaded, NoSuchSlot>
+    ) -> Result<Unloaded, MoveFault>
         ensures has { OnOk result (HasSlot slot) }
-        ensures none { OnErr result (0 < slot) }
+        ensures none { (result ≡ Err move_fault.NoSuchSlot) → 0 < slot }
     {
         let table = self.table.read(rt);
         table.take_rows(rt, alloc, slot, server)
@@ -148,7 +153,8 @@ impl<W: Wire + Drop> Stamp<W> {
     ///
     /// After a fault the wire comes back, and nothing is changed, except that a doubt may have ended. `Map` with the first cause that refuses the
     /// split, or if memory runs out for the split point: nothing is settled then. `Slot` if nodes that were needed did not answer, or if memory
-    /// runs out for the halves of the slot.
+    /// runs out for the halves of the slot. If the slot does not begin with the first key of its span, the answer is `Slot` with `NoMemory`, and
+    /// nothing is settled: only tests show that each slot does.
     pub fn split<R: Wait>(
         &self,
         rt: &R,
@@ -159,7 +165,7 @@ impl<W: Wire + Drop> Stamp<W> {
     ) -> Result<(), (W, SplitError)>
         ensures split { OnOk result (IsSplit slot middle.now) }
         ensures back { IfErr result (λ r. r.0 ≡ wire) }
-        ensures fault { IfErr result (λ r. FailsSplit slot middle.now r.1) }
+        ensures fault { IfErr result (λ r. FailsSplit W.faults slot middle.now r.1) }
     {
         let mut table = self.table.write(rt);
         table.split(alloc, slot, middle, wire)

@@ -1,5 +1,5 @@
 //! The table of the slots.
-ghost use Rattle.std.specs.Prelude.{◌≡◌, ◌+◌, ◌<◌, ◌≤◌, IfErr, IfNone, IfOk, OnErr, OnOk, OnSome, length, vec_capacity, vec_len};
+ghost use Rattle.std.specs.Prelude.{◌≡◌, ◌+◌, ◌<◌, ◌≤◌, Err, IfErr, IfNone, IfOk, OnErr, OnOk, OnSome, length, vec_capacity, vec_len};
 ghost use Rattle.std.proofs.Props.{props};
 ghost use Rattle.std.specs.Arc.{arc_value};
 ghost use Rattle.partition_map.specs.Spans.{AreSpans};
@@ -7,9 +7,11 @@ ghost use Rattle.range_rows.specs.Readings.{reading_of};
 ghost use Rattle.stamp_locks.specs.Lent.{CutsSlot, FailsSplit, HandlesBy, HasSlot, IsCutFault, IsSplit, IsTended};
 ghost use Rattle.stamp_locks.specs.Rotations.{HasNextPair, HasNoNextPair};
 ghost use Rattle.stamp_locks.specs.Shown.{HandlesAfterBy, IsBack};
+ghost use Rattle.stamp_locks.specs.declared.faults.MoveFault.TheVariants as move_fault;
+ghost use Rattle.stamp_locks.specs.declared.faults.TendFault.TheVariants as tend_fault;
 
 use crate::care::Care;
-use crate::faults::{NoSuchSlot, RotateFault, SplitError, TendFault};
+use crate::faults::{MoveFault, RotateFault, SplitError, TendFault};
 use crate::locked::Locked;
 use crate::ready::Ready;
 use crate::rotating::{next_pair, with_pair};
@@ -54,7 +56,7 @@ fn cut_in<W: Wire + Drop>(
     requires number { at ≤ length spans.now }
     ensures cut { OnOk result (CutsSlot spans.now at middle.now) }
     ensures back { IfErr result (λ r. r.0 ≡ wire) }
-    ensures fault { IfErr result (λ r. IsCutFault r.1) }
+    ensures fault { IfErr result (λ r. IsCutFault W.faults r.1) }
 {
     lock.get_mut().cut_at(alloc, spans, at, middle, wire)
 }
@@ -76,7 +78,7 @@ fn halve_reserved<W: Wire + Drop>(
     ensures more { OnOk result (vec_len slots.new ≡ vec_len slots.old + 1) }
     ensures same { OnErr result (vec_len slots.new ≡ vec_len slots.old) }
     ensures back { IfErr result (λ r. r.0 ≡ wire) }
-    ensures fault { IfErr result (λ r. IsCutFault r.1) }
+    ensures fault { IfErr result (λ r. IsCutFault W.faults r.1) }
 {
     match cut_in(&mut slots[at], alloc, spans, at, middle, wire) {
         Ok(upper) => match slots.insert(at + 1, Mutex::new(upper)) {
@@ -103,7 +105,7 @@ fn halve<W: Wire + Drop>(
     ensures more { OnOk result (vec_len slots.new ≡ vec_len slots.old + 1) }
     ensures same { OnErr result (vec_len slots.new ≡ vec_len slots.old) }
     ensures back { IfErr result (λ r. r.0 ≡ wire) }
-    ensures fault { IfErr result (λ r. IsCutFault r.1) }
+    ensures fault { IfErr result (λ r. IsCutFault W.faults r.1) }
 {
     match slots.reserve(1) {
         Ok(()) => halve_reserved(slots, alloc, spans, at, middle, wire),
@@ -194,14 +196,14 @@ impl<W: Wire + Drop> Table<W> {
     // The lock of the slot with this number; none if no slot has the number.
     fn lock_at(&self, slot: usize) -> Option<&Mutex<Locked<W>>>
         ensures within { OnSome result (slot ≤ length self.now.spans) }
-        ensures none { IfNone result (0 < slot) }
+        ensures none { IfNone result (length self.now.spans < slot) }
     {
         self.slots.get(slot)
     }
 
     /// Takes a care of the slot with this number. What is taken out is kept.
     ///
-    /// `NoSuchSlot` if no slot has the number.
+    /// `NoSuchSlot` only if no slot has the number.
     pub(crate) fn tend<R: Wait>(
         &self,
         rt: &R,
@@ -210,41 +212,31 @@ impl<W: Wire + Drop> Table<W> {
         care: Care,
         taken: &mut Option<TakenOut>,
     ) -> Result<(), TendFault>
-        ensures { IsTended W.faults slot care result }
+        ensures tended { IsTended W.faults slot care result }
+        ensures none { (result ≡ Err tend_fault.NoSuchSlot) → length self.now.spans < slot }
     {
         match self.lock_at(slot) {
-            Some(lock) => tend(
-                &mut lock.lock(rt),
-                rt,
-                alloc,
-                &self.spans,
-                slot,
-                care,
-                taken,
-            ),
+            Some(lock) => tend(&mut lock.lock(rt), alloc, &self.spans, slot, care, taken),
             None => Err(TendFault::NoSuchSlot),
         }
     }
 
     /// Takes the rows of the slot with this number out of memory, for another partition server.
     ///
-    /// `NoSuchSlot` if no slot has the number.
+    /// `NoSuchSlot` only if no slot has the number, and `NoMemory` only if the slot does not begin with the first key of its span.
     pub(crate) fn take_rows<R: Wait>(
         &self,
         rt: &R,
         alloc: Global,
         slot: usize,
         server: u32,
-    ) -> Result<Unloaded, NoSuchSlot>
+    ) -> Result<Unloaded, MoveFault>
         ensures has { OnOk result (HasSlot slot) }
-        ensures none { OnErr result (0 < slot) }
+        ensures none { (result ≡ Err move_fault.NoSuchSlot) → length self.now.spans < slot }
     {
         match self.lock_at(slot) {
-            Some(lock) => Ok(
-                lock.lock(rt)
-                    .take_rows(rt, alloc, &self.spans, slot, server),
-            ),
-            None => Err(NoSuchSlot),
+            Some(lock) => lock.lock(rt).take_rows(alloc, &self.spans, slot, server),
+            None => Err(MoveFault::NoSuchSlot),
         }
     }
 
@@ -252,7 +244,7 @@ impl<W: Wire + Drop> Table<W> {
     ///
     /// The wire is the upper half's, and comes back after a fault. `Map` with the first cause that refuses the split, or if memory runs out for
     /// the split point, or if the key is not inside the slot's own range. `Slot` with the fault of the slot.
-    #[tactic(auto, using(crate::proofs::NumberLemmas::spans_more, crate::proofs::NumberLemmas::number_more, crate::proofs::LentLemmas::told_split))]
+    #[tactic(auto, using(crate::proofs::NumberLemmas::spans_more, crate::proofs::NumberLemmas::number_more, crate::proofs::LentLemmas::told_split, crate::proofs::LentLemmas::told_failed))]
     pub(crate) fn split(
         &mut self,
         alloc: Global,
@@ -262,7 +254,7 @@ impl<W: Wire + Drop> Table<W> {
     ) -> Result<(), (W, SplitError)>
         ensures split { OnOk result (IsSplit slot middle.now) }
         ensures back { IfErr result (λ r. r.0 ≡ wire) }
-        ensures fault { IfErr result (λ r. FailsSplit slot middle.now r.1) }
+        ensures fault { IfErr result (λ r. FailsSplit W.faults slot middle.now r.1) }
     {
         if let Err(fault) = self.spans.split(slot, middle) {
             return Err((wire, SplitError::Map(fault)));

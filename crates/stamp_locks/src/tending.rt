@@ -1,21 +1,21 @@
 //! What is done to a slot that its lock lends, beside serving and cutting it.
-ghost use Rattle.std.specs.Prelude.{◌≡◌, ◌≤◌, length};
+ghost use Rattle.std.specs.Prelude.{◌≡◌, ◌≢◌, ◌≤◌, Err, length};
 ghost use Rattle.partition_map.specs.Spans.{AreSpans};
 ghost use Rattle.stored_rows.specs.Counting.{FailsStored};
 ghost use Rattle.stored_slot.specs.Settled.{LeavesSettled};
 ghost use Rattle.stamp_locks.specs.Lent as lent;
-ghost use Rattle.stamp_locks.specs.Lent.{TendedSlot, TendsLent};
+ghost use Rattle.stamp_locks.specs.Lent.{IsTended, TendsLent};
+ghost use Rattle.stamp_locks.specs.declared.faults.TendFault.TheVariants as tend_fault;
 
 use crate::care::Care;
 use crate::faults::TendFault;
 use crate::locked::Locked;
-use crate::numbered::has_number;
+use crate::numbered::is_numbered;
 use extent_node::Wire;
 use partition_map::Spans;
 use partition_stream::Replaced;
 use slot_state::KeptHistories;
 use std::alloc::Global;
-use std::sync::Wait;
 use stored_rows::{Compacted, Repaired, StoredFault, Unloaded, Unrepaired};
 use stored_slot::StoredSlot;
 
@@ -138,9 +138,11 @@ fn tend_lent<W: Wire>(
 }
 
 /// Takes this care of the slot with this number, as it is told outside of the lock. What is taken out is kept.
-pub(crate) fn tend<R: Wait, W: Wire + Drop>(
+///
+/// `Slot` with `NoMemory` also if the slot does not begin with the first key of its span. The slot is then as it was.
+#[tactic(auto, using(crate::proofs::TendLemmas::told_tended, crate::proofs::TendLemmas::exists_still))]
+pub(crate) fn tend<W: Wire + Drop>(
     locked: &mut Locked<W>,
-    rt: &R,
     alloc: Global,
     spans: &Spans,
     at: usize,
@@ -149,8 +151,11 @@ pub(crate) fn tend<R: Wait, W: Wire + Drop>(
 ) -> Result<(), TendFault>
     requires rise { AreSpans spans.now }
     requires within { at ≤ length spans.now }
-    ensures { TendedSlot W.faults at care result }
+    ensures tended { IsTended W.faults at care result }
+    ensures found { result ≢ Err tend_fault.NoSuchSlot }
 {
-    has_number(&locked.slot, rt, alloc, spans, at);
+    if !is_numbered(&locked.slot, alloc, spans, at) {
+        return Err(TendFault::Slot(StoredFault::NoMemory));
+    }
     tend_lent(&mut locked.slot, &mut locked.wire, alloc, care, taken)
 }
