@@ -63,7 +63,7 @@ def start(root, stub, program, words=SIGN, **how):
         toolchain.chmod(0o755)
         path = f"{toolchain.parent}:{os.environ['PATH']}"
     how = {"stdin": subprocess.DEVNULL, "stdout": subprocess.PIPE, "stderr": subprocess.PIPE, "path": path, **how}
-    environment = {"PATH": how.pop("path"), "PROGRAM": program, "TMPDIR": str(root.parent / "room")}
+    environment = {"PATH": how.pop("path"), "PROGRAM": program, "TMPDIR": str(root.parent / "room"), **how.pop("also", {})}
     return subprocess.Popen([root / "stamp", *words], env=environment, **how)
 
 
@@ -159,6 +159,13 @@ def addresses_that_cannot_be_taken(root, program):
             yield f"./stamp serve {address}", ended(start(root, NEVER_CALLED, program, ["serve", address, *SERVED[1:]])), (3, b"", wanted)
 
 
+def audit_files_that_cannot_be_opened(root, program):
+    file = str(root.parent / "none" / "audit.txt")
+    wanted = f"stamp: the file {file} of STAMP_AUDIT cannot be opened: No such file or directory\n"
+    tried = start(root, NEVER_CALLED, program, ["serve", *SERVED], also={"STAMP_AUDIT": file})
+    yield "./stamp serve with an audit file that cannot be opened", ended(tried), (3, b"", wanted)
+
+
 def all_starts(program):
     with tempfile.TemporaryDirectory(prefix="stamp-start-") as folder:
         root = Path(folder).resolve() / "clone"
@@ -166,5 +173,5 @@ def all_starts(program):
         make_path(root.parent / "path")
         for name in ("bin", "room"):
             (root.parent / name).mkdir()
-        for tried in (what_is_missing, what_cannot_be_kept, builds_that_fail, good_builds, bad_words, addresses_that_cannot_be_taken):
+        for tried in (what_is_missing, what_cannot_be_kept, builds_that_fail, good_builds, bad_words, addresses_that_cannot_be_taken, audit_files_that_cannot_be_opened):
             yield from tried(root, program)

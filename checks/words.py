@@ -1,13 +1,14 @@
 """What is wrong with the words of `serve`, before the program is started.
 
-The program answers bad words with its line of usage alone, and an address that cannot be taken with a status alone. `./stamp` adds the reason.
+The program answers bad words with its line of usage alone, and an address or an audit file that cannot be taken with a status alone. `./stamp` adds the reason.
 """
 import base64
 import binascii
+import os
 import re
 import socket
 
-# The statuses of the program for bad words, and for an address that cannot be taken.
+# The statuses of the program for bad words, and for an address or an audit file that cannot be taken.
 USAGE, NOT_TAKEN = 2, 3
 NAMES = ("ADDRESS", "WORKERS", "ACCOUNT", "KEY1", "KEY2")
 WORKERS, ACCOUNT = re.compile(r"[1-9]|[1-5][0-9]|6[0-4]"), re.compile(r"[a-z0-9]{3,24}")
@@ -69,10 +70,23 @@ def why_not_taken(address):
     return reason
 
 
+def why_not_opened(file):
+    """Why no line can be added to the audit file, or None. A file that does not exist is made, as the program makes it."""
+    try:
+        with open(file, "ab"):
+            return None
+    except OSError as error:
+        return error.strerror
+
+
 def fault_of_serve(words):
     """What is wrong with the words after `serve`: the status and the reason, or None if the program can be started."""
     fault = fault_of_words(words) or empty_key(words)
     if fault:
         return USAGE, fault
+    file = os.environ.get("STAMP_AUDIT")
+    why = why_not_opened(file) if file else None
+    if why:
+        return NOT_TAKEN, f"the file {file} of STAMP_AUDIT cannot be opened: {why}"
     why = why_not_taken(words[0])
     return (NOT_TAKEN, f"the address {words[0]} cannot be taken: {why}") if why else None

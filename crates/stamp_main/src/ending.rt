@@ -17,7 +17,7 @@ pub(crate) enum Ending {
     WriteFault,
     /// All reads that the program may make were made, and the input had not ended.
     TurnsUsedUp,
-    /// The address could not be taken, or its listener failed for good.
+    /// The address could not be taken, the audit file could not be opened, or the listener failed for good.
     ListenerFault,
     /// Memory ran out.
     NoMemory,

@@ -15,15 +15,17 @@ use replay::run_replay;
 use serving::run_serve;
 use signing::run_sign;
 use std::alloc::Global;
+use std::fs::File;
 use std::io::{IsTerminal, Read, Write};
 use std::net::{Net, TcpListener, TcpStream};
 use std::process::ExitCode;
-use std::rt::Env;
+use std::rt::{Env, Files};
 use std::sync::Wait;
 use std::thread::Threads;
 use std::time::Clock;
 use std::{env, io};
 
+mod audit;
 mod command;
 mod console;
 mod ending;
@@ -100,7 +102,13 @@ fn read_words(rt: &(impl Env + AllocGlobal)) -> Result<Vec<String>, Ending>
 fn run<
     R: Read,
     W: Write,
-    H: Net<Stream = TcpStream, Listener = TcpListener> + Threads + Wait + Clock + Sync,
+    H: Net<Stream = TcpStream, Listener = TcpListener>
+        + Threads
+        + Wait
+        + Clock
+        + Env
+        + Files<File = File>
+        + Sync,
     L: Read + Drop + Send,
     O: Write + Drop + Send,
 >(

@@ -6,6 +6,7 @@ ghost use Rattle.stamp_main.specs.declared.ending.Ending.TheVariants.{ListenerFa
 ghost use Rattle.stamp_main.specs.Ending.{ends_serving};
 ghost use Rattle.stamp_main.specs.Serving.{HasListened, IsServe, listening_line, serve_line};
 
+use crate::audit::{Audit, open_audit};
 use crate::console::Console;
 use crate::ending::Ending;
 use crate::signing::send;
@@ -15,24 +16,33 @@ use account_lock::NewHistory;
 use http_front::Connection;
 use socket_gate::Limits;
 use std::alloc::{AllocError, Global};
+use std::fs::File;
 use std::io::{ErrorKind, Read, Write};
 use std::marker::Brand;
 use std::net::{Net, TcpListener, TcpStream};
+use std::rt::{Env, Files};
 use std::sync::Wait;
 use std::thread::Threads;
 use std::time::Clock;
 
-/// Carries out `stamp serve ADDRESS WORKERS ACCOUNT KEY1 KEY2`: takes the address, writes `listening ADDRESS` and LF, and serves. Meanwhile the
-/// lines of the console are obeyed, which the clauses say nothing of: the console has a reader and a writer of its own.
+/// Carries out `stamp serve ADDRESS WORKERS ACCOUNT KEY1 KEY2`: opens the audit file, if the environment names one, takes the address,
+/// writes `listening ADDRESS` and LF, and serves. Meanwhile the lines of the console are obeyed and audit lines are written, which the clauses
+/// say nothing of: console and file have readers and writers of their own.
 ///
-/// If a word is bad, the ending is `Usage`, and nothing is written. If the address cannot be taken, the ending is `ListenerFault`,
-/// and nothing is written. What is served is not a matter of these clauses: `account_lock` and `http_front` have the contracts of
-/// connections.
+/// If a word is bad, the ending is `Usage`, and nothing is written. If the audit file cannot be opened or the address cannot be taken, the
+/// ending is `ListenerFault`, and nothing is written. What is served is not a matter of these clauses: `account_lock` and `http_front` have
+/// the contracts of connections.
 #[tactic(auto, using(crate::proofs::ServeLemmas::asked, crate::proofs::ServeLemmas::listened))]
 pub(crate) fn run_serve<
     I: Read,
     W: Write,
-    R: Net<Stream = TcpStream, Listener = TcpListener> + Threads + Wait + Clock + Sync,
+    R: Net<Stream = TcpStream, Listener = TcpListener>
+        + Threads
+        + Wait
+        + Clock
+        + Env
+        + Files<File = File>
+        + Sync,
     L: Read + Drop + Send,
     O: Write + Drop + Send,
 >(
@@ -69,6 +79,10 @@ pub(crate) fn run_serve<
         Ok(served) => served,
         Err(ending) => return ending,
     };
+    let mut audit = match open_audit(rt, alloc) {
+        Ok(audit) => audit,
+        Err(ending) => return ending,
+    };
     let Ok(listener) = TcpListener::bind(rt, served.address) else {
         return Ending::ListenerFault;
     };
@@ -78,7 +92,7 @@ pub(crate) fn run_serve<
     if send(connection, line.as_bytes()).is_err() {
         return Ending::WriteFault;
     }
-    serve_all(rt, alloc, &listener, served, console)
+    serve_all(rt, alloc, &listener, served, console, &mut audit)
 }
 
 // The line that tells that connections are taken.
@@ -93,18 +107,24 @@ fn listening(alloc: Global, address: &str) -> Result<String, AllocError>
 
 // Serves by these workers and keys, the first pair of the account, until the listener fails for good. Of all shares of the history, the
 // operator has one.
-fn serve_all<R: Net + Threads + Wait + Clock + Sync, L: Read + Drop + Send, O: Write + Drop + Send>(
+fn serve_all<
+    R: Net + Threads + Wait + Clock + Sync,
+    L: Read + Drop + Send,
+    O: Write + Drop + Send,
+    F: Write + Drop + Send,
+>(
     rt: &R,
     alloc: Global,
     listener: &TcpListener,
     served: Served<'_>,
     console: &mut Console<L, O>,
+    audit: &mut Option<Audit<F>>,
 ) -> Ending
     requires { served.keys.epoch ≡ 0 }
     ensures { (result ≡ ListenerFault) ⊎ (result ≡ NoMemory) }
 {
     let history = NewHistory::new(u64::MAX);
-    match serve_on::<Brand, R, R, L, O>(
+    match serve_on::<Brand, R, R, L, O, F>(
         rt,
         rt,
         alloc,
@@ -115,6 +135,7 @@ fn serve_all<R: Net + Threads + Wait + Clock + Sync, L: Read + Drop + Send, O: W
         u64::MAX - 1,
         Limits::standard(),
         console,
+        audit,
     ) {
         Err(error) if error.kind() == ErrorKind::OutOfMemory => Ending::NoMemory,
         _ => Ending::ListenerFault,

@@ -206,7 +206,7 @@ fn both_ends<
                 × (connections < history.shares.parts) }
         {
             let mut console = Console::new(b"".as_slice(), Vec::new(alloc), Input::Ready);
-            serve_on::<A, R, Noon<'_, R>, &[u8], Vec<u8>>(
+            serve_on::<A, R, Noon<'_, R>, &[u8], Vec<u8>, Vec<u8>>(
                 rt,
                 &Noon(rt),
                 alloc,
@@ -217,6 +217,7 @@ fn both_ends<
                 connections,
                 limits(patience),
                 &mut console,
+                &mut None,
             )
             .is_ok()
         },
@@ -360,7 +361,7 @@ fn a_listener_that_fails_for_good_ends_serving(rt: HostRuntime) -> Result<(), Fa
     TcpStream::from(OwnedFd::from(listener.try_clone()?)).shutdown(Shutdown::Both)?;
     let keys = keys(rt.alloc())?;
     let mut console = Console::new(b"".as_slice(), Vec::new(rt.alloc()), Input::Ready);
-    let served = serve_on::<Brand, _, Noon<'_, HostRuntime>, &[u8], Vec<u8>>(
+    let served = serve_on::<Brand, _, Noon<'_, HostRuntime>, &[u8], Vec<u8>, Vec<u8>>(
         &rt,
         &Noon(&rt),
         rt.alloc(),
@@ -371,6 +372,7 @@ fn a_listener_that_fails_for_good_ends_serving(rt: HostRuntime) -> Result<(), Fa
         9,
         limits(PATIENCE),
         &mut console,
+        &mut None,
     );
     assert!(rt; served.is_ok());
     Ok(())
