@@ -109,14 +109,14 @@ impl<A: Account> SlotHistory<A> {
         ensures made { MatchBool result (count_of self.old.slot self.new.log ≡ count_of self.old.slot self.old.log + 1)
             (self.new ≡ self.old) }
     {
-        let mut next = self.front.again();
-        next.learn(known);
-        if !next.add_rotation(&self.word, self.count, account, which, key) {
+        let mut after = self.front.again();
+        after.learn(known);
+        if !after.add_rotation(&self.word, self.count, account, which, key) {
             return false;
         }
-        *known = next.again();
+        *known = after.again();
         self.count += 1;
-        self.front = next;
+        self.front = after;
         true
     }
 

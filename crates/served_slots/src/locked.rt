@@ -9,6 +9,8 @@ ghost use Rattle.served_history.specs.Histories.{IsServed, count_of};
 ghost use Rattle.served_slots.specs.Slots.{IsLeftBy};
 ghost use Rattle.served_slots.specs.Steps.{IsPartedFrom, MakesOne, StaysOrEnds};
 
+pub(crate) mod rotating;
+
 use crate::entering::{Missed, Upper, cut_and_enter, serve_and_enter};
 use crate::ready::Ready;
 use crate::replied::Replied;
