@@ -7,10 +7,11 @@ ghost use Rattle.served_slots.specs.Rotations.{HasNextPair, HasNoNextPair, IsNex
 
 use access_rules::{Keys, KeysFault, Which};
 use hmac_sign::SigningKey;
-use slot_state::AccountPairs;
+use slot_state::{AccountPairs, ProvedHistories};
 use stamp_types::Text;
 use std::alloc::{AllocError, Global};
 use std::sync::Arc;
+use stored_slot::StoredSlot;
 
 /// The pairs of all accounts with a new pair, and the epoch of that pair.
 #[derive(Drop)]
@@ -56,11 +57,11 @@ fn with_pair(
     Ok(shared)
 }
 
-/// The pairs after a key of the account's pair in force is replaced.
-///
-/// `Last` if no epoch comes after the epoch of the pair in force. `NoMemory` if memory runs out, or if the account has no pair.
+// The pairs after a key of the account's pair in force is replaced.
+//
+// `Last` if no epoch comes after the epoch of the pair in force. `NoMemory` if memory runs out, or if the account has no pair.
 #[tactic(auto, using(crate::proofs::RotateLemmas::made_next, crate::proofs::RotateLemmas::made_longer, crate::proofs::RotateLemmas::not_made))]
-pub(crate) fn longer_pairs(
+fn longer_pairs(
     pairs: &AccountPairs,
     alloc: Global,
     account: &Text,
@@ -81,6 +82,22 @@ pub(crate) fn longer_pairs(
         }
         Err(fault) => Err(fault),
     }
+}
+
+/// The pairs of the slot after a key of the account's pair in force is replaced.
+///
+/// `Last` if no epoch comes after the epoch of the pair in force. `NoMemory` if memory runs out, or if the account has no pair.
+pub(crate) fn longer_in(
+    slot: &StoredSlot<ProvedHistories>,
+    alloc: Global,
+    account: &Text,
+    which: Which,
+    key: &SigningKey,
+) -> Result<Longer, KeysFault>
+    ensures made { IfOk result (λ longer. HasNextPair slot.now.pairs account.now which key.now longer.epoch (arc_value longer.pairs)) }
+    ensures refused { IfErr result (λ fault. HasNoNextPair slot.now.pairs account.now fault) }
+{
+    longer_pairs(slot.account_pairs(), alloc, account, which, key)
 }
 
 /// The pairs by which signatures are judged before a lock is taken, after the rotation; none if no epoch comes after their pair in force. No clause

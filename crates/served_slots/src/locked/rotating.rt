@@ -8,7 +8,7 @@ ghost use Rattle.served_slots.specs.Rotations.{HasLastEpoch, HasNextPair, Rotate
 ghost use Rattle.served_slots.specs.Slots.{IsLeftBy};
 
 use crate::locked::LockedSlot;
-use crate::next_pairs::{Longer, longer_pairs};
+use crate::next_pairs::{Longer, longer_in};
 use crate::taking::take_and_enter;
 use access_rules::{KeysFault, Which};
 use hmac_sign::SigningKey;
@@ -48,8 +48,11 @@ fn longer_of<A: Account>(
     }
     let mut both = own.front();
     both.learn(known);
-    let longer = longer_pairs(slot.account_pairs(), alloc, account, which, key)?;
-    Ok(Some(longer))
+    match longer_in(slot, alloc, account, which, key) {
+        Ok(longer) => Ok(Some(longer)),
+        Err(KeysFault::Last) => Err(KeysFault::Last),
+        Err(KeysFault::NoMemory) => Err(KeysFault::NoMemory),
+    }
 }
 
 // The slot takes its longer pairs, if it is of use, and enters the rotation. Answers the epoch of its new pair, or else the epoch that was told before.
