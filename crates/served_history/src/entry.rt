@@ -1,7 +1,8 @@
 //! Entries of the history.
 
-use access_rules::Keys;
-use stamp_types::{Key, Moment, Request};
+use access_rules::{Keys, Which};
+use hmac_sign::SigningKey;
+use stamp_types::{Key, Moment, Request, Text};
 use std::marker::Model;
 
 /// The first key pair of each account.
@@ -42,6 +43,13 @@ pub enum Entry {
     Served { slot: u64, request: ServedRequest },
     /// A slot gave its keys from `middle` on to the slot `upper`.
     Split { slot: u64, middle: Key, upper: u64 },
+    /// A slot replaced a key of an account: from then on it judges by the pair with this key.
+    Rotated {
+        slot: u64,
+        account: Text,
+        which: Which,
+        key: SigningKey,
+    },
 }
 
 /// A request as a slot serves it: at a moment, by the key pair of the request's account, and up to the bound of the slot.
@@ -75,4 +83,13 @@ pub struct NextSplit<'a> {
     pub slot: u64,
     pub middle: &'a Key,
     pub upper: u64,
+}
+
+/// The entry of a rotation of an account that is lent, to a key that is lent.
+#[derive(Drop)]
+pub struct NextRotation<'a> {
+    pub slot: u64,
+    pub account: &'a Text,
+    pub which: Which,
+    pub key: &'a SigningKey,
 }

@@ -20,7 +20,7 @@ use std::thread::Threads;
 const NOON: i64 = 13_490_928_000_000_000;
 
 // A Create Container of `pics`, and one of `zoo`, signed by `key1`.
-const CREATE_PICS: &[u8] =
+pub(crate) const CREATE_PICS: &[u8] =
     b"PUT /devstoreaccount1/pics?restype=container HTTP/1.1\r\nHost: 127.0.0.1:10000\r\nContent-Length: 0\r\nx-ms-date: Mon, 01 Oct 2012 12:00:00 GMT\r\nx-ms-version: 2012-02-12\r\nAuthorization: SharedKey devstoreaccount1:/Zt/M8NwlklmDGB00sttbyo87McxrIOvJXhMqumuXk0=\r\n\r\n";
 
 pub(crate) const CREATE_ZOO: &[u8] =
@@ -77,7 +77,7 @@ fn sent_on<A: Account, R: Wait + Abort>(
 }
 
 // A key of the account.
-fn key(rt: &impl Abort, alloc: Global, container: &str) -> Key {
+pub(crate) fn key(rt: &impl Abort, alloc: Global, container: &str) -> Key {
     let account = String::from_str(alloc, "devstoreaccount1").expect(rt, "memory");
     let container = String::from_str(alloc, container).expect(rt, "memory");
     Key {
@@ -119,7 +119,7 @@ fn two_slots<A: Account + Send + Sync, R: Threads + Wait + Abort + Sync>(
 }
 
 // The bytes of a key that signs.
-fn signing(rt: &impl Abort, alloc: Global, bytes: &[u8]) -> SigningKey {
+pub(crate) fn signing(rt: &impl Abort, alloc: Global, bytes: &[u8]) -> SigningKey {
     SigningKey::new(bytes.to_vec(alloc).expect(rt, "memory"))
 }
 
