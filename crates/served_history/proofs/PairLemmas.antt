@@ -14,7 +14,6 @@ use Rattle.access_rules.specs.declared.rotation.Which.{Which}
 use Rattle.access_rules.specs.declared.rotation.Which.TheVariants as which
 use Rattle.access_rules.specs.Rotation.{epoch_after, rotated}
 use Rattle.access_rules.proofs.RotationLemmas.{epoch-rotated}
-use Rattle.slot_state.specs.NextPairs.{with_next}
 use Rattle.slot_state.specs.Pairs.{Pairs, current_at, epoch_of, in_force, pairs_at}
 use Rattle.served_history.specs.declared.entry.Entry.{Entry}
 use Rattle.served_history.specs.declared.entry.Entry.TheVariants.{Opened, Rotated, Served, Split}

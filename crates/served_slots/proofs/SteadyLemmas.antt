@@ -1,6 +1,6 @@
 -- What a slot without a doubt does if no call fails.
 use Rattle.std.proofs.Common.{◌≡◌, ◌⊎◌, inl, inr, ℕ, Option, Some, None, Result, Ok, Err, IfOk, OnErr, refl, sym, ap, ◌∙◌, subst}
-use Rattle.std.specs.Prelude.{IfSome, IsSome}
+use Rattle.std.specs.Prelude.{IsSome}
 use Rattle.stamp_values.specs.declared.key.Key.{Key}
 use Rattle.stamp_types.specs.declared.past.Past.{Past}
 use Rattle.stamp_types.specs.declared.reply.Reply.{Reply}

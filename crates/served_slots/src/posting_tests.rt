@@ -29,12 +29,7 @@ fn has_places<R: Wait + Abort>(rt: &R, alloc: Global, books: &Books, places: &[u
 
 // A Create Container, a Put Blob and its Get Blob have the places 0, 1 and 2. A second Create Container is refused, and has no entry. A
 // connection without books posts nothing.
-fn posts<A: Account, R: Wait + Abort>(
-    rt: &R,
-    alloc: Global,
-    pairs: Vec<Keys>,
-    history: NewHistory,
-)
+fn posts<A: Account, R: Wait + Abort>(rt: &R, alloc: Global, pairs: Vec<Keys>, history: NewHistory)
     requires book { history.book ≡ A.history }
     requires fresh { history.next ≡ 0 }
     requires log { history.log ≡ Opened pairs.items ∷ [] }

@@ -5,7 +5,9 @@ ghost use Rattle.served_history.specs.declared.entry.Entry.TheVariants.{Opened};
 use crate::connection::Connection;
 use crate::operator::Operator;
 use crate::slots::Slots;
-use crate::slots_tests::{CREATE_PICS, CREATE_ZOO, CREATED, GET_ZOO, PUT_ZOO, key, pairs, sent, signing};
+use crate::slots_tests::{
+    CREATE_PICS, CREATE_ZOO, CREATED, GET_ZOO, PUT_ZOO, key, pairs, sent, signing,
+};
 use access_rules::{Keys, Which};
 use served_history::{Account, NewHistory};
 use stamp_types::Text;
@@ -79,7 +81,12 @@ fn opens_by_new<A: Account, R: Wait + Abort>(
 }
 
 // A key is replaced on two slots. Then the upper slot is split, and its halves go on by the new pair.
-fn rotates<A: Account, R: Wait + Abort>(rt: &R, alloc: Global, pairs: Vec<Keys>, history: NewHistory)
+fn rotates<A: Account, R: Wait + Abort>(
+    rt: &R,
+    alloc: Global,
+    pairs: Vec<Keys>,
+    history: NewHistory,
+)
     requires book { history.book ≡ A.history }
     requires fresh { history.next ≡ 0 }
     requires log { history.log ≡ Opened pairs.items ∷ [] }

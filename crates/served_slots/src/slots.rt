@@ -211,9 +211,7 @@ impl<A: Account> Slots<A> {
     {
         let table = self.table.read(rt);
         let mut locked = table.locked(rt, alloc, &ready.first);
-        locked.answer(
-            alloc, known, request, ready, reading, moment, is_audited,
-        )
+        locked.answer(alloc, known, request, ready, reading, moment, is_audited)
     }
 
     /// Replaces a key of the account for all slots, or for none. Answers the epoch of the new pair. Each slot enters the rotation, so that requests on

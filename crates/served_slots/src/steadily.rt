@@ -88,8 +88,9 @@ fn audit_steadily(
     ensures same { OnErr result (slot.new ≡ slot.old) }
 {
     let wire = &mut Steady::new();
-    let Audited { answer, entry } =
-        slot.serve_audited(alloc, request, judged, reading, moment, wire);
+    let Audited { answer, entry } = slot.serve_audited(
+        alloc, request, judged, reading, moment, wire,
+    );
     let Ok(replied) = Replied::of(answer) else {
         drop(entry);
         return Err(AllocError);

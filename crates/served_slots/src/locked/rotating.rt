@@ -134,15 +134,7 @@ pub(crate) fn rotate_from<A: Account>(
             None,
         ));
     };
-    let told = rotate_from(
-        next.get_mut(),
-        others,
-        alloc,
-        known,
-        account,
-        which,
-        key,
-    )?;
+    let told = rotate_from(next.get_mut(), others, alloc, known, account, which, key)?;
     Ok(enter_longer(
         &mut locked.slot,
         &mut locked.history,
