@@ -11,17 +11,18 @@ use std::alloc::Global;
 use std::process::Abort;
 use std::sync::Wait;
 
-// Replaces the first key of an account.
+// Replaces a key of an account.
 fn rotated<R: Wait + Abort>(
     rt: &R,
     alloc: Global,
     stamp: &Stamp<Script>,
     account: &str,
+    which: Which,
     bytes: &[u8],
 ) -> Result<u64, RotateFault> {
     let account = text(rt, alloc, account);
     let key = SigningKey::new(bytes.to_vec(alloc).expect(rt, "memory"));
-    stamp.rotate(rt, alloc, &account, Which::First, key)
+    stamp.rotate(rt, alloc, &account, which, key)
 }
 
 // How many key pairs the caller's pass shows.
@@ -39,10 +40,10 @@ fn closes_both_slots<R: Wait + Abort>(rt: &R, alloc: Global) {
     assert!(rt; begins(rt, alloc, &mut plain, CREATE, CREATED));
     let middle = key(rt, alloc, "q");
     assert!(rt; stamp.split(rt, alloc, 0, &middle, steady(alloc)).is_ok());
-    assert!(rt; rotated(rt, alloc, &stamp, "devstoreaccount1", b"new1") == Ok(1));
+    assert!(rt; rotated(rt, alloc, &stamp, "devstoreaccount1", Which::First, b"new1") == Ok(1));
     assert!(rt; says(rt, alloc, &mut plain, PUT, "Refused by rule K5."));
     assert!(rt; begins(rt, alloc, &mut plain, PUT_BY_NEW, CREATED));
-    assert!(rt; rotated(rt, alloc, &stamp, "devstoreaccount1", b"key1") == Ok(2));
+    assert!(rt; rotated(rt, alloc, &stamp, "devstoreaccount1", Which::First, b"key1") == Ok(2));
     assert!(rt; says(rt, alloc, &mut plain, PUT_BY_NEW, "Refused by rule K5."));
     assert!(rt; begins(rt, alloc, &mut plain, PUT, CREATED));
     assert!(rt; begins(rt, alloc, &mut plain, CREATE_LATER, CREATED));
@@ -59,7 +60,7 @@ fn shows_the_new_pair<R: Wait + Abort>(rt: &R, alloc: Global) {
     let mut caller = caller_of(rt, alloc, &stamp, "pics");
     assert!(rt; begins(rt, alloc, &mut caller, CREATE, CREATED));
     assert_eq!(rt; pairs_len(&caller), 1);
-    assert!(rt; rotated(rt, alloc, &stamp, "devstoreaccount1", b"new1") == Ok(1));
+    assert!(rt; rotated(rt, alloc, &stamp, "devstoreaccount1", Which::First, b"new1") == Ok(1));
     assert!(rt; says(rt, alloc, &mut caller, PUT, "Refused by rule K5."));
     assert_eq!(rt; pairs_len(&caller), 2);
     assert!(rt; begins(rt, alloc, &mut caller, PUT_BY_NEW, CREATED));
@@ -77,9 +78,36 @@ fn a_pass_shows_the_new_pair(rt: HostRuntime) {
     shows_the_new_pair(&rt, rt.alloc());
 }
 
+// The second key is replaced, and both the first and the new key open the stamp. Then the first key is replaced too.
+fn replaces_the_second_key<R: Wait + Abort>(rt: &R, alloc: Global) {
+    let stamp = empty_stamp(rt, alloc);
+    let mut plain = Caller::new(rt, alloc, &stamp);
+    assert!(rt; begins(rt, alloc, &mut plain, CREATE, CREATED));
+    assert!(rt;
+        rotated(
+            rt,
+            alloc,
+            &stamp,
+            "devstoreaccount1",
+            Which::Second,
+            b"new1"
+        ) == Ok(1)
+    );
+    assert!(rt; begins(rt, alloc, &mut plain, PUT, CREATED));
+    assert!(rt; begins(rt, alloc, &mut plain, PUT_BY_NEW, CREATED));
+    assert!(rt; rotated(rt, alloc, &stamp, "devstoreaccount1", Which::First, b"key3") == Ok(2));
+    assert!(rt; says(rt, alloc, &mut plain, PUT, "Refused by rule K5."));
+    assert!(rt; begins(rt, alloc, &mut plain, PUT_BY_NEW, CREATED));
+}
+
+#[test]
+fn the_key_that_is_named_is_replaced(rt: HostRuntime) {
+    replaces_the_second_key(&rt, rt.alloc());
+}
+
 #[test]
 fn keys_of_no_account_are_not_replaced(rt: HostRuntime) {
     let stamp = empty_stamp(&rt, rt.alloc());
-    let told = rotated(&rt, rt.alloc(), &stamp, "nobody", b"new1");
+    let told = rotated(&rt, rt.alloc(), &stamp, "nobody", Which::First, b"new1");
     assert!(rt; told == Err(RotateFault::NoAccount));
 }

@@ -9,7 +9,7 @@ use extent_node::{Node, Script, Wire};
 use partition_map::MapFault;
 use partition_stream::StreamName;
 use slot_pass::{AfterFault, MeetFault, Order, meet};
-use stamp_locks::{Care, SplitError, Stamp, TendFault};
+use stamp_locks::{Care, MoveFault, SplitError, Stamp, TendFault};
 use std::alloc::Global;
 use std::process::Abort;
 use std::sync::Wait;
@@ -347,6 +347,19 @@ fn repair_of(extent: u64) -> Care {
     }
 }
 
+// Moves the slot with this number, and says whether its rows were in memory.
+fn moved<R: Wait + Abort>(
+    rt: &R,
+    alloc: Global,
+    stamp: &Stamp<Script>,
+    slot: usize,
+) -> Result<bool, MoveFault> {
+    match stamp.move_to(rt, alloc, slot, 7) {
+        Ok(unloaded) => Ok(unloaded.rows().is_some()),
+        Err(fault) => Err(fault),
+    }
+}
+
 // What is done to a slot changes no reply; what is done to a slot that does not exist is refused.
 fn tends<R: Wait + Abort>(rt: &R, alloc: Global) {
     let stamp = empty_stamp(rt, alloc);
@@ -371,13 +384,36 @@ fn tends<R: Wait + Abort>(rt: &R, alloc: Global) {
         assert!(rt; ends(rt, alloc, &mut caller, GET, b"\r\n\r\nhello"));
         assert!(rt; matches!(stamp.tend(rt, alloc, 9, care), Err(TendFault::NoSuchSlot)));
     }
-    assert!(rt; stamp.move_to(rt, alloc, 0, 7).is_ok());
+    assert!(rt; moved(rt, alloc, &stamp, 0) == Ok(true));
     assert!(rt; ends(rt, alloc, &mut caller, GET, b"\r\n\r\nhello"));
     assert!(rt; begins(rt, alloc, &mut caller, GET_B, MISSING));
-    assert!(rt; stamp.move_to(rt, alloc, 1, 7).is_err());
+    assert!(rt; moved(rt, alloc, &stamp, 1) == Err(MoveFault::NoSuchSlot));
 }
 
 #[test]
 fn what_is_done_to_a_slot_changes_no_reply(rt: HostRuntime) {
     tends(&rt, rt.alloc());
+}
+
+// Two slots whose rows are in memory: an unload and a move take out the rows of the slot that is named, and of no other slot.
+fn takes_out_the_named_rows<R: Wait + Abort>(rt: &R, alloc: Global) {
+    let stamp = empty_stamp(rt, alloc);
+    let middle = key(rt, alloc, "q");
+    assert!(rt; stamp.split(rt, alloc, 0, &middle, steady(alloc)).is_ok());
+    let mut caller = Caller::new(rt, alloc, &stamp);
+    assert!(rt; begins(rt, alloc, &mut caller, CREATE, CREATED));
+    assert!(rt; begins(rt, alloc, &mut caller, CREATE_LATER, CREATED));
+    assert!(rt; stamp.tend(rt, alloc, 1, Care::Unload).is_ok());
+    assert!(rt; moved(rt, alloc, &stamp, 1) == Ok(false));
+    assert!(rt; moved(rt, alloc, &stamp, 0) == Ok(true));
+    assert!(rt; moved(rt, alloc, &stamp, 0) == Ok(false));
+    assert!(rt; stamp.tend(rt, alloc, 1, Care::Load).is_ok());
+    assert!(rt; moved(rt, alloc, &stamp, 0) == Ok(false));
+    assert!(rt; moved(rt, alloc, &stamp, 1) == Ok(true));
+    assert!(rt; moved(rt, alloc, &stamp, 2) == Err(MoveFault::NoSuchSlot));
+}
+
+#[test]
+fn the_rows_of_the_named_slot_are_taken_out(rt: HostRuntime) {
+    takes_out_the_named_rows(&rt, rt.alloc());
 }
