@@ -1,6 +1,7 @@
 -- A slot whose containers are those that its history leaves, and that serves a request.
-use Rattle.std.proofs.Common.{◌≡◌, ℕ, ◌&&◌, Bool, true, false, cond, List, [], ◌∷◌, ◌++◌, Option, sym, ap, ◌∙◌, refl, subst}
+use Rattle.std.proofs.Common.{◌≡◌, ℕ, ◌&&◌, Bool, true, false, cond, List, [], ◌∷◌, ◌++◌, Option, Some, None, sym, ap, ◌∙◌, refl, subst}
 use Rattle.std.specs.Ordering.{is_le}
+use Rattle.std.specs.Prelude.{length}
 use Rattle.std.specs.declared.cmp.Ordering.{Ordering}
 use Rattle.std.specs.declared.cmp.Ordering.TheVariants.{Less, Equal, Greater}
 use Rattle.std.proofs.lemmas.Bool.{and_parts}
@@ -14,13 +15,17 @@ use Rattle.stamp_types.proofs.WorldLemmas.{equal_if_is_eq}
 use Rattle.stamp_types.specs.declared.reply.Reply.{Reply}
 use Rattle.stamp_types.specs.Requests.{Asked, IsAsk}
 use Rattle.stamp_types.specs.World.{World, part_at}
+use Rattle.access_rules.specs.Rules.{way_of}
+use Rattle.policy_book.specs.Entries.{AuditEntry, audit_entry_of}
+use Rattle.policy_book.specs.Judgements.{Revised}
+use Rattle.row_trees.specs.Access.{acl_of}
 use Rattle.stamp_model.specs.AcceptedRequests.{is_on}
 use Rattle.stamp_model.specs.Effects.{effect}
 use Rattle.stamp_model.specs.Runs.{Timed, reply_to_one}
 use Rattle.stamp_model.specs.SeenContainers.{is_between, is_in_account, is_seen, is_under, routed}
 use Rattle.stamp_model.proofs.ReadLemmas.{effect-read}
 use Rattle.stamp_model.proofs.SeenContainerLemmas.{lists_containers}
-use Rattle.slot_state.specs.HistoryMaps.{Histories}
+use Rattle.slot_state.specs.HistoryMaps.{Histories, history_at}
 use Rattle.slot_state.specs.Pairs.{current_at}
 use Rattle.slot_state.specs.Slots as slots
 use Rattle.slot_state.specs.Slots.{SlotState, covers, replayed_at, slot_after}
@@ -29,11 +34,12 @@ use Rattle.slot_state.proofs.StepLemmas.{effect_replayed}
 use Rattle.served_history.specs.declared.entry.Entry.{Entry}
 use Rattle.served_history.specs.declared.entry.Entry.TheVariants.{Served}
 use Rattle.served_history.specs.Growth.{IsEntered, SlotFront}
-use Rattle.served_history.specs.Histories.{opening_pairs, timed_at, world_left, HasStayed, IsOwn, IsServed}
+use Rattle.served_history.specs.Histories.{entry_after, opening_pairs, timed_at, world_left, HasStayed, IsOwn, IsServed}
 use Rattle.served_history.proofs.AfterLemmas.{entry_follows}
 use Rattle.served_history.proofs.KeyLemmas.{bound-one, owner-one}
-use Rattle.served_history.proofs.ReplyLemmas.{entered_is_served}
-use Rattle.served_history.proofs.StayLemmas.{pairs_stay, routed_own, world_left-append}
+use Rattle.served_history.proofs.ReplyLemmas.{entered_is_served, entry_stays, timed_stays}
+use Rattle.served_history.proofs.StayLemmas.{pairs_stay, routed_own, stays, world_left-append}
+use Rattle.served_slots.specs.Audits.{AuditsInSlot, AuditsLast, IsAuditOf, IsSlotAudit, revision_at}
 use Rattle.served_slots.specs.Slots.{IsLeftBy, timed_in}
 
 -- a ≤ b and b ≤ c give a ≤ c
@@ -56,6 +62,10 @@ pairs_after slot front known e known' entered =
     let goes = entered.slot_knew in
     let begins : IsPrefix front known' = (goes.begins.0 ++ e ∷ [], sym (append_assoc front goes.begins.0 (e ∷ [])) ∙ ap (λ (l : List Entry). l ++ e ∷ []) goes.begins.1 ∙ sym entered.enters) in
     pairs_stay front known' begins goes.first
+
+-- what judges a request in a slot
+abbrev revision_in : SlotState → Asked → Revised
+revision_in s q = record { acl = acl_of (replayed_at s.pairs s.histories q.ask.key); keys = current_at s.pairs q.ask.key.account }
 
 module _ (front : SlotFront) (to : Option Key) (s : SlotState) (left : IsLeftBy front to s) (q : Asked) (t : ℕ) (covered : covers s (routed q) ≡ true) where
   -- the request is served as the history says
@@ -113,6 +123,37 @@ module _ (front : SlotFront) (to : Option Key) (s : SlotState) (left : IsLeftBy 
           let has = left.has (routed q) covered in
           entered_is_served front.slot front.log known known' q t r fits has
           (subst (λ (x : Entry). IsEntered front.slot front.log known x known') (λ i. Served (sym has i) (timed_is i)) own) reply_is
+
+      -- the entry is that of the request after the entries before it
+      entry_there : e ≡ entry_after own.log q t
+      entry_there =
+          let has = left.has (routed q) covered in
+          (λ i. Served (sym has i) (timed_is i)) ∙ sym (entry_stays front.slot front.log own.log own.slot_knew q t has)
+
+      -- what judges the request in the slot is what judges it there
+      judged_there : names_container q.ask.op ≡ true → revision_in s q ≡ revision_at own.log q t
+      judged_there names =
+          let here : covers s q.ask.key ≡ true = ap (covers s) (sym (routed_own q names)) ∙ covered in
+          let container : replayed_at s.pairs s.histories q.ask.key ≡ part_at (world_left own.log) q.ask.key =
+          sym ((stays front.slot q.ask.key front.log own.log own.slot_knew (left.has q.ask.key here)).container ∙ left.containers q.ask.key here) in
+          let timed : timed_in s to q t ≡ timed_at own.log q t = timed_is ∙ sym (timed_stays front.slot front.log own.log own.slot_knew q t (left.has (routed q) covered)) in
+          λ i. record { acl = acl_of (container i); keys = (timed i).keys }
+
+      audit_there : (a : AuditEntry) → IsSlotAudit s q t a → IsAuditOf known' q t a
+      audit_there a is =
+          let place : ℕ = length (history_at s.histories q.ask.key) in
+          let value : a ≡ audit_entry_of q place (way_of q.ask.credential) t (revision_at own.log q t) =
+          is.value ∙ ap (λ (x : Revised). audit_entry_of q place (way_of q.ask.credential) t x) (judged_there is.names) in record {
+            before = own.log;
+            enters = own.enters ∙ ap (λ (x : Entry). own.log ++ x ∷ []) entry_there;
+            names = is.names;
+            value = value ∙ ap (λ (n : ℕ). audit_entry_of q n (way_of q.ask.credential) t (revision_at own.log q t)) (sym (ap (λ (x : AuditEntry). x.place) value));
+          }
+
+      -- so an audit entry of the slot is by what the history left before the request
+      pub audits_there : (o : Option AuditEntry) → AuditsInSlot s q t o → AuditsLast known' q t o
+      audits_there None is = tt
+      audits_there (Some a) is = audit_there a is
 
       stayed : (key : Key) → covers s key ≡ true → HasStayed key (front.log ++ e ∷ []) known'
       stayed key inside = entry_follows front.slot front.log known e known' key own (left.has key inside)

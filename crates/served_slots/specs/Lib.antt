@@ -1,3 +1,4 @@
+pub mod Audits
 pub mod Slots
 pub mod SteadyCounts
 pub mod Steps

@@ -2,7 +2,9 @@
 ghost use Rattle.std.specs.Prelude.{◌≡◌};
 ghost use Rattle.served_history.specs.Connections.{AreOfOneHistory};
 
+use crate::posting::post;
 use crate::slots::Slots;
+use audit_lines::Books;
 use http_front::Service;
 use range_rows::Reading;
 use served_history::{Account, Front};
@@ -16,6 +18,8 @@ pub struct Connection<'a, A: Account, R: Wait> {
     rt: &'a R,
     slots: &'a Slots<A>,
     known: Front<A>,
+    // Where the entries of the requests are posted, if entries are made.
+    books: Option<&'a Books>,
 }
 
 impl<'a, A: Account, R: Wait> Connection<'a, A, R> {
@@ -23,7 +27,24 @@ impl<'a, A: Account, R: Wait> Connection<'a, A, R> {
     pub fn new(rt: &'a R, slots: &'a Slots<A>, known: Front<A>) -> Self
         ensures { result.known ≡ known }
     {
-        Self { rt, slots, known }
+        Self::audited(rt, slots, known, None)
+    }
+
+    /// The same, with books in which each request is entered that was let in and names a container. Without books no entry is made.
+    pub fn audited(
+        rt: &'a R,
+        slots: &'a Slots<A>,
+        known: Front<A>,
+        books: Option<&'a Books>,
+    ) -> Self
+        ensures { result.known ≡ known }
+    {
+        Self {
+            rt,
+            slots,
+            known,
+            books,
+        }
     }
 
     /// What the connection knows of the history.
@@ -57,7 +78,8 @@ impl<'a, A: Account, R: Wait> Service for Connection<'a, A, R> {
     /// The reply of the model after all entries of the history before the request, whatever slots made them. The history goes on from what the
     /// connection knew, and the request is then the last entry that the connection knows.
     ///
-    /// The signature is judged and the body is read before a lock is taken. Bytes of sealed extents are fetched after the locks are given back.
+    /// The signature is judged and the body is read before a lock is taken. After the locks are given back, bytes of sealed extents are fetched,
+    /// and the entry of the audit book is posted.
     ///
     /// `AllocError` if memory runs out. Then the connection knows what it knew. If it runs out for these bytes, the request is an entry that changes
     /// nothing, and the connection does not know it.
@@ -73,10 +95,18 @@ impl<'a, A: Account, R: Wait> Service for Connection<'a, A, R> {
             return Err(AllocError);
         };
         let mut known = self.known.again();
-        let replied = self.slots.serve(
-            self.rt, alloc, &mut known, &request, &ready, reading, moment,
+        let told = self.slots.serve(
+            self.rt,
+            alloc,
+            &mut known,
+            &request,
+            &ready,
+            reading,
+            moment,
+            self.books.is_some(),
         )?;
-        let reply = replied.fetch()?;
+        let (reply, entry) = told.fetch()?;
+        post(self.rt, self.books, entry);
         self.known = known;
         Ok(reply)
     }

@@ -10,11 +10,12 @@ ghost use Rattle.slot_state.specs.Slots.{is_inside};
 ghost use Rattle.served_history.specs.declared.entry.Entry.TheVariants.{Served};
 ghost use Rattle.served_history.specs.Growth.{IsEntered};
 ghost use Rattle.served_history.specs.Histories.{IsOwn, IsServed, count_of, owner};
+ghost use Rattle.served_slots.specs.Audits.{AuditsLast};
 ghost use Rattle.served_slots.specs.Slots.{IsLeftBy, IsParted, timed_in};
 ghost use Rattle.served_slots.specs.Steps.{IfNoMemory, HasOneMore, UnlessLost};
 
-use crate::replied::Replied;
-use crate::steadily::{cut_steadily, serve_steadily};
+use crate::steadily::{cut_steadily, tell_steadily};
+use crate::told::Told;
 use access_rules::Keys;
 use policy_book::Judged;
 use range_rows::Reading;
@@ -86,7 +87,7 @@ fn enter<A: Account>(
 }
 
 /// Serves a request whose body was read and whose signature was judged before, and enters it. The reply is the model's after all entries before
-/// the request, those of other slots too.
+/// the request, those of other slots too. If entries of the audit book are asked for, the one of the request is by what the history left before it.
 pub(crate) fn serve_and_enter<A: Account>(
     slot: &mut StoredSlot<ProvedHistories>,
     own: &mut SlotHistory<A>,
@@ -98,12 +99,14 @@ pub(crate) fn serve_and_enter<A: Account>(
     judged: Option<&Judged>,
     reading: Reading,
     moment: Moment,
-) -> Result<Replied, Missed>
+    is_audited: bool,
+) -> Result<Told, Missed>
     requires left { IsLeftBy own.old to.now slot.old }
     requires first { first.now ≡ routed request.now }
     requires judged { IsOfAsk (option_copied judged) request.now.ask }
     requires read { reading ≡ reading_of request.now }
-    ensures served { IfOk result (λ reply. IsServed known.old request.now moment reply known.new) }
+    ensures served { IfOk result (λ told. IsServed known.old request.now moment told.replied known.new) }
+    ensures audited { IfOk result (λ told. AuditsLast known.new request.now moment told.entry) }
     ensures same { OnErr result (known.new ≡ known.old) }
     ensures left { UnlessLost result (IsLeftBy own.new to.now slot.new) }
     ensures made { OnOk result (HasOneMore own.old known.new own.new) }
@@ -118,14 +121,14 @@ pub(crate) fn serve_and_enter<A: Account>(
         drop(reading);
         return Err(Missed::NoMemory);
     }
-    let Ok(replied) = serve_steadily(slot, alloc, request, judged, reading, moment) else {
+    let Ok(told) = tell_steadily(slot, alloc, request, judged, reading, moment, is_audited) else {
         return Err(Missed::NoMemory);
     };
     if !enter(slot, own, to, known, request, moment) {
-        drop(replied);
+        drop(told);
         return Err(Missed::Lost);
     }
-    Ok(replied)
+    Ok(told)
 }
 
 // Enters a split of the slot at a key that it has, by one of the spare words. Gives what the upper slot knows.

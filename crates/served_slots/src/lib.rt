@@ -5,6 +5,9 @@ mod connection;
 mod entering;
 mod laws;
 mod locked;
+mod posting;
+#[cfg(test)]
+mod posting_tests;
 mod ready;
 mod replied;
 mod slots;
@@ -14,6 +17,7 @@ mod splitting;
 mod steadily;
 mod steady;
 mod table;
+mod told;
 
 pub use connection::{Connection, two_connections_agree};
 pub use laws::{

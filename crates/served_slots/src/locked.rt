@@ -6,13 +6,14 @@ ghost use Rattle.range_rows.specs.Readings.{reading_of};
 ghost use Rattle.stamp_model.specs.SeenContainers.{routed};
 ghost use Rattle.slot_state.specs.Slots.{empty_slot, is_inside};
 ghost use Rattle.served_history.specs.Histories.{IsServed, count_of};
+ghost use Rattle.served_slots.specs.Audits.{AuditsLast};
 ghost use Rattle.served_slots.specs.Slots.{IsLeftBy};
 ghost use Rattle.served_slots.specs.Steps.{IsPartedFrom, MakesOne, StaysOrEnds};
 
 use crate::entering::{Missed, Upper, cut_and_enter, serve_and_enter};
 use crate::ready::Ready;
-use crate::replied::Replied;
 use crate::steadily::{compact_steadily, first_slot};
+use crate::told::Told;
 use range_rows::Reading;
 use served_history::{Account, Front, SlotHistory, SlotWord};
 use slot_state::{AccountPairs, ProvedHistories};
@@ -99,7 +100,7 @@ impl<A: Account> LockedSlot<A> {
     }
 
     /// The model's reply to a request after all entries before it, those of other slots too. The request is then the last entry that the
-    /// slot and the connection know.
+    /// slot and the connection know. If entries of the audit book are asked for, the one of the request is by what the history left before it.
     ///
     /// `AllocError` if memory runs out, or if the slot does not have the key, or if it has made as many entries as it may: then nothing is
     /// changed. Also if another thread has made an entry of this slot.
@@ -111,11 +112,13 @@ impl<A: Account> LockedSlot<A> {
         ready: &Ready,
         reading: Reading,
         moment: Moment,
-    ) -> Result<Replied, AllocError>
+        is_audited: bool,
+    ) -> Result<Told, AllocError>
         requires first { ready.now.first ≡ routed request.now }
         requires judged { IsOfAsk ready.now.judged request.now.ask }
         requires read { reading ≡ reading_of request.now }
-        ensures served { IfOk result (λ reply. IsServed known.old request.now moment reply known.new) }
+        ensures served { IfOk result (λ told. IsServed known.old request.now moment told.replied known.new) }
+        ensures audited { IfOk result (λ told. AuditsLast known.new request.now moment told.entry) }
         ensures same { OnErr result (known.new ≡ known.old) }
         ensures made { OnOk result (MakesOne self.old known.new self.new) }
         ensures stays { OnErr result (StaysOrEnds self.old self.new) }
@@ -135,8 +138,9 @@ impl<A: Account> LockedSlot<A> {
             ready.judged.as_ref(),
             reading,
             moment,
+            is_audited,
         ) {
-            Ok(replied) => Ok(replied),
+            Ok(told) => Ok(told),
             Err(Missed::NoMemory) => Err(AllocError),
             Err(Missed::Lost) => {
                 drop(self.history.take());

@@ -10,13 +10,14 @@ ghost use Rattle.slot_state.specs.declared.pairs_fault.PairsFault.TheVariants.{N
 ghost use Rattle.slot_state.specs.Slots.{empty_slot};
 ghost use Rattle.served_history.specs.declared.entry.Entry.TheVariants.{Opened};
 ghost use Rattle.served_history.specs.Histories.{IsServed, count_of};
+ghost use Rattle.served_slots.specs.Audits.{AuditsLast};
 ghost use Rattle.served_slots.specs.Slots.{IsLeftBy};
 ghost use Rattle.served_slots.specs.Steps.{IsSplitFault, SpansSay};
 
 use crate::ready::Ready;
-use crate::replied::Replied;
 use crate::splitting::SplitError;
 use crate::table::Table;
+use crate::told::Told;
 use access_rules::Keys;
 use range_rows::Reading;
 use served_history::{Account, Front, NewHistory, SlotHistory, SlotWord};
@@ -163,7 +164,8 @@ impl<A: Account> Slots<A> {
         Ready::of(alloc, &self.pairs, request)
     }
 
-    /// Serves a request by the slot that has its first key. The request is then the last entry that the connection knows.
+    /// Serves a request by the slot that has its first key. The request is then the last entry that the connection knows. If entries of the
+    /// audit book are asked for, the one of the request is by what the history left before it.
     ///
     /// `AllocError` as of the slot. Then the connection knows what it knew.
     pub(crate) fn serve<R: Wait>(
@@ -175,16 +177,20 @@ impl<A: Account> Slots<A> {
         ready: &Ready,
         reading: Reading,
         moment: Moment,
-    ) -> Result<Replied, AllocError>
+        is_audited: bool,
+    ) -> Result<Told, AllocError>
         requires first { ready.now.first ≡ routed request.now }
         requires judged { IsOfAsk ready.now.judged request.now.ask }
         requires read { reading ≡ reading_of request.now }
-        ensures served { IfOk result (λ reply. IsServed known.old request.now moment reply known.new) }
+        ensures served { IfOk result (λ told. IsServed known.old request.now moment told.replied known.new) }
+        ensures audited { IfOk result (λ told. AuditsLast known.new request.now moment told.entry) }
         ensures same { OnErr result (known.new ≡ known.old) }
     {
         let table = self.table.read(rt);
         let mut locked = table.locked(rt, alloc, &ready.first);
-        locked.answer(alloc, known, request, ready, reading, moment)
+        locked.answer(
+            alloc, known, request, ready, reading, moment, is_audited,
+        )
     }
 
     /// Splits the slot with this number at a key, which is the first key of the upper half. The upper half has the next number, and each later

@@ -23,17 +23,17 @@ const NOON: i64 = 13_490_928_000_000_000;
 const CREATE_PICS: &[u8] =
     b"PUT /devstoreaccount1/pics?restype=container HTTP/1.1\r\nHost: 127.0.0.1:10000\r\nContent-Length: 0\r\nx-ms-date: Mon, 01 Oct 2012 12:00:00 GMT\r\nx-ms-version: 2012-02-12\r\nAuthorization: SharedKey devstoreaccount1:/Zt/M8NwlklmDGB00sttbyo87McxrIOvJXhMqumuXk0=\r\n\r\n";
 
-const CREATE_ZOO: &[u8] =
+pub(crate) const CREATE_ZOO: &[u8] =
     b"PUT /devstoreaccount1/zoo?restype=container HTTP/1.1\r\nHost: 127.0.0.1:10000\r\nContent-Length: 0\r\nx-ms-date: Mon, 01 Oct 2012 12:00:00 GMT\r\nx-ms-version: 2012-02-12\r\nAuthorization: SharedKey devstoreaccount1:haukiv7v0Kzr/F0PL2Q2U8U8/IFnNxb5QESCzHeV8s4=\r\n\r\n";
 
 // A Put Blob of `hello` in `zoo`, signed by `key2`, and a Get Blob of it, signed by `key1`.
-const PUT_ZOO: &[u8] =
+pub(crate) const PUT_ZOO: &[u8] =
     b"PUT /devstoreaccount1/zoo/a.txt HTTP/1.1\r\nHost: 127.0.0.1:10000\r\nContent-Length: 5\r\nx-ms-blob-type: BlockBlob\r\nx-ms-version: 2012-02-12\r\nx-ms-date: Mon, 01 Oct 2012 12:00:00 GMT\r\nAuthorization: SharedKey devstoreaccount1:J7x7YYTVFdd/9H13v+LVnSI57kU5E0iRDARdHIZtI2s=\r\n\r\nhello";
 
-const GET_ZOO: &[u8] =
+pub(crate) const GET_ZOO: &[u8] =
     b"GET /devstoreaccount1/zoo/a.txt HTTP/1.1\r\nHost: 127.0.0.1:10000\r\nx-ms-date: Mon, 01 Oct 2012 12:00:00 GMT\r\nx-ms-version: 2012-02-12\r\nAuthorization: SharedKey devstoreaccount1:Muw219Dbwl1JBUm8X+nd46mT5S/ZOET7XXuau7CuBeI=\r\n\r\n";
 
-const CREATED: &[u8] = b"HTTP/1.1 201 Created\r\n";
+pub(crate) const CREATED: &[u8] = b"HTTP/1.1 201 Created\r\n";
 
 /// A clock that always gives the same moment.
 #[derive(Drop)]
@@ -50,7 +50,7 @@ impl Clock for Still {
 }
 
 // Sends the input on the connection, and gives all that is written.
-fn sent<A: Account, R: Wait + Abort>(
+pub(crate) fn sent<A: Account, R: Wait + Abort>(
     rt: &R,
     alloc: Global,
     connection: &mut Connection<'_, A, R>,
@@ -124,7 +124,7 @@ fn signing(rt: &impl Abort, alloc: Global, bytes: &[u8]) -> SigningKey {
 }
 
 // The account `devstoreaccount1` with the keys `key1` and `key2`.
-fn pairs(rt: &impl Abort, alloc: Global) -> Vec<Keys> {
+pub(crate) fn pairs(rt: &impl Abort, alloc: Global) -> Vec<Keys> {
     let name = String::from_str(alloc, "devstoreaccount1").expect(rt, "memory");
     let keys = Keys {
         account: Text::new(name)

@@ -11,9 +11,11 @@ ghost use Rattle.stored_rows.specs.Ranges.{all_keys};
 ghost use Rattle.stored_rows.specs.States.{doubt_of, pieces_of};
 ghost use Rattle.slot_state.specs.Slots as slots;
 ghost use Rattle.slot_state.specs.Slots.{empty_slot, lower_half, upper_half};
+ghost use Rattle.served_slots.specs.Audits.{AuditsInSlot};
 
 use crate::replied::Replied;
 use crate::steady::Steady;
+use crate::told::Told;
 use policy_book::Judged;
 use range_rows::Reading;
 use slot_state::{AccountPairs, ProvedHistories};
@@ -21,7 +23,7 @@ use stamp_types::{Key, Moment, Request};
 use std::alloc::{AllocError, Global};
 use std::sync::Arc;
 use stored_rows::{Compacted, KeyRange, StoredRows};
-use stored_slot::StoredSlot;
+use stored_slot::{Audited, StoredSlot};
 
 /// How many bytes an extent of two or more blocks may have.
 const EXTENT_BYTES: u32 = 268_435_456;
@@ -45,10 +47,10 @@ pub(crate) fn first_slot(alloc: Global, pairs: Arc<AccountPairs>) -> StoredSlot<
     slot_of(alloc, rows, pairs)
 }
 
-/// Serves a request: one step of the model.
-///
-/// `AllocError` if memory runs out. Then the slot is as it was.
-pub(crate) fn serve_steadily(
+// Serves a request: one step of the model.
+//
+// `AllocError` if memory runs out. Then the slot is as it was.
+fn serve_steadily(
     slot: &mut StoredSlot<ProvedHistories>,
     alloc: Global,
     request: &Request,
@@ -66,6 +68,66 @@ pub(crate) fn serve_steadily(
     let wire = &mut Steady::new();
     let answer = slot.serve_read(alloc, request, judged, reading, moment, wire);
     Replied::of(answer)
+}
+
+// The same, with the entry of the request in the audit book.
+fn audit_steadily(
+    slot: &mut StoredSlot<ProvedHistories>,
+    alloc: Global,
+    request: &Request,
+    judged: Option<&Judged>,
+    reading: Reading,
+    moment: Moment,
+) -> Result<Told, AllocError>
+    requires covered { slots.covers slot.old (routed request.now) ≡ true }
+    requires judged { IsOfAsk (option_copied judged) request.now.ask }
+    requires read { reading ≡ reading_of request.now }
+    requires sure { slot.old.doubt ≡ None }
+    ensures served { IfOk result (λ told. slots.IsServed slot.old request.now moment slot.old.to told.replied slot.new) }
+    ensures audited { IfOk result (λ told. AuditsInSlot slot.old request.now moment told.entry) }
+    ensures same { OnErr result (slot.new ≡ slot.old) }
+{
+    let wire = &mut Steady::new();
+    let Audited { answer, entry } =
+        slot.serve_audited(alloc, request, judged, reading, moment, wire);
+    let Ok(replied) = Replied::of(answer) else {
+        drop(entry);
+        return Err(AllocError);
+    };
+    Ok(Told { replied, entry })
+}
+
+/// Serves a request: one step of the model. If entries of the audit book are asked for, the request has one if it names a container and is let in.
+///
+/// `AllocError` if memory runs out for the answer. Then the slot is as it was. If memory runs out for the entry only, the request is answered
+/// without one.
+pub(crate) fn tell_steadily(
+    slot: &mut StoredSlot<ProvedHistories>,
+    alloc: Global,
+    request: &Request,
+    judged: Option<&Judged>,
+    reading: Reading,
+    moment: Moment,
+    is_audited: bool,
+) -> Result<Told, AllocError>
+    requires covered { slots.covers slot.old (routed request.now) ≡ true }
+    requires judged { IsOfAsk (option_copied judged) request.now.ask }
+    requires read { reading ≡ reading_of request.now }
+    requires sure { slot.old.doubt ≡ None }
+    ensures served { IfOk result (λ told. slots.IsServed slot.old request.now moment slot.old.to told.replied slot.new) }
+    ensures audited { IfOk result (λ told. AuditsInSlot slot.old request.now moment told.entry) }
+    ensures same { OnErr result (slot.new ≡ slot.old) }
+{
+    if is_audited {
+        return audit_steadily(slot, alloc, request, judged, reading, moment);
+    }
+    match serve_steadily(slot, alloc, request, judged, reading, moment) {
+        Ok(replied) => Ok(Told {
+            replied,
+            entry: None,
+        }),
+        Err(fault) => Err(fault),
+    }
 }
 
 /// Cuts a slot at a key of its range: the upper half is answered.
