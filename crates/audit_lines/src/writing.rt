@@ -17,6 +17,9 @@ use std::time::{Clock, Duration};
 // How many milliseconds the writer sleeps after each round.
 const PAUSE: u64 = 50;
 
+// How many rounds are made at most after the end.
+const LAST_ROUNDS: u32 = 8;
+
 // Appends the line of the entry at the index, and answers whether it did. It does not if the book has no entry there now, or if memory runs
 // out.
 fn append_whole(alloc: Global, out: &mut Vec<u8>, book: &Book, index: usize) -> bool
@@ -64,6 +67,21 @@ impl Rounds {
         self.left.write(writer);
     }
 
+    // Whether all entries of the book have lines that are written.
+    fn is_done(&self) -> bool {
+        self.left.is_done() && self.book.count() <= self.next
+    }
+
+    // Goes on after the last post until all is written, for some rounds at most.
+    fn finish<W: Write>(&mut self, alloc: Global, writer: &mut W) {
+        for _ in 0..LAST_ROUNDS {
+            if self.is_done() {
+                return;
+            }
+            self.go_on(alloc, writer);
+        }
+    }
+
     // Begins a new book if this one is full and its lines are made. Without memory it is tried again later.
     fn renew<R: Wait>(&mut self, rt: &R, alloc: Global, books: &Books) {
         if self.next < self.book.limit() {
@@ -79,6 +97,7 @@ impl Rounds {
 /// Writes a line for each entry that is posted, until `ended` is set, and then the lines of the entries that were posted before.
 ///
 /// If the writer fails, the same bytes are tried again, so no line is cut. Entries that are posted meanwhile come back once the book is full.
+/// After `ended` is set, eight rounds are made at most, each up to a failure of the writer: what is left then is not written.
 pub fn write_books<R: Wait, C: Clock, W: Write>(
     rt: &R,
     clock: &C,
@@ -96,13 +115,11 @@ pub fn write_books<R: Wait, C: Clock, W: Write>(
         left: Unwritten::new(Vec::new(alloc)),
     };
     for _ in rt.forever() {
-        let is_last = ended.load(Ordering::SeqCst);
-        rounds.go_on(alloc, writer);
-        if is_last {
-            // What a fault left is written now, so that lines can be made once more.
-            rounds.go_on(alloc, writer);
+        if ended.load(Ordering::SeqCst) {
+            rounds.finish(alloc, writer);
             break;
         }
+        rounds.go_on(alloc, writer);
         rounds.renew(rt, alloc, books);
         thread::sleep(clock, Duration::from_millis(PAUSE));
     }

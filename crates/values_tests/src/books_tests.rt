@@ -57,7 +57,7 @@ fn books_without_entries_take_none(rt: HostRuntime) {
     assert!(rt; has_lines(&rt, alloc, &books, &[]));
 }
 
-// A writer that takes at most 50 bytes at once, and fails at each 64th call: so it fails once at most after the last post.
+// A writer that takes at most 50 bytes at once, and fails at each seventh call.
 #[derive(Drop)]
 struct Stutter {
     out: Vec<u8>,
@@ -67,7 +67,7 @@ struct Stutter {
 impl Write for Stutter {
     fn write(&mut self, buf: &[u8]) -> io::Result<usize> {
         self.calls = self.calls.wrapping_add(1);
-        if self.calls % 64 == 0 {
+        if self.calls % 7 == 0 {
             return Err(io::Error::from(io::ErrorKind::StorageFull));
         }
         let count = buf.len().min(50);
