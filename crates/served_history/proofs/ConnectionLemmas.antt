@@ -12,7 +12,7 @@ use Rattle.http_front.specs.Conversations.Exchange.{Answered, RefusedAt}
 use Rattle.http_front.specs.Streams.{Item}
 use Rattle.http_front.specs.Streams.Item.{Requested, Refused}
 use Rattle.served_history.specs.declared.entry.Entry.{Entry}
-use Rattle.served_history.specs.declared.entry.Entry.TheVariants.{Opened, Served, Split}
+use Rattle.served_history.specs.declared.entry.Entry.TheVariants.{Opened, Rotated, Served, Split}
 use Rattle.served_history.specs.Histories.{entry_after, served_request, served_requests, timed_at, world_left, IsServed, IsUnchanged}
 use Rattle.served_history.specs.Connections.{Call, entered, call_at, calls_of, calls_along, IsAmong, ReadsHistory, AddsOneAtMost, IsReadAfter}
 use Rattle.served_history.proofs.StayLemmas.{world_left-append}
@@ -125,6 +125,7 @@ at_place w [] [] call after is = absurd (cc (is))
 at_place w [] (x ∷ before) call after is = absurd (cc (is))
 at_place w (Opened pairs ∷ entries) before call after is = placed_after w w (Opened pairs) call after (λ rs. refl) (at_place w entries before call after is)
 at_place w (Split slot middle upper ∷ entries) before call after is = placed_after w w (Split slot middle upper) call after (λ rs. refl) (at_place w entries before call after is)
+at_place w (Rotated slot account which new ∷ entries) before call after is = placed_after w w (Rotated slot account which new) call after (λ rs. refl) (at_place w entries before call after is)
 at_place w (Served slot r ∷ entries) [] call after is =
     let head : call_at w r ≡ call = cc (is) in
     let tail : calls_along (world_after_one w r) (served_requests entries) ≡ after = cc (is) in record {

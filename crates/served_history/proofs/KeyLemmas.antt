@@ -9,7 +9,7 @@ use Rattle.stamp_values.specs.declared.key.Key.{Key}
 use Rattle.stamp_model.specs.SeenContainers.{is_under}
 use Rattle.partition_map.proofs.KeyOrder.{below_below, below_of_from, from_below, from_is_not_below, less_of_below}
 use Rattle.served_history.specs.declared.entry.Entry.{Entry}
-use Rattle.served_history.specs.declared.entry.Entry.TheVariants.{Opened, Served, Split}
+use Rattle.served_history.specs.declared.entry.Entry.TheVariants.{Opened, Rotated, Served, Split}
 use Rattle.served_history.specs.Histories.{owner_after, owner, bound_after, bound_at}
 
 -- ---- one more entry
@@ -57,6 +57,7 @@ turned false h = cc
 under_after : (key : Key) (bound : Option Key) (e : Entry) → is_under bound key ≡ true → is_under (bound_after key bound e) key ≡ true
 under_after key bound (Opened pairs) under = under
 under_after key bound (Served slot r) under = under
+under_after key bound (Rotated slot account which new) under = under
 under_after key bound (Split slot middle upper) under = by (is_below middle key && is_under bound middle) refl
   where
     by : (b : Bool) → (is_below middle key && is_under bound middle) ≡ b → is_under (cond b (Some middle) bound) key ≡ true
@@ -83,6 +84,7 @@ module _ (key k : Key) (from : is_from key k ≡ true) where
   nearer : (bound : Option Key) (e : Entry) → is_under (bound_after key bound e) k ≡ true → is_under bound k ≡ true
   nearer bound (Opened pairs) under = under
   nearer bound (Served slot r) under = under
+  nearer bound (Rotated slot account which new) under = under
   nearer bound (Split slot middle upper) under = by (is_below middle key && is_under bound middle) refl under
     where
       by : (b : Bool) → (is_below middle key && is_under bound middle) ≡ b → is_under (cond b (Some middle) bound) k ≡ true → is_under bound k ≡ true
@@ -110,6 +112,7 @@ module _ (key k : Key) (from : is_from key k ≡ true) where
   same_after : (bound : Option Key) (s : ℕ) (e : Entry) → is_under (bound_after key bound e) k ≡ true → owner_after k s e ≡ owner_after key s e
   same_after bound s (Opened pairs) under = refl
   same_after bound s (Served slot r) under = refl
+  same_after bound s (Rotated slot account which new) under = refl
   same_after bound s (Split slot middle upper) under = ap (λ (b : Bool). cond (nat_eq slot s && b) upper s) (same_side bound slot middle upper under)
 
   nearest : (bound : Option Key) (log : List Entry) → is_under (fold (bound_after key) bound log) k ≡ true → is_under bound k ≡ true

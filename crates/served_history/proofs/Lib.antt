@@ -3,7 +3,9 @@ pub mod AfterLemmas
 pub mod ConnectionLemmas
 pub mod FirstLemmas
 pub mod KeyLemmas
+pub mod PairLemmas
 pub mod ReplyLemmas
+pub mod RotationLemmas
 pub mod RowLemmas
 pub mod SlotLemmas
 pub mod StayLemmas

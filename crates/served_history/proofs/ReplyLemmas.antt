@@ -19,9 +19,9 @@ use Rattle.slot_state.specs.Pairs.{current_at}
 use Rattle.served_history.specs.declared.entry.Entry.{Entry}
 use Rattle.served_history.specs.declared.entry.Entry.TheVariants.{Served}
 use Rattle.served_history.specs.Growth.{IsEntered}
-use Rattle.served_history.specs.Histories.{bound_at, entry_after, owner, opening_pairs, timed_at, world_left, GoesOnWithout, IsServed}
+use Rattle.served_history.specs.Histories.{bound_at, entry_after, owner, pair_for, timed_at, world_left, GoesOnWithout, IsServed}
 use Rattle.served_history.proofs.KeyLemmas.{one_owner, under_own}
-use Rattle.served_history.proofs.StayLemmas.{pairs_stay, routed_own, stays}
+use Rattle.served_history.proofs.StayLemmas.{routed_own, stays}
 
 -- the slot of a request has each container that the request sees
 pub seen_owner : (log : List Entry) (q : Asked) (key : Key) → is_seen q (bound_at log (routed q)) key ≡ true → owner log key ≡ owner log (routed q)
@@ -42,9 +42,8 @@ module _ (slot : ℕ) (front log : List Entry) (goes : GoesOnWithout slot front 
   -- the request is served as before
   pub timed_stays : timed_at log q t ≡ timed_at front q t
   timed_stays =
-      let bound = (stays slot (routed q) front log goes has).bound in
-      let pairs = pairs_stay front log goes.begins goes.first in
-      λ i. record { request = q; moment = t; keys = current_at (pairs i) q.ask.key.account; bound = bound i }
+      let kept = stays slot (routed q) front log goes has in
+      λ i. record { request = q; moment = t; keys = current_at (kept.pairs i) q.ask.key.account; bound = kept.bound i }
 
   -- by the same slot
   pub entry_stays : entry_after log q t ≡ entry_after front q t
@@ -60,7 +59,7 @@ module _ (slot : ℕ) (front log : List Entry) (goes : GoesOnWithout slot front 
   pub reply_stays : IsAsk q.ask → reply_to_one (world_left log) (timed_at log q t) ≡ reply_to_one (world_left front) (timed_at front q t)
   reply_stays fits =
       ap (λ (r : Timed). reply_to_one (world_left log) r) timed_stays
-      ∙ reply-seen (current_at (opening_pairs front) q.ask.key.account) (world_left log) (world_left front) q t (bound_at front (routed q)) fits (λ lists. under_own front (routed q)) seen_stays
+      ∙ reply-seen (pair_for front (routed q) q.ask.key.account) (world_left log) (world_left front) q t (bound_at front (routed q)) fits (λ lists. under_own front (routed q)) seen_stays
 
 -- a request that was entered was served
 pub entered_is_served : (slot : ℕ) (front known known' : List Entry) (q : Asked) (t : ℕ) (r : Reply) → IsAsk q.ask → owner front (routed q) ≡ slot

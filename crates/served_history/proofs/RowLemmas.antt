@@ -42,7 +42,7 @@ pub count-append : (slot : ℕ) (xs ys : List Entry) → count_of slot (xs ++ ys
 count-append slot [] ys = omega arith
 count-append slot (e ∷ xs) ys = omega (arith, count-append slot xs ys)
 
-opened-append : (log : List Entry) (e : Entry) → IsOpened log → IsOpened (log ++ e ∷ [])
+pub opened-append : (log : List Entry) (e : Entry) → IsOpened log → IsOpened (log ++ e ∷ [])
 opened-append [] e is = absurd is
 opened-append (x ∷ log) e is = is
 

@@ -1,13 +1,15 @@
 -- What a slot may enter, and what it knows then.
-use Rattle.std.proofs.Common.{◌≡◌, ℕ, ◌+◌, nat_eq, Bool, true, cond, List, [], ◌∷◌, ◌++◌, sym, ap, ◌∙◌, arith, append_assoc}
+use Rattle.std.proofs.Common.{◌≡◌, ℕ, ◌+◌, nat_eq, Bool, true, cond, List, [], ◌∷◌, ◌++◌, IsSome, sym, ap, ◌∙◌, subst, arith, append_assoc}
 use Rattle.std.proofs.lemmas.Bool.Decides.{nat_tests}
 use Rattle.std.proofs.lemmas.List.{append-nil}
 use mathlib.Core.List.{IsPrefix}
 use Rattle.stamp_values.specs.declared.key.Key.{Key}
+use Rattle.access_rules.specs.declared.rotation.Which.{Which}
 use Rattle.stamp_model.specs.Runs.{Timed}
 use Rattle.stamp_model.specs.SeenContainers.{routed}
+use Rattle.slot_state.specs.Pairs.{Pairs, current_at}
 use Rattle.served_history.specs.declared.entry.Entry.{Entry}
-use Rattle.served_history.specs.declared.entry.Entry.TheVariants.{Served, Split}
+use Rattle.served_history.specs.declared.entry.Entry.TheVariants.{Rotated, Served, Split}
 use Rattle.served_history.specs.Growth.{IsAdded, IsEntered}
 use Rattle.served_history.specs.Histories.{count_of, is_of, GoesOnWithout, IsHistory, IsOwn}
 use Rattle.served_history.proofs.ReplyLemmas.{timed_stays}
@@ -39,6 +41,13 @@ module _ (slot count : ℕ) (front : List Entry) (counts : count ≡ count_of sl
       → (log : List Entry) → IsPrefix next log → count_of slot log ≡ count → IsHistory log → IsOwn log (Split slot middle upper)
   may_split next middle upper begins own log goes counted history =
       (stays slot middle front log (goes_on next log begins goes counted history) own).slot ∙ own
+
+  -- and replace a key
+  pub may_rotate : (next : List Entry) (account : List ℕ) (which : Which) (new : List ℕ) → IsPrefix front next → IsOwn front (Rotated slot account which new)
+      → (log : List Entry) → IsPrefix next log → count_of slot log ≡ count → IsHistory log → IsOwn log (Rotated slot account which new)
+  may_rotate next account which new begins own log goes counted history =
+      let kept = stays slot own.0 front log (goes_on next log begins goes counted history) own.1.0 in
+      (own.0, (kept.slot ∙ own.1.0, subst (λ (p : Pairs). IsSome (current_at p account)) (sym kept.pairs) own.1.1))
 
   module _ (known next next' : List Entry) (e : Entry) (begins : IsPrefix front next) (knows : IsPrefix known next) (added : IsAdded slot count next e next') where
     pub entered_by : IsEntered slot front known e next'

@@ -1,4 +1,4 @@
--- What stays while a slot makes no entry: its keys, their bounds and their containers.
+-- What stays while a slot makes no entry: its keys, their bounds, their key pairs and their containers.
 use Rattle.std.proofs.Common.{◌≡◌, ℕ, ◌+◌, ◌&&◌, nat_eq, Bool, true, false, cond, List, [], ◌∷◌, ◌++◌, Some, refl, sym, ap, ◌∙◌, subst, arith}
 use Rattle.std.specs.FinMap as finite
 use Rattle.std.proofs.lemmas.Bool.{and_parts}
@@ -6,13 +6,13 @@ use Rattle.std.proofs.lemmas.Bool.Decides.{nat_tests}
 use Rattle.std.proofs.lemmas.Grind.{flat_map-append}
 use Rattle.std.proofs.lemmas.List.{append-nil, append_assoc}
 use Rattle.std.proofs.lemmas.List.Sums.{fold-append}
-use mathlib.Core.List.{IsPrefix}
 use Rattle.stamp_values.specs.Operations.{names_container, writes}
 use Rattle.stamp_values.specs.Trees.{is_below, is_from}
 use Rattle.stamp_values.specs.declared.key.Key.{Key}
 use Rattle.stamp_types.specs.Pieces.{held}
 use Rattle.stamp_types.specs.Requests.{Asked}
 use Rattle.stamp_types.specs.World.{World, part_at}
+use Rattle.access_rules.specs.declared.rotation.Which.{Which}
 use Rattle.range_rows.specs.SentContent.{byte_count}
 use Rattle.stamp_model.specs.Runs.{Timed, world_after_one, world_after_all}
 use Rattle.stamp_model.specs.SeenContainers.{is_under, routed}
@@ -20,10 +20,11 @@ use Rattle.stamp_model.proofs.EffectLemmas.{part_at-effect_others}
 use Rattle.stamp_model.proofs.ReadLemmas.{effect-read}
 use Rattle.stamp_model.proofs.SeenContainerLemmas.{lists_containers}
 use Rattle.served_history.specs.declared.entry.Entry.{Entry}
-use Rattle.served_history.specs.declared.entry.Entry.TheVariants.{Opened, Served, Split}
-use Rattle.served_history.specs.Histories.{bound_at, count_of, is_of, owner, opening_pairs, served_request, served_requests, world_left, GoesOnWithout, HasStayed, IsHistory, IsOpened, IsOwn}
+use Rattle.served_history.specs.declared.entry.Entry.TheVariants.{Opened, Rotated, Served, Split}
+use Rattle.served_history.specs.Histories.{bound_at, count_of, is_of, next_pairs, owner, pairs_for, served_request, served_requests, world_left, GoesOnWithout, HasStayed, IsHistory, IsOpened, IsOwn}
 use Rattle.served_history.proofs.KeyLemmas.{bound-one, by_false, by_true, from_of_below, one_owner, owner-one}
-use Rattle.served_history.proofs.RowLemmas.{count-append}
+use Rattle.served_history.proofs.PairLemmas.{pairs-one}
+use Rattle.served_history.proofs.RowLemmas.{count-append, opened-append}
 
 -- ---- the containers after more entries
 
@@ -60,6 +61,7 @@ module _ (tag : ℕ) (key : Key) (front : List Entry) (has : owner front key ≡
     bound =
         bound-one front (Split slot middle upper) key
         ∙ by_false (is_below middle key && is_under (bound_at front key) middle) (Some middle) (bound_at front key) (outside (is_below middle key && is_under (bound_at front key) middle) refl);
+    pairs = pairs-one front (Split slot middle upper) key;
     container = ap (λ (w : World (List ℕ)). part_at w key) (world_left-append front (Split slot middle upper ∷ []));
   }
     where
@@ -74,24 +76,32 @@ module _ (tag : ℕ) (key : Key) (front : List Entry) (has : owner front key ≡
   served_stays slot r own other = record {
     slot = owner-one front (Served slot r) key;
     bound = bound-one front (Served slot r) key;
+    pairs = pairs-one front (Served slot r) key;
     container =
         ap (λ (w : World (List ℕ)). part_at w key) (world_left-append front (Served slot r ∷ []))
         ∙ request_stays (world_left front) r key (λ same. not_both slot tag other (sym own ∙ ap (owner front) (sym same) ∙ has));
   }
 
-  opened_stays : (e : Entry) → owner (front ++ e ∷ []) key ≡ owner front key → bound_at (front ++ e ∷ []) key ≡ bound_at front key → served_request e ≡ [] → HasStayed key front (front ++ e ∷ [])
-  opened_stays e slot bound none = record {
-    slot = slot;
-    bound = bound;
-    container =
-        ap (λ (w : World (List ℕ)). part_at w key)
-        (world_left-append front (e ∷ []) ∙ ap (λ (rs : List Timed). world_after_all (world_left front) (rs ++ [])) none);
+  -- another slot replaces keys for itself only
+  rotated_stays : (slot : ℕ) (account : List ℕ) (which : Which) (new : List ℕ) → nat_eq slot tag ≡ false → HasStayed key front (front ++ Rotated slot account which new ∷ [])
+  rotated_stays slot account which new other = record {
+    slot = owner-one front (Rotated slot account which new) key;
+    bound = bound-one front (Rotated slot account which new) key;
+    pairs =
+        pairs-one front (Rotated slot account which new) key
+        ∙ by_false (nat_eq slot (owner front key)) (next_pairs (pairs_for front key) account which new) (pairs_for front key)
+        (ap (λ (n : ℕ). nat_eq slot n) has ∙ other);
+    container = ap (λ (w : World (List ℕ)). part_at w key) (world_left-append front (Rotated slot account which new ∷ []));
   }
 
-  one_stays : (e : Entry) → IsOwn front e → is_of tag e ≡ false → HasStayed key front (front ++ e ∷ [])
-  one_stays (Opened pairs) own other = opened_stays (Opened pairs) (owner-one front (Opened pairs) key) (bound-one front (Opened pairs) key) refl
-  one_stays (Served slot r) own other = served_stays slot r own.0 other
-  one_stays (Split slot middle upper) own other = split_stays slot middle upper own other
+  no_opening : front ≡ [] → IsOpened front → ⊥
+  no_opening none opened = subst IsOpened none opened
+
+  one_stays : (e : Entry) → IsOpened front → IsOwn front e → is_of tag e ≡ false → HasStayed key front (front ++ e ∷ [])
+  one_stays (Opened pairs) opened own other = absurd (no_opening own opened)
+  one_stays (Served slot r) opened own other = served_stays slot r own.0 other
+  one_stays (Split slot middle upper) opened own other = split_stays slot middle upper own other
+  one_stays (Rotated slot account which new) opened own other = rotated_stays slot account which new other
 
 -- ---- entries of other slots
 
@@ -99,6 +109,7 @@ pub stayed_then : (key : Key) (front mid log : List Entry) → HasStayed key fro
 stayed_then key front mid log one two = record {
   slot = two.slot ∙ one.slot;
   bound = two.bound ∙ one.bound;
+  pairs = two.pairs ∙ one.pairs;
   container = two.container ∙ one.container;
 }
 
@@ -107,31 +118,21 @@ other_slot true n h = absurd (omega arith)
 other_slot false n h = (refl, omega (arith, h))
 
 none_stays : (key : Key) (front : List Entry) → HasStayed key front (front ++ [])
-none_stays key front = subst (HasStayed key front) (sym (append-nil front)) (record { slot = refl; bound = refl; container = refl })
+none_stays key front = subst (HasStayed key front) (sym (append-nil front)) (record { slot = refl; bound = refl; pairs = refl; container = refl })
 
-rest_stays : (tag : ℕ) (key : Key) (front rest : List Entry) → IsHistory (front ++ rest) → count_of tag rest ≡ 0 → owner front key ≡ tag → HasStayed key front (front ++ rest)
-rest_stays tag key front [] history none has = none_stays key front
-rest_stays tag key front (e ∷ rest) history none has =
+rest_stays : (tag : ℕ) (key : Key) (front rest : List Entry) → IsOpened front → IsHistory (front ++ rest) → count_of tag rest ≡ 0 → owner front key ≡ tag → HasStayed key front (front ++ rest)
+rest_stays tag key front [] opened history none has = none_stays key front
+rest_stays tag key front (e ∷ rest) opened history none has =
     let split = other_slot (is_of tag e) (count_of tag rest) none in
-    let next = one_stays tag key front has e (history.own front e (rest, refl)) split.0 in
+    let next = one_stays tag key front has e opened (history.own front e (rest, refl)) split.0 in
     let joined : (front ++ e ∷ []) ++ rest ≡ front ++ e ∷ rest = append_assoc front (e ∷ []) rest in
-    let more = rest_stays tag key (front ++ e ∷ []) rest (subst IsHistory (sym joined) history) split.1 (next.slot ∙ has) in
+    let more = rest_stays tag key (front ++ e ∷ []) rest (opened-append front e opened) (subst IsHistory (sym joined) history) split.1 (next.slot ∙ has) in
     stayed_then key front (front ++ e ∷ []) (front ++ e ∷ rest) next (subst (HasStayed key (front ++ e ∷ [])) joined more)
 
--- while a slot makes no entry, its keys, their bounds and their containers stay
+-- while a slot makes no entry, its keys, their bounds, their key pairs and their containers stay
 pub stays : (tag : ℕ) (key : Key) (front log : List Entry) → GoesOnWithout tag front log → owner front key ≡ tag → HasStayed key front log
 stays tag key front log goes has =
     let rest = goes.begins.0 in
     let joined : front ++ rest ≡ log = goes.begins.1 in
     let none : count_of tag rest ≡ 0 = omega (arith, count-append tag front rest, ap (count_of tag) joined, goes.counted) in
-    subst (HasStayed key front) joined (rest_stays tag key front rest (subst IsHistory (sym joined) goes.second) none has)
-
--- ---- key pairs
-
-pairs_front : (front rest : List Entry) → IsOpened front → opening_pairs (front ++ rest) ≡ opening_pairs front
-pairs_front [] rest is = absurd is
-pairs_front (e ∷ front) rest is = refl
-
--- the key pairs of a history stay
-pub pairs_stay : (front log : List Entry) → IsPrefix front log → IsHistory front → opening_pairs log ≡ opening_pairs front
-pairs_stay front log begins history = ap opening_pairs (sym begins.1) ∙ pairs_front front begins.0 history.opened
+    subst (HasStayed key front) joined (rest_stays tag key front rest goes.first.opened (subst IsHistory (sym joined) goes.second) none has)

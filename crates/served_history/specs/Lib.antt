@@ -1,3 +1,4 @@
 pub mod Connections
 pub mod Growth
 pub mod Histories
+pub mod Rotations

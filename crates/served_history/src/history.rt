@@ -3,14 +3,15 @@
 ghost use Rattle.std.specs.Prelude.{◌≡◌, ◌+◌, ◌<◌, ◌^◌, ◌∷◌, List, [], MatchBool};
 ghost use mathlib.Core.List.{IsPrefix};
 ghost use Rattle.served_history.specs.declared.entry.Entry.{Entry as History_entry};
-ghost use Rattle.served_history.specs.declared.entry.Entry.TheVariants.{Opened, Served, Split};
+ghost use Rattle.served_history.specs.declared.entry.Entry.TheVariants.{Opened, Rotated, Served, Split};
 ghost use Rattle.served_history.specs.Growth.{IsAdded, word_of};
 ghost use Rattle.served_history.specs.Histories.{count_of, IsHistory, IsOwn};
 
-use crate::entry::{Call, Entry, NextServed, NextSplit};
-use access_rules::Keys;
+use crate::entry::{Call, Entry, NextRotation, NextServed, NextSplit};
+use access_rules::{Keys, Which};
+use hmac_sign::SigningKey;
 use logbook::{Gain, Offer, Opening, Pens, Plain, Play, Rule, Seen, Start, Word};
-use stamp_types::Key;
+use stamp_types::{Key, Text};
 use std::marker::{Brand, Model, PhantomData};
 
 /// How many slots there may be.
@@ -69,6 +70,15 @@ impl<'a> Plain<NextSplit<'a>, Entry, u64> for Add {
     ghost use Rattle.served_history.specs.declared.entry.Entry.TheVariants.{Split};
 
     ghost ask = { λ e. Split e.slot e.middle.now e.upper };
+
+    ghost state = { λ e. None };
+}
+
+impl<'a> Plain<NextRotation<'a>, Entry, u64> for Add {
+    ghost use Rattle.std.specs.Prelude.{None};
+    ghost use Rattle.served_history.specs.declared.entry.Entry.TheVariants.{Rotated};
+
+    ghost ask = { λ e. Rotated e.slot e.account.now e.which e.key.now };
 
     ghost state = { λ e. None };
 }
@@ -257,6 +267,42 @@ impl<A: Account> Front<A> {
         let mut offer: Offer<Entry, u64, Counted, Nothing> = self
             .seen
             .plain::<Nothing, NextSplit<'_>, Add>(&next);
+        let mut pen = self.seen.no_pen();
+        let found = word
+            .word
+            .compare_exchange::<Add, Nothing>(
+                count,
+                count + 1,
+                &mut self.seen,
+                &mut offer,
+                &mut pen,
+            );
+        found == count
+    }
+
+    /// Adds a rotation by a slot to a history that goes on from what is known, and returns whether it did. It did not if the slot has not made so
+    /// many entries.
+    pub(crate) fn add_rotation(
+        &mut self,
+        word: &SlotWord<A>,
+        count: u64,
+        account: &Text,
+        which: Which,
+        key: &SigningKey,
+    ) -> bool
+        requires room { count < 2 ^ 62 }
+        requires own { (log : List History_entry) → IsPrefix self.old log → count_of word.now.number log ≡ count → IsHistory log → IsOwn log (Rotated word.now.number account.now which key.now) }
+        ensures { MatchBool result (IsAdded word.now.number count self.old (Rotated word.now.number account.now which key.now) self.new) (Unit {0}) }
+    {
+        let next = NextRotation {
+            slot: word.number,
+            account,
+            which,
+            key,
+        };
+        let mut offer: Offer<Entry, u64, Counted, Nothing> = self
+            .seen
+            .plain::<Nothing, NextRotation<'_>, Add>(&next);
         let mut pen = self.seen.no_pen();
         let found = word
             .word

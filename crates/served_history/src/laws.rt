@@ -16,26 +16,24 @@ ghost use Rattle.http_front.specs.Connections.{ConnectionState};
 ghost use Rattle.http_front.specs.Conversations.{AnswersInput, BreaksOff, EndsOutOfMemory};
 ghost use Rattle.served_history.specs.declared.entry.Entry.{Entry};
 ghost use Rattle.served_history.specs.Growth.{IsEntered};
-ghost use Rattle.served_history.specs.Histories.{GoesOnWithout, HasStayed, IsHistory, IsServed, IsUnchanged, entry_after, owner, opening_pairs, served_requests, timed_at, world_left};
+ghost use Rattle.served_history.specs.Histories.{GoesOnWithout, HasStayed, IsHistory, IsServed, IsUnchanged, entry_after, owner, served_requests, timed_at, world_left};
 ghost use Rattle.served_history.specs.Connections.{AddsOneAtMost, AreOfOneHistory, Call, IsReadAfter, ReadsHistory, calls_of};
 
 use crate::history::{Account, Front};
 use http_front::Clock;
 
-/// While a slot makes no entry, its keys stay its own, and their bounds and their containers stay as they are, whatever entries other slots
-/// make. So the reply to a request on one of its keys stays the same too, also to a List Containers.
+/// While a slot makes no entry, its keys stay its own, and their bounds, their key pairs and their containers stay as they are, whatever entries
+/// other slots make. So the reply to a request on one of its keys stays the same too, also to a List Containers.
 pub fn a_slot_keeps_what_it_has()
     ensures stays { (slot : ℕ) (front log : List Entry) (key : Key)
         → GoesOnWithout slot front log → owner front key ≡ slot → HasStayed key front log }
-    ensures pairs { (slot : ℕ) (front log : List Entry)
-        → GoesOnWithout slot front log → opening_pairs log ≡ opening_pairs front }
     ensures reply { (slot : ℕ) (front log : List Entry) (q : Asked) (t : ℕ)
         → GoesOnWithout slot front log → owner front (routed q) ≡ slot → IsAsk q.ask
         → reply_to_one (world_left log) (timed_at log q t)
         ≡ reply_to_one (world_left front) (timed_at front q t) }
 {}
 
-/// After its own entry a slot's keys, their bounds and their containers are as if the slot had made the entry right after what it knew.
+/// After its own entry a slot's keys, their bounds, their key pairs and their containers are as if the slot had made the entry right after what it knew.
 pub fn a_slot_has_what_its_entry_leaves()
     ensures { (slot : ℕ) (front known : List Entry) (e : Entry) (known' : List Entry) (key : Key)
         → IsEntered slot front known e known' → owner front key ≡ slot

@@ -1,12 +1,14 @@
 //! What a slot knows of the history, and how it adds its entries.
 ghost use Rattle.std.specs.Prelude.{◌≡◌, ◌+◌, ◌<◌, ◌^◌, IfSome, IsFalse, MatchBool, OnSome};
-ghost use Rattle.served_history.specs.declared.entry.Entry.TheVariants.{Served, Split};
+ghost use Rattle.served_history.specs.declared.entry.Entry.TheVariants.{Rotated, Served, Split};
 ghost use Rattle.served_history.specs.Growth.{IsEntered};
 ghost use Rattle.served_history.specs.Histories.{count_of, GoesOnWithout, IsOwn};
 
 use crate::entry::Call;
 use crate::history::{Account, Front, SlotWord};
-use stamp_types::Key;
+use access_rules::Which;
+use hmac_sign::SigningKey;
+use stamp_types::{Key, Text};
 use std::marker::Model;
 
 /// The most entries of a slot. A server that answers a million requests a second reaches it after 70,000 years.
@@ -84,6 +86,37 @@ impl<A: Account> SlotHistory<A> {
         *known = next.again();
         self.count += 1;
         self.front = next;
+        true
+    }
+
+    /// Enters that the slot replaced a key of an account, and returns whether it did. Then the slot and whoever knows `known` know the history up
+    /// to this entry. From there on the slot judges requests on its keys by the pair with the new key.
+    ///
+    /// It did not if the slot's word says another number of entries than the slot made, as `enter`.
+    pub fn rotate(
+        &mut self,
+        known: &mut Front<A>,
+        account: &Text,
+        which: Which,
+        key: &SigningKey,
+    ) -> bool
+        requires room { count_of self.old.slot self.old.log < 2 ^ 62 }
+        requires own { IsOwn self.old.log (Rotated self.old.slot account.now which key.now) }
+        ensures entered { MatchBool result (IsEntered self.old.slot self.old.log known.old (Rotated self.old.slot account.now which key.now) known.new)
+            (known.new ≡ known.old) }
+        ensures slot { MatchBool result (self.new ≡ record self.old { log = known.new })
+            (self.new ≡ self.old) }
+        ensures made { MatchBool result (count_of self.old.slot self.new.log ≡ count_of self.old.slot self.old.log + 1)
+            (self.new ≡ self.old) }
+    {
+        let mut after = self.front.again();
+        after.learn(known);
+        if !after.add_rotation(&self.word, self.count, account, which, key) {
+            return false;
+        }
+        *known = after.again();
+        self.count += 1;
+        self.front = after;
         true
     }
 

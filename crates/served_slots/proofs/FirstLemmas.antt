@@ -17,7 +17,7 @@ use Rattle.stored_slot.specs.Meanings.{slot_with}
 use Rattle.served_history.specs.declared.entry.Entry.{Entry}
 use Rattle.served_history.specs.declared.entry.Entry.TheVariants.{Opened}
 use Rattle.served_history.specs.Growth.{SlotFront}
-use Rattle.served_history.specs.Histories.{bound_at, count_of, opening_pairs, owner, world_left}
+use Rattle.served_history.specs.Histories.{bound_at, count_of, owner, pairs_for, world_left}
 use Rattle.served_slots.specs.Slots.{IsLeftBy}
 
 nothing_at : (pairs : Pairs) (k : Key) → part_at empty k ≡ replayed_at pairs empty k
@@ -36,10 +36,11 @@ slot_of_all pairs rows whole = ap (λ (r : KeyRange). slot_of_range pairs r) who
 -- the slot 0 has all keys at first, and no container is there
 pub first_left : (own : SlotFront) (ks : List Keys) (pairs : Pairs) → own.slot ≡ 0 → own.log ≡ Opened ks ∷ [] → pairs ≡ first_pairs ks → AreNumbered pairs → IsLeftBy own None (empty_slot pairs)
 first_left own ks pairs slot log are numbered = record {
+  first = refl;
   has = λ key inside. ap (λ (l : List Entry). owner l key) log ∙ sym slot;
   ends = refl;
   bound = λ key inside. ap (λ (l : List Entry). bound_at l key) log;
-  pairs = are ∙ ap opening_pairs (sym log);
+  pairs = λ key inside. ap (λ (l : List Entry). pairs_for l key) log ∙ sym are;
   numbered = numbered;
   calm = refl;
   containers = λ key inside. ap (λ (l : List Entry). part_at (world_left l) key) log ∙ nothing_at pairs key;

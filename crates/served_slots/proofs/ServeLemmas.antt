@@ -5,8 +5,6 @@ use Rattle.std.specs.Prelude.{length}
 use Rattle.std.specs.declared.cmp.Ordering.{Ordering}
 use Rattle.std.specs.declared.cmp.Ordering.TheVariants.{Less, Equal, Greater}
 use Rattle.std.proofs.lemmas.Bool.{and_parts}
-use Rattle.std.proofs.lemmas.List.{append_assoc}
-use mathlib.Core.List.{IsPrefix}
 use Rattle.stamp_values.specs.Operations.{names_container, writes}
 use Rattle.stamp_values.specs.Order.{key_cmp, keys_exact, keys_total}
 use Rattle.stamp_values.specs.Trees.{is_from}
@@ -34,11 +32,12 @@ use Rattle.slot_state.proofs.StepLemmas.{effect_replayed}
 use Rattle.served_history.specs.declared.entry.Entry.{Entry}
 use Rattle.served_history.specs.declared.entry.Entry.TheVariants.{Served}
 use Rattle.served_history.specs.Growth.{IsEntered, SlotFront}
-use Rattle.served_history.specs.Histories.{entry_after, opening_pairs, timed_at, world_left, HasStayed, IsOwn, IsServed}
+use Rattle.served_history.specs.Histories.{entry_after, timed_at, world_left, HasStayed, IsOwn, IsServed}
 use Rattle.served_history.proofs.AfterLemmas.{entry_follows}
 use Rattle.served_history.proofs.KeyLemmas.{bound-one, owner-one}
+use Rattle.served_history.proofs.PairLemmas.{pairs-one}
 use Rattle.served_history.proofs.ReplyLemmas.{entered_is_served, entry_stays, timed_stays}
-use Rattle.served_history.proofs.StayLemmas.{pairs_stay, routed_own, stays, world_left-append}
+use Rattle.served_history.proofs.StayLemmas.{routed_own, stays, world_left-append}
 use Rattle.served_slots.specs.Audits.{AuditsInSlot, AuditsLast, IsAuditOf, IsSlotAudit, revision_at}
 use Rattle.served_slots.specs.Slots.{IsLeftBy, timed_in}
 
@@ -56,13 +55,6 @@ from_from a b c e f = by (key_cmp a b) refl e
     by Equal is le = subst (λ (k : Key). is_from k c ≡ true) (sym (keys_exact a b is)) f
     by Greater is le = cc
 
--- the key pairs stay after an entry
-pub pairs_after : (slot : ℕ) (front known : List Entry) (e : Entry) (known' : List Entry) → IsEntered slot front known e known' → opening_pairs known' ≡ opening_pairs front
-pairs_after slot front known e known' entered =
-    let goes = entered.slot_knew in
-    let begins : IsPrefix front known' = (goes.begins.0 ++ e ∷ [], sym (append_assoc front goes.begins.0 (e ∷ [])) ∙ ap (λ (l : List Entry). l ++ e ∷ []) goes.begins.1 ∙ sym entered.enters) in
-    pairs_stay front known' begins goes.first
-
 -- what judges a request in a slot
 abbrev revision_in : SlotState → Asked → Revised
 revision_in s q = record { acl = acl_of (replayed_at s.pairs s.histories q.ask.key); keys = current_at s.pairs q.ask.key.account }
@@ -71,7 +63,7 @@ module _ (front : SlotFront) (to : Option Key) (s : SlotState) (left : IsLeftBy 
   -- the request is served as the history says
   pub timed_is : timed_in s to q t ≡ timed_at front.log q t
   timed_is =
-      let pairs = left.pairs in
+      let pairs = sym (left.pairs (routed q) covered) in
       let bound = sym (left.bound (routed q) covered ∙ left.ends) in
       λ i. record { request = q; moment = t; keys = current_at (pairs i) q.ask.key.account; bound = bound i }
 
@@ -173,10 +165,11 @@ module _ (front : SlotFront) (to : Option Key) (s : SlotState) (left : IsLeftBy 
 
       left_next : IsLeftBy (record { slot = front.slot; log = known' }) to (slot_after s q t)
       left_next = record {
+        first = left.first;
         has = λ key inside. (stayed key inside).slot ∙ owner-one front.log e key ∙ left.has key inside;
         ends = left.ends;
         bound = λ key inside. (stayed key inside).bound ∙ bound-one front.log e key ∙ left.bound key inside;
-        pairs = left.pairs ∙ sym (pairs_after front.slot front.log known e known' own);
+        pairs = λ key inside. (stayed key inside).pairs ∙ pairs-one front.log e key ∙ left.pairs key inside;
         numbered = left.numbered;
         calm = left.calm;
         containers = λ key inside.

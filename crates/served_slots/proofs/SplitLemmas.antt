@@ -1,6 +1,9 @@
 -- Both halves of a slot whose containers are those that its history leaves.
 use Rattle.std.proofs.Common.{◌≡◌, ℕ, ◌&&◌, nat_eq, Bool, true, false, List, [], ◌∷◌, ◌++◌, Option, Some, refl, sym, ap, ◌∙◌}
+use Rattle.std.specs.Cmp.{Equal-is, eq_by_cmp_equiv}
+use Rattle.std.specs.Ordering.{is_le}
 use Rattle.std.proofs.lemmas.Bool.{and_parts}
+use Rattle.stamp_values.specs.Order.{key_cmp, keys_total}
 use Rattle.stamp_values.specs.Trees.{is_below, is_from}
 use Rattle.stamp_values.specs.declared.key.Key.{Key}
 use Rattle.stamp_types.specs.World.{World, part_at}
@@ -10,13 +13,18 @@ use Rattle.slot_state.proofs.HalfLemmas.{below_excludes, from_excludes, is_there
 use Rattle.served_history.specs.declared.entry.Entry.{Entry}
 use Rattle.served_history.specs.declared.entry.Entry.TheVariants.{Split}
 use Rattle.served_history.specs.Growth.{SlotFront}
-use Rattle.served_history.specs.Histories.{bound_at, owner, opening_pairs, world_left, HasStayed}
+use Rattle.served_history.specs.Histories.{bound_at, owner, pairs_for, world_left, HasStayed}
 use Rattle.served_history.proofs.AfterLemmas.{entry_follows}
 use Rattle.served_history.proofs.KeyLemmas.{bound-one, by_false, by_true, from_of_below, owner-one, under_before}
+use Rattle.served_history.proofs.PairLemmas.{pairs-one}
 use Rattle.served_history.proofs.SlotLemmas.{made_it}
-use Rattle.served_history.proofs.StayLemmas.{pairs_stay, stays, world_left-append}
+use Rattle.served_history.proofs.StayLemmas.{stays, world_left-append}
 use Rattle.served_slots.specs.Slots.{IsLeftBy, IsParted}
-use Rattle.served_slots.proofs.ServeLemmas.{from_from, pairs_after}
+use Rattle.served_slots.proofs.ServeLemmas.{from_from}
+
+-- a key is from itself on
+from_itself : (key : Key) → is_from key key ≡ true
+from_itself key = ap is_le ((Equal-is (key_cmp key key)).0 ((eq_by_cmp_equiv keys_total).refl key))
 
 both : (a b : Bool) → a ≡ true → b ≡ true → (a && b) ≡ true
 both true b p q = q
@@ -40,8 +48,8 @@ module _ (front : SlotFront) (to : Option Key) (s : SlotState) (left : IsLeftBy 
     stayed : (key : Key) → covers s key ≡ true → HasStayed key (front.log ++ e ∷ []) lower.log
     stayed key there = entry_follows front.slot front.log front.log e lower.log key parted.entered (left.has key there)
 
-    pairs_lower : s.pairs ≡ opening_pairs lower.log
-    pairs_lower = left.pairs ∙ sym (pairs_after front.slot front.log front.log e lower.log parted.entered)
+    pairs_lower : (key : Key) → covers s key ≡ true → pairs_for lower.log key ≡ s.pairs
+    pairs_lower key there = (stayed key there).pairs ∙ pairs-one front.log e key ∙ left.pairs key there
 
     container_lower : (key : Key) → covers s key ≡ true → part_at (world_left lower.log) key ≡ replayed_at s.pairs s.histories key
     container_lower key there =
@@ -83,10 +91,11 @@ module _ (front : SlotFront) (to : Option Key) (s : SlotState) (left : IsLeftBy 
 
     pub lower_left : IsLeftBy lower (Some middle) (lower_half s middle)
     lower_left = record {
+      first = both (is_from s.from s.from) (is_below middle s.from) (and_parts (is_from s.from s.from) (is_under s.to s.from) left.first).0 (and_parts (is_below middle s.from) (is_under s.to middle) inside).0;
       has = lower_has;
       ends = refl;
       bound = lower_bound;
-      pairs = pairs_lower;
+      pairs = λ key there. pairs_lower key (lower_there key there);
       numbered = left.numbered;
       calm = left.calm;
       containers = lower_container;
@@ -128,10 +137,11 @@ module _ (front : SlotFront) (to : Option Key) (s : SlotState) (left : IsLeftBy 
 
     pub upper_left : IsLeftBy upper to (upper_half s middle)
     upper_left = record {
+      first = both (is_from middle middle) (is_under s.to middle) (from_itself middle) before_end;
       has = upper_has;
       ends = left.ends;
       bound = upper_bound;
-      pairs = pairs_lower ∙ sym (pairs_stay lower.log upper.log parted.fresh.begins parted.fresh.first);
+      pairs = λ key there. (kept key there).pairs ∙ pairs_lower key (upper_there key there);
       numbered = left.numbered;
       calm = refl;
       containers = upper_container;

@@ -1,4 +1,5 @@
 pub mod Audits
+pub mod Rotations
 pub mod Slots
 pub mod SteadyCounts
 pub mod Steps

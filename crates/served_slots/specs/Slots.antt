@@ -9,15 +9,17 @@ use Rattle.slot_state.specs.Pairs.{AreNumbered, current_at}
 use Rattle.slot_state.specs.Slots.{SlotState, covers, replayed_at}
 use Rattle.served_history.specs.declared.entry.Entry.TheVariants.{Split}
 use Rattle.served_history.specs.Growth.{IsEntered, SlotFront}
-use Rattle.served_history.specs.Histories.{bound_at, opening_pairs, owner, world_left, GoesOnWithout}
+use Rattle.served_history.specs.Histories.{bound_at, owner, pairs_for, world_left, GoesOnWithout}
 
--- The slot has the keys of its range in the history, and this bound is the end of its range and the bound that the history gives each of these
--- keys. Its key pairs are those of the history. No change of it is in doubt. Each container of its range replays to what the history leaves
+-- The slot has the keys of its range in the history, and the first of them is in the range. This bound is the end of the range, and the bound that
+-- the history gives each of these keys. The slot's key pairs are those by which the history judges on each of them. No change of the slot is in
+-- doubt. Each container of its range replays to what the history leaves
 pub record IsLeftBy (front : SlotFront) (to : Option Key) (s : SlotState) : Type 0 where
+  pub first : covers s s.from ≡ true
   pub has : (key : Key) → covers s key ≡ true → owner front.log key ≡ front.slot
   pub ends : s.to ≡ to
   pub bound : (key : Key) → covers s key ≡ true → bound_at front.log key ≡ s.to
-  pub pairs : s.pairs ≡ opening_pairs front.log
+  pub pairs : (key : Key) → covers s key ≡ true → pairs_for front.log key ≡ s.pairs
   pub numbered : AreNumbered s.pairs
   pub calm : s.doubt ≡ None
   pub containers : (key : Key) → covers s key ≡ true → part_at (world_left front.log) key ≡ replayed_at s.pairs s.histories key

@@ -90,7 +90,7 @@ impl<'a, A: Account, R: Wait> Service for Connection<'a, A, R> {
         moment: Moment,
     ) -> Result<Reply, AllocError> {
         let reading = Reading::of(alloc, &request)?;
-        let Ok(ready) = self.slots.ready(alloc, &request) else {
+        let Ok(ready) = self.slots.ready(self.rt, alloc, &request) else {
             drop(reading);
             return Err(AllocError);
         };

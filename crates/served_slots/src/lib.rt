@@ -5,11 +5,15 @@ mod connection;
 mod entering;
 mod laws;
 mod locked;
+mod next_pairs;
+mod operator;
 mod posting;
 #[cfg(test)]
 mod posting_tests;
 mod ready;
 mod replied;
+#[cfg(test)]
+mod rotation_tests;
 mod slots;
 #[cfg(test)]
 mod slots_tests;
@@ -17,11 +21,13 @@ mod splitting;
 mod steadily;
 mod steady;
 mod table;
+mod taking;
 mod told;
 
 pub use connection::{Connection, two_connections_agree};
 pub use laws::{
     a_slot_has_what_its_requests_leave, both_halves_have_what_is_left, the_first_slot_has_all_keys,
 };
+pub use operator::Operator;
 pub use slots::Slots;
 pub use splitting::SplitError;

@@ -10,6 +10,8 @@ ghost use Rattle.served_slots.specs.Audits.{AuditsLast};
 ghost use Rattle.served_slots.specs.Slots.{IsLeftBy};
 ghost use Rattle.served_slots.specs.Steps.{IsPartedFrom, MakesOne, StaysOrEnds};
 
+pub(crate) mod rotating;
+
 use crate::entering::{Missed, Upper, cut_and_enter, serve_and_enter};
 use crate::ready::Ready;
 use crate::steadily::{compact_steadily, first_slot};

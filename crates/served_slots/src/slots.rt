@@ -1,6 +1,7 @@
 //! The slots of a stamp.
-ghost use Rattle.std.specs.Prelude.{◌≡◌, ◌⊎◌, ◌∷◌, [], IfErr, IfOk, None, OnErr, OnOk, Some};
+ghost use Rattle.std.specs.Prelude.{◌≡◌, ◌⊎◌, ◌∷◌, [], Err, IfErr, IfOk, None, OnErr, OnOk, Some};
 ghost use Rattle.std.specs.Arc.{arc_value};
+ghost use Rattle.access_rules.specs.declared.rotation.KeysFault.TheVariants.{Last};
 ghost use Rattle.policy_book.specs.Judgements.{IsOfAsk};
 ghost use Rattle.range_rows.specs.Readings.{reading_of};
 ghost use Rattle.stamp_model.specs.SeenContainers.{routed};
@@ -11,18 +12,21 @@ ghost use Rattle.slot_state.specs.Slots.{empty_slot};
 ghost use Rattle.served_history.specs.declared.entry.Entry.TheVariants.{Opened};
 ghost use Rattle.served_history.specs.Histories.{IsServed, count_of};
 ghost use Rattle.served_slots.specs.Audits.{AuditsLast};
+ghost use Rattle.served_slots.specs.Rotations.{HasLastEpoch, HasRotated};
 ghost use Rattle.served_slots.specs.Slots.{IsLeftBy};
 ghost use Rattle.served_slots.specs.Steps.{IsSplitFault, SpansSay};
 
+use crate::next_pairs::judging_pairs;
 use crate::ready::Ready;
 use crate::splitting::SplitError;
 use crate::table::Table;
 use crate::told::Told;
-use access_rules::Keys;
+use access_rules::{Keys, KeysFault, Which};
+use hmac_sign::SigningKey;
 use range_rows::Reading;
 use served_history::{Account, Front, NewHistory, SlotHistory, SlotWord};
 use slot_state::{AccountPairs, PairsFault};
-use stamp_types::{Key, Moment, Request};
+use stamp_types::{Key, Moment, Request, Text};
 use std::alloc::{AllocError, Global};
 use std::marker::PhantomData;
 use std::sync::{Arc, RwLock, Wait};
@@ -110,13 +114,25 @@ fn first_table<A: Account>(
     Ok(table)
 }
 
+// One more owner of the pairs.
+fn one_more(pairs: &Arc<AccountPairs>) -> Result<Arc<AccountPairs>, AllocError> {
+    pairs.clone()
+}
+
+// The next pairs take the place of the pairs, if there are next pairs.
+fn replace(pairs: &mut Arc<AccountPairs>, next: Option<Arc<AccountPairs>>) {
+    if let Some(next) = next {
+        *pairs = next;
+    }
+}
+
 /// Slots that many threads share: a lock for their table, and a lock for each slot. The requests to all of them are the entries of one history.
 ///
-/// A split takes the table's lock to write. A request takes it to read, and then the lock of one slot. The key pairs of the accounts are under no
-/// lock, so that signatures are judged without one.
+/// A split or a rotation takes the table's lock to write. A request takes it to read, and then the lock of one slot. The key pairs by which signatures
+/// are judged before have a lock of their own, which is held while one more owner of them is made, and while they are replaced.
 #[derive(Drop)]
 pub struct Slots<A: Account> {
-    pairs: Arc<AccountPairs>,
+    pairs: RwLock<Arc<AccountPairs>>,
     table: RwLock<Table<A>>,
 }
 
@@ -151,17 +167,24 @@ impl<A: Account> Slots<A> {
         let pairs = shared_pairs(alloc, pairs)?;
         let table = first_table(alloc, &pairs, own, spares)?;
         let table = RwLock::new(table);
+        let pairs = RwLock::new(pairs);
         Ok((Slots { pairs, table }, front))
     }
 
     /// What is made of the request before a lock is taken.
     ///
     /// `AllocError` if memory runs out.
-    pub(crate) fn ready(&self, alloc: Global, request: &Request) -> Result<Ready, AllocError>
+    pub(crate) fn ready<R: Wait>(
+        &self,
+        rt: &R,
+        alloc: Global,
+        request: &Request,
+    ) -> Result<Ready, AllocError>
         ensures first { IfOk result (λ ready. ready.first ≡ routed request.now) }
         ensures judged { IfOk result (λ ready. IsOfAsk ready.judged request.now.ask) }
     {
-        Ready::of(alloc, &self.pairs, request)
+        let pairs = one_more(&self.pairs.read(rt))?;
+        Ready::of(alloc, &pairs, request)
     }
 
     /// Serves a request by the slot that has its first key. The request is then the last entry that the connection knows. If entries of the
@@ -191,6 +214,33 @@ impl<A: Account> Slots<A> {
         locked.answer(
             alloc, known, request, ready, reading, moment, is_audited,
         )
+    }
+
+    /// Replaces a key of the account for all slots, or for none. Answers the epoch of the new pair. Each slot enters the rotation, so that requests on
+    /// its keys that come after its entry are judged by the new pair. No request is answered meanwhile.
+    ///
+    /// `Last` if no epoch comes after that of a slot's pair. `NoMemory` if memory runs out, or if the stamp has no such account, or if no slot is of use.
+    pub(crate) fn rotate<R: Wait>(
+        &self,
+        rt: &R,
+        alloc: Global,
+        known: &mut Front<A>,
+        account: &Text,
+        which: Which,
+        key: &SigningKey,
+    ) -> Result<u64, KeysFault>
+        ensures rotated { IfOk result (λ epoch. HasRotated known.old account.now which key.now epoch known.new) }
+        ensures same { OnErr result (known.new ≡ known.old) }
+        ensures last { result ≡ Err Last → HasLastEpoch known.old account.now }
+    {
+        let mut table = self.table.write(rt);
+        let mut pairs = self.pairs.write(rt);
+        let Ok(next) = judging_pairs(&pairs, alloc, account, which, key) else {
+            return Err(KeysFault::NoMemory);
+        };
+        let epoch = table.rotate(alloc, known, account, which, key)?;
+        replace(&mut pairs, next);
+        Ok(epoch)
     }
 
     /// Splits the slot with this number at a key, which is the first key of the upper half. The upper half has the next number, and each later

@@ -1,16 +1,21 @@
 //! The table of the slots.
-ghost use Rattle.std.specs.Prelude.{◌≡◌, ◌+◌, ◌<◌, IfErr, None, OnErr, OnOk, length, vec_capacity, vec_len};
+ghost use Rattle.std.specs.Prelude.{◌≡◌, ◌+◌, ◌<◌, Err, IfErr, IfOk, None, OnErr, OnOk, length, vec_capacity, vec_len};
 ghost use Rattle.std.specs.Arc.{arc_value};
+ghost use Rattle.access_rules.specs.declared.rotation.KeysFault.TheVariants.{Last};
 ghost use Rattle.slot_state.specs.Slots.{empty_slot};
+ghost use Rattle.served_slots.specs.Rotations.{HasLastEpoch, HasRotated, RotatesSlots};
 ghost use Rattle.served_slots.specs.Slots.{IsLeftBy};
 ghost use Rattle.served_slots.specs.Steps.{IsHalveFault, IsSplitFault, SpansSay};
 
 use crate::locked::LockedSlot;
+use crate::locked::rotating::rotate_from;
 use crate::splitting::SplitError;
+use access_rules::{KeysFault, Which};
+use hmac_sign::SigningKey;
 use partition_map::Spans;
-use served_history::{Account, SlotHistory, SlotWord};
+use served_history::{Account, Front, SlotHistory, SlotWord};
 use slot_state::AccountPairs;
-use stamp_types::Key;
+use stamp_types::{Key, Text};
 use std::alloc::{AllocError, Global};
 use std::sync::{Arc, Mutex, MutexGuard, Wait};
 
@@ -73,6 +78,25 @@ fn halve<A: Account>(
         Ok(()) => halve_reserved(slots, alloc, at, middle, spares),
         Err(_) => Err(SplitError::NoMemory),
     }
+}
+
+// Replaces a key of the account for all these slots, or for none.
+fn rotate_slots<A: Account>(
+    slots: &mut [Mutex<LockedSlot<A>>],
+    alloc: Global,
+    known: &mut Front<A>,
+    account: &Text,
+    which: Which,
+    key: &SigningKey,
+) -> Result<Option<u64>, KeysFault>
+    ensures rotated { IfOk result (λ told. RotatesSlots known.old account.now which key.now told known.new) }
+    ensures refused { OnErr result (known.new ≡ known.old) }
+    ensures last { result ≡ Err Last → HasLastEpoch known.old account.now }
+{
+    let Some((first, rest)) = slots.split_first_mut() else {
+        return Ok(None);
+    };
+    rotate_from(first.get_mut(), rest, alloc, known, account, which, key)
 }
 
 impl<A: Account> Table<A> {
@@ -141,5 +165,28 @@ impl<A: Account> Table<A> {
             self.spans.join(slot);
         }
         halved
+    }
+
+    /// Replaces a key of the account for all slots, or for none. Answers the epoch of the new pair.
+    ///
+    /// `Last` if no epoch comes after that of a slot's pair. `NoMemory` if memory runs out, or if the stamp has no such account, or if no slot is of use.
+    pub(crate) fn rotate(
+        &mut self,
+        alloc: Global,
+        known: &mut Front<A>,
+        account: &Text,
+        which: Which,
+        key: &SigningKey,
+    ) -> Result<u64, KeysFault>
+        ensures rotated { IfOk result (λ epoch. HasRotated known.old account.now which key.now epoch known.new) }
+        ensures same { OnErr result (known.new ≡ known.old) }
+        ensures last { result ≡ Err Last → HasLastEpoch known.old account.now }
+    {
+        match rotate_slots(&mut self.slots, alloc, known, account, which, key) {
+            Ok(Some(epoch)) => Ok(epoch),
+            Ok(None) => Err(KeysFault::NoMemory),
+            Err(KeysFault::Last) => Err(KeysFault::Last),
+            Err(KeysFault::NoMemory) => Err(KeysFault::NoMemory),
+        }
     }
 }

@@ -1,12 +1,9 @@
 use Rattle.served_history.proofs.ReplyLemmas.{reply_stays}
-use Rattle.served_history.proofs.StayLemmas.{pairs_stay, stays}
+use Rattle.served_history.proofs.StayLemmas.{stays}
 use Rattle.served_history.proofs.laws.a_slot_keeps_what_it_has.Goals as goal
 
 pub returns-clause-stays : goal.returns-clause-stays
 returns-clause-stays c = λ slot front log key goes has. stays slot key front log goes has
-
-pub returns-clause-pairs : goal.returns-clause-pairs
-returns-clause-pairs c = λ slot front log goes. pairs_stay front log goes.begins goes.first
 
 pub returns-clause-reply : goal.returns-clause-reply
 returns-clause-reply c = λ slot front log q t goes has fits. reply_stays slot front log goes q t has fits

@@ -1,0 +1,89 @@
+-- What a rotation makes of the key pairs of a slot, and what an operator knows of the history then (Blob service REST reference, 2012-02-12,
+-- Authentication for the Azure Storage Services: an account has two keys). That each slot enters the rotation is the stamp's own.
+use Rattle.std.specs.Prelude.{◌≡◌, ⊤, ℕ, List, [], ◌∷◌, ◌++◌, map, Option, Some, None, Result, Ok, Err}
+use mathlib.Core.List.{IsPrefix}
+use Rattle.stamp_values.specs.declared.key.Key.{Key}
+use Rattle.access_rules.specs.declared.keys.Keys.{Keys}
+use Rattle.access_rules.specs.declared.rotation.KeysFault.{KeysFault}
+use Rattle.access_rules.specs.declared.rotation.KeysFault.TheVariants as fault
+use Rattle.access_rules.specs.declared.rotation.Which.{Which}
+use Rattle.access_rules.specs.Rotation.{epoch_after, rotated}
+use Rattle.slot_state.specs.Pairs.{Pairs, current_at}
+use Rattle.served_history.specs.declared.entry.Entry.{Entry}
+use Rattle.served_history.specs.declared.entry.Entry.TheVariants.{Rotated}
+use Rattle.served_history.specs.Connections.{IsAmong}
+use Rattle.served_history.specs.Growth.{IsEntered, SlotFront}
+use Rattle.served_history.specs.Histories.{next_pairs, owner, pair_for}
+use Rattle.served_slots.specs.Steps.{HasOneMore}
+
+-- ---- key pairs
+
+-- the last epoch that there can be
+abbrev pub last_epoch : ℕ
+last_epoch = 18446744073709551615
+
+-- the pair after the pair in force, with one of its keys replaced; or why no pair was made
+abbrev pub IsNextPair : Option Keys → Which → List ℕ → Result Keys KeysFault → Type 0
+IsNextPair (Some old) which key (Ok pair) = pair ≡ rotated old which key (epoch_after old.epoch)
+IsNextPair (Some old) which key (Err fault.Last) = old.epoch ≡ last_epoch
+IsNextPair o which key (Err fault.NoMemory) = ⊤
+IsNextPair o which key r = ⊥
+
+-- the account has a pair in force, after which comes the pair with this epoch; and these are the pairs of all accounts with it
+abbrev pub HasNextPair : Pairs → List ℕ → Which → List ℕ → ℕ → Pairs → Type 0
+HasNextPair pairs account which key epoch longer =
+    (old : Keys) × ((current_at pairs account ≡ Some old) × ((epoch ≡ epoch_after old.epoch) × (longer ≡ next_pairs pairs account which key)))
+
+-- why no pair comes after the pair in force: it has the last epoch, or memory ran out, or the account has no pair
+abbrev pub HasNoNextPair : Pairs → List ℕ → KeysFault → Type 0
+HasNoNextPair pairs account fault.Last = (old : Keys) × ((current_at pairs account ≡ Some old) × (old.epoch ≡ last_epoch))
+HasNoNextPair pairs account fault.NoMemory = ⊤
+
+-- ---- one slot
+
+-- a request on a key of the slot is judged by a pair with this epoch after the entries
+pub record IsToldBy (slot : ℕ) (account : List ℕ) (epoch : ℕ) (log : List Entry) : Type 0 where
+  pub key : Key
+  pub pair : Keys
+  pub has : owner log key ≡ slot
+  pub judges : pair_for log key account ≡ Some pair
+  pub told : epoch ≡ pair.epoch
+
+-- A slot that knows the history entered the rotation, as its one entry, after what was known, and knows then what is known; or it is of no use any
+-- more. A slot of no use stays so
+abbrev pub RotatesSlot : Option SlotFront → List Entry → List ℕ → Which → List ℕ → List Entry → Option SlotFront → Type 0
+RotatesSlot (Some front) known account which key known' (Some front') = IsEntered front.slot front.log known (Rotated front.slot account which key) known' × HasOneMore front known' front'
+RotatesSlot (Some front) known account which key known' None = ⊤
+RotatesSlot None known account which key known' after = after ≡ None
+
+-- ---- all slots
+
+-- the entries by which these slots replace the key
+abbrev pub rotations_of : List ℕ → List ℕ → Which → List ℕ → List Entry
+rotations_of slots account which key = map (λ slot. Rotated slot account which key) slots
+
+-- What was known of the history is continued by entries, among which are the rotations of some slots in turn, and then by the rotation of one slot
+-- more. The epoch told is that of a pair by which this slot judges from then on
+pub record HasRotated (known : List Entry) (account : List ℕ) (which : Which) (key : List ℕ) (epoch : ℕ) (known' : List Entry) : Type 0 where
+  pub slots : List ℕ
+  pub slot : ℕ
+  pub others : List Entry
+  pub enters : known' ≡ (known ++ others) ++ Rotated slot account which key ∷ []
+  pub own : IsAmong (rotations_of slots account which key) others
+  pub told : IsToldBy slot account epoch known'
+
+-- some slots replaced the key, the last of which told this epoch; or no slot did
+abbrev pub RotatesSlots : List Entry → List ℕ → Which → List ℕ → Option ℕ → List Entry → Type 0
+RotatesSlots known account which key None known' = known' ≡ known
+RotatesSlots known account which key (Some epoch) known' = HasRotated known account which key epoch known'
+
+-- a beginning of a history, which the known entries begin too, after which the account's pair in force for some key has the last epoch
+pub record HasLastEpoch (known : List Entry) (account : List ℕ) : Type 0 where
+  pub history : List Entry
+  pub log : List Entry
+  pub knew : IsPrefix known history
+  pub begins : IsPrefix log history
+  pub key : Key
+  pub pair : Keys
+  pub judges : pair_for log key account ≡ Some pair
+  pub last : pair.epoch ≡ last_epoch

@@ -1,0 +1,154 @@
+//! How a key of an account is replaced for all slots, each of which enters the rotation.
+ghost use Rattle.std.specs.Prelude.{◌≡◌, ◌<◌, ◌^◌, Err, IfOk, IfSome, List, None, OnErr, OnOk};
+ghost use Rattle.std.specs.Arc.{arc_value};
+ghost use Rattle.access_rules.specs.declared.rotation.KeysFault.TheVariants.{Last};
+ghost use Rattle.served_history.specs.declared.entry.Entry.{Entry};
+ghost use Rattle.served_history.specs.Histories.{count_of};
+ghost use Rattle.served_slots.specs.Rotations.{HasLastEpoch, HasNextPair, RotatesSlot, RotatesSlots};
+ghost use Rattle.served_slots.specs.Slots.{IsLeftBy};
+
+use crate::locked::LockedSlot;
+use crate::next_pairs::{Longer, longer_pairs};
+use crate::taking::take_and_enter;
+use access_rules::{KeysFault, Which};
+use hmac_sign::SigningKey;
+use served_history::{Account, Front, SlotHistory};
+use slot_state::ProvedHistories;
+use stamp_types::{Key, Text};
+use std::alloc::Global;
+use std::sync::Mutex;
+use stored_slot::StoredSlot;
+
+// The pairs of the slot after the rotation; none if the slot is of no use.
+//
+// `Last` if no epoch comes after that of the slot's pair. `NoMemory` if memory runs out, or if the account has no pair, or if the slot has made as
+// many entries as it may.
+fn longer_of<A: Account>(
+    slot: &StoredSlot<ProvedHistories>,
+    history: &Option<SlotHistory<A>>,
+    to: &Option<Key>,
+    known: &Front<A>,
+    alloc: Global,
+    account: &Text,
+    which: Which,
+    key: &SigningKey,
+) -> Result<Option<Longer>, KeysFault>
+    requires left { IfSome history.now (λ own. IsLeftBy own to.now slot.now) }
+    ensures made { IfOk result (λ found. IfSome found (λ longer. HasNextPair slot.now.pairs account.now which key.now longer.epoch (arc_value longer.pairs))) }
+    ensures room { IfOk result (λ found. IfSome found (λ longer. IfSome history.now (λ own. count_of own.slot own.log < 2 ^ 62))) }
+    ensures passed { IfOk result (λ found. found ≡ None → history.now ≡ None) }
+    ensures last { result ≡ Err Last → HasLastEpoch known.now account.now }
+{
+    let _end = to;
+    let Some(own) = history else {
+        return Ok(None);
+    };
+    if own.is_full() {
+        return Err(KeysFault::NoMemory);
+    }
+    let mut both = own.front();
+    both.learn(known);
+    let longer = longer_pairs(slot.account_pairs(), alloc, account, which, key)?;
+    Ok(Some(longer))
+}
+
+// The slot takes its longer pairs, if it is of use, and enters the rotation. Answers the epoch of its new pair, or else the epoch that was told before.
+fn enter_longer<A: Account>(
+    slot: &mut StoredSlot<ProvedHistories>,
+    history: &mut Option<SlotHistory<A>>,
+    to: &Option<Key>,
+    known: &mut Front<A>,
+    account: &Text,
+    which: Which,
+    key: &SigningKey,
+    longer: Option<Longer>,
+    told: Option<u64>,
+) -> Option<u64>
+    requires left { IfSome history.old (λ own. IsLeftBy own to.now slot.old) }
+    requires next { IfSome longer (λ found. HasNextPair slot.old.pairs account.now which key.now found.epoch (arc_value found.pairs)) }
+    requires room { IfSome longer (λ found. IfSome history.old (λ own. count_of own.slot own.log < 2 ^ 62)) }
+    requires passed { longer ≡ None → history.old ≡ None }
+    ensures left { IfSome history.new (λ own. IsLeftBy own to.now slot.new) }
+    ensures slot { RotatesSlot history.old known.old account.now which key.now known.new history.new }
+    ensures slots { (start : List Entry) → RotatesSlots start account.now which key.now told known.old
+        → RotatesSlots start account.now which key.now result known.new }
+{
+    let Some(longer) = longer else {
+        return told;
+    };
+    let Some(own) = history else {
+        drop(longer);
+        return told;
+    };
+    match take_and_enter(slot, own, to, known, account, which, key, longer) {
+        Some(epoch) => Some(epoch),
+        None => {
+            drop(history.take());
+            told
+        }
+    }
+}
+
+/// A key of the account is replaced for this slot and the slots after it. Each of them takes its longer pairs and enters the rotation, the last one
+/// first; a slot of no use is passed over. Answers the epoch of the new pair of the first slot; none if all are of no use.
+///
+/// `Last` if no epoch comes after that of a slot's pair. `NoMemory` if memory runs out, or if the account has no pair, or if a slot has made as many
+/// entries as it may. Then no slot is changed: all longer pairs are made before the first slot takes its own.
+pub(crate) fn rotate_from<A: Account>(
+    locked: &mut LockedSlot<A>,
+    rest: &mut [Mutex<LockedSlot<A>>],
+    alloc: Global,
+    known: &mut Front<A>,
+    account: &Text,
+    which: Which,
+    key: &SigningKey,
+) -> Result<Option<u64>, KeysFault>
+    ensures rotated { IfOk result (λ told. RotatesSlots known.old account.now which key.now told known.new) }
+    ensures slot { OnOk result ((mid : List Entry) × RotatesSlot locked.old mid account.now which key.now known.new locked.new) }
+    ensures refused { OnErr result ((known.new ≡ known.old) × (locked.new ≡ locked.old)) }
+    ensures last { result ≡ Err Last → HasLastEpoch known.old account.now }
+{
+    let longer = longer_of(
+        &locked.slot,
+        &locked.history,
+        &locked.to,
+        known,
+        alloc,
+        account,
+        which,
+        key,
+    )?;
+    let Some((next, others)) = rest.split_first_mut() else {
+        return Ok(enter_longer(
+            &mut locked.slot,
+            &mut locked.history,
+            &locked.to,
+            known,
+            account,
+            which,
+            key,
+            longer,
+            None,
+        ));
+    };
+    let told = rotate_from(
+        next.get_mut(),
+        others,
+        alloc,
+        known,
+        account,
+        which,
+        key,
+    )?;
+    Ok(enter_longer(
+        &mut locked.slot,
+        &mut locked.history,
+        &locked.to,
+        known,
+        account,
+        which,
+        key,
+        longer,
+        told,
+    ))
+}
