@@ -1,5 +1,5 @@
 //! `stamp serve`: the connections that come to an address, served by a fixed number of workers.
-ghost use Rattle.std.specs.Prelude.{◌≡◌, ◌⊎◌, IfOk, IsTrue, string_bytes};
+ghost use Rattle.std.specs.Prelude.{◌≡◌, ◌⊎◌, ◌∷◌, [], IfOk, IsTrue, string_bytes};
 ghost use Rattle.http_front.specs.Connections.{IsFresh};
 ghost use Rattle.http_front.specs.declared.counted.Output.TheVariants as outputs;
 ghost use Rattle.stamp_main.specs.declared.ending.Ending.TheVariants.{ListenerFault, NoMemory, Usage, WriteFault};
@@ -11,9 +11,11 @@ use crate::ending::Ending;
 use crate::signing::send;
 use crate::sockets::serve_on;
 use crate::words::{Served, read_served};
-use account_lock::NewHistory;
+use access_rules::Keys;
 use http_front::Connection;
+use served_history::NewHistory;
 use socket_gate::Limits;
+use stamp_types::Text;
 use std::alloc::{AllocError, Global};
 use std::io::{ErrorKind, Read, Write};
 use std::marker::Brand;
@@ -26,7 +28,7 @@ use std::time::Clock;
 /// lines of the console are obeyed, which the clauses say nothing of: the console has a reader and a writer of its own.
 ///
 /// If a word is bad, the ending is `Usage`, and nothing is written. If the address cannot be taken, the ending is `ListenerFault`,
-/// and nothing is written. What is served is not a matter of these clauses: `account_lock` and `http_front` have the contracts of
+/// and nothing is written. What is served is not a matter of these clauses: `served_slots` and `http_front` have the contracts of
 /// connections.
 #[tactic(auto, using(crate::proofs::ServeLemmas::asked, crate::proofs::ServeLemmas::listened))]
 pub(crate) fn run_serve<
@@ -91,8 +93,28 @@ fn listening(alloc: Global, address: &str) -> Result<String, AllocError>
     Ok(line)
 }
 
-// Serves by these workers and keys, the first pair of the account, until the listener fails for good. Of all shares of the history, the
-// operator has one.
+// The first key pairs of the accounts: one pair.
+fn one_pair(alloc: Global, keys: Keys) -> Result<Vec<Keys>, AllocError>
+    ensures { IfOk result (λ pairs. pairs.items ≡ keys ∷ []) }
+{
+    let mut pairs = Vec::new(alloc);
+    pairs.push(keys)?;
+    Ok(pairs)
+}
+
+/// The name of the account of a key pair.
+#[tactic(auto, using(crate::proofs::ReplayLemmas::account_clean))]
+pub(crate) fn account_of(alloc: Global, keys: &Keys) -> Result<Text, AllocError>
+    ensures { IfOk result (λ account. account ≡ keys.now.account) }
+{
+    let name = String::from_str(alloc, keys.account.as_str())?;
+    match Text::new(name) {
+        Some(account) => Ok(account),
+        None => unreachable!(),
+    }
+}
+
+// Serves by these workers and keys, the first pair of the account, until the listener fails for good.
 fn serve_all<R: Net + Threads + Wait + Clock + Sync, L: Read + Drop + Send, O: Write + Drop + Send>(
     rt: &R,
     alloc: Global,
@@ -100,19 +122,25 @@ fn serve_all<R: Net + Threads + Wait + Clock + Sync, L: Read + Drop + Send, O: W
     served: Served<'_>,
     console: &mut Console<L, O>,
 ) -> Ending
-    requires { served.keys.epoch ≡ 0 }
     ensures { (result ≡ ListenerFault) ⊎ (result ≡ NoMemory) }
 {
-    let history = NewHistory::new(u64::MAX);
+    let Ok(account) = account_of(alloc, &served.keys) else {
+        return Ending::NoMemory;
+    };
+    let Ok(pairs) = one_pair(alloc, served.keys) else {
+        return Ending::NoMemory;
+    };
+    let history = NewHistory::new(&pairs);
     match serve_on::<Brand, R, R, L, O>(
         rt,
         rt,
         alloc,
         history,
-        served.keys,
+        pairs,
+        account,
         listener,
         served.workers,
-        u64::MAX - 1,
+        u64::MAX,
         Limits::standard(),
         console,
     ) {

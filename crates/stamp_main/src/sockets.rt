@@ -1,33 +1,36 @@
-//! The connections of `serve`: each gets a clock, and a service that shares one lock with the others.
-ghost use Rattle.std.specs.Prelude.{◌≡◌, ◌<◌, ◌≤◌};
+//! The connections of `serve`: each gets a clock, and a service over slots that it shares with the others.
+ghost use Rattle.std.specs.Prelude.{◌≡◌, ◌+◌, ◌∷◌, [], MatchBool};
+ghost use Rattle.served_history.specs.declared.entry.Entry.TheVariants.{Opened};
 
 use crate::console::Console;
 use crate::machine::Machine;
-use crate::shares::SharesLeft;
 use access_rules::Keys;
-use account_lock::{Account, AccountLock, Connection, NewHistory, Operator};
+use served_history::{Account, Front, NewHistory};
+use served_slots::{Connection, Operator, Slots};
 use socket_gate::{Limits, Services, serve_listener};
+use stamp_types::Text;
 use std::alloc::Global;
-use std::io::{Read, Write};
+use std::io::{ErrorKind, Read, Write};
 use std::net::{Net, TcpListener};
 use std::sync::atomic::{AtomicBool, Ordering};
-use std::sync::ledger::Share;
 use std::sync::{Mutex, Wait};
 use std::thread::Threads;
 use std::time::Clock;
 use std::{io, thread};
 
-/// Makes the services of a number of connections. Each has a share of the history of one lock.
+/// Makes the services of a number of connections, which share slots. Each begins with what the history begins with.
 #[derive(Drop)]
-pub(crate) struct AccountServices<'a, A: Account, R: Wait, C: Clock> {
+pub(crate) struct SlotServices<'a, A: Account, R: Wait, C: Clock> {
     rt: &'a R,
     clock: &'a C,
-    lock: &'a AccountLock<A>,
-    left: Mutex<SharesLeft<A>>,
+    slots: &'a Slots<A>,
+    first: Front<A>,
+    // How many connections may still be taken.
+    left: Mutex<u64>,
 }
 
-/// Serves so many connections of a listener, by so many workers at once, and obeys the lines of a console meanwhile. The account has no
-/// containers at first. A connection that is beyond the limits ends.
+/// Serves so many connections of a listener, by so many workers at once, and obeys the lines of a console meanwhile. The account of these first
+/// key pairs has no containers at first. A connection that is beyond the limits ends.
 ///
 /// It ends before that if the listener fails for good. The error says why it could not begin.
 pub(crate) fn serve_on<
@@ -41,28 +44,28 @@ pub(crate) fn serve_on<
     clock: &C,
     alloc: Global,
     history: NewHistory,
-    keys: Keys,
+    pairs: Vec<Keys>,
+    account: Text,
     listener: &TcpListener,
     workers: usize,
     connections: u64,
     limits: Limits,
     console: &mut Console<L, O>,
 ) -> io::Result<()>
-    requires history { history.seen.book ≡ A.history }
-    requires shares { (history.shares.name ≡ A.name) × (history.shares.parts ≡ A.parts) }
-    requires one_each { connections < history.shares.parts }
-    requires keys { keys ≡ A.keys }
-    requires first { keys.epoch ≡ 0 }
+    requires book { history.book ≡ A.history }
+    requires fresh { history.next ≡ 0 }
+    requires log { history.log ≡ Opened pairs.items ∷ [] }
 {
-    let (lock, mut shares) = AccountLock::<A>::new(alloc, keys, history)?;
-    let one = shares.split_off(1, 0);
+    let Ok((slots, first)) = Slots::<A>::new(alloc, pairs, history) else {
+        return Err(io::Error::from(ErrorKind::OutOfMemory));
+    };
     serve_by(
         rt,
         clock,
         alloc,
-        &lock,
-        one,
-        shares,
+        &slots,
+        first,
+        account,
         listener,
         workers,
         connections,
@@ -71,8 +74,7 @@ pub(crate) fn serve_on<
     )
 }
 
-// The same by a lock, with the share of its operator and those of the connections. What is borrowed has one lifetime, since operator and services
-// hold it.
+// The same by slots, with what their history begins with. What is borrowed has one lifetime, since operator and services hold it.
 fn serve_by<
     'a,
     A: Account + Send + Sync,
@@ -84,32 +86,55 @@ fn serve_by<
     rt: &'a R,
     clock: &'a C,
     alloc: Global,
-    lock: &'a AccountLock<A>,
-    one: Share<A>,
-    shares: Share<A>,
+    slots: &'a Slots<A>,
+    first: Front<A>,
+    account: Text,
     listener: &TcpListener,
     workers: usize,
     connections: u64,
     limits: Limits,
     console: &mut Console<L, O>,
-) -> io::Result<()>
-    requires one { one.parts ≡ 1 }
-    requires one_each { connections ≤ shares.parts }
-    requires none_made { shares.amount ≡ 0 }
-{
-    let mut operator = Operator::new(rt, lock, one);
-    let services = AccountServices {
+) -> io::Result<()> {
+    let mut operator = Operator::new(rt, slots, account, first.again());
+    let services = SlotServices::new(rt, clock, slots, first, connections);
+    serve_and_obey(
         rt,
         clock,
-        lock,
-        left: Mutex::new(SharesLeft::new(connections, shares)),
-    };
+        alloc,
+        &mut operator,
+        &services,
+        listener,
+        workers,
+        limits,
+        console,
+    )
+}
+
+// Serves connections by these services, and lets the operator obey the lines of a console until serving has ended.
+fn serve_and_obey<
+    'a,
+    A: Account + Send + Sync,
+    R: Net + Threads + Wait + Sync,
+    C: Clock + Sync,
+    L: Read + Drop + Send,
+    O: Write + Drop + Send,
+>(
+    rt: &'a R,
+    clock: &'a C,
+    alloc: Global,
+    operator: &mut Operator<'a, A, R>,
+    services: &SlotServices<'a, A, R, C>,
+    listener: &TcpListener,
+    workers: usize,
+    limits: Limits,
+    console: &mut Console<L, O>,
+) -> io::Result<()> {
     let is_over = AtomicBool::new(false);
     let (_, served) = thread::join(
         rt,
-        || console.attend(rt, &mut operator, alloc, &is_over),
+        || console.attend(rt, operator, alloc, &is_over),
         || {
-            let served = serve_listener(rt, clock, alloc, listener, workers, &services, limits);
+            let served = serve_listener(rt, clock, alloc, listener, workers, services, limits);
             is_over.store(true, Ordering::SeqCst);
             served
         },
@@ -117,13 +142,45 @@ fn serve_by<
     served
 }
 
+// Takes one of the connections that are left. Returns whether one was left.
+fn take_one(left: &mut u64) -> bool
+    ensures { MatchBool result (left.old ≡ left.new + 1) ((left.old ≡ 0) × (left.new ≡ 0)) }
+{
+    if *left == 0 {
+        return false;
+    }
+    *left -= 1;
+    true
+}
+
+impl<'a, A: Account, R: Wait, C: Clock> SlotServices<'a, A, R, C> {
+    // The services of so many connections, which begin with this front.
+    fn new(
+        rt: &'a R,
+        clock: &'a C,
+        slots: &'a Slots<A>,
+        first: Front<A>,
+        connections: u64,
+    ) -> Self {
+        SlotServices {
+            rt,
+            clock,
+            slots,
+            first,
+            left: Mutex::new(connections),
+        }
+    }
+}
+
 impl<'a, A: Account, R: Wait, C: Clock> Services<Machine<'a, C>, Connection<'a, A, R>>
-    for AccountServices<'a, A, R, C> {
+    for SlotServices<'a, A, R, C> {
     fn make(&self) -> Option<(Machine<'a, C>, Connection<'a, A, R>)> {
-        let share = self.left.lock(self.rt).take()?;
+        if !take_one(&mut self.left.lock(self.rt)) {
+            return None;
+        }
         Some((
             Machine::new(self.clock),
-            Connection::new(self.rt, self.lock, share),
+            Connection::new(self.rt, self.slots, self.first.again()),
         ))
     }
 }
