@@ -120,7 +120,8 @@ module _ (front : SlotFront) (to : Option Key) (s : SlotState) (left : IsLeftBy 
       entry_there : e ≡ entry_after own.log q t
       entry_there =
           let has = left.has (routed q) covered in
-          (λ i. Served (sym has i) (timed_is i)) ∙ sym (entry_stays front.slot front.log own.log own.slot_knew q t has)
+          let now : e ≡ entry_after front.log q t = λ i. Served (sym has i) (timed_is i) in
+          now ∙ sym (entry_stays front.slot front.log own.log own.slot_knew q t has)
 
       -- what judges the request in the slot is what judges it there
       judged_there : names_container q.ask.op ≡ true → revision_in s q ≡ revision_at own.log q t
