@@ -38,9 +38,9 @@ use Rattle.account_lock.specs.declared.entry.Entry.TheVariants.{Served, Rotated}
 use Rattle.account_lock.specs.Audits.{AuditsAt, IsEntryAt, revision_at}
 use Rattle.account_lock.specs.Histories.{state_along, state_left, world_left}
 use Rattle.account_lock.specs.Rotations.{next_pair, pair_left}
-use Rattle.account_lock.specs.Services.{opening_of}
+use Rattle.core_service.specs.Services.{opening_of}
 use Rattle.account_lock.proofs.RotationLemmas.{IsJudgedBy, by_first, by_rotated, by_served, left_along, same_account}
-use Rattle.account_lock.proofs.ServiceLemmas.{calm_of}
+use Rattle.core_service.proofs.ServiceLemmas.{calm_of}
 
 -- ---- the pair in force
 

@@ -18,9 +18,9 @@ use Rattle.account_lock.specs.declared.entry.Entry.{Entry}
 use Rattle.account_lock.specs.declared.entry.Entry.TheVariants.{Rotated}
 use Rattle.account_lock.specs.Histories.{entered, judged_after, judged_along, world_left, state_left, HasLastEpoch, HasRotated, IsServed}
 use Rattle.account_lock.specs.Rotations.{pair_left}
-use Rattle.account_lock.specs.Services.{AnswersAsMachine, opening_of}
+use Rattle.core_service.specs.Services.{AnswersAsMachine, opening_of}
 use Rattle.account_lock.proofs.RotationLemmas.{by_first, judged_along-append, left_along, reply_by, state_along-more}
-use Rattle.account_lock.proofs.ServiceLemmas.{calm_of}
+use Rattle.core_service.proofs.ServiceLemmas.{calm_of}
 
 -- what a front part and the entries after it leave
 pub world_left-append : (keys : Keys) (front rest : List Entry) → world_left keys (front ++ rest) ≡ world_after_all (world_left keys front) (judged_along (pair_left keys front) rest)

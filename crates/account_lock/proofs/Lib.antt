@@ -4,5 +4,4 @@ pub mod ConnectionLemmas
 pub mod Fronts
 pub mod HistoryLemmas
 pub mod RotationLemmas
-pub mod ServiceLemmas
 pub mod WriteLemmas

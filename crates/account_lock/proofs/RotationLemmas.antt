@@ -33,7 +33,7 @@ use Rattle.account_lock.specs.declared.entry.Entry.{Entry}
 use Rattle.account_lock.specs.declared.entry.Entry.TheVariants.{Served, Rotated}
 use Rattle.account_lock.specs.Histories.{HasRotated, Known, judged_along, state_after, state_along}
 use Rattle.account_lock.specs.Rotations.{GivesKey, HasKey, next_pair, pair_after, pair_left}
-use Rattle.account_lock.specs.Services.{opening_of}
+use Rattle.core_service.specs.Services.{opening_of}
 
 -- an account's name has no control characters
 pub account_clean : (t : List ℕ) → is_account t ≡ true → is_clean t ≡ true

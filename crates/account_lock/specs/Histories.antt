@@ -14,7 +14,7 @@ use Rattle.core_run.specs.States.{State, served, with_pair}
 use Rattle.account_lock.specs.declared.entry.Entry.{Entry}
 use Rattle.account_lock.specs.declared.entry.Entry.TheVariants.{Served, Rotated}
 use Rattle.account_lock.specs.Rotations.{next_pair, pair_after, pair_left}
-use Rattle.account_lock.specs.Services.{opening_of}
+use Rattle.core_service.specs.Services.{opening_of}
 
 -- a request, and the moment at which it is answered
 pub record Sent : Type 0 where

@@ -3,5 +3,3 @@ pub mod Connections
 pub mod Growth
 pub mod Histories
 pub mod Rotations
-pub mod Services
-pub mod SteadyCounts

@@ -9,15 +9,14 @@ ghost use Rattle.account_lock.specs.Audits.{AuditsAt};
 ghost use Rattle.account_lock.specs.declared.entry.Entry.{Entry};
 ghost use Rattle.account_lock.specs.Histories.{entered, judged_after, state_left, world_left};
 ghost use Rattle.account_lock.specs.Rotations.{pair_left};
-ghost use Rattle.account_lock.specs.Services.{opening_of};
+ghost use Rattle.core_service.specs.Services.{opening_of};
 
-use crate::core_service::{answer_steadily, audit_steadily, compact_steadily, core_of};
 use crate::history::{Account, EntryCount, Front, NewHistory};
 use crate::pair::PairInUse;
 use crate::posting::post;
-use crate::steady::Steady;
 use access_rules::Keys;
 use audit_lines::Books;
+use core_service::{Steady, answer_steadily, audit_steadily, compact_steadily, core_of};
 use http_front::Service;
 use policy_book::{Judged, judge};
 use range_rows::Reading;

@@ -1,7 +1,6 @@
-//! Connections that share one lock, and a service that has its core to itself. Signatures and sums were made outside of this repository's code.
+//! Connections that share one lock. Signatures and sums were made outside of this repository's code.
 ghost use Rattle.std.specs.Prelude.{◌≡◌};
 
-use crate::core_service::CoreService;
 use crate::history::{Account, NewHistory};
 use crate::laws::two_connections_agree;
 use crate::lock::{AccountLock, Connection};
@@ -180,27 +179,6 @@ pub(crate) fn keys(rt: &impl Abort, alloc: Global) -> Keys
 fn connections_that_share_a_lock_see_one_history(rt: HostRuntime) {
     let keys = keys(&rt, rt.alloc());
     two_share::<Brand, _>(&rt, rt.alloc(), keys, NewHistory::new(4));
-}
-
-#[test]
-fn a_service_over_a_core_keeps_what_it_creates(rt: HostRuntime) {
-    let keys = keys(&rt, rt.alloc());
-    let mut service = CoreService::new(rt.alloc(), &keys).expect(&rt, "memory");
-    assert!(rt; sent(&rt, rt.alloc(), &mut service, CREATE).starts_with(CREATED));
-    assert!(rt; sent(&rt, rt.alloc(), &mut service, CREATE).starts_with(CONFLICT));
-    assert!(rt; sent(&rt, rt.alloc(), &mut service, PUT).starts_with(CREATED));
-    assert!(rt; sent(&rt, rt.alloc(), &mut service, GET).ends_with(b"\r\n\r\nhello"));
-}
-
-#[test]
-fn a_service_compacts_what_is_wasted(rt: HostRuntime) {
-    let keys = keys(&rt, rt.alloc());
-    let mut service = CoreService::new(rt.alloc(), &keys).expect(&rt, "memory");
-    waste(&rt, rt.alloc(), &mut service);
-    assert!(rt; service.is_wasteful());
-    assert!(rt; sent(&rt, rt.alloc(), &mut service, PUT).starts_with(CREATED));
-    assert!(rt; !service.is_wasteful());
-    assert!(rt; sent(&rt, rt.alloc(), &mut service, GET).ends_with(b"\r\n\r\nhello"));
 }
 
 #[test]

@@ -1,6 +1,6 @@
 use Rattle.std.proofs.Common.{◌∙◌}
-use Rattle.account_lock.proofs.ServiceLemmas.{answered_as}
-use Rattle.account_lock.proofs.core_service.CoreServiceService.answer.Goals as goal
+use Rattle.core_service.proofs.ServiceLemmas.{answered_as}
+use Rattle.core_service.proofs.service.CoreServiceService.answer.Goals as goal
 
 pub returns-clause-answered : goal.returns-clause-answered
 returns-clause-answered c =

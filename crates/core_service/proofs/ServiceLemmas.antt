@@ -16,7 +16,7 @@ use Rattle.core_run.specs.States.{State, reply_in, served}
 use Rattle.core_run.proofs.AccountLemmas.{one_reply, one_world}
 use Rattle.core_run.proofs.SplitCores.{read-doubt}
 use Rattle.stamp_core.specs.CoreSteps.{AnswersSteadily, IsCalm}
-use Rattle.account_lock.specs.Services.{AnswersAsMachine, opening_of}
+use Rattle.core_service.specs.Services.{AnswersAsMachine, opening_of}
 
 -- the state has one slot, which is not in doubt, and this key pair is the only one
 pub record IsOfAccount (keys : Keys) (s : State) : Type 0 where

@@ -7,7 +7,7 @@ ghost use Rattle.slot_state.specs.Pairs.{first_pairs};
 ghost use Rattle.core_run.specs.Cores.{StandsFor, first_core};
 ghost use Rattle.stamp_core.specs.CoreAudits.{CoreAudits};
 ghost use Rattle.stamp_core.specs.CoreSteps.{IsCalm};
-ghost use Rattle.account_lock.specs.Services.{AnswersAsMachine, opening_of};
+ghost use Rattle.core_service.specs.Services.{AnswersAsMachine, opening_of};
 
 use crate::steady::Steady;
 use access_rules::Keys;
@@ -32,7 +32,7 @@ fn copy_of(keys: &Keys) -> Result<Keys, AllocError>
 ///
 /// `AllocError` if memory runs out.
 #[tactic(auto, using(crate::proofs::ServiceLemmas::calm_first))]
-pub(crate) fn core_of(alloc: Global, keys: &Keys) -> Result<Core<ProvedHistories>, AllocError>
+pub fn core_of(alloc: Global, keys: &Keys) -> Result<Core<ProvedHistories>, AllocError>
     requires { keys.now.epoch ≡ 0 }
     ensures value { IfOk result (λ core. core ≡ first_core (first_pairs (keys.now ∷ []))) }
     ensures stands { IfOk result (λ core. StandsFor core (opening_of keys.now)) }
@@ -51,7 +51,7 @@ pub(crate) fn core_of(alloc: Global, keys: &Keys) -> Result<Core<ProvedHistories
 /// The reply of the machine, and its change, over nodes in memory.
 ///
 /// `AllocError` if memory runs out. Then the core is as it was.
-pub(crate) fn answer_steadily(
+pub fn answer_steadily(
     core: &mut Core<ProvedHistories>,
     wire: &mut Steady,
     alloc: Global,
@@ -71,7 +71,7 @@ pub(crate) fn answer_steadily(
 }
 
 /// The same, with the entry of the request in the audit book.
-pub(crate) fn audit_steadily(
+pub fn audit_steadily(
     core: &mut Core<ProvedHistories>,
     wire: &mut Steady,
     alloc: Global,
@@ -94,7 +94,7 @@ pub(crate) fn audit_steadily(
 /// Compacts the first slot of which little is left to which something refers, if there is one, over nodes in memory. Gives what was replaced.
 ///
 /// Nothing that a request is answered changes, also if memory runs out for it.
-pub(crate) fn compact_steadily(
+pub fn compact_steadily(
     core: &mut Core<ProvedHistories>,
     wire: &mut Steady,
     alloc: Global,

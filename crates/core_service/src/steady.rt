@@ -1,6 +1,6 @@
 //! The wire of nodes that are in memory, which never fails.
 ghost use Rattle.std.specs.Prelude.{◌≡◌};
-ghost use Rattle.account_lock.specs.SteadyCounts.{node_counts, no_faults};
+ghost use Rattle.core_service.specs.SteadyCounts.{node_counts, no_faults};
 
 use extent_node::{Delivery, Node, Wire};
 
@@ -60,7 +60,7 @@ impl Wire for Steady {
     ghost use Rattle.std.specs.Prelude.{◌≡◌, true};
     ghost use Rattle.extent_node.specs.Faults.{CountsAsk, CountsAskFault, CountsPut, CountsPutFault, is_done};
     ghost use Rattle.extent_node.specs.declared.wire.Delivery.TheVariants.{Done};
-    ghost use Rattle.account_lock.specs.SteadyCounts.{node_counts, no_faults};
+    ghost use Rattle.core_service.specs.SteadyCounts.{node_counts, no_faults};
 
     ghost calls = { λ s. record { puts = node_counts s.puts; asks = node_counts s.asks } };
 
