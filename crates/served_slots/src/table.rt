@@ -169,7 +169,8 @@ impl<A: Account> Table<A> {
 
     /// Replaces a key of the account for all slots, or for none. Answers the epoch of the new pair.
     ///
-    /// `Last` if no epoch comes after that of a slot's pair. `NoMemory` if memory runs out, or if the stamp has no such account, or if no slot is of use.
+    /// `Last` if no epoch comes after that of a slot's pair. `NoMemory` if memory runs out, or if the stamp has no such account, or if a slot has made
+    /// as many entries as it may, or if no slot is of use. A slot of no use is passed over.
     pub(crate) fn rotate(
         &mut self,
         alloc: Global,
