@@ -5,7 +5,7 @@ use crate::requests::{
     CREATE, CREATED, GET, GET_B, GET_BY_POLICY, LIST, MISSING, PUT, PUT_BY_NEW, PUT_POLICY,
 };
 use crate::samples::{begins, ends, pairs, says};
-use crate::stored_samples::{D, R, fetched, is_covered, rows};
+use crate::stored_samples::{D, R, is_covered, reply_of, rows};
 use access_rules::Way;
 use extent_node::{Delivery, Script};
 use http_front::Service;
@@ -20,7 +20,6 @@ use std::sync::{Arc, Mutex, Wait};
 use std::thread;
 use std::thread::Threads;
 use stored_slot::{Audited, StoredSlot};
-use tickets::Answer;
 
 // A slot over streams, and the entries of the requests that it served.
 #[derive(Drop)]
@@ -28,15 +27,6 @@ struct Booking {
     slot: StoredSlot<KeptHistories>,
     wire: Script,
     entries: Vec<Entry>,
-}
-
-// The reply of an answer.
-fn reply_of(answer: Answer, wire: &mut Script) -> Result<Reply, AllocError> {
-    match answer {
-        Answer::Done(reply) => Ok(reply),
-        Answer::Later(ticket) => fetched(ticket, wire),
-        Answer::NoMemory => Err(AllocError),
-    }
 }
 
 impl Booking {

@@ -37,6 +37,8 @@ mod service_tests;
 #[cfg(test)]
 mod split_tests;
 #[cfg(test)]
+mod stamp_book_tests;
+#[cfg(test)]
 mod stamp_rotation_tests;
 #[cfg(test)]
 mod stamp_samples;

@@ -2,7 +2,7 @@
 ghost use Rattle.std.specs.Prelude.{⊤};
 
 use crate::samples::key;
-use crate::stored_samples::{fetched, has_container, rows};
+use crate::stored_samples::{has_container, reply_of, rows};
 use access_rules::Keys;
 use extent_node::{Delivery, Script};
 use http_front::Service;
@@ -14,7 +14,6 @@ use std::mem::replace;
 use std::process::Abort;
 use std::sync::Arc;
 use stored_slot::StoredSlot;
-use tickets::Answer;
 
 /// A slot over streams, and the pass of a caller whose requests it serves. The last fault of a call is kept.
 #[derive(Drop)]
@@ -51,10 +50,9 @@ impl Service for Passing {
             None,
             moment,
             &mut self.wire,
+            false,
         ) {
-            Ok(Answer::Done(reply)) => Ok(reply),
-            Ok(Answer::Later(ticket)) => fetched(ticket, &mut self.wire),
-            Ok(Answer::NoMemory) => Err(AllocError),
+            Ok(audited) => reply_of(audited.answer, &mut self.wire),
             Err(fault) => {
                 self.fault = Some(fault);
                 Err(AllocError)

@@ -69,6 +69,15 @@ pub(crate) fn fetched(ticket: Ticket, wire: &mut Script) -> Result<Reply, AllocE
     }
 }
 
+/// The reply of an answer.
+pub(crate) fn reply_of(answer: Answer, wire: &mut Script) -> Result<Reply, AllocError> {
+    match answer {
+        Answer::Done(reply) => Ok(reply),
+        Answer::Later(ticket) => fetched(ticket, wire),
+        Answer::NoMemory => Err(AllocError),
+    }
+}
+
 impl Service for Streamed {
     ghost World = { ⊤ };
 

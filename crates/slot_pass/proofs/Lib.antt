@@ -1,4 +1,5 @@
 mod AfterLemmas
+pub mod AuditLemmas
 mod LawLemmas
 mod ListLemmas
 mod ShownLemmas

@@ -1,4 +1,5 @@
 pub mod After
+pub mod Audits
 pub mod Calls
 pub mod Differences
 pub mod Passes

@@ -11,6 +11,7 @@ ghost use Rattle.slot_state.specs.Pairs.{epoch_of, in_force, pairs_at};
 ghost use Rattle.slot_state.specs.Slots as slots;
 ghost use Rattle.stored_slot.specs.Served.{Faulted};
 ghost use Rattle.slot_pass.specs.After.{Begins, IsAfterFault, IsDoubtOf, IsEntryOf, IsReady, ServesOrNot, pass_of, pass_with};
+ghost use Rattle.slot_pass.specs.Audits.{AuditsSettled};
 ghost use Rattle.slot_pass.specs.Passes.{IsShown};
 ghost use Rattle.slot_pass.specs.Spares.{CanBecome};
 
@@ -23,11 +24,12 @@ use crate::shared_pairs::SharedPairs;
 use access_rules::Keys;
 use extent_node::Wire;
 use policy_book::Judged;
+use range_rows::Reading;
 use slot_state::KeptHistories;
 use stamp_types::{Key, Moment, Past, Request};
 use std::alloc::{AllocError, Global};
 use std::sync::Arc;
-use stored_slot::StoredSlot;
+use stored_slot::{Audited, StoredSlot};
 use tickets::Answer;
 
 // Whether what these parts of a pass show is a beginning of what the slot has. The pairs come first.
@@ -142,6 +144,38 @@ fn follow(slot: &StoredSlot<KeptHistories>, key: &Key, front: &mut Front, known:
     fit(front, known, slot.history(key));
 }
 
+// Serves a request. If an entry of the audit book is asked for, the request has one if it names a container and is let in.
+fn serve<W: Wire>(
+    slot: &mut StoredSlot<KeptHistories>,
+    alloc: Global,
+    request: &Request,
+    judged: Option<&Judged>,
+    moment: Moment,
+    wire: &mut W,
+    is_audited: bool,
+) -> Audited
+    requires judged { IsOfAsk (option_copied judged) request.now.ask }
+    requires covered { slots.covers slot.old (routed request.now) ≡ true }
+    ensures answered { ServesOrNot slot.old request.now moment (Faulted (W.faults wire.old) (W.faults wire.new)) result.answer slot.new }
+    ensures audited { AuditsSettled slot.old request.now moment result.answer result.entry }
+    ensures grown { Grows (W.faults wire.old) (W.faults wire.new) }
+{
+    if !is_audited {
+        let answer = slot.serve(alloc, request, judged, moment, wire);
+        return Audited {
+            answer,
+            entry: None,
+        };
+    }
+    match Reading::of(alloc, request) {
+        Ok(reading) => slot.serve_audited(alloc, request, judged, reading, moment, wire),
+        Err(AllocError) => Audited {
+            answer: Answer::NoMemory,
+            entry: None,
+        },
+    }
+}
+
 // Serves a request whose front is ready. Then the front is the slot's own history.
 #[tactic(auto, using(crate::proofs::AfterLemmas::same_pairs))]
 fn serve_ready<W: Wire>(
@@ -153,21 +187,23 @@ fn serve_ready<W: Wire>(
     judged: Option<&Judged>,
     moment: Moment,
     wire: &mut W,
-) -> Answer
+    is_audited: bool,
+) -> Audited
     requires names { request.now.ask.key ≡ key.now }
     requires ready { IsReady slot.old key.now request.now moment front.old }
     requires judged { IsOfAsk (option_copied judged) request.now.ask }
     requires covered { slots.covers slot.old (routed request.now) ≡ true }
-    ensures answered { ServesOrNot slot.old request.now moment (Faulted (W.faults wire.old) (W.faults wire.new)) result slot.new }
+    ensures answered { ServesOrNot slot.old request.now moment (Faulted (W.faults wire.old) (W.faults wire.new)) result.answer slot.new }
+    ensures audited { AuditsSettled slot.old request.now moment result.answer result.entry }
     ensures front { front.new ≡ history_at slot.new.histories key.now }
     ensures shown { IsShown (pairs_at slot.new.pairs key.now.account) key.now front.new }
     ensures pairs { slot.new.pairs ≡ slot.old.pairs }
     ensures grown { Grows (W.faults wire.old) (W.faults wire.new) }
 {
     let known = slot.history(key).len();
-    let answer = slot.serve(alloc, request, judged, moment, wire);
+    let audited = serve(slot, alloc, request, judged, moment, wire, is_audited);
     follow(slot, key, front, known);
-    answer
+    audited
 }
 
 // One request after what these parts of a pass show.
@@ -182,13 +218,15 @@ fn after<W: Wire>(
     judged: Option<&Judged>,
     moment: Moment,
     wire: &mut W,
-) -> Result<Answer, AfterFault>
+    is_audited: bool,
+) -> Result<Audited, AfterFault>
     requires shown { IsShown pairs.old key.now front.old }
     requires names { request.now.ask.key ≡ key.now }
     requires judged { IsOfAsk (option_copied judged) request.now.ask }
     requires covered { slots.covers slot.old (routed request.now) ≡ true }
     ensures shown { IsShown pairs.new key.now front.new }
-    ensures answered { IfOk result (λ answer. ServesOrNot slot.old request.now moment (Faulted (W.faults wire.old) (W.faults wire.new)) answer slot.new) }
+    ensures answered { IfOk result (λ a. ServesOrNot slot.old request.now moment (Faulted (W.faults wire.old) (W.faults wire.new)) a.answer slot.new) }
+    ensures audited { IfOk result (λ a. AuditsSettled slot.old request.now moment a.answer a.entry) }
     ensures begins { OnOk result (Begins (pass_of key.now front.old pairs.old) slot.old) }
     ensures holds { OnOk result (pass_of key.now front.new pairs.new ≡ pass_with (pass_of key.now front.old pairs.old) slot.new) }
     ensures fault { IfErr result (λ fault. IsAfterFault (pass_of key.now front.old pairs.old) slot.old fault) }
@@ -200,13 +238,16 @@ fn after<W: Wire>(
     let Ok(()) = get_ready(slot, key, front, pairs, alloc, request, moment) else {
         return Err(AfterFault::NoMemory);
     };
-    let answer = serve_ready(slot, key, front, alloc, request, judged, moment, wire);
-    Ok(answer)
+    let audited = serve_ready(
+        slot, key, front, alloc, request, judged, moment, wire, is_audited,
+    );
+    Ok(audited)
 }
 
 /// One step of the model, by a slot that has what the caller of the pass was shown. Then the pass shows all that the slot has of its
 /// container: the accepted changes, and the key pairs of its account. The answer is that of [`StoredSlot::serve`], with the same conditions on
-/// `judged`, and on the slot that the request goes to. The time is linear in the front.
+/// `judged`, and on the slot that the request goes to. The time is linear in the front. If an entry of the audit book is asked for, it is that of
+/// [`StoredSlot::serve_audited`].
 ///
 /// `Pairs` if the pass shows a key pair that is not the slot's, or else `Alien` if its front is not a beginning of the slot's accepted changes,
 /// or else `NoMemory` if memory runs out for the new front. Then nothing is served, and slot and pass are as they were. If memory runs out
@@ -219,11 +260,13 @@ pub fn serve_after<W: Wire>(
     judged: Option<&Judged>,
     moment: Moment,
     wire: &mut W,
-) -> Result<Answer, AfterFault>
+    is_audited: bool,
+) -> Result<Audited, AfterFault>
     requires names { request.now.ask.key ≡ pass.old.key }
     requires judged { IsOfAsk (option_copied judged) request.now.ask }
     requires covered { slots.covers slot.old (routed request.now) ≡ true }
-    ensures answered { IfOk result (λ answer. ServesOrNot slot.old request.now moment (Faulted (W.faults wire.old) (W.faults wire.new)) answer slot.new) }
+    ensures answered { IfOk result (λ a. ServesOrNot slot.old request.now moment (Faulted (W.faults wire.old) (W.faults wire.new)) a.answer slot.new) }
+    ensures audited { IfOk result (λ a. AuditsSettled slot.old request.now moment a.answer a.entry) }
     ensures begins { OnOk result (Begins pass.old slot.old) }
     ensures holds { OnOk result (pass.new ≡ pass_with pass.old slot.new) }
     ensures fault { IfErr result (λ fault. IsAfterFault pass.old slot.old fault) }
@@ -241,5 +284,6 @@ pub fn serve_after<W: Wire>(
         judged,
         moment,
         wire,
+        is_audited,
     )
 }

@@ -17,7 +17,7 @@ use Rattle.stamp_locks.specs.Shown.{AdmitsKnown, IsHandledAfter}
 -- if it holds of what a slot answers after a pass, it holds of what a stamp answers
 pub of_handled : {W : Type 0} (faults : W → Calls) (p after : PassState) (q : Asked) (t : ℕ) (a : Answer) (holds : Type 0)
     → ((s next : SlotState) (old new : Calls) → AnswersAfter p s q t old new a after next → holds) → IsHandledAfter faults p q t a after → holds
-of_handled faults p after q t a holds by_slot (pairs, m) = by_slot m.slot m.next (faults m.old) (faults m.new) m.answers
+of_handled faults p after q t a holds by_slot (entry, (pairs, m)) = by_slot m.slot m.next (faults m.old) (faults m.new) m.answers
 
 -- a pass with the same pairs admits the same
 admits_same : (p after : PassState) (q : Asked) (t : ℕ) (a : Answer) → after.pairs ≡ p.pairs → AdmitsBy after q t a → AdmitsBy p q t a

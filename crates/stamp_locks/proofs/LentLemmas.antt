@@ -1,9 +1,10 @@
 -- Requests to a slot that its lock lends.
-use Rattle.std.proofs.Common.{◌≡◌, inr, ℕ, true, List, None, Ok, subst}
+use Rattle.std.proofs.Common.{◌≡◌, inr, ℕ, true, List, Option, None, Some, Ok, refl, subst}
 use Rattle.extent_node.specs.Faults.{Calls}
 use Rattle.stamp_values.specs.declared.key.Key.{Key}
 use Rattle.stamp_types.specs.Requests.{Asked}
 use Rattle.stamp_types.specs.declared.ask.Ask.{Ask}
+use Rattle.policy_book.specs.Entries.{AuditEntry}
 use Rattle.stamp_model.specs.SeenContainers.{routed}
 use Rattle.partition_map.specs.Spans.{slot_of, split_refusal, with_point}
 use Rattle.tickets.specs.declared.answer.Answer.{Answer}
@@ -14,6 +15,7 @@ use Rattle.slot_state.specs.Slots.{SlotState, covers}
 use Rattle.stored_slot.specs.Served.{Faulted, SlotServes}
 use Rattle.stored_slot.specs.Settled.{CutsSettled}
 use Rattle.slot_pass.specs.After.{IsAfterFault}
+use Rattle.slot_pass.specs.Audits.{AuditsSettled}
 use Rattle.slot_pass.specs.Calls.{AnswersAfter}
 use Rattle.slot_pass.specs.Passes.{IsShown, PassState}
 use Rattle.slot_pass.specs.declared.after_fault.AfterFault.{AfterFault}
@@ -34,20 +36,29 @@ slot_for points first q s is begins covered = record {
 -- ---- as it is told outside of the lock
 
 module _ {W : Type 0} (faults : W → Calls) (pairs : Pairs) (points : List Key) (s s' : SlotState) (q : Asked) (t : ℕ) (old new : W) where
-  told : (a : Answer) → IsSlotFor points q s → current_at s.pairs q.ask.key.account ≡ current_at pairs q.ask.key.account → IsShown (pairs_at s.pairs q.ask.key.account) q.ask.key (history_at s.histories q.ask.key) → SlotServes s q t (Faulted (faults old) (faults new)) a s'
-      → HandlesBy faults pairs q t a
-  told (answer.Done r) is_for current shown served = record { points = points; slot = s; next = s'; old = old; new = new; is_for = is_for; current = current; shown = shown; served = served }
-  told (answer.Later r) is_for current shown served = record { points = points; slot = s; next = s'; old = old; new = new; is_for = is_for; current = current; shown = shown; served = served }
-  told answer.NoMemory is_for current shown served = tt
+  no_entry : (o : Option AuditEntry) → AuditsSettled s q t answer.NoMemory o → o ≡ None
+  no_entry None audited = refl
+  no_entry (Some e) audited = absurd audited.1.1.let_in
 
-  pub met : (ask : Ask) (a : Answer) → ask ≡ q.ask → IsSlotFor points q s → current_at s.pairs q.ask.key.account ≡ current_at pairs q.ask.key.account → IsShown (pairs_at s.pairs ask.key.account) ask.key (history_at s.histories ask.key)
-      → SlotServes s q t (Faulted (faults old) (faults new)) a s' → HandlesBy faults pairs q t a
-  met ask a is is_for current shown served =
-      told a is_for current (subst (λ (x : Ask). IsShown (pairs_at s.pairs x.key.account) x.key (history_at s.histories x.key)) is shown) served
+  told : (a : Answer) (o : Option AuditEntry) → IsSlotFor points q s → current_at s.pairs q.ask.key.account ≡ current_at pairs q.ask.key.account
+      → IsShown (pairs_at s.pairs q.ask.key.account) q.ask.key (history_at s.histories q.ask.key) → SlotServes s q t (Faulted (faults old) (faults new)) a s' → AuditsSettled s q t a o
+      → HandlesBy faults pairs q t a o
+  told (answer.Done r) o is_for current shown served audited =
+      record { points = points; slot = s; next = s'; old = old; new = new; is_for = is_for; current = current; shown = shown; served = served; audited = audited }
+  told (answer.Later r) o is_for current shown served audited =
+      record { points = points; slot = s; next = s'; old = old; new = new; is_for = is_for; current = current; shown = shown; served = served; audited = audited }
+  told answer.NoMemory o is_for current shown served audited = no_entry o audited
 
-  pub told_after : (p p' : PassState) (a : Answer) → IsSlotFor points q s → current_at s.pairs q.ask.key.account ≡ current_at pairs q.ask.key.account
-      → AnswersAfter p s q t (faults old) (faults new) a p' s' → HandlesAfterBy faults pairs p q t a p'
-  told_after p p' a is_for current answers = record { points = points; slot = s; next = s'; old = old; new = new; is_for = is_for; current = current; answers = answers }
+  pub met : (ask : Ask) (a : Answer) (o : Option AuditEntry) → ask ≡ q.ask → IsSlotFor points q s → current_at s.pairs q.ask.key.account ≡ current_at pairs q.ask.key.account
+      → IsShown (pairs_at s.pairs ask.key.account) ask.key (history_at s.histories ask.key) → SlotServes s q t (Faulted (faults old) (faults new)) a s' → AuditsSettled s q t a o
+      → HandlesBy faults pairs q t a o
+  met ask a o is is_for current shown served audited =
+      told a o is_for current (subst (λ (x : Ask). IsShown (pairs_at s.pairs x.key.account) x.key (history_at s.histories x.key)) is shown) served audited
+
+  pub told_after : (p p' : PassState) (a : Answer) (o : Option AuditEntry) → IsSlotFor points q s → current_at s.pairs q.ask.key.account ≡ current_at pairs q.ask.key.account
+      → AnswersAfter p s q t (faults old) (faults new) a p' s' → AuditsSettled s q t a o → HandlesAfterBy faults pairs p q t a o p'
+  told_after p p' a o is_for current answers audited =
+      record { points = points; slot = s; next = s'; old = old; new = new; is_for = is_for; current = current; answers = answers; audited = audited }
 
 pub told_back : (points : List Key) (s : SlotState) (q : Asked) (p p' : PassState) (f : AfterFault) → IsSlotFor points q s → p' ≡ p → IsAfterFault p s f → IsBack p q p' f
 told_back points s q p p' (after.Pairs place) is_for same refuses = (same, record { points = points; slot = s; is_for = is_for; refuses = refuses })

@@ -96,10 +96,10 @@ goes_on shown (c ∷ cs) xs ys has more = (has.0, goes_on (front_with shown has.
 
 module _ {W : Type 0} (faults : W → Calls) (made : Made) (more : Grown) where
   grown_by : (p p' : PassState) (q : Asked) (t : ℕ) (a : Answer) → IsHandledAfter faults p q t a p' → IsPrefix p.front p'.front × IsPrefix p.pairs p'.pairs
-  grown_by p p' q t a (pairs, m) = more p p' m.slot m.next q t (faults m.old) (faults m.new) a m.answers
+  grown_by p p' q t a (entry, (pairs, m)) = more p p' m.slot m.next q t (faults m.old) (faults m.new) a m.answers
 
   adds : (p : PassState) (c : PassCall) → IsHandledAfter faults p c.request c.moment c.answer c.after → Adds p c
-  adds p c (pairs, m) =
+  adds p c (entry, (pairs, m)) =
       adds_by p c (more p c.after m.slot m.next c.request c.moment (faults m.old) (faults m.new) c.answer m.answers).0 c.answer refl
       (made p c.after m.slot m.next c.request c.moment (faults m.old) (faults m.new) c.answer m.answers)
 

@@ -1,11 +1,12 @@
 -- What is done with a slot that its lock lends (Calder et al., SOSP 2011, section 5: what a partition server does with its range).
-use Rattle.std.specs.Prelude.{◌≡◌, ◌⊎◌, ◌<◌, ◌≤◌, ⊤, ℕ, Bool, true, false, not, ◌&&◌, List, length, None, Result, Ok, Err}
+use Rattle.std.specs.Prelude.{◌≡◌, ◌⊎◌, ◌<◌, ◌≤◌, ⊤, ℕ, Bool, true, false, not, ◌&&◌, List, length, Option, None, Result, Ok, Err}
 use Rattle.extent_node.specs.Faults.{Calls}
 use Rattle.stamp_values.specs.declared.key.Key.{Key}
 use Rattle.stamp_types.specs.Requests.{Asked}
 use Rattle.partition_map.specs.Spans.{AreSpans, cause_of, first_key, slot_of, split_refusal, with_point}
 use Rattle.partition_map.specs.declared.fault.MapFault.{MapFault}
 use Rattle.partition_map.specs.declared.fault.MapFault.TheVariants as map
+use Rattle.policy_book.specs.Entries.{AuditEntry}
 use Rattle.stamp_model.specs.SeenContainers.{routed}
 use Rattle.tickets.specs.declared.answer.Answer.{Answer}
 use Rattle.tickets.specs.declared.answer.Answer.TheVariants as answer
@@ -22,6 +23,7 @@ use Rattle.slot_state.specs.Pairs.{Pairs, current_at, pairs_at}
 use Rattle.slot_state.specs.Slots.{SlotState, covers, is_inside}
 use Rattle.stored_slot.specs.Served.{Faulted, SlotServes}
 use Rattle.stored_slot.specs.Settled.{CutsSettled, LeavesRepaired, LeavesSettled, SettlesOrFails}
+use Rattle.slot_pass.specs.Audits.{AuditsSettled}
 use Rattle.slot_pass.specs.Passes.{IsShown}
 use Rattle.stamp_locks.specs.declared.care.Care.{Care}
 use Rattle.stamp_locks.specs.declared.care.Care.TheVariants as care
@@ -56,8 +58,9 @@ pub record HasSlot (i : ℕ) : Type 0 where
 -- ---- requests
 
 -- The slot of the request met it under its lock, with a wire that had these values before and after. The slot's pair in force of the account
--- was that of these pairs, and what the slot had of the request's container was legal by the slot's key pairs
-pub record MetSlot {W : Type 0} (faults : W → Calls) (pairs : Pairs) (q : Asked) (t : ℕ) (a : Answer) : Type 0 where
+-- was that of these pairs, and what the slot had of the request's container was legal by the slot's key pairs. No entry of the audit book was
+-- made, or it is that of the request, by this slot
+pub record MetSlot {W : Type 0} (faults : W → Calls) (pairs : Pairs) (q : Asked) (t : ℕ) (a : Answer) (o : Option AuditEntry) : Type 0 where
   pub points : List Key
   pub slot : SlotState
   pub next : SlotState
@@ -67,15 +70,21 @@ pub record MetSlot {W : Type 0} (faults : W → Calls) (pairs : Pairs) (q : Aske
   pub current : current_at slot.pairs q.ask.key.account ≡ current_at pairs q.ask.key.account
   pub shown : IsShown (pairs_at slot.pairs q.ask.key.account) q.ask.key (history_at slot.histories q.ask.key)
   pub served : SlotServes slot q t (Faulted (faults old) (faults new)) a next
+  pub audited : AuditsSettled slot q t a o
 
--- what a table with these key pairs answers to a request: what the slot of the request answers, or that memory ran out
-abbrev pub HandlesBy : {W : Type 0} → (W → Calls) → Pairs → Asked → ℕ → Answer → Type 0
-HandlesBy faults pairs q t answer.NoMemory = ⊤
-HandlesBy faults pairs q t a = MetSlot faults pairs q t a
+-- what a table with these key pairs answers to a request, with an entry of the audit book or without one: what the slot of the request answers;
+-- or that memory ran out, without an entry
+abbrev pub HandlesBy : {W : Type 0} → (W → Calls) → Pairs → Asked → ℕ → Answer → Option AuditEntry → Type 0
+HandlesBy faults pairs q t answer.NoMemory o = o ≡ None
+HandlesBy faults pairs q t a o = MetSlot faults pairs q t a o
 
--- what a stamp answers to a request, by some key pairs
+-- what a stamp answers to a request, by some key pairs, with an entry of the audit book or without one
+abbrev pub IsHandledWith : {W : Type 0} → (W → Calls) → Asked → ℕ → Answer → Option AuditEntry → Type 0
+IsHandledWith faults q t a o = (pairs : Pairs) × HandlesBy faults pairs q t a o
+
+-- what a stamp answers to a request
 abbrev pub IsHandled : {W : Type 0} → (W → Calls) → Asked → ℕ → Answer → Type 0
-IsHandled faults q t a = (pairs : Pairs) × HandlesBy faults pairs q t a
+IsHandled faults q t a = (o : Option AuditEntry) × IsHandledWith faults q t a o
 
 -- ---- cares
 

@@ -6,6 +6,7 @@ mod faults;
 mod laws;
 mod locked;
 mod numbered;
+mod posting;
 mod ready;
 mod rotating;
 mod stamp;

@@ -10,6 +10,7 @@ ghost use Rattle.slot_state.specs.Slots as slots;
 ghost use Rattle.stored_slot.specs.Served.{Faulted, SlotServes};
 ghost use Rattle.stored_slot.specs.Settled.{CutsSettled};
 ghost use Rattle.slot_pass.specs.After.{IsAfterFault};
+ghost use Rattle.slot_pass.specs.Audits.{AuditsSettled};
 ghost use Rattle.slot_pass.specs.Calls.{AnswersAfter};
 ghost use Rattle.slot_pass.specs.Passes.{IsShown};
 ghost use Rattle.stamp_locks.specs.Lent.{BeginsSpan, CutsSlot, FailsCut, HandlesBy, HasSlot, IsCutFault};
@@ -28,7 +29,7 @@ use slot_state::{AccountPairs, KeptHistories};
 use stamp_types::{Key, Moment, Request};
 use std::alloc::{AllocError, Global};
 use stored_rows::{StoredFault, Unloaded};
-use stored_slot::StoredSlot;
+use stored_slot::{Audited, StoredSlot};
 use tickets::Answer;
 
 /// A slot, and its wire to the nodes: what the lock of a slot has.
@@ -46,7 +47,8 @@ fn show(slot: &StoredSlot<KeptHistories>, key: &Key)
 }
 
 impl<W: Wire + Drop> Locked<W> {
-    // Serves the request.
+    // Serves the request. If an entry of the audit book is asked for, the request has one if it names a container and is let in.
+    #[tactic(auto, using(stored_slot::proofs::AuditLemmas::audits_serve, slot_pass::proofs::AuditLemmas::audits_settled))]
     fn serve(
         &mut self,
         alloc: Global,
@@ -54,20 +56,23 @@ impl<W: Wire + Drop> Locked<W> {
         ready: &Ready,
         reading: Reading,
         moment: Moment,
-    ) -> Answer
+    ) -> Audited
         requires covered { slots.covers self.old.slot (routed request.now) ≡ true }
         requires judged { IsOfAsk ready.now.judged request.now.ask }
         requires read { reading ≡ reading_of request.now }
-        ensures { SlotServes self.old.slot request.now moment (Faulted (W.faults self.old.wire) (W.faults self.new.wire)) result self.new.slot }
+        ensures served { SlotServes self.old.slot request.now moment (Faulted (W.faults self.old.wire) (W.faults self.new.wire)) result.answer self.new.slot }
+        ensures audited { AuditsSettled self.old.slot request.now moment result.answer result.entry }
     {
-        self.slot.serve_read(
-            alloc,
-            request,
-            ready.judged.as_ref(),
-            reading,
-            moment,
-            &mut self.wire,
-        )
+        let Self { slot, wire } = self;
+        let judged = ready.judged.as_ref();
+        if ready.is_audited {
+            return slot.serve_audited(alloc, request, judged, reading, moment, wire);
+        }
+        let answer = slot.serve_read(alloc, request, judged, reading, moment, wire);
+        Audited {
+            answer,
+            entry: None,
+        }
     }
 
     // Serves the request by a slot that begins with the first key of the request's span.
@@ -80,14 +85,14 @@ impl<W: Wire + Drop> Locked<W> {
         ready: &Ready,
         reading: Reading,
         moment: Moment,
-    ) -> Answer
+    ) -> Audited
         requires begins { BeginsSpan spans.now (slot_of spans.now ready.now.first) self.old.slot }
         requires covered { slots.covers self.old.slot ready.now.first ≡ true }
         requires current { current_at self.old.slot.pairs request.now.ask.key.account ≡ current_at pairs.now request.now.ask.key.account }
         requires first { ready.now.first ≡ routed request.now }
         requires judged { IsOfAsk ready.now.judged request.now.ask }
         requires read { reading ≡ reading_of request.now }
-        ensures { HandlesBy W.faults pairs.now request.now moment result }
+        ensures { HandlesBy W.faults pairs.now request.now moment result.answer result.entry }
     {
         let (_spans, _pairs) = (spans, pairs);
         show(&self.slot, &request.ask().key);
@@ -104,17 +109,20 @@ impl<W: Wire + Drop> Locked<W> {
         ready: &Ready,
         reading: Reading,
         moment: Moment,
-    ) -> Answer
+    ) -> Audited
         requires rise { AreSpans spans.now }
         requires current { current_at self.old.slot.pairs request.now.ask.key.account ≡ current_at pairs.now request.now.ask.key.account }
         requires first { ready.now.first ≡ routed request.now }
         requires judged { IsOfAsk ready.now.judged request.now.ask }
         requires read { reading ≡ reading_of request.now }
-        ensures { HandlesBy W.faults pairs.now request.now moment result }
+        ensures { HandlesBy W.faults pairs.now request.now moment result.answer result.entry }
     {
         if !is_for(&self.slot, alloc, spans, &ready.first) {
             drop(reading);
-            return Answer::NoMemory;
+            return Audited {
+                answer: Answer::NoMemory,
+                entry: None,
+            };
         }
         self.handle_found(alloc, spans, pairs, request, ready, reading, moment)
     }
@@ -130,18 +138,21 @@ impl<W: Wire + Drop> Locked<W> {
         ready: &Ready,
         reading: Reading,
         moment: Moment,
-    ) -> Answer
+    ) -> Audited
         requires rise { AreSpans spans.now }
         requires first { ready.now.first ≡ routed request.now }
         requires judged { IsOfAsk ready.now.judged request.now.ask }
         requires read { reading ≡ reading_of request.now }
-        ensures { HandlesBy W.faults pairs.now request.now moment result }
+        ensures { HandlesBy W.faults pairs.now request.now moment result.answer result.entry }
     {
         match bring_up(&mut self.slot, alloc, &request.ask().key.account, pairs) {
             Ok(()) => { self.handle_current(alloc, spans, pairs, request, ready, reading, moment) }
             Err(AllocError) => {
                 drop(reading);
-                Answer::NoMemory
+                Audited {
+                    answer: Answer::NoMemory,
+                    entry: None,
+                }
             }
         }
     }
@@ -156,11 +167,12 @@ impl<W: Wire + Drop> Locked<W> {
         request: &Request,
         ready: &Ready,
         moment: Moment,
-    ) -> Result<(Answer, Pass), (Pass, AfterFault)>
+    ) -> Result<(Audited, Pass), (Pass, AfterFault)>
         requires names { request.now.ask.key ≡ pass.key }
         requires covered { slots.covers self.old.slot (routed request.now) ≡ true }
         requires judged { IsOfAsk ready.now.judged request.now.ask }
-        ensures answered { IfOk result (λ r. AnswersAfter pass self.old.slot request.now moment (W.faults self.old.wire) (W.faults self.new.wire) r.0 r.1 self.new.slot) }
+        ensures answered { IfOk result (λ r. AnswersAfter pass self.old.slot request.now moment (W.faults self.old.wire) (W.faults self.new.wire) r.0.answer r.1 self.new.slot) }
+        ensures audited { IfOk result (λ r. AuditsSettled self.old.slot request.now moment r.0.answer r.0.entry) }
         ensures fault { IfErr result (λ r. IsAfterFault pass self.old.slot r.1) }
         ensures back { IfErr result (λ r. r.0 ≡ pass) }
         ensures same { OnErr result (self.new.slot ≡ self.old.slot) }
@@ -175,8 +187,9 @@ impl<W: Wire + Drop> Locked<W> {
             ready.judged.as_ref(),
             moment,
             wire,
+            ready.is_audited,
         ) {
-            Ok(answer) => Ok((answer, pass)),
+            Ok(audited) => Ok((audited, pass)),
             Err(fault) => Err((pass, fault)),
         }
     }
@@ -191,19 +204,19 @@ impl<W: Wire + Drop> Locked<W> {
         request: &Request,
         ready: &Ready,
         moment: Moment,
-    ) -> Result<(Answer, Pass), (Pass, AfterFault)>
+    ) -> Result<(Audited, Pass), (Pass, AfterFault)>
         requires begins { BeginsSpan spans.now (slot_of spans.now ready.now.first) self.old.slot }
         requires covered { slots.covers self.old.slot ready.now.first ≡ true }
         requires current { current_at self.old.slot.pairs request.now.ask.key.account ≡ current_at pairs.now request.now.ask.key.account }
         requires names { request.now.ask.key ≡ pass.key }
         requires first { ready.now.first ≡ routed request.now }
         requires judged { IsOfAsk ready.now.judged request.now.ask }
-        ensures handled { IfOk result (λ r. HandlesAfterBy W.faults pairs.now pass request.now moment r.0 r.1) }
+        ensures handled { IfOk result (λ r. HandlesAfterBy W.faults pairs.now pass request.now moment r.0.answer r.0.entry r.1) }
         ensures back { IfErr result (λ r. IsBack pass request.now r.0 r.1) }
     {
         let (_spans, _pairs) = (spans, pairs);
         match self.serve_after(alloc, pass, request, ready, moment) {
-            Ok((answer, pass)) => Ok((answer, pass)),
+            Ok((audited, pass)) => Ok((audited, pass)),
             Err((pass, fault)) => Err((pass, fault)),
         }
     }
@@ -218,13 +231,13 @@ impl<W: Wire + Drop> Locked<W> {
         request: &Request,
         ready: &Ready,
         moment: Moment,
-    ) -> Result<(Answer, Pass), (Pass, AfterFault)>
+    ) -> Result<(Audited, Pass), (Pass, AfterFault)>
         requires rise { AreSpans spans.now }
         requires current { current_at self.old.slot.pairs request.now.ask.key.account ≡ current_at pairs.now request.now.ask.key.account }
         requires names { request.now.ask.key ≡ pass.key }
         requires first { ready.now.first ≡ routed request.now }
         requires judged { IsOfAsk ready.now.judged request.now.ask }
-        ensures handled { IfOk result (λ r. HandlesAfterBy W.faults pairs.now pass request.now moment r.0 r.1) }
+        ensures handled { IfOk result (λ r. HandlesAfterBy W.faults pairs.now pass request.now moment r.0.answer r.0.entry r.1) }
         ensures back { IfErr result (λ r. IsBack pass request.now r.0 r.1) }
     {
         if !is_for(&self.slot, alloc, spans, &ready.first) {
@@ -246,12 +259,12 @@ impl<W: Wire + Drop> Locked<W> {
         request: &Request,
         ready: &Ready,
         moment: Moment,
-    ) -> Result<(Answer, Pass), (Pass, AfterFault)>
+    ) -> Result<(Audited, Pass), (Pass, AfterFault)>
         requires rise { AreSpans spans.now }
         requires names { request.now.ask.key ≡ pass.key }
         requires first { ready.now.first ≡ routed request.now }
         requires judged { IsOfAsk ready.now.judged request.now.ask }
-        ensures handled { IfOk result (λ r. HandlesAfterBy W.faults pairs.now pass request.now moment r.0 r.1) }
+        ensures handled { IfOk result (λ r. HandlesAfterBy W.faults pairs.now pass request.now moment r.0.answer r.0.entry r.1) }
         ensures back { IfErr result (λ r. IsBack pass request.now r.0 r.1) }
     {
         match bring_up(&mut self.slot, alloc, &request.ask().key.account, pairs) {

@@ -16,6 +16,8 @@ pub(crate) struct Ready {
     pub(crate) first: Key,
     /// The judgement on the signature, by the key pair of the account that is in force; none if the stamp has no such account.
     pub(crate) judged: Option<Judged>,
+    /// Whether an entry of the audit book is made, if the request is let in.
+    pub(crate) is_audited: bool,
 }
 
 // The container at which a list begins: its marker, or the empty text.
@@ -81,12 +83,17 @@ impl Ready {
         alloc: Global,
         pairs: &AccountPairs,
         request: &Request,
+        is_audited: bool,
     ) -> Result<Self, AllocError>
         ensures first { IfOk result (λ ready. ready.first ≡ routed request.now) }
         ensures judged { IfOk result (λ ready. IsOfAsk ready.judged request.now.ask) }
     {
         let first = first_key(alloc, request)?;
         let judged = judgement(alloc, pairs, request)?;
-        Ok(Self { first, judged })
+        Ok(Self {
+            first,
+            judged,
+            is_audited,
+        })
     }
 }

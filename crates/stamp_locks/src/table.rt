@@ -27,7 +27,7 @@ use stamp_types::{Key, Moment, Request, Text};
 use std::alloc::{AllocError, Global};
 use std::sync::{Arc, Mutex, Wait};
 use stored_rows::{KeyRange, StoredFault, StoredRows, Unloaded};
-use stored_slot::StoredSlot;
+use stored_slot::{Audited, StoredSlot};
 use tickets::Answer;
 
 /// How many bytes an extent of two or more blocks may have.
@@ -134,7 +134,8 @@ impl<W: Wire + Drop> Table<W> {
 
     /// One request, by the slot of the span that has its first key.
     ///
-    /// The answer is `NoMemory` also if memory runs out before the slot's lock is taken.
+    /// The answer is `NoMemory` also if memory runs out before the slot's lock is taken. An entry of the audit book is made if it is asked for and
+    /// the request is let in.
     pub(crate) fn handle<R: Wait>(
         &self,
         rt: &R,
@@ -142,13 +143,17 @@ impl<W: Wire + Drop> Table<W> {
         request: &Request,
         reading: Reading,
         moment: Moment,
-    ) -> Answer
+        is_audited: bool,
+    ) -> Audited
         requires { reading ≡ reading_of request.now }
-        ensures { HandlesBy W.faults (arc_value self.now.pairs) request.now moment result }
+        ensures { HandlesBy W.faults (arc_value self.now.pairs) request.now moment result.answer result.entry }
     {
-        let ready = match Ready::of(alloc, &self.pairs, request) {
-            Ok(ready) => ready,
-            Err(AllocError) => return Answer::NoMemory,
+        let Ok(ready) = Ready::of(alloc, &self.pairs, request, is_audited) else {
+            drop(reading);
+            return Audited {
+                answer: Answer::NoMemory,
+                entry: None,
+            };
         };
         let mut locked = self.slots[self.spans.find(&ready.first)].lock(rt);
         locked.handle(
@@ -172,12 +177,13 @@ impl<W: Wire + Drop> Table<W> {
         pass: Pass,
         request: &Request,
         moment: Moment,
-    ) -> Result<(Answer, Pass), (Pass, AfterFault)>
+        is_audited: bool,
+    ) -> Result<(Audited, Pass), (Pass, AfterFault)>
         requires { request.now.ask.key ≡ pass.key }
-        ensures handled { IfOk result (λ r. HandlesAfterBy W.faults (arc_value self.now.pairs) pass request.now moment r.0 r.1) }
+        ensures handled { IfOk result (λ r. HandlesAfterBy W.faults (arc_value self.now.pairs) pass request.now moment r.0.answer r.0.entry r.1) }
         ensures back { IfErr result (λ r. IsBack pass request.now r.0 r.1) }
     {
-        let ready = match Ready::of(alloc, &self.pairs, request) {
+        let ready = match Ready::of(alloc, &self.pairs, request, is_audited) {
             Ok(ready) => ready,
             Err(AllocError) => return Err((pass, AfterFault::NoMemory)),
         };

@@ -1,9 +1,4 @@
-use Rattle.std.specs.Arc.{arc_value}
-use Rattle.stamp_locks.specs.Shown.{HandlesAfterBy, IsHandledAfter}
-use Rattle.stamp_locks.proofs.TellLemmas.{if_ok}
 use Rattle.stamp_locks.proofs.stamp.Stamp.handle_after.Goals as goal
 
-pub returns-clause-handled : goal.returns-clause-handled
-returns-clause-handled g c =
-    if_ok c.handle_after.result (λ r. HandlesAfterBy g.W.Wire.faults (arc_value c.deref.result.now.pairs) c.args.pass c.args.request.now c.args.moment r.0 r.1)
-    (λ r. IsHandledAfter g.W.Wire.faults c.args.pass c.args.request.now c.args.moment r.0 r.1) (λ r answers. (arc_value c.deref.result.now.pairs, answers)) c.handle_after.ensures.handled
+pub returns-in-Ok-clause-handled : goal.returns-in-Ok-clause-handled
+returns-in-Ok-clause-handled g c = (c.in-Ok.audited.entry, c.in-Ok.ensures)

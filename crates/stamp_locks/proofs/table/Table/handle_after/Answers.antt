@@ -5,4 +5,4 @@ use Rattle.stamp_locks.proofs.table.Table.handle_after.Goals as goal
 
 pub returns-clause-handled : goal.returns-clause-handled
 returns-clause-handled g c =
-    subst (λ (ps : Pairs). IfOk c.handle_after.result (λ r. HandlesAfterBy g.W.Wire.faults ps c.args.pass c.args.request.now c.args.moment r.0 r.1)) c.deref-2.ensures c.handle_after.ensures.handled
+    subst (λ (ps : Pairs). IfOk c.handle_after.result (λ r. HandlesAfterBy g.W.Wire.faults ps c.args.pass c.args.request.now c.args.moment r.0.answer r.0.entry r.1)) c.deref-2.ensures c.handle_after.ensures.handled
