@@ -48,7 +48,6 @@ fn show(slot: &StoredSlot<KeptHistories>, key: &Key)
 
 impl<W: Wire + Drop> Locked<W> {
     // Serves the request. If an entry of the audit book is asked for, the request has one if it names a container and is let in.
-    #[tactic(auto, using(stored_slot::proofs::AuditLemmas::audits_serve, slot_pass::proofs::AuditLemmas::audits_settled))]
     fn serve(
         &mut self,
         alloc: Global,
