@@ -6,5 +6,5 @@ mod service;
 mod service_tests;
 mod steady;
 
-pub use service::{CoreService, answer_steadily, audit_steadily, compact_steadily, core_of};
+pub use service::CoreService;
 pub use steady::Steady;

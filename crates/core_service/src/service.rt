@@ -1,25 +1,20 @@
 //! The service of one account over a core that nobody shares.
 ghost use Rattle.std.specs.Prelude.{◌≡◌, ◌∷◌, [], IfOk, OnErr};
-ghost use Rattle.std.specs.Option.{option_copied};
-ghost use Rattle.policy_book.specs.Judgements.{IsOfAsk};
 ghost use Rattle.range_rows.specs.Readings.{reading_of};
 ghost use Rattle.slot_state.specs.Pairs.{first_pairs};
 ghost use Rattle.core_run.specs.Cores.{StandsFor, first_core};
-ghost use Rattle.stamp_core.specs.CoreAudits.{CoreAudits};
 ghost use Rattle.stamp_core.specs.CoreSteps.{IsCalm};
 ghost use Rattle.core_service.specs.Services.{AnswersAsMachine, opening_of};
 
 use crate::steady::Steady;
 use access_rules::Keys;
 use http_front::Service;
-use policy_book::Judged;
 use range_rows::Reading;
 use slot_state::{PairsFault, ProvedHistories};
-use stamp_core::{AuditedReply, Core};
+use stamp_core::Core;
 use stamp_types::{Moment, Reply, Request};
 use std::alloc::{AllocError, Global};
 use std::marker::Model;
-use stored_rows::Compacted;
 
 // One more owner of each part of the pair.
 fn copy_of(keys: &Keys) -> Result<Keys, AllocError>
@@ -28,11 +23,11 @@ fn copy_of(keys: &Keys) -> Result<Keys, AllocError>
     keys.clone()
 }
 
-/// A core of one slot of all keys, without containers, for the account of this first pair of keys.
-///
-/// `AllocError` if memory runs out.
+// A core of one slot of all keys, without containers, for the account of this first pair of keys.
+//
+// `AllocError` if memory runs out.
 #[tactic(auto, using(crate::proofs::ServiceLemmas::calm_first))]
-pub fn core_of(alloc: Global, keys: &Keys) -> Result<Core<ProvedHistories>, AllocError>
+fn core_of(alloc: Global, keys: &Keys) -> Result<Core<ProvedHistories>, AllocError>
     requires { keys.now.epoch ≡ 0 }
     ensures value { IfOk result (λ core. core ≡ first_core (first_pairs (keys.now ∷ []))) }
     ensures stands { IfOk result (λ core. StandsFor core (opening_of keys.now)) }
@@ -48,71 +43,36 @@ pub fn core_of(alloc: Global, keys: &Keys) -> Result<Core<ProvedHistories>, Allo
     }
 }
 
-/// The reply of the machine, and its change, over nodes in memory.
-///
-/// `AllocError` if memory runs out. Then the core is as it was.
-pub fn answer_steadily(
+// The reply of the machine, and its change, over nodes in memory.
+//
+// `AllocError` if memory runs out. Then the core is as it was.
+fn answer_steadily(
     core: &mut Core<ProvedHistories>,
     wire: &mut Steady,
     alloc: Global,
     request: &Request,
-    judged: Option<&Judged>,
     reading: Reading,
     moment: Moment,
 ) -> Result<Reply, AllocError>
     requires calm { IsCalm core.old }
-    requires judged { IsOfAsk (option_copied judged) request.now.ask }
     requires read { reading ≡ reading_of request.now }
     ensures calm { IsCalm core.new }
     ensures answered { IfOk result (λ reply. AnswersAsMachine core.old request.now moment reply core.new) }
     ensures unchanged { OnErr result (core.new ≡ core.old) }
 {
-    core.answer(alloc, request, judged, reading, moment, wire)
+    core.answer(alloc, request, None, reading, moment, wire)
 }
 
-/// The same, with the entry of the request in the audit book.
-pub fn audit_steadily(
-    core: &mut Core<ProvedHistories>,
-    wire: &mut Steady,
-    alloc: Global,
-    request: &Request,
-    judged: Option<&Judged>,
-    reading: Reading,
-    moment: Moment,
-) -> AuditedReply
-    requires calm { IsCalm core.old }
-    requires judged { IsOfAsk (option_copied judged) request.now.ask }
-    requires read { reading ≡ reading_of request.now }
-    ensures calm { IsCalm core.new }
-    ensures answered { IfOk result.reply (λ reply. AnswersAsMachine core.old request.now moment reply core.new) }
-    ensures audited { CoreAudits core.old request.now moment result.reply result.entry }
-    ensures unchanged { OnErr result.reply (core.new ≡ core.old) }
-{
-    core.answer_audited(alloc, request, judged, reading, moment, wire)
-}
-
-/// Compacts the first slot of which little is left to which something refers, if there is one, over nodes in memory. Gives what was replaced.
-///
-/// Nothing that a request is answered changes, also if memory runs out for it.
-pub fn compact_steadily(
-    core: &mut Core<ProvedHistories>,
-    wire: &mut Steady,
-    alloc: Global,
-) -> Option<Compacted>
-    requires calm { IsCalm core.old }
-    ensures { core.new ≡ core.old }
-{
-    core.compact_wasteful(alloc, wire)
-}
-
-// Compacts as `compact_steadily` does, and drops what was replaced. What a compaction gives is large, so it is not even made as None if
-// nothing is to be compacted.
+// Compacts the first slot of which little is left to which something refers, if there is one, over nodes in memory, and drops what was replaced.
+// What a compaction gives is large, so it is not even made as None if nothing is to be compacted.
+//
+// Nothing that a request is answered changes, also if memory runs out for it.
 fn compact_if_wasteful(core: &mut Core<ProvedHistories>, wire: &mut Steady, alloc: Global)
     requires calm { IsCalm core.old }
     ensures { core.new ≡ core.old }
 {
     if core.is_wasteful() {
-        drop(compact_steadily(core, wire, alloc));
+        drop(core.compact_wasteful(alloc, wire));
     }
 }
 
@@ -190,6 +150,6 @@ impl Service for CoreService {
         let reading = Reading::of(alloc, &request)?;
         let Self { core, wire } = self;
         compact_if_wasteful(core, wire, alloc);
-        answer_steadily(core, wire, alloc, &request, None, reading, moment)
+        answer_steadily(core, wire, alloc, &request, reading, moment)
     }
 }

@@ -47,12 +47,7 @@ impl Clock for Still {
 }
 
 // Sends the input to the service, and returns all that is written.
-fn sent<S: Service, R: Abort>(
-    rt: &R,
-    alloc: Global,
-    service: &mut S,
-    input: &[u8],
-) -> Vec<u8> {
+fn sent<S: Service, R: Abort>(rt: &R, alloc: Global, service: &mut S, input: &[u8]) -> Vec<u8> {
     let moment = Moment::new(NOON).expect(rt, "a moment");
     let mut http = http_front::Connection::new(alloc, input, Vec::new(alloc), 1_000);
     let end = run(alloc, &mut http, &mut Still { moment }, service);
