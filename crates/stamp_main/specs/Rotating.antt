@@ -1,10 +1,11 @@
 -- The lines by which an operator replaces a key of the account, and their answers (this product's own choice).
 use Rattle.std.specs.Prelude.{◌≡◌, ◌≢◌, ◌++◌, ℕ, List, [], if◌then◌else◌, Option, Some, None, bytes_eq, codes, decimal, drop, take}
 use Rattle.hmac_sign.specs.Signature.{IsBytes, base64_of}
-use Rattle.access_rules.specs.declared.keys.Keys.{Keys}
 use Rattle.access_rules.specs.declared.rotation.Which.{Which}
 use Rattle.access_rules.specs.declared.rotation.Which.TheVariants.{First, Second}
-use Rattle.account_lock.specs.Histories.{HasLastEpoch, HasRotated, IsUnchanged, Known}
+use Rattle.served_history.specs.declared.entry.Entry.{Entry}
+use Rattle.served_history.specs.Histories.{IsUnchanged}
+use Rattle.served_slots.specs.Rotations.{HasLastEpoch, HasRotated}
 use Rattle.stamp_main.specs.declared.rotating.Answer.{Answer}
 use Rattle.stamp_main.specs.declared.rotating.Answer.TheVariants as answer
 
@@ -23,15 +24,15 @@ answer_text answer.Long = codes "refused: the line has more than 4096 bytes"
 answer_text answer.Last = codes "refused: no epoch is left"
 answer_text answer.NoMemory = codes "refused: out of memory"
 
--- What a line leaves of what the operator knew, by its answer: the key that it gives in Base64 replaced the key that it names; or nothing changed,
--- and the answer says why
-abbrev pub Obeys : Keys → Known → List ℕ → Answer → Known → Type 0
-Obeys keys known line (answer.Epoch epoch) known' =
+-- What a line leaves of what the operator knew, by its answer: the key that it gives in Base64 replaced the key of the account that it names; or
+-- nothing changed, and the answer says why
+abbrev pub Obeys : List Entry → List ℕ → List ℕ → Answer → List Entry → Type 0
+Obeys known account line (answer.Epoch epoch) known' =
     (which : Which) × (key : List ℕ) × (rotation_in line ≡ Some (which, base64_of key)) × IsBytes key × (key ≢ [])
-    × HasRotated keys known which key epoch known'
-Obeys keys known line answer.Form known' = (rotation_in line ≡ None) × IsUnchanged known known'
-Obeys keys known line answer.Key known' =
+    × HasRotated known account which key epoch known'
+Obeys known account line answer.Form known' = (rotation_in line ≡ None) × IsUnchanged known known'
+Obeys known account line answer.Key known' =
     ((which : Which) (key : List ℕ) → IsBytes key → key ≢ [] → rotation_in line ≢ Some (which, base64_of key)) × IsUnchanged known known'
-Obeys keys known line answer.Last known' = HasLastEpoch keys known.entries × IsUnchanged known known'
-Obeys keys known line answer.NoMemory known' = IsUnchanged known known'
-Obeys keys known line answer.Long known' = ⊥
+Obeys known account line answer.Last known' = HasLastEpoch known account × IsUnchanged known known'
+Obeys known account line answer.NoMemory known' = IsUnchanged known known'
+Obeys known account line answer.Long known' = ⊥

@@ -2,8 +2,9 @@
 
 use crate::line::Line;
 use crate::rotating::{Answer, obey};
-use account_lock::{Account, Operator};
 use libc::types::pollfd;
+use served_history::Account;
+use served_slots::Operator;
 use std::alloc::Global;
 use std::io;
 use std::io::{ErrorKind, Read, Write};

@@ -43,7 +43,6 @@ mod rotating_tests;
 mod serving;
 #[cfg(test)]
 mod serving_tests;
-mod shares;
 mod signing;
 #[cfg(test)]
 mod signing_tests;

@@ -6,8 +6,9 @@ ghost use Rattle.stamp_main.specs.Rotating.{Obeys, answer_text};
 ghost use Rattle.stamp_main.specs.declared.rotating.Answer.TheVariants.{Epoch, Key, NoMemory};
 
 use access_rules::{KeysFault, Which};
-use account_lock::{Account, Operator};
 use hmac_sign::{SecretFault, SigningKey, read_key};
+use served_history::Account;
+use served_slots::Operator;
 use std::alloc::{AllocError, Global};
 use std::sync::Wait;
 
@@ -71,8 +72,7 @@ pub(crate) fn obey<A: Account, R: Wait>(
     alloc: Global,
     line: &[u8],
 ) -> Answer
-    ensures { Obeys A.keys (record { entries = operator.old.known; made = operator.old.share.amount }) line.now result
-        (record { entries = operator.new.known; made = operator.new.share.amount }) }
+    ensures { Obeys operator.old.known operator.old.account line.now result operator.new.known }
 {
     let Some((which, text)) = rotation_in(line) else {
         return Answer::Form;

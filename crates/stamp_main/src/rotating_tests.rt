@@ -1,10 +1,13 @@
 //! Lines of an operator, read from memory.
-ghost use Rattle.std.specs.Prelude.{◌≡◌, ◌≤◌};
+ghost use Rattle.std.specs.Prelude.{◌≡◌, ◌∷◌, []};
+ghost use Rattle.served_history.specs.declared.entry.Entry.TheVariants.{Opened};
 
 use crate::console::{Console, Input};
-use crate::serving_tests::keys;
+use crate::serving_tests::first_pairs;
 use access_rules::Keys;
-use account_lock::{Account, AccountLock, NewHistory, Operator};
+use served_history::{Account, NewHistory};
+use served_slots::{Operator, Slots};
+use stamp_types::Text;
 use std::alloc::Global;
 use std::marker::Brand;
 use std::process::Abort;
@@ -45,27 +48,30 @@ fn long_lines(rt: &impl Abort, alloc: Global) -> Vec<u8> {
     lines
 }
 
-fn obeys<A: Account, R: Wait + Abort>(rt: &R, alloc: Global, keys: Keys, history: NewHistory)
-    requires keys { keys ≡ A.keys }
-    requires first { keys.epoch ≡ 0 }
-    requires history { history.seen.book ≡ A.history }
-    requires shares { (history.shares.name ≡ A.name) × (history.shares.parts ≡ A.parts) }
-    requires two { history.shares.parts ≡ 2 }
+fn obeys<A: Account, R: Wait + Abort>(
+    rt: &R,
+    alloc: Global,
+    pairs: Vec<Keys>,
+    account: Text,
+    history: NewHistory,
+)
+    requires book { history.book ≡ A.history }
+    requires fresh { history.next ≡ 0 }
+    requires log { history.log ≡ Opened pairs.items ∷ [] }
 {
-    let (lock, mut shares) = AccountLock::<A>::new(alloc, keys, history).expect(rt, "memory");
-    let mut operator = Operator::new(rt, &lock, shares.split_off(1, 0));
+    let (slots, first) = Slots::<A>::new(alloc, pairs, history).expect(rt, "memory");
+    let mut operator = Operator::new(rt, &slots, account, first);
     let answers = answers_to(rt, alloc, &mut operator, LINES);
     assert!(rt; answers.as_slice() == ANSWERS);
     let lines = long_lines(rt, alloc);
     let answers = answers_to(rt, alloc, &mut operator, &lines);
     assert!(rt; answers.as_slice() == LONG);
-    shares.merge(operator.into_share());
-    assert!(rt; lock.history(rt, &mut shares).len() == 4);
 }
 
 #[test]
 fn lines_of_an_operator_are_obeyed(rt: HostRuntime) -> Result<(), Fail> {
-    let keys = keys(rt.alloc())?;
-    obeys::<Brand, _>(&rt, rt.alloc(), keys, NewHistory::new(2));
+    let (account, pairs) = first_pairs(rt.alloc())?;
+    let history = NewHistory::new(&pairs);
+    obeys::<Brand, _>(&rt, rt.alloc(), pairs, account, history);
     Ok(())
 }

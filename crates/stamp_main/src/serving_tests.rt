@@ -1,15 +1,18 @@
 //! Both ends of connections in one process, on a port that the system gives. A client gives up after ten seconds, so each test ends by itself.
 //! Signatures, sums and replies were made outside of this repository's code.
-ghost use Rattle.std.specs.Prelude.{◌≡◌, ◌<◌, IfOk};
+ghost use Rattle.std.specs.Prelude.{◌≡◌, ◌∷◌, [], IfOk};
+ghost use Rattle.served_history.specs.declared.entry.Entry.TheVariants.{Opened};
 
 use crate::console::{Console, Input};
 use crate::machine::Machine;
+use crate::serving::account_of;
 use crate::sockets::serve_on;
 use crate::words::{Served, read_served};
 use access_rules::Keys;
-use account_lock::{Account, NewHistory};
 use http_front::Clock as _;
+use served_history::{Account, NewHistory};
 use socket_gate::Limits;
+use stamp_types::Text;
 use std::alloc::{AllocError, Global};
 use std::io::{Read, Write};
 use std::marker::Brand;
@@ -158,13 +161,14 @@ fn play<R: Net<Stream = TcpStream>>(
     Ok(None)
 }
 
-// The account `devstoreaccount1` with the keys `key1` and `key2`.
-pub(crate) fn keys(alloc: Global) -> Result<Keys, AllocError>
-    ensures { IfOk result (λ keys. keys.epoch ≡ 0) }
-{
+// The account `devstoreaccount1`, and its first pair with the keys `key1` and `key2`.
+pub(crate) fn first_pairs(alloc: Global) -> Result<(Text, Vec<Keys>), AllocError> {
     let served = read_served(alloc, "", "1", "devstoreaccount1", "a2V5MQ==", "a2V5Mg==");
     let Served { keys, .. } = served.map_err(|_| AllocError)?;
-    Ok(keys)
+    let account = account_of(alloc, &keys)?;
+    let mut pairs = Vec::new(alloc);
+    pairs.push(keys)?;
+    Ok((account, pairs))
 }
 
 // The limits of the program, but for a client that sends nothing.
@@ -184,26 +188,23 @@ fn both_ends<
     rt: &R,
     alloc: Global,
     history: NewHistory,
-    keys: Keys,
+    pairs: Vec<Keys>,
+    account: Text,
     workers: usize,
     connections: u64,
     patience: u64,
     turns: &[Turn],
 ) -> io::Result<(bool, Option<usize>)>
-    requires history { history.seen.book ≡ A.history }
-    requires shares { (history.shares.name ≡ A.name) × (history.shares.parts ≡ A.parts) }
-    requires one_each { connections < history.shares.parts }
-    requires keys { keys ≡ A.keys }
-    requires first { keys.epoch ≡ 0 }
+    requires book { history.book ≡ A.history }
+    requires fresh { history.next ≡ 0 }
+    requires log { history.log ≡ Opened pairs.items ∷ [] }
 {
     let listener = TcpListener::bind(rt, "127.0.0.1:0")?;
     let address = listener.local_addr()?;
     let (served, played) = thread::join(
         rt,
         || -> bool
-            requires { (history.seen.book ≡ A.history) × (keys ≡ A.keys) × (keys.epoch ≡ 0)
-                × (history.shares.name ≡ A.name) × (history.shares.parts ≡ A.parts)
-                × (connections < history.shares.parts) }
+            requires { (history.book ≡ A.history) × (history.next ≡ 0) × (history.log ≡ Opened pairs.items ∷ []) }
         {
             let mut console = Console::new(b"".as_slice(), Vec::new(alloc), Input::Ready);
             serve_on::<A, R, Noon<'_, R>, &[u8], Vec<u8>, Vec<u8>>(
@@ -211,7 +212,8 @@ fn both_ends<
                 &Noon(rt),
                 alloc,
                 history,
-                keys,
+                pairs,
+                account,
                 &listener,
                 workers,
                 connections,
@@ -336,15 +338,16 @@ fn connections_are_served_over_loopback(rt: HostRuntime) -> Result<(), Fail> {
         ),
     ];
     for (name, workers, connections, patience, turns) in table {
-        let keys = keys(rt.alloc())?;
-        let connections = u64::from(connections);
+        let (account, pairs) = first_pairs(rt.alloc())?;
+        let history = NewHistory::new(&pairs);
         let (served, differs) = both_ends::<Brand, _>(
             &rt,
             rt.alloc(),
-            NewHistory::new(connections + 1),
-            keys,
+            history,
+            pairs,
+            account,
             workers,
-            connections,
+            u64::from(connections),
             patience,
             turns,
         )?;
@@ -359,14 +362,16 @@ fn a_listener_that_fails_for_good_ends_serving(rt: HostRuntime) -> Result<(), Fa
     let listener = TcpListener::bind(&rt, "127.0.0.1:0")?;
     // A socket that was shut down takes no connections any more.
     TcpStream::from(OwnedFd::from(listener.try_clone()?)).shutdown(Shutdown::Both)?;
-    let keys = keys(rt.alloc())?;
+    let (account, pairs) = first_pairs(rt.alloc())?;
+    let history = NewHistory::new(&pairs);
     let mut console = Console::new(b"".as_slice(), Vec::new(rt.alloc()), Input::Ready);
     let served = serve_on::<Brand, _, Noon<'_, HostRuntime>, &[u8], Vec<u8>, Vec<u8>>(
         &rt,
         &Noon(&rt),
         rt.alloc(),
-        NewHistory::new(10),
-        keys,
+        history,
+        pairs,
+        account,
         &listener,
         2,
         9,
