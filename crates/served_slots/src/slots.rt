@@ -261,3 +261,11 @@ impl<A: Account> Slots<A> {
         table.split(alloc, slot, middle)
     }
 }
+
+#[cfg(test)]
+impl<A: Account> Slots<A> {
+    // Whether the slot that has the key is to be compacted. Waits for the locks of table and slot.
+    pub(crate) fn is_wasteful<R: Wait>(&self, rt: &R, key: &Key) -> bool {
+        self.table.read(rt).is_wasteful(rt, key)
+    }
+}

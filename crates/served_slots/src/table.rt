@@ -191,3 +191,11 @@ impl<A: Account> Table<A> {
         }
     }
 }
+
+#[cfg(test)]
+impl<A: Account> Table<A> {
+    // Whether the slot that has the key is to be compacted. Waits for its lock.
+    pub(crate) fn is_wasteful<R: Wait>(&self, rt: &R, key: &Key) -> bool {
+        self.lock_of(key).lock(rt).is_wasteful()
+    }
+}
