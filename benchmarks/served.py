@@ -49,12 +49,13 @@ def first_line(stream):
 class Server:
     """A server at a free address of this machine. It is ended at the end of the block."""
 
-    def __init__(self, program, workers, before="true", tool=()):
-        """`before` is a command of the shell that comes first, for example a limit. `tool` is a command that runs the server."""
+    def __init__(self, program, workers, before="true", tool=(), lines=subprocess.DEVNULL):
+        """`before` is a command of the shell that comes first, for example a limit. `tool` is a command that runs the server. `lines` is where the
+        lines of its operator come from: a pipe for `obey`."""
         self.host, port = shown.free_address().split(":")
         self.port = int(port)
         words = [*tool, program, "serve", f"{self.host}:{port}", str(workers), ACCOUNT, *KEYS]
-        self.process = subprocess.Popen(["sh", "-c", f'{before} && exec "$@"', "sh", *words], stdin=subprocess.DEVNULL, stdout=subprocess.PIPE)
+        self.process = subprocess.Popen(["sh", "-c", f'{before} && exec "$@"', "sh", *words], stdin=lines, stdout=subprocess.PIPE)
         self.pid = self.process.pid
 
     def __enter__(self):
@@ -68,6 +69,14 @@ class Server:
         self.process.kill()
         self.process.wait()
         self.process.stdout.close()
+        if self.process.stdin:
+            self.process.stdin.close()
+
+    def obey(self, line):
+        """What the server answers to a line of its operator."""
+        self.process.stdin.write(f"{line}\n".encode())
+        self.process.stdin.flush()
+        return first_line(self.process.stdout).decode().rstrip("\n")
 
     def connect(self):
         return socket.create_connection((self.host, self.port), timeout=PATIENCE)
@@ -120,19 +129,19 @@ def head(method, target, *headers):
     return (text + signature + b"\n").replace(b"\n", b"\r\n")
 
 
-def create(*headers):
+def create(*headers, container=CONTAINER):
     """A Create Container."""
-    return head("PUT", f"{CONTAINER}?restype=container", "Content-Length: 0", *headers)
+    return head("PUT", f"{container}?restype=container", "Content-Length: 0", *headers)
 
 
-def put_head(name, size):
+def put_head(name, size, container=CONTAINER):
     """The head of a Put Blob of so many bytes."""
-    return head("PUT", f"{CONTAINER}/{name}", f"Content-Length: {size}", "x-ms-blob-type: BlockBlob")
+    return head("PUT", f"{container}/{name}", f"Content-Length: {size}", "x-ms-blob-type: BlockBlob")
 
 
-def get(name):
+def get(name, container=CONTAINER):
     """A Get Blob."""
-    return head("GET", f"{CONTAINER}/{name}")
+    return head("GET", f"{container}/{name}")
 
 
 def reply(connection):

@@ -4,7 +4,7 @@ ghost use Rattle.replay_cases.specs.declared.service.ServiceFault.TheVariants.{N
 
 use crate::case::Case;
 use crate::creation::make_container;
-use account_lock::CoreService;
+use core_service::CoreService;
 use stamp_types::Moment;
 use std::alloc::{AllocError, Global};
 use thiserror::Error;

@@ -1,9 +1,10 @@
 -- What the steps on a locked slot answer (Calder et al., SOSP 2011, section 5: a range partition; section 5.5: a partition is split).
-use Rattle.std.specs.Prelude.{◌≡◌, ◌⊎◌, ◌+◌, ⊤, ℕ, List, Option, Some, None, Result, Ok, Err}
+use Rattle.std.specs.Prelude.{◌≡◌, ◌⊎◌, ◌+◌, ⊤, List, Option, Some, None, Result, Ok, Err}
 use Rattle.stamp_values.specs.declared.key.Key.{Key}
 use Rattle.stamp_types.specs.declared.reply.Reply.{Reply}
-use Rattle.partition_map.specs.Spans.{cause_of, split_refusal}
+use Rattle.partition_map.specs.Spans.{slot_of, split_refusal}
 use Rattle.partition_map.specs.declared.fault.MapFault.{MapFault}
+use Rattle.partition_map.specs.declared.fault.MapFault.TheVariants as cause
 use Rattle.tickets.specs.declared.answer.Answer.{Answer}
 use Rattle.tickets.specs.declared.answer.Answer.TheVariants as answer
 use Rattle.served_history.specs.declared.entry.Entry.{Entry}
@@ -61,17 +62,14 @@ IsPartedFrom (Some front) middle (Some lower) None = ⊥
 IsPartedFrom (Some front) middle None upper = ⊥
 IsPartedFrom None middle lower upper = ⊥
 
--- spans answer so if the slot with this number is to be split at this key: they refuse it with this cause, or allow it
-pub record SpansSay (slot : ℕ) (middle : Key) (cause : Option MapFault) : Type 0 where
+-- spans answer so if the slot that has this key is to be split there: they refuse it with this cause, or allow it
+pub record SpansSay (middle : Key) (cause : Option MapFault) : Type 0 where
   pub points : List Key
-  pub said : split_refusal points slot middle ≡ cause
+  pub said : split_refusal points (slot_of points middle) middle ≡ cause
 
--- a slot that spans allow to be split has no cause of theirs
-abbrev pub IsHalveFault : SplitError → Type 0
-IsHalveFault (split.Map f) = ⊥
-IsHalveFault split.NoMemory = ⊤
-
--- why a slot is not split: the spans refuse it, or have no memory for it; or they allow it, and the slot is not cut
-abbrev pub IsSplitFault : ℕ → Key → SplitError → Type 0
-IsSplitFault slot middle (split.Map f) = SpansSay slot middle (cause_of f)
-IsSplitFault slot middle split.NoMemory = SpansSay slot middle None
+-- why no slot is split at this key: a slot begins with it, or there are as many slots as there may be; or the spans allow it, and memory ran out or
+-- the slot is not cut
+abbrev pub IsSplitFault : Key → SplitError → Type 0
+IsSplitFault middle split.FirstKey = SpansSay middle (Some cause.NotInside)
+IsSplitFault middle split.Full = SpansSay middle (Some cause.Full)
+IsSplitFault middle split.NoMemory = SpansSay middle None

@@ -1,5 +1,5 @@
 //! A request or a split on a slot whose containers are those that its history leaves, and its entry in the history.
-ghost use Rattle.std.specs.Prelude.{◌≡◌, ◌+◌, ◌<◌, ◌^◌, IfOk, IfSome, MatchBool, OnErr, OnOk, map, true};
+ghost use Rattle.std.specs.Prelude.{◌≡◌, ◌+◌, ◌<◌, ◌^◌, IfOk, IfSome, MatchBool, None, OnErr, OnOk, false, map, true};
 ghost use Rattle.std.specs.Arc.{arc_value};
 ghost use Rattle.std.specs.Option.{option_copied};
 ghost use Rattle.policy_book.specs.Judgements.{IsOfAsk};
@@ -107,6 +107,7 @@ pub(crate) fn serve_and_enter<A: Account>(
     requires read { reading ≡ reading_of request.now }
     ensures served { IfOk result (λ told. IsServed known.old request.now moment told.replied known.new) }
     ensures audited { IfOk result (λ told. AuditsLast known.new request.now moment told.entry) }
+    ensures unasked { IfOk result (λ told. is_audited ≡ false → told.entry ≡ None) }
     ensures same { OnErr result (known.new ≡ known.old) }
     ensures left { UnlessLost result (IsLeftBy own.new to.now slot.new) }
     ensures made { OnOk result (HasOneMore own.old known.new own.new) }

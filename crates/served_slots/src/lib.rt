@@ -1,6 +1,8 @@
 //! Slots with a lock each, whose requests are the entries of one history.
 #![tactic(auto)]
 
+#[cfg(test)]
+mod compaction_tests;
 mod connection;
 mod entering;
 mod laws;

@@ -1,5 +1,5 @@
 //! What the lock of a slot has, and what is done with it while the lock is held.
-ghost use Rattle.std.specs.Prelude.{◌≡◌, ◌<◌, ◌^◌, IfOk, IsTrue, None, OnErr, OnOk, Some, true};
+ghost use Rattle.std.specs.Prelude.{◌≡◌, ◌<◌, ◌^◌, IfOk, IsTrue, None, OnErr, OnOk, Some, false, true};
 ghost use Rattle.std.specs.Arc.{arc_value};
 ghost use Rattle.policy_book.specs.Judgements.{IsOfAsk};
 ghost use Rattle.range_rows.specs.Readings.{reading_of};
@@ -121,6 +121,7 @@ impl<A: Account> LockedSlot<A> {
         requires read { reading ≡ reading_of request.now }
         ensures served { IfOk result (λ told. IsServed known.old request.now moment told.replied known.new) }
         ensures audited { IfOk result (λ told. AuditsLast known.new request.now moment told.entry) }
+        ensures unasked { IfOk result (λ told. is_audited ≡ false → told.entry ≡ None) }
         ensures same { OnErr result (known.new ≡ known.old) }
         ensures made { OnOk result (MakesOne self.old known.new self.new) }
         ensures stays { OnErr result (StaysOrEnds self.old self.new) }

@@ -1,17 +1,19 @@
-//! The operator of an account, who replaces its keys while connections are served.
-ghost use Rattle.std.specs.Prelude.{◌≡◌, Err, IfOk, OnErr};
+//! The operator of an account, who replaces its keys and splits slots while connections are served.
+ghost use Rattle.std.specs.Prelude.{◌≡◌, Err, IfErr, IfOk, None, OnErr, OnOk};
 ghost use Rattle.access_rules.specs.declared.rotation.KeysFault.TheVariants.{Last};
 ghost use Rattle.served_slots.specs.Rotations.{HasLastEpoch, HasRotated};
+ghost use Rattle.served_slots.specs.Steps.{IsSplitFault, SpansSay};
 
 use crate::slots::Slots;
+use crate::splitting::SplitError;
 use access_rules::{KeysFault, Which};
 use hmac_sign::SigningKey;
 use served_history::{Account, Front};
-use stamp_types::Text;
-use std::alloc::Global;
+use stamp_types::{Key, Text};
+use std::alloc::{AllocError, Global};
 use std::sync::Wait;
 
-/// Whoever replaces the keys of an account: the slots, the account, and what the operator knows of the history.
+/// Whoever replaces the keys of an account and splits slots: the slots, the account, and what the operator knows of the history.
 #[derive(Drop)]
 pub struct Operator<'a, A: Account, R: Wait> {
     rt: &'a R,
@@ -66,5 +68,28 @@ impl<'a, A: Account, R: Wait> Operator<'a, A, R> {
     {
         self.slots
             .rotate(self.rt, alloc, &mut self.known, &self.account, which, key)
+    }
+
+    /// The key of the operator's container with this name.
+    ///
+    /// `AllocError` if memory runs out.
+    pub fn container(&self, name: Text) -> Result<Key, AllocError>
+        ensures { IfOk result (λ key. key ≡ record { account = self.now.account; container = name }) }
+    {
+        let account = self.account.clone()?;
+        Ok(Key {
+            account,
+            container: name,
+        })
+    }
+
+    /// Splits the slot that has the key. The key is then the first key of the upper half. No request is answered meanwhile.
+    ///
+    /// The faults are those of [`Slots::split`]. After a fault nothing is changed.
+    pub fn split(&self, alloc: Global, middle: &Key) -> Result<(), SplitError>
+        ensures allowed { OnOk result (SpansSay middle.now None) }
+        ensures fault { IfErr result (IsSplitFault middle.now) }
+    {
+        self.slots.split(self.rt, alloc, middle)
     }
 }

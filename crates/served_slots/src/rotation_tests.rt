@@ -8,6 +8,7 @@ use crate::slots::Slots;
 use crate::slots_tests::{
     CREATE_PICS, CREATE_ZOO, CREATED, GET_ZOO, PUT_ZOO, key, pairs, sent, signing,
 };
+use crate::splitting::SplitError;
 use access_rules::{Keys, Which};
 use served_history::{Account, NewHistory};
 use stamp_types::Text;
@@ -20,15 +21,22 @@ use std::sync::Wait;
 const GET_ZOO_BY_NEW: &[u8] =
     b"GET /devstoreaccount1/zoo/a.txt HTTP/1.1\r\nHost: 127.0.0.1:10000\r\nx-ms-date: Mon, 01 Oct 2012 12:00:00 GMT\r\nx-ms-version: 2012-02-12\r\nAuthorization: SharedKey devstoreaccount1:dS+ewTYJ/A75BqDiaopcVixNZ3eU7/hyAiydefXVKpw=\r\n\r\n";
 
-const GET_PICS: &[u8] =
+pub(crate) const GET_PICS: &[u8] =
     b"GET /devstoreaccount1/pics/a.txt HTTP/1.1\r\nHost: 127.0.0.1:10000\r\nx-ms-date: Mon, 01 Oct 2012 12:00:00 GMT\r\nx-ms-version: 2012-02-12\r\nAuthorization: SharedKey devstoreaccount1:1faO58/enDoA9unDNvD2pMLw3jmfkbnVyTRBzimElkI=\r\n\r\n";
 
 const GET_PICS_BY_NEW: &[u8] =
     b"GET /devstoreaccount1/pics/a.txt HTTP/1.1\r\nHost: 127.0.0.1:10000\r\nx-ms-date: Mon, 01 Oct 2012 12:00:00 GMT\r\nx-ms-version: 2012-02-12\r\nAuthorization: SharedKey devstoreaccount1:jRnYwf6R0U5vDquilBpUBtxC2AQg0vcyT3gA8D63wMU=\r\n\r\n";
 
 // A Put Blob of `hello` in `pics`, signed by `key2`.
-const PUT_PICS: &[u8] =
+pub(crate) const PUT_PICS: &[u8] =
     b"PUT /devstoreaccount1/pics/a.txt HTTP/1.1\r\nHost: 127.0.0.1:10000\r\nContent-Length: 5\r\nx-ms-blob-type: BlockBlob\r\nx-ms-version: 2012-02-12\r\nx-ms-date: Mon, 01 Oct 2012 12:00:00 GMT\r\nAuthorization: SharedKey devstoreaccount1:O9UZNW452QDPdLw1F6p3ZC4NHU5qWVzYuTPZoHu3yXw=\r\n\r\nhello";
+
+// A Get Blob of `pics/a.txt` by a token that `key1` signed, and one by a token that `new1` signed.
+const GET_BY_TOKEN: &[u8] =
+    b"GET /devstoreaccount1/pics/a.txt?sv=2012-02-12&sr=b&sp=r&se=2030-01-01T00%3A00%3A00Z&sig=ig4uuEvzfPnX4HtS2AmgpxBq64uRprcDh%2BvbpO45jjA%3D HTTP/1.1\r\nHost: 127.0.0.1:10000\r\n\r\n";
+
+const GET_BY_NEW_TOKEN: &[u8] =
+    b"GET /devstoreaccount1/pics/a.txt?sv=2012-02-12&sr=b&sp=r&se=2030-01-01T00%3A00%3A00Z&sig=RtvixFmZF1Udi3%2F5WSjMjunT5K3%2B3WYyjFzNVyzqBc0%3D HTTP/1.1\r\nHost: 127.0.0.1:10000\r\n\r\n";
 
 const OK: &[u8] = b"HTTP/1.1 200 OK\r\n";
 
@@ -63,6 +71,7 @@ fn opens_by_first<A: Account, R: Wait + Abort>(
     assert!(rt; is_answered(rt, alloc, client, PUT_ZOO, CREATED));
     assert!(rt; is_answered(rt, alloc, client, GET_PICS, OK));
     assert!(rt; is_answered(rt, alloc, client, GET_ZOO, OK));
+    assert!(rt; is_answered(rt, alloc, client, GET_BY_TOKEN, OK));
     assert!(rt; is_answered(rt, alloc, client, GET_PICS_BY_NEW, FORBIDDEN));
 }
 
@@ -74,7 +83,9 @@ fn opens_by_new<A: Account, R: Wait + Abort>(
 ) {
     assert!(rt; is_answered(rt, alloc, client, GET_PICS, FORBIDDEN));
     assert!(rt; is_answered(rt, alloc, client, GET_ZOO, FORBIDDEN));
+    assert!(rt; is_answered(rt, alloc, client, GET_BY_TOKEN, FORBIDDEN));
     assert!(rt; is_answered(rt, alloc, client, GET_PICS_BY_NEW, OK));
+    assert!(rt; is_answered(rt, alloc, client, GET_BY_NEW_TOKEN, OK));
     assert!(rt; is_answered(rt, alloc, client, GET_ZOO_BY_NEW, OK));
     assert!(rt; is_answered(rt, alloc, client, PUT_PICS, CREATED));
     assert!(rt; is_answered(rt, alloc, client, PUT_ZOO, CREATED));
@@ -93,14 +104,19 @@ fn rotates<A: Account, R: Wait + Abort>(
 {
     let (slots, front) = Slots::<A>::new(alloc, pairs, history).expect(rt, "memory");
     let slots = &slots;
-    assert!(rt; slots.split(rt, alloc, 0, &key(rt, alloc, "q")).is_ok());
+    assert!(rt; slots.split(rt, alloc, &key(rt, alloc, "q")).is_ok());
     let mut operator = Operator::new(rt, slots, account(rt, alloc), front.again());
     let mut client = Connection::new(rt, slots, front);
     opens_by_first(rt, alloc, &mut client);
     let new = signing(rt, alloc, b"new1");
     assert!(rt; operator.rotate(alloc, Which::First, &new) == Ok(1));
     opens_by_new(rt, alloc, &mut client);
-    assert!(rt; slots.split(rt, alloc, 1, &key(rt, alloc, "r")).is_ok());
+    let name = String::from_str(alloc, "r").expect(rt, "memory");
+    let middle = operator
+        .container(Text::new(name).expect(rt, "a text"))
+        .expect(rt, "memory");
+    assert!(rt; operator.split(alloc, &middle).is_ok());
+    assert!(rt; operator.split(alloc, &middle) == Err(SplitError::FirstKey));
     assert!(rt; operator.rotate(alloc, Which::First, &new) == Ok(2));
     opens_by_new(rt, alloc, &mut client);
 }

@@ -1,5 +1,5 @@
 //! The slots of a stamp.
-ghost use Rattle.std.specs.Prelude.{◌≡◌, ◌⊎◌, ◌∷◌, [], Err, IfErr, IfOk, None, OnErr, OnOk, Some};
+ghost use Rattle.std.specs.Prelude.{◌≡◌, ◌⊎◌, ◌∷◌, [], Err, IfErr, IfOk, None, OnErr, OnOk, Some, false};
 ghost use Rattle.std.specs.Arc.{arc_value};
 ghost use Rattle.access_rules.specs.declared.rotation.KeysFault.TheVariants.{Last};
 ghost use Rattle.policy_book.specs.Judgements.{IsOfAsk};
@@ -207,6 +207,7 @@ impl<A: Account> Slots<A> {
         requires read { reading ≡ reading_of request.now }
         ensures served { IfOk result (λ told. IsServed known.old request.now moment told.replied known.new) }
         ensures audited { IfOk result (λ told. AuditsLast known.new request.now moment told.entry) }
+        ensures unasked { IfOk result (λ told. is_audited ≡ false → told.entry ≡ None) }
         ensures same { OnErr result (known.new ≡ known.old) }
     {
         let table = self.table.read(rt);
@@ -242,22 +243,23 @@ impl<A: Account> Slots<A> {
         Ok(epoch)
     }
 
-    /// Splits the slot with this number at a key, which is the first key of the upper half. The upper half has the next number, and each later
-    /// slot has a number that is higher by one. No request is answered meanwhile.
+    /// Splits the slot that has the key. The key is then the first key of the upper half. No request is answered meanwhile.
     ///
-    /// `Map` with the first cause that refuses the split, or if memory runs out for the split point. `NoMemory` if memory runs out for the halves,
-    /// if no word is left for the upper half, or if the slot is of no use any more. After a fault nothing is changed.
-    pub fn split<R: Wait>(
-        &self,
-        rt: &R,
-        alloc: Global,
-        slot: usize,
-        middle: &Key,
-    ) -> Result<(), SplitError>
-        ensures allowed { OnOk result (SpansSay slot middle.now None) }
-        ensures fault { IfErr result (IsSplitFault slot middle.now) }
+    /// `FirstKey` if a slot begins with the key, or else `Full` if there are 256 slots. `NoMemory` if memory runs out, if no word is left for the upper
+    /// half, or if the slot is of no use any more. After a fault nothing is changed.
+    pub fn split<R: Wait>(&self, rt: &R, alloc: Global, middle: &Key) -> Result<(), SplitError>
+        ensures allowed { OnOk result (SpansSay middle.now None) }
+        ensures fault { IfErr result (IsSplitFault middle.now) }
     {
         let mut table = self.table.write(rt);
-        table.split(alloc, slot, middle)
+        table.split(alloc, middle)
+    }
+}
+
+#[cfg(test)]
+impl<A: Account> Slots<A> {
+    // Whether the slot that has the key is to be compacted. Waits for the locks of table and slot.
+    pub(crate) fn is_wasteful<R: Wait>(&self, rt: &R, key: &Key) -> bool {
+        self.table.read(rt).is_wasteful(rt, key)
     }
 }

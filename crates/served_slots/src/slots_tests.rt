@@ -4,6 +4,7 @@ ghost use Rattle.served_history.specs.declared.entry.Entry.TheVariants.{Opened};
 
 use crate::connection::{Connection, two_connections_agree};
 use crate::slots::Slots;
+use crate::splitting::SplitError;
 use access_rules::Keys;
 use hmac_sign::SigningKey;
 use http_front::{Clock, End, run};
@@ -99,7 +100,7 @@ fn two_slots<A: Account + Send + Sync, R: Threads + Wait + Abort + Sync>(
 {
     let (slots, front) = Slots::<A>::new(alloc, pairs, history).expect(rt, "memory");
     let slots = &slots;
-    assert!(rt; slots.split(rt, alloc, 0, &key(rt, alloc, "q")).is_ok());
+    assert!(rt; slots.split(rt, alloc, &key(rt, alloc, "q")).is_ok());
     let first = Connection::new(rt, slots, front.again());
     let second = Connection::new(rt, slots, front);
     let ((one, known), (two, also)) = thread::join(
@@ -109,8 +110,8 @@ fn two_slots<A: Account + Send + Sync, R: Threads + Wait + Abort + Sync>(
     );
     assert!(rt; one.starts_with(CREATED));
     assert!(rt; two.starts_with(CREATED));
-    assert!(rt; slots.split(rt, alloc, 1, &key(rt, alloc, "z")).is_ok());
-    assert!(rt; slots.split(rt, alloc, 1, &key(rt, alloc, "z")).is_err());
+    assert!(rt; slots.split(rt, alloc, &key(rt, alloc, "z")).is_ok());
+    assert!(rt; slots.split(rt, alloc, &key(rt, alloc, "z")) == Err(SplitError::FirstKey));
     let mut first = Connection::new(rt, slots, known);
     let mut second = Connection::new(rt, slots, also);
     assert!(rt; sent(rt, alloc, &mut first, PUT_ZOO).starts_with(CREATED));

@@ -1,13 +1,14 @@
 //! Why a slot is not split.
-use partition_map::MapFault;
 use std::alloc::AllocError;
 
-/// Why a slot was not split.
-#[derive(Clone, Copy)]
+/// Why no slot was split at a key.
+#[derive(Clone, Copy, PartialEq, Eq, Debug)]
 pub enum SplitError {
-    /// The spans do not allow the split, or memory ran out for the split point.
-    Map(MapFault),
-    /// Memory ran out for the halves of the slot, or no word is left for the upper half, or the slot is of no use any more.
+    /// A slot begins with the key.
+    FirstKey,
+    /// There are 256 slots.
+    Full,
+    /// Memory ran out, or no word is left for the upper half, or the slot is of no use any more.
     NoMemory,
 }
 

@@ -1,5 +1,5 @@
 //! What a slot does over nodes in memory, which answer each call.
-ghost use Rattle.std.specs.Prelude.{◌≡◌, IfOk, None, OnErr, OnOk, true};
+ghost use Rattle.std.specs.Prelude.{◌≡◌, IfOk, None, OnErr, OnOk, false, true};
 ghost use Rattle.std.specs.Arc.{arc_value};
 ghost use Rattle.std.specs.Option.{option_copied};
 ghost use Rattle.stamp_types.specs.World.{no_part};
@@ -117,6 +117,7 @@ pub(crate) fn tell_steadily(
     requires sure { slot.old.doubt ≡ None }
     ensures served { IfOk result (λ told. slots.IsServed slot.old request.now moment slot.old.to told.replied slot.new) }
     ensures audited { IfOk result (λ told. AuditsInSlot slot.old request.now moment told.entry) }
+    ensures unasked { IfOk result (λ told. is_audited ≡ false → told.entry ≡ None) }
     ensures same { OnErr result (slot.new ≡ slot.old) }
 {
     if is_audited {

@@ -1,18 +1,19 @@
 //! The table of the slots.
-ghost use Rattle.std.specs.Prelude.{◌≡◌, ◌+◌, ◌<◌, Err, IfErr, IfOk, None, OnErr, OnOk, length, vec_capacity, vec_len};
+ghost use Rattle.std.specs.Prelude.{◌≡◌, ◌+◌, ◌<◌, ◌≤◌, Err, IfErr, IfOk, None, OnErr, OnOk, length, vec_capacity, vec_len};
 ghost use Rattle.std.specs.Arc.{arc_value};
 ghost use Rattle.access_rules.specs.declared.rotation.KeysFault.TheVariants.{Last};
+ghost use Rattle.partition_map.specs.Spans.{slot_of, with_point};
 ghost use Rattle.slot_state.specs.Slots.{empty_slot};
 ghost use Rattle.served_slots.specs.Rotations.{HasLastEpoch, HasRotated, RotatesSlots};
 ghost use Rattle.served_slots.specs.Slots.{IsLeftBy};
-ghost use Rattle.served_slots.specs.Steps.{IsHalveFault, IsSplitFault, SpansSay};
+ghost use Rattle.served_slots.specs.Steps.{IsSplitFault, SpansSay};
 
 use crate::locked::LockedSlot;
 use crate::locked::rotating::rotate_from;
 use crate::splitting::SplitError;
 use access_rules::{KeysFault, Which};
 use hmac_sign::SigningKey;
-use partition_map::Spans;
+use partition_map::{MapFault, Spans};
 use served_history::{Account, Front, SlotHistory, SlotWord};
 use slot_state::AccountPairs;
 use stamp_types::{Key, Text};
@@ -45,19 +46,18 @@ fn halve_reserved<A: Account>(
     at: usize,
     middle: &Key,
     spares: &mut Vec<SlotWord<A>>,
-) -> Result<(), SplitError>
+) -> Result<(), AllocError>
     requires within { at < vec_len slots.old }
     requires room { vec_len slots.old < vec_capacity slots.old }
     ensures more { OnOk result (vec_len slots.new ≡ vec_len slots.old + 1) }
     ensures same { OnErr result (vec_len slots.new ≡ vec_len slots.old) }
-    ensures fault { IfErr result IsHalveFault }
 {
     match cut_in(&mut slots[at], alloc, middle, spares) {
         Ok(upper) => match slots.insert(at + 1, Mutex::new(upper)) {
             Ok(()) => Ok(()),
             Err(_) => unreachable!(),
         },
-        Err(AllocError) => Err(SplitError::NoMemory),
+        Err(AllocError) => Err(AllocError),
     }
 }
 
@@ -68,15 +68,48 @@ fn halve<A: Account>(
     at: usize,
     middle: &Key,
     spares: &mut Vec<SlotWord<A>>,
-) -> Result<(), SplitError>
+) -> Result<(), AllocError>
     requires within { at < vec_len slots.old }
     ensures more { OnOk result (vec_len slots.new ≡ vec_len slots.old + 1) }
     ensures same { OnErr result (vec_len slots.new ≡ vec_len slots.old) }
-    ensures fault { IfErr result IsHalveFault }
 {
     match slots.reserve(1) {
         Ok(()) => halve_reserved(slots, alloc, at, middle, spares),
-        Err(_) => Err(SplitError::NoMemory),
+        Err(_) => Err(AllocError),
+    }
+}
+
+// Compacts the slot of this lock, and waits for the lock again. What is replaced has many bytes, which are set to zero where the function begins: so it
+// is not part of `locked`, which each request calls.
+fn compacted<'a, A: Account, R: Wait>(
+    lock: &'a Mutex<LockedSlot<A>>,
+    rt: &R,
+    alloc: Global,
+    locked: MutexGuard<'a, LockedSlot<A>>,
+) -> MutexGuard<'a, LockedSlot<A>> {
+    let mut locked = locked;
+    let replaced = locked.compact(alloc);
+    drop(locked);
+    drop(replaced);
+    lock.lock(rt)
+}
+
+// Splits the span that has the key: another span begins with the key then.
+#[tactic(auto, using(crate::proofs::SpanLemmas::said_by, crate::proofs::SpanLemmas::has_slot))]
+fn split_span(spans: &mut Spans, slot: usize, middle: &Key) -> Result<(), SplitError>
+    requires found { slot ≡ slot_of spans.old middle.now }
+    requires within { slot ≤ length spans.old }
+    ensures split { OnOk result (spans.new ≡ with_point spans.old slot middle.now) }
+    ensures allowed { OnOk result (SpansSay middle.now None) }
+    ensures fault { IfErr result (IsSplitFault middle.now) }
+    ensures unchanged { OnErr result (spans.new ≡ spans.old) }
+{
+    match spans.split(slot, middle) {
+        Ok(()) => Ok(()),
+        Err(MapFault::NoSuchSlot) => unreachable!(),
+        Err(MapFault::NotInside) => Err(SplitError::FirstKey),
+        Err(MapFault::Full) => Err(SplitError::Full),
+        Err(MapFault::NoMemory) => Err(SplitError::NoMemory),
     }
 }
 
@@ -135,36 +168,28 @@ impl<A: Account> Table<A> {
         key: &Key,
     ) -> MutexGuard<'_, LockedSlot<A>> {
         let lock = self.lock_of(key);
-        let mut locked = lock.lock(rt);
-        if !locked.is_wasteful() {
-            return locked;
+        let locked = lock.lock(rt);
+        if locked.is_wasteful() {
+            return compacted(lock, rt, alloc, locked);
         }
-        let replaced = locked.compact(alloc);
-        drop(locked);
-        drop(replaced);
-        lock.lock(rt)
+        locked
     }
 
-    /// Splits the span of a slot, and then the slot. If the slot fails, its two spans are joined again.
+    /// Splits the span that has the key, and then its slot. If the slot fails, its two spans are joined again.
     ///
-    /// `Map` with the first cause that refuses the split, or if memory runs out for the split point.
-    pub(crate) fn split(
-        &mut self,
-        alloc: Global,
-        slot: usize,
-        middle: &Key,
-    ) -> Result<(), SplitError>
-        ensures allowed { OnOk result (SpansSay slot middle.now None) }
-        ensures fault { IfErr result (IsSplitFault slot middle.now) }
+    /// `FirstKey` if a slot begins with the key, or else `Full` if there are 256 slots, or else `NoMemory` as of the slot, or if memory runs out.
+    pub(crate) fn split(&mut self, alloc: Global, middle: &Key) -> Result<(), SplitError>
+        ensures allowed { OnOk result (SpansSay middle.now None) }
+        ensures fault { IfErr result (IsSplitFault middle.now) }
     {
-        if let Err(fault) = self.spans.split(slot, middle) {
-            return Err(SplitError::Map(fault));
-        }
+        let slot = self.spans.find(middle);
+        split_span(&mut self.spans, slot, middle)?;
         let halved = halve(&mut self.slots, alloc, slot, middle, &mut self.spares);
         if halved.is_err() {
             self.spans.join(slot);
+            return Err(SplitError::NoMemory);
         }
-        halved
+        Ok(())
     }
 
     /// Replaces a key of the account for all slots, or for none. Answers the epoch of the new pair.
@@ -189,5 +214,13 @@ impl<A: Account> Table<A> {
             Err(KeysFault::Last) => Err(KeysFault::Last),
             Err(KeysFault::NoMemory) => Err(KeysFault::NoMemory),
         }
+    }
+}
+
+#[cfg(test)]
+impl<A: Account> Table<A> {
+    // Whether the slot that has the key is to be compacted. Waits for its lock.
+    pub(crate) fn is_wasteful<R: Wait>(&self, rt: &R, key: &Key) -> bool {
+        self.lock_of(key).lock(rt).is_wasteful()
     }
 }

@@ -1,5 +1,5 @@
 -- The audit entry of a request that a slot serves after its doubt is settled.
-use Rattle.std.proofs.Common.{◌⊎◌, inl, inr, ℕ, Option, Some, None, sym, subst}
+use Rattle.std.proofs.Common.{inl, inr, ℕ, Option, Some, None, sym, subst}
 use Rattle.stamp_types.specs.Requests.{Asked}
 use Rattle.policy_book.specs.Entries.{AuditEntry}
 use Rattle.tickets.specs.declared.answer.Answer.{Answer}

@@ -1,5 +1,5 @@
 //! A request that is served after what its caller was shown.
-ghost use Rattle.std.specs.Prelude.{◌≡◌, IfErr, IfOk, OnErr, OnOk, map, true};
+ghost use Rattle.std.specs.Prelude.{◌≡◌, IfErr, IfOk, None, OnErr, OnOk, false, map, true};
 ghost use Rattle.std.specs.Arc.{arc_value};
 ghost use Rattle.std.specs.Option.{option_copied};
 ghost use mathlib.Core.List.{IsPrefix};
@@ -158,6 +158,7 @@ fn serve<W: Wire>(
     requires covered { slots.covers slot.old (routed request.now) ≡ true }
     ensures answered { ServesOrNot slot.old request.now moment (Faulted (W.faults wire.old) (W.faults wire.new)) result.answer slot.new }
     ensures audited { AuditsSettled slot.old request.now moment result.answer result.entry }
+    ensures unasked { is_audited ≡ false → result.entry ≡ None }
     ensures grown { Grows (W.faults wire.old) (W.faults wire.new) }
 {
     if !is_audited {
@@ -195,6 +196,7 @@ fn serve_ready<W: Wire>(
     requires covered { slots.covers slot.old (routed request.now) ≡ true }
     ensures answered { ServesOrNot slot.old request.now moment (Faulted (W.faults wire.old) (W.faults wire.new)) result.answer slot.new }
     ensures audited { AuditsSettled slot.old request.now moment result.answer result.entry }
+    ensures unasked { is_audited ≡ false → result.entry ≡ None }
     ensures front { front.new ≡ history_at slot.new.histories key.now }
     ensures shown { IsShown (pairs_at slot.new.pairs key.now.account) key.now front.new }
     ensures pairs { slot.new.pairs ≡ slot.old.pairs }
@@ -227,6 +229,7 @@ fn after<W: Wire>(
     ensures shown { IsShown pairs.new key.now front.new }
     ensures answered { IfOk result (λ a. ServesOrNot slot.old request.now moment (Faulted (W.faults wire.old) (W.faults wire.new)) a.answer slot.new) }
     ensures audited { IfOk result (λ a. AuditsSettled slot.old request.now moment a.answer a.entry) }
+    ensures unasked { IfOk result (λ a. is_audited ≡ false → a.entry ≡ None) }
     ensures begins { OnOk result (Begins (pass_of key.now front.old pairs.old) slot.old) }
     ensures holds { OnOk result (pass_of key.now front.new pairs.new ≡ pass_with (pass_of key.now front.old pairs.old) slot.new) }
     ensures fault { IfErr result (λ fault. IsAfterFault (pass_of key.now front.old pairs.old) slot.old fault) }
@@ -267,6 +270,7 @@ pub fn serve_after<W: Wire>(
     requires covered { slots.covers slot.old (routed request.now) ≡ true }
     ensures answered { IfOk result (λ a. ServesOrNot slot.old request.now moment (Faulted (W.faults wire.old) (W.faults wire.new)) a.answer slot.new) }
     ensures audited { IfOk result (λ a. AuditsSettled slot.old request.now moment a.answer a.entry) }
+    ensures unasked { IfOk result (λ a. is_audited ≡ false → a.entry ≡ None) }
     ensures begins { OnOk result (Begins pass.old slot.old) }
     ensures holds { OnOk result (pass.new ≡ pass_with pass.old slot.new) }
     ensures fault { IfErr result (λ fault. IsAfterFault pass.old slot.old fault) }

@@ -1,5 +1,5 @@
 //! What the lock of a slot has, and what is done with it while the lock is held.
-ghost use Rattle.std.specs.Prelude.{◌≡◌, ◌≢◌, ◌≤◌, Err, IfErr, IfOk, Ok, OnErr, OnOk, length, true};
+ghost use Rattle.std.specs.Prelude.{◌≡◌, ◌≢◌, ◌≤◌, Err, IfErr, IfOk, None, Ok, OnErr, OnOk, false, length, true};
 ghost use Rattle.partition_map.specs.Spans.{AreSpans, slot_of};
 ghost use Rattle.policy_book.specs.Judgements.{IsOfAsk};
 ghost use Rattle.range_rows.specs.Readings.{reading_of};
@@ -61,6 +61,7 @@ impl<W: Wire + Drop> Locked<W> {
         requires read { reading ≡ reading_of request.now }
         ensures served { SlotServes self.old.slot request.now moment (Faulted (W.faults self.old.wire) (W.faults self.new.wire)) result.answer self.new.slot }
         ensures audited { AuditsSettled self.old.slot request.now moment result.answer result.entry }
+        ensures unasked { ready.now.is_audited ≡ false → result.entry ≡ None }
     {
         let Self { slot, wire } = self;
         let judged = ready.judged.as_ref();
@@ -91,7 +92,8 @@ impl<W: Wire + Drop> Locked<W> {
         requires first { ready.now.first ≡ routed request.now }
         requires judged { IsOfAsk ready.now.judged request.now.ask }
         requires read { reading ≡ reading_of request.now }
-        ensures { HandlesBy W.faults pairs.now request.now moment result.answer result.entry }
+        ensures handled { HandlesBy W.faults pairs.now request.now moment result.answer result.entry }
+        ensures unasked { ready.now.is_audited ≡ false → result.entry ≡ None }
     {
         let (_spans, _pairs) = (spans, pairs);
         show(&self.slot, &request.ask().key);
@@ -114,7 +116,8 @@ impl<W: Wire + Drop> Locked<W> {
         requires first { ready.now.first ≡ routed request.now }
         requires judged { IsOfAsk ready.now.judged request.now.ask }
         requires read { reading ≡ reading_of request.now }
-        ensures { HandlesBy W.faults pairs.now request.now moment result.answer result.entry }
+        ensures handled { HandlesBy W.faults pairs.now request.now moment result.answer result.entry }
+        ensures unasked { ready.now.is_audited ≡ false → result.entry ≡ None }
     {
         if !is_for(&self.slot, alloc, spans, &ready.first) {
             drop(reading);
@@ -142,7 +145,8 @@ impl<W: Wire + Drop> Locked<W> {
         requires first { ready.now.first ≡ routed request.now }
         requires judged { IsOfAsk ready.now.judged request.now.ask }
         requires read { reading ≡ reading_of request.now }
-        ensures { HandlesBy W.faults pairs.now request.now moment result.answer result.entry }
+        ensures handled { HandlesBy W.faults pairs.now request.now moment result.answer result.entry }
+        ensures unasked { ready.now.is_audited ≡ false → result.entry ≡ None }
     {
         match bring_up(&mut self.slot, alloc, &request.ask().key.account, pairs) {
             Ok(()) => { self.handle_current(alloc, spans, pairs, request, ready, reading, moment) }
@@ -172,6 +176,7 @@ impl<W: Wire + Drop> Locked<W> {
         requires judged { IsOfAsk ready.now.judged request.now.ask }
         ensures answered { IfOk result (λ r. AnswersAfter pass self.old.slot request.now moment (W.faults self.old.wire) (W.faults self.new.wire) r.0.answer r.1 self.new.slot) }
         ensures audited { IfOk result (λ r. AuditsSettled self.old.slot request.now moment r.0.answer r.0.entry) }
+        ensures unasked { IfOk result (λ r. ready.now.is_audited ≡ false → r.0.entry ≡ None) }
         ensures fault { IfErr result (λ r. IsAfterFault pass self.old.slot r.1) }
         ensures back { IfErr result (λ r. r.0 ≡ pass) }
         ensures same { OnErr result (self.new.slot ≡ self.old.slot) }
@@ -211,6 +216,7 @@ impl<W: Wire + Drop> Locked<W> {
         requires first { ready.now.first ≡ routed request.now }
         requires judged { IsOfAsk ready.now.judged request.now.ask }
         ensures handled { IfOk result (λ r. HandlesAfterBy W.faults pairs.now pass request.now moment r.0.answer r.0.entry r.1) }
+        ensures unasked { IfOk result (λ r. ready.now.is_audited ≡ false → r.0.entry ≡ None) }
         ensures back { IfErr result (λ r. IsBack pass request.now r.0 r.1) }
     {
         let (_spans, _pairs) = (spans, pairs);
@@ -237,6 +243,7 @@ impl<W: Wire + Drop> Locked<W> {
         requires first { ready.now.first ≡ routed request.now }
         requires judged { IsOfAsk ready.now.judged request.now.ask }
         ensures handled { IfOk result (λ r. HandlesAfterBy W.faults pairs.now pass request.now moment r.0.answer r.0.entry r.1) }
+        ensures unasked { IfOk result (λ r. ready.now.is_audited ≡ false → r.0.entry ≡ None) }
         ensures back { IfErr result (λ r. IsBack pass request.now r.0 r.1) }
     {
         if !is_for(&self.slot, alloc, spans, &ready.first) {
@@ -264,6 +271,7 @@ impl<W: Wire + Drop> Locked<W> {
         requires first { ready.now.first ≡ routed request.now }
         requires judged { IsOfAsk ready.now.judged request.now.ask }
         ensures handled { IfOk result (λ r. HandlesAfterBy W.faults pairs.now pass request.now moment r.0.answer r.0.entry r.1) }
+        ensures unasked { IfOk result (λ r. ready.now.is_audited ≡ false → r.0.entry ≡ None) }
         ensures back { IfErr result (λ r. IsBack pass request.now r.0 r.1) }
     {
         match bring_up(&mut self.slot, alloc, &request.ask().key.account, pairs) {

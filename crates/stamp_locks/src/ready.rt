@@ -87,6 +87,7 @@ impl Ready {
     ) -> Result<Self, AllocError>
         ensures first { IfOk result (λ ready. ready.first ≡ routed request.now) }
         ensures judged { IfOk result (λ ready. IsOfAsk ready.judged request.now.ask) }
+        ensures audited { IfOk result (λ ready. ready.is_audited ≡ is_audited) }
     {
         let first = first_key(alloc, request)?;
         let judged = judgement(alloc, pairs, request)?;

@@ -4,9 +4,9 @@ ghost use Rattle.std.specs.Option.{option_copied};
 ghost use Rattle.range_rows.specs.Readings.{reading_of};
 ghost use Rattle.slot_state.specs.PairFaults.{pairs_fault};
 ghost use Rattle.slot_state.specs.declared.pairs_fault.PairsFault.TheVariants.{NoMemory};
-ghost use Rattle.stamp_locks.specs.Lent.{FailsSplit, HasSlot, IsHandledWith, IsHandled, IsSplit, IsTended};
+ghost use Rattle.stamp_locks.specs.Lent.{FailsSplit, HasSlot, IsHandled, IsHandledWith, IsSplit, IsTended};
 ghost use Rattle.stamp_locks.specs.Rotations.{IsNotRotated, IsRotated};
-ghost use Rattle.stamp_locks.specs.Shown.{IsHandledAfterWith, IsBack, IsHandledAfter};
+ghost use Rattle.stamp_locks.specs.Shown.{IsBack, IsHandledAfter, IsHandledAfterWith};
 ghost use Rattle.stamp_locks.specs.declared.faults.MoveFault.TheVariants as move_fault;
 
 use crate::care::Care;
@@ -90,7 +90,8 @@ impl<W: Wire + Drop> Stamp<W> {
         moment: Moment,
     ) -> Audited
         requires { reading ≡ reading_of request.now }
-        ensures { IsHandledWith W.faults request.now moment result.answer result.entry }
+        ensures handled { IsHandledWith W.faults request.now moment result.answer result.entry }
+        ensures unasked { self.now.book ≡ None → result.entry ≡ None }
     {
         let table = self.table.read(rt);
         table.handle(rt, alloc, request, reading, moment, self.book.is_some())
@@ -132,6 +133,7 @@ impl<W: Wire + Drop> Stamp<W> {
     ) -> Result<(Audited, Pass), (Pass, AfterFault)>
         requires { request.now.ask.key ≡ pass.key }
         ensures handled { IfOk result (λ r. IsHandledAfterWith W.faults pass request.now moment r.0.answer r.0.entry r.1) }
+        ensures unasked { IfOk result (λ r. self.now.book ≡ None → r.0.entry ≡ None) }
         ensures back { IfErr result (λ r. IsBack pass request.now r.0 r.1) }
     {
         let table = self.table.read(rt);

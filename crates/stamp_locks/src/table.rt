@@ -1,5 +1,5 @@
 //! The table of the slots.
-ghost use Rattle.std.specs.Prelude.{◌≡◌, ◌+◌, ◌<◌, ◌≤◌, Err, IfErr, IfNone, IfOk, OnErr, OnOk, OnSome, length, vec_capacity, vec_len};
+ghost use Rattle.std.specs.Prelude.{◌≡◌, ◌+◌, ◌<◌, ◌≤◌, Err, IfErr, IfNone, IfOk, None, OnErr, OnOk, OnSome, false, length, vec_capacity, vec_len};
 ghost use Rattle.std.proofs.Props.{props};
 ghost use Rattle.std.specs.Arc.{arc_value};
 ghost use Rattle.partition_map.specs.Spans.{AreSpans};
@@ -146,7 +146,8 @@ impl<W: Wire + Drop> Table<W> {
         is_audited: bool,
     ) -> Audited
         requires { reading ≡ reading_of request.now }
-        ensures { HandlesBy W.faults (arc_value self.now.pairs) request.now moment result.answer result.entry }
+        ensures handled { HandlesBy W.faults (arc_value self.now.pairs) request.now moment result.answer result.entry }
+        ensures unasked { is_audited ≡ false → result.entry ≡ None }
     {
         let Ok(ready) = Ready::of(alloc, &self.pairs, request, is_audited) else {
             drop(reading);
@@ -181,6 +182,7 @@ impl<W: Wire + Drop> Table<W> {
     ) -> Result<(Audited, Pass), (Pass, AfterFault)>
         requires { request.now.ask.key ≡ pass.key }
         ensures handled { IfOk result (λ r. HandlesAfterBy W.faults (arc_value self.now.pairs) pass request.now moment r.0.answer r.0.entry r.1) }
+        ensures unasked { IfOk result (λ r. is_audited ≡ false → r.0.entry ≡ None) }
         ensures back { IfErr result (λ r. IsBack pass request.now r.0 r.1) }
     {
         let ready = match Ready::of(alloc, &self.pairs, request, is_audited) {

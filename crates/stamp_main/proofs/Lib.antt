@@ -1,6 +1,6 @@
 pub mod CommandLemmas
+pub mod OperatorLemmas
 pub mod ReplayLemmas
-pub mod RotatingLemmas
 pub mod RunLemmas
 pub mod ServeLemmas
 pub mod SignLemmas

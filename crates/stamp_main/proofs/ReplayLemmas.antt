@@ -12,8 +12,8 @@ use Rattle.access_rules.specs.declared.keys.Keys.{Keys}
 use Rattle.stamp_model.specs.Runs.{Timed, timed, replies_to, reply_to_one, world_after_all, world_after_one}
 use Rattle.core_run.specs.Cores.{CoreState, StandsFor}
 use Rattle.core_run.specs.States.{State, reply_in, served}
-use Rattle.account_lock.specs.Services.{AnswersAsMachine, opening_of, served_in_turn}
-use Rattle.account_lock.proofs.ServiceLemmas.{IsOfAccount, of_opening, of_served, reply_of, world_of}
+use Rattle.core_service.specs.Services.{AnswersAsMachine, opening_of, served_in_turn}
+use Rattle.core_service.proofs.ServiceLemmas.{IsOfAccount, of_opening, of_served, reply_of, world_of}
 use Rattle.http_front.specs.declared.end.End.{End}
 use Rattle.http_front.specs.declared.end.FrontFault.{FrontFault}
 use Rattle.http_front.specs.declared.end.FrontFault.TheVariants.{Read, Write, Turns, NoMemory}

@@ -1,9 +1,9 @@
 pub mod Command
 pub mod Ending
 pub mod Line
+pub mod OperatorLines
 pub mod ReplayStates
 pub mod Replays
-pub mod Rotating
 pub mod Runs
 pub mod Serving
 pub mod Signing

@@ -8,7 +8,7 @@ use Rattle.http_front.specs.Streams.{Item, BeginsWith}
 use Rattle.http_front.specs.Streams.Item.{Requested}
 use Rattle.request_form.specs.HeadForms.{Form}
 use Rattle.core_run.specs.Cores.{CoreState, StandsFor}
-use Rattle.account_lock.specs.Services.{opening_of, served_in_turn}
+use Rattle.core_service.specs.Services.{opening_of, served_in_turn}
 use Rattle.stamp_main.specs.Replays.{ReplaysReceived, ReplayBreaksOff, ReplayEndsOutOfMemory, requests_of}
 
 -- the core stands for the state after the requests among these items, served in turn at the moment, from that of a new stamp

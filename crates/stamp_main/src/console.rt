@@ -1,9 +1,10 @@
 //! Where the lines of an operator come from, and where their answers go.
 
 use crate::line::Line;
-use crate::rotating::{Answer, obey};
-use account_lock::{Account, Operator};
+use crate::operator_lines::{Answer, obey};
 use libc::types::pollfd;
+use served_history::Account;
+use served_slots::Operator;
 use std::alloc::Global;
 use std::io;
 use std::io::{ErrorKind, Read, Write};

@@ -31,23 +31,23 @@ mod console;
 mod ending;
 mod line;
 mod machine;
+mod operator_lines;
+#[cfg(test)]
+mod operator_lines_tests;
 #[cfg(test)]
 mod pieces;
 mod replay;
 mod replay_laws;
 #[cfg(test)]
 mod replay_tests;
-mod rotating;
-#[cfg(test)]
-mod rotating_tests;
 mod serving;
 #[cfg(test)]
 mod serving_tests;
-mod shares;
 mod signing;
 #[cfg(test)]
 mod signing_tests;
 mod sockets;
+mod splitting;
 mod words;
 
 /// The most reads that the program makes of its input.

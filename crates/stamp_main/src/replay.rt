@@ -3,7 +3,7 @@ ghost use Rattle.std.specs.Prelude.{◌≡◌, ◌≢◌, ◌⊎◌, Err, IfSome
 ghost use Rattle.std.specs.Arc.{arc_value};
 ghost use Rattle.access_rules.specs.declared.keys.Keys as pairs;
 ghost use Rattle.core_run.specs.Cores.{StandsFor};
-ghost use Rattle.account_lock.specs.Services.{opening_of};
+ghost use Rattle.core_service.specs.Services.{opening_of};
 ghost use Rattle.http_front.specs.Connections.{IsFresh};
 ghost use Rattle.http_front.specs.Conversations.{LeavesRun};
 ghost use Rattle.http_front.specs.Outcomes.{IsOfWholeInput, UnlessWriteFailed, UnlessWriteOrMemoryFailed};
@@ -19,7 +19,7 @@ ghost use Rattle.stamp_main.specs.ReplayStates.{ServesByWrite, ServesOutOfMemory
 use crate::ending::{Ending, status_of};
 use crate::words::read_asked;
 use access_rules::Keys;
-use account_lock::CoreService;
+use core_service::CoreService;
 use http_front::{Clock, Connection, End, FrontFault, finish, run};
 use stamp_types::Moment;
 use std::alloc::Global;

@@ -1,5 +1,5 @@
 //! `stamp serve`: the connections that come to an address, served by a fixed number of workers.
-ghost use Rattle.std.specs.Prelude.{◌≡◌, ◌⊎◌, IfOk, IsTrue, string_bytes};
+ghost use Rattle.std.specs.Prelude.{◌≡◌, ◌⊎◌, ◌∷◌, [], IfOk, IsTrue, string_bytes};
 ghost use Rattle.http_front.specs.Connections.{IsFresh};
 ghost use Rattle.http_front.specs.declared.counted.Output.TheVariants as outputs;
 ghost use Rattle.stamp_main.specs.declared.ending.Ending.TheVariants.{ListenerFault, NoMemory, Usage, WriteFault};
@@ -12,9 +12,11 @@ use crate::ending::Ending;
 use crate::signing::send;
 use crate::sockets::serve_on;
 use crate::words::{Served, read_served};
-use account_lock::NewHistory;
+use access_rules::Keys;
 use http_front::Connection;
+use served_history::NewHistory;
 use socket_gate::Limits;
+use stamp_types::Text;
 use std::alloc::{AllocError, Global};
 use std::fs::File;
 use std::io::{ErrorKind, Read, Write};
@@ -30,7 +32,7 @@ use std::time::Clock;
 /// say nothing of: console and file have readers and writers of their own.
 ///
 /// If a word is bad, the ending is `Usage`, and nothing is written. If the audit file cannot be opened or the address cannot be taken, the
-/// ending is `ListenerFault`, and nothing is written. What is served is not a matter of these clauses: `account_lock` and `http_front` have
+/// ending is `ListenerFault`, and nothing is written. What is served is not a matter of these clauses: `served_slots` and `http_front` have
 /// the contracts of connections.
 #[tactic(auto, using(crate::proofs::ServeLemmas::asked, crate::proofs::ServeLemmas::listened))]
 pub(crate) fn run_serve<
@@ -105,8 +107,28 @@ fn listening(alloc: Global, address: &str) -> Result<String, AllocError>
     Ok(line)
 }
 
-// Serves by these workers and keys, the first pair of the account, until the listener fails for good. Of all shares of the history, the
-// operator has one.
+// The first key pairs of the accounts: one pair.
+fn one_pair(alloc: Global, keys: Keys) -> Result<Vec<Keys>, AllocError>
+    ensures { IfOk result (λ pairs. pairs.items ≡ keys ∷ []) }
+{
+    let mut pairs = Vec::new(alloc);
+    pairs.push(keys)?;
+    Ok(pairs)
+}
+
+/// The name of the account of a key pair.
+#[tactic(auto, using(crate::proofs::ReplayLemmas::account_clean))]
+pub(crate) fn account_of(alloc: Global, keys: &Keys) -> Result<Text, AllocError>
+    ensures { IfOk result (λ account. account ≡ keys.now.account) }
+{
+    let name = String::from_str(alloc, keys.account.as_str())?;
+    match Text::new(name) {
+        Some(account) => Ok(account),
+        None => unreachable!(),
+    }
+}
+
+// Serves by these workers and keys, the first pair of the account, until the listener fails for good.
 fn serve_all<
     R: Net + Threads + Wait + Clock + Sync,
     L: Read + Drop + Send,
@@ -120,19 +142,25 @@ fn serve_all<
     console: &mut Console<L, O>,
     audit: &mut Option<Audit<F>>,
 ) -> Ending
-    requires { served.keys.epoch ≡ 0 }
     ensures { (result ≡ ListenerFault) ⊎ (result ≡ NoMemory) }
 {
-    let history = NewHistory::new(u64::MAX);
+    let Ok(account) = account_of(alloc, &served.keys) else {
+        return Ending::NoMemory;
+    };
+    let Ok(pairs) = one_pair(alloc, served.keys) else {
+        return Ending::NoMemory;
+    };
+    let history = NewHistory::new(&pairs);
     match serve_on::<Brand, R, R, L, O, F>(
         rt,
         rt,
         alloc,
         history,
-        served.keys,
+        pairs,
+        account,
         listener,
         served.workers,
-        u64::MAX - 1,
+        u64::MAX,
         Limits::standard(),
         console,
         audit,

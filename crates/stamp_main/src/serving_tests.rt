@@ -1,15 +1,20 @@
 //! Both ends of connections in one process, on a port that the system gives. A client gives up after ten seconds, so each test ends by itself.
 //! Signatures, sums and replies were made outside of this repository's code.
-ghost use Rattle.std.specs.Prelude.{◌≡◌, ◌<◌, IfOk};
+ghost use Rattle.std.specs.Prelude.{◌≡◌, ◌∷◌, [], IfOk};
+ghost use Rattle.std.specs.Thread.{IsSend};
+ghost use Rattle.served_history.specs.declared.entry.Entry.TheVariants.{Opened};
 
 use crate::console::{Console, Input};
 use crate::machine::Machine;
-use crate::sockets::serve_on;
+use crate::serving::account_of;
+use crate::sockets::{SlotServices, serve_and_obey, serve_on};
 use crate::words::{Served, read_served};
 use access_rules::Keys;
-use account_lock::{Account, NewHistory};
 use http_front::Clock as _;
+use served_history::{Account, Front, NewHistory};
+use served_slots::{Operator, Slots};
 use socket_gate::Limits;
+use stamp_types::Text;
 use std::alloc::{AllocError, Global};
 use std::io::{Read, Write};
 use std::marker::Brand;
@@ -158,13 +163,14 @@ fn play<R: Net<Stream = TcpStream>>(
     Ok(None)
 }
 
-// The account `devstoreaccount1` with the keys `key1` and `key2`.
-pub(crate) fn keys(alloc: Global) -> Result<Keys, AllocError>
-    ensures { IfOk result (λ keys. keys.epoch ≡ 0) }
-{
+// The account `devstoreaccount1`, and its first pair with the keys `key1` and `key2`.
+pub(crate) fn first_pairs(alloc: Global) -> Result<(Text, Vec<Keys>), AllocError> {
     let served = read_served(alloc, "", "1", "devstoreaccount1", "a2V5MQ==", "a2V5Mg==");
     let Served { keys, .. } = served.map_err(|_| AllocError)?;
-    Ok(keys)
+    let account = account_of(alloc, &keys)?;
+    let mut pairs = Vec::new(alloc);
+    pairs.push(keys)?;
+    Ok((account, pairs))
 }
 
 // The limits of the program, but for a client that sends nothing.
@@ -175,8 +181,8 @@ fn limits(patience: u64) -> Limits {
     }
 }
 
-// Serves so many connections by so many workers, and plays a client beside them. Returns whether serving ended well, and the turn at which
-// the server did not do what the client expects.
+// Serves so many connections of new slots by so many workers, and plays a client beside them. Returns whether serving ended well, and the turn at
+// which the server did not do what the client expects.
 fn both_ends<
     A: Account + Send + Sync,
     R: Net<Stream = TcpStream, Listener = TcpListener> + Threads + Wait + Clock + Sync,
@@ -184,40 +190,71 @@ fn both_ends<
     rt: &R,
     alloc: Global,
     history: NewHistory,
-    keys: Keys,
+    pairs: Vec<Keys>,
+    account: Text,
     workers: usize,
     connections: u64,
     patience: u64,
     turns: &[Turn],
 ) -> io::Result<(bool, Option<usize>)>
-    requires history { history.seen.book ≡ A.history }
-    requires shares { (history.shares.name ≡ A.name) × (history.shares.parts ≡ A.parts) }
-    requires one_each { connections < history.shares.parts }
-    requires keys { keys ≡ A.keys }
-    requires first { keys.epoch ≡ 0 }
+    requires book { history.book ≡ A.history }
+    requires fresh { history.next ≡ 0 }
+    requires log { history.log ≡ Opened pairs.items ∷ [] }
 {
+    let Ok((slots, first)) = Slots::<A>::new(alloc, pairs, history) else {
+        return Err(io::Error::from(io::ErrorKind::OutOfMemory));
+    };
+    both_ends_of(
+        rt,
+        &Noon(rt),
+        alloc,
+        &slots,
+        first,
+        account,
+        workers,
+        connections,
+        patience,
+        turns,
+    )
+}
+
+// The same of these slots. What is borrowed has one lifetime, since operator and services hold it.
+fn both_ends_of<
+    'a,
+    A: Account + Send + Sync,
+    R: Net<Stream = TcpStream, Listener = TcpListener> + Threads + Wait + Clock + Sync,
+>(
+    rt: &'a R,
+    clock: &'a Noon<'a, R>,
+    alloc: Global,
+    slots: &'a Slots<A>,
+    first: Front<A>,
+    account: Text,
+    workers: usize,
+    connections: u64,
+    patience: u64,
+    turns: &[Turn],
+) -> io::Result<(bool, Option<usize>)> {
     let listener = TcpListener::bind(rt, "127.0.0.1:0")?;
     let address = listener.local_addr()?;
+    let mut operator = Operator::new(rt, slots, account, first.again());
+    let services = SlotServices::new(rt, clock, slots, None, first, connections);
+    let mut console = Console::new(b"".as_slice(), Vec::new(alloc), Input::Ready);
     let (served, played) = thread::join(
         rt,
         || -> bool
-            requires { (history.seen.book ≡ A.history) × (keys ≡ A.keys) × (keys.epoch ≡ 0)
-                × (history.shares.name ≡ A.name) × (history.shares.parts ≡ A.parts)
-                × (connections < history.shares.parts) }
+            requires { IsSend A.row }
         {
-            let mut console = Console::new(b"".as_slice(), Vec::new(alloc), Input::Ready);
-            serve_on::<A, R, Noon<'_, R>, &[u8], Vec<u8>, Vec<u8>>(
+            serve_and_obey(
                 rt,
-                &Noon(rt),
+                clock,
                 alloc,
-                history,
-                keys,
+                &mut operator,
+                &services,
                 &listener,
                 workers,
-                connections,
                 limits(patience),
                 &mut console,
-                &mut None,
             )
             .is_ok()
         },
@@ -336,15 +373,16 @@ fn connections_are_served_over_loopback(rt: HostRuntime) -> Result<(), Fail> {
         ),
     ];
     for (name, workers, connections, patience, turns) in table {
-        let keys = keys(rt.alloc())?;
-        let connections = u64::from(connections);
+        let (account, pairs) = first_pairs(rt.alloc())?;
+        let history = NewHistory::new(&pairs);
         let (served, differs) = both_ends::<Brand, _>(
             &rt,
             rt.alloc(),
-            NewHistory::new(connections + 1),
-            keys,
+            history,
+            pairs,
+            account,
             workers,
-            connections,
+            u64::from(connections),
             patience,
             turns,
         )?;
@@ -359,14 +397,16 @@ fn a_listener_that_fails_for_good_ends_serving(rt: HostRuntime) -> Result<(), Fa
     let listener = TcpListener::bind(&rt, "127.0.0.1:0")?;
     // A socket that was shut down takes no connections any more.
     TcpStream::from(OwnedFd::from(listener.try_clone()?)).shutdown(Shutdown::Both)?;
-    let keys = keys(rt.alloc())?;
+    let (account, pairs) = first_pairs(rt.alloc())?;
+    let history = NewHistory::new(&pairs);
     let mut console = Console::new(b"".as_slice(), Vec::new(rt.alloc()), Input::Ready);
     let served = serve_on::<Brand, _, Noon<'_, HostRuntime>, &[u8], Vec<u8>, Vec<u8>>(
         &rt,
         &Noon(&rt),
         rt.alloc(),
-        NewHistory::new(10),
-        keys,
+        history,
+        pairs,
+        account,
         &listener,
         2,
         9,

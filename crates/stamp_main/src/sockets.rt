@@ -1,39 +1,51 @@
-//! The connections of `serve`: each gets a clock, and a service that shares one lock with the others.
-ghost use Rattle.std.specs.Prelude.{◌≡◌, ◌<◌, ◌≤◌};
+//! The connections of `serve`: each gets a clock, and a service over slots that it shares with the others.
+ghost use Rattle.std.specs.Prelude.{◌≡◌, ◌+◌, ◌∷◌, [], MatchBool};
 ghost use Rattle.std.specs.Thread.{IsSend};
+ghost use Rattle.served_history.specs.declared.entry.Entry.TheVariants.{Opened};
 
 use crate::audit::Audit;
 use crate::console::Console;
 use crate::machine::Machine;
-use crate::shares::SharesLeft;
 use access_rules::Keys;
-use account_lock::{Account, AccountLock, Connection, NewHistory, Operator};
 use audit_lines::{Books, write_books};
+use served_history::{Account, Front, NewHistory};
+use served_slots::{Connection, Operator, Slots};
+use slot_state::PairsFault;
 use socket_gate::{Limits, Services, serve_listener};
+use stamp_types::Text;
 use std::alloc::Global;
-use std::io::{Read, Write};
+use std::io::{ErrorKind, Read, Write};
 use std::net::{Net, TcpListener};
 use std::sync::atomic::{AtomicBool, Ordering};
-use std::sync::ledger::Share;
 use std::sync::{Mutex, Wait};
 use std::thread::Threads;
 use std::time::Clock;
 use std::{io, thread};
 
-/// Makes the services of a number of connections. Each has a share of the history of one lock. If there are books, each service enters the
-/// requests that it let in and that name a container.
+/// Makes the services of a number of connections, which share slots. Each begins with what the history begins with. If there are books, each
+/// service enters the requests that it let in and that name a container.
 #[derive(Drop)]
-pub(crate) struct AccountServices<'a, A: Account, R: Wait, C: Clock> {
+pub(crate) struct SlotServices<'a, A: Account, R: Wait, C: Clock> {
     rt: &'a R,
     clock: &'a C,
-    lock: &'a AccountLock<A>,
+    slots: &'a Slots<A>,
     books: Option<&'a Books>,
-    left: Mutex<SharesLeft<A>>,
+    first: Front<A>,
+    // How many connections may still be taken.
+    left: Mutex<u64>,
 }
 
-/// Serves so many connections of a listener, by so many workers at once, and obeys the lines of a console meanwhile. The account has no
-/// containers at first. A connection that is beyond the limits ends. With an audit, a line of each request that was let in and names a
-/// container goes to its writer.
+// Why slots could not be made, as an error of input or output.
+fn error_of(fault: PairsFault) -> io::Error {
+    match fault {
+        PairsFault::NotFirst | PairsFault::Twice => io::Error::from(ErrorKind::InvalidInput),
+        PairsFault::NoMemory => io::Error::from(ErrorKind::OutOfMemory),
+    }
+}
+
+/// Serves so many connections of a listener, by so many workers at once, and obeys the lines of a console meanwhile, by which the keys of the
+/// account are replaced. The accounts of these first key pairs have no containers at first. A connection that is beyond the limits ends. With an
+/// audit, a line of each request that was let in and names a container goes to its writer.
 ///
 /// It ends before that if the listener fails for good, and then when the lines are written. The error says why it could not begin.
 pub(crate) fn serve_on<
@@ -48,7 +60,8 @@ pub(crate) fn serve_on<
     clock: &C,
     alloc: Global,
     history: NewHistory,
-    keys: Keys,
+    pairs: Vec<Keys>,
+    account: Text,
     listener: &TcpListener,
     workers: usize,
     connections: u64,
@@ -56,24 +69,24 @@ pub(crate) fn serve_on<
     console: &mut Console<L, O>,
     audit: &mut Option<Audit<W>>,
 ) -> io::Result<()>
-    requires history { history.seen.book ≡ A.history }
-    requires shares { (history.shares.name ≡ A.name) × (history.shares.parts ≡ A.parts) }
-    requires one_each { connections < history.shares.parts }
-    requires keys { keys ≡ A.keys }
-    requires first { keys.epoch ≡ 0 }
+    requires book { history.book ≡ A.history }
+    requires fresh { history.next ≡ 0 }
+    requires log { history.log ≡ Opened pairs.items ∷ [] }
 {
-    let (lock, mut shares) = AccountLock::<A>::new(alloc, keys, history)?;
-    let one = shares.split_off(1, 0);
+    let (slots, first) = match Slots::<A>::new(alloc, pairs, history) {
+        Ok(made) => made,
+        Err(fault) => return Err(error_of(fault)),
+    };
     match audit {
         Some(Audit { books, writer }) => serve_and_write(
             rt,
             clock,
             alloc,
-            &lock,
+            &slots,
             books,
             writer,
-            one,
-            shares,
+            first,
+            account,
             listener,
             workers,
             connections,
@@ -84,9 +97,9 @@ pub(crate) fn serve_on<
             rt,
             clock,
             alloc,
-            &lock,
-            one,
-            shares,
+            &slots,
+            first,
+            account,
             listener,
             workers,
             connections,
@@ -96,8 +109,7 @@ pub(crate) fn serve_on<
     }
 }
 
-// The same by a lock without books, with the share of its operator and those of the connections. What is borrowed has one lifetime, since
-// operator and services hold it.
+// The same by slots without books, with what their history begins with. What is borrowed has one lifetime, since operator and services hold it.
 fn serve_by<
     'a,
     A: Account + Send + Sync,
@@ -109,21 +121,17 @@ fn serve_by<
     rt: &'a R,
     clock: &'a C,
     alloc: Global,
-    lock: &'a AccountLock<A>,
-    one: Share<A>,
-    shares: Share<A>,
+    slots: &'a Slots<A>,
+    first: Front<A>,
+    account: Text,
     listener: &TcpListener,
     workers: usize,
     connections: u64,
     limits: Limits,
     console: &mut Console<L, O>,
-) -> io::Result<()>
-    requires one { one.parts ≡ 1 }
-    requires one_each { connections ≤ shares.parts }
-    requires none_made { shares.amount ≡ 0 }
-{
-    let mut operator = Operator::new(rt, lock, one);
-    let services = AccountServices::new(rt, clock, lock, None, connections, shares);
+) -> io::Result<()> {
+    let mut operator = Operator::new(rt, slots, account, first.again());
+    let services = SlotServices::new(rt, clock, slots, None, first, connections);
     serve_and_obey(
         rt,
         clock,
@@ -153,23 +161,19 @@ fn serve_and_write<
     rt: &'a R,
     clock: &'a C,
     alloc: Global,
-    lock: &'a AccountLock<A>,
+    slots: &'a Slots<A>,
     books: &'a Books,
     writer: &mut W,
-    one: Share<A>,
-    shares: Share<A>,
+    first: Front<A>,
+    account: Text,
     listener: &TcpListener,
     workers: usize,
     connections: u64,
     limits: Limits,
     console: &mut Console<L, O>,
-) -> io::Result<()>
-    requires one { one.parts ≡ 1 }
-    requires one_each { connections ≤ shares.parts }
-    requires none_made { shares.amount ≡ 0 }
-{
-    let mut operator = Operator::new(rt, lock, one);
-    let services = AccountServices::new(rt, clock, lock, Some(books), connections, shares);
+) -> io::Result<()> {
+    let mut operator = Operator::new(rt, slots, account, first.again());
+    let services = SlotServices::new(rt, clock, slots, Some(books), first, connections);
     let ended = AtomicBool::new(false);
     let (_, served) = thread::join(
         rt,
@@ -195,8 +199,8 @@ fn serve_and_write<
     served
 }
 
-// Serves connections by these services, and lets the operator obey the lines of a console until serving has ended.
-fn serve_and_obey<
+/// Serves connections by these services, and lets the operator obey the lines of a console until serving has ended.
+pub(crate) fn serve_and_obey<
     'a,
     A: Account + Send + Sync,
     R: Net + Threads + Wait + Sync,
@@ -208,7 +212,7 @@ fn serve_and_obey<
     clock: &'a C,
     alloc: Global,
     operator: &mut Operator<'a, A, R>,
-    services: &AccountServices<'a, A, R, C>,
+    services: &SlotServices<'a, A, R, C>,
     listener: &TcpListener,
     workers: usize,
     limits: Limits,
@@ -227,36 +231,47 @@ fn serve_and_obey<
     served
 }
 
-impl<'a, A: Account, R: Wait, C: Clock> AccountServices<'a, A, R, C> {
-    // The services of so many connections, with all these shares for them.
-    fn new(
+// Takes one of the connections that are left. Returns whether one was left.
+fn take_one(left: &mut u64) -> bool
+    ensures { MatchBool result (left.old ≡ left.new + 1) ((left.old ≡ 0) × (left.new ≡ 0)) }
+{
+    if *left == 0 {
+        return false;
+    }
+    *left -= 1;
+    true
+}
+
+impl<'a, A: Account, R: Wait, C: Clock> SlotServices<'a, A, R, C> {
+    /// The services of so many connections, each of which begins with this front.
+    pub(crate) fn new(
         rt: &'a R,
         clock: &'a C,
-        lock: &'a AccountLock<A>,
+        slots: &'a Slots<A>,
         books: Option<&'a Books>,
+        first: Front<A>,
         connections: u64,
-        shares: Share<A>,
-    ) -> Self
-        requires one_each { connections ≤ shares.parts }
-        requires none_made { shares.amount ≡ 0 }
-    {
-        AccountServices {
+    ) -> Self {
+        SlotServices {
             rt,
             clock,
-            lock,
+            slots,
             books,
-            left: Mutex::new(SharesLeft::new(connections, shares)),
+            first,
+            left: Mutex::new(connections),
         }
     }
 }
 
 impl<'a, A: Account, R: Wait, C: Clock> Services<Machine<'a, C>, Connection<'a, A, R>>
-    for AccountServices<'a, A, R, C> {
+    for SlotServices<'a, A, R, C> {
     fn make(&self) -> Option<(Machine<'a, C>, Connection<'a, A, R>)> {
-        let share = self.left.lock(self.rt).take()?;
+        if !take_one(&mut self.left.lock(self.rt)) {
+            return None;
+        }
         Some((
             Machine::new(self.clock),
-            Connection::audited(self.rt, self.lock, share, self.books),
+            Connection::audited(self.rt, self.slots, self.first.again(), self.books),
         ))
     }
 }

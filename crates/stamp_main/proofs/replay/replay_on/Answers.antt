@@ -2,7 +2,7 @@ use Rattle.std.proofs.Common.{subst}
 use Rattle.std.specs.Arc.{arc_value}
 use Rattle.access_rules.specs.declared.keys.Keys.{Keys}
 use Rattle.core_run.specs.Cores.{StandsFor}
-use Rattle.account_lock.specs.Services.{opening_of}
+use Rattle.core_service.specs.Services.{opening_of}
 use Rattle.stamp_main.proofs.ReplayLemmas.{unbegun_broken, unbegun_starved, written_broken, written_received}
 use Rattle.stamp_main.proofs.replay.replay_on.Goals as goal
 

@@ -1,8 +1,0 @@
-pub mod Adding
-pub mod AuditLemmas
-pub mod ConnectionLemmas
-pub mod Fronts
-pub mod HistoryLemmas
-pub mod RotationLemmas
-pub mod ServiceLemmas
-pub mod WriteLemmas

@@ -1,8 +1,0 @@
-use Rattle.std.proofs.Common.{◌∙◌}
-use Rattle.account_lock.proofs.ServiceLemmas.{answered_as}
-use Rattle.account_lock.proofs.core_service.CoreServiceService.answer.Goals as goal
-
-pub returns-clause-answered : goal.returns-clause-answered
-returns-clause-answered c =
-    answered_as c.answer_steadily.result c.compact_if_wasteful.new.core c.args.self.now c.answer_steadily.new.core c.args.request c.args.moment (c.compact_if_wasteful.ensures ∙ c.self.view_is)
-    c.answer_steadily.ensures.answered

@@ -1,7 +1,0 @@
-pub mod Audits
-pub mod Connections
-pub mod Growth
-pub mod Histories
-pub mod Rotations
-pub mod Services
-pub mod SteadyCounts

@@ -1,0 +1,155 @@
+//! The service of one account over a core that nobody shares.
+ghost use Rattle.std.specs.Prelude.{◌≡◌, ◌∷◌, [], IfOk, OnErr};
+ghost use Rattle.range_rows.specs.Readings.{reading_of};
+ghost use Rattle.slot_state.specs.Pairs.{first_pairs};
+ghost use Rattle.core_run.specs.Cores.{StandsFor, first_core};
+ghost use Rattle.stamp_core.specs.CoreSteps.{IsCalm};
+ghost use Rattle.core_service.specs.Services.{AnswersAsMachine, opening_of};
+
+use crate::steady::Steady;
+use access_rules::Keys;
+use http_front::Service;
+use range_rows::Reading;
+use slot_state::{PairsFault, ProvedHistories};
+use stamp_core::Core;
+use stamp_types::{Moment, Reply, Request};
+use std::alloc::{AllocError, Global};
+use std::marker::Model;
+
+// One more owner of each part of the pair.
+fn copy_of(keys: &Keys) -> Result<Keys, AllocError>
+    ensures { IfOk result (λ copy. copy ≡ keys.now) }
+{
+    keys.clone()
+}
+
+// A core of one slot of all keys, without containers, for the account of this first pair of keys.
+//
+// `AllocError` if memory runs out.
+#[tactic(auto, using(crate::proofs::ServiceLemmas::calm_first))]
+fn core_of(alloc: Global, keys: &Keys) -> Result<Core<ProvedHistories>, AllocError>
+    requires { keys.now.epoch ≡ 0 }
+    ensures value { IfOk result (λ core. core ≡ first_core (first_pairs (keys.now ∷ []))) }
+    ensures stands { IfOk result (λ core. StandsFor core (opening_of keys.now)) }
+    ensures calm { IfOk result (λ core. IsCalm core) }
+{
+    let keys = copy_of(keys)?;
+    let mut pairs = Vec::new(alloc);
+    pairs.push(keys)?;
+    match Core::new(alloc, pairs) {
+        Ok(core) => Ok(core),
+        Err(PairsFault::NoMemory) => Err(AllocError),
+        Err(_) => unreachable!(),
+    }
+}
+
+// The reply of the machine, and its change, over nodes in memory.
+//
+// `AllocError` if memory runs out. Then the core is as it was.
+fn answer_steadily(
+    core: &mut Core<ProvedHistories>,
+    wire: &mut Steady,
+    alloc: Global,
+    request: &Request,
+    reading: Reading,
+    moment: Moment,
+) -> Result<Reply, AllocError>
+    requires calm { IsCalm core.old }
+    requires read { reading ≡ reading_of request.now }
+    ensures calm { IsCalm core.new }
+    ensures answered { IfOk result (λ reply. AnswersAsMachine core.old request.now moment reply core.new) }
+    ensures unchanged { OnErr result (core.new ≡ core.old) }
+{
+    core.answer(alloc, request, None, reading, moment, wire)
+}
+
+// Compacts the first slot of which little is left to which something refers, if there is one, over nodes in memory, and drops what was replaced.
+// What a compaction gives is large, so it is not even made as None if nothing is to be compacted.
+//
+// Nothing that a request is answered changes, also if memory runs out for it.
+fn compact_if_wasteful(core: &mut Core<ProvedHistories>, wire: &mut Steady, alloc: Global)
+    requires calm { IsCalm core.old }
+    ensures { core.new ≡ core.old }
+{
+    if core.is_wasteful() {
+        drop(core.compact_wasteful(alloc, wire));
+    }
+}
+
+/// The service of one account over a core whose nodes are in memory: each reply is the machine's. One connection after the other may use it.
+///
+/// Contracts see it as the core (`CoreState` of `core_run`).
+#[derive(Drop)]
+pub struct CoreService {
+    core: Core<ProvedHistories>,
+    wire: Steady,
+}
+
+impl Model for CoreService {
+    ghost use Rattle.core_run.specs.Cores.{CoreState, core_code};
+    ghost use Rattle.stamp_core.specs.CoreSteps.{IsCalm};
+
+    ghost Value = { CoreState };
+
+    ghost coded = { core_code };
+
+    ghost view = { λ s. s.core };
+
+    // No change is in doubt, since no call of the wire fails.
+    ghost invariant = { λ s. IsCalm s.core };
+}
+
+impl CoreService {
+    /// The service of the account of this first pair of keys, which has no containers.
+    ///
+    /// `AllocError` if memory runs out.
+    pub fn new(alloc: Global, keys: &Keys) -> Result<Self, AllocError>
+        requires { keys.now.epoch ≡ 0 }
+        ensures value { IfOk result (λ service. service ≡ first_core (first_pairs (keys.now ∷ []))) }
+        ensures stands { IfOk result (λ service. StandsFor service (opening_of keys.now)) }
+    {
+        let core = core_of(alloc, keys)?;
+        Ok(Self {
+            core,
+            wire: Steady::new(),
+        })
+    }
+}
+
+#[cfg(test)]
+impl CoreService {
+    // Whether the core is to be compacted.
+    pub(crate) fn is_wasteful(&self) -> bool {
+        self.core.is_wasteful()
+    }
+}
+
+impl Service for CoreService {
+    ghost use Rattle.core_run.specs.Cores.{CoreState};
+
+    ghost World = { CoreState };
+
+    ghost world = { λ service. service };
+
+    ghost answers = { AnswersAsMachine };
+
+    ghost starves = { λ old new. new ≡ old };
+
+    /// The reply of the machine, and its change. If earlier changes left much to which nothing refers, the core is compacted first.
+    ///
+    /// `AllocError` if memory runs out for the reading of the body, the change or the reply. Then nothing is changed.
+    fn answer(
+        &mut self,
+        alloc: Global,
+        request: Request,
+        moment: Moment,
+    ) -> Result<Reply, AllocError>
+        ensures answered { IfOk result (λ reply. AnswersAsMachine self.old request moment reply self.new) }
+        ensures unchanged { OnErr result (self.new ≡ self.old) }
+    {
+        let reading = Reading::of(alloc, &request)?;
+        let Self { core, wire } = self;
+        compact_if_wasteful(core, wire, alloc);
+        answer_steadily(core, wire, alloc, &request, reading, moment)
+    }
+}
