@@ -48,7 +48,7 @@ impl Service for Booked {
     }
 }
 
-fn booked(rt: &impl Abort, alloc: Global) -> Box<Booked> {
+fn booked_core(rt: &impl Abort, alloc: Global) -> Box<Booked> {
     let booked = Booked {
         driven: empty_core(rt, alloc),
         entries: Vec::new(alloc),
@@ -84,7 +84,7 @@ fn places(rt: &impl Abort, alloc: Global, booked: &mut Booked) {
 
 #[test]
 fn each_place_is_of_its_container(rt: HostRuntime) {
-    let mut booked = booked(&rt, rt.alloc());
+    let mut booked = booked_core(&rt, rt.alloc());
     places(&rt, rt.alloc(), &mut *booked);
 }
 
@@ -99,7 +99,7 @@ fn out_of_reach(rt: &impl Abort, alloc: Global, booked: &mut Booked) {
 
 #[test]
 fn a_denial_of_n1_has_no_entry(rt: HostRuntime) {
-    let mut booked = booked(&rt, rt.alloc());
+    let mut booked = booked_core(&rt, rt.alloc());
     out_of_reach(&rt, rt.alloc(), &mut *booked);
 }
 
@@ -118,6 +118,6 @@ fn unknown(rt: &impl Abort, alloc: Global, booked: &mut Booked) {
 
 #[test]
 fn a_denial_of_n2_has_an_entry(rt: HostRuntime) {
-    let mut booked = booked(&rt, rt.alloc());
+    let mut booked = booked_core(&rt, rt.alloc());
     unknown(&rt, rt.alloc(), &mut *booked);
 }

@@ -220,22 +220,23 @@ fn puts_again(rt: &impl Abort, alloc: Global, driven: &mut Driven, count: usize)
     }
 }
 
+// Whether the core makes a compaction that is due.
+fn compacts(alloc: Global, driven: &mut Driven) -> bool {
+    let compacted = driven.core.compact_wasteful(alloc, &mut driven.wire);
+    let is_made = compacted.is_some();
+    drop(compacted);
+    is_made
+}
+
 // Each Put Blob but the last wastes 768 KiB, so 23 of them waste more than the 16 MiB and the blob that exists. Nothing is compacted before.
 fn compacts_if_it_is_due(rt: &impl Abort, alloc: Global, driven: &mut Driven) {
     assert!(rt; begins(rt, alloc, driven, CREATE, CREATED));
     puts_again(rt, alloc, driven, 22);
     assert!(rt; !driven.core.is_wasteful());
-    assert!(rt;
-        driven
-            .core
-            .compact_wasteful(alloc, &mut driven.wire)
-            .is_none()
-    );
+    assert!(rt; !compacts(alloc, driven));
     puts_again(rt, alloc, driven, 2);
     assert!(rt; driven.core.is_wasteful());
-    let compacted = driven.core.compact_wasteful(alloc, &mut driven.wire);
-    assert!(rt; compacted.is_some());
-    drop(compacted);
+    assert!(rt; compacts(alloc, driven));
     assert!(rt; !driven.core.is_wasteful());
     assert!(rt; begins(rt, alloc, driven, PUT, CREATED));
     assert!(rt; ends(rt, alloc, driven, GET, b"\r\n\r\nhello"));
@@ -243,7 +244,7 @@ fn compacts_if_it_is_due(rt: &impl Abort, alloc: Global, driven: &mut Driven) {
 
 // The container of a split: their names rise, and have three digits.
 fn split_at(rt: &impl Abort, alloc: Global, driven: &mut Driven, slot: usize) -> Option<StepFault> {
-    let name = format!(in alloc; "k{}", 100 + slot).expect(rt, "memory");
+    let name = format!(in alloc; "k{}", slot.saturating_add(100)).expect(rt, "memory");
     split(rt, alloc, driven, slot, &name)
 }
 

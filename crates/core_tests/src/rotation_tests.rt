@@ -179,9 +179,12 @@ fn rotations_are_steps(rt: HostRuntime) {
     let steps = rotations(&rt, alloc);
     let Driven { core, wire, .. } = &mut *driven;
     let answers = core.run(alloc, steps, wire).expect(&rt, "memory");
-    assert!(rt; matches!(&answers[0], Ok(Outcome::Epoch(1))));
-    assert!(rt; matches!(&answers[1], Ok(Outcome::Epoch(2))));
-    assert!(rt; matches!(&answers[2], Err(StepFault::NoAccount)));
+    let [first, second, other] = answers.as_slice() else {
+        panic!(&rt; "three answers");
+    };
+    assert!(rt; matches!(first, Ok(Outcome::Epoch(1))));
+    assert!(rt; matches!(second, Ok(Outcome::Epoch(2))));
+    assert!(rt; matches!(other, Err(StepFault::NoAccount)));
 }
 
 /// A core that gets each request with its signature judged, under these keys.

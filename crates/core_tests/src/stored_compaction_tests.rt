@@ -82,8 +82,10 @@ fn a_deleted_container_keeps_its_count_over_a_compaction(rt: HostRuntime) {
 // The deliveries of `blocks` blocks that are Done, and then of one that no node takes.
 fn refused_after(rt: &impl Abort, alloc: Global, blocks: usize) -> Vec<Delivery> {
     let mut puts = Vec::with_capacity(alloc, 24).expect(rt, "memory");
-    for _put in 0..3 * blocks {
-        puts.push(D).expect(rt, "memory");
+    for _block in 0..blocks {
+        for _node in 0..3 {
+            puts.push(D).expect(rt, "memory");
+        }
     }
     for _put in 0..6 {
         puts.push(R).expect(rt, "memory");

@@ -103,7 +103,8 @@ impl Service for Streamed {
             Answer::Done(reply) => Ok(reply),
             Answer::Later(ticket) => {
                 self.tickets = self.tickets.saturating_add(1);
-                fetched(ticket, &mut self.wire)
+                let reply = fetched(ticket, &mut self.wire)?;
+                Ok(reply)
             }
             Answer::NoMemory => Err(AllocError),
         }

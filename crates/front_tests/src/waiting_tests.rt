@@ -374,12 +374,13 @@ fn a_connection_that_is_given_up_ends_by_what_it_waits_for(rt: HostRuntime) {
             asked: &asked,
         };
         let mut stage = Stage::new();
-        let mut fault = None;
+        let mut ended = None;
         for _ in 0..9 {
             match advance(rt.alloc(), &mut connection, stage, &mut Start, &mut service) {
                 Ok(Step::Waits(next)) => {
                     if next.wants_write() == writes {
-                        fault = Some(give_up(&mut connection, next));
+                        let fault = give_up(&mut connection, next);
+                        ended = Some(finish(&mut connection, Err(fault)));
                         break;
                     }
                     stage = next;
@@ -393,9 +394,7 @@ fn a_connection_that_is_given_up_ends_by_what_it_waits_for(rt: HostRuntime) {
         } else {
             FrontFault::Read
         };
-        assert!(rt; fault == Some(wanted), "{writes}");
-        let ended = finish(&mut connection, Err(wanted));
-        assert!(rt; ended == Err(wanted), "{writes}");
+        assert!(rt; ended == Some(Err(wanted)), "{writes}");
     }
 }
 

@@ -8,8 +8,6 @@ mod call_tests;
 #[cfg(test)]
 mod checkpoint_tests;
 #[cfg(test)]
-mod compaction_tests;
-#[cfg(test)]
 mod data_tests;
 #[cfg(test)]
 mod every_delivery_tests;
@@ -40,8 +38,6 @@ mod record_values;
 mod record_write_tests;
 #[cfg(test)]
 mod repair_tests;
-#[cfg(test)]
-mod row_checkpoint_tests;
 #[cfg(test)]
 mod sample_acts;
 #[cfg(test)]

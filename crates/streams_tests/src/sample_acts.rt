@@ -88,10 +88,14 @@ pub(crate) fn delete_blob(rt: &impl Abort, alloc: Global) -> Act {
 }
 
 pub(crate) fn put_block(rt: &impl Abort, alloc: Global) -> Act {
+    put_block_of(rt, alloc, hello(rt, alloc))
+}
+
+pub(crate) fn put_block_of(rt: &impl Abort, alloc: Global, content: Pieces) -> Act {
     Act::PutBlock(PutBlock {
         blob: text(rt, alloc, "a.txt"),
         id: id(rt, alloc, b"one"),
-        content: hello(rt, alloc),
+        content,
     })
 }
 
@@ -132,6 +136,16 @@ fn put_block_list_of(rt: &impl Abort, alloc: Global, entries: Items<Taken>) -> A
 
 pub(crate) fn put_no_blocks(rt: &impl Abort, alloc: Global) -> Act {
     put_block_list_of(rt, alloc, Items::new(Vec::new(alloc)))
+}
+
+// The list takes the block of `put_block`.
+pub(crate) fn put_one_block(rt: &impl Abort, alloc: Global) -> Act {
+    let block = Taken {
+        id: id(rt, alloc, b"one"),
+        from: Source::Uncommitted,
+    };
+    let entries = vec![in alloc; block].expect(rt, "memory");
+    put_block_list_of(rt, alloc, Items::new(entries))
 }
 
 pub(crate) fn put_block_list(rt: &impl Abort, alloc: Global) -> Act {

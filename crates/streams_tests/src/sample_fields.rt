@@ -158,7 +158,12 @@ pub(crate) fn two_pieces(rt: &impl Abort, alloc: Global) -> Pieces {
 
 // Five bytes that the piece holds.
 pub(crate) fn hello(rt: &impl Abort, alloc: Global) -> Pieces {
-    let bytes = b"hello".to_vec(alloc).expect(rt, "memory");
+    pieces(rt, alloc, b"hello")
+}
+
+/// Content of these bytes, which are one piece.
+pub(crate) fn pieces(rt: &impl Abort, alloc: Global, bytes: &[u8]) -> Pieces {
+    let bytes = bytes.to_vec(alloc).expect(rt, "memory");
     let share = Share::new(alloc, bytes).expect(rt, "memory");
     let pieces = vec![in alloc; Piece::Bytes(share)].expect(rt, "memory");
     Pieces::new(pieces).expect(rt, "a good piece")

@@ -1,6 +1,6 @@
 //! Checkpoints of rows that streams keep (SOSP 2011, section 5.3).
 use crate::partition_samples::Told;
-use crate::sample_wires::{D, L, R, script};
+use crate::sample_wires::{L, R, script, stopped_after};
 use crate::stored_samples::{
     Seen, checkpoint, create, cut, delete, load, look, look_in_rows, put, stored, take,
 };
@@ -67,16 +67,26 @@ fn a_load_after_a_checkpoint_gives_the_same_rows(rt: HostRuntime) {
     write_twice(&rt, rt.alloc(), &mut *stored);
 }
 
-// The deliveries of `rows` rows that are Done, and then of one that no node takes, or of which no answer comes.
-fn stopped_after(rt: &impl Abort, alloc: Global, rows: usize, last: Delivery) -> Vec<Delivery> {
-    let mut puts = Vec::with_capacity(alloc, 18).expect(rt, "memory");
-    for _put in 0..3 * rows {
-        puts.push(D).expect(rt, "memory");
-    }
-    for _put in 0..6 {
-        puts.push(last).expect(rt, "memory");
-    }
-    puts
+// After a checkpoint a container that was deleted is made again, and one that has a blob is deleted.
+fn change_after(rt: &impl Abort, alloc: Global, stored: &mut StoredRows) {
+    fill(rt, alloc, stored);
+    write(rt, alloc, stored, 12);
+    made(rt, alloc, stored, create(rt, alloc, "gone"));
+    made(rt, alloc, stored, delete(rt, alloc, "pics"));
+    reload(rt, alloc, stored, 6);
+    assert_eq!(rt; look(rt, alloc, stored, "gone"), Seen::Empty(3));
+    assert_eq!(rt; look(rt, alloc, stored, "pics"), Seen::Deleted(3));
+    // The rows of three containers, to each node.
+    write(rt, alloc, stored, 9);
+    reload(rt, alloc, stored, 3);
+    assert_eq!(rt; look(rt, alloc, stored, "gone"), Seen::Empty(3));
+    assert_eq!(rt; look(rt, alloc, stored, "pics"), Seen::Deleted(3));
+}
+
+#[test]
+fn changes_after_a_checkpoint_are_in_the_next_one(rt: HostRuntime) {
+    let mut stored = stored(&rt, rt.alloc());
+    change_after(&rt, rt.alloc(), &mut *stored);
 }
 
 // A checkpoint that stops at any of its rows leaves the log and the rows.

@@ -1,13 +1,14 @@
 //! Compactions of rows that streams keep: the content that exists is in new data, and nothing else is (SOSP 2011, section 5.3).
-use crate::compaction_tests::lost_after;
 use crate::partition_samples::Told;
-use crate::row_checkpoint_tests::excluded_after;
-use crate::sample_acts::{delete_blob, put_hello, put_no_blocks};
-use crate::sample_fields::{noon, plain, red, text};
-use crate::sample_wires::{R, script};
+use crate::sample_acts::{
+    delete_blob, put_block, put_block_of, put_hello, put_no_blocks, put_one_block,
+};
+use crate::sample_fields::{noon, pieces, plain, red, text};
+use crate::sample_wires::{R, lost_after, script, stopped_after};
 use crate::stored_checkpoint_tests::{made, reload};
 use crate::stored_samples::{
-    Seen, compact, create, cut, delete, is_hello, key, load, look, look_in_rows, part, put, stored,
+    Seen, change_of, compact, create, cut, delete, is_hello, load, look, look_in_rows, part, put,
+    stored,
 };
 use stamp_types::{Act, Change, Pieces, PutBlob, Share};
 use std::alloc::Global;
@@ -65,11 +66,35 @@ fn a_compaction_moves_what_exists(rt: HostRuntime) {
     compact_twice(&rt, rt.alloc(), &mut *stored);
 }
 
+// An uncommitted block that replaced another one, and that is committed after the compaction.
+fn move_a_block(rt: &impl Abort, alloc: Global, stored: &mut StoredRows) {
+    made(rt, alloc, stored, create(rt, alloc, "pics"));
+    let older = put_block_of(rt, alloc, pieces(rt, alloc, b"older"));
+    made(rt, alloc, stored, change_of(rt, alloc, "pics", older));
+    let newer = put_block(rt, alloc);
+    made(rt, alloc, stored, change_of(rt, alloc, "pics", newer));
+    let mut wire = script(rt, alloc, &[], &[]);
+    assert_eq!(rt; compact(rt, stored, &mut wire), Told::Done);
+    // Two rows are put to each node, and read and put again, with the one block that exists. Then the two rows are read.
+    assert!(rt; wire.called().len() == 3 * 2 + (2 + 1) + 3 * (2 + 1) + 2);
+    assert_eq!(rt; look(rt, alloc, stored, "pics"), Seen::Empty(3));
+    let list = put_one_block(rt, alloc);
+    made(rt, alloc, stored, change_of(rt, alloc, "pics", list));
+    assert_eq!(rt; look(rt, alloc, stored, "pics"), Seen::Blob(4, 5));
+    reads_hello(rt, alloc, stored);
+}
+
+#[test]
+fn a_compaction_moves_an_uncommitted_block(rt: HostRuntime) {
+    let mut stored = stored(&rt, rt.alloc());
+    move_a_block(&rt, rt.alloc(), &mut *stored);
+}
+
 // The four rows of the checkpoint, and then the three rows of containers, the block and the row of the blob.
 fn refuse_each_block(rt: &impl Abort, alloc: Global, stored: &mut StoredRows) {
     fill(rt, alloc, stored);
     for blocks in 0..9 {
-        let puts = excluded_after(rt, alloc, blocks);
+        let puts = stopped_after(rt, alloc, blocks, R);
         let mut wire = script(rt, alloc, puts.as_slice(), &[]);
         assert_eq!(rt; compact(rt, stored, &mut wire), Told::Busy);
         is_full(rt, alloc, stored);
@@ -140,7 +165,7 @@ fn put_many(rt: &impl Abort, alloc: Global) -> Change {
         metadata: red(rt, alloc),
         content: Pieces::cut(alloc, &body).expect(rt, "memory"),
     });
-    Change::new(key(rt, alloc, "pics"), act).expect(rt, "a good change")
+    change_of(rt, alloc, "pics", act)
 }
 
 // A change by which the blob is written again, by Put Blob or as a list of no blocks, or deleted, itself or with its container.
@@ -151,7 +176,7 @@ fn wasting(rt: &impl Abort, alloc: Global, way: usize) -> Change {
         2 => delete_blob(rt, alloc),
         _ => Act::DeleteContainer,
     };
-    Change::new(key(rt, alloc, "pics"), act).expect(rt, "a good change")
+    change_of(rt, alloc, "pics", act)
 }
 
 fn waste_and_compact(rt: &impl Abort, alloc: Global, stored: &mut StoredRows, way: usize) {

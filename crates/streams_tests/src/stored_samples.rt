@@ -51,21 +51,26 @@ pub(crate) fn stored(rt: &impl Abort, alloc: Global) -> Box<StoredRows> {
     Box::new(alloc, stored).expect(rt, "memory")
 }
 
+/// The change of the container of this name.
+pub(crate) fn change_of(rt: &impl Abort, alloc: Global, name: &str, act: Act) -> Change {
+    Change::new(key(rt, alloc, name), act).expect(rt, "a good change")
+}
+
 /// The change that creates the container of this name.
 pub(crate) fn create(rt: &impl Abort, alloc: Global, name: &str) -> Change {
     let act = create_container(rt, alloc);
-    Change::new(key(rt, alloc, name), act).expect(rt, "a good change")
+    change_of(rt, alloc, name, act)
 }
 
 /// The change that puts the blob `a.txt` of the bytes `hello` into the container of this name.
 pub(crate) fn put(rt: &impl Abort, alloc: Global, name: &str) -> Change {
     let act = put_hello(rt, alloc);
-    Change::new(key(rt, alloc, name), act).expect(rt, "a good change")
+    change_of(rt, alloc, name, act)
 }
 
 /// The change that deletes the container of this name.
 pub(crate) fn delete(rt: &impl Abort, alloc: Global, name: &str) -> Change {
-    Change::new(key(rt, alloc, name), Act::DeleteContainer).expect(rt, "a good change")
+    change_of(rt, alloc, name, Act::DeleteContainer)
 }
 
 fn is_row(act: &Act) -> bool

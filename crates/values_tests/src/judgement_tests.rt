@@ -1,4 +1,6 @@
 //! What no clause says about judgements of signatures: that each call answers if memory is left.
+ghost use Rattle.std.specs.Option.{option_copied};
+ghost use Rattle.policy_book.specs.Judgements.{IsOfAsk};
 
 use crate::access_cases::{ACCOUNT, Case, Sent, keys, request};
 use crate::rule_tests::{DATED, FIRST, FIRST_OF_PLAIN, NOON, SECOND};
@@ -60,7 +62,9 @@ fn verdict_with(
     keys: &Keys,
     request: &Request,
     judged: Option<&Judged>,
-) -> Verdict {
+) -> Verdict
+    requires { IsOfAsk (option_copied judged) request.now.ask }
+{
     let now = Moment::new(NOON).expect(rt, "a moment");
     verdict_by(alloc, Some(keys), None, request, now, judged).expect(rt, "memory")
 }

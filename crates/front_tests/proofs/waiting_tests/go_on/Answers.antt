@@ -1,0 +1,6 @@
+use Rattle.front_tests.proofs.FreshLemmas.{fresh_goes_on}
+use Rattle.front_tests.proofs.waiting_tests.go_on.Goals as goal
+
+-- src/waiting_tests.rt:202:5
+pub loop-init : goal.loop-init
+loop-init c = fresh_goes_on c.new-connection.result c.new-stage.result _ _ _ c.new-connection.ensures c.new-stage.ensures
