@@ -2,7 +2,7 @@
 use Rattle.std.specs.Prelude.{◌≡◌, ◌⊎◌, ◌+◌, ⊤, List, Option, Some, None, Result, Ok, Err}
 use Rattle.stamp_values.specs.declared.key.Key.{Key}
 use Rattle.stamp_types.specs.declared.reply.Reply.{Reply}
-use Rattle.partition_map.specs.Spans.{slot_of, split_refusal}
+use Rattle.partition_map.specs.Spans.{slot_of, split_refusal, with_point}
 use Rattle.partition_map.specs.declared.fault.MapFault.{MapFault}
 use Rattle.partition_map.specs.declared.fault.MapFault.TheVariants as cause
 use Rattle.tickets.specs.declared.answer.Answer.{Answer}
@@ -62,14 +62,26 @@ IsPartedFrom (Some front) middle (Some lower) None = ⊥
 IsPartedFrom (Some front) middle None upper = ⊥
 IsPartedFrom None middle lower upper = ⊥
 
--- spans answer so if the slot that has this key is to be split there: they refuse it with this cause, or allow it
+-- why these spans refuse to split the slot that has this key at the key, if they do
+abbrev pub refusal_at : List Key → Key → Option MapFault
+refusal_at points middle = split_refusal points (slot_of points middle) middle
+
+-- these spans after such a split: another span begins with the key
+abbrev pub split_at : List Key → Key → List Key
+split_at points middle = with_point points (slot_of points middle) middle
+
+-- the cause for which spans refuse a split, by what is answered. Lack of memory is not such a cause
+abbrev pub split_cause : SplitError → Option MapFault
+split_cause split.FirstKey = Some cause.NotInside
+split_cause split.Full = Some cause.Full
+split_cause split.NoMemory = None
+
+-- some spans answer so if the slot that has this key is to be split there: they refuse it with this cause, or allow it
 pub record SpansSay (middle : Key) (cause : Option MapFault) : Type 0 where
   pub points : List Key
-  pub said : split_refusal points (slot_of points middle) middle ≡ cause
+  pub said : refusal_at points middle ≡ cause
 
 -- why no slot is split at this key: a slot begins with it, or there are as many slots as there may be; or the spans allow it, and memory ran out or
 -- the slot is not cut
 abbrev pub IsSplitFault : Key → SplitError → Type 0
-IsSplitFault middle split.FirstKey = SpansSay middle (Some cause.NotInside)
-IsSplitFault middle split.Full = SpansSay middle (Some cause.Full)
-IsSplitFault middle split.NoMemory = SpansSay middle None
+IsSplitFault middle fault = SpansSay middle (split_cause fault)

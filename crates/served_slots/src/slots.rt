@@ -247,6 +247,7 @@ impl<A: Account> Slots<A> {
     ///
     /// `FirstKey` if a slot begins with the key, or else `Full` if there are 256 slots. `NoMemory` if memory runs out, if no word is left for the upper
     /// half, or if the slot is of no use any more. After a fault nothing is changed.
+    #[tactic(auto, using(crate::proofs::SpanLemmas::said_by))]
     pub fn split<R: Wait>(&self, rt: &R, alloc: Global, middle: &Key) -> Result<(), SplitError>
         ensures allowed { OnOk result (SpansSay middle.now None) }
         ensures fault { IfErr result (IsSplitFault middle.now) }

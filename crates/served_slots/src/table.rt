@@ -2,11 +2,11 @@
 ghost use Rattle.std.specs.Prelude.{◌≡◌, ◌+◌, ◌<◌, ◌≤◌, Err, IfErr, IfOk, None, OnErr, OnOk, length, vec_capacity, vec_len};
 ghost use Rattle.std.specs.Arc.{arc_value};
 ghost use Rattle.access_rules.specs.declared.rotation.KeysFault.TheVariants.{Last};
-ghost use Rattle.partition_map.specs.Spans.{slot_of, with_point};
+ghost use Rattle.partition_map.specs.Spans.{split_refusal, with_point};
 ghost use Rattle.slot_state.specs.Slots.{empty_slot};
 ghost use Rattle.served_slots.specs.Rotations.{HasLastEpoch, HasRotated, RotatesSlots};
 ghost use Rattle.served_slots.specs.Slots.{IsLeftBy};
-ghost use Rattle.served_slots.specs.Steps.{IsSplitFault, SpansSay};
+ghost use Rattle.served_slots.specs.Steps.{refusal_at, split_at, split_cause};
 
 use crate::locked::LockedSlot;
 use crate::locked::rotating::rotate_from;
@@ -94,14 +94,13 @@ fn compacted<'a, A: Account, R: Wait>(
     lock.lock(rt)
 }
 
-// Splits the span that has the key: another span begins with the key then.
-#[tactic(auto, using(crate::proofs::SpanLemmas::said_by, crate::proofs::SpanLemmas::has_slot))]
+// Splits the span of this slot, which has the key: another span begins with the key then.
+#[tactic(auto, using(crate::proofs::SpanLemmas::has_slot))]
 fn split_span(spans: &mut Spans, slot: usize, middle: &Key) -> Result<(), SplitError>
-    requires found { slot ≡ slot_of spans.old middle.now }
     requires within { slot ≤ length spans.old }
     ensures split { OnOk result (spans.new ≡ with_point spans.old slot middle.now) }
-    ensures allowed { OnOk result (SpansSay middle.now None) }
-    ensures fault { IfErr result (IsSplitFault middle.now) }
+    ensures allowed { OnOk result (split_refusal spans.old slot middle.now ≡ None) }
+    ensures refused { IfErr result (λ fault. split_refusal spans.old slot middle.now ≡ split_cause fault) }
     ensures unchanged { OnErr result (spans.new ≡ spans.old) }
 {
     match spans.split(slot, middle) {
@@ -177,10 +176,14 @@ impl<A: Account> Table<A> {
 
     /// Splits the span that has the key, and then its slot. If the slot fails, its two spans are joined again.
     ///
-    /// `FirstKey` if a slot begins with the key, or else `Full` if there are 256 slots, or else `NoMemory` as of the slot, or if memory runs out.
+    /// `FirstKey` if a slot begins with the key, or else `Full` if there are 256 slots. Or else `NoMemory` if memory runs out, if no word is left
+    /// for the upper half, or if the slot is of no use any more. After a fault the spans are as they were.
+    #[tactic(auto, using(crate::proofs::SpanLemmas::refusal_of_found, crate::proofs::SpanLemmas::split_of_found))]
     pub(crate) fn split(&mut self, alloc: Global, middle: &Key) -> Result<(), SplitError>
-        ensures allowed { OnOk result (SpansSay middle.now None) }
-        ensures fault { IfErr result (IsSplitFault middle.now) }
+        ensures split { OnOk result (self.new.spans ≡ split_at self.old.spans middle.now) }
+        ensures allowed { OnOk result (refusal_at self.old.spans middle.now ≡ None) }
+        ensures refused { IfErr result (λ fault. refusal_at self.old.spans middle.now ≡ split_cause fault) }
+        ensures unchanged { OnErr result (self.new.spans ≡ self.old.spans) }
     {
         let slot = self.spans.find(middle);
         split_span(&mut self.spans, slot, middle)?;

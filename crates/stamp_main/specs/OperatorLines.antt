@@ -40,7 +40,7 @@ answer_text answer.NoMemory = codes "refused: out of memory"
 abbrev pub container_key : List ℕ → List ℕ → Key
 container_key account name = record { account = account; container = name }
 
--- The answer to a split at the container with this name: the spans allow it; or the name is not a container's, or a slot begins with the container,
+-- The answer to a split at the container with this name: some spans allow it; or the name is not a container's, or a slot begins with the container,
 -- or there are as many slots as there may be; or memory ran out
 abbrev pub AnswersSplit : List ℕ → List ℕ → Answer → Type 0
 AnswersSplit account name answer.Split = (is_container name ≡ true) × SpansSay (container_key account name) None
