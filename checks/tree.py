@@ -126,6 +126,14 @@ def copy_of_tree(crates, with_edits):
         yield copy
 
 
+def add_crates(copy, crates):
+    """Adds these crates to a copy of the tree that has what they depend on, without their must-fail edits."""
+    for name in crates:
+        shutil.copytree(ROOT / "crates" / name, copy / "crates" / name, ignore=shutil.ignore_patterns("out", "must-fail"), symlinks=True)
+    has = {*lines_of_crates(copy), *crates}
+    (copy / "crates.txt").write_text("".join(f"{line}\n" for name, line in lines_of_crates().items() if name in has), encoding="utf-8")
+
+
 def proofs_at_once():
     """How many proofs may run at a time: as many as RT_JOBS says, or one for each processor and each 4 GB of memory that is free."""
     free = int(re.search(r"MemAvailable:\s+(\d+) kB", Path("/proc/meminfo").read_text()).group(1)) * 1024

@@ -136,6 +136,13 @@ class Trials:
         self.crates = {it.name: it for it in self.rt.rtlib.crates_below(str(copy))}
         self.refused, self.ways, self.unread, self.telling = {}, {}, [], threading.Lock()
 
+    def prove_tests(self, name):
+        """Proves a crate of tests with its tests, some functions at a time, since the cost of one check grows faster than its functions. Returns
+        whether all is proved, and what was said."""
+        ran = self.rt.checked(self.crates[name], {}, [*FLAGS, "--test", "--batches"], None)
+        verdict = ran.stdout.rstrip("\n").split("\n")[-1].split()
+        return not ran.returncode and {"logic=proved", f"tests={tree.tests_in(name)}"} <= {*verdict}, ran.stdout
+
     def is_refused(self, answer):
         """Whether an answer of `rt` to an edit says that the prover refused it, also if only by a limit of its own. A toolchain answers either with
         a word of its own or with yes or no."""
