@@ -217,14 +217,16 @@ class Trials:
                 else:
                     self.tell(edit, self.is_refused(answer), "alone", said.partition(": ")[2])
 
-    def try_all(self, found, are_some_alone=True):
-        """Tries edits, those of a crate that comes first in the list before those of others, as many at a time as there is room for.
+    def try_all(self, found, are_some_alone=True, tests=()):
+        """Tries edits, those of a crate that comes first in the list before those of others, as many at a time as there is room for. Proves these
+        crates of tests beside that, and returns for each of them what `prove_tests` does.
 
         If no edit is to be tried alone, only what is shown together is."""
         by_crate = {}
         for edit in found:
             by_crate.setdefault(edit.crate, []).append(edit)
         with ThreadPoolExecutor(tree.proofs_at_once()) as pool:
+            proofs = {it: pool.submit(self.prove_tests, it) for it in tests}
             together, alone = [], []
 
             def try_rest(crate, rest):
@@ -239,3 +241,4 @@ class Trials:
                 try_rest(crate, trial.result())
             for trial in alone:
                 trial.result()
+            return {it: proof.result() for it, proof in proofs.items()}
