@@ -224,6 +224,12 @@ def told_of_owed(left, record):
     return f"{said}, {len(left) - len(days)} of them never tried{f', the others since {min(days)}' if days else ''}"
 
 
+def known(record, toolchain, found, left):
+    """For those of these edits of which the record says how this toolchain refused them: how. It does not say it of the edits that are left to try."""
+    lines = {it: record[str(it)] for it in found if str(it) in record and it not in left}
+    return {it: line["way"] for it, line in lines.items() if line["toolchain"] == toolchain}
+
+
 def owed(record, toolchain, crates, root=tree.ROOT):
     """The edits of these crates that are owed, those first that are new or whose files changed, then those that were tried longest ago, and last
     those that gave no answer in time.
