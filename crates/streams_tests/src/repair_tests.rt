@@ -97,7 +97,7 @@ fn fails_at(rt: &impl Abort, alloc: Global, puts: &[Delivery], count: usize) {
         stream.repair(0, Node::Two, &mut wire),
         Err(RepairFault::Unreachable)
     );
-    assert_eq!(rt; wire.called().len(), 1 + count);
+    assert!(rt; wire.called().len().checked_sub(1) == Some(count));
     let mut silent = script(rt, alloc, &[], &[false, false]);
     assert_eq!(rt; read(&stream, 0, 0, &mut silent), Told::Unreachable);
     assert_eq!(rt; silent.called().len(), 2);
