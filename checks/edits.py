@@ -224,10 +224,24 @@ def told_of_owed(left, record):
     return f"{said}, {len(left) - len(days)} of them never tried{f', the others since {min(days)}' if days else ''}"
 
 
-def known(record, toolchain, found, left):
-    """For those of these edits of which the record says how this toolchain refused them: how. It does not say it of the edits that are left to try."""
-    lines = {it: record[str(it)] for it in found if str(it) in record and it not in left}
-    return {it: line["way"] for it, line in lines.items() if line["toolchain"] == toolchain}
+def known(record, found, root=tree.ROOT):
+    """For those of these edits of which the record says how they were refused, by any toolchain and as their texts are now: how."""
+    new = {edit for crate in {it.crate for it in found} for _, _, edit in unknown(record, crate, root)}
+    return {it: record[str(it)]["way"] for it in found if it not in new}
+
+
+def unknown(record, crate, root=tree.ROOT):
+    """The edits of a crate of which the record does not say how they were refused as their texts are now, each with its turn: first those that are
+    new or whose files changed, and last those that gave no answer in time; and with the day when it was tried."""
+    digests = Digests(crate, root)
+    for edit in edits_of(crate, root):
+        line, (turned, around) = record.get(str(edit)), digests.of(edit)
+        if not line or line["turned"] != turned:
+            yield 0, "", edit
+        elif line["around"] != around:
+            yield 1, line["day"], edit
+        elif line["way"] == UNANSWERED:
+            yield 3, line["day"], edit
 
 
 def owed(record, toolchain, crates, root=tree.ROOT):
@@ -237,20 +251,11 @@ def owed(record, toolchain, crates, root=tree.ROOT):
     If a crate owes none, and none of its edits was tried with this toolchain, it owes the one that was tried longest ago."""
     found = []
     for crate in crates:
-        digests, lines, late = Digests(crate, root), {}, []
-        for edit in edits_of(crate, root):
-            line, (turned, around) = record.get(str(edit)), digests.of(edit)
-            if not line or line["turned"] != turned:
-                found.append((0, "", edit))
-            elif line["around"] != around:
-                late.append((1, line["day"], edit))
-            elif line["way"] == UNANSWERED:
-                late.append((3, line["day"], edit))
-            else:
-                lines[edit] = line
-        found += late
-        is_new = all(it["toolchain"] != toolchain for it in lines.values())
-        if lines and is_new and not any(it.crate == crate for _, _, it in found):
+        of_crate = [*unknown(record, crate, root)]
+        new = {edit for _, _, edit in of_crate}
+        lines = {it: record[str(it)] for it in edits_of(crate, root) if it not in new}
+        if not of_crate and lines and all(it["toolchain"] != toolchain for it in lines.values()):
             edit = min(lines, key=lambda it: (lines[it]["day"], str(it)))
-            found.append((2, lines[edit]["day"], edit))
+            of_crate = [(2, lines[edit]["day"], edit)]
+        found += of_crate
     return [edit for _, _, edit in sorted(found, key=lambda it: it[:2])]

@@ -136,10 +136,10 @@ class Trials:
         self.crates = {it.name: it for it in self.rt.rtlib.crates_below(str(copy))}
         self.refused, self.ways, self.unread, self.telling = {}, {}, [], threading.Lock()
 
-    def prove_tests(self, name):
+    def prove_tests(self, name, processes):
         """Proves a crate of tests with its tests, some functions at a time, since the cost of one check grows faster than its functions. Returns
         whether all is proved, and what was said."""
-        ran = self.rt.checked(self.crates[name], {}, [*FLAGS, "--test", "--batches"], None)
+        ran = self.rt.checked(self.crates[name], {}, ["--jobs", str(processes), "--test", "--batches"], None)
         verdict = ran.stdout.rstrip("\n").split("\n")[-1].split()
         return not ran.returncode and {"logic=proved", f"tests={tree.tests_in(name)}"} <= {*verdict}, ran.stdout
 
@@ -226,7 +226,9 @@ class Trials:
         for edit in found:
             by_crate.setdefault(edit.crate, []).append(edit)
         with ThreadPoolExecutor(tree.proofs_at_once()) as pool:
-            proofs = {it: pool.submit(self.prove_tests, it) for it in tests}
+            # The largest crate decides when the last proof ends: it comes first, and gets two processes.
+            largest = sorted(tests, key=lambda it: -self.crates[it].count(rb"\n"))
+            proofs = {it: pool.submit(self.prove_tests, it, 2 if it == largest[0] else 1) for it in largest}
             together, alone = [], []
 
             def try_rest(crate, rest):
