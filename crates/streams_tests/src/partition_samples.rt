@@ -1,13 +1,14 @@
 //! Changes of a partition, and the answers of its streams, for tests.
 ghost use Rattle.std.specs.Box.{box_value};
-ghost use Rattle.std.specs.Prelude.{◌≡◌, ◌≤◌, IsSomeAnd, length, map};
+ghost use Rattle.std.specs.Prelude.{◌≡◌, ◌≤◌, IsSomeAnd, None, length, map};
 ghost use Rattle.stamp_types.specs.Changes.{content_of};
 ghost use Rattle.stamp_types.specs.Pieces.{cut, piece_len};
 ghost use Rattle.stamp_types.specs.declared.act.Act.TheVariants as act;
 ghost use Rattle.stamp_values.specs.Limits.{put_blob_limit};
 ghost use Rattle.stream_manager.specs.Streams.{laid};
 ghost use Rattle.partition_stream.specs.Contents.{AreStored};
-ghost use Rattle.partition_stream.specs.Streams.{AreSealed};
+ghost use Rattle.partition_stream.specs.Streams.{AreSealed, logged};
+ghost use Rattle.streams_tests.specs.declared.partition_samples.Told.TheVariants as told;
 
 use crate::put_first::put_and_log;
 use crate::sample_fields::text;
@@ -99,7 +100,9 @@ pub(crate) fn log(
 }
 
 /// Settles the doubt of the log.
-pub(crate) fn settle(streams: &mut Streams, wire: &mut Script) -> Told {
+pub(crate) fn settle(streams: &mut Streams, wire: &mut Script) -> Told
+    ensures sure { result ≡ told.Clean → (logged streams.new).doubt ≡ None }
+{
     match streams.settle(wire) {
         Ok(Settled::Clean) => Told::Clean,
         Ok(Settled::Kept(_)) => Told::Kept,
