@@ -231,8 +231,8 @@ def known(record, found, root=tree.ROOT):
 
 
 def unknown(record, crate, root=tree.ROOT):
-    """The edits of a crate of which the record does not say how they were refused as their texts are now, each with its turn: first those that are
-    new or whose files changed, and last those that gave no answer in time; and with the day when it was tried."""
+    """The edits of a crate of which the record does not say how they were refused as their texts are now. Each comes after its place in the order of
+    trials (0: it or its files are new, 1: what else decides about it changed, 3: it gave no answer in time) and the day of its last trial."""
     digests = Digests(crate, root)
     for edit in edits_of(crate, root):
         line, (turned, around) = record.get(str(edit)), digests.of(edit)
