@@ -166,6 +166,27 @@ def audit_files_that_cannot_be_opened(root, program):
     yield "./stamp serve with an audit file that cannot be opened", ended(tried), (3, b"", wanted)
 
 
+def sizes_of_memory(root, program):
+    """A size that is no size, or that is too small, is told. A server that may take little answers, and takes no more."""
+    for size in ("64m", "63M", "0", "1.5G"):
+        tried = start(root, NEVER_CALLED, program, ["serve", *SERVED], also={"STAMP_MEMORY": size})
+        reason = f"STAMP_MEMORY is a size of at least 64M, as 900M or 4G, and not {size!r}"
+        yield f"./stamp serve with STAMP_MEMORY={size}", ended(tried), (2, b"", f"stamp: {reason}\n")
+    with socket.socket() as free:
+        free.bind(("127.0.0.1", 0))
+        address = free.getsockname()
+    server = start(root, BUILDS, program, ["serve", f"127.0.0.1:{address[1]}", *SERVED[1:]], also={"STAMP_MEMORY": "256M"})
+    server.stdout.readline()
+    limits = Path(f"/proc/{server.pid}/limits").read_text(encoding="utf-8")
+    with socket.create_connection(address) as client:
+        client.settimeout(30)
+        client.sendall(b"GET /devstoreaccount1/pics/a.txt HTTP/1.1\r\nHost: stamp\r\n\r\n")
+        answer = client.recv(12)
+    server.kill()
+    server.communicate()
+    yield "./stamp serve with STAMP_MEMORY=256M", (answer, "268435456" in limits), (b"HTTP/1.1 404", True)
+
+
 def all_starts(program):
     with tempfile.TemporaryDirectory(prefix="stamp-start-") as folder:
         root = Path(folder).resolve() / "clone"
@@ -173,5 +194,5 @@ def all_starts(program):
         make_path(root.parent / "path")
         for name in ("bin", "room"):
             (root.parent / name).mkdir()
-        for tried in (what_is_missing, what_cannot_be_kept, builds_that_fail, good_builds, bad_words, addresses_that_cannot_be_taken, audit_files_that_cannot_be_opened):
+        for tried in (what_is_missing, what_cannot_be_kept, builds_that_fail, good_builds, bad_words, addresses_that_cannot_be_taken, audit_files_that_cannot_be_opened, sizes_of_memory):
             yield from tried(root, program)

@@ -14,6 +14,10 @@ NAMES = ("ADDRESS", "WORKERS", "ACCOUNT", "KEY1", "KEY2")
 WORKERS, ACCOUNT = re.compile(r"[1-9]|[1-5][0-9]|6[0-4]"), re.compile(r"[a-z0-9]{3,24}")
 ADDRESS = re.compile(r"(.+):(\d+)")
 EMPTY = "is empty, and whoever guesses that can sign for the account. To have one key only, give it twice"
+# How much address space a server may take: STAMP_MEMORY is a number of bytes, or of units of 1,024, 1,048,576 or 1,073,741,824 bytes.
+SIZE, UNITS = re.compile(r"([1-9][0-9]{0,15})([KMG]?)"), {"": 1, "K": 1 << 10, "M": 1 << 20, "G": 1 << 30}
+# A server of one worker starts with less, but then has no room for a request.
+LEAST_MEMORY = 64 << 20
 
 
 def is_padded_base64(word):
@@ -79,9 +83,23 @@ def why_not_opened(file):
         return error.strerror
 
 
+def size_of(text):
+    """How many bytes a text as `512M` says, or None if it says no size."""
+    parts = SIZE.fullmatch(text)
+    return int(parts[1]) * UNITS[parts[2]] if parts else None
+
+
+def fault_of_memory():
+    """What is wrong with STAMP_MEMORY, or None."""
+    text = os.environ.get("STAMP_MEMORY")
+    if not text or (size_of(text) or 0) >= LEAST_MEMORY:
+        return None
+    return f"STAMP_MEMORY is a size of at least 64M, as 900M or 4G, and not {text!r}"
+
+
 def fault_of_serve(words):
     """What is wrong with the words after `serve`: the status and the reason, or None if the program can be started."""
-    fault = fault_of_words(words) or empty_key(words)
+    fault = fault_of_words(words) or empty_key(words) or fault_of_memory()
     if fault:
         return USAGE, fault
     file = os.environ.get("STAMP_AUDIT")
