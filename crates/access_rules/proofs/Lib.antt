@@ -1,4 +1,5 @@
 pub mod ClaimLemmas
+pub mod CompareLemmas
 pub mod DateLemmas
 pub mod JudgeLemmas
 pub mod KeyLemmas

@@ -57,6 +57,22 @@ pub(crate) fn is_far(now: Moment, date: Moment) -> bool
     date + LEEWAY < now || now + LEEWAY < date
 }
 
+// Whether the bytes are equal. If there are as many, all are compared: the time tells nobody where the first difference is, so nobody can guess a
+// signature byte by byte.
+#[tactic(auto, using(crate::proofs::CompareLemmas::one_byte_more))]
+fn same_bytes(one: &[u8], other: &[u8]) -> bool
+    ensures { result ≡ bytes_eq one.now other.now }
+{
+    if one.len() != other.len() {
+        return false;
+    }
+    let mut same = true;
+    for at in 0..one.len() {
+        same &= one[at] == other[at];
+    }
+    same
+}
+
 // Whether the key gives the signature. Signatures are compared as texts, so a text that is not Base64 is only a wrong signature.
 fn gives(
     alloc: Global,
@@ -68,7 +84,7 @@ fn gives(
         same ≡ bytes_eq signature.now (signature_of key.now string.now)) }
 {
     let text = key.sign(alloc, string)?;
-    Ok(signature == text.as_bytes())
+    Ok(same_bytes(signature, text.as_bytes()))
 }
 
 /// Whether one of the two keys gives this signature for the string.
