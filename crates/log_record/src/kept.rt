@@ -91,7 +91,7 @@ impl Recorded for Props {
         let language = Visible::read(alloc, left)?;
         let md5 = read_md5(alloc, left)?;
         let cache_control = Visible::read(alloc, left)?;
-        match Props::from_parts(content_type, encoding, language, cache_control, md5) {
+        match Props::from_parts(alloc, content_type, encoding, language, cache_control, md5)? {
             Some(props) => Ok(props),
             None => Err(RecordFault::Form),
         }

@@ -168,7 +168,7 @@ impl Recorded for Metadata {
 
     #[tactic(auto, unfolding(crate::specs::ReadFields::metadata_at))]
     fn read(alloc: Global, left: &mut Left<'_>) -> Result<Self, RecordFault> {
-        match Metadata::new(Items::new(read_list(alloc, left)?)) {
+        match Metadata::new(alloc, Items::new(read_list(alloc, left)?))? {
             Some(metadata) => Ok(metadata),
             None => Err(RecordFault::Form),
         }

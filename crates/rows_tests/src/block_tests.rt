@@ -130,7 +130,7 @@ fn commit(rt: &impl Abort, alloc: Global, blob: &str, list: &[Entry]) -> Act {
         blob: text(rt, alloc, blob),
         moment: moment(rt),
         props: props(rt, alloc),
-        metadata: Metadata::empty(alloc),
+        metadata: Metadata::empty(),
         entries: entries(rt, alloc, list),
     })
 }
@@ -334,7 +334,7 @@ fn one_block(rt: &impl Abort, alloc: Global, count: u64) -> Rows {
 
 // The refusal of a Put Block under this id.
 fn refusal(rt: &impl Abort, alloc: Global, rows: &Rows, bytes: &[u8]) -> Option<Refusal> {
-    let mut args = Args::none(alloc);
+    let mut args = Args::none();
     args.block = Some(id(rt, alloc, bytes));
     let ask = asked(rt, alloc, Op::PutBlock, "pics", "a", args);
     let request = Request::new(alloc, ask, Body::empty()).expect(rt, "memory");

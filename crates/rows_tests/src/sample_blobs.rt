@@ -46,7 +46,9 @@ pub(crate) fn long_content(rt: &impl Abort, alloc: Global, count: usize) -> Piec
 fn props(rt: &impl Abort, alloc: Global) -> Props {
     let octets = Visible::octet_stream(alloc).expect(rt, "memory");
     let empty = || Visible::empty(alloc);
-    Props::from_parts(octets, empty(), empty(), empty(), None).expect(rt, "props")
+    Props::from_parts(alloc, octets, empty(), empty(), empty(), None)
+        .expect(rt, "memory")
+        .expect(rt, "props")
 }
 
 pub(crate) fn put_blob(rt: &impl Abort, alloc: Global, text: &str) -> PutBlob {
@@ -54,7 +56,7 @@ pub(crate) fn put_blob(rt: &impl Abort, alloc: Global, text: &str) -> PutBlob {
         blob: Text::empty(alloc),
         moment: Moment::first(),
         props: props(rt, alloc),
-        metadata: Metadata::empty(alloc),
+        metadata: Metadata::empty(),
         content: content(rt, alloc, text),
     }
 }
@@ -66,7 +68,7 @@ pub(crate) fn put_block_list(rt: &impl Abort, alloc: Global, entries: Items<Take
         blob: Text::empty(alloc),
         moment: Moment::first(),
         props: props(rt, alloc),
-        metadata: Metadata::empty(alloc),
+        metadata: Metadata::empty(),
         entries,
     }
 }
@@ -75,6 +77,6 @@ pub(crate) fn set_metadata(alloc: Global) -> SetMetadata {
     SetMetadata {
         blob: Text::empty(alloc),
         moment: Moment::first(),
-        metadata: Metadata::empty(alloc),
+        metadata: Metadata::empty(),
     }
 }

@@ -76,7 +76,9 @@ pub(crate) fn props(rt: &impl Abort, alloc: Global) -> Props {
     let kept = visible(rt, alloc, "text/plain");
     let (encoding, language) = (visible(rt, alloc, ""), visible(rt, alloc, ""));
     let cache_control = visible(rt, alloc, "");
-    Props::from_parts(kept, encoding, language, cache_control, None).expect(rt, "props")
+    Props::from_parts(alloc, kept, encoding, language, cache_control, None)
+        .expect(rt, "memory")
+        .expect(rt, "props")
 }
 
 /// Metadata of one name, which has this value.
@@ -86,7 +88,9 @@ pub(crate) fn author(rt: &impl Abort, alloc: Global, value: &str) -> Metadata {
         value: visible(rt, alloc, value),
     };
     let metas = vec![in alloc; meta].expect(rt, "memory");
-    Metadata::new(Items::new(metas)).expect(rt, "good metadata")
+    Metadata::new(alloc, Items::new(metas))
+        .expect(rt, "memory")
+        .expect(rt, "good metadata")
 }
 
 // The metadata that a Put Blob brings: one name. Other operations bring no metadata.
@@ -94,7 +98,7 @@ fn metadata(rt: &impl Abort, alloc: Global, op: Op) -> Metadata {
     if op == Op::PutBlob {
         author(rt, alloc, "me")
     } else {
-        Metadata::empty(alloc)
+        Metadata::empty()
     }
 }
 
@@ -109,14 +113,16 @@ fn meta(rt: &impl Abort, alloc: Global, name: &str, value: &str) -> Meta {
 /// and the other values are the word. Operations that keep no metadata bring no metadata.
 pub(crate) fn four_names(rt: &impl Abort, alloc: Global, op: Op, word: &str) -> Metadata {
     if !op.keeps_metadata() {
-        return Metadata::empty(alloc);
+        return Metadata::empty();
     }
     let mut metas = Vec::with_capacity(alloc, 4).expect(rt, "memory");
     for (name, value) in [("_a", word), ("a1", word), ("a_", ""), ("ab", word)] {
         let meta = meta(rt, alloc, name, value);
         metas.push(meta).expect(rt, "memory");
     }
-    Metadata::new(Items::new(metas)).expect(rt, "good metadata")
+    Metadata::new(alloc, Items::new(metas))
+        .expect(rt, "memory")
+        .expect(rt, "good metadata")
 }
 
 fn args(alloc: Global, op: Op, content_md5: Option<Sum>, metadata: Metadata) -> Args {
@@ -207,7 +213,7 @@ pub(crate) fn list_request(
     key: Key,
     page: Page,
 ) -> Request {
-    let mut args = args(alloc, op, None, Metadata::empty(alloc));
+    let mut args = args(alloc, op, None, Metadata::empty());
     args.page = Some(page);
     let mut ask = asked(rt, alloc, op, "", "", args);
     ask.key = key;
@@ -220,7 +226,7 @@ fn closed(rt: &impl Abort, alloc: Global) -> Standing {
     Standing {
         etag: 1,
         made: moment(rt),
-        metadata: Metadata::empty(alloc),
+        metadata: Metadata::empty(),
         acl: Acl {
             level: Level::Closed,
             policies: Policies::empty(alloc),

@@ -2,7 +2,6 @@
 ghost use Rattle.std.specs.Prelude.{◌≡◌, [], None};
 
 use stamp_values::{BlockId, BlockKinds, ByteRange, Condition, Level, Metadata, Text, Visible};
-use std::alloc::Global;
 
 /// The headers that a blob is to keep. A header that wasn't sent is empty, and so is the content
 /// type: `Props::new` replaces an empty content type.
@@ -52,8 +51,8 @@ pub struct Args {
 }
 
 impl Args {
-    /// Nothing comes with the request.
-    pub fn none(alloc: Global) -> Self
+    /// Nothing comes with the request. Takes no memory.
+    pub fn none() -> Self
         ensures conditions { (result.if_match ≡ None) × (result.if_none_match ≡ None) }
         ensures content_md5 { result.content_md5 ≡ None }
         ensures range { result.range ≡ None }
@@ -70,7 +69,7 @@ impl Args {
             content_md5: None,
             range: None,
             kept: None,
-            metadata: Metadata::empty(alloc),
+            metadata: Metadata::empty(),
             level: None,
             page: None,
             block: None,

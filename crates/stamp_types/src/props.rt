@@ -1,16 +1,15 @@
 //! The headers that are kept with a blob.
-ghost use Rattle.std.specs.Prelude.{◌≡◌, ◌↔◌, IsSome, IfSome, IfOk, IsTrue};
+ghost use Rattle.std.specs.Prelude.{◌≡◌, ◌↔◌, IsErr, IsSome, IfSome, IfOk, IsTrue};
 ghost use Rattle.stamp_types.specs.PropsFields.{is_kept_text, is_kept, is_props, type_or_default, md5_or, kept_fields};
 
 use crate::args::Kept;
-use stamp_values::{KEPT_LIMIT, Visible};
+use stamp_values::{KEPT_LIMIT, Shared, Visible};
 use std::alloc::{AllocError, Global};
 use std::marker::Model;
 
-/// The headers that are kept with a blob. The content type is never empty, and each text has at
-/// most 16,384 bytes.
+// The headers, as they are shared.
 #[derive(PartialEq, Eq, Drop)]
-pub struct Props {
+struct Parts {
     content_type: Visible,
     encoding: Visible,
     language: Visible,
@@ -18,9 +17,8 @@ pub struct Props {
     md5: Option<[u8; 16]>,
 }
 
-impl Model for Props {
-    ghost use Rattle.std.specs.Prelude.{IsTrue};
-    ghost use Rattle.stamp_types.specs.PropsFields.{PropsFields, is_props};
+impl Model for Parts {
+    ghost use Rattle.stamp_types.specs.PropsFields.{PropsFields};
 
     ghost Value = { PropsFields };
 
@@ -32,14 +30,6 @@ impl Model for Props {
       md5 = p.md5;
     } };
 
-    ghost invariant = { λ p. IsTrue (is_props (record {
-      content_type = p.content_type;
-      encoding = p.encoding;
-      language = p.language;
-      cache_control = p.cache_control;
-      md5 = p.md5;
-    })) };
-
     ghost inverse = { λ v. record {
       content_type = v.content_type;
       encoding = v.encoding;
@@ -49,18 +39,26 @@ impl Model for Props {
     } };
 }
 
-impl Clone for Props {
-    ghost is_clone = { λ x y. y ≡ x };
+/// The headers that are kept with a blob. The content type is never empty, and each text has at
+/// most 16,384 bytes.
+///
+/// A copy is one more owner of the same headers: it takes no memory.
+#[derive(Clone, PartialEq, Eq, Drop)]
+pub struct Props {
+    parts: Shared<Parts>,
+}
 
-    fn clone(&self) -> Result<Self, AllocError> {
-        Ok(Self {
-            content_type: self.content_type.clone()?,
-            encoding: self.encoding.clone()?,
-            language: self.language.clone()?,
-            cache_control: self.cache_control.clone()?,
-            md5: self.md5,
-        })
-    }
+impl Model for Props {
+    ghost use Rattle.std.specs.Prelude.{IsTrue};
+    ghost use Rattle.stamp_types.specs.PropsFields.{PropsFields, is_props};
+
+    ghost Value = { PropsFields };
+
+    ghost view = { λ p. p.parts };
+
+    ghost invariant = { λ p. IsTrue (is_props p.parts) };
+
+    ghost inverse = { λ v. record { parts = v } };
 }
 
 fn is_kept_text(text: &Visible) -> bool
@@ -79,65 +77,87 @@ fn type_or_default(alloc: Global, content_type: Visible) -> Result<Visible, Allo
     }
 }
 
+// Whether the headers are within their limits.
+fn is_props(parts: &Parts) -> bool
+    ensures { result ≡ is_props parts.now }
+{
+    !parts.content_type.as_str().is_empty()
+        && is_kept_text(&parts.content_type)
+        && is_kept_text(&parts.encoding)
+        && is_kept_text(&parts.language)
+        && is_kept_text(&parts.cache_control)
+}
+
 impl Props {
     /// What a request asks to be kept. An empty content type becomes `application/octet-stream`. If
     /// the request asks for no MD5, `otherwise` is kept: on Put Blob the MD5 of the body, on Put
     /// Block List no MD5.
     ///
-    /// `AllocError` if memory runs out for the default type.
+    /// `AllocError` if memory runs out for the default type, or for the allocation that shares the
+    /// headers.
     pub fn new(alloc: Global, kept: Kept, otherwise: Option<[u8; 16]>) -> Result<Self, AllocError>
         requires { IsTrue (is_kept kept) }
         ensures { IfOk result (λ p. p ≡ kept_fields kept otherwise) }
     {
-        Ok(Self {
+        let parts = Parts {
             content_type: type_or_default(alloc, kept.content_type)?,
             encoding: kept.encoding,
             language: kept.language,
             cache_control: kept.cache_control,
             md5: kept.md5.or(otherwise),
+        };
+        Ok(Self {
+            parts: Shared::new(alloc, parts)?,
         })
     }
 
     /// The headers as a record of the log has them, or `None` if the content type is empty, or if a
     /// text has more than 16,384 bytes.
+    ///
+    /// `AllocError` if memory runs out for the allocation that shares them.
     pub fn from_parts(
+        alloc: Global,
         content_type: Visible,
         encoding: Visible,
         language: Visible,
         cache_control: Visible,
         md5: Option<[u8; 16]>,
-    ) -> Option<Self>
-        ensures valid { IsSome result ↔ IsTrue (is_props (record {
+    ) -> Result<Option<Self>, AllocError>
+        ensures valid { IfOk result (λ o. IsSome o ↔ IsTrue (is_props (record {
+          content_type = content_type;
+          encoding = encoding;
+          language = language;
+          cache_control = cache_control;
+          md5 = md5;
+        }))) }
+        ensures value { IfOk result (λ o. IfSome o (λ p. p ≡ record {
           content_type = content_type;
           encoding = encoding;
           language = language;
           cache_control = cache_control;
           md5 = md5;
         })) }
-        ensures value { IfSome result (λ p. p ≡ record {
+        ensures refused { IsErr result → IsTrue (is_props (record {
           content_type = content_type;
           encoding = encoding;
           language = language;
           cache_control = cache_control;
           md5 = md5;
-        }) }
+        })) }
     {
-        if !content_type.as_str().is_empty()
-            && is_kept_text(&content_type)
-            && is_kept_text(&encoding)
-            && is_kept_text(&language)
-            && is_kept_text(&cache_control)
-        {
-            Some(Self {
-                content_type,
-                encoding,
-                language,
-                cache_control,
-                md5,
-            })
-        } else {
-            None
+        let parts = Parts {
+            content_type,
+            encoding,
+            language,
+            cache_control,
+            md5,
+        };
+        if !is_props(&parts) {
+            drop(parts);
+            return Ok(None);
         }
+        let parts = Shared::new(alloc, parts)?;
+        Ok(Some(Self { parts }))
     }
 
     /// Never empty (Content-Type).
@@ -145,34 +165,34 @@ impl Props {
         ensures value { result.now ≡ self.now.content_type }
         ensures valid { IsTrue (is_props self.now) }
     {
-        &self.content_type
+        &self.parts.get().content_type
     }
 
     /// Content-Encoding.
     pub fn encoding(&self) -> &Visible
         ensures { result.now ≡ self.now.encoding }
     {
-        &self.encoding
+        &self.parts.get().encoding
     }
 
     /// Content-Language.
     pub fn language(&self) -> &Visible
         ensures { result.now ≡ self.now.language }
     {
-        &self.language
+        &self.parts.get().language
     }
 
     /// Cache-Control.
     pub fn cache_control(&self) -> &Visible
         ensures { result.now ≡ self.now.cache_control }
     {
-        &self.cache_control
+        &self.parts.get().cache_control
     }
 
     /// The 16 bytes of Content-MD5.
     pub fn md5(&self) -> Option<[u8; 16]>
         ensures { result ≡ self.now.md5 }
     {
-        self.md5
+        self.parts.get().md5
     }
 }

@@ -28,7 +28,7 @@ pub(crate) fn set_container_metadata(rt: &impl Abort, alloc: Global) -> Act {
     let metas = vec![in alloc; color, size].expect(rt, "memory");
     Act::SetContainerMetadata(SetContainerMetadata {
         moment: noon(rt),
-        metadata: metadata(rt, metas),
+        metadata: metadata(rt, alloc, metas),
     })
 }
 

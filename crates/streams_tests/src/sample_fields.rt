@@ -42,14 +42,16 @@ pub(crate) fn meta(rt: &impl Abort, alloc: Global, name: &str, value: &str) -> M
     }
 }
 
-pub(crate) fn metadata(rt: &impl Abort, metas: Vec<Meta>) -> Metadata {
-    Metadata::new(Items::new(metas)).expect(rt, "good metadata")
+pub(crate) fn metadata(rt: &impl Abort, alloc: Global, metas: Vec<Meta>) -> Metadata {
+    Metadata::new(alloc, Items::new(metas))
+        .expect(rt, "memory")
+        .expect(rt, "good metadata")
 }
 
 // Metadata of one name.
 pub(crate) fn red(rt: &impl Abort, alloc: Global) -> Metadata {
     let metas = vec![in alloc; meta(rt, alloc, "color", "red")].expect(rt, "memory");
-    metadata(rt, metas)
+    metadata(rt, alloc, metas)
 }
 
 fn readers(rt: &impl Abort, alloc: Global) -> Policy {
@@ -108,24 +110,28 @@ pub(crate) fn acl_with_expiries(rt: &impl Abort, alloc: Global, level: Level) ->
 // Kept headers with an MD5.
 pub(crate) fn plain(rt: &impl Abort, alloc: Global) -> Props {
     Props::from_parts(
+        alloc,
         visible(rt, alloc, "text/plain"),
         visible(rt, alloc, "gzip"),
         visible(rt, alloc, "en"),
         visible(rt, alloc, "no-cache"),
         Some([0, 1, 2, 3, 4, 5, 6, 7, 8, 9, 10, 11, 12, 13, 14, 15]),
     )
+    .expect(rt, "memory")
     .expect(rt, "kept headers")
 }
 
 // Kept headers with a content type alone.
 pub(crate) fn bare(rt: &impl Abort, alloc: Global) -> Props {
     Props::from_parts(
+        alloc,
         visible(rt, alloc, "t"),
         visible(rt, alloc, ""),
         visible(rt, alloc, ""),
         visible(rt, alloc, ""),
         None,
     )
+    .expect(rt, "memory")
     .expect(rt, "kept headers")
 }
 

@@ -85,7 +85,7 @@ fn signing(rt: &impl Abort, alloc: Global, dated: Dated) -> Signing {
 
 // What the operation cannot come without.
 fn args(rt: &impl Abort, alloc: Global, op: Op, kinds: Option<BlockKinds>) -> Args {
-    let mut args = Args::none(alloc);
+    let mut args = Args::none();
     args.kinds = kinds;
     match op {
         Op::PutBlob | Op::PutBlockList => args.kept = Some(kept(alloc)),
@@ -176,7 +176,7 @@ pub(crate) fn get_with(rt: &impl Abort, alloc: Global, query: &[(&str, &str)]) -
             container: text(rt, alloc, "pics"),
         },
         blob: Some(text(rt, alloc, "a.txt")),
-        args: Args::none(alloc),
+        args: Args::none(),
         signing: Signing {
             verb: Verb::Get,
             headers: FieldList::new(alloc),

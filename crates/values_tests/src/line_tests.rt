@@ -91,7 +91,7 @@ fn get_named(rt: &impl Abort, alloc: Global, name: &str) -> Request {
             container: text(rt, alloc, "pics"),
         },
         blob: Some(text(rt, alloc, name)),
-        args: Args::none(alloc),
+        args: Args::none(),
         signing: Signing {
             verb: Verb::Get,
             headers: FieldList::new(alloc),

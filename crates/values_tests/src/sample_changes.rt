@@ -23,12 +23,14 @@ pub(crate) fn five_in(rt: &impl Abort, alloc: Global, extent: u64) -> Pieces
 
 fn props(rt: &impl Abort, alloc: Global) -> Props {
     Props::from_parts(
+        alloc,
         visible(rt, alloc, "text/plain"),
         visible(rt, alloc, "gzip"),
         visible(rt, alloc, "en"),
         visible(rt, alloc, "no-cache"),
         Some([7; 16]),
     )
+    .expect(rt, "memory")
     .expect(rt, "props")
 }
 

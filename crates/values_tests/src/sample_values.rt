@@ -3,8 +3,8 @@
 ghost use Rattle.std.specs.Prelude.{◌≡◌};
 
 use stamp_types::{
-    Acl, BlockId, Bytes, Items, Kept, Key, Level, Meta, Metadata, Moment, Policies, Policy, Share,
-    Shares, Text, Visible,
+    Acl, BlockId, Bytes, Items, Kept, Key, Level, Meta, Metadata, Moment, Policies, Policy, Props,
+    Share, Shares, Text, Visible,
 };
 use std::alloc::Global;
 use std::process::Abort;
@@ -39,7 +39,37 @@ pub(crate) fn metadata(rt: &impl Abort, alloc: Global) -> Metadata {
     let name = text(rt, alloc, "colour");
     let value = visible(rt, alloc, "red");
     let metas = vec![in alloc; Meta { name, value }].expect(rt, "memory");
-    Metadata::new(Items::new(metas)).expect(rt, "good metadata")
+    Metadata::new(alloc, Items::new(metas))
+        .expect(rt, "memory")
+        .expect(rt, "good metadata")
+}
+
+// As many letters.
+pub(crate) fn long_visible(rt: &impl Abort, alloc: Global, count: usize) -> Visible {
+    let mut letters = String::new(alloc);
+    for _letter in 0..count {
+        letters.push('a').expect(rt, "memory");
+    }
+    Visible::new(Text::new(letters).expect(rt, "a clean text")).expect(rt, "a visible text")
+}
+
+// Metadata of one name, with the longest value.
+pub(crate) fn long_metadata(rt: &impl Abort, alloc: Global) -> Metadata {
+    let name = text(rt, alloc, "a");
+    let value = long_visible(rt, alloc, 8191);
+    let metas = vec![in alloc; Meta { name, value }].expect(rt, "memory");
+    Metadata::new(alloc, Items::new(metas))
+        .expect(rt, "memory")
+        .expect(rt, "good metadata")
+}
+
+// Kept headers, with the longest content type.
+pub(crate) fn long_props(rt: &impl Abort, alloc: Global) -> Props {
+    let content_type = long_visible(rt, alloc, 16_384);
+    let empty = || Visible::empty(alloc);
+    Props::from_parts(alloc, content_type, empty(), empty(), empty(), None)
+        .expect(rt, "memory")
+        .expect(rt, "props")
 }
 
 // One stored policy, which gives only an expiry.

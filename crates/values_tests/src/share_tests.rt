@@ -2,7 +2,7 @@
 //! text, and memory.
 
 use crate::resident::resident;
-use crate::sample_values::{long_share, share, shares};
+use crate::sample_values::{long_metadata, long_props, long_share, share, shares};
 use stamp_types::{Body, Gathering, Share};
 use std::alloc::Global;
 use std::process::Abort;
@@ -140,4 +140,38 @@ fn shares_take_no_memory(rt: HostRuntime) {
     assert!(rt; more < 8 * 1024, "{more} kB more than {before} kB");
     // All bodies and slices are still owned here.
     assert!(rt; bodies.len() + slices.len() == 2000);
+}
+
+#[test]
+fn copies_of_metadata_take_no_memory(rt: HostRuntime) {
+    let alloc = rt.alloc();
+    let metadata = long_metadata(&rt, alloc);
+    let before = resident(&rt).expect(&rt, "a status");
+    let mut copies = Vec::new(alloc);
+    for _turn in 0..1000 {
+        copies
+            .push(metadata.clone().expect(&rt, "memory"))
+            .expect(&rt, "memory");
+    }
+    let more = resident(&rt).expect(&rt, "a status").saturating_sub(before);
+    assert!(rt; more < 1024, "{more} kB more than {before} kB");
+    // All copies are still owned here.
+    assert!(rt; copies.len() == 1000 && copies.iter().all(|copy| *copy == metadata));
+}
+
+#[test]
+fn copies_of_kept_headers_take_no_memory(rt: HostRuntime) {
+    let alloc = rt.alloc();
+    let props = long_props(&rt, alloc);
+    let before = resident(&rt).expect(&rt, "a status");
+    let mut copies = Vec::new(alloc);
+    for _turn in 0..1000 {
+        copies
+            .push(props.clone().expect(&rt, "memory"))
+            .expect(&rt, "memory");
+    }
+    let more = resident(&rt).expect(&rt, "a status").saturating_sub(before);
+    assert!(rt; more < 1024, "{more} kB more than {before} kB");
+    // All copies are still owned here.
+    assert!(rt; copies.len() == 1000 && copies.iter().all(|copy| *copy == props));
 }

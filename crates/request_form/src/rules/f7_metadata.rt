@@ -168,7 +168,7 @@ fn kept_metadata(alloc: Global, fields: &[FieldRef<'_>]) -> Result<Metadata, Val
     let Some(metas) = metas(alloc, fields)? else {
         return Err(ValueFault::Refused(Code::InvalidMetadata));
     };
-    match Metadata::new(Items::new(metas)) {
+    match Metadata::new(alloc, Items::new(metas))? {
         Some(metadata) => Ok(metadata),
         None => Err(ValueFault::Refused(Code::InvalidMetadata)),
     }
@@ -196,5 +196,5 @@ pub(crate) fn read_metadata(
     if !are_metadata(&sent) {
         return Err(ValueFault::Refused(Code::InvalidMetadata));
     }
-    Ok(Metadata::empty(alloc))
+    Ok(Metadata::empty())
 }

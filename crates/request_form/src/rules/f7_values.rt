@@ -247,7 +247,7 @@ fn good_args(alloc: Global, op: Op, fields: &FieldList) -> Result<Args, ValueFau
         content_md5,
         range: range_by(op, fields),
         kept,
-        metadata: Metadata::empty(alloc),
+        metadata: Metadata::empty(),
         level,
         page: None,
         block: None,
