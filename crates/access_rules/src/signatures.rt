@@ -8,31 +8,28 @@ ghost use Rattle.access_rules.specs.Signatures.{has_true_signature, IsSigned};
 use crate::key_route::is_true_claim;
 use crate::keys::Keys;
 use crate::token_route::is_true_token;
-use stamp_types::{Credential, Request};
+use stamp_types::{Ask, Credential, Request};
 use std::alloc::{AllocError, Global};
 
 /// Whether the signature that the request brings, by the key of an account or by a token, is true under these keys. `None` if there
 /// is no signature to judge: the request brings none, the claim or the token is not in its form, `keys` are not the keys of the
 /// path's account, or a token is not for what the request names.
 ///
-/// Keys and request alone decide: the answer is the same for any container and at any moment, so it can be asked for before a lock
-/// is taken. It says at once what `has_true_signature` and `has_false_signature` say.
+/// Keys and what is asked alone decide: the answer is the same for any body and any container and at any moment, so it can be asked
+/// for once the head is read, and before a lock is taken. It says at once what `has_true_signature` and `has_false_signature` say.
 ///
 /// `AllocError` if memory runs out for the string to sign or for a signature.
 pub fn is_true_signature(
     alloc: Global,
     keys: Option<&Keys>,
-    request: &Request,
+    ask: &Ask,
 ) -> Result<Option<bool>, AllocError>
     ensures true_one { IfOk result (λ it.
-        some_passes (λ is. is) it ≡ has_true_signature (option_copied keys.entry) request.now.ask) }
+        some_passes (λ is. is) it ≡ has_true_signature (option_copied keys.entry) ask.now) }
     ensures false_one { IfOk result (λ it.
-        some_passes (λ is. not is) it
-        ≡ has_false_signature (option_copied keys.entry) request.now.ask) }
-    ensures memory { IsErr result
-        → IsTrue (has_signature (option_copied keys.entry) request.now.ask) }
+        some_passes (λ is. not is) it ≡ has_false_signature (option_copied keys.entry) ask.now) }
+    ensures memory { IsErr result → IsTrue (has_signature (option_copied keys.entry) ask.now) }
 {
-    let ask = request.ask();
     match &ask.credential {
         Credential::Shared(values) => is_true_claim(alloc, keys, ask, values.as_slice()),
         Credential::Token => is_true_token(alloc, keys, ask),
@@ -57,7 +54,7 @@ pub fn has_true_signature(
     ensures memory { IsErr result
         → IsTrue (has_signature (option_copied keys.entry) request.now.ask) }
 {
-    match is_true_signature(alloc, keys, request)? {
+    match is_true_signature(alloc, keys, request.ask())? {
         Some(is_true) => Ok(is_true),
         None => Ok(false),
     }
@@ -81,7 +78,7 @@ pub fn has_false_signature(
     ensures memory { IsErr result
         → IsTrue (has_signature (option_copied keys.entry) request.now.ask) }
 {
-    match is_true_signature(alloc, keys, request)? {
+    match is_true_signature(alloc, keys, request.ask())? {
         Some(is_true) => Ok(!is_true),
         None => Ok(false),
     }

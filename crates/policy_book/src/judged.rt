@@ -51,7 +51,7 @@ impl Model for Judged {
 fn found(alloc: Global, keys: &Keys, request: &Request) -> Result<Signature, AllocError>
     ensures { IfOk result (λ s. s ≡ signature_under keys.now request.now.ask) }
 {
-    match is_true_signature(alloc, Some(keys), request)? {
+    match is_true_signature(alloc, Some(keys), request.ask())? {
         Some(true) => Ok(Signature::True),
         Some(false) => Ok(Signature::False),
         None => Ok(Signature::Unjudged),
