@@ -1,7 +1,7 @@
 //! Workers over a small source: each connection waits twice and is given again, and the fault of one ends only that one.
 ghost use Rattle.std.specs.Prelude.{⊤};
 
-use http_front::{Clock, End, FrontFault, Link, Over, Service, Source, work};
+use http_front::{Clock, End, FrontFault, Link, Over, Rooms, Service, Source, work};
 use stamp_types::{Code, Moment, Refusal, Reply, Request, Rule};
 use std::alloc::{AllocError, Global};
 use std::collections::VecDeque;
@@ -11,7 +11,10 @@ use std::sync::{Mutex, Wait};
 use std::test::Fail;
 
 /// How many bytes of a body each connection may have.
-const ROOM: usize = 16;
+const ROOMS: Rooms = Rooms {
+    admitted: 16,
+    others: 16,
+};
 
 /// A request in three parts. A connection waits after the first and after the second.
 const PARTS: [&[u8]; 3] = [b"GET /acct/box", b"/b HTTP/1.1\r\n", b"\r\n"];
@@ -118,9 +121,9 @@ struct Two<'a, R: Wait> {
 }
 
 impl<'a, R: Wait> Source<ScriptLink, Over<Script, Nowhere, Start, Refuses>> for Two<'a, R> {
-    fn next(&self) -> Option<(ScriptLink, usize)> {
+    fn next(&self) -> Option<(ScriptLink, Rooms)> {
         let link = self.known.lock(self.rt).ready.pop_front()?;
-        Some((link, ROOM))
+        Some((link, ROOMS))
     }
 
     fn waits(&self, link: ScriptLink) {

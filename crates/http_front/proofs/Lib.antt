@@ -1,3 +1,4 @@
+pub mod AdmissionLemmas
 pub mod BeforeLemmas
 pub mod BufferLemmas
 pub mod ConnectionLemmas

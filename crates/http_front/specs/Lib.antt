@@ -1,3 +1,4 @@
+pub mod Admissions
 pub mod Answers
 pub mod Befores
 pub mod Calls

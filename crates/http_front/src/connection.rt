@@ -1,12 +1,14 @@
 //! One connection: what was read of it, and what was written to it.
-ghost use Rattle.std.specs.Prelude.{◌≡◌, ◌≢◌, true, false, ◌+◌, ◌*◌, ◌<◌, ◌≤◌, [], ◌++◌, Ok, Err, IfOk, OnOk, IfErr, OnErr, IsOkUnless, length, take, drop};
+ghost use Rattle.std.specs.Prelude.{◌≡◌, ◌≢◌, true, false, ◌+◌, ◌*◌, ◌<◌, ◌≤◌, [], ◌++◌, Ok, Err, IfOk, OnOk, IfErr, OnErr, IsOkUnless, None, length, take, drop};
 ghost use Rattle.request_form.specs.HeadForms.{with_body};
+ghost use Rattle.http_front.specs.Admissions.{ReadsAdmitted, admitted_by, item_admitted};
 ghost use Rattle.http_front.specs.Connections.{fresh_connection, IsTold, ConnectionState, GivesByte, GivesBytes, GivesUp, IsOpen, Leaves, LeavesRead, LeavesTry};
 ghost use Rattle.http_front.specs.Connections.{LeavesWriter, ReadsOn, Sends, SendsFront, StopsWriting};
 ghost use Rattle.http_front.specs.HeadEnds.{IsSearched};
 ghost use Rattle.http_front.specs.Inputs.{IsFoundInBuffer, LeavesAwaited};
 ghost use Rattle.http_front.specs.Stages.{IsCallOf, IsPartial, IsShort, LeavesBody, LeavesFound, ReadsFound, Suspends, TakesWork, item_work};
 ghost use Rattle.http_front.specs.Streams.{HasHead, interim};
+ghost use Rattle.http_front.specs.declared.admission.Admission.{Admission};
 ghost use Rattle.http_front.specs.declared.counted.Input.{Input};
 ghost use Rattle.http_front.specs.declared.counted.Output.{Output};
 ghost use Rattle.http_front.specs.declared.counted.Came.{Came};
@@ -14,6 +16,7 @@ ghost use Rattle.http_front.specs.declared.end.FrontFault.{FrontFault};
 ghost use Rattle.http_front.specs.declared.item.Awaited.{Awaited};
 ghost use Rattle.http_front.specs.declared.item.PartialItem.{PartialItem};
 
+use crate::admission::Admission;
 use crate::buffer::Buffer;
 use crate::counted::{Came, CountedReader, CountedWriter};
 use crate::end::FrontFault;
@@ -21,6 +24,7 @@ use crate::head_end::Search;
 use crate::item::{Asking, Awaited, Begun, Call, Found, NextItem, PartialItem};
 use crate::library::{StdReader, StdWriter};
 use crate::pending::Pending;
+use crate::service::Service;
 use reply_form::interim_reply;
 use request_form::{HEAD_LIMIT, Head, HeadFault, no_head, read_head};
 use stamp_types::{Gathering, Request};
@@ -390,17 +394,32 @@ impl<R: Read, W: Write> Connection<R, W> {
         }
     }
 
-    // Takes a head off the buffer that is at the front, and what came of its body.
-    fn begin(&mut self, alloc: Global, head: Head, count: usize) -> Result<Begun, FrontFault>
+    // Takes a head off the buffer that is at the front, and what came of its body. Takes nothing if memory is too short for the request.
+    fn begin<S: Service>(
+        &mut self,
+        alloc: Global,
+        service: &S,
+        head: Head,
+        count: usize,
+    ) -> Result<Begun, FrontFault>
         requires { HasHead self.old.bytes count head }
         ensures begun { IfOk result (λ begun.
             (begun.head ≡ head) × (begun.body ++ self.new.bytes ≡ drop count self.old.bytes)
             × IsShort head.body_len begun.body self.new.bytes) }
+        ensures unjudged { IfOk result (λ begun. begun.admission ≡ Admission.Unjudged) }
         ensures unread { (self.new.reader ≡ self.old.reader) × (self.new.writer ≡ self.old.writer) }
         ensures fault { IsOkUnless result FrontFault.NoMemory }
     {
+        if service.is_short_for(alloc, head.ask().op) {
+            drop(head);
+            return Err(FrontFault::NoMemory);
+        }
         let body = self.take_start(alloc, count, head.body_len())?;
-        Ok(Begun { head, body })
+        Ok(Begun {
+            head,
+            body,
+            admission: Admission::Unjudged,
+        })
     }
 
     // Reads the rest of a body.
@@ -409,13 +428,22 @@ impl<R: Read, W: Write> Connection<R, W> {
         requires short { IsShort begun.head.body_len begun.body self.old.bytes }
         ensures read { (from : ConnectionState) → Suspends from (PartialItem.InBody begun) self.old → ReadsFound result from self.new }
         ensures less { TakesWork result (item_work (PartialItem.InBody begun) self.old) self.new }
+        ensures admitted { ReadsAdmitted (admitted_by begun.admission begun.head.ask) result }
         ensures left { LeavesFound result self.new }
     {
-        let Begun { head, mut body } = begun;
+        let Begun {
+            head,
+            mut body,
+            admission,
+        } = begun;
         let body_len = head.body_len();
         match self.await_body(&mut body, body_len) {
             Ok(true) => join(alloc, head, body),
-            Ok(false) => Ok(Found::Waits(PartialItem::InBody(Begun { head, body }))),
+            Ok(false) => Ok(Found::Waits(PartialItem::InBody(Begun {
+                head,
+                body,
+                admission,
+            }))),
             Err(fault) => {
                 drop(head);
                 Err(fault)
@@ -429,6 +457,7 @@ impl<R: Read, W: Write> Connection<R, W> {
         requires partial { IsPartial (PartialItem.Asking asking) self.old }
         ensures read { (from : ConnectionState) → Suspends from (PartialItem.Asking asking) self.old → ReadsFound result from self.new }
         ensures less { TakesWork result (item_work (PartialItem.Asking asking) self.old) self.new }
+        ensures admitted { ReadsAdmitted (admitted_by asking.begun.admission asking.begun.head.ask) result }
         ensures left { LeavesFound result self.new }
     {
         let Asking { begun, taken } = asking;
@@ -448,11 +477,17 @@ impl<R: Read, W: Write> Connection<R, W> {
     }
 
     // Reads on in a head, and then in its body.
-    fn next_in_head(&mut self, alloc: Global, mut search: Search) -> Result<Found, FrontFault>
+    fn next_in_head<S: Service>(
+        &mut self,
+        alloc: Global,
+        service: &S,
+        mut search: Search,
+    ) -> Result<Found, FrontFault>
         requires open { IsOpen self.old }
         requires searched { IsSearched search self.old.bytes }
         ensures read { (from : ConnectionState) → Suspends from (PartialItem.InHead search) self.old → ReadsFound result from self.new }
         ensures less { TakesWork result (item_work (PartialItem.InHead search) self.old) self.new }
+        ensures admitted { ReadsAdmitted None result }
         ensures left { LeavesFound result self.new }
     {
         let count = match self.await_head(&mut search)? {
@@ -471,24 +506,26 @@ impl<R: Read, W: Write> Connection<R, W> {
             }
             Err(HeadFault::NoMemory) => return Err(FrontFault::NoMemory),
         };
-        let begun = self.begin(alloc, head, count)?;
+        let begun = self.begin(alloc, service, head, count)?;
         self.next_in_interim(alloc, Asking { begun, taken: 0 })
     }
 
     /// Reads the next item from where it has come to on, and takes a request off the buffer.
-    pub(crate) fn next_item(
+    pub(crate) fn next_item<S: Service>(
         &mut self,
         alloc: Global,
+        service: &S,
         item: PartialItem,
     ) -> Result<Found, FrontFault>
         requires open { IsOpen self.old }
         requires partial { IsPartial item self.old }
         ensures read { (from : ConnectionState) → Suspends from item self.old → ReadsFound result from self.new }
         ensures less { TakesWork result (item_work item self.old) self.new }
+        ensures admitted { ReadsAdmitted (item_admitted item) result }
         ensures left { LeavesFound result self.new }
     {
         match item {
-            PartialItem::InHead(search) => self.next_in_head(alloc, search),
+            PartialItem::InHead(search) => self.next_in_head(alloc, service, search),
             PartialItem::Asking(asking) => self.next_in_interim(alloc, asking),
             PartialItem::InBody(begun) => self.next_in_body(alloc, begun),
         }

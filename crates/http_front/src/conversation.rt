@@ -1,6 +1,8 @@
 //! What is read, answered and written on one connection.
-ghost use Rattle.std.specs.Prelude.{◌≡◌, ◌≢◌, [], Err, IfSome};
+ghost use Rattle.std.specs.Prelude.{◌≡◌, ◌≢◌, [], Err, IfSome, Option};
+ghost use Rattle.stamp_types.specs.declared.ask.Ask.{Ask};
 ghost use Rattle.reply_form.specs.FixedReplies.{out_of_memory_bytes};
+ghost use Rattle.http_front.specs.Admissions.{StepAdmitted, StepsAdmitted, item_admitted, stage_admitted};
 ghost use Rattle.http_front.specs.Connections.{ConnectionState, IsFresh, IsOpen, IsTold, Sends};
 ghost use Rattle.http_front.specs.Resumptions.{Finishes, IsGivenUp};
 ghost use Rattle.http_front.specs.Stages.{IsPartial, IsStaged, IsWaiting, item_work, wants_write, work};
@@ -27,6 +29,7 @@ fn reply_on<R: Read, W: Write>(
 ) -> Result<Option<Step>, FrontFault>
     requires { connection.old.writer.output ≢ Output.Failed }
     ensures written { WritesReply reply result connection.old.writer connection.new.writer }
+    ensures admitted { (before : Option Ask) → StepsAdmitted before result }
     ensures unread { (connection.new.reader ≡ connection.old.reader)
         × (connection.new.bytes ≡ connection.old.bytes) }
 {
@@ -67,9 +70,10 @@ fn read_on<R: Read, W: Write, C: Clock, S: Service>(
         IsReading C.gives S.answers first clock.old start (S.world service.old) from item connection.old →
         ComesOn C.gives S.answers S.starves first clock.new start (S.world service.new) from connection.new result }
     ensures less { HasLess result (item_work item connection.old) connection.new }
+    ensures admitted { StepsAdmitted (item_admitted item) result }
     ensures left { LeavesOn result connection.new }
 {
-    match connection.next_item(alloc, item)? {
+    match connection.next_item(alloc, &*service, item)? {
         Found::End => return Ok(Some(Step::Ended(End::Clean))),
         Found::Waits(item) => return Ok(Some(Step::Waits(Stage::Reading(item)))),
         Found::Whole(found) => {
@@ -93,6 +97,7 @@ fn go_on<R: Read, W: Write, C: Clock, S: Service>(
         Conversing C.gives S.answers first clock.old start (S.world service.old) from stage connection.old →
         ComesOn C.gives S.answers S.starves first clock.new start (S.world service.new) from connection.new result }
     ensures less { HasLess result (work stage connection.old) connection.new }
+    ensures admitted { StepsAdmitted (stage_admitted stage) result }
     ensures left { LeavesOn result connection.new }
 {
     match stage {
@@ -123,6 +128,8 @@ pub fn advance<R: Read, W: Write, C: Clock, S: Service>(
     ensures left { LeavesStep result connection.new }
     // A connection that waits meets what the next call requires.
     ensures ready { CanGoOn result connection.new }
+    // The call admits no body.
+    ensures admitted { StepAdmitted (stage_admitted stage) result }
 {
     let mut stage = stage;
     loop {

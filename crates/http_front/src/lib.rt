@@ -1,6 +1,7 @@
 //! Connections: bytes in, bytes out, over any reader, writer, clock and service.
 #![tactic(auto)]
 
+mod admission;
 mod answers;
 mod before;
 mod buffer;
@@ -21,6 +22,7 @@ mod source;
 mod stream_laws;
 mod workers;
 
+pub use admission::{Admission, Rooms, brings_content};
 pub use connection::Connection;
 pub use connection_laws::a_connection_left_and_resumed_answers_as_run;
 pub use conversation::{advance, finish, give_up, run};

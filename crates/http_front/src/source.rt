@@ -1,5 +1,7 @@
 //! Where the connections come from that workers serve.
 
+use crate::admission::Rooms;
+
 /// Gives connections to any number of workers, and takes each one back: if it waits, or if it ended.
 ///
 /// For [`work`](crate::work), `L` is a [`Link`](crate::Link), and `O` is the [`Over`](crate::Over) of the same parts. A link that comes
@@ -13,7 +15,7 @@
 pub trait Source<L, O> {
     /// The next connection that has something to do, and how many bytes of a body may have come when it waits. `None` if no more
     /// connections come: each worker that asks then ends.
-    fn next(&self) -> Option<(L, usize)>;
+    fn next(&self) -> Option<(L, Rooms)>;
 
     /// Takes back a connection that was gone on with, and waits.
     fn waits(&self, link: L);

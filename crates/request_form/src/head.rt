@@ -47,6 +47,13 @@ impl Model for Head {
 }
 
 impl Head {
+    /// What the request asks, without its body.
+    pub fn ask(&self) -> &Ask
+        ensures { result.now ≡ self.now.ask }
+    {
+        &self.ask
+    }
+
     /// The method.
     pub fn verb(&self) -> Verb
         ensures { result ≡ self.now.ask.signing.verb }

@@ -1,5 +1,6 @@
 use Rattle.std.proofs.Common.{◌∙◌, length, take, drop, ap, subst, arith}
 use Rattle.http_front.specs.Connections.{Sends}
+use Rattle.http_front.proofs.AdmissionLemmas.{stays_same}
 use Rattle.http_front.proofs.Items.{ask_cut, asked, asks_on}
 use Rattle.http_front.proofs.Pendings.{slice_to_end}
 use Rattle.http_front.proofs.connection.Connection.next_in_interim.Goals as goal
@@ -20,3 +21,6 @@ returns-clause-read g c = λ from s.
     c.next_in_body.ensures.read from
     (asked c.args.asking from c.args.self.now c.send_on.new.self s c.requires.open c.in-Ok.ensures.unread c.in-Ok.count
     (subst (λ l. Sends c.args.self.now.writer c.send_on.new.self.writer (take c.in-Ok.count l)) (slice_to_end c.args.asking.taken c.interim_of.result.now ∙ ap (drop c.args.asking.taken) c.interim_of.ensures) c.in-Ok.ensures.taken.1) (omega arith))
+
+pub returns-then-count-rest-clause-admitted : goal.returns-then-count-rest-clause-admitted
+returns-then-count-rest-clause-admitted g c = stays_same _
