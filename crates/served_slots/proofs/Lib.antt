@@ -1,3 +1,4 @@
+pub mod AdmissionLemmas
 pub mod EnterLemmas
 pub mod FirstLemmas
 pub mod RotateLemmas

@@ -1,14 +1,17 @@
 //! The service of a connection.
-ghost use Rattle.std.specs.Prelude.{◌≡◌};
+ghost use Rattle.std.specs.Prelude.{◌≡◌, IfOk, OnErr};
 ghost use Rattle.served_history.specs.Connections.{AreOfOneHistory};
+ghost use Rattle.served_history.specs.Histories.{IsServed};
 
+use crate::admission::is_admissible;
 use crate::posting::post;
+use crate::reserve::Reserve;
 use crate::slots::Slots;
 use audit_lines::Books;
-use http_front::Service;
+use http_front::{Service, brings_content};
 use range_rows::Reading;
 use served_history::{Account, Front};
-use stamp_types::{Moment, Reply, Request};
+use stamp_types::{Ask, Moment, Op, Reply, Request};
 use std::alloc::{AllocError, Global};
 use std::sync::Wait;
 
@@ -20,6 +23,8 @@ pub struct Connection<'a, A: Account, R: Wait> {
     known: Front<A>,
     // Where the entries of the requests are posted, if entries are made.
     books: Option<&'a Books>,
+    // What is given up if memory runs out.
+    reserve: Option<&'a Reserve>,
 }
 
 impl<'a, A: Account, R: Wait> Connection<'a, A, R> {
@@ -44,6 +49,20 @@ impl<'a, A: Account, R: Wait> Connection<'a, A, R> {
             slots,
             known,
             books,
+            reserve: None,
+        }
+    }
+
+    /// The same, with a reserve that it gives up if memory runs out. A connection without a reserve refuses no request for its sake.
+    pub fn with_reserve(self, reserve: &'a Reserve) -> Self
+        ensures { result.known ≡ self.known }
+    {
+        Self {
+            rt: self.rt,
+            slots: self.slots,
+            known: self.known,
+            books: self.books,
+            reserve: Some(reserve),
         }
     }
 
@@ -62,35 +81,36 @@ impl<'a, A: Account, R: Wait> Connection<'a, A, R> {
     }
 }
 
-impl<'a, A: Account, R: Wait> Service for Connection<'a, A, R> {
-    ghost use Rattle.std.specs.Prelude.{List};
-    ghost use Rattle.served_history.specs.declared.entry.Entry.{Entry};
-    ghost use Rattle.served_history.specs.Histories.{IsServed, IsUnchanged};
+impl<'a, A: Account, R: Wait> Connection<'a, A, R> {
+    // Gives the reserve up, if there is one.
+    fn give_up_reserve(&self) {
+        if let Some(reserve) = self.reserve {
+            let _was_held = reserve.give_up(self.rt);
+        }
+    }
 
-    ghost World = { List Entry };
+    // Whether there is a reserve that is not held and cannot be taken again.
+    fn lacks_reserve(&self, alloc: Global) -> bool {
+        match self.reserve {
+            Some(reserve) => !reserve.is_held() && !reserve.take_again(self.rt, alloc),
+            None => false,
+        }
+    }
 
-    ghost world = { λ s. s.known };
-
-    ghost answers = { IsServed };
-
-    ghost starves = { IsUnchanged };
-
-    /// The reply of the model after all entries of the history before the request, whatever slots made them. The history goes on from what the
-    /// connection knew, and the request is then the last entry that the connection knows.
-    ///
-    /// The signature is judged and the body is read before a lock is taken. After the locks are given back, bytes of sealed extents are fetched,
-    /// and the entry of the audit book is posted.
-    ///
-    /// `AllocError` if memory runs out. Then the connection knows what it knew. If it runs out for these bytes, the request is an entry that changes
-    /// nothing, and the connection does not know it.
-    fn answer(
+    // The reply to a request, and its entry.
+    //
+    // `AllocError` if memory runs out. Then the connection knows what it knew.
+    fn answer_once(
         &mut self,
         alloc: Global,
-        request: Request,
+        request: &Request,
         moment: Moment,
-    ) -> Result<Reply, AllocError> {
-        let reading = Reading::of(alloc, &request)?;
-        let Ok(ready) = self.slots.ready(self.rt, alloc, &request) else {
+    ) -> Result<Reply, AllocError>
+        ensures answered { IfOk result (λ reply. IsServed self.old.known request.now moment reply self.new.known) }
+        ensures same { OnErr result (self.new.known ≡ self.old.known) }
+    {
+        let reading = Reading::of(alloc, request)?;
+        let Ok(ready) = self.slots.ready(self.rt, alloc, request) else {
             drop(reading);
             return Err(AllocError);
         };
@@ -99,7 +119,7 @@ impl<'a, A: Account, R: Wait> Service for Connection<'a, A, R> {
             self.rt,
             alloc,
             &mut known,
-            &request,
+            request,
             &ready,
             reading,
             moment,
@@ -109,6 +129,71 @@ impl<'a, A: Account, R: Wait> Service for Connection<'a, A, R> {
         post(self.rt, self.books, entry);
         self.known = known;
         Ok(reply)
+    }
+}
+
+impl<'a, A: Account, R: Wait> Service for Connection<'a, A, R> {
+    ghost use Rattle.std.specs.Prelude.{List};
+    ghost use Rattle.served_history.specs.declared.entry.Entry.{Entry};
+    ghost use Rattle.served_history.specs.Histories.{IsServed, IsUnchanged};
+    ghost use Rattle.served_slots.specs.Admissions.{IsAdmissible};
+
+    ghost World = { List Entry };
+
+    ghost world = { λ s. s.known };
+
+    ghost answers = { IsServed };
+
+    ghost starves = { IsUnchanged };
+
+    ghost admits = { IsAdmissible };
+
+    /// The reply of the model after all entries of the history before the request, whatever slots made them. The history goes on from what the
+    /// connection knew, and the request is then the last entry that the connection knows.
+    ///
+    /// The signature is judged and the body is read before a lock is taken. After the locks are given back, bytes of sealed extents are fetched,
+    /// and the entry of the audit book is posted.
+    ///
+    /// If memory runs out, the reserve is given up, and a request that brings no content is tried once more. One that brings content is not, since
+    /// what it brings would fill the reserve for good; for the same reason it is not tried while the reserve is gone.
+    ///
+    /// `AllocError` if memory runs out. Then the connection knows what it knew. If it runs out for these bytes, the request is an entry that changes
+    /// nothing, and the connection does not know it.
+    fn answer(
+        &mut self,
+        alloc: Global,
+        request: Request,
+        moment: Moment,
+    ) -> Result<Reply, AllocError> {
+        let op = request.ask().op;
+        if self.is_short_for(alloc, op) {
+            return Err(AllocError);
+        }
+        if let Ok(reply) = self.answer_once(alloc, &request, moment) {
+            return Ok(reply);
+        }
+        self.give_up_reserve();
+        if brings_content(op) {
+            return Err(AllocError);
+        }
+        self.answer_once(alloc, &request, moment)
+    }
+
+    /// Whether the signature of a request that asks this is true under the pair of keys in force.
+    ///
+    /// `AllocError` if memory runs out.
+    fn may_admit(&self, alloc: Global, ask: &Ask) -> Result<bool, AllocError> {
+        is_admissible(self.rt, alloc, self.slots, ask)
+    }
+
+    /// Whether the operation brings content, and there is a reserve that is not held and cannot be taken again.
+    fn is_short_for(&self, alloc: Global, op: Op) -> bool {
+        brings_content(op) && self.lacks_reserve(alloc)
+    }
+
+    /// Gives the reserve up.
+    fn starved(&self, _alloc: Global) {
+        self.give_up_reserve();
     }
 }
 

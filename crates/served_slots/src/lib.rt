@@ -1,6 +1,8 @@
 //! Slots with a lock each, whose requests are the entries of one history.
 #![tactic(auto)]
 
+mod admission;
+mod bare;
 #[cfg(test)]
 mod compaction_tests;
 mod connection;
@@ -14,6 +16,9 @@ mod posting;
 mod posting_tests;
 mod ready;
 mod replied;
+mod reserve;
+#[cfg(test)]
+mod reserve_tests;
 #[cfg(test)]
 mod rotation_tests;
 mod slots;
@@ -31,5 +36,6 @@ pub use laws::{
     a_slot_has_what_its_requests_leave, both_halves_have_what_is_left, the_first_slot_has_all_keys,
 };
 pub use operator::Operator;
+pub use reserve::Reserve;
 pub use slots::Slots;
 pub use splitting::SplitError;

@@ -12,7 +12,7 @@ use crate::words::{Served, read_served};
 use access_rules::Keys;
 use http_front::Clock as _;
 use served_history::{Account, Front, NewHistory};
-use served_slots::{Operator, Slots};
+use served_slots::{Operator, Reserve, Slots};
 use socket_gate::Limits;
 use stamp_types::Text;
 use std::alloc::{AllocError, Global};
@@ -209,6 +209,7 @@ fn both_ends<
         &Noon(rt),
         alloc,
         &slots,
+        &Reserve::new(alloc),
         first,
         account,
         workers,
@@ -228,6 +229,7 @@ fn both_ends_of<
     clock: &'a Noon<'a, R>,
     alloc: Global,
     slots: &'a Slots<A>,
+    reserve: &'a Reserve,
     first: Front<A>,
     account: Text,
     workers: usize,
@@ -238,7 +240,7 @@ fn both_ends_of<
     let listener = TcpListener::bind(rt, "127.0.0.1:0")?;
     let address = listener.local_addr()?;
     let mut operator = Operator::new(rt, slots, account, first.again());
-    let services = SlotServices::new(rt, clock, slots, None, first, connections);
+    let services = SlotServices::new(rt, clock, slots, None, reserve, first, connections);
     let mut console = Console::new(b"".as_slice(), Vec::new(alloc), Input::Ready);
     let (served, played) = thread::join(
         rt,

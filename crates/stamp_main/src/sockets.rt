@@ -9,7 +9,7 @@ use crate::machine::Machine;
 use access_rules::Keys;
 use audit_lines::{Books, write_books};
 use served_history::{Account, Front, NewHistory};
-use served_slots::{Connection, Operator, Slots};
+use served_slots::{Connection, Operator, Reserve, Slots};
 use slot_state::PairsFault;
 use socket_gate::{Limits, Services, serve_listener};
 use stamp_types::Text;
@@ -22,14 +22,15 @@ use std::thread::Threads;
 use std::time::Clock;
 use std::{io, thread};
 
-/// Makes the services of a number of connections, which share slots. Each begins with what the history begins with. If there are books, each
-/// service enters the requests that it let in and that name a container.
+/// Makes the services of a number of connections, which share slots and a reserve of memory. Each begins with what the history begins with. If there
+/// are books, each service enters the requests that it let in and that name a container.
 #[derive(Drop)]
 pub(crate) struct SlotServices<'a, A: Account, R: Wait, C: Clock> {
     rt: &'a R,
     clock: &'a C,
     slots: &'a Slots<A>,
     books: Option<&'a Books>,
+    reserve: &'a Reserve,
     first: Front<A>,
     // How many connections may still be taken.
     left: Mutex<u64>,
@@ -77,12 +78,14 @@ pub(crate) fn serve_on<
         Ok(made) => made,
         Err(fault) => return Err(error_of(fault)),
     };
+    let reserve = Reserve::new(alloc);
     match audit {
         Some(Audit { books, writer }) => serve_and_write(
             rt,
             clock,
             alloc,
             &slots,
+            &reserve,
             books,
             writer,
             first,
@@ -98,6 +101,7 @@ pub(crate) fn serve_on<
             clock,
             alloc,
             &slots,
+            &reserve,
             first,
             account,
             listener,
@@ -122,6 +126,7 @@ fn serve_by<
     clock: &'a C,
     alloc: Global,
     slots: &'a Slots<A>,
+    reserve: &'a Reserve,
     first: Front<A>,
     account: Text,
     listener: &TcpListener,
@@ -131,7 +136,7 @@ fn serve_by<
     console: &mut Console<L, O>,
 ) -> io::Result<()> {
     let mut operator = Operator::new(rt, slots, account, first.again());
-    let services = SlotServices::new(rt, clock, slots, None, first, connections);
+    let services = SlotServices::new(rt, clock, slots, None, reserve, first, connections);
     serve_and_obey(
         rt,
         clock,
@@ -162,6 +167,7 @@ fn serve_and_write<
     clock: &'a C,
     alloc: Global,
     slots: &'a Slots<A>,
+    reserve: &'a Reserve,
     books: &'a Books,
     writer: &mut W,
     first: Front<A>,
@@ -173,7 +179,7 @@ fn serve_and_write<
     console: &mut Console<L, O>,
 ) -> io::Result<()> {
     let mut operator = Operator::new(rt, slots, account, first.again());
-    let services = SlotServices::new(rt, clock, slots, Some(books), first, connections);
+    let services = SlotServices::new(rt, clock, slots, Some(books), reserve, first, connections);
     let ended = AtomicBool::new(false);
     let (_, served) = thread::join(
         rt,
@@ -249,6 +255,7 @@ impl<'a, A: Account, R: Wait, C: Clock> SlotServices<'a, A, R, C> {
         clock: &'a C,
         slots: &'a Slots<A>,
         books: Option<&'a Books>,
+        reserve: &'a Reserve,
         first: Front<A>,
         connections: u64,
     ) -> Self {
@@ -257,6 +264,7 @@ impl<'a, A: Account, R: Wait, C: Clock> SlotServices<'a, A, R, C> {
             clock,
             slots,
             books,
+            reserve,
             first,
             left: Mutex::new(connections),
         }
@@ -269,9 +277,10 @@ impl<'a, A: Account, R: Wait, C: Clock> Services<Machine<'a, C>, Connection<'a, 
         if !take_one(&mut self.left.lock(self.rt)) {
             return None;
         }
+        let service = Connection::audited(self.rt, self.slots, self.first.again(), self.books);
         Some((
             Machine::new(self.clock),
-            Connection::audited(self.rt, self.slots, self.first.again(), self.books),
+            service.with_reserve(self.reserve),
         ))
     }
 }
