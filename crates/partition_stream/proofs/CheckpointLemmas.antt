@@ -1,5 +1,5 @@
 -- Rows of a checkpoint that are written, and put in place.
-use Rattle.std.proofs.Common.{◌≡◌, ◌∙◌, ◌<◌, ◌^◌, Bool, true, false, Option, None, Ok, List, [], ◌∷◌, ◌++◌, ap, refl, arith, append-nil}
+use Rattle.std.proofs.Common.{◌≡◌, ◌∙◌, ◌<◌, ◌^◌, Bool, true, false, Option, None, List, [], ◌∷◌, ◌++◌, ap, refl, arith, append-nil}
 use Rattle.std.proofs.lemmas.List.Elements.{All-nil, All-cons, All-append, All-same}
 use Rattle.extent_node.specs.Copies.{Block}
 use Rattle.extent_node.specs.Faults.{held}
@@ -13,7 +13,7 @@ use Rattle.stream_manager.specs.Streams.{Streamed, laid}
 use Rattle.partition_stream.specs.Changes.{changes_of}
 use Rattle.partition_stream.specs.Checkpoints.{AreStoredRows, HasOneRow, IsInPlace, made_by, new_rows}
 use Rattle.partition_stream.specs.Contents.{content_at}
-use Rattle.partition_stream.specs.Logging.{HasMore, IsRecordAppended}
+use Rattle.partition_stream.specs.Logging.{HasMore}
 use Rattle.partition_stream.specs.Meanings.{held_of, meaning}
 use Rattle.partition_stream.specs.Storing.{AreKept, IsStoredRecord}
 use Rattle.partition_stream.specs.Streams.{ThreeStreams, logged}
@@ -35,7 +35,7 @@ no_epoch = omega arith
 
 -- a row that was appended
 pub row_appended : (s t : Streamed) (block : Block) (c : KeyedAct) → s.last.tried ≡ None → IsRecorded c → block ≡ record_bytes 2 c 0
-    → IsRecordAppended (Ok tt) s block t → HasOneRow s c t
+    → HasMore s (block ∷ []) None t → HasOneRow s c t
 row_appended s t block c whole fits written more =
     let blocks = one_block s t block whole more in
     record {

@@ -37,7 +37,7 @@ stored_record es block c epoch fits within bytes stored =
     record { change = c; epoch = epoch; fits = fits; within = within; bytes = second_version block c epoch bytes; stored = stored }
 
 -- a record was appended to the log
-pub kept_appended : (r : Result (Unit {0}) LogFault) (s : ThreeStreams) (log : Streamed) (block : Block)
+pub kept_appended : (r : Result ℕ LogFault) (s : ThreeStreams) (log : Streamed) (block : Block)
     → AreKept s → IsStoredRecord (laid s.blobs) block → IsRecordAppended r s.log block log → AreKept (streams log s.blobs s.rows)
 kept_appended r s log block kept own h = with_log s log kept (each_appended (IsStoredRecord (laid s.blobs)) r s.log log block (log_each s kept) own h)
 

@@ -1,5 +1,5 @@
 -- What appends, settles and seals of a log do to its changes.
-use Rattle.std.proofs.Common.{◌≡◌, ◌∙◌, Option, Some, None, IfSome, IsSome, Result, Ok, Err, List, [], ◌∷◌, ◌++◌, ap, refl, subst, inl, inr, append-nil}
+use Rattle.std.proofs.Common.{◌≡◌, ◌∙◌, ℕ, Option, Some, None, IfSome, IsSome, Result, Ok, Err, List, [], ◌∷◌, ◌++◌, ap, refl, subst, inl, inr, append-nil}
 use Rattle.std.specs.Option.{option_and_then, is_some}
 use Rattle.extent_node.specs.Copies.{Block}
 use Rattle.extent_node.specs.Faults.{held}
@@ -43,9 +43,9 @@ same_streams : (s t : ThreeStreams) → t.log ≡ s.log → t.blobs ≡ s.blobs 
 same_streams s t log blobs rows = λ i. record { log = log i; blobs = blobs i; rows = rows i }
 
 -- a record was appended
-pub is_logged : (r : Result (Unit {0}) LogFault) (s t : ThreeStreams) (block : Block) (c : Recorded) → change_in block ≡ Some c
+pub is_logged : (r : Result ℕ LogFault) (s t : ThreeStreams) (block : Block) (c : Recorded) → change_in block ≡ Some c
     → IsRecordAppended r s.log block t.log → t.blobs ≡ s.blobs → t.rows ≡ s.rows → IsLogged r s c t
-is_logged (Ok u) s t block c e h blobs rows = logs_more s t (block ∷ []) None (c ∷ []) None h (changes_of-one block c e) refl
+is_logged (Ok n) s t block c e h blobs rows = logs_more s t (block ∷ []) None (c ∷ []) None h (changes_of-one block c e) refl
 is_logged (Err fault.Doubt) s t block c e h blobs rows = logs_more s t [] (Some block) [] (Some c) h refl e
 is_logged (Err fault.Busy) s t block c e h blobs rows = elim h [ inl more ↦ inl (logs_none s t more) | inr same ↦ inr same ]
 is_logged (Err fault.NoMemory) s t block c e h blobs rows = same_streams s t h blobs rows

@@ -1,5 +1,5 @@
 -- What is so of each block of a stream stays so after appends, settles and seals.
-use Rattle.std.proofs.Common.{◌≡◌, ◌∙◌, Bool, true, false, Option, Some, None, IfSome, Result, Ok, Err, List, [], ◌∷◌, ◌++◌, All, sym, ap, subst, refl, inl, inr, append-nil}
+use Rattle.std.proofs.Common.{◌≡◌, ◌∙◌, ℕ, Bool, true, false, Option, Some, None, IfSome, Result, Ok, Err, List, [], ◌∷◌, ◌++◌, All, sym, ap, subst, refl, inl, inr, append-nil}
 use Rattle.std.proofs.lemmas.List.Elements.{All-nil, All-cons, All-append, All-same}
 use Rattle.extent_node.specs.Copies.{Block}
 use Rattle.extent_node.specs.Faults.{held}
@@ -37,9 +37,9 @@ each_same P s t old h = record {
 }
 
 -- a record was appended
-pub each_appended : (P : Block → Type 0) (r : Result (Unit {0}) LogFault) (s t : Streamed) (block : Block)
+pub each_appended : (P : Block → Type 0) (r : Result ℕ LogFault) (s t : Streamed) (block : Block)
     → Each P s → P block → IsRecordAppended r s block t → Each P t
-each_appended P (Ok u) s t block old new h = each_more P s t (block ∷ []) None old (All-cons P block [] new (All-nil P)) tt h
+each_appended P (Ok n) s t block old new h = each_more P s t (block ∷ []) None old (All-cons P block [] new (All-nil P)) tt h
 each_appended P (Err fault.Doubt) s t block old new h = each_more P s t [] (Some block) old (All-nil P) new h
 each_appended P (Err fault.Busy) s t block old new h = elim h [ inl more ↦ each_more P s t [] None old (All-nil P) tt more | inr same ↦ each_same P s t old same ]
 each_appended P (Err fault.NoMemory) s t block old new h = subst (Each P) (sym h) old

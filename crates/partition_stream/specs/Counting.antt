@@ -14,14 +14,14 @@ use Rattle.partition_stream.specs.declared.faults.PutFault.{PutFault}
 use Rattle.partition_stream.specs.declared.faults.PutFault.TheVariants as put_fault
 
 -- the faults of a change that is logged: in a doubt a put failed, and then an ask of each node; if it is Busy, no extent was sealed and an ask of each node failed, or its record was excluded twice and two puts failed
-abbrev pub FailsLog : Result (Unit {0}) LogFault → ℕ → ℕ → Calls → Calls → Type 0
+abbrev pub FailsLog : Result ℕ LogFault → ℕ → ℕ → Calls → Calls → Type 0
 FailsLog (Ok _) before after old new = Grows old new
 FailsLog (Err fault.Doubt) before after old new = FailsDoubt old new
 FailsLog (Err fault.Busy) before after old new = ((after ≡ before) × FailsEach old new) ⊎ ((before + 2 ≤ after) × FailsPutsAtLeast 2 old new)
 FailsLog (Err fault.NoMemory) before after old new = new ≡ old
 
 -- the calls of a change that is logged: one put to each node, or two if the first try sealed an extent, and one ask for each extent that was sealed; in a doubt one ask more, which no node answered; if it is Busy, one ask of each node and no put, or two puts; no call if memory runs out
-abbrev pub CallsLog : Result (Unit {0}) LogFault → ℕ → ℕ → Calls → Calls → Type 0
+abbrev pub CallsLog : Result ℕ LogFault → ℕ → ℕ → Calls → Calls → Type 0
 CallsLog (Ok _) before after old new = PutsOnceOrTwice before after old.puts new.puts × AsksAtMost 0 before after old.asks new.asks
 CallsLog (Err fault.Doubt) before after old new = PutsOnceOrTwice before after old.puts new.puts × AsksAtMost 1 before after old.asks new.asks
 CallsLog (Err fault.Busy) before after old new = ((after ≡ before) × AsksEach old new) ⊎ ((before + 2 ≤ after) × PutsTwice old.puts new.puts × AsksAtMost 0 before after old.asks new.asks)

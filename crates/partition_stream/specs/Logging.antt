@@ -1,5 +1,5 @@
 -- What the append of a record does to a log.
-use Rattle.std.specs.Prelude.{◌≡◌, ◌⊎◌, Option, Some, None, Result, Ok, Err, List, [], ◌∷◌, ◌++◌}
+use Rattle.std.specs.Prelude.{◌≡◌, ◌⊎◌, ℕ, Option, Some, None, Result, Ok, Err, List, [], ◌∷◌, ◌++◌}
 use Rattle.extent_node.specs.Copies.{Block}
 use Rattle.extent_node.specs.Faults.{held}
 use Rattle.stream_manager.specs.Places.{blocks_of, is_kept}
@@ -18,7 +18,7 @@ pub record IsSameStream (s t : Streamed) : Type 0 where
   pub last : t.last ≡ s.last
 
 -- the append of a record, which is never too large
-abbrev pub IsRecordAppended : Result (Unit {0}) LogFault → Streamed → Block → Streamed → Type 0
+abbrev pub IsRecordAppended : Result ℕ LogFault → Streamed → Block → Streamed → Type 0
 IsRecordAppended (Ok _) s block t = HasMore s (block ∷ []) None t
 IsRecordAppended (Err fault.Doubt) s block t = HasMore s [] (Some block) t
 IsRecordAppended (Err fault.Busy) s block t = HasMore s [] None t ⊎ IsSameStream s t

@@ -1,5 +1,5 @@
 -- What calls do to the streams of a partition.
-use Rattle.std.specs.Prelude.{◌≡◌, ◌⊎◌, ⊤, Option, Some, None, IsSome, Result, Ok, Err, List, [], ◌∷◌, ◌++◌}
+use Rattle.std.specs.Prelude.{◌≡◌, ◌⊎◌, ⊤, ℕ, Option, Some, None, IsSome, Result, Ok, Err, List, [], ◌∷◌, ◌++◌}
 use Rattle.extent_node.specs.Copies.{Block}
 use Rattle.extent_node.specs.Faults.{held}
 use Rattle.stream_manager.specs.Places.{IsLastAt, is_kept}
@@ -27,7 +27,7 @@ pub record Logs (s : ThreeStreams) (added : List Recorded) (doubt : Option Recor
   pub left : (logged t).doubt ≡ doubt
 
 -- what logging a change does: an older doubt is kept or dropped first, or it stays
-abbrev pub IsLogged : Result (Unit {0}) LogFault → ThreeStreams → Recorded → ThreeStreams → Type 0
+abbrev pub IsLogged : Result ℕ LogFault → ThreeStreams → Recorded → ThreeStreams → Type 0
 IsLogged (Ok _) s c t = Logs s (c ∷ []) None t
 IsLogged (Err fault.Doubt) s c t = Logs s [] (Some c) t
 IsLogged (Err fault.Busy) s c t = Logs s [] None t ⊎ IsSameStream s.log t.log

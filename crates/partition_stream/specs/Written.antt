@@ -1,5 +1,5 @@
 -- Records that were written, in either version (docs/formats/records.md).
-use Rattle.std.specs.Prelude.{◌≡◌, ℕ, true}
+use Rattle.std.specs.Prelude.{◌≡◌, ℕ, true, length}
 use Rattle.extent_node.specs.Copies.{Block}
 use Rattle.stamp_types.specs.Changes.{KeyedAct}
 use Rattle.log_record.specs.Fits.{FitsEpoch, IsRecorded}
@@ -25,3 +25,7 @@ written_bytes w = record_bytes w.version w.change w.epoch
 -- the change and the epoch that the record says
 abbrev pub said_of : Written → Recorded
 said_of w = (w.change, w.epoch)
+
+-- how many bytes the record of a change and of its epoch has, in the version that is written
+abbrev pub written_len : Recorded → ℕ
+written_len c = length (record_bytes 2 c.0 c.1)

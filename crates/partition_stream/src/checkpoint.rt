@@ -64,7 +64,7 @@ fn append_row<W: Wire>(
     ensures unheard { result ≡ Err NoMemory → wire.new ≡ wire.old }
 {
     match append_record(rows, block, wire) {
-        Ok(()) => Ok(()),
+        Ok(_length) => Ok(()),
         Err(LogFault::Busy) => Err(PutFault::Busy),
         Err(LogFault::Doubt) => Err(PutFault::Busy),
         Err(LogFault::NoMemory) => Err(PutFault::NoMemory),

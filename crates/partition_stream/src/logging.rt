@@ -30,13 +30,14 @@ pub(crate) fn record_of(alloc: Global, change: &Change, epoch: u64) -> Result<Sh
     Ok(record)
 }
 
-/// Appends a record to the log.
+/// Appends a record to the log, and answers how many bytes the record has.
 pub(crate) fn append_record<W: Wire>(
     log: &mut Stream,
     block: &Share,
     wire: &mut W,
-) -> Result<(), LogFault>
+) -> Result<u64, LogFault>
     requires { length block.now ≤ 16_777_216 }
+    ensures length { IfOk result (λ n. n ≡ length block.now) }
     ensures appended { IsRecordAppended result log.old block.now log.new }
     ensures limit { log.new.limit ≡ log.old.limit }
     ensures called { CallsLog result (length log.old.sealed) (length log.new.sealed) (W.calls wire.old) (W.calls wire.new) }
@@ -44,7 +45,7 @@ pub(crate) fn append_record<W: Wire>(
     ensures unheard { (result ≡ Err NoMemory) → wire.new ≡ wire.old }
 {
     match log.append(block, wire) {
-        Ok(_place) => Ok(()),
+        Ok(_place) => Ok(block.len() as u64),
         Err(AppendFault::Busy) => Err(LogFault::Busy),
         Err(AppendFault::Doubt) => Err(LogFault::Doubt),
         Err(AppendFault::NoMemory) => Err(LogFault::NoMemory),

@@ -52,6 +52,7 @@ impl Streams {
     ghost use Rattle.partition_stream.specs.Positions.{all_changes, changes_before};
     ghost use Rattle.partition_stream.specs.Storing.{AreKept, IsStoredChange};
     ghost use Rattle.partition_stream.specs.Streams.{AreSealed, HaveSameBlocks, HaveSameLimits, IsEmptyLast, logged};
+    ghost use Rattle.partition_stream.specs.Written.{written_len};
     ghost use Rattle.partition_stream.specs.declared.faults.LogFault.TheVariants.{NoMemory};
     ghost use Rattle.partition_stream.specs.declared.faults.PutFault.TheVariants as put_fault;
 
@@ -99,7 +100,7 @@ impl Streams {
         put_content(self.alloc, &mut self.blobs, content, wire)
     }
 
-    /// Appends the record of a change with its epoch to the log. An older doubt is settled first.
+    /// Appends the record of a change with its epoch to the log, and answers how many bytes the record has. An older doubt is settled first.
     ///
     /// Busy: the change is not in the log, since its record was tried twice, or no node answered the seal of a full extent or of an older
     /// doubt. Doubt: some delivery was not Done, and then no node answered; the change is in doubt until the next settle, seal or change.
@@ -109,8 +110,9 @@ impl Streams {
         change: &Change,
         epoch: u64,
         wire: &mut W,
-    ) -> Result<(), LogFault>
+    ) -> Result<u64, LogFault>
         requires stored { IsStoredChange (laid self.old.blobs) change.now }
+        ensures length { IfOk result (λ n. n ≡ written_len (change.now, epoch)) }
         ensures logged { IsLogged result self.old (change.now, epoch) self.new }
         ensures blobs { self.new.blobs ≡ self.old.blobs }
         ensures rows { self.new.rows ≡ self.old.rows }

@@ -9,6 +9,7 @@ mod laws;
 mod loading;
 mod logging;
 mod noting;
+mod record_len;
 mod repaired;
 mod sealed;
 mod stored_rows;

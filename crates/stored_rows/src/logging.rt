@@ -1,5 +1,5 @@
 //! Changes whose content is put and which are logged.
-ghost use Rattle.std.specs.Prelude.{◌≡◌, IfOk, IfSome, IsSomeAnd, IsTrue, None, false, map};
+ghost use Rattle.std.specs.Prelude.{◌≡◌, IfOk, IfSome, IsSomeAnd, IsTrue, None, OnErr, false, map};
 ghost use Rattle.stamp_types.specs.ActKinds.{is_row};
 ghost use Rattle.stamp_types.specs.Changes.{content_of};
 ghost use Rattle.stamp_types.specs.Pieces.{is_held, piece_len};
@@ -8,6 +8,7 @@ ghost use Rattle.stream_manager.specs.Streams.{laid};
 ghost use Rattle.partition_stream.specs.Counting.{FailsPut};
 ghost use Rattle.partition_stream.specs.Storing.{AreKept};
 ghost use Rattle.partition_stream.specs.Streams.{HaveSameLimits, logged};
+ghost use Rattle.partition_stream.specs.Written.{written_len};
 ghost use Rattle.stored_rows.specs.Counting.{FailsLogged};
 ghost use Rattle.stored_rows.specs.Faults.{unlogged_by, unlogged_of_put};
 ghost use Rattle.stored_rows.specs.Logging.{IsPutAt, IsPutAndLogged, with_placed};
@@ -93,17 +94,20 @@ fn with_pieces(change: Change, pieces: Option<Pieces>) -> Change
 }
 
 /// Puts the content of a change and then logs the change. The change that is answered is the one as the log keeps it: its content is at
-/// places.
+/// places. `written` is then how many bytes its record has. After a fault `written` is as it was.
 pub(crate) fn put_and_log<W: Wire>(
     streams: &mut Streams,
     change: Change,
     epoch: u64,
+    written: &mut u64,
     wire: &mut W,
 ) -> Result<Change, Unlogged>
     requires plain { is_row change.act ≡ false }
     requires held { IfSome (content_of change.act) (λ ps. IsTrue (is_held ps)) }
     requires sure { (logged streams.old).doubt ≡ None }
     ensures logged { IsPutAndLogged result streams.old (change, epoch) streams.new }
+    ensures length { IfOk result (λ kept. written.new ≡ written_len (kept, epoch)) }
+    ensures unwritten { OnErr result (written.new ≡ written.old) }
     ensures counted { FailsLogged result (W.faults wire.old) (W.faults wire.new) }
     ensures whole { AreKept streams.old }
     ensures limits { HaveSameLimits streams.old streams.new }
@@ -118,7 +122,10 @@ pub(crate) fn put_and_log<W: Wire>(
     };
     let kept = with_pieces(change, pieces);
     match streams.log_change(&kept, epoch, wire) {
-        Ok(()) => Ok(kept),
+        Ok(length) => {
+            *written = length;
+            Ok(kept)
+        }
         Err(fault) => Err(not_logged(fault, kept)),
     }
 }

@@ -14,7 +14,7 @@ use crate::logging::put_and_log;
 use crate::noting::{note, note_loaded, note_settled};
 use crate::sealed::{Sealed, note_sealed};
 use crate::unloaded::Unloaded;
-use crate::waste::{Waste, list_of, list_size, recounted, weigh};
+use crate::waste::{Waste, bound_of, list_of, list_size, recounted, weigh};
 use extent_node::Wire;
 use extent_seal::ReadFault;
 use partition_stream::{Part, Streams};
@@ -235,11 +235,13 @@ impl StoredRows {
         make_answer(self.alloc, &mut self.streams, frame, spans, wire)
     }
 
-    // Puts the content of a change into the data, logs the change, and then makes it in the rows that are loaded.
+    // Puts the content of a change into the data, logs the change, and then makes it in the rows that are loaded. If the change was logged,
+    // `written` is then how many bytes its record has.
     fn take_change<W: Wire>(
         &mut self,
         change: Change,
         epoch: u64,
+        written: &mut u64,
         wire: &mut W,
     ) -> Result<(), TakeFault>
         requires covered { covers self.old.range change.key ≡ true }
@@ -251,7 +253,7 @@ impl StoredRows {
         ensures limits { HaveSameLimits self.old.streams self.new.streams }
         ensures counted { FailsTake result (W.faults wire.old) (W.faults wire.new) }
     {
-        let logged = put_and_log(&mut self.streams, change, epoch, wire);
+        let logged = put_and_log(&mut self.streams, change, epoch, written, wire);
         note(self.alloc, &mut self.rows, &mut self.doubt, logged)
     }
 
@@ -277,9 +279,10 @@ impl StoredRows {
     {
         let weighed = weigh(self.alloc, &self.rows, &change);
         let list = list_of(&change);
-        let taken = self.take_change(change, epoch, wire);
+        let mut written = bound_of(&change);
+        let taken = self.take_change(change, epoch, &mut written, wire);
         let listed = list_size(&self.rows, &list);
-        self.waste = self.waste.after(weighed, listed, taken);
+        self.waste = self.waste.after(weighed, written, listed, taken);
         taken
     }
 

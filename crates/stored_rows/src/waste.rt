@@ -2,15 +2,17 @@
 ghost use Rattle.std.specs.Prelude.{◌≡◌};
 
 use crate::faults::TakeFault;
+use crate::record_len::{
+    blob_len, block_len, blocks_len, committed_len, created_len, deleted_len, found_len, head_of,
+    metadata_len, policies_len, record_bound, whole_len,
+};
 use row_trees::{Found, FoundBlob, Rows};
-use stamp_types::{Act, Change, Key, Metadata, Text};
+use stamp_types::{Act, Change, Committed, Key, Pieces, PutBlob, Text};
 use std::alloc::{AllocError, Global};
 
-/// How many bytes a record is taken to have beside metadata and the entries of a list.
-const RECORD_BYTES: u64 = 512;
-
-/// How many bytes an entry of a block list is taken to have in its record.
-const ENTRY_BYTES: u64 = 96;
+/// How many bytes of memory a record takes beside its own, with those that its content takes beside its bytes: three replicas list a block,
+/// and its owners are counted. So many short records are not kept for long either.
+const BESIDE_BYTES: u64 = 256;
 
 /// How many bytes more than those that exist streams may have to which nothing refers: 16 MiB.
 const SPARED_BYTES: u64 = 16_777_216;
@@ -18,18 +20,26 @@ const SPARED_BYTES: u64 = 16_777_216;
 /// What exists of a blob, of a container or of all rows.
 #[derive(Clone, Copy)]
 pub(crate) struct Size {
-    // the records of a checkpoint
+    // the records of a checkpoint, without uncommitted blocks
     rows: u64,
+    // the uncommitted blocks in these records
+    entries: u64,
     // committed content
     committed: u64,
-    // uncommitted blocks
+    // the content of uncommitted blocks
     pending: u64,
 }
 
 impl Size {
     const fn none() -> Self {
+        Self::of_rows(0)
+    }
+
+    // A record of a checkpoint, or a part of one.
+    const fn of_rows(rows: u64) -> Self {
         Self {
-            rows: 0,
+            rows,
+            entries: 0,
             committed: 0,
             pending: 0,
         }
@@ -38,6 +48,7 @@ impl Size {
     const fn and(self, other: Self) -> Self {
         Self {
             rows: self.rows.saturating_add(other.rows),
+            entries: self.entries.saturating_add(other.entries),
             committed: self.committed.saturating_add(other.committed),
             pending: self.pending.saturating_add(other.pending),
         }
@@ -46,6 +57,7 @@ impl Size {
     const fn without(self, other: Self) -> Self {
         Self {
             rows: self.rows.saturating_sub(other.rows),
+            entries: self.entries.saturating_sub(other.entries),
             committed: self.committed.saturating_sub(other.committed),
             pending: self.pending.saturating_sub(other.pending),
         }
@@ -54,15 +66,17 @@ impl Size {
     const fn content(self) -> u64 {
         self.committed.saturating_add(self.pending)
     }
+
+    const fn records(self) -> u64 {
+        self.rows.saturating_add(self.entries)
+    }
 }
 
-/// What a change writes, and what it does to what exists, as the rows are before it.
+/// What a change brings, and what it does to what exists, as the rows are before it.
 #[derive(Clone, Copy)]
 pub(crate) struct Weighed {
     // the content that it brings
     content: u64,
-    // its record
-    record: u64,
     // what it takes away
     freed: Size,
     // what it adds, without the content of a list
@@ -71,8 +85,10 @@ pub(crate) struct Weighed {
 
 /// What the streams have, and what exists of it.
 ///
-/// What exists is never counted too high, except that an uncommitted block that is put again may be counted as it was when the rows were
-/// counted last: an uncommitted block counts only from then on. So what is wasted is rather counted too high.
+/// What was written is counted exactly, but for a record that was not logged, or of which nobody knows whether it was: it counts as if it
+/// had been written. What exists is counted exactly too, with two exceptions. An uncommitted block counts only once the rows were counted,
+/// and as it was then. The committed blocks of a list are each taken to be as long in their row as the first. So what is wasted is rather
+/// counted too high.
 #[derive(Clone, Copy)]
 pub(crate) struct Waste {
     // the content that was put into the data
@@ -93,13 +109,23 @@ impl Waste {
 
     /// Whether the bytes to which nothing refers are more than those that exist and 16 MiB.
     pub(crate) const fn is_wasteful(self) -> bool {
-        let existing = self.existing.content().saturating_add(self.existing.rows);
+        let existing = self
+            .existing
+            .content()
+            .saturating_add(self.existing.records());
         let written = self.content.saturating_add(self.records);
         written.saturating_sub(existing) > existing.saturating_add(SPARED_BYTES)
     }
 
-    /// After a change was taken, was not taken, or is in doubt. `list` is what exists of the blob whose list it committed.
-    pub(crate) fn after(self, weighed: Weighed, list: Size, taken: Result<(), TakeFault>) -> Self {
+    /// After a change was taken, was not taken, or is in doubt. Its record has `written` bytes, and `list` is what exists of the blob
+    /// whose list it committed.
+    pub(crate) fn after(
+        self,
+        weighed: Weighed,
+        written: u64,
+        list: Size,
+        taken: Result<(), TakeFault>,
+    ) -> Self {
         let added = match taken {
             Ok(()) => weighed.added.and(list),
             Err(_) => Size::none(),
@@ -110,7 +136,10 @@ impl Waste {
         };
         Self {
             content: self.content.saturating_add(weighed.content),
-            records: self.records.saturating_add(weighed.record),
+            records: self
+                .records
+                .saturating_add(written)
+                .saturating_add(BESIDE_BYTES),
             existing: self.existing.without(freed).and(added),
         }
     }
@@ -123,7 +152,7 @@ impl Waste {
     /// After the log and the rows were written anew: their records are those of the rows.
     pub(crate) const fn after_checkpoint(self) -> Self {
         Self {
-            records: self.existing.rows,
+            records: self.existing.records(),
             ..self
         }
     }
@@ -132,7 +161,7 @@ impl Waste {
     pub(crate) const fn after_compaction(self) -> Self {
         Self {
             content: self.existing.content(),
-            records: self.existing.rows,
+            records: self.existing.records(),
             ..self
         }
     }
@@ -142,6 +171,7 @@ impl Waste {
         Self {
             existing: Size {
                 rows: self.records,
+                entries: 0,
                 committed: self.content,
                 pending: 0,
             },
@@ -150,67 +180,63 @@ impl Waste {
     }
 }
 
-// How many bytes of metadata a record has.
-fn metadata_len(metadata: &Metadata) -> u64 {
-    let mut len: u64 = 0;
-    for meta in metadata.as_slice() {
-        len = len
-            .saturating_add(meta.name.as_str().len() as u64)
-            .saturating_add(meta.value.as_str().len() as u64);
-    }
-    len
-}
-
-// How many bytes the record of an act has, about.
-fn record_len(act: &Act) -> u64 {
-    let more = match act {
-        Act::CreateContainer(create) => metadata_len(&create.metadata),
-        Act::SetContainerMetadata(set) => metadata_len(&set.metadata),
-        Act::PutBlob(put) => metadata_len(&put.metadata),
-        Act::SetMetadata(set) => metadata_len(&set.metadata),
-        Act::PutBlockList(list) => {
-            let entries = list.entries.as_slice().len() as u64;
-            metadata_len(&list.metadata).saturating_add(entries.saturating_mul(ENTRY_BYTES))
-        }
-        _ => 0,
+// The uncommitted blocks of a blob, and its content.
+fn content_size(blob: &FoundBlob<'_>) -> Size {
+    let mut size = Size {
+        committed: blob.len(),
+        ..Size::none()
     };
-    more.saturating_add(RECORD_BYTES)
-}
-
-// How many bytes the uncommitted blocks of a blob have.
-fn pending_len(blob: &FoundBlob<'_>) -> u64 {
     let Some(row) = blob.row() else {
-        return 0;
+        return size;
     };
-    let mut len: u64 = 0;
-    for (_id, content) in row.uncommitted() {
-        len = len.saturating_add(content.len());
+    for (id, content) in row.uncommitted() {
+        size = size.and(Size {
+            entries: block_len(id.as_slice().len(), content),
+            pending: content.len(),
+            ..Size::none()
+        });
     }
-    len
+    size
 }
 
-// What exists of a blob.
-fn blob_size(blob: &FoundBlob<'_>) -> Size {
+// How many bytes the committed part of a blob has in its row.
+fn committed_part(committed: Option<&Committed<Pieces>>) -> u64 {
+    match committed {
+        Some(committed) => committed_len(
+            &committed.props,
+            &committed.metadata,
+            blocks_len(committed.blocks.as_slice()),
+        ),
+        None => 0,
+    }
+}
+
+// What exists of a blob whose name has so many bytes.
+fn blob_size(head: u64, name_len: usize, blob: &FoundBlob<'_>) -> Size {
     if blob.row().is_none() {
         return Size::none();
     }
-    Size {
-        rows: RECORD_BYTES,
-        committed: blob.len(),
-        pending: pending_len(blob),
-    }
+    let row = blob_len(head, name_len, committed_part(blob.committed()));
+    content_size(blob).and(Size::of_rows(row))
+}
+
+// What exists of a blob of a container.
+fn named_size(head: u64, found: &Found<'_>, name: &Text) -> Size {
+    blob_size(head, name.as_str().len(), &found.seen(name))
 }
 
 // What exists of a container with all its blobs.
-fn container_size(alloc: Global, found: &Found<'_>) -> Size {
-    let mut size = Size {
-        rows: RECORD_BYTES,
-        ..Size::none()
-    };
-    for (_name, blob) in found.blobs_from(&Vec::new(alloc)) {
-        size = size.and(blob_size(&blob));
+fn container_size(alloc: Global, head: u64, found: &Found<'_>) -> Size {
+    let mut size = Size::of_rows(found_len(head, found));
+    for (name, blob) in found.blobs_from(&Vec::new(alloc)) {
+        size = size.and(blob_size(head, name.len(), &blob));
     }
     size
+}
+
+// What each row of a container takes before its fields.
+fn row_head(key: &Key) -> u64 {
+    BESIDE_BYTES.saturating_add(head_of(key))
 }
 
 // What exists of all containers.
@@ -220,8 +246,8 @@ fn rows_size(alloc: Global, rows: &Rows) -> Size {
         container: Text::empty(alloc),
     };
     let mut size = Size::none();
-    for (_key, found) in rows.containers_from(&first) {
-        size = size.and(container_size(alloc, &found));
+    for (key, found) in rows.containers_from(&first) {
+        size = size.and(container_size(alloc, row_head(key), &found));
     }
     size
 }
@@ -234,25 +260,74 @@ pub(crate) fn recounted(alloc: Global, waste: Waste, rows: &Option<Rows>) -> Was
     }
 }
 
+// How many bytes the metadata of a container has, if the container exists.
+fn container_metadata(found: &Found<'_>) -> u64 {
+    match found.standing() {
+        Some(standing) => metadata_len(&standing.metadata),
+        None => 0,
+    }
+}
+
+// How many bytes the policies of a container have, if the container exists.
+fn container_policies(found: &Found<'_>) -> u64 {
+    match found.standing() {
+        Some(standing) => policies_len(&standing.acl.policies),
+        None => 0,
+    }
+}
+
+// How many bytes the metadata of a blob has, if the blob has a committed part.
+fn blob_metadata(found: &Found<'_>, name: &Text) -> u64 {
+    match found.committed(name) {
+        Some(committed) => metadata_len(&committed.metadata),
+        None => 0,
+    }
+}
+
 // What an act takes away of a container, or replaces.
-fn freed_by(alloc: Global, found: &Found<'_>, act: &Act) -> Size {
+fn freed_by(alloc: Global, head: u64, found: &Found<'_>, act: &Act) -> Size {
     match act {
-        Act::PutBlob(put) => blob_size(&found.seen(&put.blob)),
-        Act::PutBlockList(list) => blob_size(&found.seen(&list.blob)),
-        Act::DeleteBlob(delete) => blob_size(&found.seen(&delete.blob)),
-        Act::DeleteContainer => container_size(alloc, found),
+        Act::CreateContainer(_) => Size::of_rows(found_len(head, found)),
+        Act::SetContainerMetadata(_) => Size::of_rows(container_metadata(found)),
+        Act::SetAcl(_) => Size::of_rows(container_policies(found)),
+        Act::DeleteContainer => container_size(alloc, head, found),
+        Act::PutBlob(put) => named_size(head, found, &put.blob),
+        Act::SetMetadata(set) => Size::of_rows(blob_metadata(found, &set.blob)),
+        Act::DeleteBlob(delete) => named_size(head, found, &delete.blob),
+        Act::PutBlockList(list) => named_size(head, found, &list.blob),
         _ => Size::none(),
     }
 }
 
-// What exists more after an act that brings content which is committed at once.
-fn added_by(act: &Act) -> Size {
+// What exists of a blob after Put Blob.
+fn put_size(head: u64, put: &PutBlob) -> Size {
+    let committed = committed_len(&put.props, &put.metadata, whole_len(&put.content));
+    Size {
+        committed: put.content.len(),
+        ..Size::of_rows(blob_len(head, put.blob.as_str().len(), committed))
+    }
+}
+
+// The row that the first block of a blob makes, without the block.
+fn first_block(head: u64, found: &Found<'_>, name: &Text) -> Size {
+    if found.seen(name).row().is_some() {
+        return Size::none();
+    }
+    Size::of_rows(blob_len(head, name.as_str().len(), 0))
+}
+
+// What exists more after an act, without the blob whose list it commits and without an uncommitted block.
+fn added_by(head: u64, found: &Found<'_>, act: &Act) -> Size {
     match act {
-        Act::PutBlob(put) => Size {
-            rows: RECORD_BYTES,
-            committed: put.content.len(),
-            pending: 0,
-        },
+        Act::CreateContainer(create) => {
+            Size::of_rows(created_len(head, metadata_len(&create.metadata)))
+        }
+        Act::SetContainerMetadata(set) => Size::of_rows(metadata_len(&set.metadata)),
+        Act::SetAcl(set) => Size::of_rows(policies_len(&set.acl.policies)),
+        Act::DeleteContainer => Size::of_rows(deleted_len(head)),
+        Act::PutBlob(put) => put_size(head, put),
+        Act::SetMetadata(set) => Size::of_rows(metadata_len(&set.metadata)),
+        Act::PutBlock(put) => first_block(head, found, &put.blob),
         _ => Size::none(),
     }
 }
@@ -265,19 +340,27 @@ fn content_len(act: &Act) -> u64 {
     }
 }
 
-/// What a change writes, and what it does to what exists. If the rows are not in memory, nothing is known of what exists.
+/// How many bytes the record of a change has at most.
+pub(crate) fn bound_of(change: &Change) -> u64 {
+    record_bound(head_of(change.key()), change.act())
+}
+
+/// What a change brings, and what it does to what exists. If the rows are not in memory, nothing is known of what exists.
 pub(crate) fn weigh(alloc: Global, rows: &Option<Rows>, change: &Change) -> Weighed {
     let act = change.act();
+    let head = row_head(change.key());
     let (freed, added) = match rows {
-        Some(rows) => (
-            freed_by(alloc, &rows.find(change.key()), act),
-            added_by(act),
-        ),
+        Some(rows) => {
+            let found = rows.find(change.key());
+            (
+                freed_by(alloc, head, &found, act),
+                added_by(head, &found, act),
+            )
+        }
         None => (Size::none(), Size::none()),
     };
     Weighed {
         content: content_len(act),
-        record: record_len(act),
         freed,
         added,
     }
@@ -314,7 +397,7 @@ pub(crate) fn list_size(rows: &Option<Rows>, list: &Option<BlobName>) -> Size {
         return Size::none();
     };
     match list {
-        Some(name) => blob_size(&rows.find(&name.key).seen(&name.blob)),
+        Some(name) => named_size(row_head(&name.key), &rows.find(&name.key), &name.blob),
         None => Size::none(),
     }
 }

@@ -64,9 +64,9 @@ pub(crate) fn change(rt: &impl Abort, alloc: Global, name: &str) -> Change
     Change::new(key, Act::DeleteContainer).expect(rt, "a good change")
 }
 
-fn logged(answer: Result<(), LogFault>) -> Told {
+fn logged(answer: Result<u64, LogFault>) -> Told {
     match answer {
-        Ok(()) => Told::Done,
+        Ok(_length) => Told::Done,
         Err(LogFault::Busy) => Told::Busy,
         Err(LogFault::Doubt) => Told::Doubt,
         Err(LogFault::NoMemory) => Told::NoMemory,

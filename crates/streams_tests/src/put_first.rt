@@ -29,7 +29,7 @@ fn log_placed<W: Wire>(
     change: Change,
     placed: Pieces,
     wire: &mut W,
-) -> Result<(), LogFault>
+) -> Result<u64, LogFault>
     requires stored { AreStored (laid streams.old.blobs) placed }
     requires same { IsSomeAnd (content_of change.act) (λ ps. map piece_len ps ≡ map piece_len placed) }
 {
@@ -46,7 +46,7 @@ pub(crate) fn put_and_log<W: Wire>(
     change: Change,
     content: &Pieces,
     wire: &mut W,
-) -> Result<(), LogFault>
+) -> Result<u64, LogFault>
     requires held { IsTrue (is_held content.now) }
     requires same { IsSomeAnd (content_of change.act) (λ ps. map piece_len ps ≡ map piece_len content.now) }
 {

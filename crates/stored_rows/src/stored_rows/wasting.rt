@@ -4,7 +4,7 @@ use super::StoredRows;
 
 impl StoredRows {
     /// Whether the bytes of the streams to which no container refers are more than the bytes that exist and 16 MiB, so that a compaction is
-    /// worth its time. Content and records are counted, a record by an estimate.
+    /// worth its time. Content counts, and each record by its length and 256 bytes more.
     ///
     /// No answer depends on it. It is counted as changes are taken, and again from the rows when they are loaded or cut.
     pub fn is_wasteful(&self) -> bool {
