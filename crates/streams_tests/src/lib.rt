@@ -59,6 +59,8 @@ mod stored_samples;
 #[cfg(test)]
 mod stored_tests;
 #[cfg(test)]
+mod stored_waste_tests;
+#[cfg(test)]
 mod stream_samples;
 #[cfg(test)]
 mod stream_share_tests;
