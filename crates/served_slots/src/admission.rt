@@ -1,32 +1,23 @@
 //! Whether the route of a request may admit it, as its head shows.
-ghost use Rattle.std.specs.Prelude.{◌≡◌, IfOk, IsTrue, Ok, true};
-ghost use Rattle.policy_book.specs.Judgements.{signature_under};
-ghost use Rattle.policy_book.specs.declared.judged.Signature.TheVariants as signature;
-ghost use Rattle.served_slots.specs.Admissions.{IsAdmissible, IsJudgedTrue};
+ghost use Rattle.std.specs.Prelude.{◌≡◌, IfOk, Ok, true};
+ghost use Rattle.std.specs.Option.{option_copied};
+ghost use Rattle.access_rules.specs.Signatures.{has_true_signature};
+ghost use Rattle.served_slots.specs.Admissions.{IsAdmissible};
 
-use crate::bare::bare_request;
-use crate::ready::Ready;
 use crate::slots::Slots;
-use policy_book::{Judged, Signature};
+use access_rules::{Keys, is_true_signature};
 use served_history::Account;
 use stamp_types::Ask;
 use std::alloc::{AllocError, Global};
 use std::sync::Wait;
 
-// Whether the pair of keys gives the signature that was judged.
-fn is_true(judged: &Judged) -> bool
-    ensures { IsTrue result → signature_under judged.now.keys judged.now.ask ≡ signature.True }
+// Whether what is asked brings a signature that is true under these keys.
+fn is_signed(alloc: Global, keys: Option<&Keys>, ask: &Ask) -> Result<bool, AllocError>
+    ensures { IfOk result (λ is_signed. is_signed ≡ has_true_signature (option_copied keys.entry) ask.now) }
 {
-    judged.signature() == Signature::True
-}
-
-// Whether the signature of the request was judged to be true.
-fn is_judged_true(ready: &Ready) -> bool
-    ensures { IsTrue result → IsJudgedTrue ready.now.judged }
-{
-    match &ready.judged {
-        Some(judged) => is_true(judged),
-        None => false,
+    match is_true_signature(alloc, keys, ask)? {
+        Some(is_true) => Ok(is_true),
+        None => Ok(false),
     }
 }
 
@@ -43,9 +34,6 @@ pub(crate) fn is_admissible<A: Account, R: Wait>(
 ) -> Result<bool, AllocError>
     ensures { result ≡ Ok true → IsAdmissible ask.now }
 {
-    let Some(request) = bare_request(alloc, ask)? else {
-        return Ok(false);
-    };
-    let ready = slots.ready(rt, alloc, &request)?;
-    Ok(is_judged_true(&ready))
+    let pairs = slots.judging_pairs(rt)?;
+    is_signed(alloc, pairs.current(&ask.key.account), ask)
 }

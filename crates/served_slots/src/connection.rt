@@ -82,10 +82,19 @@ impl<'a, A: Account, R: Wait> Connection<'a, A, R> {
 }
 
 impl<'a, A: Account, R: Wait> Connection<'a, A, R> {
-    // Gives the reserve up, if there is one.
-    fn give_up_reserve(&self) {
-        if let Some(reserve) = self.reserve {
-            let _was_held = reserve.give_up(self.rt);
+    // Gives the reserve up, if there is one. Returns whether it was held.
+    fn give_up_reserve(&self) -> bool {
+        match self.reserve {
+            Some(reserve) => reserve.give_up(self.rt),
+            None => false,
+        }
+    }
+
+    // Whether there is a reserve that is not held.
+    fn is_short(&self) -> bool {
+        match self.reserve {
+            Some(reserve) => !reserve.is_held(),
+            None => false,
         }
     }
 
@@ -124,6 +133,7 @@ impl<'a, A: Account, R: Wait> Connection<'a, A, R> {
             reading,
             moment,
             self.books.is_some(),
+            self.is_short(),
         )?;
         let (reply, entry) = told.fetch()?;
         post(self.rt, self.books, entry);
@@ -154,8 +164,8 @@ impl<'a, A: Account, R: Wait> Service for Connection<'a, A, R> {
     /// The signature is judged and the body is read before a lock is taken. After the locks are given back, bytes of sealed extents are fetched,
     /// and the entry of the audit book is posted.
     ///
-    /// If memory runs out, the reserve is given up, and a request that brings no content is tried once more. One that brings content is not, since
-    /// what it brings would fill the reserve for good; for the same reason it is not tried while the reserve is gone.
+    /// If memory runs out, the reserve is given up, and the request is tried once more. If the reserve was gone before, a request that brings
+    /// content is not tried again.
     ///
     /// `AllocError` if memory runs out. Then the connection knows what it knew. If it runs out for these bytes, the request is an entry that changes
     /// nothing, and the connection does not know it.
@@ -172,8 +182,8 @@ impl<'a, A: Account, R: Wait> Service for Connection<'a, A, R> {
         if let Ok(reply) = self.answer_once(alloc, &request, moment) {
             return Ok(reply);
         }
-        self.give_up_reserve();
-        if brings_content(op) {
+        let was_held = self.give_up_reserve();
+        if brings_content(op) && !was_held {
             return Err(AllocError);
         }
         self.answer_once(alloc, &request, moment)
@@ -193,7 +203,7 @@ impl<'a, A: Account, R: Wait> Service for Connection<'a, A, R> {
 
     /// Gives the reserve up.
     fn starved(&self, _alloc: Global) {
-        self.give_up_reserve();
+        let _was_held = self.give_up_reserve();
     }
 }
 

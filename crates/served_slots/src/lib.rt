@@ -2,7 +2,6 @@
 #![tactic(auto)]
 
 mod admission;
-mod bare;
 #[cfg(test)]
 mod compaction_tests;
 mod connection;

@@ -196,6 +196,11 @@ impl<A: Account> LockedSlot<A> {
         self.slot.is_wasteful()
     }
 
+    /// Whether a compaction is worth its time if memory is short.
+    pub(crate) fn has_garbage(&self) -> bool {
+        self.slot.has_garbage()
+    }
+
     /// Gives up content and rows to which nothing refers. What was replaced may be dropped after the lock.
     pub(crate) fn compact(&mut self, alloc: Global) -> Option<Compacted>
         ensures { self.new ≡ self.old }

@@ -183,12 +183,20 @@ impl<A: Account> Slots<A> {
         ensures first { IfOk result (λ ready. ready.first ≡ routed request.now) }
         ensures judged { IfOk result (λ ready. IsOfAsk ready.judged request.now.ask) }
     {
-        let pairs = one_more(&self.pairs.read(rt))?;
+        let pairs = self.judging_pairs(rt)?;
         Ready::of(alloc, &pairs, request)
     }
 
+    /// The key pairs by which signatures are judged before a lock is taken.
+    ///
+    /// `AllocError` if they can have no further owner.
+    pub(crate) fn judging_pairs<R: Wait>(&self, rt: &R) -> Result<Arc<AccountPairs>, AllocError> {
+        one_more(&self.pairs.read(rt))
+    }
+
     /// Serves a request by the slot that has its first key. The request is then the last entry that the connection knows. If entries of the
-    /// audit book are asked for, the one of the request is by what the history left before it.
+    /// audit book are asked for, the one of the request is by what the history left before it. If memory is short, a slot gives up what few bytes
+    /// it has to which nothing refers before that.
     ///
     /// `AllocError` as of the slot. Then the connection knows what it knew.
     pub(crate) fn serve<R: Wait>(
@@ -201,6 +209,7 @@ impl<A: Account> Slots<A> {
         reading: Reading,
         moment: Moment,
         is_audited: bool,
+        is_short: bool,
     ) -> Result<Told, AllocError>
         requires first { ready.now.first ≡ routed request.now }
         requires judged { IsOfAsk ready.now.judged request.now.ask }
@@ -211,7 +220,7 @@ impl<A: Account> Slots<A> {
         ensures same { OnErr result (known.new ≡ known.old) }
     {
         let table = self.table.read(rt);
-        let mut locked = table.locked(rt, alloc, &ready.first);
+        let mut locked = table.locked(rt, alloc, &ready.first, is_short);
         locked.answer(alloc, known, request, ready, reading, moment, is_audited)
     }
 

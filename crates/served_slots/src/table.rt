@@ -159,16 +159,17 @@ impl<A: Account> Table<A> {
     }
 
     /// Waits for the lock of the slot that has the key. If earlier changes left much to which nothing refers, the slot is compacted first, and what
-    /// that replaces is dropped while the lock is free.
+    /// that replaces is dropped while the lock is free. If memory is short, a little to which nothing refers is enough for that.
     pub(crate) fn locked<R: Wait>(
         &self,
         rt: &R,
         alloc: Global,
         key: &Key,
+        is_short: bool,
     ) -> MutexGuard<'_, LockedSlot<A>> {
         let lock = self.lock_of(key);
         let locked = lock.lock(rt);
-        if locked.is_wasteful() {
+        if locked.is_wasteful() || is_short && locked.has_garbage() {
             return compacted(lock, rt, alloc, locked);
         }
         locked

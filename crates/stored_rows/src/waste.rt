@@ -17,6 +17,9 @@ const BESIDE_BYTES: u64 = 256;
 /// How many bytes more than those that exist streams may have to which nothing refers: 16 MiB.
 const SPARED_BYTES: u64 = 16_777_216;
 
+/// How many bytes more than a sixteenth of those that exist streams may have to which nothing refers if memory is short: 1 MiB.
+const LITTLE_BYTES: u64 = 1_048_576;
+
 /// What exists of a blob, of a container or of all rows.
 #[derive(Clone, Copy)]
 pub(crate) struct Size {
@@ -115,6 +118,17 @@ impl Waste {
             .saturating_add(self.existing.records());
         let written = self.content.saturating_add(self.records);
         written.saturating_sub(existing) > existing.saturating_add(SPARED_BYTES)
+    }
+
+    /// Whether the bytes to which nothing refers are more than 1 MiB and a sixteenth of those that exist: so much is collected if memory is
+    /// short. With a lower bound each deletion of a small blob would have the whole slot written anew.
+    pub(crate) const fn has_garbage(self) -> bool {
+        let existing = self
+            .existing
+            .content()
+            .saturating_add(self.existing.records());
+        let written = self.content.saturating_add(self.records);
+        written.saturating_sub(existing) > (existing / 16).saturating_add(LITTLE_BYTES)
     }
 
     /// After a change was taken, was not taken, or is in doubt. Its record has `written` bytes, and `list` is what exists of the blob

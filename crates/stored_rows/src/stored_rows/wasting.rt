@@ -10,4 +10,10 @@ impl StoredRows {
     pub fn is_wasteful(&self) -> bool {
         self.waste.is_wasteful()
     }
+
+    /// Whether the bytes of the streams to which no container refers are more than 1 MiB and a sixteenth of the bytes that exist, so that a
+    /// compaction is worth its time if memory is short. No answer depends on it.
+    pub fn has_garbage(&self) -> bool {
+        self.waste.has_garbage()
+    }
 }

@@ -39,4 +39,10 @@ impl<H: Histories> StoredSlot<H> {
     pub fn is_wasteful(&self) -> bool {
         self.stored.is_wasteful()
     }
+
+    /// Whether the streams have more than 1 MiB and a sixteenth of what exists to which no container refers, so that a compaction is worth its
+    /// time if memory is short. No answer depends on it.
+    pub fn has_garbage(&self) -> bool {
+        self.stored.has_garbage()
+    }
 }
