@@ -6,6 +6,7 @@ use crate::order::WaitOrder;
 use crate::place::{Content, Counts, Phase, Place};
 use crate::ready::ReadyQueue;
 use crate::socket::Half;
+use crate::turned_away::turn_away;
 use http_front as front;
 use http_front::{Link, Over, Resting, Service, go_on};
 use mio::unix::SourceFd;
@@ -30,6 +31,9 @@ pub(crate) type IdleLink<'a, K, S> = Resting<Half<'a>, Half<'a>, K, S>;
 /// What is in a place.
 pub(crate) type LinkContent<'a, K, S> = Content<SocketLink<'a, K, S>, IdleLink<'a, K, S>>;
 
+/// A place of a connection.
+pub(crate) type LinkPlace<'a, K, S> = Place<SocketLink<'a, K, S>, IdleLink<'a, K, S>>;
+
 /// How a connection waits.
 #[derive(Drop)]
 struct Waiting {
@@ -39,6 +43,8 @@ struct Waiting {
     counts: Counts,
     held: u64,
     interest: Interest,
+    /// How long the worker waited for its peer.
+    waited: Duration,
 }
 
 /// Hands connections to workers, and takes back those that wait.
@@ -60,7 +66,7 @@ pub(crate) struct Gate<
     pub(crate) limits: Limits,
     pub(crate) registry: Registry,
     pub(crate) waker: Waker,
-    pub(crate) places: Vec<Mutex<Place<SocketLink<'a, K, S>, IdleLink<'a, K, S>>>>,
+    pub(crate) places: Vec<Mutex<LinkPlace<'a, K, S>>>,
     /// The indices of the empty places.
     pub(crate) empty: Mutex<Vec<usize>>,
     /// In which order the connections began to wait. It is locked while a place is locked, and never the other way round.
@@ -95,8 +101,11 @@ fn phase<K: front::Clock + Drop, S: Service + Drop>(link: &SocketLink<'_, K, S>)
     if link.is_between() {
         return Phase::Idle;
     }
-    if link.held().is_some() || link.wants_write() {
-        return Phase::Transfer;
+    if link.wants_write() {
+        return Phase::Reply;
+    }
+    if link.held().is_some() {
+        return Phase::Body;
     }
     Phase::Head
 }
@@ -128,6 +137,18 @@ impl<'a, R: Wait + Drop, C: Clock + Drop, K: front::Clock + Drop, S: Service + D
         usize::try_from(self.limits.bodies.saturating_sub(others)).unwrap_or(usize::MAX)
     }
 
+    /// Hands a place to the next worker that is free.
+    pub(crate) fn queue(&self, place: &mut LinkPlace<'a, K, S>, index: usize) {
+        place.queued = self.now();
+        place.is_queued = self.ready.push(&self.rt, index);
+    }
+
+    // A connection as one with which a worker begins to stay, and how many bytes of a body it may have when it waits.
+    fn begin_stay(&self, link: SocketLink<'a, K, S>, held: u64) -> Taken<SocketLink<'a, K, S>> {
+        link.reader().socket.stay.begin();
+        Taken::Link(link, self.room(held))
+    }
+
     /// Takes what is in a place, for a worker.
     pub(crate) fn take(&self, index: usize) -> Taken<SocketLink<'a, K, S>> {
         let Some(place) = self.places.get(index) else {
@@ -137,8 +158,8 @@ impl<'a, R: Wait + Drop, C: Clock + Drop, K: front::Clock + Drop, S: Service + D
         let place = &mut *place;
         place.is_queued = false;
         match mem::replace(&mut place.content, Content::Busy) {
-            Content::Idle(link) => Taken::Link(link.wake(), self.room(place.held)),
-            Content::Waiting(link) => Taken::Link(Box::into_inner(link), self.room(place.held)),
+            Content::Idle(link) => self.begin_stay(link.wake(), place.held),
+            Content::Waiting(link) => self.begin_stay(Box::into_inner(link), place.held),
             Content::Lingering(lingering) => Taken::Lingering(lingering),
             content => {
                 place.content = content;
@@ -154,7 +175,7 @@ impl<'a, R: Wait + Drop, C: Clock + Drop, K: front::Clock + Drop, S: Service + D
             .is_ok()
     }
 
-    /// Puts a connection that waits into its place.
+    /// Puts a connection that waits into its place, or ends it if it was waited for too long.
     pub(crate) fn park(&self, link: SocketLink<'a, K, S>) {
         let waiting = Waiting {
             index: link.reader().socket.index,
@@ -163,22 +184,26 @@ impl<'a, R: Wait + Drop, C: Clock + Drop, K: front::Clock + Drop, S: Service + D
             counts: counts(link.reader(), link.writer()),
             held: link.held().unwrap_or(0) as u64,
             interest: interest(&link),
+            waited: link.reader().socket.stay.waited(),
         };
+        if self.is_late(&waiting) {
+            return self.give_up(link);
+        }
         match link.rest(self.alloc) {
             Ok(link) => self.put(&waiting, Content::Idle(link)),
             Err(link) => match Box::new(self.alloc, link) {
                 Ok(link) => self.put(&waiting, Content::Waiting(link)),
-                Err(failed) => self.give_up(failed.value),
+                Err(failed) => self.starve(failed.value),
             },
         }
     }
 
-    // Puts a connection that waits into its place. What came in the meantime is reported, since the place is locked until the
-    // connection is there.
-    fn put(&self, waiting: &Waiting, content: LinkContent<'a, K, S>) {
+    // Notes what a connection waits for after a stay. Returns whether it was waited for too long. The time from which on it had something
+    // to do is left out, unless the worker waited for the peer.
+    fn is_late(&self, waiting: &Waiting) -> bool {
         let now = self.now();
         let Some(place) = self.places.get(waiting.index) else {
-            return;
+            return false;
         };
         let mut place = place.lock(&self.rt);
         let place = &mut *place;
@@ -186,7 +211,22 @@ impl<'a, R: Wait + Drop, C: Clock + Drop, K: front::Clock + Drop, S: Service + D
             self.order
                 .lock(&self.rt)
                 .begin(waiting.index, waiting.phase);
+            return false;
         }
+        let owed = now.saturating_sub(place.queued);
+        place.timer.leave_out(owed.saturating_sub(waiting.waited));
+        !place.timer.tried(waiting.counts, now)
+            && place.timer.is_late(waiting.counts, now, &self.limits)
+    }
+
+    // Puts a connection that waits into its place. What came in the meantime is reported, since the place is locked until the
+    // connection is there.
+    fn put(&self, waiting: &Waiting, content: LinkContent<'a, K, S>) {
+        let Some(place) = self.places.get(waiting.index) else {
+            return;
+        };
+        let mut place = place.lock(&self.rt);
+        let place = &mut *place;
         self.held.fetch_add(waiting.held, Ordering::SeqCst);
         self.held.fetch_sub(place.held, Ordering::SeqCst);
         place.held = waiting.held;
@@ -194,7 +234,7 @@ impl<'a, R: Wait + Drop, C: Clock + Drop, K: front::Clock + Drop, S: Service + D
         place.content = content;
         if !polled && !place.is_queued {
             // Nobody else would wake it.
-            place.is_queued = self.ready.push(&self.rt, waiting.index);
+            self.queue(place, waiting.index);
         }
     }
 
@@ -211,6 +251,8 @@ impl<'a, R: Wait + Drop, C: Clock + Drop, K: front::Clock + Drop, S: Service + D
         let place = &mut *place;
         self.held.fetch_sub(place.held, Ordering::SeqCst);
         place.held = 0;
+        // It gives way to no newcomer.
+        self.order.lock(&self.rt).remove(index);
         // If it cannot be polled, it is closed when it was silent for too long.
         let _polled = self.poll_again(place.descriptor, token, Interest::READABLE);
         place.content = Content::Lingering(lingering);
@@ -252,6 +294,14 @@ impl<'a, R: Wait + Drop, C: Clock + Drop, K: front::Clock + Drop, S: Service + D
         // There is room for each place.
         let _pushed = empty.push(index);
         was_full
+    }
+
+    // Ends a connection for which memory ran out. If no reply was begun, its peer is told so.
+    fn starve(&self, link: SocketLink<'a, K, S>) {
+        if !link.wants_write() {
+            turn_away(self.alloc, &link.reader().socket.stream);
+        }
+        self.give_up(link);
     }
 
     /// Ends a connection that waited too long: its next read or write fails.

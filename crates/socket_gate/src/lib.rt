@@ -4,6 +4,7 @@
 mod gate;
 mod limits;
 mod lingering;
+mod listener;
 mod order;
 mod place;
 mod poller;
@@ -12,6 +13,8 @@ mod serve;
 mod services;
 mod socket;
 mod source;
+mod stay;
+mod turned_away;
 
 pub use limits::Limits;
 pub use serve::serve_listener;

@@ -39,7 +39,7 @@ impl WaitOrder {
         match phase {
             Phase::Idle => Some(self.places),
             Phase::Head => Some(self.places.wrapping_add(1)),
-            Phase::Transfer => None,
+            Phase::Body | Phase::Reply => None,
         }
     }
 

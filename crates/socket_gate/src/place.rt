@@ -9,6 +9,16 @@ use std::time::Duration;
 /// Tokens of one place are so far apart: as many as there are places at most.
 pub(crate) const SPAN: usize = 16_384;
 
+/// After so many seconds a write is tried of a reply that waits. From then on all of the system's room is taken, and more of the reply goes
+/// only if its peer takes some.
+const TRIED: u64 = 1;
+
+/// Over so many spans a reply is looked at first, and then over so many. A peer's system tells only once a sixteenth of its room is free that
+/// it takes more, and a slow reader may need longer for that than one span.
+const FIRST_SPANS: u32 = 2;
+
+const SPANS: u32 = 6;
+
 /// What a connection waits for.
 #[derive(Clone, Copy, Debug, PartialEq, Eq)]
 pub(crate) enum Phase {
@@ -16,8 +26,10 @@ pub(crate) enum Phase {
     Idle,
     /// The rest of a head.
     Head,
-    /// The rest of a body, or that a reply is taken.
-    Transfer,
+    /// The rest of a body.
+    Body,
+    /// That more of a reply is taken.
+    Reply,
 }
 
 /// How many bytes of a connection were received, and how many were sent.
@@ -33,6 +45,9 @@ pub(crate) struct Timer {
     pub(crate) phase: Phase,
     pub(crate) since: Duration,
     counts: Counts,
+    /// How often its time began anew since the connection began to wait for this: once a write was tried, and each time enough bytes were
+    /// received or sent.
+    renewed: u32,
 }
 
 /// What is in a place.
@@ -61,6 +76,8 @@ pub(crate) struct Place<L: Drop, I: Drop> {
     pub(crate) held: u64,
     /// Whether a worker was told of the place and has not come yet.
     pub(crate) is_queued: bool,
+    /// When a worker was told of the place last.
+    pub(crate) queued: Duration,
     pub(crate) content: Content<L, I>,
 }
 
@@ -76,6 +93,7 @@ impl Timer {
                 received: 0,
                 sent: 0,
             },
+            renewed: 0,
         }
     }
 
@@ -85,7 +103,7 @@ impl Timer {
             Phase::Idle => counts.received == self.counts.received,
             // No item was answered since then.
             Phase::Head => counts.sent == self.counts.sent,
-            Phase::Transfer => true,
+            Phase::Body | Phase::Reply => true,
         };
         if phase == self.phase && goes_on {
             return false;
@@ -94,27 +112,65 @@ impl Timer {
             phase,
             since: now,
             counts,
+            renewed: 0,
         };
         true
     }
 
-    /// Whether the connection was waited for too long.
+    /// Leaves a time out in which the peer was not waited for.
+    pub(crate) fn leave_out(&mut self, owed: Duration) {
+        self.since = self.since.saturating_add(owed);
+    }
+
+    // Begins the time anew.
+    fn renew(&mut self, counts: Counts, now: Duration) {
+        self.since = now;
+        self.counts = counts;
+        self.renewed = self.renewed.saturating_add(1);
+    }
+
+    /// Notes that a write of a reply was tried, if it was the first one after a second. Returns whether it was.
+    pub(crate) fn tried(&mut self, counts: Counts, now: Duration) -> bool {
+        let is_first = self.phase == Phase::Reply
+            && self.renewed == 0
+            && now.saturating_sub(self.since) >= Duration::from_secs(TRIED);
+        if is_first {
+            self.renew(counts, now);
+        }
+        is_first
+    }
+
+    /// Whether the connection was waited for too long, or a write of its reply has to be tried. If enough bytes of a body or a reply were received or sent, its time begins anew.
     pub(crate) fn is_late(&mut self, counts: Counts, now: Duration, limits: &Limits) -> bool {
         let passed = now.saturating_sub(self.since);
         match self.phase {
             Phase::Idle => passed >= limits.idle,
             Phase::Head => passed >= limits.head,
-            Phase::Transfer => passed >= limits.span && !self.has_moved(counts, now, limits.rate),
+            Phase::Body => passed >= limits.span && !self.moves(counts, now, limits.rate),
+            Phase::Reply => {
+                if self.renewed == 0 {
+                    return passed >= Duration::from_secs(TRIED);
+                }
+                let spans = if self.renewed == 1 {
+                    FIRST_SPANS
+                } else {
+                    SPANS
+                };
+                let rate = limits.rate.saturating_mul(u64::from(spans));
+                passed >= limits.span.saturating_mul(spans) && !self.moves(counts, now, rate)
+            }
         }
     }
 
-    // Whether so many bytes were received or sent since this was asked last.
-    fn has_moved(&mut self, counts: Counts, now: Duration, rate: u64) -> bool {
+    // Whether so many bytes were received or sent since the time began. Then it begins anew.
+    fn moves(&mut self, counts: Counts, now: Duration, rate: u64) -> bool {
         let received = counts.received.wrapping_sub(self.counts.received);
         let sent = counts.sent.wrapping_sub(self.counts.sent);
-        self.since = now;
-        self.counts = counts;
-        received.saturating_add(sent) >= rate
+        let moves = received.saturating_add(sent) >= rate;
+        if moves {
+            self.renew(counts, now);
+        }
+        moves
     }
 }
 
@@ -127,6 +183,7 @@ impl<L: Drop, I: Drop> Place<L, I> {
             timer: Timer::new(Duration::ZERO),
             held: 0,
             is_queued: false,
+            queued: Duration::ZERO,
             content: Content::Empty,
         }
     }

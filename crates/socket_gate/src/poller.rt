@@ -1,10 +1,11 @@
 //! The thread that polls: it takes new connections, tells workers which connections have something to do, and ends those that are slow.
 
-use crate::gate::{Gate, IdleLink, SocketLink, counts};
+use crate::gate::{Gate, IdleLink, LinkPlace, SocketLink, counts};
 use crate::lingering::Lingering;
 use crate::place::{Content, Phase, SPAN, Timer};
 use crate::services::Services;
 use crate::socket::{Half, Socket, comes_within};
+use crate::turned_away::turn_away;
 use http_front as front;
 use http_front::{Link, Service};
 use mio::unix::SourceFd;
@@ -28,19 +29,29 @@ const LOOK: u64 = 1000;
 /// How many milliseconds pass until the next connection is asked for after an error that passes, or while there is no place.
 const PAUSE: u64 = 10;
 
-/// How many connections are taken before other connections get their turn.
-const ACCEPTS: usize = 64;
-
 /// How many connections are looked at to find one that gives way. There are at most 64 workers, so only a long queue hides one.
 const LOOKS: usize = 256;
 
 /// How many reads are made of one connection at most.
 const TURNS: u64 = 4_294_967_296;
 
-/// Errors of Linux after which a listener goes on at once: the connection was given up.
-const GIVEN_UP: [i32; 2] = [
+/// Errors of Linux after which a listener goes on at once: the connection was given up, or its network failed before it was taken (accept(2),
+/// "Error handling").
+const GIVEN_UP: [i32; 9] = [
     103, // ECONNABORTED
     71, // EPROTO
+    100, // ENETDOWN
+    92, // ENOPROTOOPT
+    112, // EHOSTDOWN
+    64, // ENONET
+    113, // EHOSTUNREACH
+    95, // EOPNOTSUPP
+    101, // ENETUNREACH
+];
+
+/// The error of Linux if a rule of a firewall forbids the connection. It may come again at once, so the listener pauses.
+const FORBIDDEN: [i32; 1] = [
+    1, // EPERM
 ];
 
 /// Errors of Linux after which a listener goes on once there is a descriptor or memory for one more.
@@ -58,7 +69,7 @@ enum Asked {
     Came,
     /// None waits. The listener says when the next one comes.
     Nobody,
-    /// There is no place, no descriptor or no memory for one more.
+    /// There is no place, no descriptor or no memory for one more, or it is forbidden.
     Short,
     /// No more connections are taken.
     Closed,
@@ -101,10 +112,9 @@ impl<'a, R: Wait + Drop, C: Clock + Drop, K: front::Clock + Drop, S: Service + D
                 self.ready.close(&self.rt);
                 return;
             }
-            if self.tell(events) && asked != Asked::Closed {
-                asked = Asked::Came;
-            }
-            if asked == Asked::Came || asked == Asked::Short {
+            self.tell(events);
+            // The listener's own event may come after many others.
+            if asked != Asked::Closed {
                 asked = self.accept_all(services, &mut next);
             }
             let now = self.now();
@@ -119,16 +129,14 @@ impl<'a, R: Wait + Drop, C: Clock + Drop, K: front::Clock + Drop, S: Service + D
         }
     }
 
-    // Tells workers which connections have something to do. Returns whether there may be a new connection, or a place for one.
-    fn tell(&self, events: &Events) -> bool {
-        let mut may_take = false;
+    // Tells workers which connections have something to do.
+    fn tell(&self, events: &Events) {
         for event in events.iter() {
             match event.token().0 {
-                LISTENER | WAKER => may_take = true,
+                LISTENER | WAKER => {}
                 token => self.wake(token),
             }
         }
-        may_take
     }
 
     // Tells a worker that a connection has something to do. If a worker has it, no more is reported until it waits again.
@@ -148,14 +156,14 @@ impl<'a, R: Wait + Drop, C: Clock + Drop, K: front::Clock + Drop, S: Service + D
                 let _polled = self.poll_again(place.descriptor, token, Interest::PRIORITY);
             }
             Content::Idle(_) | Content::Waiting(_) | Content::Lingering(_) => {
-                place.is_queued = self.ready.push(&self.rt, index);
+                self.queue(place, index);
             }
         }
     }
 
-    // Takes connections until none waits, or until others have to get their turn.
+    // Takes connections until none waits. No more than there are places are taken before other connections get their turn.
     fn accept_all<V: Services<K, S>>(&self, services: &V, next: &mut Option<(K, S)>) -> Asked {
-        for _ in 0..ACCEPTS {
+        for _ in 0..self.places.len() {
             let asked = self.ask(services, next);
             if asked == Asked::Closed {
                 self.is_closed.store(true, Ordering::SeqCst);
@@ -198,6 +206,9 @@ impl<'a, R: Wait + Drop, C: Clock + Drop, K: front::Clock + Drop, S: Service + D
         if is_one_of(error, &GIVEN_UP) {
             return Asked::Came;
         }
+        if is_one_of(error, &FORBIDDEN) {
+            return Asked::Short;
+        }
         if !is_one_of(error, &SHORT) {
             return Asked::Closed;
         }
@@ -216,7 +227,7 @@ impl<'a, R: Wait + Drop, C: Clock + Drop, K: front::Clock + Drop, S: Service + D
         Asked::Short
     }
 
-    // Gives a new connection a place, or closes it if it cannot be polled.
+    // Gives a new connection a place. If there is no memory for it, its peer is told so, and it is closed.
     fn admit(&self, index: usize, stream: TcpStream, next: Option<(K, S)>) {
         let descriptor = stream.as_raw_fd();
         let is_polled = match self.new_link(index, stream, next) {
@@ -235,9 +246,9 @@ impl<'a, R: Wait + Drop, C: Clock + Drop, K: front::Clock + Drop, S: Service + D
         stream: TcpStream,
         next: Option<(K, S)>,
     ) -> Option<IdleLink<'a, K, S>> {
+        let (clock, service) = next?;
         let token = self.token(index);
         let socket = self.socket(stream, index, token)?;
-        let (clock, service) = next?;
         let (reader, writer) = self.halves(socket)?;
         let link = Link::new(self.alloc, reader, writer, clock, service, TURNS);
         link.rest(self.alloc).ok()
@@ -251,12 +262,19 @@ impl<'a, R: Wait + Drop, C: Clock + Drop, K: front::Clock + Drop, S: Service + D
         }
     }
 
-    // The socket of a new connection. Small replies are sent at once.
+    // The socket of a new connection. Small replies are sent at once. If there is no memory for it, its peer is told so.
     fn socket(&self, stream: TcpStream, index: usize, token: usize) -> Option<Arc<Socket>> {
         if stream.set_nodelay(true).is_err() || stream.set_nonblocking(true).is_err() {
+            turn_away(self.alloc, &stream);
             return None;
         }
-        Arc::new(self.alloc, Socket::new(stream, index, token)).ok()
+        match Arc::new(self.alloc, Socket::new(stream, index, token)) {
+            Ok(socket) => Some(socket),
+            Err(failed) => {
+                turn_away(self.alloc, &failed.value.stream);
+                None
+            }
+        }
     }
 
     // The reader and the writer of a socket.
@@ -265,7 +283,8 @@ impl<'a, R: Wait + Drop, C: Clock + Drop, K: front::Clock + Drop, S: Service + D
         Some((Half::new(other, self.ready), Half::new(socket, self.ready)))
     }
 
-    // Puts a new connection into its place, and has it polled. Returns whether it can be.
+    // Puts a new connection into its place, and has it polled. If it cannot be polled, its peer is told that memory ran out. Returns whether
+    // it is polled.
     fn register(&self, index: usize, descriptor: RawFd, link: IdleLink<'a, K, S>) -> bool {
         let Some(place) = self.places.get(index) else {
             return false;
@@ -284,6 +303,8 @@ impl<'a, R: Wait + Drop, C: Clock + Drop, K: front::Clock + Drop, S: Service + D
             place.timer = Timer::new(now);
             place.content = Content::Idle(link);
             self.order.lock(&self.rt).begin(index, Phase::Idle);
+        } else {
+            turn_away(self.alloc, &link.reader().socket.stream);
         }
         polled
     }
@@ -299,11 +320,19 @@ impl<'a, R: Wait + Drop, C: Clock + Drop, K: front::Clock + Drop, S: Service + D
         }
     }
 
-    // Takes the connection of a place that was waited for too long.
-    fn slow(&self, index: usize, now: Duration) -> Option<Slow<SocketLink<'a, K, S>>> {
-        let mut place = self.places.get(index)?.lock(&self.rt);
-        let place = &mut *place;
-        let is_late = match &place.content {
+    // Whether a connection that waits may have something to do of which nobody was told yet. The poll tells of room for a reply only once a
+    // third of all room is free, so only a write can find out.
+    fn may_go_on(&self, place: &LinkPlace<'a, K, S>) -> bool {
+        match &place.content {
+            Content::Idle(_) => comes_within(place.descriptor, 0),
+            Content::Waiting(link) => link.wants_write() || comes_within(place.descriptor, 0),
+            Content::Lingering(_) | Content::Empty | Content::Busy => false,
+        }
+    }
+
+    // Whether the connection of a place was waited for too long.
+    fn is_slow(&self, place: &mut LinkPlace<'a, K, S>, now: Duration) -> bool {
+        match &place.content {
             Content::Idle(link) => {
                 let counts = counts(link.reader(), link.writer());
                 place.timer.is_late(counts, now, &self.limits)
@@ -314,8 +343,19 @@ impl<'a, R: Wait + Drop, C: Clock + Drop, K: front::Clock + Drop, S: Service + D
             }
             Content::Lingering(lingering) => lingering.is_late(now),
             Content::Empty | Content::Busy => false,
-        };
-        if !is_late {
+        }
+    }
+
+    // Takes the connection of a place that was waited for too long. If it may have something to do, a worker stays with it first, and then
+    // it is looked at again.
+    fn slow(&self, index: usize, now: Duration) -> Option<Slow<SocketLink<'a, K, S>>> {
+        let mut place = self.places.get(index)?.lock(&self.rt);
+        let place = &mut *place;
+        if place.is_queued || !self.is_slow(place, now) {
+            return None;
+        }
+        if self.may_go_on(place) {
+            self.queue(place, index);
             return None;
         }
         match mem::replace(&mut place.content, Content::Busy) {
@@ -351,6 +391,10 @@ impl<'a, R: Wait + Drop, C: Clock + Drop, K: front::Clock + Drop, S: Service + D
         let mut place = self.places.get(index)?.lock(&self.rt);
         let place = &mut *place;
         if place.timer.phase != phase || place.is_queued {
+            return None;
+        }
+        if phase == Phase::Idle && self.may_go_on(place) {
+            self.queue(place, index);
             return None;
         }
         match mem::replace(&mut place.content, Content::Busy) {

@@ -39,10 +39,13 @@ impl ReadyQueue {
 
     /// Hands a place to the next worker that is free. Returns whether there was room for it.
     pub(crate) fn push<R: Wait>(&self, rt: &R, index: usize) -> bool {
+        // It is counted before a worker can take it, so that the count is never below zero.
+        self.length.fetch_add(1, Ordering::SeqCst);
         let pushed = self.queue.lock(rt).indices.push_back(index).is_ok();
         if pushed {
-            self.length.fetch_add(1, Ordering::SeqCst);
             self.changed.notify_one();
+        } else {
+            self.length.fetch_sub(1, Ordering::SeqCst);
         }
         pushed
     }
@@ -70,6 +73,11 @@ impl ReadyQueue {
     pub(crate) fn close<R: Wait>(&self, rt: &R) {
         self.queue.lock(rt).is_closed = true;
         self.changed.notify_all();
+    }
+
+    /// Whether more connections have something to do than workers are free.
+    pub(crate) fn is_short(&self) -> bool {
+        self.length.load(Ordering::SeqCst) > self.idle.load(Ordering::SeqCst)
     }
 
     /// Whether a worker may wait for its connection a little: no other connection has something to do, and another worker is free.

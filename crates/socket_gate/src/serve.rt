@@ -2,6 +2,7 @@
 
 use crate::gate::Gate;
 use crate::limits::Limits;
+use crate::listener::prepare;
 use crate::order::WaitOrder;
 use crate::place::{Place, SPAN};
 use crate::poller::{LISTENER, WAKER};
@@ -141,7 +142,7 @@ pub fn serve_listener<
     services: &'x V,
     limits: Limits,
 ) -> io::Result<()> {
-    listener.set_nonblocking(true)?;
+    prepare(listener)?;
     let count = most_connections(&limits);
     let ready = ReadyQueue::new(alloc, count)?;
     let EmptyPlaces {

@@ -1,6 +1,7 @@
 //! The socket of one connection, as its reader and its writer.
 
 use crate::ready::ReadyQueue;
+use crate::stay::{Stay, nanoseconds};
 use libc::net::{POLLIN, poll};
 use libc::types::pollfd;
 use std::io;
@@ -20,6 +21,7 @@ pub(crate) struct Socket {
     pub(crate) stream: TcpStream,
     pub(crate) index: usize,
     pub(crate) token: usize,
+    pub(crate) stay: Stay,
     late: AtomicBool,
 }
 
@@ -40,6 +42,7 @@ impl Socket {
             stream,
             index,
             token,
+            stay: Stay::new(),
             late: AtomicBool::new(false),
         }
     }
@@ -54,6 +57,9 @@ impl Socket {
         self.late.load(Ordering::SeqCst)
     }
 }
+
+/// A write of so many bytes at most is made even if the stay is over: the bytes that say that memory ran out are written only once.
+const SMALL: usize = 1024;
 
 /// Whether something comes to a socket within so many milliseconds: bytes, their end, or, to a listener, a connection.
 pub(crate) fn comes_within(descriptor: RawFd, milliseconds: i32) -> bool {
@@ -81,10 +87,22 @@ impl<'a> Half<'a> {
         }
     }
 
+    // Whether something comes, if the worker waits a little.
+    fn comes_soon(&self) -> bool {
+        let began = nanoseconds();
+        let comes = comes_within(self.socket.stream.as_raw_fd(), LINGER);
+        self.socket.stay.waited_since(began);
+        comes
+    }
+
     // Whether a read would most likely find nothing, also if it waits a little. It does not wait if somebody else has something to do.
     fn stays_empty(&self) -> bool {
-        self.is_drained
-            && !(self.ready.is_calm() && comes_within(self.socket.stream.as_raw_fd(), LINGER))
+        self.is_drained && !(self.ready.is_calm() && self.comes_soon())
+    }
+
+    // Whether the connection has to let another one have the worker. Counts a read or a write.
+    fn is_over(&self) -> bool {
+        self.socket.stay.is_over(self.ready.is_short())
     }
 }
 
@@ -93,8 +111,8 @@ impl Read for Half<'_> {
         if self.socket.is_late() {
             return Err(io::Error::from(ErrorKind::TimedOut));
         }
-        if self.stays_empty() {
-            // What comes from now on is reported, since the connection is polled anew when it waits.
+        if self.is_over() || self.stays_empty() {
+            // What is here, or comes from now on, is reported, since the connection is polled anew when it waits.
             self.is_drained = false;
             return Err(io::Error::from(ErrorKind::WouldBlock));
         }
@@ -115,10 +133,13 @@ impl Read for Half<'_> {
 }
 
 impl Write for Half<'_> {
-    // If the socket takes nothing now, its connection waits until it does.
+    // If the socket takes nothing now, or the stay is over, the connection waits until the socket takes more.
     fn write(&mut self, buf: &[u8]) -> io::Result<usize> {
         if self.socket.is_late() {
             return Err(io::Error::from(ErrorKind::TimedOut));
+        }
+        if self.is_over() && buf.len() > SMALL {
+            return Err(io::Error::from(ErrorKind::WouldBlock));
         }
         let mut stream: &TcpStream = &self.socket.stream;
         let count = stream.write(buf)?;
