@@ -3,12 +3,12 @@
 use crate::limits::Limits;
 use crate::lingering::Lingering;
 use crate::order::WaitOrder;
-use crate::place::{Content, Counts, Phase, Place};
+use crate::place::{Content, Counts, Held, Phase, Place};
 use crate::ready::ReadyQueue;
 use crate::socket::Half;
 use crate::turned_away::turn_away;
 use http_front as front;
-use http_front::{Link, Over, Resting, Service, go_on};
+use http_front::{Link, Over, Resting, Rooms, Service, go_on};
 use mio::unix::SourceFd;
 use mio::{Interest, Registry, Token, Waker};
 use std::alloc::Global;
@@ -41,7 +41,7 @@ struct Waiting {
     token: usize,
     phase: Phase,
     counts: Counts,
-    held: u64,
+    held: Held,
     interest: Interest,
     /// How long the worker waited for its peer.
     waited: Duration,
@@ -75,6 +75,8 @@ pub(crate) struct Gate<
     pub(crate) connections: AtomicUsize,
     /// How many bytes the unfinished bodies have of the connections that wait.
     pub(crate) held: AtomicU64,
+    /// How many of them are of bodies that the route of their request is not known to admit.
+    pub(crate) others: AtomicU64,
     /// Whether no more connections are taken.
     pub(crate) is_closed: AtomicBool,
 }
@@ -84,7 +86,7 @@ pub(crate) struct Gate<
 pub(crate) enum Taken<L: Drop> {
     Nothing,
     /// A connection, and how many bytes of a body it may have when it waits.
-    Link(L, usize),
+    Link(L, Rooms),
     Lingering(Lingering),
 }
 
@@ -94,6 +96,20 @@ pub(crate) fn counts(reader: &Half<'_>, writer: &Half<'_>) -> Counts {
         received: reader.count,
         sent: writer.count,
     }
+}
+
+// How many bytes of a body a connection has that is not whole.
+fn held<K: front::Clock + Drop, S: Service + Drop>(link: &SocketLink<'_, K, S>) -> Held {
+    let bytes = link.held().unwrap_or(0) as u64;
+    Held {
+        bytes,
+        others: if link.is_admitted() { 0 } else { bytes },
+    }
+}
+
+// So many bytes, or as many as can be counted.
+fn counted(bytes: u64) -> usize {
+    usize::try_from(bytes).unwrap_or(usize::MAX)
 }
 
 // What a connection waits for.
@@ -131,10 +147,29 @@ impl<'a, R: Wait + Drop, C: Clock + Drop, K: front::Clock + Drop, S: Service + D
         self.clock.monotonic().unwrap_or(Duration::ZERO)
     }
 
-    // How many bytes an unfinished body may have, if it had so many when it waited last.
-    fn room(&self, held: u64) -> usize {
-        let others = self.held.load(Ordering::SeqCst).saturating_sub(held);
-        usize::try_from(self.limits.bodies.saturating_sub(others)).unwrap_or(usize::MAX)
+    // How many bytes an unfinished body may have, if it had so many when it waited last. Bodies that the route of their request is not known to
+    // admit share a quarter of the room, so whoever has no key cannot take all of it.
+    fn rooms(&self, held: Held) -> Rooms {
+        let all = self.held.load(Ordering::SeqCst).saturating_sub(held.bytes);
+        let others = self
+            .others
+            .load(Ordering::SeqCst)
+            .saturating_sub(held.others);
+        let left = self.limits.bodies.saturating_sub(all);
+        let quarter = (self.limits.bodies / 4).saturating_sub(others);
+        Rooms {
+            admitted: counted(left),
+            others: counted(left.min(quarter)),
+        }
+    }
+
+    // Notes how many bytes of a body the connection of a place has now.
+    fn hold(&self, place: &mut LinkPlace<'a, K, S>, held: Held) {
+        self.held.fetch_add(held.bytes, Ordering::SeqCst);
+        self.others.fetch_add(held.others, Ordering::SeqCst);
+        self.held.fetch_sub(place.held.bytes, Ordering::SeqCst);
+        self.others.fetch_sub(place.held.others, Ordering::SeqCst);
+        place.held = held;
     }
 
     /// Hands a place to the next worker that is free.
@@ -144,9 +179,9 @@ impl<'a, R: Wait + Drop, C: Clock + Drop, K: front::Clock + Drop, S: Service + D
     }
 
     // A connection as one with which a worker begins to stay, and how many bytes of a body it may have when it waits.
-    fn begin_stay(&self, link: SocketLink<'a, K, S>, held: u64) -> Taken<SocketLink<'a, K, S>> {
+    fn begin_stay(&self, link: SocketLink<'a, K, S>, held: Held) -> Taken<SocketLink<'a, K, S>> {
         link.reader().socket.stay.begin();
-        Taken::Link(link, self.room(held))
+        Taken::Link(link, self.rooms(held))
     }
 
     /// Takes what is in a place, for a worker.
@@ -182,7 +217,7 @@ impl<'a, R: Wait + Drop, C: Clock + Drop, K: front::Clock + Drop, S: Service + D
             token: link.reader().socket.token,
             phase: phase(&link),
             counts: counts(link.reader(), link.writer()),
-            held: link.held().unwrap_or(0) as u64,
+            held: held(&link),
             interest: interest(&link),
             waited: link.reader().socket.stay.waited(),
         };
@@ -227,9 +262,7 @@ impl<'a, R: Wait + Drop, C: Clock + Drop, K: front::Clock + Drop, S: Service + D
         };
         let mut place = place.lock(&self.rt);
         let place = &mut *place;
-        self.held.fetch_add(waiting.held, Ordering::SeqCst);
-        self.held.fetch_sub(place.held, Ordering::SeqCst);
-        place.held = waiting.held;
+        self.hold(place, waiting.held);
         let polled = self.poll_again(place.descriptor, waiting.token, waiting.interest);
         place.content = content;
         if !polled && !place.is_queued {
@@ -249,8 +282,7 @@ impl<'a, R: Wait + Drop, C: Clock + Drop, K: front::Clock + Drop, S: Service + D
         };
         let mut place = place.lock(&self.rt);
         let place = &mut *place;
-        self.held.fetch_sub(place.held, Ordering::SeqCst);
-        place.held = 0;
+        self.hold(place, Held::nothing());
         // It gives way to no newcomer.
         self.order.lock(&self.rt).remove(index);
         // If it cannot be polled, it is closed when it was silent for too long.
@@ -265,8 +297,7 @@ impl<'a, R: Wait + Drop, C: Clock + Drop, K: front::Clock + Drop, S: Service + D
         };
         let mut place = place.lock(&self.rt);
         let place = &mut *place;
-        self.held.fetch_sub(place.held, Ordering::SeqCst);
-        place.held = 0;
+        self.hold(place, Held::nothing());
         place.token = place.token.wrapping_add(crate::place::SPAN);
         place.descriptor = -1;
         place.content = Content::Empty;
@@ -308,7 +339,11 @@ impl<'a, R: Wait + Drop, C: Clock + Drop, K: front::Clock + Drop, S: Service + D
     pub(crate) fn give_up(&self, link: SocketLink<'a, K, S>) {
         let index = link.reader().socket.index;
         link.reader().socket.give_up();
-        match go_on(self.alloc, link, usize::MAX) {
+        let rooms = Rooms {
+            admitted: usize::MAX,
+            others: usize::MAX,
+        };
+        match go_on(self.alloc, link, rooms) {
             Ok(link) => self.close(index, link),
             Err(over) => self.end(over),
         }

@@ -18,7 +18,7 @@ pub struct Limits {
     pub rate: u64,
     /// How many connections there may be. There are fewer if the process may have fewer descriptors.
     pub connections: usize,
-    /// How many bytes unfinished bodies may have in all, of the connections that wait.
+    /// How many bytes unfinished bodies may have in all, of the connections that wait. Those whose head shows no true signature share a quarter.
     pub bodies: u64,
 }
 

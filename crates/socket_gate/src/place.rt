@@ -39,6 +39,23 @@ pub(crate) struct Counts {
     pub(crate) sent: u64,
 }
 
+/// How many bytes of an unfinished body have come, and how many of a body that the route of its request is not known to admit.
+#[derive(Clone, Copy, Debug)]
+pub(crate) struct Held {
+    pub(crate) bytes: u64,
+    pub(crate) others: u64,
+}
+
+impl Held {
+    /// No body.
+    pub(crate) const fn nothing() -> Self {
+        Self {
+            bytes: 0,
+            others: 0,
+        }
+    }
+}
+
 /// Since when a connection waits for something.
 #[derive(Clone, Copy, Debug)]
 pub(crate) struct Timer {
@@ -73,7 +90,7 @@ pub(crate) struct Place<L: Drop, I: Drop> {
     pub(crate) descriptor: RawFd,
     pub(crate) timer: Timer,
     /// How many bytes its unfinished body had when it waited last.
-    pub(crate) held: u64,
+    pub(crate) held: Held,
     /// Whether a worker was told of the place and has not come yet.
     pub(crate) is_queued: bool,
     /// When a worker was told of the place last.
@@ -181,7 +198,7 @@ impl<L: Drop, I: Drop> Place<L, I> {
             token: index,
             descriptor: -1,
             timer: Timer::new(Duration::ZERO),
-            held: 0,
+            held: Held::nothing(),
             is_queued: false,
             queued: Duration::ZERO,
             content: Content::Empty,

@@ -170,6 +170,7 @@ pub fn serve_listener<
         order: Mutex::new(order),
         connections: AtomicUsize::new(0),
         held: AtomicU64::new(0),
+        others: AtomicU64::new(0),
         is_closed: AtomicBool::new(false),
     };
     let (_, worked) = thread::join(

@@ -4,7 +4,7 @@ use crate::gate::{Gate, SocketLink, SocketOver, Taken};
 use crate::lingering::Lingering;
 use crate::socket::Half;
 use http_front as front;
-use http_front::{End, FrontFault, Service, Source};
+use http_front::{End, FrontFault, Rooms, Service, Source};
 use std::net::Shutdown;
 use std::sync::Wait;
 use std::time::Clock;
@@ -41,13 +41,13 @@ impl<'a, R: Wait + Drop, C: Clock + Drop, K: front::Clock + Drop, S: Service + D
     SocketOver<'a, K, S>,
 > for Gate<'a, R, C, K, S> {
     // Waits for a connection that has something to do. Of a connection that ended, what its peer still sends is read meanwhile.
-    fn next(&self) -> Option<(SocketLink<'a, K, S>, usize)> {
+    fn next(&self) -> Option<(SocketLink<'a, K, S>, Rooms)> {
         for _ in self.rt.forever() {
             let index = self.ready.pop(&self.rt)?;
             match self.take(index) {
                 Taken::Nothing => {}
                 Taken::Lingering(lingering) => self.read_on(lingering),
-                Taken::Link(link, room) => return Some((link, room)),
+                Taken::Link(link, rooms) => return Some((link, rooms)),
             }
         }
         None
