@@ -1,5 +1,5 @@
 -- Nothing is admitted but by a judgement.
-use Rattle.std.proofs.Common.{◌≡◌, ◌∙◌, List, ℕ, Option, Some, None, Result, Ok, Err, refl, sym, subst}
+use Rattle.std.proofs.Common.{◌≡◌, List, ℕ, Option, Some, None, Result, Ok, Err, refl, sym, subst}
 use Rattle.stamp_types.specs.declared.ask.Ask.{Ask}
 use Rattle.request_form.specs.HeadForms.{Form}
 use Rattle.http_front.specs.declared.end.FrontFault.{FrontFault}
