@@ -228,8 +228,17 @@ impl<'a, R: Wait + Drop, C: Clock + Drop, K: front::Clock + Drop, S: Service + D
             Ok(link) => self.put(&waiting, Content::Idle(link)),
             Err(link) => match Box::new(self.alloc, link) {
                 Ok(link) => self.put(&waiting, Content::Waiting(link)),
-                Err(failed) => self.starve(failed.value),
+                Err(failed) => self.put_starved(&waiting, failed.value),
             },
+        }
+    }
+
+    // Puts a connection that waits into its place after memory ran out for that. It is tried once more, since the service may have given memory up.
+    fn put_starved(&self, waiting: &Waiting, link: SocketLink<'a, K, S>) {
+        link.starved(self.alloc);
+        match Box::new(self.alloc, link) {
+            Ok(link) => self.put(waiting, Content::Waiting(link)),
+            Err(failed) => self.starve(failed.value),
         }
     }
 

@@ -248,7 +248,11 @@ impl<'a, R: Wait + Drop, C: Clock + Drop, K: front::Clock + Drop, S: Service + D
     ) -> Option<IdleLink<'a, K, S>> {
         let (clock, service) = next?;
         let token = self.token(index);
-        let socket = self.socket(stream, index, token)?;
+        let Some(socket) = self.socket(stream, index, token) else {
+            // The next newcomer may find the memory that the service gives up.
+            service.starved(self.alloc);
+            return None;
+        };
         let (reader, writer) = self.halves(socket)?;
         let link = Link::new(self.alloc, reader, writer, clock, service, TURNS);
         link.rest(self.alloc).ok()
