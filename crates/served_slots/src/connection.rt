@@ -55,7 +55,7 @@ impl<'a, A: Account, R: Wait> Connection<'a, A, R> {
 
     /// The same, with a reserve that it gives up if memory runs out. A connection without a reserve refuses no request for its sake.
     pub fn with_reserve(self, reserve: &'a Reserve) -> Self
-        ensures { result.known ≡ self.known }
+        ensures { result.known ≡ self.entry.known }
     {
         Self {
             rt: self.rt,
