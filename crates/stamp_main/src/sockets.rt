@@ -278,9 +278,6 @@ impl<'a, A: Account, R: Wait, C: Clock> Services<Machine<'a, C>, Connection<'a, 
             return None;
         }
         let service = Connection::audited(self.rt, self.slots, self.first.again(), self.books);
-        Some((
-            Machine::new(self.clock),
-            service.with_reserve(self.reserve),
-        ))
+        Some((Machine::new(self.clock), service.with_reserve(self.reserve)))
     }
 }
