@@ -18,7 +18,7 @@ use stamp_types::Text;
 use std::alloc::{AllocError, Global};
 use std::io::{Read, Write};
 use std::marker::Brand;
-use std::net::{Net, Shutdown, SocketAddr, TcpListener, TcpStream};
+use std::net::{Net, SocketAddr, TcpListener, TcpStream};
 use std::os::fd::OwnedFd;
 use std::sync::Wait;
 use std::sync::atomic::{AtomicU64, Ordering};
@@ -396,9 +396,10 @@ fn connections_are_served_over_loopback(rt: HostRuntime) -> Result<(), Fail> {
 
 #[test]
 fn a_listener_that_fails_for_good_ends_serving(rt: HostRuntime) -> Result<(), Fail> {
-    let listener = TcpListener::bind(&rt, "127.0.0.1:0")?;
-    // A socket that was shut down takes no connections any more.
-    TcpStream::from(OwnedFd::from(listener.try_clone()?)).shutdown(Shutdown::Both)?;
+    let bound = TcpListener::bind(&rt, "127.0.0.1:0")?;
+    // A socket that is connected takes no connections.
+    let connected = TcpStream::connect(&rt, bound.local_addr()?)?;
+    let listener = TcpListener::from(OwnedFd::from(connected));
     let (account, pairs) = first_pairs(rt.alloc())?;
     let history = NewHistory::new(&pairs);
     let mut console = Console::new(b"".as_slice(), Vec::new(rt.alloc()), Input::Ready);
