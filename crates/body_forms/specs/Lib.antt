@@ -1,5 +1,6 @@
 pub mod BlockListReading
 pub mod BlockLists
+pub mod Drafts
 pub mod Ids
 pub mod KeptPolicies
 pub mod ListEntries

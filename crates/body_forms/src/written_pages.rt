@@ -2,14 +2,13 @@
 ghost use Rattle.std.specs.Prelude.{◌≡◌, ◌++◌, IfOk, OnOk, codes, decimal, flat_map, option_map};
 ghost use Rattle.moment_text.specs.Http.{http_text};
 ghost use Rattle.stamp_values.specs.Etags.{etag_text};
-ghost use Rattle.body_forms.specs.ListEntries as lists;
 ghost use Rattle.body_forms.specs.WrittenPages as pages;
 ghost use Rattle.xml_text.specs.WrittenElements as written;
 
-use crate::list_entries::{BlobEntry, ContainerEntry, ListedBlob};
+use crate::list_entries::{BlobEntry, ContainerEntry, ListedBlob, ListedContainer};
 use itoa::Buffer;
 use moment_text::write_http;
-use stamp_types::{Metadata, Moment, Page, Standing};
+use stamp_types::{Metadata, Moment, Page};
 use stamp_values::{Meta, Text, Visible, write_etag};
 use std::alloc::{AllocError, Global};
 use xml_text::{append_closing, append_element, append_filled, append_opening, append_prolog};
@@ -99,7 +98,7 @@ fn append_content_type(out: &mut Vec<u8>, content_type: &Visible) -> Result<(), 
 }
 
 #[tactic(auto, unfolding(crate::specs::WrittenPages::content_text))]
-fn append_content(out: &mut Vec<u8>, blob: &ListedBlob<'_>) -> Result<(), AllocError>
+fn append_content(out: &mut Vec<u8>, blob: &ListedBlob) -> Result<(), AllocError>
     ensures { OnOk result (out.new.items ≡ out.old.items ++ pages.content_text blob.now) }
 {
     append_number(out, "Content-Length", blob.len())?;
@@ -109,7 +108,7 @@ fn append_content(out: &mut Vec<u8>, blob: &ListedBlob<'_>) -> Result<(), AllocE
 }
 
 #[tactic(auto, unfolding(crate::specs::WrittenPages::blob_properties_text))]
-fn append_blob_properties(out: &mut Vec<u8>, blob: &ListedBlob<'_>) -> Result<(), AllocError>
+fn append_blob_properties(out: &mut Vec<u8>, blob: &ListedBlob) -> Result<(), AllocError>
     ensures { OnOk result (out.new.items ≡ out.old.items ++ pages.blob_properties_text blob.now) }
 {
     append_opening(out, "Properties")?;
@@ -124,7 +123,7 @@ fn append_blob(
     out: &mut Vec<u8>,
     asked: bool,
     name: &[u8],
-    blob: &ListedBlob<'_>,
+    blob: &ListedBlob,
 ) -> Result<(), AllocError>
     ensures { OnOk result (out.new.items ≡ out.old.items ++ pages.blob_text asked name.now blob.now) }
 {
@@ -146,11 +145,7 @@ fn append_group(out: &mut Vec<u8>, text: &[u8]) -> Result<(), AllocError>
     Ok(())
 }
 
-fn append_blob_entry(
-    out: &mut Vec<u8>,
-    asked: bool,
-    entry: &BlobEntry<'_>,
-) -> Result<(), AllocError>
+fn append_blob_entry(out: &mut Vec<u8>, asked: bool, entry: &BlobEntry) -> Result<(), AllocError>
     ensures { OnOk result
         (out.new.items ≡ out.old.items ++ pages.entry_text (pages.blob_text asked) entry.now) }
 {
@@ -163,7 +158,7 @@ fn append_blob_entry(
 fn append_blob_entries(
     out: &mut Vec<u8>,
     asked: bool,
-    entries: &[BlobEntry<'_>],
+    entries: &[BlobEntry],
 ) -> Result<(), AllocError>
     ensures { OnOk result (out.new.items
         ≡ out.old.items ++ flat_map (pages.entry_text (pages.blob_text asked)) entries.now) }
@@ -175,12 +170,15 @@ fn append_blob_entries(
 }
 
 #[tactic(auto, unfolding(crate::specs::WrittenPages::container_properties_text, xml_text::specs::WrittenElements::filled_text))]
-fn append_container_properties(out: &mut Vec<u8>, standing: &Standing) -> Result<(), AllocError>
+fn append_container_properties(
+    out: &mut Vec<u8>,
+    container: &ListedContainer,
+) -> Result<(), AllocError>
     ensures { OnOk result (out.new.items
-        ≡ out.old.items ++ pages.container_properties_text (lists.shown_standing standing.now)) }
+        ≡ out.old.items ++ pages.container_properties_text container.now) }
 {
     append_opening(out, "Properties")?;
-    append_dates(out, standing.made, standing.etag)?;
+    append_dates(out, container.made(), container.etag())?;
     append_closing(out, "Properties")?;
     Ok(())
 }
@@ -190,15 +188,15 @@ fn append_container(
     out: &mut Vec<u8>,
     asked: bool,
     name: &[u8],
-    standing: &Standing,
+    container: &ListedContainer,
 ) -> Result<(), AllocError>
     ensures { OnOk result (out.new.items
-        ≡ out.old.items ++ pages.container_text asked name.now (lists.shown_standing standing.now)) }
+        ≡ out.old.items ++ pages.container_text asked name.now container.now) }
 {
     append_opening(out, "Container")?;
     append_element(out, "Name", name)?;
-    append_container_properties(out, standing)?;
-    append_metadata(out, asked, &standing.metadata)?;
+    append_container_properties(out, container)?;
+    append_metadata(out, asked, container.metadata())?;
     append_closing(out, "Container")?;
     Ok(())
 }
@@ -206,13 +204,13 @@ fn append_container(
 fn append_container_entries(
     out: &mut Vec<u8>,
     asked: bool,
-    entries: &[ContainerEntry<'_>],
+    entries: &[ContainerEntry],
 ) -> Result<(), AllocError>
     ensures { OnOk result (out.new.items
         ≡ out.old.items ++ flat_map (pages.entry_text (pages.container_text asked)) entries.now) }
 {
     for entry in entries {
-        append_container(out, asked, entry.name(), entry.standing())?;
+        append_container(out, asked, entry.name(), entry.container())?;
     }
     Ok(())
 }
@@ -243,7 +241,7 @@ fn room_with(room: usize, text: &[u8]) -> usize {
     room.saturating_add(ENTRY_ROOM).saturating_add(text.len())
 }
 
-fn room_for_blobs(entries: &[BlobEntry<'_>]) -> usize {
+fn room_for_blobs(entries: &[BlobEntry]) -> usize {
     let mut room = LIST_ROOM;
     for entry in entries {
         room = room_with(room, entry.text());
@@ -251,7 +249,7 @@ fn room_for_blobs(entries: &[BlobEntry<'_>]) -> usize {
     room
 }
 
-fn room_for_containers(entries: &[ContainerEntry<'_>]) -> usize {
+fn room_for_containers(entries: &[ContainerEntry]) -> usize {
     let mut room = LIST_ROOM;
     for entry in entries {
         room = room_with(room, entry.name());
@@ -260,7 +258,7 @@ fn room_for_containers(entries: &[ContainerEntry<'_>]) -> usize {
 }
 
 #[tactic(auto, unfolding(crate::specs::WrittenPages::blobs_text))]
-fn append_blobs(out: &mut Vec<u8>, page: &Page, entries: &[BlobEntry<'_>]) -> Result<(), AllocError>
+fn append_blobs(out: &mut Vec<u8>, page: &Page, entries: &[BlobEntry]) -> Result<(), AllocError>
     ensures { OnOk result
         (out.new.items ≡ out.old.items ++ pages.blobs_text page.now.metadata entries.now) }
 {
@@ -274,7 +272,7 @@ fn append_blobs(out: &mut Vec<u8>, page: &Page, entries: &[BlobEntry<'_>]) -> Re
 fn append_containers(
     out: &mut Vec<u8>,
     page: &Page,
-    entries: &[ContainerEntry<'_>],
+    entries: &[ContainerEntry],
 ) -> Result<(), AllocError>
     ensures { OnOk result
         (out.new.items ≡ out.old.items ++ pages.containers_text page.now.metadata entries.now) }
@@ -296,7 +294,7 @@ fn append_containers(
 pub fn write_blob_list(
     alloc: Global,
     page: &Page,
-    entries: &[BlobEntry<'_>],
+    entries: &[BlobEntry],
     next: Option<&[u8]>,
 ) -> Result<Vec<u8>, AllocError>
     ensures { IfOk result (λ text. text.items
@@ -322,7 +320,7 @@ pub fn write_blob_list(
 pub fn write_container_list(
     alloc: Global,
     page: &Page,
-    entries: &[ContainerEntry<'_>],
+    entries: &[ContainerEntry],
     next: Option<&[u8]>,
 ) -> Result<Vec<u8>, AllocError>
     ensures { IfOk result (λ text. text.items

@@ -49,6 +49,8 @@ mod stored_checkpoint_tests;
 #[cfg(test)]
 mod stored_compaction_tests;
 #[cfg(test)]
+mod stored_list_tests;
+#[cfg(test)]
 mod stored_repair_tests;
 #[cfg(test)]
 mod stored_rotation_tests;

@@ -119,24 +119,38 @@ pub(crate) fn rows(alloc: Global) -> StoredRows
     StoredRows::new(alloc, 1_000_000, KeyRange::all(alloc))
 }
 
-/// A slot over streams of the account, without containers. Its wire gives these deliveries and answers in turn, and then Done and yes. The
-/// slot is in a box, since a value with so many fields is slow to prove.
+/// A slot over streams of the account whose rows are these, without containers. Its wire gives these deliveries and answers in turn, and then
+/// Done and yes. The slot is in a box, since a value with so many fields is slow to prove.
+pub(crate) fn make_of_rows(
+    rt: &impl Abort,
+    alloc: Global,
+    rows: StoredRows,
+    puts: &[Delivery],
+    asks: &[bool],
+) -> Box<Streamed>
+    requires none { (key : Key) → pieces_of rows key ≡ no_part }
+    requires sure { doubt_of rows ≡ None }
+{
+    let pairs = AccountPairs::of(alloc, pairs(rt, alloc)).expect(rt, "first pairs");
+    let pairs = Arc::new(alloc, pairs).expect(rt, "memory");
+    let puts = puts.to_vec(alloc).expect(rt, "memory");
+    let asks = asks.to_vec(alloc).expect(rt, "memory");
+    let streamed = Streamed {
+        slot: StoredSlot::of_rows(alloc, rows, pairs),
+        wire: Script::new(alloc, puts, asks),
+        tickets: 0,
+    };
+    Box::new(alloc, streamed).expect(rt, "memory")
+}
+
+/// The same with new rows, which write their lists at once.
 pub(crate) fn make_streamed(
     rt: &impl Abort,
     alloc: Global,
     puts: &[Delivery],
     asks: &[bool],
 ) -> Box<Streamed> {
-    let pairs = AccountPairs::of(alloc, pairs(rt, alloc)).expect(rt, "first pairs");
-    let pairs = Arc::new(alloc, pairs).expect(rt, "memory");
-    let puts = puts.to_vec(alloc).expect(rt, "memory");
-    let asks = asks.to_vec(alloc).expect(rt, "memory");
-    let streamed = Streamed {
-        slot: StoredSlot::of_rows(alloc, rows(alloc), pairs),
-        wire: Script::new(alloc, puts, asks),
-        tickets: 0,
-    };
-    Box::new(alloc, streamed).expect(rt, "memory")
+    make_of_rows(rt, alloc, rows(alloc), puts, asks)
 }
 
 /// Creates the container and puts the blob.

@@ -1,32 +1,23 @@
 -- Replies to the two lists (Blob service REST reference, 2012-02-12, "List Blobs", "List Containers").
-use Rattle.std.specs.Prelude.{ℕ, [], ◌∷◌, Option, None, unwrap_or, false}
-use Rattle.stamp_values.specs.Limits.{page_limit}
+use Rattle.std.specs.Prelude.{ℕ, List, Option}
 use Rattle.stamp_values.specs.declared.key.Key.{Key}
 use Rattle.stamp_types.specs.declared.args.Page.{Page}
 use Rattle.stamp_types.specs.declared.reply.Reply.{Reply}
 use Rattle.stamp_types.specs.Requests.{Asked}
 use Rattle.stamp_types.specs.World.{Part, World}
+pub use Rattle.body_forms.specs.Drafts.{first_page, page_asked}
+use Rattle.body_forms.specs.Drafts.{blobs_reply, containers_reply}
 use Rattle.body_forms.specs.ListEntries.{ShownBlob, ShownContainer}
-use Rattle.body_forms.specs.WrittenPages.{blob_list_text, container_list_text}
-use Rattle.stamp_types.specs.Replies.{text_reply, xml_header}
 use Rattle.list_pages.specs.Lists.{page_of_blobs, page_of_containers}
 use Rattle.list_pages.specs.Pages.{PageOf}
 
--- the first names of all, as many as a page may have, without their metadata
-abbrev pub first_page : Page
-first_page = record { prefix = None; delimiter = None; marker = None; max = page_limit; metadata = false }
-
--- the page that a request asks for. Each request that lists names asks for a page
-abbrev pub page_asked : Asked → Page
-page_asked q = unwrap_or q.ask.args.page first_page
-
 -- a page of blobs as a reply tells it
 abbrev pub blobs_told : Page → PageOf ShownBlob → Reply
-blobs_told q r = text_reply (xml_header ∷ []) (blob_list_text q r.entries r.next)
+blobs_told q r = blobs_reply q r.entries r.next
 
 -- a page of containers as a reply tells it
 abbrev pub containers_told : Page → PageOf ShownContainer → Reply
-containers_told q r = text_reply (xml_header ∷ []) (container_list_text q r.entries r.next)
+containers_told q r = containers_reply q r.entries r.next
 
 -- the reply to a List Blobs, from the container that it names
 abbrev pub blob_list_reply : Part ℕ → Asked → Reply

@@ -64,7 +64,7 @@ fn page_under<'a>(
                 if entries.len() >= max {
                     return Ok(BlobPage::new(entries, Some(name)));
                 }
-                entries.push(BlobEntry::blob(name, shown))?;
+                entries.push(BlobEntry::blob(alloc, name, shown)?)?;
             }
             Some(group) => {
                 // The walk goes on after the group, so the other names of the group cost nothing.
@@ -73,7 +73,7 @@ fn page_under<'a>(
                     if entries.len() >= max {
                         return Ok(BlobPage::new(entries, Some(group)));
                     }
-                    entries.push(BlobEntry::group(group))?;
+                    entries.push(BlobEntry::group(alloc, group)?)?;
                 }
             }
         }
@@ -86,8 +86,9 @@ fn page_under<'a>(
 /// list and makes no group. A container that does not exist has an empty page. "List Blobs".
 ///
 /// Takes time with the number of entries, with the number of blobs without a committed part that it
-/// passes by, and for each group with the logarithm of the number of blobs. `AllocError` if memory
-/// runs out for the list of entries, or for the bound of a group.
+/// passes by, and for each group with the logarithm of the number of blobs. No byte of metadata is
+/// copied, and each name is copied once. `AllocError` if memory runs out for the entries, or for the
+/// bound of a group, or if metadata can have no further owner.
 pub fn blob_page<'a>(
     alloc: Global,
     found: &Found<'a>,

@@ -36,7 +36,7 @@ use Rattle.range_rows.specs.declared.judged.Allowed.{Allowed}
 use Rattle.range_rows.specs.declared.target.Target.{Target}
 use Rattle.range_rows.specs.Frames.{blob_read, frame, frame_by, ranged_frame, standing_read}
 use Rattle.range_rows.specs.Replaced.{Replaced}
-use Rattle.range_rows.specs.SentContent.{is_within, span_bytes, spans, spans_by, spans_len, with_content}
+use Rattle.range_rows.specs.SentContent.{AreShort, is_within, span_bytes, spans, spans_by, spans_len, with_content}
 use Rattle.list_pages.specs.ListReplies.{blob_list_reply, container_list_reply}
 use Rattle.range_rows.specs.ObjectRules.{object_refusal}
 use Rattle.range_rows.specs.RequestChanges.{change_of}
@@ -198,37 +198,32 @@ one_body v op.GetAcl q s c b range d = inr refl
 one_body v op.GetBlockList q s c b range d = inr refl
 one_body v other q s c b range d = inl refl
 
-none_len : spans_len [] ≡ 0
-none_len = refl
-
-fits_by : (body : List ℕ) (ss : List Span) → (body ≡ []) ⊎ (ss ≡ []) → length body < 18446744073709551616 → spans_len ss ≤ 268435456
-    → length body + spans_len ss < 18446744073709551616
-fits_by body ss (inl none) held short =
-    subst (λ (bs : List ℕ). length bs + spans_len ss < 18446744073709551616) (sym none) (omega (arith, short))
-fits_by body ss (inr none) held short =
-    subst (λ (ss : List Span). length body + spans_len ss < 18446744073709551616) (sym none) (omega (arith, held, none_len))
+fits_by : (body : List ℕ) (ss : List Span) → (body ≡ []) ⊎ (ss ≡ []) → spans_len ss ≤ 268435456 → AreShort body ss
+fits_by body ss (inl none) short = inr (subst (λ (bs : List ℕ). length bs + spans_len ss < 18446744073709551616) (sym none) (omega (arith, short)))
+fits_by body ss (inr none) short = inl none
 
 -- a frame and its spans fit in memory
-pub fits_memory : (v : Replaced) (r : Reply) (p : Part ℕ) (d : Part (List Piece)) (q : Asked) (ss : List Span) (n : ℕ) → r ≡ frame v p q → ss ≡ spans d q
-    → n ≡ length r.body → n < 18446744073709551616 → spans_len ss ≤ 268435456 → length r.body + spans_len ss < 18446744073709551616
-fits_memory v r p d q ss n is out counted held short =
+pub fits_memory : (v : Replaced) (r : Reply) (p : Part ℕ) (d : Part (List Piece)) (q : Asked) (ss : List Span) → r ≡ frame v p q → ss ≡ spans d q
+    → spans_len ss ≤ 268435456 → AreShort r.body ss
+fits_memory v r p d q ss is out short =
     fits_by r.body ss
     (subst (λ (r : Reply). (r.body ≡ []) ⊎ (ss ≡ [])) (sym is)
     (subst (λ (ss : List Span). ((frame v p q).body ≡ []) ⊎ (ss ≡ [])) (sym out)
     (one_body v q.ask.op q (standing_read p) (blob_read p q.ask) (target_blob p q.ask) q.ask.args.range (blob_read d q.ask))))
-    (subst (λ n. n < 18446744073709551616) counted held)
     short
 
 -- an answer without content fits
-pub sent_whole : (a : Answer) (n : ℕ) → a.spans ≡ [] → n ≡ length a.frame.body → n < 18446744073709551616 → CanBeSent a
-sent_whole a n none counted held = record {
-  within = ap (list_all is_within) none;
-  short = omega (arith, counted, held, ap spans_len none, none_len);
-}
+pub sent_whole : (a : Answer) → a.spans ≡ [] → CanBeSent a
+sent_whole a none = record { within = ap (list_all is_within) none; short = inl none }
 
--- the bytes of the spans fit in memory after the body of the frame
-pub short_held : (a : Answer) → CanBeSent a → length (a.frame.body ++ bytes_held a.spans) < 18446744073709551616
-short_held a sent = omega (arith, sent.short, length-bytes_held a.spans, length-append a.frame.body (bytes_held a.spans))
+-- the bytes of the spans fit in memory after a body that fits
+pub short_held : (body : List ℕ) (ss : List Span) (n : ℕ) → AreShort body ss → n ≡ length body → n < 18446744073709551616
+    → length (body ++ bytes_held ss) < 18446744073709551616
+short_held body ss n (inl none) counted held =
+    let same : bytes_held ss ≡ [] = ap bytes_held none in
+    subst (λ (bs : List ℕ). length (body ++ bs) < 18446744073709551616) (sym same)
+    (subst (λ (bs : List ℕ). length bs < 18446744073709551616) (sym (append-nil body)) (omega (arith, counted, held)))
+short_held body ss n (inr short) counted held = omega (arith, short, length-bytes_held ss, length-append body (bytes_held ss))
 
 -- ---- the change
 

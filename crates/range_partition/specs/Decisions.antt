@@ -1,6 +1,6 @@
 -- What is decided on a request, from what rows find of its container (Blob service REST reference, 2012-02-12, the page of each
 -- operation).
-use Rattle.std.specs.Prelude.{◌+◌, ◌<◌, ◌^◌, ⊤, ℕ, IsTrue, List, [], length, Option, Some, None}
+use Rattle.std.specs.Prelude.{⊤, ℕ, IsTrue, List, [], Option, Some, None}
 use Rattle.std.specs.List.{flat_map, list_all}
 use Rattle.stamp_values.specs.declared.key.Key.{Key}
 use Rattle.stamp_values.specs.declared.op.Op.{Op}
@@ -19,7 +19,7 @@ use Rattle.range_rows.specs.declared.answer.Answer.{Answer}
 use Rattle.range_rows.specs.declared.answer.Span.{Span}
 use Rattle.range_rows.specs.FoundParts.{pieces_found_after, sizes_found_after}
 use Rattle.range_rows.specs.Frames.{frame}
-use Rattle.range_rows.specs.SentContent.{is_within, span_bytes, spans, spans_len, with_content}
+use Rattle.range_rows.specs.SentContent.{AreShort, is_within, span_bytes, spans, with_content}
 use Rattle.range_rows.specs.RequestChanges.{change_of}
 use Rattle.range_rows.specs.Judgements.{blocks_found}
 use Rattle.list_pages.specs.ListReplies.{blob_list_reply, container_list_reply}
@@ -83,10 +83,10 @@ row_answer w p q t bound = row_answer_by q.ask.op w p q t bound
 abbrev pub reply_read : (Piece → List ℕ) → Answer → Reply
 reply_read read a = with_content a.frame (flat_map (span_bytes read) a.spans)
 
--- each span lies within its piece, and the spans fit into memory after the body of the frame
+-- each span lies within its piece, and if there are spans, they fit into memory after the body of the frame
 pub record CanBeSent (a : Answer) : Type 0 where
   pub within : IsTrue (list_all is_within a.spans)
-  pub short : length a.frame.body + spans_len a.spans < 2 ^ 64
+  pub short : AreShort a.frame.body a.spans
 
 -- a request is refused, or else these are its answer, its change and the blocks that were found for it
 abbrev pub framed_by : Option Refusal → Answer → Option KeyedAct → FoundBlocks → FramedDecision

@@ -7,7 +7,7 @@ ghost use Rattle.range_partition.specs.Decisions.{CanBeSent, bytes_held, reply_r
 
 use range_rows::{Answer, Span};
 use stamp_types::{Piece, Reply, Shares};
-use std::alloc::AllocError;
+use std::alloc::{AllocError, Global};
 
 // Puts the bytes of the spans after the bytes of the body, and copies no byte. A piece that is a place in a stream has no
 // bytes in memory.
@@ -26,16 +26,18 @@ fn push_spans(body: &mut Shares, spans: &[Span]) -> Result<(), AllocError>
     Ok(())
 }
 
-/// The reply of an answer: its frame with the bytes of its spans, which are held in memory.
+/// The reply of an answer: its frame with the bytes of its spans, which are held in memory. The text of a list is written.
 ///
-/// `AllocError` if memory runs out for the list of shares, or if an allocation can have no further owner.
+/// `AllocError` if memory runs out for the text or the list of shares, or if an allocation can have no further owner.
 #[tactic(auto, using(crate::proofs::DecisionLemmas::short_held))]
-pub(crate) fn reply_with_content(answer: Answer) -> Result<Reply, AllocError>
+pub(crate) fn reply_with_content(alloc: Global, answer: Answer) -> Result<Reply, AllocError>
     requires { CanBeSent answer }
     ensures { IfOk result (λ reply. reply ≡ reply_read piece_bytes answer) }
 {
     let Answer { frame, spans } = answer;
-    let mut reply = frame;
+    let mut reply = frame.write(alloc)?;
+    // The body of the frame fits in memory.
+    let _held = reply.body.len();
     push_spans(&mut reply.body, spans.as_slice())?;
     Ok(reply)
 }

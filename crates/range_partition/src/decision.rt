@@ -27,13 +27,13 @@ pub enum Decision {
 }
 
 // The decision with the bytes of the content, which is in memory.
-fn with_bytes(framed: FramedDecision) -> Result<Decision, AllocError>
+fn with_bytes(alloc: Global, framed: FramedDecision) -> Result<Decision, AllocError>
     requires { AnswerCanBeSent framed }
     ensures { IfOk result (λ decision. decision ≡ with_bytes_held framed) }
 {
     match framed {
         FramedDecision::Refused(refusal) => Ok(Decision::Refused(refusal)),
-        FramedDecision::Allowed(answer, change, found) => match reply_with_content(answer) {
+        FramedDecision::Allowed(answer, change, found) => match reply_with_content(alloc, answer) {
             Ok(reply) => Ok(Decision::Allowed(reply, change, found)),
             Err(fault) => {
                 drop(found);
@@ -73,5 +73,5 @@ pub fn decide(
     let framed = decide_frame(
         alloc, keys, judged, rows, target, request, reading, moment, bound,
     )?;
-    with_bytes(framed)
+    with_bytes(alloc, framed)
 }

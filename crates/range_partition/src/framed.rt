@@ -18,11 +18,12 @@ ghost use Rattle.range_partition.specs.declared.framed.FramedDecision.TheVariant
 use crate::overrides::replacements;
 use access_rules::{Keys, Verdict};
 use block_blobs::FoundBlocks;
+use body_forms::Draft;
 use list_pages::{blob_list_reply, container_list_reply};
 use policy_book::verdict_by;
 use range_rows::{Allowed, Answer, Judged, Reading, Target};
 use row_trees::Rows;
-use stamp_types::{Change, Code, Items, Key, Moment, Op, Refusal, Reply, Request, Rule};
+use stamp_types::{Change, Code, Items, Key, Moment, Op, Refusal, Request, Rule};
 use std::alloc::{AllocError, Global};
 
 /// What is decided on a request, before the content of its reply is read.
@@ -82,19 +83,15 @@ fn answer_found(
 {
     let replaced = replacements(request.ask());
     let answer = allowed.reply(alloc, request, moment, &replaced)?;
-    // What the body of the frame has fits in memory.
-    let _held = answer.frame.body.len();
     Ok(answer)
 }
 
 // The answer whose content is all in its frame.
 #[tactic(auto, using(crate::proofs::DecisionLemmas::sent_whole))]
-fn whole(alloc: Global, frame: Reply) -> Answer
+fn whole(alloc: Global, frame: Draft) -> Answer
     ensures whole { result ≡ record { frame = frame; spans = [] } }
     ensures sent { CanBeSent result }
 {
-    // What the body of the frame has fits in memory.
-    let _held = frame.body.len();
     Answer {
         frame,
         spans: Items::new(Vec::new(alloc)),

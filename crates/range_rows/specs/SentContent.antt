@@ -1,5 +1,5 @@
 -- The content that goes out with a reply, as bytes and as bytes of pieces (Blob service REST reference, 2012-02-12, "Get Blob"; RFC 9110, section 14.4).
-use Rattle.std.specs.Prelude.{◌≡◌, ℕ, ◌-◌, Bool, ◌&&◌, nat_le, All, List, [], ◌++◌, length, Option, Some, None, map, sum_by, slice_range}
+use Rattle.std.specs.Prelude.{◌≡◌, ◌⊎◌, ℕ, ◌+◌, ◌-◌, ◌<◌, ◌^◌, Bool, ◌&&◌, nat_le, All, List, [], ◌++◌, length, Option, Some, None, map, sum_by, slice_range}
 use Rattle.std.specs.List.{flat_map}
 use Rattle.stamp_values.specs.declared.condition.ByteRange.{ByteRange}
 use Rattle.stamp_values.specs.declared.op.Op.{Op}
@@ -78,6 +78,10 @@ is_within s = nat_le s.from s.to && nat_le s.to (piece_len s.piece)
 -- how many bytes spans have together
 abbrev pub spans_len : List Span → ℕ
 spans_len ss = sum_by (λ s. s.to - s.from) ss
+
+-- no spans go out after the body of a frame, or all of it has fewer bytes than can be counted
+abbrev pub AreShort : List ℕ → List Span → Type 0
+AreShort body ss = (ss ≡ []) ⊎ (length body + spans_len ss < 2 ^ 64)
 
 -- what is read for each piece has the piece's length
 abbrev pub ReadsWhole : (Piece → List ℕ) → List Piece → Type 0

@@ -1,6 +1,7 @@
 //! The answer to a request.
 
-use stamp_types::{Items, Piece, Reply};
+use body_forms::Draft;
+use stamp_types::{Items, Piece};
 
 /// The bytes of a piece from `from` up to but not including `to`.
 #[derive(Drop)]
@@ -11,9 +12,9 @@ pub struct Span {
 }
 
 /// The reply to a request, without the content that goes out with it. The spans give that content,
-/// in their order. The frame's length counts the content.
+/// in their order. The frame's length counts the content. The frame of a list may have to be written.
 #[derive(Drop)]
 pub struct Answer {
-    pub frame: Reply,
+    pub frame: Draft,
     pub spans: Items<Span>,
 }

@@ -23,6 +23,7 @@ use crate::judged::Allowed;
 use crate::ranges::{part_of, range_end};
 use crate::replacements::Replacements;
 use crate::target::Target;
+use body_forms::Draft;
 use row_trees::Found;
 use stamp_types::{Block, ByteRange, Committed, Items, Moment, Op, Piece, Pieces, Reply, Request};
 use std::alloc::{AllocError, Global};
@@ -61,7 +62,7 @@ fn without_content(alloc: Global, frame: Reply) -> Answer
     ensures spans { result.spans ≡ [] }
 {
     Answer {
-        frame,
+        frame: Draft::written(frame),
         spans: Items::new(Vec::new(alloc)),
     }
 }
@@ -86,7 +87,7 @@ fn get_answer(
     let frame = get_frame(alloc, blob, len, replaced)?;
     let spans = spans_of(alloc, blob.blocks.as_slice())?;
     Ok(Answer {
-        frame,
+        frame: Draft::written(frame),
         spans: Items::new(spans),
     })
 }
@@ -113,7 +114,7 @@ fn part_answer(
     let end = range_end(range, len);
     let spans = part_of(alloc, range.first, end, blob.blocks.as_slice())?;
     Ok(Answer {
-        frame,
+        frame: Draft::written(frame),
         spans: Items::new(spans),
     })
 }

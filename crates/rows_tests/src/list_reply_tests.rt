@@ -36,7 +36,8 @@ fn a_list_of_blobs_is_answered(rt: HostRuntime) {
         page,
     );
     assert!(rt; asked.ask().op.lists_names());
-    let reply = blob_list_reply(alloc, &found, &asked).expect(&rt, "memory");
+    let draft = blob_list_reply(alloc, &found, &asked).expect(&rt, "memory");
+    let reply = draft.write(alloc).expect(&rt, "memory");
     is_list(&rt, alloc, &reply, WITH_A_GROUP);
 }
 
@@ -51,6 +52,28 @@ fn a_list_of_containers_is_answered(rt: HostRuntime) {
     let account = key(&rt, alloc, ACCOUNT, "");
     let asked = list_request(&rt, alloc, Op::ListContainers, account, page);
     assert!(rt; asked.ask().op.lists_names());
-    let reply = container_list_reply(alloc, &rows, &asked, None).expect(&rt, "memory");
+    let draft = container_list_reply(alloc, &rows, &asked, None).expect(&rt, "memory");
+    let reply = draft.write(alloc).expect(&rt, "memory");
     is_list(&rt, alloc, &reply, CONTAINERS);
+}
+
+#[test]
+fn a_list_is_written_after_its_rows_are_gone(rt: HostRuntime) {
+    let alloc = rt.alloc();
+    let rows = rows_of(&rt, alloc, &["a&b<c>.txt", "d/1", "d/2"]);
+    let pics = key(&rt, alloc, ACCOUNT, "pics");
+    let page = page(&rt, alloc, ("", "/", "", 5000));
+    let asked = list_request(
+        &rt,
+        alloc,
+        Op::ListBlobs,
+        key(&rt, alloc, ACCOUNT, "pics"),
+        page,
+    );
+    assert!(rt; asked.ask().op.lists_names());
+    let draft = blob_list_reply(alloc, &rows.find(&pics), &asked).expect(&rt, "memory");
+    drop(rows);
+    drop(asked);
+    let reply = draft.write(alloc).expect(&rt, "memory");
+    is_list(&rt, alloc, &reply, WITH_A_GROUP);
 }

@@ -4,7 +4,7 @@
 use crate::sample_requests::{Sum, allowed, body, make, moment, pics, pics_and_gone, request};
 use range_rows::{Answer, ObjectRules, Reading, Replacements, Span};
 use row_trees::Rows;
-use stamp_types::{Body, Change, Header, Items, Op, Piece, Request, Rule, Status};
+use stamp_types::{Body, Change, Header, Items, Op, Piece, Reply, Request, Rule, Status};
 use std::alloc::Global;
 use std::fs;
 use std::process::Abort;
@@ -112,7 +112,7 @@ fn change_of(rt: &impl Abort, alloc: Global, rows: &Rows, request: &Request) -> 
     change.expect(rt, "memory")
 }
 
-// The answer, whose frame has this status and length, and no body.
+// The frame and the spans of the answer. The frame has this status and length, and no body.
 fn answer(
     rt: &impl Abort,
     alloc: Global,
@@ -120,21 +120,21 @@ fn answer(
     request: &Request,
     status: Status,
     length: u64,
-) -> Answer {
+) -> (Reply, Items<Span>) {
     assert!(rt; matches!(request.ask().op, Op::PutBlob | Op::GetBlob));
     let reading = Reading::of(alloc, request).expect(rt, "memory");
     let allowed = allowed(rt, alloc, rows, request, &reading);
     let answer = allowed.reply(alloc, request, moment(rt), &Replacements::none());
-    let answer = answer.expect(rt, "memory");
-    let frame = &answer.frame;
+    let Answer { frame, spans } = answer.expect(rt, "memory");
+    let frame = frame.write(alloc).expect(rt, "memory");
     assert!(rt; frame.status == status && frame.length == length && frame.body.is_empty());
-    answer
+    (frame, spans)
 }
 
 fn put(rt: &impl Abort, alloc: Global, rows: &mut Rows, blob: &str, body: Body, way: Way) {
     let request = request(rt, alloc, Op::PutBlob, "pics", blob, None, body);
-    let answer = answer(rt, alloc, rows, &request, Status::Created, 0);
-    assert!(rt; answer.spans.as_slice().is_empty());
+    let (_, spans) = answer(rt, alloc, rows, &request, Status::Created, 0);
+    assert!(rt; spans.as_slice().is_empty());
     let change = change_of(rt, alloc, rows, &request);
     make_as(rt, alloc, rows, change, way);
 }
@@ -143,10 +143,10 @@ fn put(rt: &impl Abort, alloc: Global, rows: &mut Rows, blob: &str, body: Body, 
 // the type and the MD5.
 fn read(rt: &impl Abort, alloc: Global, rows: &Rows, blob: &str, length: u64) -> Items<Span> {
     let request = request(rt, alloc, Op::GetBlob, "pics", blob, None, Body::empty());
-    let answer = answer(rt, alloc, rows, &request, Status::Success, length);
-    let headers = answer.frame.headers.as_slice();
+    let (frame, spans) = answer(rt, alloc, rows, &request, Status::Success, length);
+    let headers = frame.headers.as_slice();
     assert!(rt; headers.len() == 7 && matches!(headers[2], Header::Meta(_)));
-    answer.spans
+    spans
 }
 
 // Whether there is one span, and it is the whole of a piece that holds these bytes.

@@ -2,7 +2,7 @@
 //! length, the body and the content of each reply, against values that were written by hand.
 
 use crate::sample_requests::{allowed, body, four_names, make, moment_after, request_with};
-use range_rows::{Answer, Reading, Replacements};
+use range_rows::{Answer, Reading, Replacements, Span};
 use row_trees::Rows;
 use stamp_types::{Change, Header, Level, Moment, Op, Piece, Request, Status};
 use std::alloc::Global;
@@ -174,8 +174,8 @@ fn compare(rt: &impl Abort, headers: &[Header], lines: &[Line]) {
 }
 
 // Whether the spans are one whole piece of these bytes, or no span if there are no bytes.
-fn sends(answer: &Answer, content: &str) -> bool {
-    match answer.spans.as_slice() {
+fn sends(spans: &[Span], content: &str) -> bool {
+    match spans {
         [] => content.is_empty(),
         [span] => {
             let bytes = content.as_bytes();
@@ -230,14 +230,15 @@ fn asked(rt: &impl Abort, alloc: Global, op: Op) -> Request {
     request_with(rt, alloc, op, metadata, body(rt, alloc, bytes))
 }
 
-fn judge(rt: &impl Abort, alloc: Global, op: Op, answer: &Answer) {
-    let frame = &answer.frame;
+fn judge(rt: &impl Abort, alloc: Global, op: Op, answer: Answer) {
+    let Answer { frame, spans } = answer;
+    let frame = frame.write(alloc).expect(rt, "memory");
     compare(rt, frame.headers.as_slice(), lines(op));
     assert!(rt; frame.status == status(op), "{op:?}");
     assert!(rt; frame.length == length(op), "{op:?}");
     let bytes = frame.body.joined(alloc).expect(rt, "memory");
     assert!(rt; bytes.as_slice() == own_body(op).as_bytes(), "{op:?}");
-    assert!(rt; sends(answer, content(op)), "{op:?}");
+    assert!(rt; sends(spans.as_slice(), content(op)), "{op:?}");
 }
 
 #[test]
@@ -248,8 +249,7 @@ fn each_operation_is_answered_and_done(rt: HostRuntime) {
         let moment = moment_after(&rt, tick);
         let request = asked(&rt, alloc, op);
         let answer = answer(&rt, alloc, &rows, &request, moment);
-        judge(&rt, alloc, op, &answer);
-        drop(answer);
+        judge(&rt, alloc, op, answer);
         change(&rt, alloc, &mut rows, &request, moment);
     }
 }

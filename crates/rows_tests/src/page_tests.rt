@@ -156,7 +156,7 @@ fn pages_of_names_that_are_alike(rt: HostRuntime) {
 fn shown_containers(rt: &impl Abort, alloc: Global, page: &ContainerPage<'_>) -> Vec<u8> {
     let mut out = Vec::new(alloc);
     for entry in page.entries() {
-        assert!(rt; entry.standing().etag > 0);
+        assert!(rt; entry.container().etag() > 0);
         out.extend_from_slice(entry.name()).expect(rt, "memory");
         out.push(b' ').expect(rt, "memory");
     }

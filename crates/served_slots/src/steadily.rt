@@ -43,7 +43,7 @@ fn slot_of(alloc: Global, rows: StoredRows, pairs: Arc<AccountPairs>) -> StoredS
 pub(crate) fn first_slot(alloc: Global, pairs: Arc<AccountPairs>) -> StoredSlot<ProvedHistories>
     ensures { result ≡ empty_slot (arc_value pairs) }
 {
-    let rows = StoredRows::new(alloc, EXTENT_BYTES, KeyRange::all(alloc));
+    let rows = StoredRows::new(alloc, EXTENT_BYTES, KeyRange::all(alloc)).gathering_lists();
     slot_of(alloc, rows, pairs)
 }
 

@@ -15,12 +15,13 @@ use crate::noting::{note, note_loaded, note_settled};
 use crate::sealed::{Sealed, note_sealed};
 use crate::unloaded::Unloaded;
 use crate::waste::{Waste, bound_of, list_of, list_size, recounted, weigh};
+use body_forms::Draft;
 use extent_node::Wire;
 use extent_seal::ReadFault;
 use partition_stream::{Part, Streams};
 use range_rows::Span;
 use row_trees::{Found, Rows};
-use stamp_types::{Change, Key, Piece, Reply};
+use stamp_types::{Change, Key, Piece};
 use std::alloc::{AllocError, Global};
 use std::marker::Model;
 use tickets::{Answer, Unreachable, make_answer};
@@ -39,6 +40,8 @@ pub struct StoredRows {
     doubt: Option<Change>,
     // What the streams have, and what exists of it. It is not seen in contracts.
     waste: Waste,
+    // Whether a list is answered by a ticket, whose fetch writes its text. It is not seen in contracts.
+    gathers_lists: bool,
 }
 
 impl Model for StoredRows {
@@ -74,8 +77,8 @@ impl StoredRows {
     ghost use Rattle.partition_stream.specs.Storing.{AreKept};
     ghost use Rattle.partition_stream.specs.Streams.{AreSealed, HaveSameLimits};
     ghost use Rattle.range_rows.specs.SentContent as sent;
-    ghost use Rattle.range_rows.specs.SentContent.{bytes_sent, is_within, span_bytes, spans_len, with_content};
-    ghost use Rattle.tickets.specs.Answers.{IsAnswer, IsSpanStored, are_in_last};
+    ghost use Rattle.range_rows.specs.SentContent.{AreShort, bytes_sent, is_within, span_bytes, with_content};
+    ghost use Rattle.tickets.specs.Answers.{IsAnswerIf, IsSpanStored, are_in_last};
     ghost use Rattle.stored_rows.specs.Counting.{FailsStored, FailsTake};
     ghost use Rattle.stored_rows.specs.Loaded.{AreRowsOf};
     ghost use Rattle.stored_rows.specs.declared.faults.StoredFault.TheVariants as stored_fault;
@@ -99,7 +102,23 @@ impl StoredRows {
             range,
             doubt: None,
             waste: Waste::none(),
+            gathers_lists: false,
         }
+    }
+
+    /// The same rows, of which lists are gathered: a list is answered by a ticket, and the text of its reply is written when the ticket is fetched.
+    /// So a lock need not be held while the text is written. Both halves of a cut keep this.
+    pub fn gathering_lists(self) -> Self
+        ensures { result ≡ self }
+    {
+        let mut gathering = self;
+        gathering.gathers_lists = true;
+        gathering
+    }
+
+    /// Whether lists are gathered.
+    pub fn gathers_lists(&self) -> bool {
+        self.gathers_lists
     }
 
     /// Whether the rows are in memory.
@@ -208,31 +227,32 @@ impl StoredRows {
         self.streams.part(piece, start, end, wire)
     }
 
-    /// What a request is answered: the frame with the content of the spans after its body. No byte is copied.
+    /// What a request is answered: the frame with the content of the spans after its body. No byte of content is copied.
     ///
     /// It is Done if each span is in the last extent of the data: its bytes are read now. If the spans are those of a request's reply, the
-    /// content is what the container of the request sends as it is in bytes. Unreachable: every node was asked for a block of the last
-    /// extent, and answered no.
+    /// content is what the container of the request sends as it is in bytes. `gathers` says whether a list whose text is not written yet is Later.
+    /// Unreachable: every node was asked for a block of the last extent, and answered no.
     pub fn answer<W: Wire>(
         &mut self,
-        frame: Reply,
+        frame: Draft,
         spans: &[Span],
+        gathers: bool,
         wire: &mut W,
     ) -> Result<Answer, Unreachable>
         requires stored { All (IsSpanStored (laid self.old.streams.blobs)) spans.now }
         requires within { IsTrue (list_all is_within spans.now) }
-        requires short { length frame.body + spans_len spans.now < 2 ^ 64 }
-        ensures read { IfOk result (λ a. IsAnswer a (are_in_last self.old.streams.blobs spans.now)
+        requires short { AreShort frame.body spans.now }
+        ensures read { IfOk result (λ a. IsAnswerIf gathers a (are_in_last self.old.streams.blobs spans.now)
             (with_content frame (flat_map (span_bytes (bytes_at (laid self.old.streams.blobs))) spans.now))) }
         ensures sent { (q : Asked) → spans.now ≡ sent.spans (pieces_of self.old q.ask.key) q
-            → IfOk result (λ a. IsAnswer a (are_in_last self.old.streams.blobs spans.now)
+            → IfOk result (λ a. IsAnswerIf gathers a (are_in_last self.old.streams.blobs spans.now)
             (with_content frame (bytes_sent (bytes_of self.old q.ask.key) q))) }
         ensures same { self.new ≡ self.old }
         ensures unreachable { OnErr result (all_faults (W.faults wire.old) < all_faults (W.faults wire.new)) }
         ensures grown { Grows (W.faults wire.old) (W.faults wire.new) }
     {
         self.streams.kept();
-        make_answer(self.alloc, &mut self.streams, frame, spans, wire)
+        make_answer(self.alloc, &mut self.streams, frame, spans, gathers, wire)
     }
 
     // Puts the content of a change into the data, logs the change, and then makes it in the rows that are loaded. If the change was logged,
@@ -372,6 +392,7 @@ impl StoredRows {
                     range: upper,
                     doubt: None,
                     waste,
+                    gathers_lists: self.gathers_lists,
                 })
             }
             Err(AllocError) => Err(StoredFault::NoMemory),

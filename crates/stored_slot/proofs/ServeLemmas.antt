@@ -15,7 +15,7 @@ use Rattle.range_rows.specs.SentContent.{sizes}
 use Rattle.stamp_model.specs.Effects.{unless_refused}
 use Rattle.stamp_model.specs.Histories.{pair_of}
 use Rattle.stamp_model.specs.Refusals.{refusal}
-use Rattle.tickets.specs.Answers.{IsAnswer}
+use Rattle.tickets.specs.Answers.{IsAnswer, IsAnswerIf}
 use Rattle.tickets.specs.declared.answer.Answer.{Answer}
 use Rattle.tickets.specs.declared.answer.Answer.TheVariants as answer
 use Rattle.stored_rows.specs.Counting.{FailsStored, FailsTake}
@@ -186,10 +186,10 @@ slot_none pairs h s t d same none = λ i. slot_with pairs h (same i) (none i)
 
 -- ---- content that is read
 
-pub answer_read : (F : Type 0) (b : Bool) (reply : Reply) (a : Answer) → IsAnswer a b reply → ReadsAnswer F reply a
-answer_read F b reply (answer.Done r) is = inl is.0
-answer_read F b reply (answer.Later r) is = is.0
-answer_read F b reply answer.NoMemory is = tt
+pub answer_read : (F : Type 0) (g b : Bool) (reply : Reply) (a : Answer) → IsAnswerIf g a b reply → ReadsAnswer F reply a
+answer_read F g b reply (answer.Done r) is = inl is.0
+answer_read F g b reply (answer.Later r) is = is.0
+answer_read F g b reply answer.NoMemory is = tt
 
 pub busy_read : (F : Type 0) (reply : Reply) (a : Answer) → F → IsAnswer a true busy → ReadsAnswer F reply a
 busy_read F reply (answer.Done r) faulted is = inr (faulted, is.0)

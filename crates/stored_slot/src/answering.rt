@@ -64,7 +64,8 @@ pub(crate) fn failed(alloc: Global, fault: StoredFault) -> Answer
     }
 }
 
-/// The answer to a request that changes nothing: its content is read in the streams now, or by a ticket later.
+/// The answer to a request that changes nothing: its content is read in the streams now, or by a ticket later. The text of a list is written by its
+/// ticket, if the rows gather lists, and otherwise now.
 #[tactic(auto, using(crate::proofs::ServeLemmas::answer_read, crate::proofs::ServeLemmas::busy_read))]
 pub(crate) fn reading<W: Wire>(
     stored: &mut StoredRows,
@@ -79,7 +80,8 @@ pub(crate) fn reading<W: Wire>(
     ensures grown { Grows (W.faults wire.old) (W.faults wire.new) }
 {
     let Framed { frame, spans } = answer;
-    match stored.answer(frame, spans.as_slice(), wire) {
+    let gathers = stored.gathers_lists();
+    match stored.answer(frame, spans.as_slice(), gathers, wire) {
         Ok(answer) => answer,
         Err(Unreachable) => busy(alloc),
     }

@@ -176,9 +176,15 @@ fn allowed_served<H: Histories, W: Wire>(
         Some(change) => {
             let Framed { frame, spans } = answer;
             drop(spans);
-            change_served(
-                histories, stored, doubt, pairs, alloc, request, moment, frame, change, wire,
-            )
+            match frame.write(alloc) {
+                Ok(frame) => change_served(
+                    histories, stored, doubt, pairs, alloc, request, moment, frame, change, wire,
+                ),
+                Err(AllocError) => {
+                    drop(change);
+                    Answer::NoMemory
+                }
+            }
         }
     }
 }

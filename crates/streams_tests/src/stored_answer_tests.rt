@@ -4,6 +4,7 @@ use crate::partition_samples::Told;
 use crate::sample_wires::script;
 use crate::stored_samples::{Seen, create, delete, load, look, piece, put, seal, stored, take};
 use crate::ticket_tests::{frame, has_body, is_done, later};
+use body_forms::Draft;
 use extent_node::Script;
 use extent_seal::ReadFault;
 use range_rows::Span;
@@ -37,7 +38,7 @@ fn answer_of_three(
         from: 1,
         to: 4,
     }];
-    stored.answer(frame(rt, alloc), &spans, wire)
+    stored.answer(Draft::written(frame(rt, alloc)), &spans, true, wire)
 }
 
 // The body: the bytes 1 and 2 of the frame, and then `ell` of the blob.

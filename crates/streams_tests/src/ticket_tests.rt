@@ -5,6 +5,7 @@ ghost use Rattle.partition_stream.specs.Contents.{AreStored};
 
 use crate::partition_samples::{put_and_seal, put_three, streams};
 use crate::sample_wires::script;
+use body_forms::Draft;
 use extent_node::Script;
 use extent_seal::ReadFault;
 use partition_stream::Streams;
@@ -43,7 +44,14 @@ fn answer_of_two(
                 from: 1,
                 to: 3,
             }];
-            make_answer(alloc, streams, frame(rt, alloc), &spans, wire)
+            make_answer(
+                alloc,
+                streams,
+                Draft::written(frame(rt, alloc)),
+                &spans,
+                true,
+                wire,
+            )
         }
         _ => panic!(rt; "one piece"),
     }

@@ -1,5 +1,5 @@
 -- Parts that spans ask for.
-use Rattle.std.proofs.Common.{◌≡◌, ◌≤◌, ◌<◌, ◌+◌, ◌-◌, ◌^◌, ◌∙◌, ◌&&◌, ℕ, Bool, List, [], ◌∷◌, ◌++◌, IsTrue, length, map, take, drop, get_or, ap, refl, subst, sym, arith}
+use Rattle.std.proofs.Common.{inl, inr, ◌≡◌, ◌≤◌, ◌<◌, ◌+◌, ◌-◌, ◌^◌, ◌∙◌, ◌&&◌, ℕ, Bool, List, [], ◌∷◌, ◌++◌, IsTrue, length, map, take, drop, get_or, ap, refl, subst, sym, arith}
 use Rattle.std.specs.Prelude.{All, slice_range, unwrap_or}
 use Rattle.std.specs.List.{flat_map, list_all}
 use Rattle.std.proofs.lemmas.List.{length-append, length-take, map-append, take_more}
@@ -18,7 +18,7 @@ use Rattle.partition_stream.specs.Contents.{AreStored, IsStored, bytes_at}
 use Rattle.partition_stream.specs.Parts.{KeptPart, is_piece_in_last}
 use Rattle.partition_stream.specs.Streams.{ThreeStreams}
 use Rattle.range_rows.specs.declared.answer.Span.{Span}
-use Rattle.range_rows.specs.SentContent.{ReadsWhole, is_within, span_bytes, spans_len}
+use Rattle.range_rows.specs.SentContent.{AreShort, ReadsWhole, is_within, span_bytes, spans_len}
 use Rattle.tickets.specs.Answers.{IsSpanStored, are_in_last, kept_span}
 use Rattle.tickets.specs.Tickets.{are_read, parts_bytes}
 
@@ -64,9 +64,14 @@ spans_short read (s ∷ ss) =
     let first = ap length (flat_map-cons (span_bytes read) s ss) ∙ length-append (span_bytes read s) (flat_map (span_bytes read) ss) in
     omega (arith, first, shortened (s.to - s.from) (read s.piece) s.from, spans_short read ss, sum_by-cons (λ (s : Span). s.to - s.from) s ss)
 
--- the body with the bytes of the parts is not too long
-pub short_answer : (blobs : Streamed) (body : List ℕ) (ss : List Span) → length body + spans_len ss < 2 ^ 64 → length (body ++ parts_bytes (map (kept_span blobs) ss)) < 2 ^ 64
-short_answer blobs body ss short =
+-- the body with the bytes of the parts is not too long, if so many bytes of the body fit in memory
+pub short_answer : (blobs : Streamed) (body : List ℕ) (ss : List Span) (n : ℕ) → AreShort body ss → n ≡ length body → n < 2 ^ 64 → length (body ++ parts_bytes (map (kept_span blobs) ss)) < 2 ^ 64
+short_answer blobs body ss n (inl none) counted held =
+    let content : parts_bytes (map (kept_span blobs) ss) ≡ [] = ap (λ x. parts_bytes (map (kept_span blobs) x)) none in
+    let both = length-append body (parts_bytes (map (kept_span blobs) ss)) in
+    let nothing : length (parts_bytes (map (kept_span blobs) ss)) ≡ 0 = ap length content in
+    omega (arith, both, nothing, counted, held)
+short_answer blobs body ss n (inr short) counted held =
     let both = length-append body (parts_bytes (map (kept_span blobs) ss)) in
     let content = ap length (kept_bytes blobs ss) in
     omega (arith, both, content, spans_short (bytes_at (laid blobs)) ss, short)

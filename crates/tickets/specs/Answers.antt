@@ -28,3 +28,9 @@ abbrev pub IsAnswer : Answer → Bool → Reply → Type 0
 IsAnswer (answer.Done r) read reply = (r ≡ reply) × (read ≡ true)
 IsAnswer (answer.Later t) read reply = (t ≡ reply) × (read ≡ false)
 IsAnswer answer.NoMemory read reply = ⊤
+
+-- the same, but if lists are gathered, the answer may be later though all of its content was read
+abbrev pub IsAnswerIf : Bool → Answer → Bool → Reply → Type 0
+IsAnswerIf gathers (answer.Done r) read reply = (r ≡ reply) × (read ≡ true)
+IsAnswerIf gathers (answer.Later t) read reply = (t ≡ reply) × ((read ≡ false) ⊎ (gathers ≡ true))
+IsAnswerIf gathers answer.NoMemory read reply = ⊤

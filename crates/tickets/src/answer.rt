@@ -5,11 +5,12 @@ ghost use Rattle.extent_seal.specs.Counting.{Grows, all_faults};
 ghost use Rattle.extent_seal.specs.declared.sealed.ReadFault.TheVariants as read_fault;
 ghost use Rattle.stream_manager.specs.Streams.{laid};
 ghost use Rattle.partition_stream.specs.Contents.{bytes_at};
-ghost use Rattle.range_rows.specs.SentContent.{is_within, span_bytes, spans_len, with_content};
-ghost use Rattle.tickets.specs.Answers.{IsAnswer, IsSpanStored, are_in_last, kept_span};
+ghost use Rattle.range_rows.specs.SentContent.{AreShort, is_within, span_bytes, with_content};
+ghost use Rattle.tickets.specs.Answers.{IsAnswer, IsAnswerIf, IsSpanStored, are_in_last, kept_span};
 ghost use Rattle.tickets.specs.Tickets.{are_read, parts_bytes, with_parts};
 
 use crate::ticket::Ticket;
+use body_forms::{Draft, Listing};
 use extent_node::Wire;
 use extent_seal::ReadFault;
 use partition_stream::{Part, Streams};
@@ -22,7 +23,7 @@ use std::alloc::{AllocError, Global};
 pub enum Answer {
     /// The reply. Each byte of its content was read while the request was served.
     Done(Reply),
-    /// The reply is fetched later. Some of its content is in sealed extents.
+    /// The reply is fetched later. Some of its content is in sealed extents, or it is a list whose text is written then.
     Later(Ticket),
     /// Memory ran out.
     NoMemory,
@@ -158,12 +159,9 @@ fn answer_with(frame: Reply, parts: Vec<Part>) -> Answer
     }
 }
 
-/// The answer of a frame with the content of these spans after its body. No byte is copied.
-///
-/// It is Done if each span is in the last extent of the data: its bytes are read now. Unreachable: every node was asked for a block of
-/// the last extent, and answered no.
+// The answer of a written frame with the content of these spans after its body.
 #[tactic(auto, using(crate::proofs::PartLemmas::kept_bytes, crate::proofs::PartLemmas::kept_read, crate::proofs::PartLemmas::short_answer))]
-pub fn make_answer<W: Wire>(
+fn content_answer<W: Wire>(
     alloc: Global,
     streams: &mut Streams,
     frame: Reply,
@@ -172,13 +170,15 @@ pub fn make_answer<W: Wire>(
 ) -> Result<Answer, Unreachable>
     requires stored { All (IsSpanStored (laid streams.old.blobs)) spans.now }
     requires within { IsTrue (list_all is_within spans.now) }
-    requires short { length frame.body + spans_len spans.now < 2 ^ 64 }
+    requires short { AreShort frame.body spans.now }
     ensures answered { IfOk result (λ a. IsAnswer a (are_in_last streams.old.blobs spans.now)
         (with_content frame (flat_map (span_bytes (bytes_at (laid streams.old.blobs))) spans.now))) }
     ensures same { streams.new ≡ streams.old }
     ensures unreachable { OnErr result (all_faults (W.faults wire.old) < all_faults (W.faults wire.new)) }
     ensures grown { Grows (W.faults wire.old) (W.faults wire.new) }
 {
+    // The body of the frame fits in memory.
+    let _held = frame.body.len();
     match parts_of(alloc, streams, spans, wire) {
         Ok(parts) => Ok(answer_with(frame, parts)),
         Err(ReadFault::Unreachable) => {
@@ -188,6 +188,62 @@ pub fn make_answer<W: Wire>(
         Err(ReadFault::NoMemory) => {
             drop(frame);
             Ok(Answer::NoMemory)
+        }
+    }
+}
+
+// The answer of a page of a list, whose text is written now, with the content of these spans after its body.
+fn page_answer<W: Wire>(
+    alloc: Global,
+    streams: &mut Streams,
+    listing: Listing,
+    spans: &[Span],
+    wire: &mut W,
+) -> Result<Answer, Unreachable>
+    requires stored { All (IsSpanStored (laid streams.old.blobs)) spans.now }
+    requires within { IsTrue (list_all is_within spans.now) }
+    requires short { AreShort listing.body spans.now }
+    ensures answered { IfOk result (λ a. IsAnswer a (are_in_last streams.old.blobs spans.now)
+        (with_content listing (flat_map (span_bytes (bytes_at (laid streams.old.blobs))) spans.now))) }
+    ensures same { streams.new ≡ streams.old }
+    ensures unreachable { OnErr result (all_faults (W.faults wire.old) < all_faults (W.faults wire.new)) }
+    ensures grown { Grows (W.faults wire.old) (W.faults wire.new) }
+{
+    match listing.write(alloc) {
+        Ok(frame) => content_answer(alloc, streams, frame, spans, wire),
+        Err(AllocError) => Ok(Answer::NoMemory),
+    }
+}
+
+/// The answer of a frame with the content of these spans after its body. No byte of content is copied.
+///
+/// It is Done if each span is in the last extent of the data: its bytes are read now. If lists are gathered, a list is Later: its text is written
+/// when its ticket is fetched. Unreachable: every node was asked for a block of the last extent, and answered no.
+#[tactic(auto, using(crate::proofs::PageLemmas::answer_if, crate::proofs::PageLemmas::page_later))]
+pub fn make_answer<W: Wire>(
+    alloc: Global,
+    streams: &mut Streams,
+    frame: Draft,
+    spans: &[Span],
+    gathers: bool,
+    wire: &mut W,
+) -> Result<Answer, Unreachable>
+    requires stored { All (IsSpanStored (laid streams.old.blobs)) spans.now }
+    requires within { IsTrue (list_all is_within spans.now) }
+    requires short { AreShort frame.body spans.now }
+    ensures answered { IfOk result (λ a. IsAnswerIf gathers a (are_in_last streams.old.blobs spans.now)
+        (with_content frame (flat_map (span_bytes (bytes_at (laid streams.old.blobs))) spans.now))) }
+    ensures same { streams.new ≡ streams.old }
+    ensures unreachable { OnErr result (all_faults (W.faults wire.old) < all_faults (W.faults wire.new)) }
+    ensures grown { Grows (W.faults wire.old) (W.faults wire.new) }
+{
+    match frame.into_parts() {
+        Ok(frame) => content_answer(alloc, streams, frame, spans, wire),
+        Err(listing) => {
+            if gathers && spans.is_empty() {
+                return Ok(Answer::Later(Ticket::of_page(alloc, listing)));
+            }
+            page_answer(alloc, streams, listing, spans, wire)
         }
     }
 }

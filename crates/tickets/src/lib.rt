@@ -1,7 +1,8 @@
-//! Replies whose content is read later, without the streams that keep it.
+//! Replies that are made whole later, without the streams and the rows that they are made of.
 #![tactic(auto)]
 
 mod answer;
+mod content;
 mod laws;
 mod ticket;
 

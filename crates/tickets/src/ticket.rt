@@ -1,69 +1,56 @@
-//! Replies whose content is read later.
-ghost use Rattle.std.specs.Prelude.{◌≡◌, ◌<◌, ◌^◌, ◌++◌, Err, IfErr, IfOk, length};
-ghost use Rattle.extent_seal.specs.Counting.{Grows, all_faults};
-ghost use Rattle.extent_seal.specs.declared.sealed.ReadFault.TheVariants.{Unreachable};
-ghost use Rattle.tickets.specs.Tickets.{parts_bytes, with_parts};
+//! Replies that are made whole later.
+ghost use Rattle.std.specs.Prelude.{◌≡◌, IfErr, IfOk};
+ghost use Rattle.extent_seal.specs.declared.sealed.ReadFault.TheVariants.{NoMemory};
 
+use crate::content::LaterContent;
+use body_forms::Listing;
 use extent_node::Wire;
 use extent_seal::ReadFault;
 use partition_stream::Part;
-use stamp_types::{Reply, Shares};
-use std::alloc::AllocError;
+use stamp_types::Reply;
+use std::alloc::{AllocError, Global};
 use std::marker::Model;
 
-/// A reply whose content is read later. It owns what it reads: so it gives the same reply whatever is written, deleted, sealed or split
-/// after it was made.
-///
-/// A ticket keeps each extent in memory that has a part of its content.
+// A page of a list whose text is written later, seen as the reply that tells the page.
 #[derive(Drop)]
-pub struct Ticket {
-    frame: Reply,
-    parts: Vec<Part>,
+struct LaterPage {
+    alloc: Global,
+    listing: Listing,
 }
 
-impl Model for Ticket {
-    ghost use Rattle.std.specs.Prelude.{◌<◌, ◌^◌, ◌++◌, length};
+impl Model for LaterPage {
     ghost use Rattle.stamp_types.specs.declared.reply.Reply.{Reply};
-    ghost use Rattle.tickets.specs.Tickets.{parts_bytes, with_parts};
 
     ghost Value = { Reply };
 
-    ghost view = { λ t. with_parts t.frame t.parts.items };
-
-    ghost invariant = { λ t. length (t.frame.body ++ parts_bytes t.parts.items) < 2 ^ 64 };
+    ghost view = { λ p. p.listing };
 }
 
-// Puts the bytes of a part after the body. No byte is copied.
-fn push_part<W: Wire>(body: &mut Shares, part: &Part, wire: &mut W) -> Result<(), ReadFault>
-    requires { length (body.old ++ part.now.bytes) < 2 ^ 64 }
-    ensures pushed { IfOk result (λ _. body.new ≡ body.old ++ part.now.bytes) }
-    ensures unreachable { result ≡ Err Unreachable → all_faults (W.faults wire.old) < all_faults (W.faults wire.new) }
-    ensures grown { Grows (W.faults wire.old) (W.faults wire.new) }
-{
-    let bytes = part.fetch(wire)?;
-    match body.push(bytes) {
-        Ok(()) => Ok(()),
-        Err(AllocError) => Err(ReadFault::NoMemory),
-    }
+/// A reply that is made whole later: its content is read then, or the text of its list is written then. It owns what it needs for that. So it gives
+/// the same reply whatever is written, deleted, sealed or split after it was made.
+#[derive(Drop)]
+pub struct Ticket {
+    later: Result<LaterContent, LaterPage>,
 }
 
-// The bytes of the body, and then those of the parts.
-fn body_with<W: Wire>(body: &Shares, parts: &[Part], wire: &mut W) -> Result<Shares, ReadFault>
-    requires { length (body.now ++ parts_bytes parts.now) < 2 ^ 64 }
-    ensures read { IfOk result (λ s. s ≡ body.now ++ parts_bytes parts.now) }
-    ensures unreachable { result ≡ Err Unreachable → all_faults (W.faults wire.old) < all_faults (W.faults wire.new) }
-    ensures grown { Grows (W.faults wire.old) (W.faults wire.new) }
+impl Model for Ticket {
+    ghost use Rattle.stamp_types.specs.declared.reply.Reply.{Reply};
+    ghost use Rattle.body_forms.specs.Drafts.{reply_drafted};
+
+    ghost Value = { Reply };
+
+    ghost view = { λ t. reply_drafted t.later };
+}
+
+// The reply that tells the page. After a fault the page comes back.
+fn written(page: LaterPage) -> Result<Reply, (LaterPage, ReadFault)>
+    ensures written { IfOk result (λ reply. reply ≡ page) }
+    ensures back { IfErr result (λ e. e ≡ (page, NoMemory)) }
 {
-    let mut whole = match body.clone() {
-        Ok(copy) => copy,
-        Err(AllocError) => return Err(ReadFault::NoMemory),
-    };
-    let mut left = parts;
-    while let [first, rest @ ..] = left {
-        push_part(&mut whole, first, wire)?;
-        left = rest;
+    match page.listing.write(page.alloc) {
+        Ok(reply) => Ok(reply),
+        Err(AllocError) => Err((page, ReadFault::NoMemory)),
     }
-    Ok(whole)
 }
 
 impl Ticket {
@@ -77,10 +64,21 @@ impl Ticket {
         requires { length (frame.body ++ parts_bytes parts.items) < 2 ^ 64 }
         ensures { result ≡ with_parts frame parts.items }
     {
-        Self { frame, parts }
+        Self {
+            later: Ok(LaterContent::new(frame, parts)),
+        }
     }
 
-    /// The reply. No byte is copied, and no stream is looked at.
+    /// A ticket for a page of a list whose text is not written yet.
+    pub fn of_page(alloc: Global, listing: Listing) -> Self
+        ensures { result ≡ listing }
+    {
+        Self {
+            later: Err(LaterPage { alloc, listing }),
+        }
+    }
+
+    /// The reply. No byte of content is copied, and no stream is looked at.
     ///
     /// After a fault the ticket comes back, and can be fetched again. Unreachable: every node with a copy of some extent was asked, and
     /// answered no. NoMemory: memory ran out, or some bytes can have no further owner.
@@ -90,9 +88,15 @@ impl Ticket {
         ensures unreachable { IfErr result (λ e. e.1 ≡ Unreachable → all_faults (W.faults wire.old) < all_faults (W.faults wire.new)) }
         ensures grown { Grows (W.faults wire.old) (W.faults wire.new) }
     {
-        match body_with(&self.frame.body, &self.parts, wire) {
-            Ok(body) => Ok(Reply { body, ..self.frame }),
-            Err(fault) => Err((self, fault)),
+        match self.later {
+            Ok(content) => match content.fetch(wire) {
+                Ok(reply) => Ok(reply),
+                Err((content, fault)) => Err((Self { later: Ok(content) }, fault)),
+            },
+            Err(page) => match written(page) {
+                Ok(reply) => Ok(reply),
+                Err((page, fault)) => Err((Self { later: Err(page) }, fault)),
+            },
         }
     }
 }

@@ -46,14 +46,14 @@ returns-then-len-max c =
     let full : length c.loop-name.entries.items ≡ c.args.max = omega (arith, c.loop-name.invariant.room) in
     full_name shown_row c.args.prefix.now c.args.delimiter.now c.args.marker.now (entries c.args.found.now.blobs) (rises (entries c.args.found.now.blobs) (entries_sorted c.args.found.now.blobs)) c.loop-name.entries.items c.loop-name.left c.in-Some.name.now c.in-Some.blob c.next.new.self c.loop-name.invariant.at left c.new-then-len-max.result c.args.max c.in-Some-listed_blob.shown value begins alone at full c.new-then-len-max.ensures.entries c.new-then-len-max.ensures.next
 
-pub loop-name-preserved-in-Continue-branch-2 : goal.loop-name-preserved-in-Continue-branch-2
-loop-name-preserved-in-Continue-branch-2 c =
+pub loop-name-preserved-in_ok-push-in-None : goal.loop-name-preserved-in_ok-push-in-None
+loop-name-preserved-in_ok-push-in-None c =
     let left : c.loop-name.left ≡ (c.in-Some.name.now, c.in-Some.blob) ∷ c.next.new.self = c.in-Some.ensures.steps in
     let begins : begins_with c.in-Some.name.now c.args.prefix.now ≡ true = sym c.begins_with.ensures ∙ c.if-not-begins_with.false in
     let value : shown_row c.in-Some.blob ≡ Some c.in-Some-listed_blob.shown = sym c.listed_blob.ensures ∙ c.in-Some-listed_blob.is in
     let alone : group_of c.args.prefix.now c.args.delimiter.now c.in-Some.name.now ≡ None = sym c.group_of.ensures ∙ ap (option_map (λ t. t.now)) c.in-None.is in
     let at : is_name_from c.args.marker.now c.in-Some.name.now ≡ true = at_name shown_row c.args.prefix.now c.args.delimiter.now c.args.marker.now (entries c.args.found.now.blobs) (rises (entries c.args.found.now.blobs) (entries_sorted c.args.found.now.blobs)) c.loop-name.entries.items c.loop-name.left c.in-Some.name.now c.in-Some.blob c.next.new.self c.loop-name.invariant.at left in
-    let put : c.push.new.self.items ≡ c.loop-name.entries.items ++ (c.in-Some.name.now, Some c.in-Some-listed_blob.shown) ∷ [] = c.in_ok-push-in-None.ensures.items ∙ ap (λ (item : Entry ShownBlob). c.loop-name.entries.items ++ item ∷ []) c.blob.ensures in
+    let put : c.push.new.self.items ≡ c.loop-name.entries.items ++ (c.in-Some.name.now, Some c.in-Some-listed_blob.shown) ∷ [] = c.in_ok-push-in-None.ensures.items ∙ ap (λ (item : Entry ShownBlob). c.loop-name.entries.items ++ item ∷ []) c.in_ok-blob-in-None.ensures in
     record { can = tt; ends = tt; at = take_name shown_row c.args.prefix.now c.args.delimiter.now c.args.marker.now (entries c.args.found.now.blobs) (rises (entries c.args.found.now.blobs) (entries_sorted c.args.found.now.blobs)) c.loop-name.entries.items c.loop-name.left c.in-Some.name.now c.in-Some.blob c.next.new.self c.loop-name.invariant.at left c.in-Some-listed_blob.shown value begins alone at c.push.new.self.items put; room = omega (arith, ap (λ (items : List (Entry ShownBlob)). length items) put, length-append c.loop-name.entries.items ((c.in-Some.name.now, Some c.in-Some-listed_blob.shown) ∷ [])) }
 
 pub after-requires : goal.after-requires
@@ -71,23 +71,23 @@ returns-then-len-max-2 c =
     let full : length c.loop-name.entries.items ≡ c.args.max = omega (arith, c.loop-name.invariant.room) in
     full_group shown_row c.args.prefix.now c.args.delimiter.now c.args.marker.now (entries c.args.found.now.blobs) (rises (entries c.args.found.now.blobs) (entries_sorted c.args.found.now.blobs)) c.loop-name.entries.items c.loop-name.left c.in-Some.name.now c.in-Some.blob c.next.new.self c.loop-name.invariant.at left c.new-then-len-max-2.result c.args.max c.in-Some-listed_blob.shown c.in-Some-group_of.group.now value begins grouped at full c.new-then-len-max-2.ensures.entries c.new-then-len-max-2.ensures.next
 
-pub loop-name-smaller-in-Continue-branch-4 : goal.loop-name-smaller-in-Continue-branch-4
-loop-name-smaller-in-Continue-branch-4 c =
+pub loop-name-smaller-in_ok-push-in-Some-group_of : goal.loop-name-smaller-in_ok-push-in-Some-group_of
+loop-name-smaller-in_ok-push-in-Some-group_of c =
     let left : c.loop-name.left ≡ (c.in-Some.name.now, c.in-Some.blob) ∷ c.next.new.self = c.in-Some.ensures.steps in
     let begins : begins_with c.in-Some.name.now c.args.prefix.now ≡ true = sym c.begins_with.ensures ∙ c.if-not-begins_with.false in
     let grouped : group_of c.args.prefix.now c.args.delimiter.now c.in-Some.name.now ≡ Some c.in-Some-group_of.group.now = sym c.group_of.ensures ∙ ap (option_map (λ t. t.now)) c.in-Some-group_of.is in
     let rest : c.in_ok-left-in-Some-group_of.left ≡ filter (λ e. is_name_from (raised c.in-Some-group_of.group.now) e.0) (entries c.args.found.now.blobs) = c.in_ok-left-in-Some-group_of.ensures in
     fewer shown_row c.args.prefix.now c.args.delimiter.now c.args.marker.now (entries c.args.found.now.blobs) (rises (entries c.args.found.now.blobs) (entries_sorted c.args.found.now.blobs)) c.loop-name.entries.items c.loop-name.left c.in-Some.name.now c.in-Some.blob c.next.new.self c.loop-name.invariant.at left c.in-Some-group_of.group.now c.in_ok-left-in-Some-group_of.left begins grouped rest
 
-pub loop-name-preserved-in-Continue-branch-4 : goal.loop-name-preserved-in-Continue-branch-4
-loop-name-preserved-in-Continue-branch-4 c =
+pub loop-name-preserved-in_ok-push-in-Some-group_of : goal.loop-name-preserved-in_ok-push-in-Some-group_of
+loop-name-preserved-in_ok-push-in-Some-group_of c =
     let left : c.loop-name.left ≡ (c.in-Some.name.now, c.in-Some.blob) ∷ c.next.new.self = c.in-Some.ensures.steps in
     let begins : begins_with c.in-Some.name.now c.args.prefix.now ≡ true = sym c.begins_with.ensures ∙ c.if-not-begins_with.false in
     let value : shown_row c.in-Some.blob ≡ Some c.in-Some-listed_blob.shown = sym c.listed_blob.ensures ∙ c.in-Some-listed_blob.is in
     let grouped : group_of c.args.prefix.now c.args.delimiter.now c.in-Some.name.now ≡ Some c.in-Some-group_of.group.now = sym c.group_of.ensures ∙ ap (option_map (λ t. t.now)) c.in-Some-group_of.is in
     let at : is_name_from c.args.marker.now c.in-Some-group_of.group.now ≡ true = sym c.is_from-in-Some-group_of.ensures ∙ c.if-is_from-2.true in
     let rest : c.in_ok-left-in-Some-group_of.left ≡ filter (λ e. is_name_from (raised c.in-Some-group_of.group.now) e.0) (entries c.args.found.now.blobs) = c.in_ok-left-in-Some-group_of.ensures in
-    let put : c.push-then-is_from-2.new.self.items ≡ c.loop-name.entries.items ++ (c.in-Some-group_of.group.now, None) ∷ [] = c.in_ok-push-in-Some-group_of.ensures.items ∙ ap (λ (item : Entry ShownBlob). c.loop-name.entries.items ++ item ∷ []) c.group.ensures in
+    let put : c.push-then-is_from-2.new.self.items ≡ c.loop-name.entries.items ++ (c.in-Some-group_of.group.now, None) ∷ [] = c.in_ok-push-in-Some-group_of.ensures.items ∙ ap (λ (item : Entry ShownBlob). c.loop-name.entries.items ++ item ∷ []) c.in_ok-group-in-Some-group_of.ensures in
     record { can = tt; ends = tt; at = take_group shown_row c.args.prefix.now c.args.delimiter.now c.args.marker.now (entries c.args.found.now.blobs) (rises (entries c.args.found.now.blobs) (entries_sorted c.args.found.now.blobs)) c.loop-name.entries.items c.loop-name.left c.in-Some.name.now c.in-Some.blob c.next.new.self c.loop-name.invariant.at left c.in-Some-listed_blob.shown c.in-Some-group_of.group.now c.in_ok-left-in-Some-group_of.left value begins grouped at rest c.push-then-is_from-2.new.self.items put; room = omega (arith, ap (λ (items : List (Entry ShownBlob)). length items) put, length-append c.loop-name.entries.items ((c.in-Some-group_of.group.now, None) ∷ [])) }
 
 pub loop-name-smaller : goal.loop-name-smaller

@@ -77,7 +77,7 @@ loop-key-preserved c =
     let begins : begins_with c.name_of-name.result.now c.args.prefix.now ≡ true = sym c.begins_with.ensures ∙ c.if-not-begins_with.false in
     let value : shown_container c.in-Some.found ≡ Some (shown_standing c.in-Some-standing.standing.now) = ap (option_map shown_standing) (sym c.standing.ensures ∙ ap option_copied c.in-Some-standing.is) in
     let at : is_name_from c.args.start.now.container c.name_of-name.result.now ≡ true = at_name shown_container c.args.prefix.now [] c.args.start.now.container (listed_rows shown_container c.args.start.now.account (option_map (λ t. t.now) c.args.end) c.args.prefix.now c.args.start.now.container c.args.rows.now) (listed_up shown_container c.args.start.now.account (option_map (λ t. t.now) c.args.end) c.args.prefix.now c.args.start.now.container c.args.rows.now) c.loop-key.entries.items (filter_map (shown c.args.start.now.account (option_map (λ t. t.now) c.args.end)) c.loop-key.left) c.name_of-name.result.now c.in-Some.found (filter_map (shown c.args.start.now.account (option_map (λ t. t.now) c.args.end)) c.next.new.self) c.loop-key.invariant.at left in
-    let put : c.push.new.self.items ≡ c.loop-key.entries.items ++ (c.name_of-name.result.now, Some (shown_standing c.in-Some-standing.standing.now)) ∷ [] = c.in_ok-push.ensures.items ∙ ap (λ (item : Entry ShownContainer). c.loop-key.entries.items ++ item ∷ []) c.of.ensures in
+    let put : c.push.new.self.items ≡ c.loop-key.entries.items ++ (c.name_of-name.result.now, Some (shown_standing c.in-Some-standing.standing.now)) ∷ [] = c.in_ok-push.ensures.items ∙ ap (λ (item : Entry ShownContainer). c.loop-key.entries.items ++ item ∷ []) c.in_ok-of.ensures in
     record { can = tt; ends = tt; at = take_name shown_container c.args.prefix.now [] c.args.start.now.container (listed_rows shown_container c.args.start.now.account (option_map (λ t. t.now) c.args.end) c.args.prefix.now c.args.start.now.container c.args.rows.now) (listed_up shown_container c.args.start.now.account (option_map (λ t. t.now) c.args.end) c.args.prefix.now c.args.start.now.container c.args.rows.now) c.loop-key.entries.items (filter_map (shown c.args.start.now.account (option_map (λ t. t.now) c.args.end)) c.loop-key.left) c.name_of-name.result.now c.in-Some.found (filter_map (shown c.args.start.now.account (option_map (λ t. t.now) c.args.end)) c.next.new.self) c.loop-key.invariant.at left (shown_standing c.in-Some-standing.standing.now) value begins refl at c.push.new.self.items put; from = from.1; order = order.1; room = omega (arith, ap (λ (items : List (Entry ShownContainer)). length items) put, length-append c.loop-key.entries.items ((c.name_of-name.result.now, Some (shown_standing c.in-Some-standing.standing.now)) ∷ [])) }
 
 pub returns : goal.returns

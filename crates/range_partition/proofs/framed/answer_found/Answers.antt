@@ -21,7 +21,7 @@ returns-clause-sent c =
     record {
       within = c.in_ok-answer.ensures.within;
       short =
-          fits_memory (overrides_of q.ask) answer.frame (sizes_found_after c.args.allowed.now.target.container q c.args.moment) (pieces_found_after c.args.allowed.now.target.container q c.args.moment) q answer.spans c.len-held.result
+          fits_memory (overrides_of q.ask) answer.frame (sizes_found_after c.args.allowed.now.target.container q c.args.moment) (pieces_found_after c.args.allowed.now.target.container q c.args.moment) q answer.spans
           (c.in_ok-answer.ensures.frame ∙ ap (λ (v : Replaced). frame v (sizes_found_after c.args.allowed.now.target.container q c.args.moment) q) replaced)
-          c.in_ok-answer.ensures.spans c.len-held.ensures c.len-held.type_inv c.in_ok-answer.ensures.short;
+          c.in_ok-answer.ensures.spans c.in_ok-answer.ensures.short;
     }

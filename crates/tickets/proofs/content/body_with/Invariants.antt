@@ -1,7 +1,7 @@
 use Rattle.std.proofs.Common.{◌≡◌, ◌++◌, length}
 use Rattle.extent_seal.specs.Counting.{Grows}
 use Rattle.tickets.specs.Tickets.{parts_bytes}
-use Rattle.tickets.proofs.ticket.body_with.Given as goal
+use Rattle.tickets.proofs.content.body_with.Given as goal
 
 -- the bytes so far and those of the parts that are left make the whole
 abbrev pub invariant-loop-left : goal.invariant-loop-left
