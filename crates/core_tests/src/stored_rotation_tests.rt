@@ -11,6 +11,7 @@ use slot_state::AccountPairs;
 use stamp_types::Text;
 use std::alloc::Global;
 use std::process::Abort;
+use std::sync::Arc;
 
 // The pair after the pair in force, with the first key replaced by `new1`.
 fn next_pair(rt: &impl Abort, alloc: Global, pairs: &AccountPairs, account: &Text) -> Keys
@@ -32,6 +33,7 @@ fn replaces_a_key(rt: &impl Abort, alloc: Global, slot: &mut Streamed) {
     assert!(rt; says(rt, alloc, slot, PUT_BY_NEW, "Refused by rule K5."));
     let account = text(rt, alloc, "devstoreaccount1");
     let pair = next_pair(rt, alloc, slot.slot.account_pairs(), &account);
+    let pair = Arc::new(alloc, pair).expect(rt, "memory");
     assert!(rt; slot.slot.rotate(alloc, &account, pair).is_ok());
     assert!(rt; says(rt, alloc, slot, PUT, "Refused by rule K5."));
     assert!(rt; begins(rt, alloc, slot, PUT_BY_NEW, CREATED));

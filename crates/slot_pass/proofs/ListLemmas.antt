@@ -1,7 +1,7 @@
 -- Beginnings of lists, and where lists differ.
-use Rattle.std.proofs.Common.{◌≡◌, ◌≢◌, ◌≤◌, ◌<◌, ℕ, ◌+◌, ◌-◌, List, [], ◌∷◌, ◌++◌, length, length-append, get_or, map, take, drop, refl, sym, ap, ◌∙◌, subst, arith, Option, Some, None, slice_get, Result, Ok, Err, OnOk, is_ok, if◌then◌else◌}
-use Rattle.std.proofs.lemmas.List.{drop-map, length-drop, length-map, length-take, map-append, map_more, take-append-drop, take-map, take_all}
-use Rattle.std.specs.List.{AllZip}
+use Rattle.std.proofs.Common.{◌≡◌, ◌≢◌, ◌≤◌, ◌<◌, ◌↔◌, ℕ, ◌+◌, Bool, true, false, IsTrue, List, [], ◌∷◌, ◌++◌, length, get_or, take, drop, refl, sym, ap, ◌∙◌, subst, arith, Option, Some, None, slice_get, Result, Ok, Err, OnOk, is_ok, if◌then◌else◌}
+use Rattle.std.proofs.lemmas.List.{length-take, take-append-drop, take_more_same}
+use Rattle.std.proofs.lemmas.Option.{get_or_from_slice_get, slice_get-get_or, slice_get_within}
 use Rattle.std.proofs.Math.Arith.{lt_of_le-ne}
 use Rattle.std.proofs.Math.Seq.{drop-append_seam, take-append_seam, take-length}
 use mathlib.Core.List.{IsPrefix}
@@ -56,37 +56,28 @@ pub caught_up : {A E B : Type 0} (r : Result B E) (old tail whole new : List A) 
 caught_up {A} (Ok b) old tail whole new begins rest is = is ∙ (ap (λ (l : List A). old ++ l) rest ∙ after_beginning old whole begins)
 caught_up (Err e) old tail whole new begins rest is = tt
 
--- ---- lists that are read by a function
+-- ---- what two lists have at a place
 
-module _ {X A : Type 0} (f : X → A) where
+module _ {A : Type 0} where
+  some_same : (p o : A) → Some p ≡ Some o → p ≡ o
+  some_same p o h = cc
+
+  pub both_there : (r : Bool) (x y : Option A) (p o : A) → Some p ≡ x → Some o ≡ y → IsTrue r ↔ (p ≡ o) → IsTrue r ↔ (y ≡ x)
+  both_there r x y p o there too is =
+      (λ h. sym too ∙ (ap (λ (k : A). Some k) (sym (is.0 h)) ∙ there), λ same. is.1 (some_same p o (there ∙ (sym same ∙ sym too))))
+
+  pub first_there : (x y : Option A) (p : A) → Some p ≡ x → None ≡ y → IsTrue false ↔ (y ≡ x)
+  first_there x y p there none = (λ h. cc, λ same. cc)
+
+  pub second_there : (x y : Option A) (o : A) → None ≡ x → Some o ≡ y → IsTrue false ↔ (y ≡ x)
+  second_there x y o none there = (λ h. cc, λ same. cc)
+
+  pub none_there : (x y : Option A) → None ≡ x → None ≡ y → IsTrue true ↔ (y ≡ x)
+  none_there x y none too = (λ h. sym too ∙ none, λ same. refl)
+
   -- one element more is the same
-  pub one_more_by : (xs ys : List X) (i : ℕ) (d : X) → i < length xs → i < length ys → take i (map f xs) ≡ take i (map f ys) → f (get_or xs i d) ≡ f (get_or ys i d) → take (i + 1) (map f xs) ≡ take (i + 1) (map f ys)
-  one_more_by xs ys i d under below same next =
-      take-map f (i + 1) xs
-      ∙ (map_more f xs i d under
-      ∙ ((λ j. (sym (take-map f i xs) ∙ (same ∙ take-map f i ys)) j ++ next j ∷ [])
-      ∙ (sym (map_more f ys i d below) ∙ sym (take-map f (i + 1) ys))))
-
-  pub taken_by : (n : ℕ) (xs ys : List X) → n ≡ length xs → take n (map f xs) ≡ take n (map f ys) → IsPrefix (map f xs) (map f ys)
-  taken_by n xs ys end same = taken_at n (map f xs) (map f ys) (end ∙ sym (length-map xs f)) same
-
-  pub copies : (xs ys : List X) → AllZip (λ x y. f y ≡ f x) xs ys → map f ys ≡ map f xs
-  copies [] [] all = refl
-  copies [] (y ∷ ys) all = absurd all
-  copies (x ∷ xs) [] all = absurd all
-  copies (x ∷ xs) (y ∷ ys) all = λ j. all.0 j ∷ copies xs ys all.1 j
-
-  pub cut_by : (n : ℕ) (old new : List X) (seen : List A) → map f old ≡ seen → new ≡ take n old → map f new ≡ take n seen
-  cut_by n old new seen is cut = ap (λ (l : List X). map f l) cut ∙ (sym (take-map f n old) ∙ ap (λ (l : List A). take n l) is)
-
-  joined_by : (n : ℕ) (old tail whole : List X) → IsPrefix (map f old) (map f whole) → n ≡ length old → map f tail ≡ map f (take (length whole - n) (drop n whole)) → map f (old ++ tail) ≡ map f whole
-  joined_by n old tail whole begins end rest =
-      let all : take (length whole - n) (drop n whole) ≡ drop n whole = take_all (length whole - n) (drop n whole) (omega (arith, length-drop n whole)) in
-      map-append f old tail
-      ∙ (ap (λ (l : List A). map f old ++ l) (rest ∙ (ap (λ (l : List X). map f l) all ∙ sym (drop-map f n whole) ∙ ap (λ (m : ℕ). drop m (map f whole)) (end ∙ sym (length-map old f))))
-      ∙ after_beginning (map f old) (map f whole) begins)
-
-  pub caught_up_by : {E B : Type 0} (r : Result B E) (n : ℕ) (old tail whole new : List X) → IsPrefix (map f old) (map f whole) → n ≡ length old → map f tail ≡ map f (take (length whole - n) (drop n whole)) → new ≡ (if is_ok r then old ++ tail else old)
-      → OnOk r (map f new ≡ map f whole)
-  caught_up_by (Ok b) n old tail whole new begins end rest is = ap (λ (l : List X). map f l) is ∙ joined_by n old tail whole begins end rest
-  caught_up_by (Err e) n old tail whole new begins end rest is = tt
+  pub one_more_at : (xs ys : List A) (i : ℕ) → i < length xs → take i xs ≡ take i ys → slice_get ys i ≡ slice_get xs i → take (i + 1) xs ≡ take (i + 1) ys
+  one_more_at [] ys i under same next = absurd (omega (arith, under))
+  one_more_at (x ∷ xs) ys i under same next =
+      let there : slice_get ys i ≡ Some (get_or (x ∷ xs) i x) = next ∙ slice_get-get_or (x ∷ xs) i x under in
+      take_more_same (x ∷ xs) ys i x under (slice_get_within ys i (get_or (x ∷ xs) i x) there) same (sym (get_or_from_slice_get ys i (get_or (x ∷ xs) i x) x there))

@@ -1,10 +1,11 @@
 //! Where a list differs from the beginning of another list.
-ghost use Rattle.std.specs.Prelude.{◌≡◌, ◌↔◌, IfNone, IfSome, IsTrue, map};
+ghost use Rattle.std.specs.Prelude.{◌≡◌, ◌↔◌, IfNone, IfSome, IsTrue, slice_get};
 ghost use Rattle.std.specs.Arc.{arc_value};
 ghost use mathlib.Core.List.{IsPrefix};
 ghost use Rattle.slot_pass.specs.Differences.{DiffersAt};
 
 use access_rules::Keys;
+use slot_state::PairList;
 use stamp_types::Past;
 use std::sync::Arc;
 
@@ -32,14 +33,31 @@ fn is_same_pair(pair: &Arc<Keys>, other: &Arc<Keys>) -> bool
         && pair.second == other.second
 }
 
+// Whether both lists have the same pair at this place, or both have none.
+#[tactic(auto, using(crate::proofs::ListLemmas::both_there, crate::proofs::ListLemmas::first_there, crate::proofs::ListLemmas::second_there, crate::proofs::ListLemmas::none_there))]
+fn agree(pairs: &PairList, others: &PairList, at: usize) -> bool
+    ensures { IsTrue result ↔ (slice_get others.now at ≡ slice_get pairs.now at) }
+{
+    match pairs.get(at) {
+        Some(pair) => match others.get(at) {
+            Some(other) => is_same_pair(pair, other),
+            None => false,
+        },
+        None => match others.get(at) {
+            Some(_other) => false,
+            None => true,
+        },
+    }
+}
+
 /// The first place where the pairs are not a beginning of the other pairs; none if they are a beginning. Takes no memory.
-#[tactic(auto, using(crate::proofs::ListLemmas::one_more_by, crate::proofs::ListLemmas::taken_by))]
-pub(crate) fn pairs_differ(pairs: &[Arc<Keys>], others: &[Arc<Keys>]) -> Option<usize>
-    ensures begins { IfNone result (IsPrefix (map arc_value pairs.now) (map arc_value others.now)) }
-    ensures differs { IfSome result (λ place. DiffersAt (map arc_value pairs.now) (map arc_value others.now) place) }
+#[tactic(auto, using(crate::proofs::ListLemmas::one_more_at, crate::proofs::ListLemmas::taken_at))]
+pub(crate) fn pairs_differ(pairs: &PairList, others: &PairList) -> Option<usize>
+    ensures begins { IfNone result (IsPrefix pairs.now others.now) }
+    ensures differs { IfSome result (λ place. DiffersAt pairs.now others.now place) }
 {
     for at in 0..pairs.len() {
-        if at >= others.len() || !is_same_pair(&pairs[at], &others[at]) {
+        if !agree(pairs, others, at) {
             return Some(at);
         }
     }

@@ -1,15 +1,12 @@
 //! How a front gets all that may be in it after a call, and then loses what is not.
-ghost use Rattle.std.specs.Prelude.{◌≡◌, IsTrue, OnErr, OnOk, false, map};
-ghost use Rattle.std.specs.Arc.{arc_value};
+ghost use Rattle.std.specs.Prelude.{◌≡◌, IsTrue, OnErr, OnOk, false};
 ghost use mathlib.Core.List.{IsPrefix};
 ghost use Rattle.slot_pass.specs.Spares.{AgreesAt, CanBecome, IsOtherAt, with_last};
 
 use crate::front::Front;
-use crate::shared_pairs::SharedPairs;
-use access_rules::Keys;
+use slot_state::PairList;
 use stamp_types::Past;
 use std::alloc::{AllocError, Global};
-use std::sync::Arc;
 
 // One more entry, if there is one.
 fn push_if(front: &mut Front, entry: Option<Past>) -> Result<(), AllocError>
@@ -87,32 +84,30 @@ fn extend(
 /// entry of the request.
 ///
 /// `AllocError` if memory runs out. Both are then as they were.
-#[tactic(auto, using(crate::proofs::ListLemmas::begins_with))]
 pub(crate) fn grow(
-    pairs: &mut SharedPairs,
+    pairs: &mut PairList,
     front: &mut Front,
     alloc: Global,
-    all_pairs: &[Arc<Keys>],
+    all_pairs: &PairList,
     history: &[Past],
     doubt: Option<Past>,
     own: Option<Past>,
 ) -> Result<(), AllocError>
-    requires pairs { IsPrefix pairs.old (map arc_value all_pairs.now) }
-    requires front { IsPrefix front.old history.now }
-    ensures pairs { OnOk result (pairs.new ≡ map arc_value all_pairs.now) }
+    requires { IsPrefix front.old history.now }
+    ensures pairs { OnOk result (pairs.new ≡ all_pairs.now) }
     ensures front { OnOk result (front.new ≡ with_last (with_last history.now doubt) own) }
     ensures same { OnErr result ((pairs.new ≡ pairs.old) × (front.new ≡ front.old)) }
 {
-    let shown = pairs.len();
-    if let Err(fault) = pairs.catch_up(alloc, all_pairs) {
+    let Ok(copy) = all_pairs.copied() else {
         drop(doubt);
         drop(own);
-        return Err(fault);
-    }
+        return Err(AllocError);
+    };
     if let Err(fault) = extend(front, alloc, history, doubt, own) {
-        pairs.cut(shown);
+        drop(copy);
         return Err(fault);
     }
+    *pairs = copy;
     Ok(())
 }
 

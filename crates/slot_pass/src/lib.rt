@@ -9,7 +9,6 @@ mod laws;
 mod meeting;
 mod pass;
 mod serving;
-mod shared_pairs;
 
 pub use after_fault::AfterFault;
 pub use front::Front;
@@ -19,4 +18,3 @@ pub use laws::{
 pub use meeting::{MeetFault, Order, meet};
 pub use pass::Pass;
 pub use serving::serve_after;
-pub use shared_pairs::SharedPairs;

@@ -1,15 +1,12 @@
 //! What a caller was shown of a container.
-ghost use Rattle.std.specs.Prelude.{◌≡◌, map};
-ghost use Rattle.std.specs.Arc.{arc_value};
+ghost use Rattle.std.specs.Prelude.{◌≡◌};
 ghost use Rattle.slot_pass.specs.Passes.{IsShown};
 
 use crate::front::Front;
-use crate::shared_pairs::SharedPairs;
-use access_rules::Keys;
+use slot_state::PairList;
 use stamp_types::{Key, Past};
 use std::alloc::Global;
 use std::marker::Model;
-use std::sync::Arc;
 
 /// A container, the accepted changes of it that a caller was shown, and the key pairs of its account that the caller was shown.
 ///
@@ -19,7 +16,7 @@ use std::sync::Arc;
 pub struct Pass {
     pub(crate) key: Key,
     pub(crate) front: Front,
-    pub(crate) pairs: SharedPairs,
+    pub(crate) pairs: PairList,
 }
 
 impl Model for Pass {
@@ -43,7 +40,7 @@ impl Pass {
         Self {
             key,
             front: Front::new(alloc),
-            pairs: SharedPairs::new(alloc),
+            pairs: PairList::new(alloc),
         }
     }
 
@@ -62,10 +59,10 @@ impl Pass {
     }
 
     /// The key pairs of the container's account that the caller was shown, the oldest pair first.
-    pub fn pairs(&self) -> &[Arc<Keys>]
-        ensures { map arc_value result.now ≡ self.now.pairs }
+    pub fn pairs(&self) -> &PairList
+        ensures { result.now ≡ self.now.pairs }
     {
-        self.pairs.as_slice()
+        &self.pairs
     }
 
     /// The front is legal by the pairs of the pass, and no entry is of a later epoch than the last pair. Does nothing.

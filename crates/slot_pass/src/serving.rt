@@ -1,6 +1,5 @@
 //! A request that is served after what its caller was shown.
-ghost use Rattle.std.specs.Prelude.{◌≡◌, IfErr, IfOk, None, OnErr, OnOk, false, map, true};
-ghost use Rattle.std.specs.Arc.{arc_value};
+ghost use Rattle.std.specs.Prelude.{◌≡◌, IfErr, IfOk, None, OnErr, OnOk, false, true};
 ghost use Rattle.std.specs.Option.{option_copied};
 ghost use mathlib.Core.List.{IsPrefix};
 ghost use Rattle.extent_seal.specs.Counting.{Grows};
@@ -20,15 +19,12 @@ use crate::comparing::{front_differs, pairs_differ};
 use crate::front::Front;
 use crate::growing::{fit, grow};
 use crate::pass::Pass;
-use crate::shared_pairs::SharedPairs;
-use access_rules::Keys;
 use extent_node::Wire;
 use policy_book::Judged;
 use range_rows::Reading;
-use slot_state::KeptHistories;
+use slot_state::{KeptHistories, PairList};
 use stamp_types::{Key, Moment, Past, Request};
 use std::alloc::{AllocError, Global};
-use std::sync::Arc;
 use stored_slot::{Audited, StoredSlot};
 use tickets::Answer;
 
@@ -37,13 +33,13 @@ fn compare(
     slot: &StoredSlot<KeptHistories>,
     key: &Key,
     front: &Front,
-    pairs: &SharedPairs,
+    pairs: &PairList,
 ) -> Result<(), AfterFault>
     ensures pairs { OnOk result (IsPrefix pairs.now (pairs_at slot.now.pairs key.now.account)) }
     ensures front { OnOk result (IsPrefix front.now (history_at slot.now.histories key.now)) }
     ensures fault { IfErr result (λ fault. IsAfterFault (pass_of key.now front.now pairs.now) slot.now fault) }
 {
-    if let Some(place) = pairs_differ(pairs.as_slice(), slot.pairs(&key.account)) {
+    if let Some(place) = pairs_differ(pairs, slot.pairs(&key.account)) {
         return Err(AfterFault::Pairs(place));
     }
     match front_differs(front.as_slice(), slot.history(key)) {
@@ -53,10 +49,10 @@ fn compare(
 }
 
 // The epoch of the last pair; 0 without a pair.
-fn last_epoch(pairs: &[Arc<Keys>]) -> u64
-    ensures { result ≡ epoch_of (in_force (map arc_value pairs.now)) }
+fn last_epoch(pairs: &PairList) -> u64
+    ensures { result ≡ epoch_of (in_force pairs.now) }
 {
-    match pairs.last() {
+    match pairs.current() {
         Some(pair) => pair.epoch,
         None => 0,
     }
@@ -104,13 +100,12 @@ fn get_ready(
     slot: &StoredSlot<KeptHistories>,
     key: &Key,
     front: &mut Front,
-    pairs: &mut SharedPairs,
+    pairs: &mut PairList,
     alloc: Global,
     request: &Request,
     moment: Moment,
 ) -> Result<(), AllocError>
-    requires pairs { IsPrefix pairs.old (pairs_at slot.now.pairs key.now.account) }
-    requires front { IsPrefix front.old (history_at slot.now.histories key.now) }
+    requires { IsPrefix front.old (history_at slot.now.histories key.now) }
     ensures pairs { OnOk result (pairs.new ≡ pairs_at slot.now.pairs key.now.account) }
     ensures ready { OnOk result (IsReady slot.now key.now request.now moment front.new) }
     ensures same { OnErr result ((front.new ≡ front.old) × (pairs.new ≡ pairs.old)) }
@@ -214,7 +209,7 @@ fn after<W: Wire>(
     slot: &mut StoredSlot<KeptHistories>,
     key: &Key,
     front: &mut Front,
-    pairs: &mut SharedPairs,
+    pairs: &mut PairList,
     alloc: Global,
     request: &Request,
     judged: Option<&Judged>,

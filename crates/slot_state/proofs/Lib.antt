@@ -4,6 +4,7 @@ pub mod HalfLemmas
 pub mod MapLemmas
 pub mod NextLemmas
 pub mod PairLemmas
+pub mod PartLemmas
 pub mod RangeLemmas
 pub mod RowLemmas
 pub mod ServeLemmas

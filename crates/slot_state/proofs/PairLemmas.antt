@@ -29,7 +29,8 @@ found_in_force ks (Some k) numbered is =
 pub pair_of-current : (pairs : Pairs) (account : List ℕ) → AreNumbered pairs → pair_of (pairs_at pairs account) (epoch_of (current_at pairs account)) ≡ current_at pairs account
 pair_of-current pairs account numbered = found_in_force (pairs_at pairs account) (current_at pairs account) (numbered account) refl
 
-len_read : {A : Type 0} (f : A → Keys) (xs : List A) → length xs ≡ length (map f xs)
+-- how many pairs there are, as they are read
+pub len_read : {A : Type 0} (f : A → Keys) (xs : List A) → length xs ≡ length (map f xs)
 len_read f [] = refl
 len_read f (x ∷ xs) = let h = len_read f xs in omega arith
 
@@ -38,6 +39,10 @@ pub in_force_read : {A : Type 0} (f : A → Keys) (shared : List A) → option_m
 in_force_read f shared =
     sym (slice_get-map f shared (length shared - 1))
     ∙ ap (λ (n : ℕ). slice_get (map f shared) (n - 1)) (len_read f shared)
+
+-- the pair at a place, as it is read
+pub place_read : {A : Type 0} (f : A → Keys) (shared : List A) (at : ℕ) → option_map f (slice_get shared at) ≡ slice_get (map f shared) at
+place_read f shared at = sym (slice_get-map f shared at)
 
 -- without accounts, the pairs of each account are numbered
 pub numbered_none : (pairs : Pairs) → pairs ≡ finite.empty → AreNumbered pairs
@@ -70,3 +75,10 @@ copy_read f [] [] all = refl
 copy_read f [] (y ∷ ys) all = absurd all
 copy_read f (x ∷ xs) [] all = absurd all
 copy_read f (x ∷ xs) (y ∷ ys) all = λ j. all.0 j ∷ copy_read f xs ys all.1 j
+
+-- a list with the elements of another list
+pub same_items : {A : Type 0} (xs ys : List A) → AllZip (λ x y. y ≡ x) xs ys → ys ≡ xs
+same_items [] [] all = refl
+same_items [] (y ∷ ys) all = absurd all
+same_items (x ∷ xs) [] all = absurd all
+same_items (x ∷ xs) (y ∷ ys) all = λ j. all.0 j ∷ same_items xs ys all.1 j

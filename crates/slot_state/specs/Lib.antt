@@ -1,6 +1,7 @@
 pub mod HistoryMaps
 pub mod NextPairs
 pub mod PairFaults
+pub mod PairLists
 pub mod Pairs
 pub mod Replays
 pub mod Slots

@@ -1,5 +1,5 @@
 //! The key pairs of accounts.
-ghost use Rattle.std.specs.Prelude.{◌≡◌, ◌≢◌, ◌↔◌, ◌∷◌, ◌⊎◌, [], Err, IfErr, IfOk, IsSome, IsTrue, None, OnErr, OnOk, Some, map};
+ghost use Rattle.std.specs.Prelude.{◌≡◌, ◌≢◌, ◌↔◌, ◌∷◌, ◌⊎◌, [], Err, IfErr, IfOk, IsSome, IsTrue, None, OnErr, OnOk, Some};
 ghost use Rattle.std.specs.Arc.{arc_value};
 ghost use Rattle.std.specs.FinMap as finite;
 ghost use Rattle.std.specs.Option.{option_copied};
@@ -11,7 +11,7 @@ use crate::pair_list::PairList;
 use crate::pairs_fault::PairsFault;
 use access_rules::Keys;
 use stamp_types::Text;
-use stamp_values::{Bytes, Named};
+use stamp_values::{Bytes, Named, Shared};
 use std::alloc::{AllocError, Global};
 use std::marker::Model;
 use std::sync::Arc;
@@ -20,10 +20,13 @@ use std::sync::Arc;
 /// 0, 1, 2 and so on.
 #[derive(Drop)]
 pub struct AccountPairs {
-    pub(crate) by_account: Named<PairList>,
+    pub(crate) by_account: Named<Shared<PairList>>,
+    // The pairs of an account that the stamp does not have.
+    pub(crate) none: PairList,
 }
 
 impl Model for AccountPairs {
+    ghost use Rattle.std.specs.Prelude.{◌≡◌, []};
     ghost use Rattle.slot_state.specs.Pairs.{AreNumbered, Pairs};
     ghost use Rattle.slot_state.specs.Slots.{pairs_code};
 
@@ -33,7 +36,25 @@ impl Model for AccountPairs {
 
     ghost view = { λ p. p.by_account };
 
-    ghost invariant = { λ p. AreNumbered p.by_account };
+    ghost invariant = { λ p. AreNumbered p.by_account × (p.none ≡ []) };
+}
+
+// The list of one pair, which can be shared.
+fn first_list(alloc: Global, pair: Keys) -> Result<Shared<PairList>, AllocError>
+    ensures { IfOk result (λ list. list ≡ pair ∷ []) }
+{
+    let pair = share(alloc, pair)?;
+    let list = PairList::first(alloc, pair)?;
+    let shared = Shared::new(alloc, list)?;
+    Ok(shared)
+}
+
+// The pair in an allocation that can be shared.
+fn share(alloc: Global, pair: Keys) -> Result<Arc<Keys>, AllocError>
+    ensures { IfOk result (λ shared. arc_value shared ≡ pair) }
+{
+    let shared = Arc::new(alloc, pair)?;
+    Ok(shared)
 }
 
 // The name of the pair's account, with bytes of its own.
@@ -53,6 +74,7 @@ impl AccountPairs {
     {
         Self {
             by_account: Named::new(alloc),
+            none: PairList::new(alloc),
         }
     }
 
@@ -71,7 +93,7 @@ impl AccountPairs {
         ensures refused { OnErr result (self.new ≡ self.old) }
     {
         let name = name_of(alloc, &pair)?;
-        let list = PairList::first(alloc, pair)?;
+        let list = first_list(alloc, pair)?;
         self.by_account.insert(name, list)?;
         Ok(())
     }
@@ -117,12 +139,12 @@ impl AccountPairs {
     }
 
     /// The pairs of the account, the oldest pair first; none if the stamp has no such account.
-    pub fn of_account(&self, account: &Text) -> &[Arc<Keys>]
-        ensures { map arc_value result.now ≡ pairs_at self.now account.now }
+    pub fn of_account(&self, account: &Text) -> &PairList
+        ensures { result.now ≡ pairs_at self.now account.now }
     {
         match self.by_account.get(account.as_str().as_bytes()) {
-            Some(list) => list.as_slice(),
-            None => &[],
+            Some(list) => list.get(),
+            None => &self.none,
         }
     }
 
@@ -130,10 +152,7 @@ impl AccountPairs {
     pub fn current(&self, account: &Text) -> Option<&Keys>
         ensures { option_copied result ≡ current_at self.now account.now }
     {
-        match self.by_account.get(account.as_str().as_bytes()) {
-            Some(list) => list.last(),
-            None => None,
-        }
+        self.of_account(account).current()
     }
 
     /// The epoch of the account's pair in force; 0 if the stamp has no such account.

@@ -2,6 +2,7 @@
 #![tactic(auto)]
 
 mod account_pairs;
+mod chunk;
 mod copied;
 mod cutting;
 mod entries;
@@ -28,6 +29,7 @@ pub use laws::{
     a_slot_keeps_to_its_range, a_slot_serves_one_step, a_split_loses_nothing,
     what_is_pushed_back_was_not_there,
 };
+pub use pair_list::PairList;
 pub use pairs_fault::PairsFault;
 pub use proved::ProvedHistories;
 pub use service::{deciding, serving};

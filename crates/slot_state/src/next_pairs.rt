@@ -1,5 +1,6 @@
 //! The key pairs of accounts, one of which gets a later pair.
 ghost use Rattle.std.specs.Prelude.{◌≡◌, ◌∷◌, ◌++◌, [], IfOk, OnErr, OnOk};
+ghost use Rattle.std.specs.Arc.{arc_value};
 ghost use Rattle.std.specs.FinMap as finite;
 ghost use Rattle.stamp_values.specs.Trees.{name_of};
 ghost use Rattle.slot_state.specs.NextPairs.{IsNext, with_next};
@@ -9,23 +10,31 @@ use crate::account_pairs::AccountPairs;
 use crate::pair_list::PairList;
 use access_rules::Keys;
 use stamp_types::Text;
-use stamp_values::{Bytes, Named};
+use stamp_values::{Bytes, Named, Shared};
 use std::alloc::{AllocError, Global};
+use std::sync::Arc;
 
-// A copy of the list under a copy of its name.
-fn copy_one(copy: &mut Named<PairList>, name: &Vec<u8>, list: &PairList) -> Result<(), AllocError>
+// One more owner of the list, under a copy of its name.
+fn copy_one(
+    copy: &mut Named<Shared<PairList>>,
+    name: &Vec<u8>,
+    list: &Shared<PairList>,
+) -> Result<(), AllocError>
     ensures copied { OnOk result (copy.new ≡ finite.insert copy.old (name_of name.now) list.now) }
     ensures refused { OnErr result (copy.new ≡ copy.old) }
 {
     let own = name.clone()?;
-    let list = list.copied()?;
+    let list = list.share()?;
     copy.insert(Bytes::new(own), list)?;
     Ok(())
 }
 
-// The same lists under the same names. The lists share their pairs.
+// The same lists under the same names. No pair is copied: both have the same lists.
 #[tactic(auto, using(crate::proofs::CopyLemmas::all_named))]
-fn copied(alloc: Global, lists: &Named<PairList>) -> Result<Named<PairList>, AllocError>
+fn copied(
+    alloc: Global,
+    lists: &Named<Shared<PairList>>,
+) -> Result<Named<Shared<PairList>>, AllocError>
     ensures { IfOk result (λ copy. copy ≡ lists.now) }
 {
     let mut copy = Named::new(alloc);
@@ -44,38 +53,41 @@ fn name_from(alloc: Global, account: &Text) -> Result<Bytes, AllocError>
     Ok(Bytes::new(name))
 }
 
+// A list of these pairs and of one pair more, which can be shared.
+fn longer_list(
+    alloc: Global,
+    list: &PairList,
+    pair: Arc<Keys>,
+) -> Result<Shared<PairList>, AllocError>
+    ensures { IfOk result (λ longer. longer ≡ list.now ++ arc_value pair ∷ []) }
+{
+    let longer = list.longer(alloc, pair)?;
+    let shared = Shared::new(alloc, longer)?;
+    Ok(shared)
+}
+
 impl AccountPairs {
-    // A list of the account's pairs, which shares them.
-    fn list_of(&self, alloc: Global, account: &Text) -> Result<PairList, AllocError>
-        ensures { IfOk result (λ list. list ≡ pairs_at self.now account.now) }
-    {
-        match self.by_account.get(account.as_str().as_bytes()) {
-            Some(list) => list.copied(),
-            None => Ok(PairList::new(alloc)),
-        }
-    }
-
-    // A list of the account's pairs and of one pair more.
-    fn longer_list(&self, alloc: Global, account: &Text, pair: Keys) -> Result<PairList, AllocError>
-        ensures { IfOk result (λ list. list ≡ pairs_at self.now account.now ++ pair ∷ []) }
-    {
-        let mut list = self.list_of(alloc, account)?;
-        list.push(alloc, pair)?;
-        Ok(list)
-    }
-
-    /// These pairs with one pair more of an account, which is then in force. All earlier pairs are shared.
+    /// These pairs with one pair more of an account, which is then in force. All earlier pairs are shared, and so are the lists of the other
+    /// accounts. Of the account's list [`longer`](PairList::longer) makes a longer one.
     ///
-    /// `AllocError` if memory runs out for the new pair, or for the copies of the lists and of the names.
+    /// `AllocError` if memory runs out for the longer list or for the names, or if a pair can have no further owner.
     #[tactic(auto, using(crate::proofs::NextLemmas::numbered_longer))]
-    pub fn with_next(&self, alloc: Global, account: &Text, pair: Keys) -> Result<Self, AllocError>
-        requires { IsNext (pairs_at self.now account.now) pair }
-        ensures { IfOk result (λ longer. longer ≡ with_next self.now account.now pair) }
+    pub fn with_next(
+        &self,
+        alloc: Global,
+        account: &Text,
+        pair: Arc<Keys>,
+    ) -> Result<Self, AllocError>
+        requires { IsNext (pairs_at self.now account.now) (arc_value pair) }
+        ensures { IfOk result (λ longer. longer ≡ with_next self.now account.now (arc_value pair)) }
     {
-        let list = self.longer_list(alloc, account, pair)?;
+        let list = longer_list(alloc, self.of_account(account), pair)?;
         let name = name_from(alloc, account)?;
         let mut by_account = copied(alloc, &self.by_account)?;
         by_account.insert(name, list)?;
-        Ok(Self { by_account })
+        Ok(Self {
+            by_account,
+            none: PairList::new(alloc),
+        })
     }
 }

@@ -1,5 +1,5 @@
 //! The slot.
-ghost use Rattle.std.specs.Prelude.{◌≡◌, ◌↔◌, ◌⊎◌, IfErr, IfOk, IsTrue, None, OnErr, OnOk, Some, false, map, true};
+ghost use Rattle.std.specs.Prelude.{◌≡◌, ◌↔◌, ◌⊎◌, IfErr, IfOk, IsTrue, None, OnErr, OnOk, Some, false, true};
 ghost use Rattle.std.specs.Arc.{arc_value};
 ghost use Rattle.std.specs.FinMap as finite;
 ghost use Rattle.std.specs.Option.{option_copied};
@@ -19,6 +19,7 @@ use crate::cutting::{cut_rows, ready};
 use crate::histories::Histories;
 use crate::history::History;
 use crate::kept_histories::KeptHistories;
+use crate::pair_list::PairList;
 use crate::pairs_fault::PairsFault;
 use crate::service::serving;
 use access_rules::Keys;
@@ -192,8 +193,8 @@ impl<H: Histories> Slot<H> {
     }
 
     /// The key pairs of the account, the oldest pair first; none if the stamp has no such account.
-    pub fn pairs(&self, account: &Text) -> &[Arc<Keys>]
-        ensures pairs { map arc_value result.now ≡ pairs_at self.now.pairs account.now }
+    pub fn pairs(&self, account: &Text) -> &PairList
+        ensures pairs { result.now ≡ pairs_at self.now.pairs account.now }
         ensures numbered { AreNumbered self.now.pairs }
     {
         self.pairs.numbered();

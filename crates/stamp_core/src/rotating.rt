@@ -45,6 +45,14 @@ fn next_pair(
     }
 }
 
+// The pair in an allocation that can be shared.
+fn share(alloc: Global, pair: Keys) -> Result<Arc<Keys>, AllocError>
+    ensures { IfOk result (λ shared. arc_value shared ≡ pair) }
+{
+    let shared = Arc::new(alloc, pair)?;
+    Ok(shared)
+}
+
 // The pairs with the next pair of an account, in an allocation that can be shared.
 fn with_pair(
     pairs: &AccountPairs,
@@ -55,6 +63,7 @@ fn with_pair(
     requires { IsNext (pairs_at pairs.now account.now) pair }
     ensures { IfOk result (λ shared. arc_value shared ≡ with_next pairs.now account.now pair) }
 {
+    let pair = share(alloc, pair)?;
     let longer = pairs.with_next(alloc, account, pair)?;
     let shared = Arc::new(alloc, longer)?;
     Ok(shared)

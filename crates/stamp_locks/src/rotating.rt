@@ -36,6 +36,14 @@ pub(crate) fn next_pair(
     }
 }
 
+// The pair in an allocation that can be shared.
+fn share(alloc: Global, pair: Keys) -> Result<Arc<Keys>, AllocError>
+    ensures { IfOk result (λ shared. arc_value shared ≡ pair) }
+{
+    let shared = Arc::new(alloc, pair)?;
+    Ok(shared)
+}
+
 /// The pairs with the next pair of an account, in an allocation that can be shared.
 pub(crate) fn with_pair(
     pairs: &AccountPairs,
@@ -46,6 +54,7 @@ pub(crate) fn with_pair(
     requires { IsNext (pairs_at pairs.now account.now) pair }
     ensures { IfOk result (λ shared. arc_value shared ≡ with_next pairs.now account.now pair) }
 {
+    let pair = share(alloc, pair)?;
     let longer = pairs.with_next(alloc, account, pair)?;
     let shared = Arc::new(alloc, longer)?;
     Ok(shared)
@@ -92,14 +101,14 @@ fn has_current(slot: &StoredSlot<KeptHistories>, account: &Text, pairs: &Account
     }
 }
 
-// The slot takes this pair of the account, which is its next one.
+// The slot takes this pair of the account, which is its next one. It shares the pair.
 //
 // `AllocError` if memory runs out, or if the slot has another next pair, which is never so. The slot is then as it was.
 fn take_pair(
     slot: &mut StoredSlot<KeptHistories>,
     alloc: Global,
     account: &Text,
-    pair: &Keys,
+    pair: &Arc<Keys>,
 ) -> Result<(), AllocError> {
     let pair = pair.clone()?;
     if !is_next(slot, account, &pair) {
@@ -123,7 +132,9 @@ pub(crate) fn bring_up(
 {
     let all = pairs.of_account(account);
     for at in slot.pairs(account).len()..all.len() {
-        take_pair(slot, alloc, account, &all[at])?;
+        if let Some(pair) = all.get(at) {
+            take_pair(slot, alloc, account, pair)?;
+        }
     }
     if !has_current(slot, account, pairs) {
         return Err(AllocError);

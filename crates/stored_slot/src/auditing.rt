@@ -1,5 +1,5 @@
 //! Requests that are served with their entries of the audit book.
-ghost use Rattle.std.specs.Prelude.{◌≡◌, IfOk, IfSome, IsSome, None, Some, is_some, map, true};
+ghost use Rattle.std.specs.Prelude.{◌≡◌, IfOk, IfSome, IsSome, None, Some, is_some, true};
 ghost use Rattle.std.specs.Arc.{arc_value};
 ghost use Rattle.std.specs.Option.{option_copied, option_map};
 ghost use Rattle.extent_seal.specs.Counting.{Grows};
@@ -24,7 +24,7 @@ use extent_node::Wire;
 use policy_book::{Entry, Judged, Revision, verdict_by};
 use range_rows::Reading;
 use row_trees::Found;
-use slot_state::{AccountPairs, Histories};
+use slot_state::{AccountPairs, Histories, PairList};
 use stamp_types::{Acl, Moment, Request, Text};
 use std::alloc::{AllocError, Global};
 use std::sync::Arc;
@@ -69,9 +69,8 @@ fn shared_copy(alloc: Global, acl: Option<&Acl>) -> Result<Option<Arc<Acl>>, All
 }
 
 // The last of the pairs, which stays shared.
-#[tactic(auto, using(slot_state::proofs::PairLemmas::in_force_read))]
-fn last_shared(pairs: &[Arc<Keys>]) -> Result<Option<Arc<Keys>>, AllocError>
-    ensures { IfOk result (λ pair. option_map arc_value pair ≡ in_force (map arc_value pairs.now)) }
+fn last_shared(pairs: &PairList) -> Result<Option<Arc<Keys>>, AllocError>
+    ensures { IfOk result (λ pair. option_map arc_value pair ≡ in_force pairs.now) }
 {
     match pairs.last() {
         Some(pair) => Ok(Some(pair.clone()?)),

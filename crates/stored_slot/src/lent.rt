@@ -1,21 +1,18 @@
 //! What a slot lends of a container and of an account.
-ghost use Rattle.std.specs.Prelude.{◌≡◌, map};
-ghost use Rattle.std.specs.Arc.{arc_value};
+ghost use Rattle.std.specs.Prelude.{◌≡◌};
 ghost use Rattle.std.specs.Option.{option_copied};
 ghost use Rattle.stamp_model.specs.Histories.{IsLegal, NoneIsLater};
 ghost use Rattle.slot_state.specs.HistoryMaps.{history_at};
 ghost use Rattle.slot_state.specs.Pairs.{current_at, epoch_of, pairs_at};
 
 use crate::stored_slot::StoredSlot;
-use access_rules::Keys;
-use slot_state::{Histories, KeptHistories};
+use slot_state::{Histories, KeptHistories, PairList};
 use stamp_types::{Key, Past, Text};
-use std::sync::Arc;
 
 impl<H: Histories> StoredSlot<H> {
     /// The key pairs of the account, the oldest pair first; none if the stamp has no such account. Takes no memory.
-    pub fn pairs(&self, account: &Text) -> &[Arc<Keys>]
-        ensures { map arc_value result.now ≡ pairs_at self.now.pairs account.now }
+    pub fn pairs(&self, account: &Text) -> &PairList
+        ensures { result.now ≡ pairs_at self.now.pairs account.now }
     {
         self.pairs.of_account(account)
     }

@@ -16,10 +16,10 @@ fn longer(
     pairs: &AccountPairs,
     alloc: Global,
     account: &Text,
-    pair: Keys,
+    pair: Arc<Keys>,
 ) -> Result<Arc<AccountPairs>, AllocError>
-    requires { IsNext (pairs_at pairs.now account.now) pair }
-    ensures { IfOk result (λ shared. arc_value shared ≡ with_next pairs.now account.now pair) }
+    requires { IsNext (pairs_at pairs.now account.now) (arc_value pair) }
+    ensures { IfOk result (λ shared. arc_value shared ≡ with_next pairs.now account.now (arc_value pair)) }
 {
     let longer = pairs.with_next(alloc, account, pair)?;
     let shared = Arc::new(alloc, longer)?;
@@ -47,13 +47,18 @@ impl<H: Histories> StoredSlot<H> {
     }
 
     /// One account gets one pair more, whose epoch is the one after the epoch of the account's pair in force. The new pair is then in force,
-    /// as after [`catch_up`](StoredSlot::catch_up). The slot gets pairs of its own: other slots keep theirs.
+    /// as after [`catch_up`](StoredSlot::catch_up). The slot gets lists of its own: other slots keep theirs. The pair itself is shared.
     ///
-    /// `AllocError` if memory runs out for the pairs. The slot is then as it was.
-    pub fn rotate(&mut self, alloc: Global, account: &Text, pair: Keys) -> Result<(), AllocError>
-        requires { IsNext (pairs_at self.old.pairs account.now) pair }
-        ensures rotated { OnOk result (self.new ≡ with_pairs (with_next self.old.pairs account.now pair) self.old) }
-        ensures replays { OnOk result (ReplaysBy (with_next self.old.pairs account.now pair) self.old) }
+    /// `AllocError` if memory runs out for the lists, or if a pair can have no further owner. The slot is then as it was.
+    pub fn rotate(
+        &mut self,
+        alloc: Global,
+        account: &Text,
+        pair: Arc<Keys>,
+    ) -> Result<(), AllocError>
+        requires { IsNext (pairs_at self.old.pairs account.now) (arc_value pair) }
+        ensures rotated { OnOk result (self.new ≡ with_pairs (with_next self.old.pairs account.now (arc_value pair)) self.old) }
+        ensures replays { OnOk result (ReplaysBy (with_next self.old.pairs account.now (arc_value pair)) self.old) }
         ensures refused { OnErr result (self.new ≡ self.old) }
     {
         let pairs = longer(&self.pairs, alloc, account, pair)?;

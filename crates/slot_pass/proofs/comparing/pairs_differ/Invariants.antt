@@ -1,6 +1,5 @@
-use Rattle.std.proofs.Common.{◌≡◌, ◌≤◌, length, map, take}
-use Rattle.std.specs.Arc.{arc_value}
+use Rattle.std.proofs.Common.{◌≡◌, take}
 use Rattle.slot_pass.proofs.comparing.pairs_differ.Given as goal
 
 abbrev pub invariant-loop-at : goal.invariant-loop-at
-invariant-loop-at l = (take l.at (map arc_value l.pairs) ≡ take l.at (map arc_value l.others)) × (l.at ≤ length l.others)
+invariant-loop-at l = take l.at l.pairs ≡ take l.at l.others
