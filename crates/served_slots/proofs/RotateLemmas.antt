@@ -1,5 +1,5 @@
 -- A slot whose containers are those that its history leaves, and that replaces a key.
-use Rattle.std.proofs.Common.{◌≡◌, ℕ, true, List, [], ◌∷◌, ◌++◌, map, Option, Some, None, Ok, Err, refl, sym, ap, ◌∙◌, subst}
+use Rattle.std.proofs.Common.{◌≡◌, ◌<◌, ◌-◌, ℕ, arith, true, List, [], ◌∷◌, ◌++◌, map, Option, Some, None, refl, sym, ap, ◌∙◌, subst}
 use Rattle.std.specs.Cmp.{eq_by_cmp_equiv}
 use Rattle.std.specs.Ordering.{eq_by_cmp}
 use Rattle.std.specs.Prelude.{is_some}
@@ -12,6 +12,7 @@ use Rattle.access_rules.specs.declared.keys.Keys.{Keys}
 use Rattle.access_rules.specs.declared.rotation.KeysFault.{KeysFault}
 use Rattle.access_rules.specs.declared.rotation.KeysFault.TheVariants as fault
 use Rattle.access_rules.specs.declared.rotation.Which.{Which}
+use Rattle.access_rules.specs.declared.rotation.Which.TheVariants as side
 use Rattle.access_rules.specs.Rotation.{epoch_after, rotated}
 use Rattle.access_rules.proofs.RotationLemmas.{epoch-rotated}
 use Rattle.slot_state.specs.NextPairs.{AreFront, IsNext, ReplaysBy, with_next, with_pairs}
@@ -28,7 +29,7 @@ use Rattle.served_history.proofs.KeyLemmas.{bound-one, by_true, owner-one}
 use Rattle.served_history.proofs.PairLemmas.{current_next, pair_next}
 use Rattle.served_history.proofs.RotationLemmas.{pairs_rotated}
 use Rattle.served_history.proofs.StayLemmas.{world_left-append}
-use Rattle.served_slots.specs.Rotations.{HasLastEpoch, HasNextPair, HasNoNextPair, HasRotated, IsNextPair, IsToldBy, RotatesSlots, rotations_of}
+use Rattle.served_slots.specs.Rotations.{HasNewKey, HasLastEpoch, HasNextPair, HasNoNextPair, HasRotated, IsToldBy, RotatesSlots, last_epoch, rotations_of}
 use Rattle.served_slots.specs.Slots.{IsLeftBy}
 
 -- ---- key pairs
@@ -37,38 +38,39 @@ use Rattle.served_slots.specs.Slots.{IsLeftBy}
 next_is : (pairs : Pairs) (account : List ℕ) (which : Which) (key : List ℕ) (old : Keys) → current_at pairs account ≡ Some old → IsNext (pairs_at pairs account) (rotated old which key (epoch_after old.epoch))
 next_is pairs account which key old there = (old, (there, epoch-rotated old which key (epoch_after old.epoch)))
 
--- a pair that was made is the next one
-pub made_next : (pairs : Pairs) (account : List ℕ) (which : Which) (key : List ℕ) (pair : Keys) → IsNextPair (current_at pairs account) which key (Ok pair) → IsNext (pairs_at pairs account) pair
-made_next pairs account which key pair is = by (current_at pairs account) refl is
+-- a pair with the account of the old pair, the epoch after its epoch, and the keys
+pub pair_is : (pair old : Keys) (which : Which) (key : List ℕ) → pair.account ≡ old.account → old.epoch < pair.epoch → pair.epoch - old.epoch ≡ 1 → HasNewKey pair old which key → pair ≡ rotated old which key (epoch_after old.epoch)
+pair_is pair old which key same later next has = by which has
   where
-    by : (o : Option Keys) → current_at pairs account ≡ o → IsNextPair o which key (Ok pair) → IsNext (pairs_at pairs account) pair
-    by None there is = absurd is
-    by (Some old) there is = subst (IsNext (pairs_at pairs account)) (sym is) (next_is pairs account which key old there)
+    epoch : pair.epoch ≡ epoch_after old.epoch
+    epoch = omega (arith, later, next)
+
+    by : (w : Which) → HasNewKey pair old w key → pair ≡ rotated old w key (epoch_after old.epoch)
+    by side.First has = λ i. record { account = same i; first = has.0 i; second = has.1 i; epoch = epoch i }
+    by side.Second has = λ i. record { account = same i; first = has.0 i; second = has.1 i; epoch = epoch i }
+
+-- a pair that was made is the next one
+pub made_next : (pairs : Pairs) (account : List ℕ) (which : Which) (key : List ℕ) (old pair : Keys) → Some old ≡ current_at pairs account → pair ≡ rotated old which key (epoch_after old.epoch) → IsNext (pairs_at pairs account) pair
+made_next pairs account which key old pair there is = subst (IsNext (pairs_at pairs account)) (sym is) (next_is pairs account which key old (sym there))
 
 -- the pairs of all accounts with it
-pub made_longer : (pairs longer : Pairs) (account : List ℕ) (which : Which) (key : List ℕ) (pair : Keys) (n : ℕ) → IsNextPair (current_at pairs account) which key (Ok pair) → n ≡ pair.epoch
+pub made_longer : (pairs longer : Pairs) (account : List ℕ) (which : Which) (key : List ℕ) (old pair : Keys) (n : ℕ) → Some old ≡ current_at pairs account → pair ≡ rotated old which key (epoch_after old.epoch) → n ≡ pair.epoch
     → longer ≡ with_next pairs account pair → HasNextPair pairs account which key n longer
-made_longer pairs longer account which key pair n is epoch put = by (current_at pairs account) refl is
-  where
-    by : (o : Option Keys) → current_at pairs account ≡ o → IsNextPair o which key (Ok pair) → HasNextPair pairs account which key n longer
-    by None there is = absurd is
-    by (Some old) there is = (
-      old,
-      (
-        there,
-        (epoch ∙ ap (λ (k : Keys). k.epoch) is ∙ epoch-rotated old which key (epoch_after old.epoch), put ∙ ap (with_next pairs account) is ∙ sym (ap (next_from pairs account which key) there)),
-      ),
-    )
+made_longer pairs longer account which key old pair n there is epoch put = (
+  old,
+  (
+    sym there,
+    (
+      epoch ∙ ap (λ (k : Keys). k.epoch) is ∙ epoch-rotated old which key (epoch_after old.epoch),
+      put ∙ ap (with_next pairs account) is ∙ sym (ap (next_from pairs account which key) (sym there)),
+    ),
+  ),
+)
 
 -- why no pair was made
-pub not_made : (pairs : Pairs) (account : List ℕ) (which : Which) (key : List ℕ) (f : KeysFault) → IsNextPair (current_at pairs account) which key (Err f) → HasNoNextPair pairs account f
-not_made pairs account which key f is = by (current_at pairs account) f refl is
-  where
-    by : (o : Option Keys) (f : KeysFault) → current_at pairs account ≡ o → IsNextPair o which key (Err f) → HasNoNextPair pairs account f
-    by (Some old) fault.Last there is = (old, (there, is))
-    by (Some old) fault.NoMemory there is = tt
-    by None fault.Last there is = absurd is
-    by None fault.NoMemory there is = tt
+pub not_made : (pairs : Pairs) (account : List ℕ) (old : Keys) (f : KeysFault) → Some old ≡ current_at pairs account → (f ≡ fault.Last → old.epoch ≡ last_epoch) → HasNoNextPair pairs account f
+not_made pairs account old fault.Last there last = (old, (sym there, last refl))
+not_made pairs account old fault.NoMemory there last = tt
 
 module _ (pairs : Pairs) (account : List ℕ) (which : Which) (key : List ℕ) (n : ℕ) (longer : Pairs) (next : HasNextPair pairs account which key n longer) where
   abbrev old : Keys

@@ -1,13 +1,14 @@
 -- What a rotation makes of the key pairs of a slot, and what an operator knows of the history then (Blob service REST reference, 2012-02-12,
 -- Authentication for the Azure Storage Services: an account has two keys). That each slot enters the rotation is the stamp's own.
-use Rattle.std.specs.Prelude.{◌≡◌, ⊤, ℕ, List, [], ◌∷◌, ◌++◌, map, Option, Some, None, Result, Ok, Err}
+use Rattle.std.specs.Prelude.{◌≡◌, ⊤, ℕ, List, [], ◌∷◌, ◌++◌, map, Option, Some, None}
 use mathlib.Core.List.{IsPrefix}
 use Rattle.stamp_values.specs.declared.key.Key.{Key}
 use Rattle.access_rules.specs.declared.keys.Keys.{Keys}
 use Rattle.access_rules.specs.declared.rotation.KeysFault.{KeysFault}
 use Rattle.access_rules.specs.declared.rotation.KeysFault.TheVariants as fault
 use Rattle.access_rules.specs.declared.rotation.Which.{Which}
-use Rattle.access_rules.specs.Rotation.{epoch_after, rotated}
+use Rattle.access_rules.specs.declared.rotation.Which.TheVariants as side
+use Rattle.access_rules.specs.Rotation.{epoch_after}
 use Rattle.slot_state.specs.Pairs.{Pairs, current_at}
 use Rattle.served_history.specs.declared.entry.Entry.{Entry}
 use Rattle.served_history.specs.declared.entry.Entry.TheVariants.{Rotated}
@@ -22,12 +23,10 @@ use Rattle.served_slots.specs.Steps.{HasOneMore}
 abbrev pub last_epoch : ℕ
 last_epoch = 18446744073709551615
 
--- the pair after the pair in force, with one of its keys replaced; or why no pair was made
-abbrev pub IsNextPair : Option Keys → Which → List ℕ → Result Keys KeysFault → Type 0
-IsNextPair (Some old) which key (Ok pair) = pair ≡ rotated old which key (epoch_after old.epoch)
-IsNextPair (Some old) which key (Err fault.Last) = old.epoch ≡ last_epoch
-IsNextPair o which key (Err fault.NoMemory) = ⊤
-IsNextPair o which key r = ⊥
+-- the pair has this key in the place of the one that is replaced, and the other key of the old pair
+abbrev pub HasNewKey : Keys → Keys → Which → List ℕ → Type 0
+HasNewKey pair old side.First key = (pair.first ≡ key) × (pair.second ≡ old.second)
+HasNewKey pair old side.Second key = (pair.first ≡ old.first) × (pair.second ≡ key)
 
 -- the account has a pair in force, after which comes the pair with this epoch; and these are the pairs of all accounts with it
 abbrev pub HasNextPair : Pairs → List ℕ → Which → List ℕ → ℕ → Pairs → Type 0

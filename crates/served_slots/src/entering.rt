@@ -1,11 +1,9 @@
 //! A request or a split on a slot whose containers are those that its history leaves, and its entry in the history.
-ghost use Rattle.std.specs.Prelude.{◌≡◌, ◌+◌, ◌<◌, ◌^◌, IfOk, IfSome, MatchBool, None, OnErr, OnOk, false, map, true};
-ghost use Rattle.std.specs.Arc.{arc_value};
+ghost use Rattle.std.specs.Prelude.{◌≡◌, ◌+◌, ◌<◌, ◌^◌, IfOk, IfSome, MatchBool, None, OnErr, OnOk, false, true};
 ghost use Rattle.std.specs.Option.{option_copied};
 ghost use Rattle.policy_book.specs.Judgements.{IsOfAsk};
 ghost use Rattle.range_rows.specs.Readings.{reading_of};
 ghost use Rattle.stamp_model.specs.SeenContainers.{routed};
-ghost use Rattle.slot_state.specs.Pairs as pairs;
 ghost use Rattle.slot_state.specs.Slots.{is_inside};
 ghost use Rattle.served_history.specs.declared.entry.Entry.TheVariants.{Served};
 ghost use Rattle.served_history.specs.Growth.{IsEntered};
@@ -16,14 +14,12 @@ ghost use Rattle.served_slots.specs.Steps.{IfNoMemory, HasOneMore, UnlessLost};
 
 use crate::steadily::{cut_steadily, tell_steadily};
 use crate::told::Told;
-use access_rules::Keys;
 use policy_book::Judged;
 use range_rows::Reading;
 use served_history::{Account, Call, Front, SlotHistory, SlotWord};
 use slot_state::ProvedHistories;
 use stamp_types::{Key, Moment, Request};
 use std::alloc::Global;
-use std::sync::Arc;
 use stored_slot::StoredSlot;
 
 /// Why a request was not answered.
@@ -33,17 +29,6 @@ pub(crate) enum Missed {
     NoMemory,
     /// The slot has a change that the history does not have.
     Lost,
-}
-
-// The pair in force.
-#[tactic(auto, using(slot_state::proofs::PairLemmas::in_force_read))]
-fn in_force(shared: &[Arc<Keys>]) -> Option<&Keys>
-    ensures { option_copied result ≡ pairs.in_force (map arc_value shared.now) }
-{
-    match shared.last() {
-        Some(pair) => Some(pair),
-        None => None,
-    }
 }
 
 // The request as the slot serves it: by the pair in force of its account, and up to the end of the slot's range.
@@ -57,11 +42,10 @@ fn call_of<'a>(
     ensures { result ≡ timed_in slot.now to.now request.now moment }
 {
     let ask = request.ask();
-    let shared = slot.pairs(&ask.key.account);
     Call {
         request,
         moment,
-        keys: in_force(shared),
+        keys: slot.pairs(&ask.key.account).current(),
         bound: to.as_ref(),
     }
 }

@@ -15,7 +15,7 @@ use stamp_types::Text;
 use std::alloc::Global;
 use std::marker::Brand;
 use std::process::Abort;
-use std::sync::Wait;
+use std::sync::{Arc, Wait};
 
 // The Get Blob of `slots_tests`, signed by `new1`, and a Get Blob of `pics/a.txt`, signed by `key1` and by `new1`.
 const GET_ZOO_BY_NEW: &[u8] =
@@ -126,4 +126,39 @@ fn a_replaced_key_opens_nothing_on_any_slot(rt: HostRuntime) {
     let pairs = pairs(&rt, rt.alloc());
     let history = NewHistory::new(&pairs);
     rotates::<Brand, _>(&rt, rt.alloc(), pairs, history);
+}
+
+// How many owners the account's pair in force has by which signatures are judged.
+fn owners<A: Account, R: Wait + Abort>(rt: &R, slots: &Slots<A>, account: &Text) -> usize {
+    let pairs = slots.judging_pairs(rt).expect(rt, "an owner");
+    match pairs.of_account(account).last() {
+        Some(pair) => Arc::strong_count(pair),
+        None => 0,
+    }
+}
+
+// A key is replaced on two slots, and once more on three. The new pair is made once: each slot owns it, and so do the pairs that judge signatures.
+fn shares<A: Account, R: Wait + Abort>(rt: &R, alloc: Global, pairs: Vec<Keys>, history: NewHistory)
+    requires book { history.book ≡ A.history }
+    requires fresh { history.next ≡ 0 }
+    requires log { history.log ≡ Opened pairs.items ∷ [] }
+{
+    let (slots, front) = Slots::<A>::new(alloc, pairs, history).expect(rt, "memory");
+    let slots = &slots;
+    let name = account(rt, alloc);
+    let mut operator = Operator::new(rt, slots, account(rt, alloc), front);
+    let new = signing(rt, alloc, b"new1");
+    assert!(rt; slots.split(rt, alloc, &key(rt, alloc, "q")).is_ok());
+    assert!(rt; operator.rotate(alloc, Which::First, &new) == Ok(1));
+    assert!(rt; owners(rt, slots, &name) == 3);
+    assert!(rt; slots.split(rt, alloc, &key(rt, alloc, "r")).is_ok());
+    assert!(rt; operator.rotate(alloc, Which::Second, &new) == Ok(2));
+    assert!(rt; owners(rt, slots, &name) == 4);
+}
+
+#[test]
+fn slots_share_the_new_pair(rt: HostRuntime) {
+    let pairs = pairs(&rt, rt.alloc());
+    let history = NewHistory::new(&pairs);
+    shares::<Brand, _>(&rt, rt.alloc(), pairs, history);
 }

@@ -16,7 +16,7 @@ ghost use Rattle.served_slots.specs.Rotations.{HasLastEpoch, HasRotated};
 ghost use Rattle.served_slots.specs.Slots.{IsLeftBy};
 ghost use Rattle.served_slots.specs.Steps.{IsSplitFault, SpansSay};
 
-use crate::next_pairs::judging_pairs;
+use crate::next_pairs::{judging_pairs, made_pair};
 use crate::ready::Ready;
 use crate::splitting::SplitError;
 use crate::table::Table;
@@ -247,7 +247,8 @@ impl<A: Account> Slots<A> {
         let Ok(next) = judging_pairs(&pairs, alloc, account, which, key) else {
             return Err(KeysFault::NoMemory);
         };
-        let epoch = table.rotate(alloc, known, account, which, key)?;
+        let made = made_pair(&next, account);
+        let epoch = table.rotate(alloc, known, account, which, key, made)?;
         replace(&mut pairs, next);
         Ok(epoch)
     }

@@ -11,7 +11,7 @@ ghost use Rattle.served_slots.specs.Steps.{refusal_at, split_at, split_cause};
 use crate::locked::LockedSlot;
 use crate::locked::rotating::rotate_from;
 use crate::splitting::SplitError;
-use access_rules::{KeysFault, Which};
+use access_rules::{Keys, KeysFault, Which};
 use hmac_sign::SigningKey;
 use partition_map::{MapFault, Spans};
 use served_history::{Account, Front, SlotHistory, SlotWord};
@@ -120,6 +120,7 @@ fn rotate_slots<A: Account>(
     account: &Text,
     which: Which,
     key: &SigningKey,
+    made: Option<&Arc<Keys>>,
 ) -> Result<Option<u64>, KeysFault>
     ensures rotated { IfOk result (λ told. RotatesSlots known.old account.now which key.now told known.new) }
     ensures refused { OnErr result (known.new ≡ known.old) }
@@ -128,7 +129,16 @@ fn rotate_slots<A: Account>(
     let Some((first, rest)) = slots.split_first_mut() else {
         return Ok(None);
     };
-    rotate_from(first.get_mut(), rest, alloc, known, account, which, key)
+    rotate_from(
+        first.get_mut(),
+        rest,
+        alloc,
+        known,
+        account,
+        which,
+        key,
+        made,
+    )
 }
 
 impl<A: Account> Table<A> {
@@ -207,12 +217,13 @@ impl<A: Account> Table<A> {
         account: &Text,
         which: Which,
         key: &SigningKey,
+        made: Option<&Arc<Keys>>,
     ) -> Result<u64, KeysFault>
         ensures rotated { IfOk result (λ epoch. HasRotated known.old account.now which key.now epoch known.new) }
         ensures same { OnErr result (known.new ≡ known.old) }
         ensures last { result ≡ Err Last → HasLastEpoch known.old account.now }
     {
-        match rotate_slots(&mut self.slots, alloc, known, account, which, key) {
+        match rotate_slots(&mut self.slots, alloc, known, account, which, key, made) {
             Ok(Some(epoch)) => Ok(epoch),
             Ok(None) => Err(KeysFault::NoMemory),
             Err(KeysFault::Last) => Err(KeysFault::Last),

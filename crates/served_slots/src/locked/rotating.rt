@@ -10,13 +10,13 @@ ghost use Rattle.served_slots.specs.Slots.{IsLeftBy};
 use crate::locked::LockedSlot;
 use crate::next_pairs::{Longer, longer_in};
 use crate::taking::take_and_enter;
-use access_rules::{KeysFault, Which};
+use access_rules::{Keys, KeysFault, Which};
 use hmac_sign::SigningKey;
 use served_history::{Account, Front, SlotHistory};
 use slot_state::ProvedHistories;
 use stamp_types::{Key, Text};
 use std::alloc::Global;
-use std::sync::Mutex;
+use std::sync::{Arc, Mutex};
 use stored_slot::StoredSlot;
 
 // The pairs of the slot after the rotation; none if the slot is of no use.
@@ -32,6 +32,7 @@ fn longer_of<A: Account>(
     account: &Text,
     which: Which,
     key: &SigningKey,
+    made: Option<&Arc<Keys>>,
 ) -> Result<Option<Longer>, KeysFault>
     requires left { IfSome history.now (λ own. IsLeftBy own to.now slot.now) }
     ensures made { IfOk result (λ found. IfSome found (λ longer. HasNextPair slot.now.pairs account.now which key.now longer.epoch (arc_value longer.pairs))) }
@@ -48,7 +49,7 @@ fn longer_of<A: Account>(
     }
     let mut both = own.front();
     both.learn(known);
-    match longer_in(slot, alloc, account, which, key) {
+    match longer_in(slot, alloc, account, which, key, made) {
         Ok(longer) => Ok(Some(longer)),
         Err(KeysFault::Last) => Err(KeysFault::Last),
         Err(KeysFault::NoMemory) => Err(KeysFault::NoMemory),
@@ -93,7 +94,8 @@ fn enter_longer<A: Account>(
 }
 
 /// A key of the account is replaced for this slot and the slots after it. Each of them takes its longer pairs and enters the rotation, the last one
-/// first; a slot of no use is passed over. Answers the epoch of the new pair of the first slot; none if all are of no use.
+/// first; a slot of no use is passed over. Answers the epoch of the new pair of the first slot; none if all are of no use. Each slot whose next pair is
+/// the one that was made before takes one more owner of it.
 ///
 /// `Last` if no epoch comes after that of a slot's pair. `NoMemory` if memory runs out, or if the account has no pair, or if a slot has made as many
 /// entries as it may. Then no slot is changed: all longer pairs are made before the first slot takes its own.
@@ -105,6 +107,7 @@ pub(crate) fn rotate_from<A: Account>(
     account: &Text,
     which: Which,
     key: &SigningKey,
+    made: Option<&Arc<Keys>>,
 ) -> Result<Option<u64>, KeysFault>
     ensures rotated { IfOk result (λ told. RotatesSlots known.old account.now which key.now told known.new) }
     ensures slot { OnOk result ((mid : List Entry) × RotatesSlot locked.old mid account.now which key.now known.new locked.new) }
@@ -120,6 +123,7 @@ pub(crate) fn rotate_from<A: Account>(
         account,
         which,
         key,
+        made,
     )?;
     let Some((next, others)) = rest.split_first_mut() else {
         return Ok(enter_longer(
@@ -134,7 +138,16 @@ pub(crate) fn rotate_from<A: Account>(
             None,
         ));
     };
-    let told = rotate_from(next.get_mut(), others, alloc, known, account, which, key)?;
+    let told = rotate_from(
+        next.get_mut(),
+        others,
+        alloc,
+        known,
+        account,
+        which,
+        key,
+        made,
+    )?;
     Ok(enter_longer(
         &mut locked.slot,
         &mut locked.history,
