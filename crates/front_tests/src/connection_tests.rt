@@ -271,7 +271,14 @@ fn go_on(
     let mut ended = None;
     let mut waits = 0;
     for wait in 0..10_000 {
-        match advance(alloc, &mut connection, stage, &mut Start, &mut service) {
+        match advance(
+            alloc,
+            &mut connection,
+            stage,
+            &mut Start,
+            &mut service,
+            true,
+        ) {
             Ok(Step::Waits(next)) => stage = next,
             Ok(Step::Ended(end)) => {
                 ended = Some(finish(&mut connection, Ok(end)));

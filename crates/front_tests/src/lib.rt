@@ -18,6 +18,8 @@ mod range_tests;
 #[cfg(test)]
 mod reply_tests;
 #[cfg(test)]
+mod room_tests;
+#[cfg(test)]
 mod row_tests;
 mod sample_parts;
 #[cfg(test)]

@@ -162,6 +162,7 @@ fn same(room: usize) -> Rooms {
     Rooms {
         admitted: room,
         others: room,
+        replies: true,
     }
 }
 
@@ -214,6 +215,7 @@ fn a_link_rests_only_between_two_requests(rt: HostRuntime) {
 const UNLIKE: Rooms = Rooms {
     admitted: 2,
     others: 1,
+    replies: true,
 };
 
 #[test]

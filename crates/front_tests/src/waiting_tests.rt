@@ -201,7 +201,14 @@ fn go_on(alloc: Global, first: usize, most: usize, writer: Taking, shares: u64) 
     let mut went_on = false;
     for _ in 0..100_000 {
         let before = made.get();
-        match advance(alloc, &mut connection, stage, &mut Start, &mut service) {
+        match advance(
+            alloc,
+            &mut connection,
+            stage,
+            &mut Start,
+            &mut service,
+            true,
+        ) {
             Ok(Step::Waits(next)) => {
                 let waits = next.wants_write();
                 if waits {
@@ -376,7 +383,14 @@ fn a_connection_that_is_given_up_ends_by_what_it_waits_for(rt: HostRuntime) {
         let mut stage = Stage::new();
         let mut ended = None;
         for _ in 0..9 {
-            match advance(rt.alloc(), &mut connection, stage, &mut Start, &mut service) {
+            match advance(
+                rt.alloc(),
+                &mut connection,
+                stage,
+                &mut Start,
+                &mut service,
+                true,
+            ) {
                 Ok(Step::Waits(next)) => {
                     if next.wants_write() == writes {
                         let fault = give_up(&mut connection, next);
@@ -413,7 +427,14 @@ fn one_reply_is_held_at_a_time(rt: HostRuntime) {
     let mut waits: u64 = 0;
     let mut most = 0;
     for _ in 0..100_000 {
-        match advance(rt.alloc(), &mut connection, stage, &mut Start, &mut service) {
+        match advance(
+            rt.alloc(),
+            &mut connection,
+            stage,
+            &mut Start,
+            &mut service,
+            true,
+        ) {
             Ok(Step::Waits(next)) => {
                 waits = waits.saturating_add(1);
                 if waits == 100 {

@@ -14,6 +14,7 @@ use std::test::Fail;
 const ROOMS: Rooms = Rooms {
     admitted: 16,
     others: 16,
+    replies: true,
 };
 
 /// A request in three parts. A connection waits after the first and after the second.

@@ -1,12 +1,12 @@
 -- Nothing is admitted but by a judgement.
-use Rattle.std.proofs.Common.{◌≡◌, List, ℕ, Option, Some, None, Result, Ok, Err, refl, sym, subst}
+use Rattle.std.proofs.Common.{List, ℕ, Option, Some, None, Result, Ok, Err, refl, sym, subst}
 use Rattle.stamp_types.specs.declared.ask.Ask.{Ask}
 use Rattle.request_form.specs.HeadForms.{Form}
 use Rattle.http_front.specs.declared.end.FrontFault.{FrontFault}
 use Rattle.http_front.specs.declared.item.Found.{Found}
 use Rattle.http_front.specs.declared.item.Step.{Step}
 use Rattle.http_front.specs.declared.item.Step.TheVariants.{Ended, Waits}
-use Rattle.http_front.specs.Admissions.{ReadsAdmitted, StaysAdmitted, StepAdmitted, StepsAdmitted, stage_admitted}
+use Rattle.http_front.specs.Admissions.{ReadsAdmitted, StaysAdmitted, StepAdmitted, stage_admitted}
 use Rattle.http_front.specs.Stages.{IsCallOf}
 
 pub stays_same : (now : Option Ask) → StaysAdmitted now now

@@ -16,17 +16,17 @@ use Rattle.http_front.specs.declared.item.PartialItem.{PartialItem}
 use Rattle.http_front.specs.declared.item.PartialItem.TheVariants.{InHead, Asking, InBody}
 use Rattle.http_front.specs.declared.item.PartialReply.{PartialReply}
 use Rattle.http_front.specs.declared.item.Stage.{Stage}
-use Rattle.http_front.specs.declared.item.Stage.TheVariants.{Reading, Replying}
+use Rattle.http_front.specs.declared.item.Stage.TheVariants.{Reading, Answering, Replying}
 use Rattle.http_front.specs.declared.item.Step.{Step}
 use Rattle.http_front.specs.declared.item.Step.TheVariants.{Ended, Waits}
 use Rattle.http_front.specs.Answers.{AnswersItem, found_closes, LeavesItemUnanswered}
-use Rattle.http_front.specs.Connections.{ConnectionState, ReaderState, Receives, Sends, IsFresh, IsIdle, IsOpen, IsLeftBy}
+use Rattle.http_front.specs.Connections.{ConnectionState, ReaderState, WriterState, Receives, Sends, IsFresh, IsIdle, IsOpen, IsLeftBy}
 use Rattle.http_front.specs.Conversations.{AnswersInput, AnswersReceived, BreaksOff, EndsOutOfMemory}
 use Rattle.http_front.specs.Inputs.{ReadsItem}
 use Rattle.http_front.specs.Outcomes.{IsOfWholeInput, UnlessWriteOrMemoryFailed}
 use Rattle.http_front.specs.Resumptions.{IsGivenUp}
-use Rattle.http_front.specs.Stages.{fresh_item, fresh_stage, is_asking, wants_write, IsItemWaiting, IsStaged, IsWaiting, load, Suspends, TakesWork}
-use Rattle.http_front.specs.Steps.{CanGoOn, Comes, ComesOn, Conversing, HasLess, IsReplying, LeavesOn, LeavesStep, Serving, WritesReply}
+use Rattle.http_front.specs.Stages.{fresh_item, fresh_stage, awaits_room, is_asking, wants_write, IsItemWaiting, IsStaged, IsWaiting, load, Pauses, Suspends, TakesWork}
+use Rattle.http_front.specs.Steps.{CanGoOn, Comes, ComesOn, Conversing, HasAnsweredOn, HasLess, IsReplying, LeavesOn, LeavesStep, Serving, WritesReply}
 use Rattle.http_front.specs.Streams.{interim}
 use Rattle.http_front.specs.Streams.Tail.{InBody as TailInBody}
 use Rattle.http_front.proofs.ConnectionLemmas.{Receives-given_up, Receives-none, Sends-more, Sends-none, Sends-stopped}
@@ -103,14 +103,22 @@ module _ (a b : ConnectionState) where
   given_up_left (Reading (InHead search)) fault waits up = left_by_read waits.0 fault up
   given_up_left (Reading (Asking asking)) fault waits up = left_by_write fault up
   given_up_left (Reading (InBody begun)) fault waits up = left_by_read waits.0 fault up
+  given_up_left (Answering found) fault waits up = absurd waits
   given_up_left (Replying reply) fault waits up = left_by_write fault up
 
 -- ---- a connection that waits can be gone on with
 
-pub can_go_on : (stage : Stage) (c : ConnectionState) → IsWaiting stage c → IsOpen c × IsStaged stage c
+-- what does not wait for room waits for its peer
+pub awaits_peer : (stage : Stage) (c : ConnectionState) → awaits_room stage ≡ false → Pauses stage c → IsWaiting stage c
+awaits_peer (Reading item) c is pauses = pauses
+awaits_peer (Answering found) c is pauses = absurd (cc)
+awaits_peer (Replying reply) c is pauses = pauses
+
+pub can_go_on : (stage : Stage) (c : ConnectionState) → Pauses stage c → IsOpen c × IsStaged stage c
 can_go_on (Reading (InHead search)) c waits = ((waits.0.0, λ e. let both = sym waits.0.1 ∙ e in absurd (cc)), waits.1)
 can_go_on (Reading (Asking asking)) c waits = let less = waits.1 in ((waits.0.0, waits.0.1), (omega arith, waits.2))
 can_go_on (Reading (InBody begun)) c waits = let less = waits.1 in ((waits.0.0, λ e. let both = sym waits.0.1 ∙ e in absurd (cc)), (omega arith, λ _. waits.2))
+can_go_on (Answering found) c waits = (waits.0, tt)
 can_go_on (Replying reply) c waits = ((waits.0.0, waits.0.1), tt)
 
 pub step_can_go_on : (result : Result Step FrontFault) (c : ConnectionState) → LeavesStep result c → CanGoOn result c
@@ -118,7 +126,21 @@ step_can_go_on (Ok (Ended end)) c left = tt
 step_can_go_on (Ok (Waits stage)) c left = can_go_on stage c left
 step_can_go_on (Err fault) c left = tt
 
+-- an item that waits for room was taken off
+pub takes_found : (found : NextItem) (c : ConnectionState) → TakesWork (Ok (Whole found)) (suc (load c)) c
+takes_found (next_item.Called call) c = omega arith
+takes_found (next_item.Refused denial) c = tt
+
 -- ---- what writing on at a reply leaves
+
+-- no connection waits for room while its reply is written
+pub answered_replied : (reply : PartialReply) (result : Result (Option Step) FrontFault) (from to : WriterState) → WritesReply reply result from to → HasAnsweredOn result
+answered_replied reply (Ok None) from to w = tt
+answered_replied reply (Ok (Some (Ended end))) from to w = tt
+answered_replied reply (Ok (Some (Waits (Reading item)))) from to w = absurd w
+answered_replied reply (Ok (Some (Waits (Answering found)))) from to w = absurd w
+answered_replied reply (Ok (Some (Waits (Replying rest)))) from to w = refl
+answered_replied reply (Err fault) from to w = tt
 
 module _ (reply : PartialReply) (a b : ConnectionState) (unread : (b.reader ≡ a.reader) × (b.bytes ≡ a.bytes)) where
   same_load : load b ≡ load a
@@ -132,6 +154,7 @@ module _ (reply : PartialReply) (a b : ConnectionState) (unread : (b.reader ≡ 
   leaves_replied (Ok (Some (Ended Clean))) opened w = absurd w
   leaves_replied (Ok (Some (Ended Closed))) opened w = (ap (λ (r : ReaderState). r.input) unread.0 ∙ opened, w.1)
   leaves_replied (Ok (Some (Waits (Reading item)))) opened w = absurd w
+  leaves_replied (Ok (Some (Waits (Answering found)))) opened w = absurd w
   leaves_replied (Ok (Some (Waits (Replying rest)))) opened w = ((ap (λ (r : ReaderState). r.input) unread.0 ∙ opened, w.3, w.4), w.2)
   leaves_replied (Err Write) opened w = w.1
   leaves_replied (Err Read) opened w = absurd w
@@ -237,6 +260,7 @@ module _ {C S : Type 0} (gives : C → ℕ → C → Type 0) (answers : S → As
       closed_whole gives answers clock r.clock_then clock' world r.world_then world' from r.between r.read b r.found answer r.serving r.takes r.stays.1 r.answered (all_sent w.0) still_unread (sym r.closing ∙ w.2) w.1,
     )
     comes_replied (Ok (Some (Waits (Reading item)))) w = absurd w
+    comes_replied (Ok (Some (Waits (Answering found)))) w = absurd w
     comes_replied (Ok (Some (Waits (Replying rest)))) w = record {
       between = r.between;
       clock_then = r.clock_then;
@@ -281,6 +305,7 @@ module _ {C S : Type 0} (gives : C → ℕ → C → Type 0) (answers : S → As
       → IsWaiting stage a → IsGivenUp (wants_write stage) fault a b → Comes gives answers starves clock clock' world world' from b (Err fault)
   comes_given_up (Reading item) fault clock clock' world world' from a b m waits up =
       comes_fault clock clock' world world' from m.between b m.serving fault (given_up item m.between a b fault m.begun waits up) (given_up_left a b (Reading item) fault waits up)
+  comes_given_up (Answering found) fault clock clock' world world' from a b m waits up = absurd waits
   comes_given_up (Replying reply) fault clock clock' world world' from a b m waits up =
       reply_given_up clock clock' world world' from a b reply m waits.0.1 (up.2, up.3) fault up
 

@@ -13,14 +13,14 @@ use Rattle.http_front.specs.declared.end.FrontFault.TheVariants.{NoMemory}
 use Rattle.http_front.specs.declared.item.PartialItem.{PartialItem}
 use Rattle.http_front.specs.declared.item.PartialItem.TheVariants.{InHead, Asking, InBody}
 use Rattle.http_front.specs.declared.item.Stage.{Stage}
-use Rattle.http_front.specs.declared.item.Stage.TheVariants.{Reading, Replying}
+use Rattle.http_front.specs.declared.item.Stage.TheVariants.{Reading, Answering, Replying}
 use Rattle.http_front.specs.Admissions.{IsAdmission, StageHasRoom, StaysAdmitted, admitted_by, judged_stage, room_of, stage_admitted}
 use Rattle.http_front.specs.Connections.{ConnectionState, IsFresh, IsIdle, IsOpen, IsStalled}
 use Rattle.http_front.specs.Conversations.{LeavesRun}
 use Rattle.http_front.specs.Inputs.{ReadsItem}
 use Rattle.http_front.specs.Links.{Exceeds, IsBetween, IsLink, ItemExceeds, ServesLink}
 use Rattle.http_front.specs.Resumptions.{Finishes, step_of}
-use Rattle.http_front.specs.Stages.{IsItemWaiting, IsPartial, IsStaged, IsWaiting, Suspends, fresh_stage}
+use Rattle.http_front.specs.Stages.{IsItemWaiting, IsStaged, Pauses, Suspends, fresh_stage}
 use Rattle.http_front.specs.Steps.{Comes, Conversing, LeavesStep}
 use Rattle.http_front.proofs.Ends.{searched_none}
 use Rattle.http_front.proofs.Going.{comes_fault, conversing_none}
@@ -37,19 +37,6 @@ stays_item : (item : PartialItem) (a : ConnectionState) → IsItemWaiting item a
 stays_item (InHead search) a waits = stays_idle a waits.0
 stays_item (Asking asking) a waits = stays_stalled a waits.0
 stays_item (InBody begun) a waits = stays_idle a waits.0
-
-pub stays_waiting : (stage : Stage) (a : ConnectionState) → IsWaiting stage a → IsOpen a
-stays_waiting (Reading item) a waits = stays_item item a waits
-stays_waiting (Replying reply) a waits = stays_stalled a waits.0
-
-partial_waiting : (item : PartialItem) (a : ConnectionState) → IsItemWaiting item a → IsPartial item a
-partial_waiting (InHead search) a waits = waits.1
-partial_waiting (Asking asking) a waits = (omega (arith, waits.1), waits.2)
-partial_waiting (InBody begun) a waits = (omega (arith, waits.1), λ less. waits.2)
-
-pub staged_waiting : (stage : Stage) (a : ConnectionState) → IsWaiting stage a → IsStaged stage a
-staged_waiting (Reading item) a waits = partial_waiting item a waits
-staged_waiting (Replying reply) a waits = tt
 
 -- memory runs out for an item whose body exceeds its room
 item_starved : (rooms : Rooms) (item : PartialItem) (from a : ConnectionState) → ItemExceeds rooms item → Suspends from item a → ReadsItem (Err NoMemory) from a
@@ -86,6 +73,7 @@ module _ {C S : Type 0} (gives : C → ℕ → C → Type 0) (answers : S → As
   -- a link of whose next item no byte has come waits between two items
   pub rests : (clock clock' : C) (world world' : S) (from : ConnectionState) (stage : Stage) (a : ConnectionState) → IsLink gives answers admits clock clock' world world' from stage a
       → IsBetween stage a → IsLink gives answers admits clock clock' world world' from fresh_stage a
+  rests clock clock' world world' from (Answering found) a link none = absurd none
   rests clock clock' world world' from (Replying reply) a link none = absurd none
   rests clock clock' world world' from (Reading (Asking asking)) a link none = absurd none
   rests clock clock' world world' from (Reading (InBody begun)) a link none = absurd none
@@ -108,11 +96,12 @@ module _ {C S : Type 0} (gives : C → ℕ → C → Type 0) (answers : S → As
   }
 
   module _ (starves : S → S → Type 0) (clock clock' : C) (world world' : S) (from a : ConnectionState) where
-    pub comes_starved : (rooms : Rooms) (stage : Stage) → Exceeds rooms stage → Conversing gives answers clock clock' world world' from stage a → IsWaiting stage a
+    pub comes_starved : (rooms : Rooms) (stage : Stage) → Exceeds rooms stage → Conversing gives answers clock clock' world world' from stage a → Pauses stage a
         → Comes gives answers starves clock clock' world world' from a (Err NoMemory)
     comes_starved rooms (Reading item) exceeds m waits =
         comes_fault gives answers starves clock clock' world world' from m.between a m.serving NoMemory (item_starved rooms item m.between a exceeds m.begun)
         (stays_item item a waits).1
+    comes_starved rooms (Answering found) exceeds m waits = absurd exceeds
     comes_starved rooms (Replying reply) exceeds m waits = absurd exceeds
 
     -- a link whose connection came to its end and was finished was served
@@ -154,14 +143,16 @@ pub has_room : (admits : Ask → Type 0) (rooms : Rooms) (stage : Stage) → IsA
 has_room admits rooms (Reading (InHead search)) admitted within = tt
 has_room admits rooms (Reading (Asking asking)) admitted within = tt
 has_room admits rooms (Reading (InBody begun)) admitted within = body_within admits rooms begun.admission begun.head.ask begun.body admitted within
+has_room admits rooms (Answering found) admitted within = tt
 has_room admits rooms (Replying reply) admitted within = tt
 
 -- ---- the judgement of a head says nothing of what was read and written
 
-pub judged_waiting : (admission : Admission) (stage : Stage) (a : ConnectionState) → IsWaiting stage a → IsWaiting (judged_stage admission stage) a
+pub judged_waiting : (admission : Admission) (stage : Stage) (a : ConnectionState) → Pauses stage a → Pauses (judged_stage admission stage) a
 judged_waiting admission (Reading (InHead search)) a waits = waits
 judged_waiting admission (Reading (Asking asking)) a waits = waits
 judged_waiting admission (Reading (InBody begun)) a waits = waits
+judged_waiting admission (Answering found) a waits = waits
 judged_waiting admission (Replying reply) a waits = waits
 
 pub judged_conversing : {C S : Type 0} (gives : C → ℕ → C → Type 0) (answers : S → Asked → ℕ → Reply → S → Type 0) (clock clock' : C) (world world' : S)
@@ -169,6 +160,7 @@ pub judged_conversing : {C S : Type 0} (gives : C → ℕ → C → Type 0) (ans
     → Conversing gives answers clock clock' world world' from (judged_stage admission stage) a
 judged_conversing gives answers clock clock' world world' from a admission (Reading (InHead search)) m = m
 judged_conversing gives answers clock clock' world world' from a admission (Reading (Asking asking)) m = m
+judged_conversing gives answers clock clock' world world' from a admission (Answering found) m = m
 judged_conversing gives answers clock clock' world world' from a admission (Replying reply) m = m
 judged_conversing gives answers clock clock' world world' from a admission (Reading (InBody begun)) m = record {
   between = m.between;
@@ -186,6 +178,7 @@ judged_staged : (admission : Admission) (stage : Stage) (a : ConnectionState) �
 judged_staged admission (Reading (InHead search)) a staged = staged
 judged_staged admission (Reading (Asking asking)) a staged = staged
 judged_staged admission (Reading (InBody begun)) a staged = staged
+judged_staged admission (Answering found) a staged = staged
 judged_staged admission (Replying reply) a staged = staged
 
 -- What is said of a stage, its judged stage says too.
@@ -197,11 +190,11 @@ module _ {C S : Type 0} (gives : C → ℕ → C → Type 0) (answers : S → As
       (judged_conversing gives answers clock clock' world world' from a admission stage m)
 
   -- memory ran out for a body that exceeds its room
-  pub judged_starved : (starves : S → S → Type 0) (rooms : Rooms) → IsWaiting stage a → Exceeds rooms later
+  pub judged_starved : (starves : S → S → Type 0) (rooms : Rooms) → Pauses stage a → Exceeds rooms later
       → Comes gives answers starves clock clock' world world' from a (Err NoMemory)
   judged_starved starves rooms waits exceeds =
       comes_starved gives answers (λ ask. ⊥) starves clock clock' world world' from a rooms later exceeds later_conversing
-      (subst (λ s. IsWaiting s a) (sym is) (judged_waiting admission stage a waits))
+      (subst (λ s. Pauses s a) (sym is) (judged_waiting admission stage a waits))
 
   -- the link waits at the judged stage
   pub judged_link : (admits : Ask → Type 0) → IsFresh from → IsOpen a → IsStaged stage a → IsAdmission admits later

@@ -1,7 +1,7 @@
--- Which bodies have room together, and which operations bring content.
+-- Which bodies have room together, which operations bring content, and which make long texts.
 use Rattle.std.specs.Prelude.{◌≡◌, ℕ, ◌≤◌, ◌⊎◌, Bool, true, false, length, Option, Some, None, IfSome, Result, Ok, Err}
 use Rattle.stamp_values.specs.declared.op.Op.{Op}
-use Rattle.stamp_values.specs.declared.op.Op.TheVariants.{CreateContainer, SetContainerMetadata, SetAcl, PutBlob, SetMetadata, PutBlock, PutBlockList}
+use Rattle.stamp_values.specs.declared.op.Op.TheVariants.{ListContainers, CreateContainer, SetContainerMetadata, SetAcl, ListBlobs, PutBlob, SetMetadata, PutBlock, PutBlockList, GetBlockList}
 use Rattle.stamp_types.specs.declared.ask.Ask.{Ask}
 use Rattle.http_front.specs.declared.admission.Admission.{Admission}
 use Rattle.http_front.specs.declared.admission.Admission.TheVariants.{Unjudged, Admitted, Stranger}
@@ -13,7 +13,7 @@ use Rattle.http_front.specs.declared.item.Found.TheVariants as finds
 use Rattle.http_front.specs.declared.item.PartialItem.{PartialItem}
 use Rattle.http_front.specs.declared.item.PartialItem.TheVariants.{InHead, Asking, InBody}
 use Rattle.http_front.specs.declared.item.Stage.{Stage}
-use Rattle.http_front.specs.declared.item.Stage.TheVariants.{Reading, Replying}
+use Rattle.http_front.specs.declared.item.Stage.TheVariants.{Reading, Answering, Replying}
 use Rattle.http_front.specs.declared.item.Step.{Step}
 use Rattle.http_front.specs.declared.item.Step.TheVariants.{Ended, Waits}
 
@@ -27,6 +27,13 @@ brings_content SetMetadata = true
 brings_content PutBlock = true
 brings_content PutBlockList = true
 brings_content other = false
+
+-- the operation is answered by a text that may be long
+abbrev pub makes_text : Op → Bool
+makes_text ListContainers = true
+makes_text ListBlobs = true
+makes_text GetBlockList = true
+makes_text other = false
 
 -- the room of a body
 abbrev pub room_of : Admission → Rooms → ℕ
@@ -49,6 +56,7 @@ item_admitted (InBody begun) = admitted_by begun.admission begun.head.ask
 -- what the head of the body that has come in part asks, if its route may admit the body
 abbrev pub stage_admitted : Stage → Option Ask
 stage_admitted (Reading item) = item_admitted item
+stage_admitted (Answering found) = None
 stage_admitted (Replying reply) = None
 
 -- the route of what is admitted may admit a body
@@ -91,6 +99,7 @@ judged_item admission (InBody begun) = InBody (judged_body admission begun)
 -- the same stage, with this judgement of the head of a body that is awaited
 abbrev pub judged_stage : Admission → Stage → Stage
 judged_stage admission (Reading item) = Reading (judged_item admission item)
+judged_stage admission (Answering found) = Answering found
 judged_stage admission (Replying reply) = Replying reply
 
 -- no more of the body has come than bodies of its kind have room for
@@ -107,4 +116,5 @@ ItemHasRoom admits rooms (InBody begun) = HasRoom admits rooms begun
 -- route of its request may admit it.
 abbrev pub StageHasRoom : (Ask → Type 0) → Rooms → Stage → Type 0
 StageHasRoom admits rooms (Reading item) = ItemHasRoom admits rooms item
+StageHasRoom admits rooms (Answering found) = Unit {0}
 StageHasRoom admits rooms (Replying reply) = Unit {0}

@@ -1,4 +1,4 @@
-//! Which bodies have room together, and which operations bring content.
+//! Which bodies have room together, which operations bring content, and which make long texts.
 ghost use Rattle.std.specs.Prelude.{◌≡◌, ◌↔◌, IsSome, IsTrue};
 ghost use Rattle.stamp_types.specs.declared.ask.Ask.{Ask};
 ghost use Rattle.http_front.specs.Admissions as admissions;
@@ -29,13 +29,15 @@ impl Admission {
     }
 }
 
-/// How many bytes of an unfinished body may have come when its connection waits.
+/// How many bytes of an unfinished body may have come when its connection waits, and whether a long reply may be made.
 #[derive(Clone, Copy)]
 pub struct Rooms {
     /// Of a body that the route of its request may admit.
     pub admitted: usize,
     /// Of any other body.
     pub others: usize,
+    /// Whether there is room for a reply that may be long. If not, its request waits.
+    pub replies: bool,
 }
 
 impl Rooms {
@@ -65,4 +67,12 @@ pub fn brings_content(op: Op) -> bool
             | Op::PutBlock
             | Op::PutBlockList
     )
+}
+
+/// Whether the operation is answered by a text that may be long: a list of blobs, of containers or of blocks. Other long replies share the
+/// content that is kept, and take no memory of their own.
+pub fn makes_text(op: Op) -> bool
+    ensures { result ≡ admissions.makes_text op }
+{
+    matches!(op, Op::ListContainers | Op::ListBlobs | Op::GetBlockList)
 }

@@ -1,10 +1,10 @@
 //! A law of connections. It is the contract of a function that does nothing.
-ghost use Rattle.std.specs.Prelude.{ℕ, List, Ok, Err, Result};
+ghost use Rattle.std.specs.Prelude.{◌≡◌, ℕ, false, List, Ok, Err, Result};
 ghost use Rattle.http_front.specs.Connections.{ConnectionState, IsFresh};
 ghost use Rattle.http_front.specs.Conversations.{AnswersInput};
 ghost use Rattle.http_front.specs.Outcomes.{IsOfWholeInput};
 ghost use Rattle.http_front.specs.Resumptions.{EndsAlike, Finishes, GivesOneMoment, GivesOneReply, HasRun, IsGivenUp, IsResumed, Wait, step_of};
-ghost use Rattle.http_front.specs.Stages.{fresh_stage, wants_write};
+ghost use Rattle.http_front.specs.Stages.{awaits_room, fresh_stage, wants_write};
 ghost use Rattle.http_front.specs.declared.end.End.{End};
 ghost use Rattle.http_front.specs.declared.end.FrontFault.{FrontFault};
 ghost use Rattle.http_front.specs.declared.item.Stage.{Stage};
@@ -12,8 +12,9 @@ ghost use Rattle.http_front.specs.declared.item.Step.TheVariants.{Waits};
 
 use crate::service::{Clock, Service};
 
-/// A connection that is left at any waits for its reader and for its writer, and is gone on with after each, has run: if it is finished
-/// at its end, all clauses of `run` hold of it. This is also so if it is given up at a wait, as `run` gives it up at its first.
+/// A connection that is left at any waits for its reader, for its writer and for room, and is gone on with after each, has run: if it is
+/// finished at its end, all clauses of `run` hold of it. This is also so if it is given up at a wait for its peer, as `run` gives it up at
+/// its first.
 ///
 /// If the clock gives one moment at a time and the service one reply to a request, then two connections that answered the whole of
 /// one input wrote the same bytes and ended alike, however often each was left.
@@ -28,6 +29,7 @@ pub fn a_connection_left_and_resumed_answers_as_run<C: Clock, S: Service>()
         (waits : List (Wait C S.World)) (stage : Stage) (fault : FrontFault) (result : Result End FrontFault)
         → IsFresh from
         → IsResumed C.gives S.answers S.starves clock clock' world world' fresh_stage from waits to (Ok (Waits stage))
+        → awaits_room stage ≡ false
         → IsGivenUp (wants_write stage) fault to up
         → Finishes (Err fault) result up last
         → HasRun C.gives S.answers S.starves clock clock' world world' from last result }

@@ -1,22 +1,26 @@
 //! What is read, answered and written on one connection.
-ghost use Rattle.std.specs.Prelude.{◌≡◌, ◌≢◌, [], Err, IfSome, Option};
+ghost use Rattle.std.specs.Prelude.{◌≡◌, ◌≢◌, ℕ, true, false, [], Ok, Err, IfSome, Option, Some};
 ghost use Rattle.stamp_types.specs.declared.ask.Ask.{Ask};
 ghost use Rattle.reply_form.specs.FixedReplies.{out_of_memory_bytes};
 ghost use Rattle.http_front.specs.Admissions.{StepAdmitted, StepsAdmitted, item_admitted, stage_admitted};
 ghost use Rattle.http_front.specs.Connections.{ConnectionState, IsFresh, IsOpen, IsTold, Sends};
 ghost use Rattle.http_front.specs.Resumptions.{Finishes, IsGivenUp};
-ghost use Rattle.http_front.specs.Stages.{IsPartial, IsStaged, IsWaiting, item_work, wants_write, work};
-ghost use Rattle.http_front.specs.Steps.{CanGoOn, Comes, ComesOn, Conversing, HasLess, IsReading, LeavesOn, LeavesStep, WritesReply};
+ghost use Rattle.http_front.specs.Stages.{IsPartial, IsStaged, IsWaiting, TakesWork, item_work, may_be_long, wants_write, work};
+ghost use Rattle.http_front.specs.Steps.{CanGoOn, Comes, ComesOn, Conversing, HasAnswered, HasAnsweredOn, HasLess};
+ghost use Rattle.http_front.specs.Steps.{IsAnswering, IsReading, LeavesOn, LeavesStep, WritesReply};
 ghost use Rattle.http_front.specs.Conversations.{AnswersInput, AnswersReceived, EndsByWrite, EndsOutOfMemory};
 ghost use Rattle.http_front.specs.Conversations.{BreaksOff, LeavesRun};
 ghost use Rattle.http_front.specs.Outcomes.{IsOfWholeInput, UnlessWriteFailed, UnlessWriteOrMemoryFailed};
 ghost use Rattle.http_front.specs.declared.counted.Output.{Output};
 ghost use Rattle.http_front.specs.declared.end.FrontFault.{FrontFault};
+ghost use Rattle.http_front.specs.declared.item.Found.TheVariants.{Whole};
+ghost use Rattle.http_front.specs.declared.item.Stage.TheVariants.{Answering};
+ghost use Rattle.http_front.specs.declared.item.Step.TheVariants.{Waits};
 
 use crate::answers::answer_item;
 use crate::connection::Connection;
 use crate::end::{End, FrontFault};
-use crate::item::{Found, PartialItem, PartialReply, Stage, Step};
+use crate::item::{Found, NextItem, PartialItem, PartialReply, Stage, Step};
 use crate::service::{Clock, Service};
 use reply_form::out_of_memory_reply;
 use std::alloc::Global;
@@ -36,6 +40,7 @@ fn reply_on<R: Read, W: Write>(
     let PartialReply {
         mut pending,
         closes,
+        may_be_long,
     } = reply;
     match connection.send_pending(&mut pending) {
         Err(fault) => {
@@ -43,7 +48,11 @@ fn reply_on<R: Read, W: Write>(
             return Err(fault);
         }
         Ok(false) => {
-            let reply = PartialReply { pending, closes };
+            let reply = PartialReply {
+                pending,
+                closes,
+                may_be_long,
+            };
             return Ok(Some(Step::Waits(Stage::Replying(reply))));
         }
         Ok(true) => {
@@ -56,6 +65,37 @@ fn reply_on<R: Read, W: Write>(
     Ok(None)
 }
 
+// Answers an item, or waits with it if its answer may be long and there is no room for that. `None` if it is answered and the connection
+// goes on after it.
+fn answer_on<R: Read, W: Write, C: Clock, S: Service>(
+    alloc: Global,
+    connection: &mut Connection<R, W>,
+    found: NextItem,
+    clock: &mut C,
+    service: &mut S,
+    has_room: bool,
+) -> Result<Option<Step>, FrontFault>
+    requires { IsOpen connection.old }
+    ensures comes { (first : C) (start : S.World) (from : ConnectionState) →
+        IsAnswering C.gives S.answers first clock.old start (S.world service.old) from found connection.old →
+        ComesOn C.gives S.answers S.starves first clock.new start (S.world service.new) from connection.new result }
+    ensures less { (before : ℕ) → TakesWork (Ok (Whole found)) before connection.old →
+        HasLess result before connection.new }
+    ensures admitted { (before : Option Ask) → StepsAdmitted before result }
+    ensures left { LeavesOn result connection.new }
+    ensures answered { has_room ≡ true → HasAnsweredOn result }
+    // Nothing of the answer is made if there is no room for it.
+    ensures waits { has_room ≡ false → may_be_long found ≡ true →
+        (result ≡ Ok (Some (Waits (Answering found)))) × (connection.new ≡ connection.old)
+        × (clock.new ≡ clock.old) × (service.new ≡ service.old) }
+{
+    if !has_room && found.may_be_long() {
+        return Ok(Some(Step::Waits(Stage::Answering(found))));
+    }
+    let reply = answer_item(alloc, clock, service, found)?;
+    return reply_on(connection, reply);
+}
+
 // Reads on at an item, and answers it once it is whole. `None` if it is answered and the connection goes on after it.
 fn read_on<R: Read, W: Write, C: Clock, S: Service>(
     alloc: Global,
@@ -63,6 +103,7 @@ fn read_on<R: Read, W: Write, C: Clock, S: Service>(
     item: PartialItem,
     clock: &mut C,
     service: &mut S,
+    has_room: bool,
 ) -> Result<Option<Step>, FrontFault>
     requires open { IsOpen connection.old }
     requires partial { IsPartial item connection.old }
@@ -72,13 +113,13 @@ fn read_on<R: Read, W: Write, C: Clock, S: Service>(
     ensures less { HasLess result (item_work item connection.old) connection.new }
     ensures admitted { StepsAdmitted (item_admitted item) result }
     ensures left { LeavesOn result connection.new }
+    ensures answered { has_room ≡ true → HasAnsweredOn result }
 {
     match connection.next_item(alloc, &*service, item)? {
         Found::End => return Ok(Some(Step::Ended(End::Clean))),
         Found::Waits(item) => return Ok(Some(Step::Waits(Stage::Reading(item)))),
         Found::Whole(found) => {
-            let reply = answer_item(alloc, clock, service, found)?;
-            return reply_on(connection, reply);
+            return answer_on(alloc, connection, found, clock, service, has_room);
         }
     }
 }
@@ -90,6 +131,7 @@ fn go_on<R: Read, W: Write, C: Clock, S: Service>(
     stage: Stage,
     clock: &mut C,
     service: &mut S,
+    has_room: bool,
 ) -> Result<Option<Step>, FrontFault>
     requires open { IsOpen connection.old }
     requires staged { IsStaged stage connection.old }
@@ -99,9 +141,11 @@ fn go_on<R: Read, W: Write, C: Clock, S: Service>(
     ensures less { HasLess result (work stage connection.old) connection.new }
     ensures admitted { StepsAdmitted (stage_admitted stage) result }
     ensures left { LeavesOn result connection.new }
+    ensures answered { has_room ≡ true → HasAnsweredOn result }
 {
     match stage {
-        Stage::Reading(item) => read_on(alloc, connection, item, clock, service),
+        Stage::Reading(item) => read_on(alloc, connection, item, clock, service, has_room),
+        Stage::Answering(found) => answer_on(alloc, connection, found, clock, service, has_room),
         Stage::Replying(reply) => reply_on(connection, reply),
     }
 }
@@ -111,6 +155,9 @@ fn go_on<R: Read, W: Write, C: Clock, S: Service>(
 /// and the connection can be gone on with once the reader has more, or once the writer takes more. No item is read while a reply
 /// waits, so at most one reply is held.
 ///
+/// If there is no room for a reply that may be long, the connection also waits before such a reply is made. It can be gone on with once
+/// there is room.
+///
 /// If memory runs out, no part of the answer to the item is written, and the fixed bytes that say so are not written either.
 pub fn advance<R: Read, W: Write, C: Clock, S: Service>(
     alloc: Global,
@@ -118,6 +165,7 @@ pub fn advance<R: Read, W: Write, C: Clock, S: Service>(
     stage: Stage,
     clock: &mut C,
     service: &mut S,
+    has_room: bool,
 ) -> Result<Step, FrontFault>
     requires open { IsOpen connection.old }
     requires staged { IsStaged stage connection.old }
@@ -128,12 +176,14 @@ pub fn advance<R: Read, W: Write, C: Clock, S: Service>(
     ensures left { LeavesStep result connection.new }
     // A connection that waits meets what the next call requires.
     ensures ready { CanGoOn result connection.new }
+    // No connection waits for room while there is room.
+    ensures answered { has_room ≡ true → HasAnswered result }
     // The call admits no body.
     ensures admitted { StepAdmitted (stage_admitted stage) result }
 {
     let mut stage = stage;
     loop {
-        match go_on(alloc, connection, stage, clock, service)? {
+        match go_on(alloc, connection, stage, clock, service, has_room)? {
             Some(step) => return Ok(step),
             None => stage = Stage::new(),
         }
@@ -181,7 +231,7 @@ fn converse<R: Read, W: Write, C: Clock, S: Service>(
         connection.old connection.new }
     ensures left { LeavesRun result connection.new }
 {
-    let step = advance(alloc, connection, Stage::new(), clock, service)?;
+    let step = advance(alloc, connection, Stage::new(), clock, service, true)?;
     match step {
         Step::Ended(end) => return Ok(end),
         Step::Waits(stage) => return Err(give_up(connection, stage)),

@@ -22,7 +22,7 @@ mod source;
 mod stream_laws;
 mod workers;
 
-pub use admission::{Admission, Rooms, brings_content};
+pub use admission::{Admission, Rooms, brings_content, makes_text};
 pub use connection::Connection;
 pub use connection_laws::a_connection_left_and_resumed_answers_as_run;
 pub use conversation::{advance, finish, give_up, run};

@@ -78,6 +78,11 @@ impl Pending {
         }
     }
 
+    /// How many bytes its body has. They are held until all is taken.
+    pub(crate) fn body_len(&self) -> usize {
+        self.body.len()
+    }
+
     /// Writes on until all is taken, or until the writer takes nothing now. Returns whether all is taken.
     pub(crate) fn send_on<W: Outgoing>(
         &mut self,
