@@ -9,6 +9,7 @@ mod order;
 mod place;
 mod poller;
 mod ready;
+mod room;
 mod serve;
 mod services;
 mod socket;

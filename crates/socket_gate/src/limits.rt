@@ -4,7 +4,7 @@ ghost use Rattle.std.specs.Duration.{as_nanos};
 
 use std::time::Duration;
 
-/// The limits of connections. All that is beyond them ends one connection, and no other.
+/// The limits of connections. All that is beyond them ends one connection, and no other; only a long reply waits until there is room.
 #[derive(Clone, Copy, Debug)]
 pub struct Limits {
     /// How long a connection may be idle between two requests, or before the first.
@@ -20,6 +20,8 @@ pub struct Limits {
     pub connections: usize,
     /// How many bytes unfinished bodies may have in all, of the connections that wait. Those whose head shows no true signature share a quarter.
     pub bodies: u64,
+    /// How many bytes long replies may have in all that are made and not written. Those of requests without a true signature share a quarter.
+    pub replies: u64,
 }
 
 impl Limits {
@@ -31,6 +33,7 @@ impl Limits {
         ensures rate { result.rate ≡ 4_096 }
         ensures connections { result.connections ≡ 8_192 }
         ensures bodies { result.bodies ≡ 1_073_741_824 }
+        ensures replies { result.replies ≡ 268_435_456 }
     {
         Self {
             idle: Duration::from_secs(60),
@@ -39,6 +42,7 @@ impl Limits {
             rate: 4096,
             connections: 8192,
             bodies: 1 << 30,
+            replies: 1 << 28,
         }
     }
 }

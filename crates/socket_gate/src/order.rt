@@ -3,6 +3,9 @@
 use crate::place::Phase;
 use std::alloc::{AllocError, Global};
 
+/// How many lists there are.
+const LISTS: usize = 4;
+
 /// The places before and after a place.
 #[derive(Clone, Copy, Drop)]
 struct Neighbours {
@@ -10,8 +13,9 @@ struct Neighbours {
     after: usize,
 }
 
-/// Two lists of places: those of connections that are idle, and those of connections that wait inside a head. In each list the connection
-/// that began to wait first comes first. A place is in one list at most.
+/// Four lists of places: those of connections that are idle, those that wait inside a head, those that wait for the room of the admitted, and
+/// those that wait for the room of others. In each list the connection that began to wait first comes first. A place is in one list at
+/// most.
 ///
 /// Each list is a ring through a number that is not a place. What is in no list is a ring of its own. So no change depends on how many places
 /// there are.
@@ -22,10 +26,10 @@ pub(crate) struct WaitOrder {
 }
 
 impl WaitOrder {
-    /// Two empty lists, for so many places.
+    /// Empty lists, for so many places.
     pub(crate) fn new(alloc: Global, places: usize) -> Result<Self, AllocError> {
-        let mut ring = Vec::with_capacity(alloc, places.saturating_add(2))?;
-        for index in 0..places.saturating_add(2) {
+        let mut ring = Vec::with_capacity(alloc, places.saturating_add(LISTS))?;
+        for index in 0..places.saturating_add(LISTS) {
             ring.push(Neighbours {
                 before: index,
                 after: index,
@@ -39,6 +43,8 @@ impl WaitOrder {
         match phase {
             Phase::Idle => Some(self.places),
             Phase::Head => Some(self.places.wrapping_add(1)),
+            Phase::Room => Some(self.places.wrapping_add(2)),
+            Phase::OthersRoom => Some(self.places.wrapping_add(3)),
             Phase::Body | Phase::Reply => None,
         }
     }

@@ -30,6 +30,10 @@ pub(crate) enum Phase {
     Body,
     /// That more of a reply is taken.
     Reply,
+    /// That there is room for the reply to a request that its route may admit.
+    Room,
+    /// That there is room for any other reply.
+    OthersRoom,
 }
 
 /// How many bytes of a connection were received, and how many were sent.
@@ -39,7 +43,8 @@ pub(crate) struct Counts {
     pub(crate) sent: u64,
 }
 
-/// How many bytes of an unfinished body have come, and how many of a body that the route of its request is not known to admit.
+/// How many bytes of a body or of a long reply are held for a connection, and how many of them for a request that its route is not known to
+/// admit.
 #[derive(Clone, Copy, Debug)]
 pub(crate) struct Held {
     pub(crate) bytes: u64,
@@ -47,7 +52,7 @@ pub(crate) struct Held {
 }
 
 impl Held {
-    /// No body.
+    /// No byte.
     pub(crate) const fn nothing() -> Self {
         Self {
             bytes: 0,
@@ -78,6 +83,8 @@ pub(crate) enum Content<L: Drop, I: Drop> {
     Idle(I),
     /// A connection that waits for the rest of a request, or for its peer to take a reply.
     Waiting(Box<L>),
+    /// A connection that waits for room for its reply, or was given room and waits for a worker. Its peer is not waited for.
+    Awaiting(Box<L>),
     /// A connection that ended, and whose peer may still send.
     Lingering(Lingering),
 }
@@ -89,8 +96,10 @@ pub(crate) struct Place<L: Drop, I: Drop> {
     pub(crate) token: usize,
     pub(crate) descriptor: RawFd,
     pub(crate) timer: Timer,
-    /// How many bytes its unfinished body had when it waited last.
+    /// How many bytes its body had when it waited last.
     pub(crate) held: Held,
+    /// How many bytes it has of the room of long replies.
+    pub(crate) reply: Held,
     /// Whether a worker was told of the place and has not come yet.
     pub(crate) is_queued: bool,
     /// When a worker was told of the place last.
@@ -121,6 +130,7 @@ impl Timer {
             // No item was answered since then.
             Phase::Head => counts.sent == self.counts.sent,
             Phase::Body | Phase::Reply => true,
+            Phase::Room | Phase::OthersRoom => false,
         };
         if phase == self.phase && goes_on {
             return false;
@@ -164,6 +174,8 @@ impl Timer {
             Phase::Idle => passed >= limits.idle,
             Phase::Head => passed >= limits.head,
             Phase::Body => passed >= limits.span && !self.moves(counts, now, limits.rate),
+            // It waits for us.
+            Phase::Room | Phase::OthersRoom => false,
             Phase::Reply => {
                 if self.renewed == 0 {
                     return passed >= Duration::from_secs(TRIED);
@@ -199,6 +211,7 @@ impl<L: Drop, I: Drop> Place<L, I> {
             descriptor: -1,
             timer: Timer::new(Duration::ZERO),
             held: Held::nothing(),
+            reply: Held::nothing(),
             is_queued: false,
             queued: Duration::ZERO,
             content: Content::Empty,

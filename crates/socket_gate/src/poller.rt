@@ -151,7 +151,9 @@ impl<'a, R: Wait + Drop, C: Clock + Drop, K: front::Clock + Drop, S: Service + D
             return;
         }
         match place.content {
-            Content::Empty => {}
+            // A connection that waits for room is polled anew once it waits for its peer. Until then each change is reported once at most, so a
+            // peer that hung up is not reported again and again.
+            Content::Empty | Content::Awaiting(_) => {}
             Content::Busy => {
                 let _polled = self.poll_again(place.descriptor, token, Interest::PRIORITY);
             }
@@ -216,13 +218,16 @@ impl<'a, R: Wait + Drop, C: Clock + Drop, K: front::Clock + Drop, S: Service + D
     }
 
     // Lets a connection give way to one that waits to be taken: the one that is idle for the longest time, or else the one that has waited
-    // inside a head for the longest time. If nobody waits to be taken, none gives way.
+    // inside a head for the longest time, or else the one that has waited for room for the longest time and that its route is not known to
+    // admit. If nobody waits to be taken, none gives way.
     fn make_room(&self) -> Asked {
         if !comes_within(self.listener.as_raw_fd(), 0) {
             return Asked::Nobody;
         }
-        if self.end_longest(Phase::Idle) || self.end_longest(Phase::Head) {
-            return Asked::Came;
+        for phase in [Phase::Idle, Phase::Head, Phase::OthersRoom] {
+            if self.end_longest(phase) {
+                return Asked::Came;
+            }
         }
         Asked::Short
     }
@@ -306,7 +311,7 @@ impl<'a, R: Wait + Drop, C: Clock + Drop, K: front::Clock + Drop, S: Service + D
             place.descriptor = descriptor;
             place.timer = Timer::new(now);
             place.content = Content::Idle(link);
-            self.order.lock(&self.rt).begin(index, Phase::Idle);
+            self.waits.lock(&self.rt).order.begin(index, Phase::Idle);
         } else {
             turn_away(self.alloc, &link.reader().socket.stream);
         }
@@ -330,7 +335,7 @@ impl<'a, R: Wait + Drop, C: Clock + Drop, K: front::Clock + Drop, S: Service + D
         match &place.content {
             Content::Idle(_) => comes_within(place.descriptor, 0),
             Content::Waiting(link) => link.wants_write() || comes_within(place.descriptor, 0),
-            Content::Lingering(_) | Content::Empty | Content::Busy => false,
+            Content::Awaiting(_) | Content::Lingering(_) | Content::Empty | Content::Busy => false,
         }
     }
 
@@ -346,6 +351,8 @@ impl<'a, R: Wait + Drop, C: Clock + Drop, K: front::Clock + Drop, S: Service + D
                 place.timer.is_late(counts, now, &self.limits)
             }
             Content::Lingering(lingering) => lingering.is_late(now),
+            // It waits for us.
+            Content::Awaiting(_) => false,
             Content::Empty | Content::Busy => false,
         }
     }
@@ -378,16 +385,25 @@ impl<'a, R: Wait + Drop, C: Clock + Drop, K: front::Clock + Drop, S: Service + D
     fn end_longest(&self, phase: Phase) -> bool {
         let mut last = None;
         for _ in 0..LOOKS {
-            last = self.order.lock(&self.rt).next(phase, last);
+            last = self.waits.lock(&self.rt).order.next(phase, last);
             let Some(index) = last else {
                 return false;
             };
             if let Some(link) = self.take_waiting(index, phase) {
-                self.give_up(link);
+                self.give_way(link);
                 return true;
             }
         }
         false
+    }
+
+    // Ends a connection whose place somebody else needs. If its request is whole, its peer is told that memory ran out.
+    fn give_way(&self, link: SocketLink<'a, K, S>) {
+        if link.awaits_room() {
+            self.starve(link);
+        } else {
+            self.give_up(link);
+        }
     }
 
     // Takes the connection of a place if it waits in this phase.
@@ -404,6 +420,7 @@ impl<'a, R: Wait + Drop, C: Clock + Drop, K: front::Clock + Drop, S: Service + D
         match mem::replace(&mut place.content, Content::Busy) {
             Content::Idle(link) => Some(link.wake()),
             Content::Waiting(link) => Some(Box::into_inner(link)),
+            Content::Awaiting(link) => Some(Box::into_inner(link)),
             content => {
                 place.content = content;
                 None

@@ -2,7 +2,7 @@
 
 use std::alloc::{AllocError, Global};
 use std::collections::VecDeque;
-use std::sync::atomic::{AtomicUsize, Ordering};
+use std::sync::atomic::{AtomicBool, AtomicUsize, Ordering};
 use std::sync::{Condvar, Mutex, Wait};
 
 /// The places whose connections have something to do, in the order in which that was found out.
@@ -21,6 +21,8 @@ pub(crate) struct ReadyQueue {
     length: AtomicUsize,
     /// How many workers wait for a place.
     idle: AtomicUsize,
+    /// Whether a connection waits for the room of long replies.
+    is_room_awaited: AtomicBool,
 }
 
 impl ReadyQueue {
@@ -34,6 +36,7 @@ impl ReadyQueue {
             changed: Condvar::new(),
             length: AtomicUsize::new(0),
             idle: AtomicUsize::new(0),
+            is_room_awaited: AtomicBool::new(false),
         })
     }
 
@@ -73,6 +76,16 @@ impl ReadyQueue {
     pub(crate) fn close<R: Wait>(&self, rt: &R) {
         self.queue.lock(rt).is_closed = true;
         self.changed.notify_all();
+    }
+
+    /// Notes whether a connection waits for the room of long replies.
+    pub(crate) fn note_room(&self, is_awaited: bool) {
+        self.is_room_awaited.store(is_awaited, Ordering::SeqCst);
+    }
+
+    /// Whether a connection waits for the room of long replies.
+    pub(crate) fn is_room_awaited(&self) -> bool {
+        self.is_room_awaited.load(Ordering::SeqCst)
     }
 
     /// Whether more connections have something to do than workers are free.

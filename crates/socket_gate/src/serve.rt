@@ -3,10 +3,10 @@
 use crate::gate::Gate;
 use crate::limits::Limits;
 use crate::listener::prepare;
-use crate::order::WaitOrder;
 use crate::place::{Place, SPAN};
 use crate::poller::{LISTENER, WAKER};
 use crate::ready::ReadyQueue;
+use crate::room::Waits;
 use crate::services::Services;
 use crate::socket::Half;
 use http_front as front;
@@ -69,15 +69,15 @@ fn indices(alloc: Global, count: usize) -> Result<Vec<usize>, AllocError> {
 struct EmptyPlaces<L: Drop, I: Drop> {
     places: Vec<Mutex<Place<L, I>>>,
     indices: Vec<usize>,
-    order: WaitOrder,
+    waits: Waits,
 }
 
 impl<L: Drop, I: Drop> EmptyPlaces<L, I> {
-    fn new(alloc: Global, count: usize) -> Result<Self, AllocError> {
+    fn new(alloc: Global, count: usize, limits: &Limits) -> Result<Self, AllocError> {
         Ok(Self {
             places: empty_places(alloc, count)?,
             indices: indices(alloc, count)?,
-            order: WaitOrder::new(alloc, count)?,
+            waits: Waits::new(alloc, count, limits.replies)?,
         })
     }
 }
@@ -148,8 +148,8 @@ pub fn serve_listener<
     let EmptyPlaces {
         places,
         indices,
-        order,
-    } = EmptyPlaces::new(alloc, count)?;
+        waits,
+    } = EmptyPlaces::new(alloc, count, &limits)?;
     let Polling {
         mut poll,
         mut events,
@@ -167,7 +167,7 @@ pub fn serve_listener<
         waker,
         places,
         empty: Mutex::new(indices),
-        order: Mutex::new(order),
+        waits: Mutex::new(waits),
         connections: AtomicUsize::new(0),
         held: AtomicU64::new(0),
         others: AtomicU64::new(0),

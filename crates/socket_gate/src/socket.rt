@@ -95,14 +95,21 @@ impl<'a> Half<'a> {
         comes
     }
 
+    // Whether a connection waits for the room that this stay has.
+    fn keeps_room(&self) -> bool {
+        self.socket.stay.has_room() && self.ready.is_room_awaited()
+    }
+
     // Whether a read would most likely find nothing, also if it waits a little. It does not wait if somebody else has something to do.
     fn stays_empty(&self) -> bool {
-        self.is_drained && !(self.ready.is_calm() && self.comes_soon())
+        let may_wait = self.ready.is_calm() && !self.keeps_room();
+        self.is_drained && !(may_wait && self.comes_soon())
     }
 
     // Whether the connection has to let another one have the worker. Counts a read or a write.
     fn is_over(&self) -> bool {
-        self.socket.stay.is_over(self.ready.is_short())
+        let others_wait = self.ready.is_short() || self.keeps_room();
+        self.socket.stay.is_over(others_wait)
     }
 }
 

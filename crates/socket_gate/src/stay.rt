@@ -1,7 +1,7 @@
 //! How long a worker stays with one connection.
 
 use libc::types::timespec;
-use std::sync::atomic::{AtomicU64, Ordering};
+use std::sync::atomic::{AtomicBool, AtomicU64, Ordering};
 use std::time::Duration;
 
 /// After so many reads and writes a stay is over, if another connection waits for a worker.
@@ -23,6 +23,8 @@ pub(crate) struct Stay {
     calls: AtomicU64,
     /// For how many nanoseconds the worker waited for the peer.
     waited: AtomicU64,
+    /// Whether it has room for a long reply.
+    has_room: AtomicBool,
 }
 
 /// How many nanoseconds the system's clock says that never goes back. None if it cannot be read.
@@ -47,6 +49,7 @@ impl Stay {
             began: AtomicU64::new(0),
             calls: AtomicU64::new(0),
             waited: AtomicU64::new(0),
+            has_room: AtomicBool::new(false),
         }
     }
 
@@ -55,6 +58,17 @@ impl Stay {
         self.began.store(nanoseconds(), Ordering::SeqCst);
         self.calls.store(0, Ordering::SeqCst);
         self.waited.store(0, Ordering::SeqCst);
+        self.has_room.store(false, Ordering::SeqCst);
+    }
+
+    /// Notes that it has room for a long reply.
+    pub(crate) fn give_room(&self) {
+        self.has_room.store(true, Ordering::SeqCst);
+    }
+
+    /// Whether it has room for a long reply.
+    pub(crate) fn has_room(&self) -> bool {
+        self.has_room.load(Ordering::SeqCst)
     }
 
     /// Counts a read or a write, and returns whether the stay is over before it. The first one is always made: what is here is read before a
