@@ -411,8 +411,16 @@ impl<'a, R: Wait + Drop, C: Clock + Drop, K: front::Clock + Drop, S: Service + D
         }
         let owed = now.saturating_sub(place.queued);
         place.timer.leave_out(owed.saturating_sub(waiting.waited));
+        let keeps_room = self.keeps_room(place);
         !place.timer.tried(waiting.counts, now)
-            && place.timer.is_late(waiting.counts, now, &self.limits)
+            && place
+                .timer
+                .is_late(waiting.counts, now, &self.limits, keeps_room)
+    }
+
+    /// Whether another connection waits for the room that the reply of a place takes.
+    pub(crate) fn keeps_room(&self, place: &LinkPlace<'a, K, S>) -> bool {
+        place.reply.bytes > 0 && self.ready.is_room_awaited()
     }
 
     // Puts a connection that waits into its place. If its reply has less room than before, the rest is handed out.

@@ -11,8 +11,8 @@ pub struct Limits {
     pub idle: Duration,
     /// How long a head may take from its first byte to its end.
     pub head: Duration,
-    /// How often it is looked at how many bytes of a body came, or of a reply went. A reply is looked at after two such spans,
-    /// and then after six, and as many times as many bytes have to go then.
+    /// How often it is looked at how many bytes of a body came, or of a reply went. A reply is looked at after twelve such spans, and
+    /// twelve times as many bytes have to go then; a long reply after two, while another connection waits for its room.
     pub span: Duration,
     /// How many bytes have to come or go in each such span.
     pub rate: u64,

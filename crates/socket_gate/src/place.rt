@@ -13,11 +13,12 @@ pub(crate) const SPAN: usize = 16_384;
 /// only if its peer takes some.
 const TRIED: u64 = 1;
 
-/// Over so many spans a reply is looked at first, and then over so many. A peer's system tells only once a sixteenth of its room is free that
-/// it takes more, and a slow reader may need longer for that than one span.
-const FIRST_SPANS: u32 = 2;
+/// Over so many spans a reply is looked at. A client may take a part at once and then rest: curl that may read 50 KiB a second takes up to
+/// 5 MB, and rests for 100 seconds.
+const SPANS: u32 = 12;
 
-const SPANS: u32 = 6;
+/// Over so many spans a long reply is looked at while another connection waits for the room that it takes.
+const SHORT_SPANS: u32 = 2;
 
 /// What a connection waits for.
 #[derive(Clone, Copy, Debug, PartialEq, Eq)]
@@ -168,7 +169,15 @@ impl Timer {
     }
 
     /// Whether the connection was waited for too long, or a write of its reply has to be tried. If enough bytes of a body or a reply were received or sent, its time begins anew.
-    pub(crate) fn is_late(&mut self, counts: Counts, now: Duration, limits: &Limits) -> bool {
+    ///
+    /// `keeps_room` says whether another connection waits for the room that its reply takes.
+    pub(crate) fn is_late(
+        &mut self,
+        counts: Counts,
+        now: Duration,
+        limits: &Limits,
+        keeps_room: bool,
+    ) -> bool {
         let passed = now.saturating_sub(self.since);
         match self.phase {
             Phase::Idle => passed >= limits.idle,
@@ -180,11 +189,7 @@ impl Timer {
                 if self.renewed == 0 {
                     return passed >= Duration::from_secs(TRIED);
                 }
-                let spans = if self.renewed == 1 {
-                    FIRST_SPANS
-                } else {
-                    SPANS
-                };
+                let spans = if keeps_room { SHORT_SPANS } else { SPANS };
                 let rate = limits.rate.saturating_mul(u64::from(spans));
                 passed >= limits.span.saturating_mul(spans) && !self.moves(counts, now, rate)
             }

@@ -341,14 +341,15 @@ impl<'a, R: Wait + Drop, C: Clock + Drop, K: front::Clock + Drop, S: Service + D
 
     // Whether the connection of a place was waited for too long.
     fn is_slow(&self, place: &mut LinkPlace<'a, K, S>, now: Duration) -> bool {
+        let keeps_room = self.keeps_room(place);
         match &place.content {
             Content::Idle(link) => {
                 let counts = counts(link.reader(), link.writer());
-                place.timer.is_late(counts, now, &self.limits)
+                place.timer.is_late(counts, now, &self.limits, keeps_room)
             }
             Content::Waiting(link) => {
                 let counts = counts(link.reader(), link.writer());
-                place.timer.is_late(counts, now, &self.limits)
+                place.timer.is_late(counts, now, &self.limits, keeps_room)
             }
             Content::Lingering(lingering) => lingering.is_late(now),
             // It waits for us.
