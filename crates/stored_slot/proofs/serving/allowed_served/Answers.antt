@@ -1,8 +1,10 @@
-use Rattle.std.proofs.Common.{◌≡◌, Some, None, Option, rules, subst}
+use Rattle.std.proofs.Common.{◌≡◌, Some, None, Option, rules, subst, sym}
 use Rattle.stamp_types.specs.Changes.{KeyedAct}
+use Rattle.stamp_types.specs.declared.reply.Reply.{Reply}
 use Rattle.range_partition.specs.Decisions.{reply_read}
 use Rattle.stream_manager.specs.Streams.{laid}
 use Rattle.partition_stream.specs.Contents.{bytes_at}
+use Rattle.slot_state.specs.Slots.{IsReplyFor}
 use Rattle.stored_slot.specs.Decided.{AllowsFor}
 use Rattle.stored_slot.specs.Meanings.{slot_with}
 use Rattle.stored_slot.proofs.ServeLemmas.{none_same, read_told, slot_none}
@@ -38,5 +40,7 @@ change_served-requires-clause-makes g c =
 
 pub change_served-requires-clause-reply : goal.change_served-requires-clause-reply
 change_served-requires-clause-reply g c =
+    let h = g.H.Histories.held c.args.histories.now in
     let is : c.args.change ≡ Some c.in-Some.change = search rules in
-    (subst (λ (o : Option KeyedAct). AllowsFor c.args.pairs.now (g.H.Histories.held c.args.histories.now) c.args.stored.now c.args.request.now c.args.moment c.args.answer o) is c.requires.allowed).0
+    let told = (subst (λ (o : Option KeyedAct). AllowsFor c.args.pairs.now h c.args.stored.now c.args.request.now c.args.moment c.args.answer o) is c.requires.allowed).0 in
+    subst (λ (r : Reply). IsReplyFor c.args.pairs.now h c.args.request.now c.args.moment c.args.stored.now.range.to r) (sym c.in-Ok.ensures) told
