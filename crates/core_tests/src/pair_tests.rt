@@ -145,8 +145,13 @@ fn lists_share_their_older_pairs(rt: HostRuntime) {
     assert!(rt; has_epochs(&more, 66) && owners_at(&more, 64) == 1);
 }
 
-// The pair after the pair in force, with the first key replaced.
-fn next_pair(rt: &impl Abort, alloc: Global, pairs: &AccountPairs, account: &Text) -> Keys
+/// The pair after the pair in force, with the first key replaced by `new1`.
+pub(crate) fn next_pair(
+    rt: &impl Abort,
+    alloc: Global,
+    pairs: &AccountPairs,
+    account: &Text,
+) -> Keys
     ensures { IsNext (pairs_at pairs.now account.now) result }
 {
     let key = SigningKey::new(b"new1".to_vec(alloc).expect(rt, "memory"));

@@ -1,31 +1,12 @@
 //! A key that is replaced in one slot over streams.
-ghost use Rattle.slot_state.specs.NextPairs.{IsNext};
-ghost use Rattle.slot_state.specs.Pairs.{pairs_at};
 
+use crate::pair_tests::next_pair;
 use crate::requests::{CREATE, CREATED, PUT, PUT_BY_NEW};
 use crate::samples::{begins, says, text};
 use crate::stored_samples::{Streamed, make_streamed};
-use access_rules::{Keys, Which};
-use hmac_sign::SigningKey;
-use slot_state::AccountPairs;
-use stamp_types::Text;
 use std::alloc::Global;
 use std::process::Abort;
 use std::sync::Arc;
-
-// The pair after the pair in force, with the first key replaced by `new1`.
-fn next_pair(rt: &impl Abort, alloc: Global, pairs: &AccountPairs, account: &Text) -> Keys
-    ensures { IsNext (pairs_at pairs.now account.now) result }
-{
-    let key = SigningKey::new(b"new1".to_vec(alloc).expect(rt, "memory"));
-    let Some(old) = pairs.current(account) else {
-        panic!(rt; "the account has a pair");
-    };
-    match old.next(Which::First, key) {
-        Ok(pair) => pair,
-        Err(_fault) => panic!(rt; "a pair comes next"),
-    }
-}
 
 // The old key opens nothing any more, and the new one does.
 fn replaces_a_key(rt: &impl Abort, alloc: Global, slot: &mut Streamed) {
