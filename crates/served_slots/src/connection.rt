@@ -98,12 +98,16 @@ impl<'a, A: Account, R: Wait> Connection<'a, A, R> {
         }
     }
 
-    // Whether there is a reserve that is not held and cannot be taken again.
+    // Whether there is a reserve that is not held and cannot be taken again. Before that is said, the slots give up their garbage: if clients send
+    // nothing but content, no other request has it collected.
     fn lacks_reserve(&self, alloc: Global) -> bool {
-        match self.reserve {
-            Some(reserve) => !reserve.is_held() && !reserve.take_again(self.rt, alloc),
-            None => false,
+        let Some(reserve) = self.reserve else {
+            return false;
+        };
+        if reserve.is_held() || reserve.take_again(self.rt, alloc) {
+            return false;
         }
+        !self.slots.collect(self.rt, alloc) || !reserve.take_again(self.rt, alloc)
     }
 
     // The reply to a request, and its entry.

@@ -224,6 +224,12 @@ impl<A: Account> Slots<A> {
         locked.answer(alloc, known, request, ready, reading, moment, is_audited)
     }
 
+    /// Has each slot give up what few bytes it has to which nothing refers. Returns whether a slot had such bytes.
+    pub(crate) fn collect<R: Wait>(&self, rt: &R, alloc: Global) -> bool {
+        let table = self.table.read(rt);
+        table.collect(rt, alloc)
+    }
+
     /// Replaces a key of the account for all slots, or for none. Answers the epoch of the new pair. Each slot enters the rotation, so that requests on
     /// its keys that come after its entry are judged by the new pair. No request is answered meanwhile.
     ///

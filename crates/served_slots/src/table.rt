@@ -185,6 +185,20 @@ impl<A: Account> Table<A> {
         locked
     }
 
+    /// Compacts each slot that has a little to which nothing refers, and waits for each lock in turn. Returns whether a slot was compacted, or was
+    /// to be and memory ran out for that.
+    pub(crate) fn collect<R: Wait>(&self, rt: &R, alloc: Global) -> bool {
+        let mut is_any = false;
+        for lock in &self.slots {
+            let locked = lock.lock(rt);
+            if locked.has_garbage() {
+                is_any = true;
+                drop(compacted(lock, rt, alloc, locked));
+            }
+        }
+        is_any
+    }
+
     /// Splits the span that has the key, and then its slot. If the slot fails, its two spans are joined again.
     ///
     /// `FirstKey` if a slot begins with the key, or else `Full` if there are 256 slots. Or else `NoMemory` if memory runs out, if no word is left
