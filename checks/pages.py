@@ -18,7 +18,7 @@ FENCED = re.compile(r"^```.*?^```", re.S | re.M)
 SHORT_SENTENCES = ("README.md", "docs/using.md", "docs/theorem.md", "docs/architecture.md", "docs/gate.md")
 SENTENCE = 40
 # The most words of a page, and of all pages together, beside the lists that are generated.
-LIMITS = {"README.md": 1100, "crates/stamp_model/README.md": 480, "docs/architecture.md": 1700, "docs/gate.md": 1450, "docs/using.md": 4700}
+LIMITS = {"README.md": 1100, "crates/stamp_model/README.md": 480, "docs/architecture.md": 1700, "docs/gate.md": 1450, "docs/using.md": 4760}
 # Each page says a thing that no other page says. A part that is added brings its own pages, and cuts elsewhere.
 ALL = 76_600
 
