@@ -1,5 +1,5 @@
 # shellcheck shell=bash disable=SC2034
-# What rclone.sh, restic.sh and web.sh share. They source it: it is not run by itself.
+# The commands that rclone.sh, restic.sh, slow.sh and web.sh share. They source it: it is not run by itself.
 set -u
 export LC_ALL=C.UTF-8
 : "${STAMP_URL:?examples/with-stamp sets it}"
