@@ -63,7 +63,7 @@ def without_dates(text):
 
 def served(program):
     """The README's first run: a blob that is shared in a replay, then a server at a free address, and what its client prints, but for the dates.
-    The server is ended after that."""
+    The client begins before the server, since the page says that it waits. The server is ended after that."""
     serve, client, share = SHOWN.findall((ROOT / "README.md").read_text(encoding="utf-8"))
     ran = subprocess.run(["bash", "-euc", share[0].replace("./stamp ", f"{shlex.quote(program)} ")], cwd=ROOT, capture_output=True, timeout=60)
     wanted = (ROOT / "examples" / "share.replies").read_bytes()
@@ -71,14 +71,16 @@ def served(program):
     address = free_address()
     words = shlex.split(serve[0].replace(ADDRESS, address))
     yield "README.md: the words of the server", (words[0], words[-1]), ("./stamp", "&")
+    script = CURL + client[0].replace(ADDRESS, address)
+    asking = subprocess.Popen(["bash", "-euc", script], cwd=ROOT, stdout=subprocess.PIPE, stderr=subprocess.STDOUT)
     server = subprocess.Popen([program, *words[1:-1]], stdin=subprocess.DEVNULL, stdout=subprocess.PIPE, stderr=subprocess.PIPE)
     try:
         yield "README.md: the line of the server", server.stdout.readline().decode(), serve[1].replace(ADDRESS, address)
-        script = CURL + client[0].replace(ADDRESS, address)
-        ran = subprocess.run(["bash", "-euc", script], cwd=ROOT, stdout=subprocess.PIPE, stderr=subprocess.STDOUT, timeout=60)
+        wrote, _ = asking.communicate(timeout=60)
         # (the blob has no line feed at its end)
-        yield "README.md: the first run", (ran.returncode, without_dates(ran.stdout.decode()) + "\n"), (0, without_dates(client[1]))
+        yield "README.md: the first run", (asking.returncode, without_dates(wrote.decode()) + "\n"), (0, without_dates(client[1]))
     finally:
+        asking.kill()
         server.kill()
         said = server.communicate()
     yield "README.md: what the server says beside that", said, (b"", b"")
