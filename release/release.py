@@ -2,6 +2,7 @@
 
 Run by itself, it prints the path of the program of the sources that are here, once ./stamp has run.
 """
+import contextlib
 import os
 import shutil
 import subprocess
@@ -13,12 +14,34 @@ import tree  # noqa: E402
 
 SHIPPED = tree.ROOT / "release" / "stamp-x86_64-linux"
 DIGEST = tree.ROOT / "release" / "sources.sha256"
+# The digest of the sources that were here at the last call, after the state that these files were in.
+KNOWN = tree.ROOT / "release" / "out" / "sources"
 USAGE = 2
 
 
 def shipped_digest():
     """The digest of the sources of the shipped program, or the empty text if nothing is shipped."""
     return DIGEST.read_text(encoding="utf-8").strip() if DIGEST.is_file() and SHIPPED.is_file() else ""
+
+
+def digest():
+    """The digest of the sources that are here. They are read only if the state of their files is not that of the last call."""
+    state = tree.state_of_sources()
+    with contextlib.suppress(OSError, ValueError):
+        known, kept = KNOWN.read_text(encoding="utf-8").split()
+        if known == state:
+            return kept
+    made = tree.digest_of_program()
+    # If this folder cannot be written, the next call reads the sources again.
+    with contextlib.suppress(OSError):
+        KNOWN.parent.mkdir(exist_ok=True)
+        new = KNOWN.with_suffix(f".{os.getpid()}")
+        try:
+            new.write_text(f"{state} {made}\n", encoding="utf-8")
+            os.replace(new, KNOWN)
+        finally:
+            new.unlink(missing_ok=True)
+    return made
 
 
 def why_not_started(program):
@@ -52,8 +75,8 @@ def renew(program):
 
 def current():
     """The program of the sources that are here: the shipped one, or the one that ./stamp built."""
-    digest = tree.digest_of_program()
-    return SHIPPED if shipped_digest() == digest else tree.kept_program(digest)
+    found = digest()
+    return SHIPPED if shipped_digest() == found else tree.kept_program(found)
 
 
 if __name__ == "__main__":

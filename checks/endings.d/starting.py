@@ -126,6 +126,13 @@ def good_builds(root, program):
     usual = ended(subprocess.Popen([program, *SIGN], stdin=subprocess.DEVNULL, stdout=subprocess.PIPE, stderr=subprocess.PIPE))
     yield "./stamp that builds", ended(start(root, BUILDS, program))[:2], usual[:2]
     yield "./stamp after that", ended(start(root, NEVER_CALLED, program)), usual
+    source = root / "crates" / "stamp_main" / "src" / "main.rt"
+    source.write_text("fn main() {}\n", encoding="utf-8")
+    status, wrote, said = ended(start(root, NEVER_CALLED, program))
+    wanted = ["the toolchain was called", f"{NOT_BUILT}the lines above say why"]
+    yield "./stamp after a change of a source", (status, wrote, said.splitlines()[1:]), (70, b"", wanted)
+    source.unlink()
+    yield "./stamp after the source is as it was", ended(start(root, NEVER_CALLED, program)), usual
     folder = os.open(root, os.O_RDONLY)
     yield "./stamp with a folder as its input", ended(start(root, None, program, stdin=folder)), (3, b"", "")
     os.close(folder)

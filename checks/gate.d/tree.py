@@ -77,6 +77,18 @@ def digest_of_program(root=ROOT):
     return whole.hexdigest()
 
 
+def state_of_sources(root=ROOT):
+    """A digest of the lengths and the times of change of the files that the digest of the program of a tree depends on, and of their names. It is made
+    without reading these files."""
+    whole, files = hashlib.sha256(), [str(root / "HANDLES"), str(root / "crates.txt"), __file__]
+    for name in with_crates_below([PROGRAM], root):
+        files += [os.path.join(at, it) for part in SOURCES for at, _, names in os.walk(root / "crates" / name / part) for it in names]
+    for file in sorted(files):
+        found = os.stat(file)
+        whole.update(f"{file} {found.st_size} {found.st_mtime_ns}\n".encode(errors="surrogateescape"))
+    return whole.hexdigest()
+
+
 def edit_files(name, root=ROOT):
     """The files of the must-fail edits of a crate of a tree."""
     return sorted((root / "crates" / name / "must-fail").glob("*.edit"))
