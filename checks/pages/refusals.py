@@ -38,7 +38,7 @@ CAUSES = {
     "None": ("valid", "complete"), "Over": ("ended",), "PairsFault.NotFirst": ("not_first", "refused"), "PairsFault.Twice": ("twice", "refused"),
     "PutFault": ("counted",), "ReadFault": ("unreachable",), "RecordFault": ("exact",), "RepairFault.NoSuchExtent": ("refused",),
     "RepairFault": ("faulty", "counted"), "RotateFault": ("refused",), "SecretFault": ("refused",), "SettleFault": ("counted",),
-    "SplitError": ("fault",), "StepFault": ("taken", "ran"), "StoredFault": ("counted",), "TakeFault": ("counted",),
+    "SplitError": ("fault",), "StepFault.NoSuchExtent": (), "StepFault": ("taken", "ran"), "StoredFault": ("counted",), "TakeFault": ("counted",),
     "TendFault.Repair(NoSuchExtent)": (), "TendFault": (ONLY,), "TimeFault.Form": ("form",), "TimeFault.Range": ("range",),
     "TokenFault": ("refused",), "Unreachable": ("unreachable",), "Unrepaired.NoSuchExtent": ("refused",), "Unrepaired": ("counted",),
 }
@@ -307,7 +307,9 @@ def has_no_cause(case):
 def never_of(call, fault, case, labels):
     """The clause that says that a case of a fault never comes, if one says so."""
     is_of_step = case.partition("(")[0] in (*STEPS.get(call.name, ()), NO_MEMORY)
-    return first_of(NEVER if is_of_step or call.name not in STEPS else CAUSES, fault, case, labels)
+    if is_of_step or call.name not in STEPS:
+        return first_of(NEVER, fault, case, labels)
+    return next((it for it in CAUSES[fault] if it in labels), None)
 
 
 def refusals_of(call, file):
