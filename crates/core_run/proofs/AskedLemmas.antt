@@ -72,7 +72,7 @@ module _ (test : Asked → ℕ → Bool) where
       (λ s q t is calm some r sound pass. (nothing s (with_doubt s (slot_for s q) (entry_of s.pairs q t)) refl, by_doubt s q t (subst (PassesStep test) is asks) pass))
       (λ s n o is held r sound pass. (nothing s (without_ticket s n) refl, pass))
       (λ s i middle calm allowed r sound pass. (nothing s (split s i middle) refl, by_split s i middle allowed sound pass))
-      (λ s account which key old current r sound pass. (nothing s (with_pair s account (rotated old which key (epoch_after old.epoch))) refl, pass)) s s' f takes
+      (λ s account which key old is current r sound pass. (nothing s (with_pair s account (rotated old which key (epoch_after old.epoch))) refl, pass)) s s' f takes
 
   pub run_asked : (steps : List Step) (answers : List Answer) (s s' : State) (before after : ℕ) → IsRun s before steps answers s' after → All (λ x. PassesStep test x) steps → Goes s s'
   run_asked [] [] s s' before after run asks sound pass = (nothing s s' (λ j. (run.0 j).history), subst (DoubtsPass test) (sym run.0) pass)

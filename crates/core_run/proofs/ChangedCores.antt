@@ -30,8 +30,8 @@ use Rattle.core_run.specs.Cores.{CoreState, StandsFor, no_slot, slot_at}
 use Rattle.core_run.specs.Machine.{SettlesDoubt, SettlesDoubtBy}
 use Rattle.core_run.specs.Places.{IsSound}
 use Rattle.core_run.specs.States.{State, change_in, slot_doubt, doubted, dropped, kept, slot_for, with_doubt}
-use Rattle.core_run.proofs.ServedCores.{at_place, history_at-insert, same_key, slot_of-within, tied}
-use Rattle.core_run.proofs.SoundLemmas.{doubted_sound, lists_nothing, routed_own, settled_sound}
+use Rattle.core_run.proofs.ServedCores.{at_place, history_at-insert, same_key, tied}
+use Rattle.core_run.proofs.SoundLemmas.{doubted_sound, lists_nothing, routed_own, settled_sound, slot_of-within}
 use Rattle.core_run.proofs.SplitCores.{read-doubt}
 
 -- the core in which the slot with this number became another one

@@ -69,7 +69,7 @@ pub fails : (x : Step) (s s' : State) (f : Bool) (e : StepFault) → Takes s x f
 fails x s s' f e takes =
     by_changes x (Err e) (λ s s'. s' ≡ s) Unchanged (λ s. refl) (λ s s' is. inl is) (λ s m s' i on is same. inr (i, subst (SettlesDoubt s i) (sym same) is))
     (λ s q t is calm r. absurd (not_made e _ r)) (λ s q t is calm r. absurd (not_made e _ r)) (λ s q t is calm some r. absurd (not_made e _ r))
-    (λ s n o is there r. absurd (not_made e _ r)) (λ s i middle calm allowed r. absurd (not_made e _ r)) (λ s account which key old there r. absurd (not_made e _ r)) s s' f takes
+    (λ s n o is there r. absurd (not_made e _ r)) (λ s i middle calm allowed r. absurd (not_made e _ r)) (λ s account which key old is there r. absurd (not_made e _ r)) s s' f takes
 
 -- ---- a step during which no call failed
 

@@ -16,7 +16,7 @@ use Rattle.core_run.specs.States.{State}
 use Rattle.core_run.proofs.SoundLemmas.{pairs_at-insert}
 use Rattle.core_run.proofs.Values.{true_false}
 
-last_is : (ks : List Keys) (k : Keys) → slice_get (ks ++ k ∷ []) (length (ks ++ k ∷ []) - 1) ≡ Some k
+pub last_is : (ks : List Keys) (k : Keys) → slice_get (ks ++ k ∷ []) (length (ks ++ k ∷ []) - 1) ≡ Some k
 last_is [] k = refl
 last_is (l ∷ []) k = refl
 last_is (l ∷ m ∷ ks) k =

@@ -1,13 +1,17 @@
+pub mod AcceptableLemmas
 pub mod AccountLemmas
 pub mod AskedLemmas
 pub mod ChangedCores
 pub mod CoreLemmas
 pub mod DoubtLemmas
+pub mod EndLemmas
 pub mod FaultLemmas
 pub mod HeadlineLemmas
 pub mod HistoryLemmas
 pub mod KeyLemmas
+pub mod OwnTurnLemmas
 pub mod PairLemmas
+pub mod PairsLeft
 pub mod PlaceLemmas
 pub mod ServiceLemmas
 pub mod ServedCores

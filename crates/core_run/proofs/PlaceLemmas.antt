@@ -114,6 +114,52 @@ regroup h us vs ws u =
     ∙ ap (λ (xs : List Turn). h ++ (us ++ xs)) (append_assoc vs (u ∷ []) ws)
     ∙ ap (λ (xs : List Turn). h ++ xs) (sym (append_assoc us vs (u ∷ ws)))
 
+-- a run and then a Serve that gives a reply: the Serve's turn is the last one of the history
+turn_at : (xs : List Step) (rs : List Answer) (s m m' : State) (before n k : ℕ) (q : Asked) (t : ℕ) (a : Answer) (o : replies.Reply)
+    → IsRun s before xs rs m n → IsRun m n (step.Serve q t ∷ []) (a ∷ []) m' k → GivesReply a m' o
+    → (us : List Turn) × (m'.history ≡ s.history ++ (us ++ record { served = timed_in m q t; reply = Some o } ∷ []))
+turn_at xs rs s m m' before n k q t a o first serve gives =
+    let led = run_leads xs rs s m before n first in
+    let same : m' ≡ serve.0 = serve.1.1.1.1.0 in
+    let turns = serve_turns m serve.0 q t _ a o serve.1.1.1.0 (subst (λ (x : State). GivesReply a x o) same gives) in
+    let now : Turn = record { served = timed_in m q t; reply = Some o } in (
+      led.0 ++ turns.0,
+      (λ j. (same j).history) ∙ turns.1 ∙ (λ j. led.1.history j ++ (turns.0 ++ now ∷ []))
+          ∙ append_assoc s.history led.0 (turns.0 ++ now ∷ [])
+          ∙ ap (λ (us : List Turn). s.history ++ us) (sym (append_assoc led.0 turns.0 (now ∷ []))),
+    )
+
+-- lists that are joined after two turns
+after_two : (h us vs ws : List Turn) (u v : Turn) → ((h ++ (us ++ u ∷ [])) ++ (vs ++ v ∷ [])) ++ ws ≡ h ++ (us ++ u ∷ (vs ++ v ∷ ws))
+after_two h us vs ws u v =
+    append_assoc (h ++ (us ++ u ∷ [])) (vs ++ v ∷ []) ws
+    ∙ append_assoc h (us ++ u ∷ []) ((vs ++ v ∷ []) ++ ws)
+    ∙ ap (λ (xs : List Turn). h ++ xs) (append_assoc us (u ∷ []) ((vs ++ v ∷ []) ++ ws) ∙ ap (λ (xs : List Turn). us ++ u ∷ xs) (append_assoc vs (v ∷ []) ws))
+
+-- of two Serves the later one's turn comes after the earlier one's
+pub in_order : (s m m' n n' s' : State) (before a b c d after : ℕ) (xs ys zs : List Step) (rs ss ts : List Answer) (q q' : Asked) (t t' : ℕ) (r r' : Answer) (o o' : replies.Reply)
+    → IsRun s before xs rs m a → IsRun m a (step.Serve q t ∷ []) (r ∷ []) m' b → GivesReply r m' o → IsRun m' b ys ss n c
+    → IsRun n c (step.Serve q' t' ∷ []) (r' ∷ []) n' d → GivesReply r' n' o' → IsRun n' d zs ts s' after
+    → (front : List Turn) × ((middle : List Turn) × ((rest : List Turn)
+    × (s'.history ≡ s.history ++ (front ++ record { served = timed_in m q t; reply = Some o } ∷ (middle ++ record { served = timed_in n q' t'; reply = Some o' } ∷ rest)))))
+in_order s m m' n n' s' before a b c d after xs ys zs rs ss ts q q' t t' r r' o o' first serve gives between later gives' last =
+    let one = turn_at xs rs s m m' before a b q t r o first serve gives in
+    let two = turn_at ys ss m' n n' b c d q' t' r' o' between later gives' in
+    let rest = run_leads zs ts n' s' d after last in
+    let u : Turn = record { served = timed_in m q t; reply = Some o } in
+    let v : Turn = record { served = timed_in n q' t'; reply = Some o' } in (
+      one.0,
+      (
+        two.0,
+        (
+          rest.0,
+          rest.1.history
+              ∙ ap (λ (h : List Turn). h ++ rest.0) (two.1 ∙ ap (λ (h : List Turn). h ++ (two.0 ++ v ∷ [])) one.1)
+              ∙ after_two s.history one.0 two.0 rest.0 u v,
+        ),
+      ),
+    )
+
 pub has_place : (xs ys : List Step) (rs ss : List Answer) (s m m' s' : State) (before n k after : ℕ) (q : Asked) (t : ℕ) (a : Answer) (o : replies.Reply)
     → IsRun s before xs rs m n → IsRun m n (step.Serve q t ∷ []) (a ∷ []) m' k → IsRun m' k ys ss s' after → GivesReply a m' o → HasPlace s s' (timed_in m q t) o
 has_place xs ys rs ss s m m' s' before n k after q t a o first serve then gives =

@@ -1,5 +1,5 @@
 -- A core in which a slot served a request stands for the state after the request.
-use Rattle.std.proofs.Common.{zero, suc, ◌≡◌, ◌≢◌, ◌≤◌, ◌<◌, ◌+◌, ◌⊎◌, inl, inr, ℕ, Bool, true, false, cond, List, [], ◌∷◌, ◌++◌, Option, Some, None, is_some, unwrap_or, refl, sym, ap, ◌∙◌, subst, arith, length, map}
+use Rattle.std.proofs.Common.{zero, suc, ◌≡◌, ◌≢◌, ◌<◌, ◌+◌, ◌⊎◌, inl, inr, ℕ, Bool, true, false, cond, List, [], ◌∷◌, ◌++◌, Option, Some, None, is_some, unwrap_or, refl, sym, ap, ◌∙◌, subst, arith, length, map}
 use Rattle.std.specs.Prelude.{slice_set, slice_index_or}
 use Rattle.std.specs.FinMap.{get, insert, get-insert}
 use Rattle.std.specs.Cmp.{eq_by_cmp_equiv}
@@ -31,7 +31,7 @@ use Rattle.slot_state.specs.Slots.{IsServed, SlotState, change_now, entry_of, hi
 use Rattle.core_run.specs.Cores.{CoreState, StandsFor, no_slot, slot_at}
 use Rattle.core_run.specs.States.{State, served}
 use Rattle.core_run.proofs.PairLemmas.{current_is}
-use Rattle.core_run.proofs.SoundLemmas.{effect-listing, lists_nothing, routed_own, same_but}
+use Rattle.core_run.proofs.SoundLemmas.{effect-listing, lists_nothing, routed_own, same_but, slot_of-within}
 
 -- ---- histories after a request
 
@@ -114,14 +114,6 @@ map-set : {X Y : Type 0} (f : X → Y) (xs : List X) (i : ℕ) (x d : X) → f x
 map-set f [] i x d e = refl
 map-set f (y ∷ xs) zero x d e = λ i. e i ∷ map f xs
 map-set f (y ∷ xs) (suc n) x d e = λ i. f y ∷ map-set f xs n x d e i
-
-pub slot_of-within : (points : List Key) (key : Key) → slot_of points key ≤ length points
-slot_of-within [] key = omega arith
-slot_of-within (p ∷ points) key = within_by _ (slot_of points key) (length points) (slot_of-within points key)
-  where
-    within_by : (b : Bool) (n m : ℕ) → n ≤ m → cond b 0 (1 + n) ≤ suc m
-    within_by true n m low = omega (arith, low)
-    within_by false n m low = omega (arith, low)
 
 same_or_not : (n m : ℕ) → (n ≡ m) ⊎ (n ≢ m)
 same_or_not n m = elim (cases_order n m) [

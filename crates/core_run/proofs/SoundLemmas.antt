@@ -77,6 +77,15 @@ changes_own s q t some = by (names_container q.ask.op) refl
 
 -- ---- doubts by their slots
 
+-- no slot has a number over that of the last span
+pub slot_of-within : (points : List Key) (key : Key) → slot_of points key ≤ length points
+slot_of-within [] key = omega arith
+slot_of-within (p ∷ points) key = within_by _ (slot_of points key) (length points) (slot_of-within points key)
+  where
+    within_by : (b : Bool) (n m : ℕ) → n ≤ m → cond b 0 (1 + n) ≤ suc m
+    within_by true n m low = omega (arith, low)
+    within_by false n m low = omega (arith, low)
+
 pub length_set : (doubts : List (Option Past)) (i : ℕ) (v : Option Past) → length (slice_set doubts i v) ≡ length doubts
 length_set [] i v = refl
 length_set (o ∷ doubts) zero v = refl
@@ -218,7 +227,7 @@ pub step_sound : (x : Step) (s s' : State) (f : Bool) (r : Answer) → Takes s x
 step_sound x s s' f r takes =
     by_changes x r Stays Stays (λ s sound. sound) (λ s s' stays. stays) (λ s m s' i on is stays sound. stays (settled_sound (slot_doubt s i) s m i is sound))
     (λ s q t is calm r. same_but s _ refl refl refl) (λ s q t is calm r. same_but s _ refl refl refl) (λ s q t is calm some r. doubted_sound s q t some)
-    (λ s n o is there r. same_but s _ refl refl refl) (λ s i middle calm allowed r. split_sound s i middle allowed) (λ s account which key old there r. rotated_sound s account which key old there) s s' f takes
+    (λ s n o is there r. same_but s _ refl refl refl) (λ s i middle calm allowed r. split_sound s i middle allowed) (λ s account which key old is there r. rotated_sound s account which key old there) s s' f takes
 
 pub run_sound : (steps : List Step) (answers : List Answer) (s s' : State) (before after : ℕ) → IsRun s before steps answers s' after → IsSound s → IsSound s'
 run_sound [] [] s s' before after run sound = subst IsSound (sym run.0) sound

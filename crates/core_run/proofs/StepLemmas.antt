@@ -79,7 +79,7 @@ module _ (x : Step) (r : Answer) (Q P : State → State → Type 0)
     (doubts : (s : State) (q : Asked) (t : ℕ) → x ≡ step.Serve q t → slot_doubt s (slot_for s q) ≡ None → IsSome (change_in s q t) → r ≡ Ok (Reply unknown) → Q s (with_doubt s (slot_for s q) (entry_of s.pairs q t)))
     (fetches : (s : State) (n : ℕ) (o : replies.Reply) → x ≡ step.Fetch n → held_by s n ≡ Some o → r ≡ Ok (Reply o) → Q s (without_ticket s n))
     (splits : (s : State) (i : ℕ) (middle : Key) → slot_doubt s i ≡ None → split_refusal s.points i middle ≡ None → r ≡ Ok Made → Q s (split s i middle))
-    (rotates : (s : State) (account : List ℕ) (which : Which) (key : List ℕ) (old : Keys) → current_at s.pairs account ≡ Some old → r ≡ Ok (Epoch (epoch_after old.epoch)) → Q s (with_pair s account (rotated old which key (epoch_after old.epoch)))) where
+    (rotates : (s : State) (account : List ℕ) (which : Which) (key : List ℕ) (old : Keys) → x ≡ step.Rotate account which key → current_at s.pairs account ≡ Some old → r ≡ Ok (Epoch (epoch_after old.epoch)) → Q s (with_pair s account (rotated old which key (epoch_after old.epoch)))) where
   unchanged : (s s' : State) → s' ≡ s → Q s s'
   unchanged s s' is = subst (Q s) (sym is) (same s)
 
@@ -119,11 +119,11 @@ module _ (x : Step) (r : Answer) (Q P : State → State → Type 0)
       (splits m i middle (gone (slot_doubt s i) s m i refl is) (subst (λ (points : List Key). split_refusal points i middle ≡ None) (sym (settled_points (slot_doubt s i) s m i is)) allowed) made.0)) p
   splitting None s s' i middle f on allowed (inr p) = stays s s' p.1
 
-  rotating : (o : Option Keys) (s s' : State) (account : List ℕ) (which : Which) (key : List ℕ) → current_at s.pairs account ≡ o → RotatesBy o s account which key r s' → Q s s'
-  rotating None s s' account which key there p = unchanged s s' p.1
-  rotating (Some old) s s' account which key there (inl p) = subst (Q s) (sym p.1) (rotates s account which key old there p.0)
-  rotating (Some old) s s' account which key there (inr (inl p)) = unchanged s s' p.1.1
-  rotating (Some old) s s' account which key there (inr (inr p)) = unchanged s s' p.1
+  rotating : (o : Option Keys) (s s' : State) (account : List ℕ) (which : Which) (key : List ℕ) → x ≡ step.Rotate account which key → current_at s.pairs account ≡ o → RotatesBy o s account which key r s' → Q s s'
+  rotating None s s' account which key is there p = unchanged s s' p.1
+  rotating (Some old) s s' account which key is there (inl p) = subst (Q s) (sym p.1) (rotates s account which key old is there p.0)
+  rotating (Some old) s s' account which key is there (inr (inl p)) = unchanged s s' p.1.1
+  rotating (Some old) s s' account which key is there (inr (inr p)) = unchanged s s' p.1
 
   leaving : (y : Step) (s s' : State) (i : ℕ) (f : Bool) → works_on s x ≡ Some i → OnSettled y s i f r s' (λ m. Leaves m r s') → P s s'
   leaving y s s' i f on p = settled y s s' i f (λ m. Leaves m r s') on (λ m is made. unchanged m s' made.1) p
@@ -146,7 +146,7 @@ module _ (x : Step) (r : Answer) (Q P : State → State → Type 0)
   taking (step.Repair i stream extent node) s s' f is p = on_slot (has_slot s i) s s' _ (settled (step.Repair i stream extent node) s s' i f _ (ap (works_on s) is) (λ m settled made. unchanged m s' made.1)) p
   taking (step.Move i server) s s' f is p = on_slot (has_slot s i) s s' _ (λ made. stays s s' made.1) p
   taking (step.Unload i) s s' f is p = on_slot (has_slot s i) s s' _ (λ made. stays s s' made.1) p
-  taking (step.Rotate account which key) s s' f is p = alone s s' (rotating (current_at s.pairs account) s s' account which key refl p)
+  taking (step.Rotate account which key) s s' f is p = alone s s' (rotating (current_at s.pairs account) s s' account which key is refl p)
 
   pub by_changes : (s s' : State) (f : Bool) → Takes s x f r s' → P s s'
   by_changes s s' f p = taking x s s' f refl p

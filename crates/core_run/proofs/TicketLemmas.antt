@@ -60,7 +60,7 @@ module _ (x : Step) (r : Answer) (n : ℕ) (o : replies.Reply) where
       by_changes x r Kept Kept (λ s holds. inr holds) (λ s s' kept. kept)
       (λ s m s' i on is kept holds. kept (ap (λ (ts : List (Option replies.Reply)). option_and_then (λ y. y) (slice_get ts n)) (settled_tickets (slot_doubt s i) s m i is) ∙ holds))
       (λ s q t is calm r holds. inr holds) (λ s q t is calm r holds. inr (more s.tickets _ n o holds)) (λ s q t is calm some r holds. inr holds)
-      fetched (λ s i middle calm allowed r holds. inr holds) (λ s account which key old there r holds. inr holds) s s' f takes
+      fetched (λ s i middle calm allowed r holds. inr holds) (λ s account which key old is there r holds. inr holds) s s' f takes
 
 -- in a run without a Fetch of the ticket it holds what it held
 pub holds_on : (n : ℕ) (o : replies.Reply) (steps : List Step) (answers : List Answer) (s s' : State) (before after : ℕ) → IsRun s before steps answers s' after

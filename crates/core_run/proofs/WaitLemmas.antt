@@ -31,7 +31,7 @@ module _ (key : Key) where
   abbrev Waits : State → State → Type 0
   Waits s s' = IsSound s → (e : Past) → doubt_at s key ≡ Some e → (doubt_at s' key ≡ Some e) × (part_at s'.world key ≡ part_at s.world key)
 
-  settled_apart : (o : Option Past) (s m : State) (i : ℕ) → slot_doubt s i ≡ o → slot_of s.points key ≢ i → SettlesDoubtBy o s i m → Waits s m
+  pub settled_apart : (o : Option Past) (s m : State) (i : ℕ) → slot_doubt s i ≡ o → slot_of s.points key ≢ i → SettlesDoubtBy o s i m → Waits s m
   settled_apart None s m i there apart is sound e waits = (ap (λ (x : State). doubt_at x key) is ∙ waits, ap (λ (x : State). part_at x.world key) is)
   settled_apart (Some d) s m i there apart (inl is) sound e waits = (
     ap (λ (x : State). doubt_at x key) is ∙ apart_set s.doubts None i (slot_of s.points key) apart ∙ waits,
@@ -42,7 +42,7 @@ module _ (key : Key) where
       (ap (λ (x : State). doubt_at x key) is ∙ apart_set s.doubts None i (slot_of s.points key) apart ∙ waits, ap (λ (x : State). part_at x.world key) is)
 
   -- another slot serves a request
-  unserved : (s : State) (q : Asked) (t : ℕ) (e : Past) → slot_doubt s (slot_for s q) ≡ None → doubt_at s key ≡ Some e → part_at (served s q t).world key ≡ part_at s.world key
+  pub unserved : (s : State) (q : Asked) (t : ℕ) (e : Past) → slot_doubt s (slot_for s q) ≡ None → doubt_at s key ≡ Some e → part_at (served s q t).world key ≡ part_at s.world key
   unserved s q t e calm waits = by (names_container q.ask.op) refl
     where
       by : (b : Bool) → names_container q.ask.op ≡ b → part_at (served s q t).world key ≡ part_at s.world key
@@ -69,4 +69,4 @@ module _ (key : Key) where
       (then.0, then.1 ∙ first.1))
       (λ s q t is calm r sound e there. (there, unserved s q t e calm there)) (λ s q t is calm r sound e there. (there, unserved s q t e calm there))
       (λ s q t is calm some r sound e there. (apart_set s.doubts _ (slot_for s q) (slot_of s.points key) (λ here. some_none (doubt_at s key) e there (ap (slot_doubt s) here ∙ calm)) ∙ there, refl))
-      (λ s n o is held r sound e there. (there, refl)) (λ s i middle calm allowed r. by_split s i middle calm allowed) (λ s account which key old current r sound e there. (there, refl)) s s' f takes
+      (λ s n o is held r sound e there. (there, refl)) (λ s i middle calm allowed r. by_split s i middle calm allowed) (λ s account which key old is current r sound e there. (there, refl)) s s' f takes

@@ -1,5 +1,5 @@
 -- Where the requests and the answers of a run are: in its slots, and in its history (the history and the doubts are the stamp's own).
-use Rattle.std.specs.Prelude.{◌≡◌, ⊤, ℕ, ◌+◌, Bool, true, false, List, ◌∷◌, ◌++◌, length, Option, Some, None, Ok, Err, find}
+use Rattle.std.specs.Prelude.{◌≡◌, ◌≤◌, ◌⊎◌, ⊤, ℕ, ◌+◌, Bool, true, false, List, [], ◌∷◌, ◌++◌, length, Option, Some, None, IsSome, Ok, Err, find}
 use Rattle.stamp_values.specs.declared.key.Key.{Key}
 use Rattle.stamp_types.specs.declared.past.Past.{Past}
 use Rattle.stamp_types.specs.declared.reply.Reply as replies
@@ -9,15 +9,16 @@ use Rattle.stamp_types.specs.Requests.{Asked}
 use Rattle.stamp_types.specs.World.{part_at}
 use Rattle.range_rows.specs.SentContent.{sizes}
 use Rattle.partition_map.specs.Spans.{AreSpans, slot_of}
+use Rattle.stamp_model.specs.Effects.{accepted}
 use Rattle.stamp_model.specs.Refusals.{refuses, rules_in_order}
 use Rattle.stamp_model.specs.Runs.{Timed, reply_to_one, world_after_all}
-use Rattle.slot_state.specs.Pairs.{AreNumbered}
+use Rattle.slot_state.specs.Pairs.{AreNumbered, current_at, epoch_of}
 use Rattle.core_run.specs.declared.step.Step.{Step}
 use Rattle.core_run.specs.declared.step.Step.TheVariants as step
 use Rattle.core_run.specs.declared.step.Outcome.TheVariants.{Reply, Later}
 use Rattle.core_run.specs.declared.step.StepFault.TheVariants as fault
-use Rattle.core_run.specs.Machine.{Answer}
-use Rattle.core_run.specs.States.{State, Turn, slot_doubt, held_by, requests, slot_for}
+use Rattle.core_run.specs.Machine.{Answer, SettlesDoubt}
+use Rattle.core_run.specs.States.{State, Turn, slot_doubt, doubted, held_by, reply_in, requests, slot_for, timed_in}
 
 -- ---- slots
 
@@ -45,6 +46,15 @@ pub record IsSound (s : State) : Type 0 where
   pub placed : (i : ℕ) (e : Past) → slot_doubt s i ≡ Some e → slot_of s.points e.request.ask.key ≡ i
   pub numbered : AreNumbered s.pairs
 
+-- the model accepts the change in doubt in this state, by the key pair of its epoch, and its epoch is not after that of the pair in force
+pub record IsAcceptable (s : State) (e : Past) : Type 0 where
+  pub epoch : e.epoch ≤ epoch_of (current_at s.pairs e.request.ask.key.account)
+  pub changes : IsSome (accepted (doubted s e).keys (sizes (part_at s.world e.request.ask.key)) e.request e.moment)
+
+-- the model accepts each change in doubt
+abbrev pub DoubtsAreAcceptable : State → Type 0
+DoubtsAreAcceptable s = (i : ℕ) (e : Past) → slot_doubt s i ≡ Some e → IsAcceptable s e
+
 -- ---- the history
 
 -- the rule is one of the two by which a reply tells of a fault
@@ -66,6 +76,28 @@ abbrev pub GivesReply : Answer → State → replies.Reply → Type 0
 GivesReply (Ok (Reply r)) s o = (is_fault_rule r.rule ≡ false) × (o ≡ r)
 GivesReply (Ok (Later n)) s o = held_by s n ≡ Some o
 GivesReply other s o = ⊥
+
+-- the doubt of one slot is settled, if the slot has one; or nothing changes
+abbrev pub SettlesOneAtMost : State → State → Type 0
+SettlesOneAtMost s m = (m ≡ s) ⊎ ((i : ℕ) × SettlesDoubt s i m)
+
+-- the turn of a request that is served in this state: with the model's reply
+abbrev pub own_turn : State → Asked → ℕ → Turn
+own_turn m q t = record { served = timed_in m q t; reply = Some (reply_in m q t) }
+
+-- The step is a Serve that is answered with the model's reply, at once or by the next ticket, and its own turn is the last one of the
+-- history. Or the step adds no turn, and leaves the containers
+abbrev pub AddsOwnTurn : Step → Answer → State → State → Type 0
+AddsOwnTurn x answer m s' =
+    ((q : Asked) × ((t : ℕ) × ((x ≡ step.Serve q t)
+    × (((answer ≡ Ok (Reply (reply_in m q t))) ⊎ (answer ≡ Ok (Later (length m.tickets))))
+    × (s'.history ≡ m.history ++ own_turn m q t ∷ [])))))
+    ⊎ ((s'.history ≡ m.history) × (s'.world ≡ m.world))
+
+-- the step is a Rotate
+abbrev pub is_rotate : Step → Bool
+is_rotate (step.Rotate account which key) = true
+is_rotate x = false
 
 -- a step that asks a request asks one that passes the test at its moment
 abbrev pub PassesStep : (Asked → ℕ → Bool) → Step → Type 0

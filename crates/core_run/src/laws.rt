@@ -10,6 +10,7 @@ ghost use Rattle.stamp_values.specs.declared.signing.Credential.TheVariants.{Tok
 ghost use Rattle.stamp_types.specs.declared.past.Past.{Past};
 ghost use Rattle.stamp_types.specs.declared.reply.Reply.{Reply};
 ghost use Rattle.stamp_types.specs.declared.rule.Rule.{Rule};
+ghost use Rattle.stamp_types.specs.declared.rule.Rule.TheVariants.{N1, N2};
 ghost use Rattle.stamp_types.specs.EffectKinds.{EtagsAtMost};
 ghost use Rattle.stamp_types.specs.Requests.{Asked, IsAsk};
 ghost use Rattle.stamp_types.specs.World.{Part, World, blob_in, part_at};
@@ -34,16 +35,17 @@ ghost use Rattle.core_run.specs.declared.step.Step.{Step};
 ghost use Rattle.core_run.specs.declared.step.Step.TheVariants as step;
 ghost use Rattle.core_run.specs.declared.step.Outcome.TheVariants as outcome;
 ghost use Rattle.core_run.specs.declared.step.StepFault.{StepFault};
+ghost use Rattle.core_run.specs.declared.step.StepFault.TheVariants as faults;
 ghost use Rattle.core_run.specs.Cores.{CoreState, StandsFor, first_core, slot_at, with_halves};
 ghost use Rattle.core_run.specs.Machine.{Answer, Fails, IsRun, SettlesDoubt, Serves, Takes};
-ghost use Rattle.core_run.specs.Places.{DoubtsPass, GivesReply, HasPlace, IsSound, PassesStep, doubt_at, is_fault_rule, tells_fault, works_on};
+ghost use Rattle.core_run.specs.Places.{AddsOwnTurn, DoubtsAreAcceptable, DoubtsPass, GivesReply, HasPlace, IsSound, PassesStep, SettlesOneAtMost, doubt_at, is_fault_rule, is_rotate, tells_fault, works_on};
 ghost use Rattle.core_run.specs.Services.{IsServedWhole, SameButTickets};
-ghost use Rattle.core_run.specs.States.{State, Turn, slot_doubt, doubted, held_by, opening, reply_in, requests, served, slot_for, split, timed_in};
+ghost use Rattle.core_run.specs.States.{State, Turn, slot_doubt, doubted, has_slot, held_by, opening, reply_in, requests, served, slot_for, split, timed_in};
 
 /// The headline over one thread. Take any run of the machine, and what its history has beyond the
 /// history at first. Each reply of a Serve, at once or by a ticket, is the model's at the place of its
-/// request in this history, and names the first rule that refuses the request there; the two replies
-/// that tell of a fault have no place. The containers are those after the requests of the history in
+/// request in this history, and names the first rule that refuses the request there; of the two replies
+/// that tell of a fault nothing is said here. The containers are those after the requests of the history in
 /// turn, and each container is changed by those of them that the model accepts on it, and by nothing
 /// else. Each request of the history is one that a Serve of the run asked at its moment, or one that
 /// was in doubt at first: whatever test these pass, it passes. A refused request has no trace: without
@@ -147,7 +149,8 @@ pub fn a_run_serves_requests_in_turn()
 {}
 
 /// A run may be cut after each of its steps, and runs that follow each other are one run. Each reply that
-/// a Serve of a run gives, at once or by a ticket, has its place in the history that the run added.
+/// a Serve of a run gives, at once or by a ticket, has its place in the history that the run added. Of two
+/// Serves that give replies, the later one has its place after the earlier one's.
 pub fn each_answer_has_its_place()
     ensures cut { (s s' : State) (before after : ℕ) (xs ys : List Step) (rs ss : List Answer)
         → length rs ≡ length xs → IsRun s before (xs ++ ys) (rs ++ ss) s' after
@@ -159,6 +162,15 @@ pub fn each_answer_has_its_place()
         (rs ss : List Answer) (q : Asked) (t : ℕ) (a : Answer) (o : Reply)
         → IsRun s before xs rs m n → IsRun m n (step.Serve q t ∷ []) (a ∷ []) m' k
         → IsRun m' k ys ss s' after → GivesReply a m' o → HasPlace s s' (timed_in m q t) o }
+    ensures order { (s m m' n n' s' : State) (before a b c d after : ℕ) (xs ys zs : List Step)
+        (rs ss ts : List Answer) (q q' : Asked) (t t' : ℕ) (r r' : Answer) (o o' : Reply)
+        → IsRun s before xs rs m a → IsRun m a (step.Serve q t ∷ []) (r ∷ []) m' b
+        → GivesReply r m' o → IsRun m' b ys ss n c
+        → IsRun n c (step.Serve q' t' ∷ []) (r' ∷ []) n' d → GivesReply r' n' o'
+        → IsRun n' d zs ts s' after
+        → (front : List Turn) × ((middle : List Turn) × ((rest : List Turn)
+        × (s'.history ≡ s.history ++ (front ++ record { served = timed_in m q t; reply = Some o }
+        ∷ (middle ++ record { served = timed_in n q' t'; reply = Some o' } ∷ rest))))) }
 {}
 
 /// The first state is sound, if the key pairs are numbered by their epochs, and a run from a sound state
@@ -176,6 +188,33 @@ pub fn a_run_keeps_its_states_sound()
 pub fn a_step_that_fails_changes_nothing()
     ensures { (s s' : State) (x : Step) (faulted : Bool) (fault : StepFault)
         → Takes s x faulted (Err fault) s' → (s' ≡ s) ⊎ ((i : ℕ) × SettlesDoubt s i s') }
+{}
+
+/// A step settles one doubt at most. Then it adds its own turn to the history, if it is a Serve that is answered with the model's
+/// reply, at once or by the next ticket; or it leaves the history and the containers. So a Serve has one turn at most. A Serve that
+/// answers N1 leaves nothing but a settle, so its request may be sent again. A Serve that answers N2 leaves the containers and the
+/// history after a settle, and its change is then in doubt.
+pub fn a_step_adds_its_own_turn_alone()
+    ensures turn { (s s' : State) (x : Step) (faulted : Bool) (answer : Answer)
+        → Takes s x faulted answer s'
+        → (m : State) × (SettlesOneAtMost s m × AddsOwnTurn x answer m s') }
+    ensures busy { (s s' : State) (q : Asked) (t : ℕ) (faulted : Bool) (o : Reply)
+        → Takes s (step.Serve q t) faulted (Ok (outcome.Reply o)) s' → o.rule ≡ Some N1
+        → (s' ≡ s) ⊎ SettlesDoubt s (slot_for s q) s' }
+    ensures unknown { (s s' : State) (q : Asked) (t : ℕ) (faulted : Bool) (o : Reply)
+        → IsSound s → Takes s (step.Serve q t) faulted (Ok (outcome.Reply o)) s'
+        → o.rule ≡ Some N2
+        → (m : State) × (SettlesDoubt s (slot_for s q) m × ((s'.world ≡ m.world)
+        × ((s'.history ≡ m.history)
+        × (doubt_at s' (routed q) ≡ Some (entry_of m.pairs q t))))) }
+{}
+
+/// A Split that says Made is one: the spans allow it, and the slot is split after a settle of its doubt.
+pub fn a_split_that_is_made_is_one()
+    ensures { (s s' : State) (i : ℕ) (middle : Key) (faulted : Bool)
+        → Takes s (step.Split i middle) faulted (Ok outcome.Made) s'
+        → (split_refusal s.points i middle ≡ None)
+        × ((m : State) × (SettlesDoubt s i m × (s' ≡ split m i middle))) }
 {}
 
 /// No reply of the model names N1 or N2. A step during which no call of the wire failed answers neither
@@ -212,6 +251,17 @@ pub fn a_doubt_ends_whole_before_its_slot_serves()
         ⊎ ((m : State) × (SettlesDoubt s (slot_for s q) m × Serves m q t faulted answer s')) }
 {}
 
+/// A doubt ends at the next Serve of its slot, or at the next Settle of it, during which no call of the wire fails, unless memory
+/// runs out.
+pub fn a_doubt_ends_at_the_next_step_without_a_fault()
+    ensures serve { (s s' : State) (q : Asked) (t : ℕ) (answer : Answer)
+        → Takes s (step.Serve q t) false answer s'
+        → (slot_doubt s' (slot_for s q) ≡ None) ⊎ (answer ≡ Err faults.NoMemory) }
+    ensures settle { (s s' : State) (i : ℕ) (answer : Answer)
+        → has_slot s i ≡ true → Takes s (step.Settle i) false answer s'
+        → (slot_doubt s' i ≡ None) ⊎ (answer ≡ Err faults.NoMemory) }
+{}
+
 /// Until a step on its slot, a doubt waits, and the container of each key in the span of the slot is as it
 /// was: whatever other slots do, and however they are split. So nothing of the slot is served between a
 /// Serve whose change is in doubt and its settle, and a change that is kept may be read as of its Serve.
@@ -238,6 +288,15 @@ pub fn a_change_is_judged_by_the_pair_of_its_serve()
         → doubted s (entry_of s.pairs q t) ≡ record (timed_in s q t) { bound = None } }
     ensures kept { (s s' : State) (x : Step) (faulted : Bool) (answer : Answer) (e : Past)
         → Takes s x faulted answer s' → IsSome (doubted s e).keys → doubted s' e ≡ doubted s e }
+{}
+
+/// A change that is kept is accepted at its settle. In the first state no change is in doubt. In each later state of a run from a sound
+/// state the model accepts each change in doubt, by the key pair of its epoch and as its container is then, if that was so at first.
+pub fn a_change_that_is_kept_is_accepted()
+    ensures opening { (pairs : Pairs) → DoubtsAreAcceptable (opening pairs) }
+    ensures run { (s s' : State) (before after : ℕ) (steps : List Step) (answers : List Answer)
+        → IsRun s before steps answers s' after → IsSound s → DoubtsAreAcceptable s
+        → DoubtsAreAcceptable s' }
 {}
 
 /// A ticket gives the reply of its Serve. It holds the model's reply at the place of the Serve. It goes on
@@ -274,6 +333,25 @@ pub fn a_replaced_key_opens_nothing()
         × ((current_at s'.pairs account ≡ Some (rotated old which key n))
         × (pairs_at s'.pairs account
         ≡ pairs_at s.pairs account ++ rotated old which key n ∷ [])))) }
+{}
+
+/// Key pairs change by a Rotate that answers an epoch, and by no other step. A Rotate leaves the pairs of other accounts. So after a
+/// run without a Rotate a request is judged by the pair that was in force before the run.
+pub fn a_step_that_answers_no_epoch_leaves_the_pairs()
+    ensures step { (s s' : State) (x : Step) (faulted : Bool) (answer : Answer)
+        → Takes s x faulted answer s' → ((n : ℕ) → answer ≢ Ok (outcome.Epoch n))
+        → s'.pairs ≡ s.pairs }
+    ensures others { (s s' : State) (account : List ℕ) (which : Which) (key : List ℕ)
+        (faulted : Bool) (answer : Answer) (other : List ℕ)
+        → Takes s (step.Rotate account which key) faulted answer s' → other ≢ account
+        → pairs_at s'.pairs other ≡ pairs_at s.pairs other }
+    ensures run { (s s' : State) (before after : ℕ) (steps : List Step) (answers : List Answer)
+        → IsRun s before steps answers s' after → All (λ x. is_rotate x ≡ false) steps
+        → s'.pairs ≡ s.pairs }
+    ensures judged { (s s' : State) (before after : ℕ) (steps : List Step)
+        (answers : List Answer) (q : Asked) (t : ℕ)
+        → IsRun s before steps answers s' after → All (λ x. is_rotate x ≡ false) steps
+        → (timed_in s' q t).keys ≡ current_at s.pairs q.ask.key.account }
 {}
 
 /// A service that makes a Serve and then the Fetch of its ticket answers as the model. If no call failed

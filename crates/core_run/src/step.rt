@@ -6,7 +6,8 @@ use partition_map::MapFault;
 use partition_stream::StreamName;
 use stamp_types::{Key, Moment, Reply, Request, Text};
 
-/// A step. A slot is named by its number, which is the number of its span.
+/// A step. A slot is named by its number, which is the number of its span. The machine has no extents, no logs and no rows in memory, so it
+/// says of a Seal, Load, Checkpoint, Compact or Repair that was made that the slot's doubt was settled, and no more.
 #[derive(Drop)]
 pub enum Step {
     /// Answer a request at a moment.

@@ -21,7 +21,7 @@ use Rattle.stored_slot.specs.Meanings.{slot_with}
 use Rattle.stored_slot.specs.Settled.{SettlesSlot, SettlesDoubtBy}
 use Rattle.core_run.specs.Cores.{no_slot, slot_at}
 use Rattle.core_run.proofs.CoreLemmas.{same_bound}
-use Rattle.core_run.proofs.ServedCores.{slot_of-within}
+use Rattle.core_run.proofs.SoundLemmas.{slot_of-within}
 use Rattle.stamp_core.specs.CoreSteps.{slots_split}
 use Rattle.stamp_core.specs.Ranges.{HaveSpans, Range, range_of, ranges_from}
 

@@ -22,8 +22,7 @@ use Rattle.core_run.specs.declared.step.Step.TheVariants as step
 use Rattle.core_run.specs.declared.step.Outcome.TheVariants as outcome
 use Rattle.core_run.specs.declared.step.StepFault.{StepFault}
 use Rattle.core_run.specs.declared.step.StepFault.TheVariants as fault
-use Rattle.core_run.proofs.ServedCores.{slot_of-within}
-use Rattle.core_run.proofs.SoundLemmas.{rotated_sound}
+use Rattle.core_run.proofs.SoundLemmas.{rotated_sound, slot_of-within}
 use Rattle.stamp_core.specs.Ranges.{HaveSpans, Range, range_of, ranges_from}
 use Rattle.stamp_core.specs.Rotations.{BeginPairs, HasNextPair, HasNoNextPair, HaveCaughtUp, IsNextPair, IsRotated, map_from, pairs_of_all}
 use Rattle.stamp_core.proofs.RangeLemmas.{counted, shared_pairs}

@@ -267,7 +267,8 @@ impl<H: Histories> Core<H> {
     }
 
     /// One Settle, Seal, Load, Checkpoint, Compact, Unload, Move or Repair step, on the slot with this number. All but Unload and Move settle
-    /// the doubt of the slot first. What a checkpoint or a compaction replaces is dropped.
+    /// the doubt of the slot first. What a checkpoint or a compaction replaces is dropped. The clause says of `Made` that the doubt was settled: the
+    /// machine has no extents and no logs, so what was sealed, written or copied is told by `StoredSlot` alone.
     ///
     /// `NoSuchSlot` if no slot has the number, and `NoSuchExtent` if the stream of a repair has no sealed extent of the number. `Busy`, or
     /// `Unreachable` of a repair, if nodes that were needed did not answer, and `NoMemory` if memory runs out. After a fault nothing is changed,
