@@ -1,5 +1,5 @@
 -- What a container says about who may do what after a history, and what a token may write.
-use Rattle.std.proofs.Common.{◌≡◌, ◌≢◌, ℕ, ◌+◌, Bool, true, false, cond, not, ◌||◌, ◌&&◌, List, [], ◌∷◌, ◌++◌, Option, Some, None, Err, All, refl, ap, ◌∙◌, subst, find, is_none, is_some, bytes_eq}
+use Rattle.std.proofs.Common.{◌≡◌, ◌≢◌, ◌⊎◌, inl, inr, ◌↔◌, IsSome, ℕ, ◌+◌, Bool, true, false, cond, not, ◌||◌, ◌&&◌, List, [], ◌∷◌, ◌++◌, Option, Some, None, Err, All, refl, ap, ◌∙◌, subst, find, is_none, is_some, bytes_eq}
 use Rattle.std.proofs.lemmas.List.Elements.{All-head, All-tail}
 use Rattle.std.proofs.lemmas.List.Sums.{fold-append}
 use Rattle.std.proofs.lemmas.Slice.Eq.{bytes_eq-Decides}
@@ -128,6 +128,17 @@ not_true true h = cc
 not_true false h = refl
 
 module _ (id : List ℕ) (q : Asked) where
+  -- a request withdraws a policy if it is a Delete Container, or a Set Container ACL without the policy, and by no other way
+  pub withdraws_if : (o : Op) → (withdraws_policy_by o id q ≡ true) ↔ ((o ≡ op.DeleteContainer) ⊎ ((o ≡ op.SetAcl) × Lacks id (acl_given_by o q)))
+  withdraws_if op.DeleteContainer = (λ h. inl refl, λ h. refl)
+  withdraws_if op.SetAcl = (λ h. inr (refl, none_found (find (λ p. bytes_eq p.id id) _) (not_true (sends_policy id q) h)), λ h. elim h [ inl e ↦ cc | inr p ↦ ap (λ o. not (is_some o)) p.1 ])
+  withdraws_if other = (λ h. cc, λ h. elim h [ inl e ↦ cc | inr p ↦ let is = p.0 in cc ])
+
+  -- a request gives a policy if it is a Set Container ACL with the policy, and by no other way
+  pub gives_if : (o : Op) → (gives_policy_by o id q ≡ true) ↔ ((o ≡ op.SetAcl) × IsSome (policy_with (acl_or_closed (acl_given_by o q)) id))
+  gives_if op.SetAcl = (λ h. (refl, h), λ p. p.1)
+  gives_if other = (λ h. cc, λ p. let is = p.0 in cc)
+
   lacks_given : (o : Op) → alters_access o ≡ true → gives_policy_by o id q ≡ false → Lacks id (acl_given_by o q)
   lacks_given op.CreateContainer alters none = refl
   lacks_given op.DeleteContainer alters none = refl
@@ -140,9 +151,10 @@ module _ (id : List ℕ) (q : Asked) where
   withdrawal_alters other h = cc
 
   withdrawal_gives_none : (o : Op) → withdraws_policy_by o id q ≡ true → gives_policy_by o id q ≡ false
-  withdrawal_gives_none op.DeleteContainer h = refl
-  withdrawal_gives_none op.SetAcl h = not_true (sends_policy id q) h
-  withdrawal_gives_none other h = cc
+  withdrawal_gives_none o h = elim ((withdraws_if o).0 h) [
+    | inl deletes ↦ ap (λ (o : Op). gives_policy_by o id q) deletes
+    | inr sets ↦ ap (λ (o : Op). gives_policy_by o id q) sets.0 ∙ ap is_some (subst (λ (o : Op). Lacks id (acl_given_by o q)) sets.0 sets.1)
+  ]
 
 module _ (pairs : List Keys) (key : Key) (id : List ℕ) where
   -- an accepted entry that does not give the policy leaves a container that lacks it without it

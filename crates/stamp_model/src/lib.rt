@@ -55,7 +55,8 @@ pub use list_laws::{
 pub use metadata_laws::a_list_shows_the_metadata_that_a_blob_tells;
 pub use override_laws::{a_token_overrides_five_headers, other_requests_override_nothing};
 pub use policy_laws::{
-    a_policy_is_as_it_was_set_last, a_token_writes_by_its_letters, a_withdrawn_policy_opens_nothing,
+    a_policy_is_as_it_was_set_last, a_set_acl_gives_a_policy_or_withdraws_it,
+    a_token_writes_by_its_letters, a_withdrawn_policy_opens_nothing,
 };
 pub use run_laws::{
     a_refused_request_changes_no_other_reply, each_request_has_the_reply_of_its_position,

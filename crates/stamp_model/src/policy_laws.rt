@@ -1,6 +1,7 @@
 //! Laws of stored policies and of tokens. Each law is the contract of a function that does nothing.
-ghost use Rattle.std.specs.Prelude.{◌≡◌, ◌≢◌, ◌||◌, ◌++◌, ◌∷◌, [], ℕ, All, IsTrue, List, Option, Some, false};
+ghost use Rattle.std.specs.Prelude.{◌≡◌, ◌≢◌, ◌⊎◌, ◌↔◌, ◌||◌, ◌++◌, ◌∷◌, [], ℕ, All, IsSome, IsTrue, List, Option, Some, None, false};
 ghost use Rattle.stamp_values.specs.declared.key.Key.{Key};
+ghost use Rattle.stamp_values.specs.declared.op.Op.TheVariants.{DeleteContainer, SetAcl};
 ghost use Rattle.stamp_values.specs.declared.signing.Credential.TheVariants.{Token};
 ghost use Rattle.stamp_types.specs.Requests.{Asked};
 ghost use Rattle.stamp_types.specs.World.{World, part_at};
@@ -8,6 +9,7 @@ ghost use Rattle.stamp_types.specs.declared.ask.Ask.{Ask};
 ghost use Rattle.stamp_types.specs.declared.past.Past.{Past};
 ghost use Rattle.stamp_types.specs.declared.rule.Rule.{Rule};
 ghost use Rattle.sas_token.specs.Tokens.{IsToken, Sent};
+ghost use Rattle.container_acl.specs.JoinedFields.{acl_or_closed, policy_with};
 ghost use Rattle.access_rules.specs.Routes.{ByToken};
 ghost use Rattle.access_rules.specs.Rules.{first_rule};
 ghost use Rattle.access_rules.specs.declared.keys.Keys.{Keys};
@@ -39,6 +41,18 @@ pub fn a_withdrawn_policy_opens_nothing()
         → q.credential ≡ Token → IsToken q.signing.query token → token.id ≡ id → id ≢ []
         → (rule : Rule) × IsTrue (is_before_fields rule)
         × (first_rule keys (acl_of (replay pairs (front ++ e ∷ rest))) q t ≡ Some rule) }
+{}
+
+/// What the words of the laws on policies mean. A request withdraws the policy of an id if and only if it is a Delete Container, or a Set
+/// Container ACL after which the container has no policy of this id. It gives the policy if and only if it is a Set Container ACL after which
+/// the container has one.
+pub fn a_set_acl_gives_a_policy_or_withdraws_it()
+    ensures withdraws { (id : List ℕ) (q : Asked)
+        → IsTrue (withdraws_policy id q) ↔ ((q.ask.op ≡ DeleteContainer)
+        ⊎ ((q.ask.op ≡ SetAcl) × (policy_with (acl_or_closed (acl_given q)) id ≡ None))) }
+    ensures gives { (id : List ℕ) (q : Asked)
+        → IsTrue (gives_policy id q) ↔ ((q.ask.op ≡ SetAcl)
+        × IsSome (policy_with (acl_or_closed (acl_given q)) id)) }
 {}
 
 /// A token writes by its letters: if a request by a token changes anything, the token admits it, and
