@@ -1,7 +1,6 @@
 -- What is so along the history of a run, by the laws of requests that are answered in turn.
-use Rattle.std.proofs.Common.{◌≡◌, ℕ, All, List, [], ◌∷◌, ◌++◌, Some, None, sym, ap, ◌∙◌, subst}
+use Rattle.std.proofs.Common.{◌≡◌, ℕ, List, [], ◌∷◌, ◌++◌, Some, None, sym, ap, ◌∙◌, subst}
 use Rattle.std.proofs.lemmas.List.{append_assoc}
-use Rattle.std.proofs.lemmas.List.Elements.{All-map}
 use Rattle.stamp_values.specs.declared.condition.Condition.TheVariants as condition
 use Rattle.stamp_values.specs.declared.key.Key.{Key}
 use Rattle.stamp_values.specs.declared.op.Op.TheVariants as op
@@ -11,8 +10,8 @@ use Rattle.stamp_types.specs.declared.rule.Rule.{Rule}
 use Rattle.stamp_types.specs.EffectKinds.{EtagsAtMost}
 use Rattle.stamp_types.specs.Requests.{IsAsk}
 use Rattle.stamp_types.specs.World.{World, blob_in, part_at}
-use Rattle.stamp_model.specs.Kept.{LeavesContent}
-use Rattle.stamp_model.specs.Runs.{IsOn, Timed, replies_to, reply_to_one, world_after_all}
+use Rattle.stamp_model.specs.Kept.{SparesContent}
+use Rattle.stamp_model.specs.Runs.{IsOn, Timed, replies_to, reply_to_one, world_after_all, world_after_one}
 use Rattle.stamp_model.proofs.ConditionLemmas.{seen-answered}
 use Rattle.stamp_model.proofs.EtagLemmas.{one_state-run}
 use Rattle.stamp_model.proofs.LastLemmas.{body-put_last}
@@ -48,10 +47,10 @@ module _ (s s' : State) where
   pub written_read : (front : List Turn) (put : Turn) (middle : List Turn) (get : Turn) (rest : List Turn) (key : Key) (name : List ℕ) (p g : replies.Reply)
       → Leads s (front ++ put ∷ (middle ++ get ∷ rest)) s'
       → IsAsk put.served.request.ask → IsOn op.PutBlob key name put.served.request → put.reply ≡ Some p → p.rule ≡ None
-      → All (λ u. LeavesContent key name u.served.request) middle
+      → SparesContent key name (world_after_one (world_after_all s.world (requests front)) put.served) (requests middle)
       → IsOn op.GetBlob key name get.served.request → get.served.request.ask.args.range ≡ None → get.reply ≡ Some g → g.rule ≡ None
       → g.body ≡ put.served.request.body
-  written_read front put middle get rest key name p g led fits puts puts_reply accepted leaves gets whole gets_reply free =
+  written_read front put middle get rest key name p g led fits puts puts_reply accepted spares gets whole gets_reply free =
       let w : World (List ℕ) = world_after_all s.world (requests front) in
       let first : p ≡ reply_to_one w put.served = model_at s.world front put (middle ++ get ∷ rest) p led.replies puts_reply in
       let at : front ++ put ∷ (middle ++ get ∷ rest) ≡ (front ++ put ∷ middle) ++ get ∷ rest = sym (append_assoc front (put ∷ middle) (get ∷ rest)) in
@@ -62,7 +61,7 @@ module _ (s s' : State) where
       let keeps = kept-put put.served.request key name fits puts in
       ap (λ (x : replies.Reply). x.body) then
       ∙ body-put_last w key name keeps.0 put.served puts keeps.1 (ap (λ (x : replies.Reply). x.rule) (sym first) ∙ accepted) (requests middle)
-      (All-map (λ (r : Timed). LeavesContent key name r.request) (λ (u : Turn). u.served) middle leaves) get.served gets whole (ap (λ (x : replies.Reply). x.rule) (sym then) ∙ free)
+      spares get.served gets whole (ap (λ (x : replies.Reply). x.rule) (sym then) ∙ free)
 
   -- a conditional write changes what its caller saw
   pub condition_met : (front middle : List Turn) (u : Turn) (rest : List Turn) (name : List ℕ) (seen : Committed (List ℕ)) (r : replies.Reply)

@@ -23,7 +23,7 @@ ghost use Rattle.partition_map.specs.Spans.{bound_at, slot_of, split_refusal};
 ghost use Rattle.stamp_model.specs.AcceptedRequests.{accepted_at};
 ghost use Rattle.stamp_model.specs.Effects.{accepted, effect};
 ghost use Rattle.stamp_model.specs.Histories.{IsLegal, pair_of};
-ghost use Rattle.stamp_model.specs.Kept.{LeavesContent};
+ghost use Rattle.stamp_model.specs.Kept.{SparesContent};
 ghost use Rattle.stamp_model.specs.Responses as responses;
 ghost use Rattle.stamp_model.specs.Runs.{IsAdmitted, IsOn, Timed, part_after_all, replies_to, reply_to_one, timed, world_after_all, world_after_one};
 ghost use Rattle.stamp_model.specs.SeenContainers.{is_under, routed};
@@ -88,7 +88,8 @@ pub fn the_headline()
         → s'.history ≡ s.history ++ (front ++ put ∷ (middle ++ get ∷ rest))
         → IsAsk put.served.request.ask → IsOn PutBlob key name put.served.request
         → put.reply ≡ Some p → p.rule ≡ None
-        → All (λ u. LeavesContent key name u.served.request) middle
+        → SparesContent key name (world_after_one (world_after_all s.world (requests front)) put.served)
+        (requests middle)
         → IsOn GetBlob key name get.served.request
         → get.served.request.ask.args.range ≡ None
         → get.reply ≡ Some g → g.rule ≡ None

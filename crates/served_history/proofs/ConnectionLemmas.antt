@@ -100,32 +100,34 @@ next_after {X} front x rest ys own =
     )
 
 -- a call among the calls along entries is the one of an entry at its place, and the calls after it are along the entries after it
-pub record IsPlaced (w : World (List ℕ)) (call : Call) (after : List Call) : Type 0 where
+pub record IsPlaced (w : World (List ℕ)) (entries : List Entry) (call : Call) (after : List Call) : Type 0 where
   pub front : List Entry
   pub rest : List Entry
   pub slot : ℕ
   pub request : Timed
+  pub entries_are : entries ≡ front ++ Served slot request ∷ rest
   pub call_is : call ≡ call_at (world_after_all w (served_requests front)) request
   pub after_is : after ≡ calls_along (world_after_one (world_after_all w (served_requests front)) request) (served_requests rest)
 
 -- the same after an entry before
-placed_after : (w v : World (List ℕ)) (e : Entry) (call : Call) (after : List Call) → ((rs : List Timed) → world_after_all w (served_request e ++ rs) ≡ world_after_all v rs) → IsPlaced v call after → IsPlaced w call after
-placed_after w v e call after steps placed =
+placed_after : (w v : World (List ℕ)) (e : Entry) (entries : List Entry) (call : Call) (after : List Call) → ((rs : List Timed) → world_after_all w (served_request e ++ rs) ≡ world_after_all v rs) → IsPlaced v entries call after → IsPlaced w (e ∷ entries) call after
+placed_after w v e entries call after steps placed =
     let same : world_after_all w (served_requests (e ∷ placed.front)) ≡ world_after_all v (served_requests placed.front) = steps (served_requests placed.front) in record {
       front = e ∷ placed.front;
       rest = placed.rest;
       slot = placed.slot;
       request = placed.request;
+      entries_are = ap (λ (l : List Entry). e ∷ l) placed.entries_are;
       call_is = placed.call_is ∙ ap (λ (x : World (List ℕ)). call_at x placed.request) (sym same);
       after_is = placed.after_is ∙ ap (λ (x : World (List ℕ)). calls_along (world_after_one x placed.request) (served_requests placed.rest)) (sym same);
     }
 
-at_place : (w : World (List ℕ)) (entries : List Entry) (before : List Call) (call : Call) (after : List Call) → calls_along w (served_requests entries) ≡ before ++ call ∷ after → IsPlaced w call after
+at_place : (w : World (List ℕ)) (entries : List Entry) (before : List Call) (call : Call) (after : List Call) → calls_along w (served_requests entries) ≡ before ++ call ∷ after → IsPlaced w entries call after
 at_place w [] [] call after is = absurd (cc (is))
 at_place w [] (x ∷ before) call after is = absurd (cc (is))
-at_place w (Opened pairs ∷ entries) before call after is = placed_after w w (Opened pairs) call after (λ rs. refl) (at_place w entries before call after is)
-at_place w (Split slot middle upper ∷ entries) before call after is = placed_after w w (Split slot middle upper) call after (λ rs. refl) (at_place w entries before call after is)
-at_place w (Rotated slot account which new ∷ entries) before call after is = placed_after w w (Rotated slot account which new) call after (λ rs. refl) (at_place w entries before call after is)
+at_place w (Opened pairs ∷ entries) before call after is = placed_after w w (Opened pairs) entries call after (λ rs. refl) (at_place w entries before call after is)
+at_place w (Split slot middle upper ∷ entries) before call after is = placed_after w w (Split slot middle upper) entries call after (λ rs. refl) (at_place w entries before call after is)
+at_place w (Rotated slot account which new ∷ entries) before call after is = placed_after w w (Rotated slot account which new) entries call after (λ rs. refl) (at_place w entries before call after is)
 at_place w (Served slot r ∷ entries) [] call after is =
     let head : call_at w r ≡ call = cc (is) in
     let tail : calls_along (world_after_one w r) (served_requests entries) ≡ after = cc (is) in record {
@@ -133,15 +135,16 @@ at_place w (Served slot r ∷ entries) [] call after is =
       rest = entries;
       slot = slot;
       request = r;
+      entries_are = refl;
       call_is = sym head;
       after_is = sym tail;
     }
 at_place w (Served slot r ∷ entries) (x ∷ before) call after is =
     let tail : calls_along (world_after_one w r) (served_requests entries) ≡ before ++ call ∷ after = cc (is) in
-    placed_after w (world_after_one w r) (Served slot r) call after (λ rs. refl) (at_place (world_after_one w r) entries before call after tail)
+    placed_after w (world_after_one w r) (Served slot r) entries call after (λ rs. refl) (at_place (world_after_one w r) entries before call after tail)
 
 pub later_reads : (known known' : List Entry) (front : List Call) (earlier : Call) (middle : List Call) (later : Call) (back : List Call)
-    → ReadsHistory known (front ++ earlier ∷ (middle ++ later ∷ back)) known' → IsReadAfter earlier later
+    → ReadsHistory known (front ++ earlier ∷ (middle ++ later ∷ back)) known' → IsReadAfter known' earlier later
 later_reads known known' front earlier middle later back reads =
     let w = world_left known in
     let one = next_after front earlier (middle ++ later ∷ back) (calls_along w (served_requests reads.entries)) reads.own in
@@ -153,9 +156,14 @@ later_reads known known' front earlier middle later back reads =
     let here : world_left before ≡ then_held = world_left-append known first.front in record {
       before = before;
       between = second.front;
+      after = second.rest;
       slot = first.slot;
+      later_slot = second.slot;
       first = first.request;
       second = second.request;
+      known_is =
+          reads.continued ∙ ap (λ (l : List Entry). known ++ l) (first.entries_are ∙ ap (λ (l : List Entry). first.front ++ Served first.slot first.request ∷ l) second.entries_are)
+          ∙ sym (append_assoc known first.front (Served first.slot first.request ∷ (second.front ++ Served second.slot second.request ∷ second.rest)));
       first_is = first.call_is ∙ ap (λ (v : World (List ℕ)). call_at v first.request) (sym here);
       second_is = second.call_is ∙ ap (λ (v : World (List ℕ)). call_at v second.request)
           (sym (world_left-append before (Served first.slot first.request ∷ second.front) ∙ ap (λ (v : World (List ℕ)). world_after_all (world_after_one v first.request) (served_requests second.front)) here));

@@ -1,5 +1,5 @@
 -- What a connection wrote is what it reads.
-use Rattle.std.proofs.Common.{◌≡◌, ℕ, List, ◌∷◌, All, None, sym, ap, ◌∙◌, subst}
+use Rattle.std.proofs.Common.{◌≡◌, ℕ, List, ◌∷◌, None, sym, ap, ◌∙◌, subst}
 use Rattle.stamp_values.specs.declared.key.Key.{Key}
 use Rattle.stamp_values.specs.declared.op.Op.TheVariants.{GetBlob, PutBlob, PutBlockList}
 use Rattle.stamp_types.specs.declared.reply.Reply.{Reply}
@@ -7,17 +7,19 @@ use Rattle.stamp_types.specs.Requests.{Asked, IsAsk}
 use Rattle.stamp_types.specs.World.{World, blob_in, part_at}
 use Rattle.range_rows.specs.Readings.{wanted_blocks}
 use Rattle.stamp_model.specs.Blocks.{wanted_bytes}
-use Rattle.stamp_model.specs.Kept.{LeavesContent}
-use Rattle.stamp_model.specs.Runs.{IsOn, reply_to_one, world_after_all}
+use Rattle.stamp_model.specs.Kept.{SparesContent}
+use Rattle.stamp_model.specs.Runs.{IsOn, reply_to_one, world_after_all, world_after_one}
 use Rattle.stamp_model.proofs.BlockLemmas.{kept-list}
 use Rattle.stamp_model.proofs.LastLemmas.{body-list_last, body-put_last}
 use Rattle.stamp_model.proofs.WrittenLemmas.{kept-put}
+use Rattle.served_history.specs.declared.entry.Entry.{Entry}
 use Rattle.served_history.specs.declared.entry.Entry.TheVariants.{Served}
 use Rattle.served_history.specs.Histories.{served_requests, world_left}
 use Rattle.served_history.specs.Connections.{Call, IsReadAfter}
 use Rattle.served_history.proofs.StayLemmas.{world_left-append}
 
-module _ (key : Key) (name : List ℕ) (write get : Call) (reads : IsReadAfter write get) (all : All (λ r. LeavesContent key name r.request) (served_requests reads.between))
+module _ (known : List Entry) (key : Key) (name : List ℕ) (write get : Call) (reads : IsReadAfter known write get)
+    (all : SparesContent key name (world_after_one (world_left reads.before) reads.first) (served_requests reads.between))
     (gets : IsOn GetBlob key name get.0.request) (whole : get.0.request.ask.args.range ≡ None) (accepted : write.1.rule ≡ None) (read : get.1.rule ≡ None) where
   abbrev before : World (List ℕ)
   before = world_left reads.before
@@ -48,7 +50,7 @@ module _ (key : Key) (name : List ℕ) (write get : Call) (reads : IsReadAfter w
   whole_there : reads.second.request.ask.args.range ≡ None
   whole_there = ap (λ (q : Asked). q.ask.args.range) (sym asked) ∙ whole
 
-  -- the reply to a later Get Blob has the body that was put, if no entry between the two puts, commits or deletes the blob
+  -- the reply to a later Get Blob has the body that was put, if each entry between the two spares the blob
   pub body_read : IsAsk write.0.request.ask → IsOn PutBlob key name write.0.request → get.1.body ≡ write.0.request.body
   body_read fits puts =
       let there = subst (λ (q : Asked). IsOn PutBlob key name q) wrote puts in

@@ -63,13 +63,16 @@ AddsOneAtMost known known' = (known' ≡ known) ⊎ ((q : Asked) × (t : ℕ) ×
 abbrev pub AreOfOneHistory : List Entry → List Entry → Type 0
 AreOfOneHistory one other = (history : List Entry) × IsPrefix one history × IsPrefix other history
 
--- The earlier call has the model's reply after these entries. The later call has the model's reply after the same entries, the
--- earlier request, and the entries between the two.
-pub record IsReadAfter (earlier later : Call) : Type 0 where
+-- The history that is known has an entry of the earlier call, and after it one of the later call. The earlier call has the model's reply
+-- after the entries before its own. The later call has the model's reply after all entries before its own.
+pub record IsReadAfter (known : List Entry) (earlier later : Call) : Type 0 where
   pub before : List Entry
   pub between : List Entry
+  pub after : List Entry
   pub slot : ℕ
+  pub later_slot : ℕ
   pub first : Timed
   pub second : Timed
+  pub known_is : known ≡ before ++ Served slot first ∷ (between ++ Served later_slot second ∷ after)
   pub first_is : earlier ≡ call_at (world_left before) first
   pub second_is : later ≡ call_at (world_left (before ++ Served slot first ∷ between)) second

@@ -1,5 +1,5 @@
 //! What slots and connections know of the history. A law about definitions is the contract of a function that does nothing.
-ghost use Rattle.std.specs.Prelude.{◌≡◌, ℕ, All, List, [], ◌∷◌, ◌++◌, None, Result};
+ghost use Rattle.std.specs.Prelude.{◌≡◌, ℕ, List, [], ◌∷◌, ◌++◌, None, Result};
 ghost use Rattle.stamp_values.specs.declared.key.Key.{Key};
 ghost use Rattle.stamp_values.specs.declared.op.Op.TheVariants.{GetBlob, PutBlob, PutBlockList};
 ghost use Rattle.stamp_types.specs.declared.reply.Reply.{Reply};
@@ -7,8 +7,8 @@ ghost use Rattle.stamp_types.specs.Requests.{Asked, IsAsk};
 ghost use Rattle.stamp_types.specs.World.{blob_in, part_at};
 ghost use Rattle.range_rows.specs.Readings.{wanted_blocks};
 ghost use Rattle.stamp_model.specs.Blocks.{wanted_bytes};
-ghost use Rattle.stamp_model.specs.Kept.{LeavesContent};
-ghost use Rattle.stamp_model.specs.Runs.{IsOn, reply_to_one};
+ghost use Rattle.stamp_model.specs.Kept.{SparesContent};
+ghost use Rattle.stamp_model.specs.Runs.{IsOn, reply_to_one, world_after_one};
 ghost use Rattle.stamp_model.specs.SeenContainers.{routed};
 ghost use Rattle.http_front.specs.declared.end.End.{End};
 ghost use Rattle.http_front.specs.declared.end.FrontFault.{FrontFault};
@@ -85,24 +85,27 @@ pub fn two_connections_agree<A: Account>(one: &Front<A>, other: &Front<A>)
     both.learn(other);
 }
 
-/// A connection reads its own writes. A later request of the connection is answered at what its earlier request left, after the
-/// entries between the two. So if a Put Blob and a later Get Blob of that blob without a range succeed, and no entry between them
-/// asks to put, commit or delete the blob, or to make or delete its container, the reply to the Get Blob has the body that was put.
+/// A connection reads its own writes. The history that the connection knows in the end has an entry of the earlier request and, after it,
+/// one of the later request, which is answered at what the entries before it left. So if a Put Blob and a later Get Blob of that blob without
+/// a range succeed, and each entry between them that asks to put, commit or delete the blob, or to make or delete its container, is refused at
+/// its place, the reply to the Get Blob has the body that was put.
 /// If the earlier request is a Put Block List, the reply has the content of the wanted blocks, as the blob had it before the list.
 pub fn a_connection_reads_its_own_writes()
     ensures later { (seen seen' : List Entry) (front : List Call) (earlier : Call)
         (middle : List Call) (later : Call) (back : List Call)
         → ReadsHistory seen (front ++ earlier ∷ (middle ++ later ∷ back)) seen'
-        → IsReadAfter earlier later }
-    ensures put { (key : Key) (name : List ℕ) (put get : Call)
-        (reads : IsReadAfter put get)
-        → All (λ r. LeavesContent key name r.request) (served_requests reads.between)
+        → IsReadAfter seen' earlier later }
+    ensures put { (known : List Entry) (key : Key) (name : List ℕ) (put get : Call)
+        (reads : IsReadAfter known put get)
+        → SparesContent key name (world_after_one (world_left reads.before) reads.first)
+        (served_requests reads.between)
         → IsAsk put.0.request.ask → IsOn PutBlob key name put.0.request
         → IsOn GetBlob key name get.0.request → get.0.request.ask.args.range ≡ None
         → put.1.rule ≡ None → get.1.rule ≡ None → get.1.body ≡ put.0.request.body }
-    ensures commit { (key : Key) (name : List ℕ) (list get : Call)
-        (reads : IsReadAfter list get)
-        → All (λ r. LeavesContent key name r.request) (served_requests reads.between)
+    ensures commit { (known : List Entry) (key : Key) (name : List ℕ) (list get : Call)
+        (reads : IsReadAfter known list get)
+        → SparesContent key name (world_after_one (world_left reads.before) reads.first)
+        (served_requests reads.between)
         → IsAsk list.0.request.ask → IsOn PutBlockList key name list.0.request
         → IsOn GetBlob key name get.0.request → get.0.request.ask.args.range ≡ None
         → list.1.rule ≡ None → get.1.rule ≡ None

@@ -1,6 +1,5 @@
 -- What a request leaves of a blob, and what requests in turn leave of it.
-use Rattle.std.proofs.Common.{◌≡◌, ℕ, ◌⊎◌, inl, inr, Bool, true, false, List, [], ◌∷◌, All, Option, Some, None, IfSome, refl, sym, ap, ◌∙◌, subst, unwrap_or}
-use Rattle.std.proofs.lemmas.List.Elements.{All-head, All-tail}
+use Rattle.std.proofs.Common.{◌≡◌, ℕ, ◌⊎◌, inl, inr, Bool, true, false, List, [], ◌∷◌, Option, Some, None, IfSome, refl, sym, ap, ◌∙◌, subst, unwrap_or}
 use Rattle.std.specs.FinMap as finite
 use Rattle.std.specs.Option.{option_map, option_and_then}
 use Rattle.std.specs.Cmp.{eq_by_cmp_equiv}
@@ -25,10 +24,10 @@ use Rattle.range_rows.specs.RequestChanges.{delete_blob, put_blob, put_block, pu
 use Rattle.stamp_model.specs.Blocks.{takes_blocks}
 use Rattle.stamp_model.specs.Effects.{effect}
 use Rattle.stamp_model.specs.Histories.{makes_or_deletes}
-use Rattle.stamp_model.specs.Kept.{GivesNoContent, LeavesBlob, LeavesContent, LeavesSeen, alters_blob, gives_content, writes_blob}
+use Rattle.stamp_model.specs.Kept.{GivesNoContent, HoldUnlessRefused, IsRefusedAt, LeavesBlob, LeavesContent, LeavesSeen, alters_blob, gives_content, writes_blob}
 use Rattle.stamp_model.specs.Runs.{Timed, world_after_one, world_after_all}
 use Rattle.stamp_model.proofs.EffectLemmas.{part_at-effect_others, related-after_act, related-effect, said_of_block, said_of_named}
-use Rattle.stamp_model.proofs.ReplyLemmas.{unmapped}
+use Rattle.stamp_model.proofs.ReplyLemmas.{effect-named, unmapped}
 use Rattle.stamp_model.proofs.SeenLemmas.{block_unseen}
 
 -- ---- two names are the same, or they are not; and so are two keys
@@ -220,22 +219,29 @@ module _ (keys : Option Keys) (w : World (List ℕ)) (q : Asked) (t : ℕ) (k : 
 
 -- ---- what requests in turn leave of a blob
 
-module _ (key : Key) (holds : Asked → Type 0) where
-  abbrev AllHold : List Timed → Type 0
-  AllHold rs = All (λ r. holds r.request) rs
+-- a request that is refused changes nothing
+unmade : (w : World (List ℕ)) (r : Timed) → IsRefusedAt w r → world_after_one w r ≡ w
+unmade w r refused = effect-named r.keys w r.request r.moment r.bound refused.0 refused.1
 
-  -- what each request leaves is left by all of them
+module _ (key : Key) (holds : Asked → Type 0) where
+  -- what each request leaves is left by all of them, if each that does not leave it is refused
   pub left-in_turn : {X : Type 0} (said : Part (List ℕ) → X)
       → ((w : World (List ℕ)) (r : Timed) → holds r.request → said (part_at (world_after_one w r) key) ≡ said (part_at w key))
-      → (w : World (List ℕ)) (rs : List Timed) → AllHold rs → said (part_at (world_after_all w rs) key) ≡ said (part_at w key)
+      → (w : World (List ℕ)) (rs : List Timed) → HoldUnlessRefused holds w rs → said (part_at (world_after_all w rs) key) ≡ said (part_at w key)
   left-in_turn said each w [] all = refl
   left-in_turn said each w (r ∷ rs) all =
-      left-in_turn said each (world_after_one w r) rs (All-tail (λ r. holds r.request) r rs all) ∙ each w r (All-head (λ r. holds r.request) r rs all)
+      left-in_turn said each (world_after_one w r) rs all.1 ∙ elim all.0 [
+        | inl does ↦ each w r does
+        | inr refused ↦ ap (λ (v : World (List ℕ)). said (part_at v key)) (unmade w r refused)
+      ]
 
-  -- what is so after each request, if it was so before, is so after all of them
+  -- what is so after each request, if it was so before, is so after all of them, if each request for which that does not hold is refused
   pub so-in_turn : (said : Part (List ℕ) → Type 0)
       → ((w : World (List ℕ)) (r : Timed) → holds r.request → said (part_at w key) → said (part_at (world_after_one w r) key))
-      → (w : World (List ℕ)) (rs : List Timed) → AllHold rs → said (part_at w key) → said (part_at (world_after_all w rs) key)
+      → (w : World (List ℕ)) (rs : List Timed) → HoldUnlessRefused holds w rs → said (part_at w key) → said (part_at (world_after_all w rs) key)
   so-in_turn said each w [] all so = so
   so-in_turn said each w (r ∷ rs) all so =
-      so-in_turn said each (world_after_one w r) rs (All-tail (λ r. holds r.request) r rs all) (each w r (All-head (λ r. holds r.request) r rs all) so)
+      so-in_turn said each (world_after_one w r) rs all.1 (elim all.0 [
+        | inl does ↦ each w r does so
+        | inr refused ↦ subst (λ (v : World (List ℕ)). said (part_at v key)) (sym (unmade w r refused)) so
+      ])

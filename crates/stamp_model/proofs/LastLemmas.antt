@@ -1,5 +1,5 @@
 -- What was written last is read, whatever came between that did not write it again.
-use Rattle.std.proofs.Common.{◌≡◌, ◌⊎◌, inl, inr, ℕ, true, List, ◌∷◌, ◌++◌, All, Option, Some, None, refl, sym, ap, ◌∙◌, map, unwrap_or}
+use Rattle.std.proofs.Common.{◌≡◌, ◌⊎◌, inl, inr, ℕ, true, List, ◌∷◌, ◌++◌, Option, Some, None, refl, sym, ap, ◌∙◌, map, unwrap_or}
 use Rattle.std.proofs.lemmas.List.{append-nil}
 use Rattle.std.specs.Prelude.{is_some}
 use Rattle.std.specs.List.{flat_map}
@@ -35,7 +35,7 @@ use Rattle.range_rows.specs.ObjectRules.Cause.{BlobIsAbsent, ContainerIsAbsent}
 use Rattle.range_rows.specs.Readings.{wanted_blocks}
 use Rattle.range_rows.specs.RequestChanges.{put_props}
 use Rattle.stamp_model.specs.Blocks.{reads_committed, wanted_bytes}
-use Rattle.stamp_model.specs.Kept.{GivesNoContent, LeavesContent, LeavesSeen}
+use Rattle.stamp_model.specs.Kept.{GivesNoContent, LeavesContent, LeavesSeen, SparesAbsence, SparesContent, SparesSeen}
 use Rattle.stamp_model.specs.Responses.{reply, rows_answer}
 use Rattle.stamp_model.specs.Runs.{Timed, IsAdmitted, IsOn, world_after_one, world_after_all, reply_to_one}
 use Rattle.stamp_model.proofs.BlockLemmas.{committed-list, content-list, list_there}
@@ -83,14 +83,13 @@ module _ (later : World (List ℕ)) (key : Key) (name : List ℕ) (c : Committed
     )
 
 module _ (w : World (List ℕ)) (key : Key) (name : List ℕ) (c : Committed (List ℕ)) (seen : (blob_in (part_at w key) name).committed ≡ Some c) where
-  -- requests in turn leave the content, if each of them leaves it
-  content_after : (middle : List Timed) → All (λ r. LeavesContent key name r.request) middle
+  -- requests in turn leave the content, if each of them leaves it or is refused
+  content_after : (middle : List Timed) → SparesContent key name w middle
       → option_map blocks_and_props (blob_in (part_at (world_after_all w middle) key) name).committed ≡ Some (blocks_and_props c)
   content_after middle all =
       left-in_turn key (λ q. LeavesContent key name q) (λ p. option_map blocks_and_props (blob_in p name).committed)
       (λ v r leaves. content-left r.keys v r.request r.moment key name leaves) w middle all
       ∙ ap (option_map blocks_and_props) seen
-  -- the same of requests that are judged each by its own key pair
 
 -- ---- Put Blob, Put Block List and Set Blob Metadata
 
@@ -102,7 +101,7 @@ module _ (w : World (List ℕ)) (key : Key) (name : List ℕ) (kept : Kept) (put
   abbrev stored_seen : (blob_in (part_at (world_after_one w put) key) name).committed ≡ Some stored
   stored_seen = committed-put w key name kept put puts keeps none
 
-  module _ (middle : List Timed) (all : All (λ r. LeavesContent key name r.request) middle)
+  module _ (middle : List Timed) (all : SparesContent key name (world_after_one w put) middle)
       (get : Timed) (gets : IsOn op.GetBlob key name get.request) (whole : get.request.ask.args.range ≡ None)
       (free : (reply_to_one (world_after_all w (put ∷ middle)) get).rule ≡ None) where
     pub body-put_last : (reply_to_one (world_after_all w (put ∷ middle)) get).body ≡ put.request.body
@@ -123,7 +122,7 @@ module _ (w : World (List ℕ)) (key : Key) (name : List ℕ) (list : Timed)
   abbrev listed_seen : (blob_in (part_at (world_after_one w list) key) name).committed ≡ Some listed
   listed_seen = committed-list w key name list lists none kept keeps
 
-  module _ (middle : List Timed) (all : All (λ r. LeavesContent key name r.request) middle)
+  module _ (middle : List Timed) (all : SparesContent key name (world_after_one w list) middle)
       (get : Timed) (gets : IsOn op.GetBlob key name get.request) (whole : get.request.ask.args.range ≡ None)
       (free : (reply_to_one (world_after_all w (list ∷ middle)) get).rule ≡ None) where
     pub body-list_last : (reply_to_one (world_after_all w (list ∷ middle)) get).body ≡ wanted_bytes (blob_in (part_at w key) name) (wanted_blocks list.request)
@@ -136,15 +135,15 @@ module _ (w : World (List ℕ)) (key : Key) (name : List ℕ) (list : Timed)
     headers-list_last =
         headers-later (world_after_all w (list ∷ middle)) key name listed (content_after (world_after_one w list) key name listed listed_seen middle all) get.keys get.request get.moment get.bound gets whole free
 
--- each later request leaves what readers see of the blob
-seen_later : (w : World (List ℕ)) (key : Key) (name : List ℕ) (middle : List Timed) → All (λ r. LeavesSeen key name r.request) middle
+-- each later request leaves what readers see of the blob, or is refused
+seen_later : (w : World (List ℕ)) (key : Key) (name : List ℕ) (middle : List Timed) → SparesSeen key name w middle
     → (blob_in (part_at (world_after_all w middle) key) name).committed ≡ (blob_in (part_at w key) name).committed
 seen_later w key name middle all =
     left-in_turn key (λ q. LeavesSeen key name q) (λ p. (blob_in p name).committed) (λ v r leaves. committed-left r.keys v r.request r.moment key name leaves) w middle all
 
 module _ (w : World (List ℕ)) (key : Key) (name : List ℕ) (set : Timed)
     (sets : IsOn op.SetMetadata key name set.request) (none : (reply_to_one w set).rule ≡ None)
-    (middle : List Timed) (all : All (λ r. LeavesSeen key name r.request) middle) where
+    (middle : List Timed) (all : SparesSeen key name (world_after_one w set) middle) where
   pub headers-set_last : (get : Timed) → IsOn op.GetMetadata key name get.request → (reply_to_one (world_after_all w (set ∷ middle)) get).rule ≡ None
       → (reply_to_one (world_after_all w (set ∷ middle)) get).headers ≡ map header.Meta set.request.ask.args.metadata ++ (reply_to_one w set).headers
   headers-set_last get gets free =
@@ -181,7 +180,7 @@ module _ (p r : Part (List ℕ)) (q : Asked) (name : List ℕ) (on : q.ask.blob 
 
 -- a later read of what is committed is answered as it would have been answered at once
 pub reply-later : (w : World (List ℕ)) (name : List ℕ) (middle : List Timed) (read : Timed) → read.request.ask.blob ≡ Some name
-    → reads_committed read.request.ask.op read.request.ask.args.kinds ≡ true → All (λ r. LeavesSeen read.request.ask.key name r.request) middle
+    → reads_committed read.request.ask.op read.request.ask.args.kinds ≡ true → SparesSeen read.request.ask.key name w middle
     → (reply_to_one w read).rule ≡ None → (reply_to_one (world_after_all w middle) read).rule ≡ None
     → reply_to_one (world_after_all w middle) read ≡ reply_to_one w read
 reply-later w name middle read on reads all free later_free =
@@ -222,7 +221,7 @@ module _ (w : World (List ℕ)) (key : Key) (name : List ℕ) (delete : Timed)
       ap (λ (p : Part (List ℕ)). (blob_in p name).committed) (part-deleted w key name delete deletes none)
       ∙ ap (λ (o : Option (Blob (List ℕ))). (unwrap_or o no_blob).committed) (get-remove_same (part_at w key).blobs name)
 
-  module _ (middle : List Timed) (all : All (λ r. GivesNoContent key name r.request) middle) where
+  module _ (middle : List Timed) (all : SparesAbsence key name (world_after_one w delete) middle) where
     abbrev after_all : World (List ℕ)
     after_all = world_after_all w (delete ∷ middle)
 

@@ -6,7 +6,7 @@ pub returns-clause-later : goal.returns-clause-later
 returns-clause-later c = λ seen seen' front earlier middle later back reads. later_reads seen seen' front earlier middle later back reads
 
 pub returns-clause-put : goal.returns-clause-put
-returns-clause-put c = λ key name put get reads all fits puts gets whole accepted read. body_read key name put get reads all gets whole accepted read fits puts
+returns-clause-put c = λ known key name put get reads all fits puts gets whole accepted read. body_read known key name put get reads all gets whole accepted read fits puts
 
 pub returns-clause-commit : goal.returns-clause-commit
-returns-clause-commit c = λ key name list get reads all fits lists gets whole accepted read. blocks_read key name list get reads all gets whole accepted read fits lists
+returns-clause-commit c = λ known key name list get reads all fits lists gets whole accepted read. blocks_read known key name list get reads all gets whole accepted read fits lists
