@@ -2,12 +2,12 @@
 ghost use Rattle.std.specs.Prelude.{⊤};
 
 use crate::requests::{CREATE, CREATED, PUT, PUT_BY_NEW};
-use crate::samples::{begins, pair_with, pairs, says};
+use crate::samples::{begins, pair_with, says};
+use crate::stored_samples::{Streamed, empty_slot, is_covered, reply_of};
 use access_rules::Keys;
 use http_front::Service;
 use policy_book::judge;
 use range_rows::Reading;
-use slot_state::{KeptHistories, Slot};
 use stamp_types::{Moment, Reply, Request};
 use std::alloc::{AllocError, Global};
 use std::process::Abort;
@@ -16,7 +16,7 @@ use std::sync::Arc;
 /// A slot that gets each request with its body read and its signature judged, under these keys.
 #[derive(Drop)]
 struct Judging {
-    slot: Slot<KeptHistories>,
+    streamed: Box<Streamed>,
     keys: Arc<Keys>,
 }
 
@@ -37,17 +37,23 @@ impl Service for Judging {
     ) -> Result<Reply, AllocError> {
         let judged = judge(alloc, &self.keys, &request)?;
         let reading = Reading::of(alloc, &request)?;
-        self.slot
-            .serve_read(alloc, &request, Some(&judged), reading, moment, None)
+        let Streamed { slot, wire, .. } = &mut *self.streamed;
+        if !is_covered(alloc, slot, &request)? {
+            return Err(AllocError);
+        }
+        let answer = slot.serve_read(alloc, &request, Some(&judged), reading, moment, wire);
+        reply_of(answer, wire)
     }
 }
 
 // A slot with a pair whose keys are `key1` and `key2`. Signatures are judged by another pair, if `first` is not `key1` or the epoch is not 0.
 fn with_judge(rt: &impl Abort, alloc: Global, first: &[u8], epoch: u64) -> Box<Judging> {
-    let slot = Slot::new(alloc, pairs(rt, alloc)).expect(rt, "memory");
     let keys = pair_with(rt, alloc, "devstoreaccount1", first, epoch);
-    let keys = Arc::new(alloc, keys).expect(rt, "memory");
-    Box::new(alloc, Judging { slot, keys }).expect(rt, "memory")
+    let judging = Judging {
+        streamed: empty_slot(rt, alloc),
+        keys: Arc::new(alloc, keys).expect(rt, "memory"),
+    };
+    Box::new(alloc, judging).expect(rt, "memory")
 }
 
 // The blob is put by the key of the slot's pair, and is refused by another key, whatever pair judged the signatures.

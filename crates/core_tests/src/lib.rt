@@ -4,8 +4,6 @@
 #[cfg(test)]
 mod audit_tests;
 #[cfg(test)]
-mod bound_tests;
-#[cfg(test)]
 mod core_audit_tests;
 #[cfg(test)]
 mod core_samples;

@@ -1,9 +1,9 @@
 //! As many slots as there may be spans.
 
-use crate::requests::{CREATE, CREATE_LATER, CREATED, GET, LIST, MISSING, PUT};
-use crate::samples::{Served, begins, cut, empty_slot, ends, key, says};
+use crate::requests::{CREATE, CREATE_LATER, CREATED, GET, PUT};
+use crate::samples::{begins, ends, key};
+use crate::stored_samples::{Streamed, changes, cut, empty_slot};
 use partition_map::{MapFault, Spans};
-use slot_state::KeptHistories;
 use stamp_types::Key;
 use std::alloc::Global;
 use std::process::Abort;
@@ -11,7 +11,7 @@ use std::process::Abort;
 /// The slots in the order of their keys, and their spans.
 #[derive(Drop)]
 struct Many {
-    slots: Vec<Box<Served<KeptHistories>>>,
+    slots: Vec<Box<Streamed>>,
     spans: Spans,
 }
 
@@ -39,7 +39,7 @@ fn split_last(rt: &impl Abort, alloc: Global, many: &mut Many, number: u8) {
 }
 
 // 256 slots, split from one slot with two containers.
-fn most_slots(rt: &impl Abort, alloc: Global, whole: Box<Served<KeptHistories>>) -> Box<Many> {
+fn most_slots(rt: &impl Abort, alloc: Global, whole: Box<Streamed>) -> Box<Many> {
     let mut slots = Vec::new(alloc);
     slots.push(whole).expect(rt, "memory");
     let spans = Spans::new(alloc);
@@ -78,21 +78,21 @@ fn each_has_one_slot(rt: &impl Abort, alloc: Global, many: &Many) {
     }
 }
 
-// The slot of `pics` has the blob and lists only this container; each other slot has neither.
+// The slot of `pics` has the blob. No other slot has a change of this container.
 fn serves_as_before(rt: &impl Abort, alloc: Global, many: &mut Many) {
-    let place = many.spans.find(&key(rt, alloc, "pics"));
+    let pics = key(rt, alloc, "pics");
+    let place = many.spans.find(&pics);
     for (number, slot) in many.slots.iter_mut().enumerate() {
         if number == place {
             assert!(rt; ends(rt, alloc, &mut **slot, GET, b"\r\n\r\nhello"));
-            assert!(rt; says(rt, alloc, &mut **slot, LIST, "<Name>pics</Name>"));
         } else {
-            assert!(rt; begins(rt, alloc, &mut **slot, GET, MISSING));
+            assert!(rt; changes(&**slot, &pics) == 0);
         }
     }
 }
 
 // A slot with the containers `pics` and `video`, and a blob.
-fn two_containers(rt: &impl Abort, alloc: Global) -> Box<Served<KeptHistories>> {
+fn two_containers(rt: &impl Abort, alloc: Global) -> Box<Streamed> {
     let mut whole = empty_slot(rt, alloc);
     assert!(rt; begins(rt, alloc, &mut *whole, CREATE, CREATED));
     assert!(rt; begins(rt, alloc, &mut *whole, PUT, CREATED));

@@ -4,10 +4,12 @@ ghost use Rattle.slot_state.specs.NextPairs.{IsNext};
 ghost use Rattle.slot_state.specs.Pairs.{pairs_at};
 
 use crate::requests::{CREATE, CREATE_OF_GUEST, CREATED, GET_OF_NOBODY};
-use crate::samples::{Served, begins, boxed, changes, key, pair, pair_with, says, text};
+use crate::samples::{begins, key, pair, pair_with, says, text};
+use crate::stored_samples::{Streamed, changes, make_of_pairs, rows};
 use access_rules::{Keys, Which};
+use extent_node::Script;
 use hmac_sign::SigningKey;
-use slot_state::{AccountPairs, KeptHistories, PairList, Slot};
+use slot_state::{AccountPairs, PairList};
 use stamp_types::{Key, Text};
 use std::alloc::Global;
 use std::process::Abort;
@@ -24,12 +26,7 @@ fn two_accounts(rt: &impl Abort, alloc: Global) -> Arc<AccountPairs> {
 }
 
 // How many pairs the slot has of the account, and whether the last of them has the epoch 0.
-fn first_pair_of(
-    rt: &impl Abort,
-    alloc: Global,
-    served: &Served<KeptHistories>,
-    account: &str,
-) -> bool {
+fn first_pair_of(rt: &impl Abort, alloc: Global, served: &Streamed, account: &str) -> bool {
     let account = text(rt, alloc, account);
     let pairs = served.slot.pairs(&account);
     match pairs.last() {
@@ -41,7 +38,7 @@ fn first_pair_of(
 }
 
 // Each account has a container of its own, though both have one name.
-fn serves_two_accounts(rt: &impl Abort, alloc: Global, served: &mut Served<KeptHistories>) {
+fn serves_two_accounts(rt: &impl Abort, alloc: Global, served: &mut Streamed) {
     assert!(rt; begins(rt, alloc, served, CREATE, CREATED));
     assert!(rt; changes(served, &key(rt, alloc, "pics")) == 1);
     assert!(rt; begins(rt, alloc, served, CREATE_OF_GUEST, CREATED));
@@ -56,8 +53,9 @@ fn serves_two_accounts(rt: &impl Abort, alloc: Global, served: &mut Served<KeptH
 #[test]
 fn a_slot_serves_two_accounts(rt: HostRuntime) {
     let alloc = rt.alloc();
-    let slot = Slot::of_pairs(alloc, two_accounts(&rt, alloc));
-    let mut served = boxed(&rt, alloc, slot);
+    let wire = Script::new(alloc, Vec::new(alloc), Vec::new(alloc));
+    let pairs = two_accounts(&rt, alloc);
+    let mut served = make_of_pairs(&rt, alloc, rows(alloc), pairs, wire);
     assert!(rt; first_pair_of(&rt, alloc, &*served, "devstoreaccount1"));
     assert!(rt; first_pair_of(&rt, alloc, &*served, "guestaccount"));
     assert!(rt; !first_pair_of(&rt, alloc, &*served, "nobody"));

@@ -1,42 +1,16 @@
-//! Slots that connections are served by.
-ghost use Rattle.std.specs.Prelude.{⊤, ◌≡◌};
+//! Connections of tests, and what is sent by them.
+ghost use Rattle.std.specs.Prelude.{◌≡◌};
 
 use crate::sample_pairs::pair_of;
 use access_rules::Keys;
 use hmac_sign::SigningKey;
 use http_front::{Clock, Connection, End, Service, run};
-use slot_state::{Histories, KeptHistories, Slot};
-use stamp_types::{AccountName, Key, Moment, Reply, Request, Text};
-use std::alloc::{AllocError, Global};
+use stamp_types::{AccountName, Key, Moment, Text};
+use std::alloc::Global;
 use std::process::Abort;
 
 // 2012-10-01T12:00:00Z, in steps of 100 ns since 1970.
 const NOON: i64 = 13_490_928_000_000_000;
-
-/// A slot that answers each request.
-#[derive(Drop)]
-pub(crate) struct Served<H: Histories> {
-    pub(crate) slot: Slot<H>,
-}
-
-impl<H: Histories> Service for Served<H> {
-    ghost World = { ⊤ };
-
-    ghost world = { λ s. tt };
-
-    ghost answers = { λ old asked moment reply new. ⊤ };
-
-    ghost starves = { λ old new. ⊤ };
-
-    fn answer(
-        &mut self,
-        alloc: Global,
-        request: Request,
-        moment: Moment,
-    ) -> Result<Reply, AllocError> {
-        self.slot.serve(alloc, &request, None, moment, None)
-    }
-}
 
 /// A clock that always gives the same moment.
 #[derive(Drop)]
@@ -119,32 +93,6 @@ pub(crate) fn pairs(rt: &impl Abort, alloc: Global) -> Vec<Keys> {
     pairs
 }
 
-/// The slot in a box, since a value with so many fields is slow to prove.
-pub(crate) fn boxed<H: Histories>(rt: &impl Abort, alloc: Global, slot: Slot<H>) -> Box<Served<H>> {
-    Box::new(alloc, Served { slot }).expect(rt, "memory")
-}
-
-/// A slot of the account, without containers.
-pub(crate) fn empty_slot<H: Histories>(rt: &impl Abort, alloc: Global) -> Box<Served<H>> {
-    let slot = Slot::new(alloc, pairs(rt, alloc)).expect(rt, "memory");
-    boxed(rt, alloc, slot)
-}
-
-/// The upper half of the slot, which is cut at the key of this container.
-pub(crate) fn cut<H: Histories>(
-    rt: &impl Abort,
-    alloc: Global,
-    served: &mut Served<H>,
-    container: &str,
-) -> Box<Served<H>> {
-    let middle = key(rt, alloc, container);
-    if !served.slot.is_inside(&middle) {
-        panic!(rt; "the key is not inside");
-    }
-    let upper = served.slot.cut(alloc, &middle).expect(rt, "memory");
-    boxed(rt, alloc, upper)
-}
-
 /// Whether the service answers the input with a reply that begins like this.
 pub(crate) fn begins<S: Service>(
     rt: &impl Abort,
@@ -179,13 +127,5 @@ pub(crate) fn says<S: Service>(
     match str::from_utf8(&out) {
         Ok(reply) => reply.contains(text),
         Err(_) => false,
-    }
-}
-
-/// How many accepted changes of the container the slot has.
-pub(crate) fn changes(served: &Served<KeptHistories>, key: &Key) -> usize {
-    match served.slot.history(key) {
-        Some(history) => history.as_slice().len(),
-        None => 0,
     }
 }

@@ -1,18 +1,18 @@
 //! Splits of a slot.
 
-use crate::requests::{CREATE, CREATED, GET, GET_B, MISSING, PUT, PUT_BLOCK, PUT_LIST};
-use crate::samples::{Served, begins, changes, cut, empty_slot, ends, key, pair};
-use slot_state::{AccountPairs, KeptHistories, PairsFault};
+use crate::requests::{CREATE, CREATED, GET, GET_B, PUT, PUT_BLOCK, PUT_LIST};
+use crate::samples::{begins, ends, key, pair};
+use crate::stored_samples::{Streamed, changes, cut, empty_slot};
+use slot_state::{AccountPairs, PairsFault};
 use std::alloc::Global;
 use std::process::Abort;
 
 // The container leaves with the upper half: its blob is read there, and its list of two changes is there.
-fn leaves(rt: &impl Abort, alloc: Global, lower: &mut Served<KeptHistories>) {
+fn leaves(rt: &impl Abort, alloc: Global, lower: &mut Streamed) {
     assert!(rt; begins(rt, alloc, lower, CREATE, CREATED));
     assert!(rt; begins(rt, alloc, lower, PUT, CREATED));
     let mut upper = cut(rt, alloc, lower, "pics");
     assert!(rt; ends(rt, alloc, &mut *upper, GET, b"\r\n\r\nhello"));
-    assert!(rt; begins(rt, alloc, lower, GET, MISSING));
     let pics = key(rt, alloc, "pics");
     assert!(rt; changes(&*upper, &pics) == 2);
     assert!(rt; upper.slot.covers(&pics));
@@ -21,7 +21,7 @@ fn leaves(rt: &impl Abort, alloc: Global, lower: &mut Served<KeptHistories>) {
 }
 
 // The block is put before the cut, and its list is committed after it. The container comes before the key of the cut, so it stays.
-fn is_committed(rt: &impl Abort, alloc: Global, lower: &mut Served<KeptHistories>) {
+fn is_committed(rt: &impl Abort, alloc: Global, lower: &mut Streamed) {
     assert!(rt; begins(rt, alloc, lower, CREATE, CREATED));
     assert!(rt; begins(rt, alloc, lower, PUT_BLOCK, CREATED));
     let upper = cut(rt, alloc, lower, "picsa");

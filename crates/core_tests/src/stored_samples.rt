@@ -12,7 +12,7 @@ use crate::samples::{begins, key, pairs};
 use extent_node::{Delivery, Script};
 use http_front::Service;
 use slot_state::{AccountPairs, KeptHistories};
-use stamp_types::{Moment, Reply, Request};
+use stamp_types::{Key, Moment, Reply, Request};
 use std::alloc::{AllocError, Global};
 use std::process::Abort;
 use std::sync::Arc;
@@ -119,8 +119,27 @@ pub(crate) fn rows(alloc: Global) -> StoredRows
     StoredRows::new(alloc, 1_000_000, KeyRange::all(alloc))
 }
 
-/// A slot over streams of the account whose rows are these, without containers. Its wire gives these deliveries and answers in turn, and then
-/// Done and yes. The slot is in a box, since a value with so many fields is slow to prove.
+/// A slot over streams with these rows and key pairs, without containers, whose wire is this. The slot is in a box, since a value with so many
+/// fields is slow to prove.
+pub(crate) fn make_of_pairs(
+    rt: &impl Abort,
+    alloc: Global,
+    rows: StoredRows,
+    pairs: Arc<AccountPairs>,
+    wire: Script,
+) -> Box<Streamed>
+    requires none { (key : Key) → pieces_of rows key ≡ no_part }
+    requires sure { doubt_of rows ≡ None }
+{
+    let streamed = Streamed {
+        slot: StoredSlot::of_rows(alloc, rows, pairs),
+        wire,
+        tickets: 0,
+    };
+    Box::new(alloc, streamed).expect(rt, "memory")
+}
+
+/// A slot of the account whose rows are these, without containers. Its wire gives these deliveries and answers in turn, and then Done and yes.
 pub(crate) fn make_of_rows(
     rt: &impl Abort,
     alloc: Global,
@@ -135,12 +154,7 @@ pub(crate) fn make_of_rows(
     let pairs = Arc::new(alloc, pairs).expect(rt, "memory");
     let puts = puts.to_vec(alloc).expect(rt, "memory");
     let asks = asks.to_vec(alloc).expect(rt, "memory");
-    let streamed = Streamed {
-        slot: StoredSlot::of_rows(alloc, rows, pairs),
-        wire: Script::new(alloc, puts, asks),
-        tickets: 0,
-    };
-    Box::new(alloc, streamed).expect(rt, "memory")
+    make_of_pairs(rt, alloc, rows, pairs, Script::new(alloc, puts, asks))
 }
 
 /// The same with new rows, which write their lists at once.
@@ -151,6 +165,11 @@ pub(crate) fn make_streamed(
     asks: &[bool],
 ) -> Box<Streamed> {
     make_of_rows(rt, alloc, rows(alloc), puts, asks)
+}
+
+/// A slot of the account, without containers, whose nodes always answer.
+pub(crate) fn empty_slot(rt: &impl Abort, alloc: Global) -> Box<Streamed> {
+    make_streamed(rt, alloc, &[], &[])
 }
 
 /// Creates the container and puts the blob.
@@ -178,4 +197,19 @@ pub(crate) fn split(
         tickets: 0,
     };
     Some(Box::new(alloc, upper).expect(rt, "memory"))
+}
+
+/// The upper half of the slot, which is split at the key of this container. The nodes answer.
+pub(crate) fn cut(
+    rt: &impl Abort,
+    alloc: Global,
+    lower: &mut Streamed,
+    container: &str,
+) -> Box<Streamed> {
+    split(rt, alloc, lower, container).expect(rt, "the nodes answer")
+}
+
+/// How many accepted changes of the container the slot has.
+pub(crate) fn changes(streamed: &Streamed, key: &Key) -> usize {
+    streamed.slot.history(key).len()
 }

@@ -1,6 +1,7 @@
 //! Slots over streams that are split and moved (SOSP 2011, section 5).
-use crate::bound_tests::ends_at_m;
-use crate::requests::{CREATE, CREATE_EARLIER, CREATED, GET, LIST, LIST_FROM_M, PUT};
+use crate::requests::{
+    CREATE, CREATE_EARLIER, CREATED, GET, GET_B, LIST, LIST_FROM_M, PUT, PUT_BLOCK, PUT_LIST,
+};
 use crate::samples::{begins, ends, key, says};
 use crate::stored_samples::{D, R, Streamed, make_streamed, split};
 use std::alloc::Global;
@@ -16,11 +17,25 @@ fn fill(rt: &impl Abort, alloc: Global, whole: &mut Streamed) {
     assert!(rt; begins(rt, alloc, whole, PUT, CREATED));
 }
 
+// The container `alpha` is listed up to the bound, and the list goes on at the bound.
+fn ends_at_m(rt: &impl Abort, alloc: Global, lower: &mut Streamed) {
+    assert!(rt; says(rt, alloc, lower, LIST, "<Name>alpha</Name>"));
+    assert!(rt; says(rt, alloc, lower, LIST, "<NextMarker>m</NextMarker>"));
+    assert!(rt; !says(rt, alloc, lower, LIST, "<Name>pics</Name>"));
+}
+
 // The upper half lists `pics`, and has its blob.
 fn has_pics(rt: &impl Abort, alloc: Global, upper: &mut Streamed) {
     assert!(rt; says(rt, alloc, upper, LIST_FROM_M, "<Name>pics</Name>"));
     assert!(rt; says(rt, alloc, upper, LIST_FROM_M, "<NextMarker></NextMarker>"));
     assert!(rt; ends(rt, alloc, upper, GET, b"\r\n\r\nhello"));
+}
+
+// The upper half takes a block of `pics` and its commit.
+fn takes_a_block(rt: &impl Abort, alloc: Global, upper: &mut Streamed) {
+    assert!(rt; begins(rt, alloc, upper, PUT_BLOCK, CREATED));
+    assert!(rt; begins(rt, alloc, upper, PUT_LIST, CREATED));
+    assert!(rt; ends(rt, alloc, upper, GET_B, b"\r\n\r\nabc"));
 }
 
 // Rows that are dropped from memory are read from the extents that both halves share.
@@ -33,7 +48,7 @@ fn load_again(rt: &impl Abort, alloc: Global, half: &mut Streamed) {
 fn are_parted_at_m(rt: &impl Abort, alloc: Global, lower: &Streamed, upper: &Streamed) {
     let middle = key(rt, alloc, "m");
     assert!(rt; !lower.slot.is_inside(&middle) && !upper.slot.is_inside(&middle));
-    assert!(rt; upper.slot.covers(&middle));
+    assert!(rt; !lower.slot.covers(&middle) && upper.slot.covers(&middle));
 }
 
 #[test]
@@ -45,6 +60,7 @@ fn a_split_gives_each_container_to_one_half(rt: HostRuntime) {
     are_parted_at_m(&rt, alloc, &*lower, &*upper);
     ends_at_m(&rt, alloc, &mut *lower);
     has_pics(&rt, alloc, &mut *upper);
+    takes_a_block(&rt, alloc, &mut *upper);
 }
 
 #[test]

@@ -1,7 +1,5 @@
 -- What is decided on a request.
-use Rattle.std.proofs.Common.{◌≡◌, ◌≤◌, ◌<◌, ◌⊎◌, inl, inr, ℕ, ◌+◌, ◌-◌, arith, false, List, [], ◌∷◌, ◌++◌, length, length-append, take, drop, Option, Some, None, refl, sym, ap, ◌∙◌, subst}
-use Rattle.std.proofs.lemmas.List.{append-nil, length-take}
-use Rattle.std.proofs.lemmas.List.Sums.{sum_by-cons}
+use Rattle.std.proofs.Common.{◌≡◌, ◌≤◌, ◌<◌, ◌⊎◌, inl, inr, ℕ, ◌+◌, arith, false, List, [], length, Option, Some, None, refl, sym, ap, ◌∙◌, subst}
 use Rattle.std.specs.Prelude.{Result, Ok, Err, IfOk}
 use Rattle.std.specs.List.{list_all}
 use Rattle.std.specs.Option.{option_map, option_or}
@@ -18,7 +16,6 @@ use Rattle.stamp_types.specs.declared.reply.Reply.{Reply}
 use Rattle.stamp_types.specs.declared.rule.Rule.{Rule}
 use Rattle.stamp_types.specs.declared.standing.Standing.{Standing}
 use Rattle.stamp_types.specs.Changes.{KeyedAct}
-use Rattle.stamp_types.specs.Pieces.{piece_bytes}
 use Rattle.stamp_types.specs.Requests.{Asked}
 use Rattle.stamp_types.specs.World.{Blob, Part, World}
 use Rattle.access_rules.specs.declared.judgement.Verdict.TheVariants.{Allow, Deny}
@@ -36,17 +33,14 @@ use Rattle.range_rows.specs.declared.judged.Allowed.{Allowed}
 use Rattle.range_rows.specs.declared.target.Target.{Target}
 use Rattle.range_rows.specs.Frames.{blob_read, frame, frame_by, ranged_frame, standing_read}
 use Rattle.range_rows.specs.Replaced.{Replaced}
-use Rattle.range_rows.specs.SentContent.{AreShort, is_within, span_bytes, spans, spans_by, spans_len, with_content}
-use Rattle.list_pages.specs.ListReplies.{blob_list_reply, container_list_reply}
+use Rattle.range_rows.specs.SentContent.{AreShort, is_within, spans, spans_by, spans_len}
 use Rattle.range_rows.specs.ObjectRules.{object_refusal}
 use Rattle.range_rows.specs.RequestChanges.{change_of}
 use Rattle.range_rows.proofs.FrameLemmas.{act_by-read}
 use Rattle.stamp_model.specs.Refusals.{access_refusal}
 use Rattle.stamp_model.proofs.EffectLemmas.{on_key}
 use Rattle.stamp_model.proofs.ReplyLemmas.{unrefused}
-use Rattle.range_partition.specs.Decisions.{CanBeSent, bytes_held, decided_by, decision_of, found_refusal, framed_by, framed_of, reply_read, row_answer, row_answer_by, row_reply, row_reply_by, with_bytes_held}
-use Rattle.range_partition.specs.declared.decision.Decision.{Decision}
-use Rattle.range_partition.specs.declared.decision.Decision.TheVariants as decision
+use Rattle.range_partition.specs.Decisions.{CanBeSent, found_refusal, framed_by, row_answer}
 use Rattle.range_partition.specs.declared.framed.FramedDecision.{FramedDecision}
 use Rattle.range_partition.specs.declared.framed.FramedDecision.TheVariants as framed
 
@@ -77,29 +71,6 @@ module _ (keys : Option Keys) (p : Part (List Piece)) (q : Asked) (t : ℕ) wher
   unopposed free = (unrefused keys (sizes_found p) q t (sym free)).unopposed
 
 -- ---- the decision
-
--- a request that is decided to be refused has this refusal
-pub refused_by : (o : Option Refusal) (reply : Reply) (change : Option KeyedAct) (found : FoundBlocks) (r : Refusal) → decision.Refused r ≡ decided_by o reply change found → o ≡ Some r
-refused_by None reply change found r e = cc
-refused_by (Some x) reply change found r e = let same : x ≡ r = cc in ap Some same
-
--- nothing refuses a request that is decided to be allowed, and it has this reply, this change and these blocks
-pub allowed_with : (o : Option Refusal) (reply given : Reply) (change made : Option KeyedAct) (found blocks : FoundBlocks)
-    → decision.Allowed given made blocks ≡ decided_by o reply change found → (o ≡ None) × (given ≡ reply) × (made ≡ change) × (blocks ≡ found)
-allowed_with None reply given change made found blocks e = (refl, ap reply_told e, ap change_told e, ap found_told e)
-  where
-    reply_told : Decision → Reply
-    reply_told (decision.Allowed r c bs) = r
-    reply_told (decision.Refused r) = reply
-
-    change_told : Decision → Option KeyedAct
-    change_told (decision.Allowed r c bs) = c
-    change_told (decision.Refused r) = None
-
-    found_told : Decision → FoundBlocks
-    found_told (decision.Allowed r c bs) = bs
-    found_told (decision.Refused r) = found
-allowed_with (Some x) reply given change made found blocks e = cc
 
 -- a request that is decided to be refused before its content is read has this refusal
 pub framed_refused : (o : Option Refusal) (answer : Answer) (change : Option KeyedAct) (found : FoundBlocks) (r : Refusal) → framed.Refused r ≡ framed_by o answer change found → o ≡ Some r
@@ -146,34 +117,7 @@ module _ (w : World (List Piece)) (q : Asked) (t : ℕ) (bound : Option Key) whe
   given_allowed a target (Ok given) is same made = made ∙ allowed_decided a target is same
   given_allowed a target (Err fault) is same made = tt
 
-  -- ---- the same with content that is held in memory
-
-  with_nothing : (r : Reply) → with_content r [] ≡ r
-  with_nothing r = λ i. record r { body = append-nil r.body i }
-
-  held_by : (o : Op) (p : Part (List Piece)) → reply_read piece_bytes (row_answer_by o w p q t bound) ≡ row_reply_by o w p q t bound
-  held_by op.ListContainers p = with_nothing (container_list_reply w q bound)
-  held_by op.ListBlobs p = with_nothing (blob_list_reply (sizes_found p) q)
-  held_by o p = refl
-
-  held_if : (o : Option Refusal) (p : Part (List Piece)) (change : Option KeyedAct) (found : FoundBlocks)
-      → with_bytes_held (framed_by o (row_answer w p q t bound) change found) ≡ decided_by o (row_reply w p q t bound) change found
-  held_if None p change found = ap (λ (r : Reply). decision.Allowed r change found) (held_by q.ask.op p)
-  held_if (Some r) p change found = refl
-
-  -- the decision is what is decided on the frame, with the bytes of the content
-  pub decided_held : (keys : Option Keys) (p : Part (List Piece)) → with_bytes_held (framed_of keys w p q t bound) ≡ decision_of keys w p q t bound
-  decided_held keys p = held_if (found_refusal keys p q t) p (change_of (sizes_found p) q t) (blocks_found p q).blocks
-
 -- ---- memory
-
-shortened : (n : ℕ) (bs : List ℕ) (from : ℕ) → length (take n (drop from bs)) ≤ n
-shortened n bs from = omega (arith, length-take n (drop from bs))
-
-length-bytes_held : (ss : List Span) → length (bytes_held ss) ≤ spans_len ss
-length-bytes_held [] = omega arith
-length-bytes_held (s ∷ ss) =
-    omega (arith, length-append (span_bytes piece_bytes s) (bytes_held ss), shortened (s.to - s.from) (piece_bytes s.piece) s.from, length-bytes_held ss, sum_by-cons (λ (s : Span). s.to - s.from) s ss)
 
 ranged_body : (v : Replaced) (range : Option ByteRange) (c : Committed ℕ) → (ranged_frame v range c).body ≡ []
 ranged_body v None c = refl
@@ -215,15 +159,6 @@ fits_memory v r p d q ss is out short =
 -- an answer without content fits
 pub sent_whole : (a : Answer) → a.spans ≡ [] → CanBeSent a
 sent_whole a none = record { within = ap (list_all is_within) none; short = inl none }
-
--- the bytes of the spans fit in memory after a body that fits
-pub short_held : (body : List ℕ) (ss : List Span) (n : ℕ) → AreShort body ss → n ≡ length body → n < 18446744073709551616
-    → length (body ++ bytes_held ss) < 18446744073709551616
-short_held body ss n (inl none) counted held =
-    let same : bytes_held ss ≡ [] = ap bytes_held none in
-    subst (λ (bs : List ℕ). length (body ++ bs) < 18446744073709551616) (sym same)
-    (subst (λ (bs : List ℕ). length bs < 18446744073709551616) (sym (append-nil body)) (omega (arith, counted, held)))
-short_held body ss n (inr short) counted held = omega (arith, short, length-bytes_held ss, length-append body (bytes_held ss))
 
 -- ---- the change
 

@@ -9,14 +9,12 @@ use Rattle.stamp_types.specs.Changes.{KeyedAct}
 use Rattle.stamp_types.specs.declared.piece.Piece.{Piece}
 use Rattle.stamp_types.specs.declared.refusal.Refusal.{Refusal}
 use Rattle.stamp_types.specs.declared.reply.Reply.{Reply}
-use Rattle.stamp_types.specs.Pieces.{piece_bytes}
 use Rattle.stamp_types.specs.Requests.{Asked}
 use Rattle.stamp_types.specs.World.{Part, World}
 use Rattle.access_rules.specs.declared.keys.Keys.{Keys}
 use Rattle.block_blobs.specs.declared.found_blocks.FoundBlocks.{FoundBlocks}
 use Rattle.row_trees.specs.FoundParts.{sizes_found}
 use Rattle.range_rows.specs.declared.answer.Answer.{Answer}
-use Rattle.range_rows.specs.declared.answer.Span.{Span}
 use Rattle.range_rows.specs.FoundParts.{pieces_found_after, sizes_found_after}
 use Rattle.range_rows.specs.Frames.{frame}
 use Rattle.range_rows.specs.SentContent.{AreShort, is_within, span_bytes, spans, with_content}
@@ -25,44 +23,12 @@ use Rattle.range_rows.specs.Judgements.{blocks_found}
 use Rattle.list_pages.specs.ListReplies.{blob_list_reply, container_list_reply}
 use Rattle.stamp_model.specs.Overrides.{overrides_of}
 use Rattle.stamp_model.specs.Refusals.{refusal}
-use Rattle.range_partition.specs.declared.decision.Decision.{Decision}
-use Rattle.range_partition.specs.declared.decision.Decision.TheVariants as decision
 use Rattle.range_partition.specs.declared.framed.FramedDecision.{FramedDecision}
 use Rattle.range_partition.specs.declared.framed.FramedDecision.TheVariants as framed
-
--- the bytes of spans whose pieces are held in memory
-abbrev pub bytes_held : List Span → List ℕ
-bytes_held spans = flat_map (span_bytes piece_bytes) spans
 
 -- the refusal of a request, from the pair in force of its account and from the sizes in its container
 abbrev pub found_refusal : Option Keys → Part (List Piece) → Asked → ℕ → Option Refusal
 found_refusal keys p q t = refusal keys (sizes_found p) q t
-
--- the frame of a request's answer from its container, with the headers that the request overrides and the bytes of its spans
-abbrev pub found_reply : Part (List Piece) → Asked → ℕ → Reply
-found_reply p q t = with_content (frame (overrides_of q.ask) (sizes_found_after p q t) q) (bytes_held (spans (pieces_found_after p q t) q))
-
--- the reply to a request of the operation that nothing refuses, from all rows, its container, and the bound of a list of containers
-abbrev pub row_reply_by : Op → World (List Piece) → Part (List Piece) → Asked → ℕ → Option Key → Reply
-row_reply_by op.ListContainers w p q t bound = container_list_reply w q bound
-row_reply_by op.ListBlobs w p q t bound = blob_list_reply (sizes_found p) q
-row_reply_by _ w p q t bound = found_reply p q t
-
--- the reply to a request that nothing refuses, from all rows, its container, and the bound of a list of containers
-abbrev pub row_reply : World (List Piece) → Part (List Piece) → Asked → ℕ → Option Key → Reply
-row_reply w p q t bound = row_reply_by q.ask.op w p q t bound
-
--- a request is refused, or else these are its reply, its change and the blocks that were found for it
-abbrev pub decided_by : Option Refusal → Reply → Option KeyedAct → FoundBlocks → Decision
-decided_by (Some r) reply change found = decision.Refused r
-decided_by None reply change found = decision.Allowed reply change found
-
--- what is decided on a request, from the pair in force of its account, all rows, its container, and the bound of a list of containers
-abbrev pub decision_of : Option Keys → World (List Piece) → Part (List Piece) → Asked → ℕ → Option Key → Decision
-decision_of keys w p q t bound =
-    decided_by (found_refusal keys p q t) (row_reply w p q t bound) (change_of (sizes_found p) q t) (blocks_found p q).blocks
-
--- ---- replies whose content is not read yet
 
 -- the answer to a request from its container: the frame with the headers that the request overrides, and the spans of the content that goes
 -- out after the body of the frame
@@ -93,7 +59,8 @@ abbrev pub framed_by : Option Refusal → Answer → Option KeyedAct → FoundBl
 framed_by (Some r) answer change found = framed.Refused r
 framed_by None answer change found = framed.Allowed answer change found
 
--- what is decided on a request before its content is read, from the same as a decision
+-- what is decided on a request before its content is read, from the pair in force of its account, all rows, its container, and the bound
+-- of a list of containers
 abbrev pub framed_of : Option Keys → World (List Piece) → Part (List Piece) → Asked → ℕ → Option Key → FramedDecision
 framed_of keys w p q t bound =
     framed_by (found_refusal keys p q t) (row_answer w p q t bound) (change_of (sizes_found p) q t) (blocks_found p q).blocks
@@ -102,8 +69,3 @@ framed_of keys w p q t bound =
 abbrev pub AnswerCanBeSent : FramedDecision → Type 0
 AnswerCanBeSent (framed.Refused r) = ⊤
 AnswerCanBeSent (framed.Allowed answer change found) = CanBeSent answer
-
--- the decision whose reply has the bytes of its content, which is in memory
-abbrev pub with_bytes_held : FramedDecision → Decision
-with_bytes_held (framed.Refused r) = decision.Refused r
-with_bytes_held (framed.Allowed answer change found) = decision.Allowed (reply_read piece_bytes answer) change found

@@ -7,6 +7,5 @@ pub mod PairLemmas
 pub mod PartLemmas
 pub mod RangeLemmas
 pub mod RowLemmas
-pub mod ServeLemmas
 pub mod SplitLemmas
 pub mod StepLemmas

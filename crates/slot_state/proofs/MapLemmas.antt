@@ -1,6 +1,5 @@
 -- An entry that was taken back leaves the lists as they were.
 use Rattle.std.proofs.Common.{◌≡◌, Bool, true, false, cond, IsTrue, ◌↔◌, subst, List, [], ◌∷◌, ◌++◌, Option, Some, None, unwrap_or, refl, sym, ap, ◌∙◌}
-use Rattle.std.specs.Prelude.{Result, Ok, Err, OnErr}
 use Rattle.std.specs.Ordering.{eq_by_cmp}
 use Rattle.std.specs.Cmp.{eq_by_cmp_equiv}
 use Rattle.std.specs.Cmp.{Equal-is}
@@ -114,8 +113,3 @@ with_none h h' h'' k is none removed =
 
 pub none_left_of : (longer es : List Past) (e : Past) (b : Bool) → longer ≡ es ++ e ∷ [] → (IsTrue b ↔ (es ≡ [])) → (IsTrue b ↔ (front longer ≡ []))
 none_left_of longer es e b is left = subst (λ (xs : List Past). IsTrue b ↔ (xs ≡ [])) (front_of longer es e is) left
-
--- what follows from what an error leaves
-pub on_err : {A E : Type 0} (r : Result A E) (P Q : Type 0) → (P → Q) → OnErr r P → OnErr r Q
-on_err (Ok x) P Q f h = tt
-on_err (Err x) P Q f h = f h

@@ -3,6 +3,5 @@ pub mod NextPairs
 pub mod PairFaults
 pub mod PairLists
 pub mod Pairs
-pub mod Replays
 pub mod Slots
 pub mod Told

@@ -36,16 +36,6 @@ pub trait Histories: Sized + Drop {
         requires { history_at (held self.old) key.now ≢ [] }
         ensures { held self.new ≡ without_last (held self.old) key.now };
 
-    /// The lists of `middle` and of each key after it leave, each whole.
-    ///
-    /// `AllocError` if memory runs out. Each list is then where it was.
-    fn split_off(&mut self, middle: &Key) -> Result<Self, AllocError>
-        ensures below { OnOk result
-            (held self.new ≡ finite.retain_keys (held self.old) (is_below middle.now)) }
-        ensures from { IfOk result (λ upper.
-            held upper ≡ finite.retain_keys (held self.old) (is_from middle.now)) }
-        ensures refused { OnErr result (held self.new ≡ held self.old) };
-
     /// Two new parts that have the lists between them: those of the keys before `middle`, and those of `middle` and of each key after
     /// it. These histories stay as they are.
     ///

@@ -39,12 +39,6 @@ impl Histories for KeptHistories {
     }
 
     #[tactic(auto, using(crate::specs::Told::retained_none))]
-    fn split_off(&mut self, middle: &Key) -> Result<Self, AllocError> {
-        let upper = self.lists.split_off(middle)?;
-        Ok(Self { lists: upper })
-    }
-
-    #[tactic(auto, using(crate::specs::Told::retained_none))]
     fn halves(&self, alloc: Global, middle: &Key) -> Result<(Self, Self), AllocError> {
         let mut below = copied(alloc, &self.lists)?;
         let from = below.split_off(middle)?;

@@ -4,8 +4,6 @@
 mod account_pairs;
 mod chunk;
 mod copied;
-mod cutting;
-mod entries;
 mod event;
 mod histories;
 mod history;
@@ -16,11 +14,8 @@ mod next_pairs;
 mod pair_list;
 mod pairs_fault;
 mod proved;
-mod service;
-mod slot;
 
 pub use account_pairs::AccountPairs;
-pub use entries::keeping;
 pub use event::Event;
 pub use histories::Histories;
 pub use history::History;
@@ -32,5 +27,3 @@ pub use laws::{
 pub use pair_list::PairList;
 pub use pairs_fault::PairsFault;
 pub use proved::ProvedHistories;
-pub use service::{deciding, serving};
-pub use slot::Slot;

@@ -44,12 +44,6 @@ impl Histories for ProvedHistories {
         self.log = self.log.and(key, &Event::TakenBack);
     }
 
-    fn split_off(&mut self, middle: &Key) -> Result<Self, AllocError> {
-        let upper = self.log.and(middle, &Event::From);
-        self.log = self.log.and(middle, &Event::Below);
-        Ok(Self { log: upper })
-    }
-
     fn halves(&self, alloc: Global, middle: &Key) -> Result<(Self, Self), AllocError> {
         let below = self.log.and(middle, &Event::Below);
         let from = self.log.and(middle, &Event::From);
