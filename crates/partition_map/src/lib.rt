@@ -12,4 +12,4 @@ pub use laws::{
     a_split_slot_is_found_by_its_halves, each_key_has_one_span, keys_up_to_the_bound_have_one_slot,
     the_halves_share_the_bounds_of_their_span,
 };
-pub use spans::Spans;
+pub use spans::{MOST_SLOTS, Spans};

@@ -10,8 +10,11 @@ use stamp_values::Key;
 use std::alloc::{AllocError, Global};
 use std::marker::Model;
 
+/// How many slots there may be. Each of them has one span.
+pub const MOST_SLOTS: usize = 256;
+
 // How many split points there may be.
-const POINTS_LIMIT: usize = 255;
+const POINTS_LIMIT: usize = MOST_SLOTS - 1;
 
 /// The spans of all slots: each key lies in one span. There are 1 to 256 spans, numbered from 0 in
 /// the order of their keys.

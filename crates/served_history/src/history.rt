@@ -11,11 +11,9 @@ use crate::entry::{Call, Entry, NextRotation, NextServed, NextSplit};
 use access_rules::{Keys, Which};
 use hmac_sign::SigningKey;
 use logbook::{Gain, Offer, Opening, Pens, Plain, Play, Rule, Seen, Start, Word};
+use partition_map::MOST_SLOTS;
 use stamp_types::{Key, Text};
 use std::marker::{Brand, Model, PhantomData};
-
-/// How many slots there may be.
-pub const SLOTS: usize = 256;
 
 /// The rule of a history: each word is the number of entries of its slot.
 pub struct Counted;
@@ -138,7 +136,7 @@ impl NewHistory {
         ensures opened { result.log ≡ Opened pairs.now ∷ [] }
         ensures fresh { result.next ≡ 0 }
     {
-        let (seen, pens) = Seen::open_row::<&[Keys], First>(&pairs, Start::alone(), SLOTS);
+        let (seen, pens) = Seen::open_row::<&[Keys], First>(&pairs, Start::alone(), MOST_SLOTS);
         NewHistory { seen, pens }
     }
 
