@@ -10,10 +10,12 @@ use Rattle.stamp_types.specs.declared.act.Act.{Act}
 use Rattle.stamp_types.specs.declared.act.Act.TheVariants as acts
 use Rattle.stamp_types.specs.declared.piece.Piece.{Piece}
 use Rattle.stamp_types.proofs.ContentReadings.{changed-alike, changed-act_with}
+use Rattle.block_blobs.specs.declared.found_blocks.FoundBlocks.{FoundBlocks}
 use Rattle.row_trees.specs.Fits.{fits}
+use Rattle.row_trees.specs.ListedBlocks.{AreFoundFor}
 use Rattle.partition_stream.specs.Contents.{ArePlaced, AreStored, content_at}
 use Rattle.partition_stream.proofs.ContentLemmas.{changed_content}
-use Rattle.stored_rows.specs.Logging.{IsPutAt, with_placed}
+use Rattle.stored_rows.specs.Logging.{IsPutAt, KeepsFound, with_placed}
 use Rattle.stored_rows.specs.States.{IsKeptAs}
 
 -- an act that comes without content brings none
@@ -37,6 +39,17 @@ fits-act_with : (p : Part ℕ) (a : Act) (ps : List Piece) → fits p (act_with 
 fits-act_with p (acts.PutBlob a) ps = refl
 fits-act_with p (acts.PutBlock a) ps = refl
 fits-act_with p other ps = refl
+
+-- no content is part of a list
+act_with_found : (p : Part (List Piece)) (a : Act) (ps : List Piece) (blocks : FoundBlocks) → AreFoundFor p a blocks → AreFoundFor p (act_with a ps) blocks
+act_with_found p (acts.PutBlob a) ps blocks found = tt
+act_with_found p (acts.PutBlock a) ps blocks found = tt
+act_with_found p other ps blocks found = found
+
+-- a list takes the same blocks, wherever the content of the change is
+pub placed_found : (c : KeyedAct) (pieces : Option (List Piece)) → KeepsFound c (with_placed c pieces)
+placed_found c None p blocks found = found
+placed_found c (Some ps) p blocks found = act_with_found p c.act ps blocks found
 
 some_content : (o : Option (List Piece)) (content : List Piece) → o ≡ Some content → IsSome o
 some_content o content some = subst (λ q. IsSome q) (sym some) refl

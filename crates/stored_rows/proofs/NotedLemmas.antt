@@ -8,7 +8,9 @@ use Rattle.stamp_types.specs.Changes.{KeyedAct}
 use Rattle.stamp_types.specs.Pieces.{pieces_len}
 use Rattle.stamp_types.specs.World.{World, part_at, part_value}
 use Rattle.stamp_types.specs.declared.piece.Piece.{Piece}
+use Rattle.block_blobs.specs.declared.found_blocks.FoundBlocks.{FoundBlocks}
 use Rattle.row_trees.specs.Fits.{fits}
+use Rattle.row_trees.specs.ListedBlocks.{AreFoundFor}
 use Rattle.stream_manager.specs.Counting.{FailsSettle}
 use Rattle.stream_manager.specs.declared.faults.Settled.{Settled}
 use Rattle.stream_manager.specs.declared.faults.Settled.TheVariants as settled
@@ -17,12 +19,13 @@ use Rattle.partition_stream.specs.Changes.{Recorded}
 use Rattle.partition_stream.specs.Counting.{FailsSeals}
 use Rattle.partition_stream.specs.Meanings.{held_of}
 use Rattle.partition_stream.specs.Outcomes.{IsLogSettled}
+use Rattle.partition_stream.specs.Positions.{all_changes}
 use Rattle.partition_stream.specs.Storing.{AreKept}
 use Rattle.partition_stream.specs.Streams.{AreSealed, ThreeStreams, logged}
 use Rattle.stored_rows.specs.Counting.{FailsLogged, FailsStored, FailsTake}
 use Rattle.stored_rows.specs.Fitting.{Fits}
 use Rattle.stored_rows.specs.Loaded.{AreLoaded, AreRowsOf}
-use Rattle.stored_rows.specs.Logging.{IsPutAndLogged, KeepsLog}
+use Rattle.stored_rows.specs.Logging.{IsPutAndLogged, KeepsFound, KeepsLog}
 use Rattle.stored_rows.specs.Noting.{IfKept, IsKeptBeside, IsLoadedBeside, IsSettledBeside, ended_by, loaded_by, sealed_by, taken_by}
 use Rattle.stored_rows.specs.Ranges.{covers}
 use Rattle.stored_rows.specs.States.{IsTaken, MeansTheSame, SettlesRows, Stored}
@@ -33,6 +36,7 @@ use Rattle.stored_rows.specs.declared.sealed.Sealed.{Sealed}
 use Rattle.stored_rows.specs.declared.logging.Unlogged.{Unlogged}
 use Rattle.stored_rows.specs.declared.logging.Unlogged.TheVariants as fault
 use Rattle.stored_rows.proofs.CountLemmas.{load_fails, seal_fails, seal_grows, settle_fails, settle_grows}
+use Rattle.stored_rows.proofs.LoadLemmas.{part_of-covered}
 use Rattle.stored_rows.proofs.TakeLemmas.{clean_loaded, doubt_loaded, doubt_rows, doubt_taken, dropped_loaded, follow_fits, kept_changed, kept_loaded, loaded_same, log_keeps, means_same, no_doubt, not_loaded, same_log_doubt, same_log_keeps, still_none, sure_loaded, sure_same, taken_changed, taken_loaded}
 
 -- a change that was logged fits the rows that are loaded
@@ -40,6 +44,17 @@ pub logged_fits : (r : Result KeyedAct Unlogged) (s t : ThreeStreams) (c : Recor
     → IsPutAndLogged r s c t → (v : Option (World (List Piece))) → IfSome v (AreRowsOf range s) → IfOk r (λ d. IfSome v (λ w. IsTrue (fits (part_value pieces_len (part_at w d.key)) d.act)))
 logged_fits (Ok d) s t c range covered own h v rows = follow_fits s t c d range h covered own v rows
 logged_fits (Err e) s t c range covered own h v rows = tt
+
+-- the blocks that were found for it in the container are found in the rows that are loaded
+pub logged_found : (r : Result KeyedAct Unlogged) (s t : ThreeStreams) (c : Recorded) (range : KeyRange) (found : Option FoundBlocks) → covers range c.0.key ≡ true
+    → IfSome found (λ blocks. AreFoundFor (held_of (logged s) c.0.key) c.0.act blocks) → IsPutAndLogged r s c t → IfOk r (λ d. KeepsFound c.0 d)
+    → (v : Option (World (List Piece))) → IfSome v (AreRowsOf range s) → IfOk r (λ d. IfSome v (λ w. IfSome found (λ blocks. AreFoundFor (part_at w d.key) d.act blocks)))
+logged_found (Ok d) s t c range found covered own h keeps None rows = tt
+logged_found (Ok d) s t c range None covered own h keeps (Some w) rows = tt
+logged_found (Ok d) s t c range (Some blocks) covered own h keeps (Some w) rows =
+    let own_rows : part_at w d.key ≡ held_of (logged s) c.0.key = ap (part_at w) h.same.key ∙ rows c.0.key ∙ part_of-covered range c.0.key (all_changes s) covered in
+    keeps (part_at w d.key) blocks (subst (λ p. AreFoundFor p c.0.act blocks) (sym own_rows) own)
+logged_found (Err e) s t c range found covered own h keeps v rows = tt
 
 -- what is true of all stored rows is true of them after a take
 pub noted_loaded : (r : Result KeyedAct Unlogged) (s t : ThreeStreams) (c : Recorded) (range : KeyRange) → covers range c.0.key ≡ true → Fits (held_of (logged s) c.0.key) c.0.act

@@ -2,7 +2,10 @@
 use Rattle.std.specs.Prelude.{◌≡◌, ⊤, Option, None, Some, Result, Ok, Err, List}
 use Rattle.extent_node.specs.Copies.{Block}
 use Rattle.stamp_types.specs.Changes.{KeyedAct, change_with}
+use Rattle.stamp_types.specs.World.{Part}
 use Rattle.stamp_types.specs.declared.piece.Piece.{Piece}
+use Rattle.block_blobs.specs.declared.found_blocks.FoundBlocks.{FoundBlocks}
+use Rattle.row_trees.specs.ListedBlocks.{AreFoundFor}
 use Rattle.stream_manager.specs.Places.{KeepsPlaces}
 use Rattle.stream_manager.specs.Streams.{laid}
 use Rattle.partition_stream.specs.Changes.{Recorded}
@@ -24,6 +27,10 @@ IsPutAt es (Some content) (Some ps) = ArePlaced es content ps
 abbrev pub with_placed : KeyedAct → Option (List Piece) → KeyedAct
 with_placed c None = c
 with_placed c (Some ps) = change_with c ps
+
+-- the blocks that were found for a change are also found for the change as it is kept
+abbrev pub KeepsFound : KeyedAct → KeyedAct → Type 0
+KeepsFound c d = (p : Part (List Piece)) (blocks : FoundBlocks) → AreFoundFor p c.act blocks → AreFoundFor p d.act blocks
 
 -- the rows and the log are as they were, and the blocks of the data are at their places
 pub record KeepsLog (s t : ThreeStreams) : Type 0 where

@@ -6,7 +6,9 @@ use Rattle.stamp_types.specs.Changes.{KeyedAct}
 use Rattle.stamp_types.specs.Pieces.{held}
 use Rattle.stamp_types.specs.World.{Part, changed}
 use Rattle.stamp_types.specs.declared.piece.Piece.{Piece}
+use Rattle.block_blobs.specs.declared.found_blocks.FoundBlocks.{FoundBlocks}
 use Rattle.row_trees.specs.Fits.{fits}
+use Rattle.row_trees.specs.ListedBlocks.{AreFoundFor}
 use Rattle.stream_manager.specs.Streams.{laid}
 use Rattle.partition_stream.specs.Changes.{Recorded}
 use Rattle.partition_stream.specs.Contents.{content_at}
@@ -33,6 +35,10 @@ pieces_of s key = held_of (logged s.streams) key
 -- a container in bytes, as the streams mean it
 abbrev pub bytes_of : Stored → Key → Part (List ℕ)
 bytes_of s key = meaning (logged s.streams) key
+
+-- the blocks are those that the change takes, if it commits a list, in its container as the streams mean it
+abbrev pub AreFoundIn : Stored → KeyedAct → FoundBlocks → Type 0
+AreFoundIn s c blocks = AreFoundFor (pieces_of s c.key) c.act blocks
 
 -- the change that is in doubt, with its epoch
 abbrev pub doubt_of : Stored → Option Recorded

@@ -3,13 +3,15 @@ ghost use Rattle.std.specs.Prelude.{◌≡◌, ◌≢◌, ◌<◌, Err, IfOk, If
 ghost use Rattle.extent_seal.specs.Counting.{Grows, all_faults};
 ghost use Rattle.extent_seal.specs.declared.sealed.ReadFault.TheVariants.{Unreachable};
 ghost use Rattle.stamp_types.specs.Pieces.{pieces_len};
-ghost use Rattle.stamp_types.specs.World.{part_at, part_value};
+ghost use Rattle.stamp_types.specs.World.{changed_in, part_at, part_value, same_pieces};
 ghost use Rattle.row_trees.specs.Fits.{fits};
+ghost use Rattle.row_trees.specs.ListedBlocks.{AreFoundFor};
 ghost use Rattle.stored_rows.specs.Fitting.{AllFit};
 ghost use Rattle.stored_rows.specs.Loaded.{AreRowsOf, HaveRead, IsFollowed, changes_left, with_change};
 ghost use Rattle.stored_rows.specs.Ranges.{covers};
 
 use crate::key_range::KeyRange;
+use block_blobs::FoundBlocks;
 use extent_node::Wire;
 use extent_seal::ReadFault;
 use partition_stream::{Position, Streams};
@@ -77,13 +79,37 @@ pub(crate) fn rows_of<W: Wire>(
     Ok(rows)
 }
 
-/// Makes a change in the rows that are loaded. If they find no memory they are dropped.
-pub(crate) fn follow(alloc: Global, rows: &mut Option<Rows>, change: Change)
-    requires { IfSome rows.old (λ w. IsTrue (fits (part_value pieces_len (part_at w change.key)) change.act)) }
+// Makes a change in rows. If the blocks of its list were found in these rows before, no block is looked up.
+fn make_found(
+    alloc: Global,
+    rows: &mut Rows,
+    change: Change,
+    found: Option<FoundBlocks>,
+) -> Result<(), AllocError>
+    requires fits { IsTrue (fits (part_value pieces_len (part_at rows.old change.key)) change.act) }
+    requires found { IfSome found (λ blocks. AreFoundFor (part_at rows.old change.key) change.act blocks) }
+    ensures { OnOk result (rows.new ≡ changed_in same_pieces rows.old change) }
+{
+    match found {
+        Some(found) => rows.take_found(alloc, change, found),
+        None => rows.take(alloc, change),
+    }
+}
+
+/// Makes a change in the rows that are loaded, with the blocks that were found for it in these rows, if they were found. If the rows find no
+/// memory they are dropped.
+pub(crate) fn follow(
+    alloc: Global,
+    rows: &mut Option<Rows>,
+    change: Change,
+    found: Option<FoundBlocks>,
+)
+    requires fits { IfSome rows.old (λ w. IsTrue (fits (part_value pieces_len (part_at w change.key)) change.act)) }
+    requires found { IfSome rows.old (λ w. IfSome found (λ blocks. AreFoundFor (part_at w change.key) change.act blocks)) }
     ensures { IsFollowed rows.old change rows.new }
 {
     if let Some(loaded) = rows {
-        if loaded.take(alloc, change).is_err() {
+        if make_found(alloc, loaded, change, found).is_err() {
             *rows = None;
         }
     }
@@ -95,7 +121,7 @@ pub(crate) fn follow_doubt(alloc: Global, rows: &mut Option<Rows>, doubt: Option
     ensures { IfSome doubt (λ c. IsFollowed rows.old c rows.new) }
 {
     match doubt {
-        Some(change) => follow(alloc, rows, change),
+        Some(change) => follow(alloc, rows, change, None),
         None => *rows = None,
     }
 }

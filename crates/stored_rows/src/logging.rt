@@ -11,7 +11,7 @@ ghost use Rattle.partition_stream.specs.Streams.{HaveSameLimits, logged};
 ghost use Rattle.partition_stream.specs.Written.{written_len};
 ghost use Rattle.stored_rows.specs.Counting.{FailsLogged};
 ghost use Rattle.stored_rows.specs.Faults.{unlogged_by, unlogged_of_put};
-ghost use Rattle.stored_rows.specs.Logging.{IsPutAt, IsPutAndLogged, with_placed};
+ghost use Rattle.stored_rows.specs.Logging.{IsPutAt, IsPutAndLogged, KeepsFound, with_placed};
 
 use extent_node::Wire;
 use partition_stream::{LogFault, PutFault, Streams};
@@ -94,7 +94,7 @@ fn with_pieces(change: Change, pieces: Option<Pieces>) -> Change
 }
 
 /// Puts the content of a change and then logs the change. The change that is answered is the one as the log keeps it: its content is at
-/// places. `written` is then how many bytes its record has. After a fault `written` is as it was.
+/// places, and a list takes the same blocks. `written` is then how many bytes its record has. After a fault `written` is as it was.
 pub(crate) fn put_and_log<W: Wire>(
     streams: &mut Streams,
     change: Change,
@@ -106,6 +106,7 @@ pub(crate) fn put_and_log<W: Wire>(
     requires held { IfSome (content_of change.act) (λ ps. IsTrue (is_held ps)) }
     requires sure { (logged streams.old).doubt ≡ None }
     ensures logged { IsPutAndLogged result streams.old (change, epoch) streams.new }
+    ensures found { IfOk result (λ kept. KeepsFound change kept) }
     ensures length { IfOk result (λ kept. written.new ≡ written_len (kept, epoch)) }
     ensures unwritten { OnErr result (written.new ≡ written.old) }
     ensures counted { FailsLogged result (W.faults wire.old) (W.faults wire.new) }

@@ -3,12 +3,14 @@ ghost use Rattle.std.specs.Prelude.{◌≡◌, IfOk, IfSome, IsTrue, None, Some}
 ghost use Rattle.stamp_types.specs.Pieces.{pieces_len};
 ghost use Rattle.stamp_types.specs.World.{part_at, part_value};
 ghost use Rattle.row_trees.specs.Fits.{fits};
+ghost use Rattle.row_trees.specs.ListedBlocks.{AreFoundFor};
 ghost use Rattle.stored_rows.specs.Loaded.{IsFollowed};
 ghost use Rattle.stored_rows.specs.Noting.{IfKept, IsKeptBeside, IsLoadedBeside, IsSettledBeside, ended_by, loaded_by, taken_by};
 
 use crate::faults::{Ended, StoredFault, TakeFault};
 use crate::loading::{follow, follow_doubt};
 use crate::logging::Unlogged;
+use block_blobs::FoundBlocks;
 use extent_seal::ReadFault;
 use row_trees::Rows;
 use stamp_types::Change;
@@ -22,28 +24,38 @@ fn keep_doubt(doubt: &mut Option<Change>, kept: Change)
     drop(doubt.replace(kept));
 }
 
-/// Makes a change that was logged in the rows that are loaded, or keeps a change that is in doubt. The answer is that of the take.
+/// Makes a change that was logged in the rows that are loaded, with the blocks that were found for it, or keeps a change that is in doubt. The
+/// answer is that of the take.
 pub(crate) fn note(
     alloc: Global,
     rows: &mut Option<Rows>,
     doubt: &mut Option<Change>,
     logged: Result<Change, Unlogged>,
+    found: Option<FoundBlocks>,
 ) -> Result<(), TakeFault>
-    requires { IfOk logged (λ c. IfSome rows.old (λ w. IsTrue (fits (part_value pieces_len (part_at w c.key)) c.act))) }
+    requires fits { IfOk logged (λ c. IfSome rows.old (λ w. IsTrue (fits (part_value pieces_len (part_at w c.key)) c.act))) }
+    requires found { IfOk logged (λ c. IfSome rows.old (λ w. IfSome found (λ blocks. AreFoundFor (part_at w c.key) c.act blocks))) }
     ensures answer { result ≡ taken_by logged }
     ensures noted { IsKeptBeside logged rows.old rows.new doubt.old doubt.new }
 {
     match logged {
         Ok(kept) => {
-            follow(alloc, rows, kept);
+            follow(alloc, rows, kept, found);
             Ok(())
         }
         Err(Unlogged::Doubt(kept)) => {
+            drop(found);
             keep_doubt(doubt, kept);
             Err(TakeFault::Doubt)
         }
-        Err(Unlogged::Busy) => Err(TakeFault::Busy),
-        Err(Unlogged::NoMemory) => Err(TakeFault::NoMemory),
+        Err(Unlogged::Busy) => {
+            drop(found);
+            Err(TakeFault::Busy)
+        }
+        Err(Unlogged::NoMemory) => {
+            drop(found);
+            Err(TakeFault::NoMemory)
+        }
     }
 }
 

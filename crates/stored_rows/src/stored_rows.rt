@@ -15,6 +15,7 @@ use crate::noting::{note, note_loaded, note_settled};
 use crate::sealed::{Sealed, note_sealed};
 use crate::unloaded::Unloaded;
 use crate::waste::{Waste, bound_of, list_of, list_size, recounted, weigh};
+use block_blobs::FoundBlocks;
 use body_forms::Draft;
 use extent_node::Wire;
 use extent_seal::ReadFault;
@@ -83,7 +84,7 @@ impl StoredRows {
     ghost use Rattle.stored_rows.specs.Loaded.{AreRowsOf};
     ghost use Rattle.stored_rows.specs.declared.faults.StoredFault.TheVariants as stored_fault;
     ghost use Rattle.stored_rows.specs.Ranges.{covers};
-    ghost use Rattle.stored_rows.specs.States.{IsHalf, SettlesRows, IsTaken, MeansTheSame, bytes_of, doubt_of, pieces_of};
+    ghost use Rattle.stored_rows.specs.States.{AreFoundIn, IsHalf, SettlesRows, IsTaken, MeansTheSame, bytes_of, doubt_of, pieces_of};
 
     /// The rows of a range without a container, which are loaded. The extents of their streams, and of those that take the place of these
     /// streams later, have at most `extent_bytes` bytes if they have two or more blocks. Takes no memory.
@@ -260,6 +261,7 @@ impl StoredRows {
     fn take_change<W: Wire>(
         &mut self,
         change: Change,
+        found: Option<FoundBlocks>,
         epoch: u64,
         written: &mut u64,
         wire: &mut W,
@@ -268,23 +270,25 @@ impl StoredRows {
         requires plain { is_row change.act ≡ false }
         requires held { IfSome (content_of change.act) (λ ps. IsTrue (is_held ps)) }
         requires fits { IsTrue (fits (part_value pieces_len (pieces_of self.old change.key)) change.act) }
+        requires found { IfSome found (AreFoundIn self.old change) }
         requires sure { doubt_of self.old ≡ None }
         ensures taken { IsTaken result self.old (change, epoch) self.new }
         ensures limits { HaveSameLimits self.old.streams self.new.streams }
         ensures counted { FailsTake result (W.faults wire.old) (W.faults wire.new) }
     {
         let logged = put_and_log(&mut self.streams, change, epoch, written, wire);
-        note(self.alloc, &mut self.rows, &mut self.doubt, logged)
+        note(self.alloc, &mut self.rows, &mut self.doubt, logged, found)
     }
 
     /// Puts the content of a change into the data, logs the change with its epoch, and then makes it in the rows that are loaded. No byte is
-    /// copied.
+    /// copied. If the change commits a list, its blocks may have been found in these rows before: with `found` no block is looked up again.
     ///
     /// If the rows find no memory they are dropped, and the change is counted. Busy and NoMemory: the change is not counted. Doubt: it is
     /// not known whether it is counted until the next settle. After a fault blocks may be left in the data to which nothing refers.
     pub fn take<W: Wire>(
         &mut self,
         change: Change,
+        found: Option<FoundBlocks>,
         epoch: u64,
         wire: &mut W,
     ) -> Result<(), TakeFault>
@@ -292,6 +296,7 @@ impl StoredRows {
         requires plain { is_row change.act ≡ false }
         requires held { IfSome (content_of change.act) (λ ps. IsTrue (is_held ps)) }
         requires fits { IsTrue (fits (part_value pieces_len (pieces_of self.old change.key)) change.act) }
+        requires found { IfSome found (AreFoundIn self.old change) }
         requires sure { doubt_of self.old ≡ None }
         ensures taken { IsTaken result self.old (change, epoch) self.new }
         ensures limits { HaveSameLimits self.old.streams self.new.streams }
@@ -300,7 +305,7 @@ impl StoredRows {
         let weighed = weigh(self.alloc, &self.rows, &change);
         let list = list_of(&change);
         let mut written = bound_of(&change);
-        let taken = self.take_change(change, epoch, &mut written, wire);
+        let taken = self.take_change(change, found, epoch, &mut written, wire);
         let listed = list_size(&self.rows, &list);
         self.waste = self.waste.after(weighed, written, listed, taken);
         taken

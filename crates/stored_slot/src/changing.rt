@@ -38,7 +38,7 @@ fn take_or_take_back<H: Histories, W: Wire>(
     ensures back { OnErr result (H.held histories.new ≡ without_last (H.held histories.old) entry.now.request.ask.key) }
     ensures counted { FailsTake result (W.faults wire.old) (W.faults wire.new) }
 {
-    let taken = stored.take(change, entry.epoch, wire);
+    let taken = stored.take(change, None, entry.epoch, wire);
     if taken.is_err() {
         histories.take_back(&entry.request.ask().key);
     }

@@ -122,7 +122,7 @@ pub(crate) fn take(
     wire: &mut Script,
 ) -> Told {
     test_change(rt, stored, &change);
-    taken(stored.take(change, 7, wire))
+    taken(stored.take(change, None, 7, wire))
 }
 
 /// Unloads the rows, and takes a change.
@@ -134,7 +134,7 @@ pub(crate) fn unload_and_take(
 ) -> Told {
     test_change(rt, stored, &change);
     stored.unload();
-    taken(stored.take(change, 7, wire))
+    taken(stored.take(change, None, 7, wire))
 }
 
 fn told(answer: Result<(), StoredFault>) -> Told {

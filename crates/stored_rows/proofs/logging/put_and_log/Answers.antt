@@ -1,11 +1,11 @@
 use Rattle.std.proofs.Common.{Err, refl, sym, subst}
 use Rattle.stamp_types.specs.Changes.{content_of}
 use Rattle.stream_manager.specs.Streams.{laid}
-use Rattle.stored_rows.specs.Logging.{IsPutAndLogged}
+use Rattle.stored_rows.specs.Logging.{IsPutAndLogged, KeepsFound}
 use Rattle.stored_rows.specs.States.{IsKeptAs}
 use Rattle.stored_rows.specs.Counting.{FailsLogged}
 use Rattle.stored_rows.proofs.CountLemmas.{grows_twice, log_fails}
-use Rattle.stored_rows.proofs.KeptAsLemmas.{kept_as_put}
+use Rattle.stored_rows.proofs.KeptAsLemmas.{kept_as_put, placed_found}
 use Rattle.stored_rows.proofs.LoggingLemmas.{logged_more, logged_refused}
 use Rattle.stored_rows.proofs.logging.put_and_log.Goals as goal
 
@@ -34,6 +34,9 @@ returns-in-Err-log_change-clause-logged g c =
     (logged_refused c.args.streams.now c.put_pieces.new.streams c.log_change.new.self (c.args.change, c.args.epoch) c.with_pieces-kept.result c.requires.sure
     c.put_pieces.ensures.log c.put_pieces.ensures.rows c.put_pieces.ensures.places same c.log_change.ensures.blobs c.log_change.ensures.rows
     c.in-Err-log_change.fault c.in-Err-log_change.ensures.logged)
+
+pub returns-in-Ok-log_change-clause-found : goal.returns-in-Ok-log_change-clause-found
+returns-in-Ok-log_change-clause-found g c = subst (KeepsFound c.args.change) (sym c.with_pieces-kept.ensures) (placed_found c.args.change c.in-Ok.pieces)
 
 pub returns-in-Ok-log_change-clause-counted : goal.returns-in-Ok-log_change-clause-counted
 returns-in-Ok-log_change-clause-counted g c = grows_twice _ _ _ c.in-Ok.ensures.counted c.in-Ok-log_change.ensures.counted

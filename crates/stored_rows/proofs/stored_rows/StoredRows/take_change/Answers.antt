@@ -1,23 +1,32 @@
-use Rattle.std.proofs.Common.{◌≡◌, true, None, Result, sym, subst}
+use Rattle.std.proofs.Common.{◌≡◌, true, None, IfSome, Result, sym, subst}
 use Rattle.std.specs.Option.{is_some}
 use Rattle.partition_stream.specs.Meanings.{held_of}
 use Rattle.partition_stream.specs.Streams.{logged}
+use Rattle.row_trees.specs.ListedBlocks.{AreFoundFor}
 use Rattle.stored_rows.specs.Counting.{FailsTake}
 use Rattle.stored_rows.specs.Fitting.{Fits}
 use Rattle.stored_rows.specs.Ranges.{covers}
-use Rattle.stored_rows.specs.States.{IsTaken, Stored, doubt_of, pieces_of}
+use Rattle.stored_rows.specs.States.{AreFoundIn, IsTaken, Stored, doubt_of, pieces_of}
 use Rattle.stored_rows.specs.declared.faults.TakeFault.{TakeFault}
 use Rattle.stored_rows.proofs.LimitLemmas.{limit_kept}
-use Rattle.stored_rows.proofs.NotedLemmas.{logged_fits, noted_fails, noted_loaded, noted_taken}
+use Rattle.stored_rows.proofs.NotedLemmas.{logged_fits, logged_found, noted_fails, noted_loaded, noted_taken}
 use Rattle.stored_rows.proofs.stored_rows.StoredRows.take_change.Goals as goal
 
-pub note-requires : goal.note-requires
-note-requires g c =
+pub note-requires-clause-fits : goal.note-requires-clause-fits
+note-requires-clause-fits g c =
     let covered : covers c.self.inside.range c.args.change.key ≡ true = subst (λ (v : Stored). covers v.range c.args.change.key ≡ true) (sym c.self.view_is) c.requires.covered in
     let own : Fits (held_of (logged c.self.inside.streams) c.args.change.key) c.args.change.act =
     subst (λ (v : Stored). Fits (pieces_of v c.args.change.key) c.args.change.act) (sym c.self.view_is) c.requires.fits in
     logged_fits c.put_and_log-logged.result c.self.inside.streams c.put_and_log-logged.new.streams (c.args.change, c.args.epoch) c.self.inside.range covered own c.put_and_log-logged.ensures.logged
     c.self.inside.rows c.self.invariant.loaded.rows
+
+pub note-requires-clause-found : goal.note-requires-clause-found
+note-requires-clause-found g c =
+    let covered : covers c.self.inside.range c.args.change.key ≡ true = subst (λ (v : Stored). covers v.range c.args.change.key ≡ true) (sym c.self.view_is) c.requires.covered in
+    let own : IfSome c.args.found (λ blocks. AreFoundFor (held_of (logged c.self.inside.streams) c.args.change.key) c.args.change.act blocks) =
+    subst (λ (v : Stored). IfSome c.args.found (AreFoundIn v c.args.change)) (sym c.self.view_is) c.requires.found in
+    logged_found c.put_and_log-logged.result c.self.inside.streams c.put_and_log-logged.new.streams (c.args.change, c.args.epoch) c.self.inside.range c.args.found covered own
+    c.put_and_log-logged.ensures.logged c.put_and_log-logged.ensures.found c.self.inside.rows c.self.invariant.loaded.rows
 
 pub invariant_of-self : goal.invariant_of-self
 invariant_of-self g c =
