@@ -25,11 +25,14 @@ use Rattle.stamp_types.specs.World.{Part, World, no_part, part_at, part_value, w
 use Rattle.stamp_types.proofs.EachContents.{EachContent-no_part}
 use Rattle.stamp_types.proofs.WorldLemmas.{part_at-world_value}
 use Rattle.access_rules.specs.declared.keys.Keys.{Keys}
+use Rattle.block_blobs.specs.declared.found_blocks.FoundBlocks.{FoundBlocks}
+use Rattle.row_trees.specs.ListedBlocks.{AreFoundFor}
 use Rattle.range_rows.specs.declared.answer.Answer.{Answer}
 use Rattle.range_rows.specs.FoundParts.{pieces_found_after}
 use Rattle.range_rows.specs.Judgements.{blocks_found}
 use Rattle.range_rows.specs.RequestChanges.{change_of}
 use Rattle.range_rows.specs.SentContent.{ReadsWhole, sizes}
+use Rattle.range_rows.proofs.FoundChanges.{found_for_change}
 use Rattle.range_rows.proofs.FrameLemmas.{spans_of_write}
 use Rattle.stream_manager.specs.Streams.{laid}
 use Rattle.partition_stream.specs.Contents.{AreStored, bytes_at, content_at}
@@ -48,7 +51,7 @@ use Rattle.tickets.proofs.PartLemmas.{contents_whole}
 use Rattle.tickets.proofs.SentLemmas.{sent_after, sent_stored}
 use Rattle.stored_rows.specs.Loaded.{AreRowsOf}
 use Rattle.stored_rows.specs.Ranges.{covers, is_before_end}
-use Rattle.stored_rows.specs.States.{Stored, pieces_of}
+use Rattle.stored_rows.specs.States.{AreFoundIn, Stored, pieces_of}
 use Rattle.stored_rows.specs.declared.key_range.KeyRange.{KeyRange}
 use Rattle.slot_state.specs.HistoryMaps.{Histories}
 use Rattle.slot_state.specs.Pairs.{Pairs, current_at}
@@ -190,6 +193,13 @@ module _ (pairs : Pairs) (h : Histories) (s : Stored) (q : Asked) (t : ℕ) (w :
       by false lists =
           absurd (none_some c (sym (lists_nothing keys row_sizes q t lists) ∙ ap (λ (o : Option Refusal). unless_refused o (change_of row_sizes q t)) free ∙ change))
 
+  -- the blocks that were found for the request are those that its change takes
+  found_told : (c : KeyedAct) (blocks : FoundBlocks) → blocks ≡ (blocks_found part q).blocks → change_of row_sizes q t ≡ Some c → covers s.range q.ask.key ≡ true → AreFoundIn s c blocks
+  found_told c blocks is change own =
+      let told = found_for_change part q t c change in
+      let here : part ≡ pieces_of s c.key = rows q.ask.key ∙ ap (λ (b : Bool). cond b (pieces_of s q.ask.key) no_part) own ∙ ap (pieces_of s) (sym told.0) in
+      subst (λ (p : Part (List Piece)). AreFoundFor p c.act blocks) here (subst (λ (bs : FoundBlocks). AreFoundFor part c.act bs) (sym is) told.1)
+
   -- what goes out with the answer is stored
   spans_stored : (o : Op) → All (IsSpanStored es) (row_answer_by o w part q t s.range.to).spans
   spans_stored op.ListContainers = All-nil (IsSpanStored es)
@@ -239,7 +249,8 @@ module _ (pairs : Pairs) (h : Histories) (s : Stored) (q : Asked) (t : ℕ) (w :
       }
   decides (framed.Allowed a (Some c) found) is sent =
       let told = framed_allowed (refusal keys row_sizes q t) (row_answer w part q t s.range.to) a (change_of row_sizes q t) (Some c) (blocks_found part q).blocks found is in
-      (frame_told a c told.1.0 told.0 (sym told.1.1.0), makes_change c told.0 (sym told.1.1.0))
+      let makes = makes_change c told.0 (sym told.1.1.0) in
+      (frame_told a c told.1.0 told.0 (sym told.1.1.0), (makes, found_told c found told.1.1.1 (sym told.1.1.0) makes.covered))
 
   -- the same of a decision that was made up to the end of the range, or of none
   pub decided_if : (bound : Option Key) → bound ≡ s.range.to → (r : Result FramedDecision AllocError) → IfOk r (λ d. d ≡ framed_of keys w part q t bound) → IfOk r (λ d. AnswerCanBeSent d)

@@ -7,38 +7,48 @@ ghost use Rattle.stamp_types.specs.World.{part_value};
 ghost use Rattle.row_trees.specs.Fits.{fits};
 ghost use Rattle.stored_rows.specs.Counting.{FailsTake};
 ghost use Rattle.stored_rows.specs.Ranges.{covers};
-ghost use Rattle.stored_rows.specs.States.{IsTaken, doubt_of, pieces_of};
+ghost use Rattle.stored_rows.specs.States.{AreFoundIn, IsTaken, doubt_of, pieces_of};
 ghost use Rattle.slot_state.specs.HistoryMaps.{history_at, without_last};
 ghost use Rattle.stored_slot.specs.Changes as changes;
 ghost use Rattle.stored_slot.specs.Changes.{slot_taken};
 ghost use Rattle.stored_slot.specs.Meanings.{AreOfStreams, AreReplays, MakesChange, slot_with};
 
+use block_blobs::FoundBlocks;
 use extent_node::Wire;
 use slot_state::{AccountPairs, Histories};
 use stamp_types::{Change, Past};
 use std::alloc::Global;
 use stored_rows::{StoredRows, TakeFault};
 
+/// A change with the blocks that it takes, if it commits a list. They were found when the request was judged.
+#[derive(Drop)]
+pub(crate) struct FoundChange {
+    pub(crate) change: Change,
+    pub(crate) found: FoundBlocks,
+}
+
 // Takes the change, or takes the last entry of its container back.
 fn take_or_take_back<H: Histories, W: Wire>(
     histories: &mut H,
     stored: &mut StoredRows,
     entry: &Past,
-    change: Change,
+    made: FoundChange,
     wire: &mut W,
 ) -> Result<(), TakeFault>
     requires entry { history_at (H.held histories.old) entry.now.request.ask.key ≢ [] }
-    requires covered { covers stored.old.range change.key ≡ true }
-    requires plain { is_row change.act ≡ false }
-    requires held { IfSome (content_of change.act) (λ ps. IsTrue (is_held ps)) }
-    requires fits { IsTrue (fits (part_value pieces_len (pieces_of stored.old change.key)) change.act) }
+    requires covered { covers stored.old.range made.change.key ≡ true }
+    requires plain { is_row made.change.act ≡ false }
+    requires held { IfSome (content_of made.change.act) (λ ps. IsTrue (is_held ps)) }
+    requires fits { IsTrue (fits (part_value pieces_len (pieces_of stored.old made.change.key)) made.change.act) }
+    requires found { AreFoundIn stored.old made.change made.found }
     requires sure { doubt_of stored.old ≡ None }
-    ensures taken { IsTaken result stored.old (change, entry.now.epoch) stored.new }
+    ensures taken { IsTaken result stored.old (made.change, entry.now.epoch) stored.new }
     ensures stays { OnOk result (H.held histories.new ≡ H.held histories.old) }
     ensures back { OnErr result (H.held histories.new ≡ without_last (H.held histories.old) entry.now.request.ask.key) }
     ensures counted { FailsTake result (W.faults wire.old) (W.faults wire.new) }
 {
-    let taken = stored.take(change, None, entry.epoch, wire);
+    let FoundChange { change, found } = made;
+    let taken = stored.take(change, Some(found), entry.epoch, wire);
     if taken.is_err() {
         histories.take_back(&entry.request.ask().key);
     }
@@ -52,22 +62,23 @@ fn take_entry<H: Histories, W: Wire>(
     stored: &mut StoredRows,
     alloc: Global,
     entry: &Past,
-    change: Change,
+    made: FoundChange,
     wire: &mut W,
 ) -> Result<(), TakeFault>
-    requires covered { covers stored.old.range change.key ≡ true }
-    requires plain { is_row change.act ≡ false }
-    requires held { IfSome (content_of change.act) (λ ps. IsTrue (is_held ps)) }
-    requires fits { IsTrue (fits (part_value pieces_len (pieces_of stored.old change.key)) change.act) }
+    requires covered { covers stored.old.range made.change.key ≡ true }
+    requires plain { is_row made.change.act ≡ false }
+    requires held { IfSome (content_of made.change.act) (λ ps. IsTrue (is_held ps)) }
+    requires fits { IsTrue (fits (part_value pieces_len (pieces_of stored.old made.change.key)) made.change.act) }
+    requires found { AreFoundIn stored.old made.change made.found }
     requires sure { doubt_of stored.old ≡ None }
-    ensures taken { IsTaken result stored.old (change, entry.now.epoch) stored.new }
+    ensures taken { IsTaken result stored.old (made.change, entry.now.epoch) stored.new }
     ensures entered { H.held histories.new ≡ changes.with_taken result (H.held histories.old) entry.now }
     ensures counted { FailsTake result (W.faults wire.old) (W.faults wire.new) }
 {
     match histories.push(alloc, entry) {
-        Ok(()) => take_or_take_back(histories, stored, entry, change, wire),
+        Ok(()) => take_or_take_back(histories, stored, entry, made, wire),
         Err(_fault) => {
-            drop(change);
+            drop(made);
             Err(TakeFault::NoMemory)
         }
     }
@@ -80,19 +91,20 @@ fn take_made<H: Histories, W: Wire>(
     pairs: &AccountPairs,
     alloc: Global,
     entry: &Past,
-    change: Change,
+    made: FoundChange,
     wire: &mut W,
 ) -> Result<(), TakeFault>
     requires before { AreReplays pairs.now (H.held histories.old) stored.old }
-    requires makes { MakesChange pairs.now (H.held histories.old) stored.old entry.now change }
+    requires makes { MakesChange pairs.now (H.held histories.old) stored.old entry.now made.change }
+    requires found { AreFoundIn stored.old made.change made.found }
     requires sure { doubt_of stored.old ≡ None }
-    ensures taken { IsTaken result stored.old (change, entry.now.epoch) stored.new }
+    ensures taken { IsTaken result stored.old (made.change, entry.now.epoch) stored.new }
     ensures entered { H.held histories.new ≡ changes.with_taken result (H.held histories.old) entry.now }
     ensures counted { FailsTake result (W.faults wire.old) (W.faults wire.new) }
 {
     let _pairs = pairs;
     stored.kept();
-    take_entry(histories, stored, alloc, entry, change, wire)
+    take_entry(histories, stored, alloc, entry, made, wire)
 }
 
 // Keeps the entry, if its change is in doubt.
@@ -118,11 +130,12 @@ pub(crate) fn changing<H: Histories, W: Wire>(
     pairs: &AccountPairs,
     alloc: Global,
     entry: Past,
-    change: Change,
+    made: FoundChange,
     wire: &mut W,
 ) -> Result<(), TakeFault>
     requires before { AreReplays pairs.now (H.held histories.old) stored.old }
-    requires makes { MakesChange pairs.now (H.held histories.old) stored.old entry change }
+    requires makes { MakesChange pairs.now (H.held histories.old) stored.old entry made.change }
+    requires found { AreFoundIn stored.old made.change made.found }
     requires sure { doubt_of stored.old ≡ None }
     requires none { doubt.old ≡ None }
     ensures after { AreOfStreams pairs.now (H.held histories.new) stored.new doubt.new }
@@ -130,7 +143,7 @@ pub(crate) fn changing<H: Histories, W: Wire>(
         ≡ slot_taken result (slot_with pairs.now (H.held histories.old) stored.old None) entry }
     ensures counted { FailsTake result (W.faults wire.old) (W.faults wire.new) }
 {
-    let taken = take_made(histories, stored, pairs, alloc, &entry, change, wire);
+    let taken = take_made(histories, stored, pairs, alloc, &entry, made, wire);
     keep_doubt(doubt, &taken, entry);
     taken
 }

@@ -6,7 +6,7 @@ ghost use Rattle.policy_book.specs.Judgements.{IsOfAsk};
 ghost use Rattle.range_rows.specs.Readings.{reading_of};
 ghost use Rattle.stamp_model.specs.SeenContainers.{routed};
 ghost use Rattle.stored_rows.specs.Ranges.{covers};
-ghost use Rattle.stored_rows.specs.States.{doubt_of};
+ghost use Rattle.stored_rows.specs.States.{AreFoundIn, doubt_of};
 ghost use Rattle.slot_state.specs.Slots.{IsReplyFor, entry_of};
 ghost use Rattle.stored_slot.specs.Decided.{AllowsFor, DecidesFor};
 ghost use Rattle.stored_slot.specs.Meanings.{AreOfStreams, AreReplays, MakesChange, slot_with};
@@ -14,9 +14,10 @@ ghost use Rattle.stored_slot.specs.Served as served;
 ghost use Rattle.stored_slot.specs.Served.{Faulted, IsTakenAnswer, SlotServes, ServesBy};
 
 use crate::answering::{busy, denial, failed, reading, unknown};
-use crate::changing::changing;
+use crate::changing::{FoundChange, changing};
 use crate::deciding::deciding;
 use crate::settling::settling;
+use block_blobs::FoundBlocks;
 use extent_node::Wire;
 use policy_book::Judged;
 use range_partition::FramedDecision;
@@ -94,11 +95,12 @@ fn change_answered<H: Histories, W: Wire>(
     alloc: Global,
     ready: Ready,
     frame: Reply,
-    change: Change,
+    made: FoundChange,
     wire: &mut W,
 ) -> Answer
     requires before { AreReplays pairs.now (H.held histories.old) stored.old }
-    requires makes { MakesChange pairs.now (H.held histories.old) stored.old ready.entry change }
+    requires makes { MakesChange pairs.now (H.held histories.old) stored.old ready.entry made.change }
+    requires found { AreFoundIn stored.old made.change made.found }
     requires entry { ready.entry ≡ entry_of pairs.now ready.entry.request ready.entry.moment }
     requires reply { IsReplyFor pairs.now (H.held histories.old) ready.entry.request ready.entry.moment stored.old.range.to frame }
     requires unknown { ready.unknown ≡ served.unknown }
@@ -110,11 +112,11 @@ fn change_answered<H: Histories, W: Wire>(
     ensures grown { Grows (W.faults wire.old) (W.faults wire.new) }
 {
     let Ready { entry, unknown } = ready;
-    let taken = changing(histories, stored, doubt, pairs, alloc, entry, change, wire);
+    let taken = changing(histories, stored, doubt, pairs, alloc, entry, made, wire);
     taken_answer(alloc, taken, frame, unknown)
 }
 
-// SlotServes a request that makes this change, with this reply.
+// Serves a request that makes this change, with this reply.
 fn change_served<H: Histories, W: Wire>(
     histories: &mut H,
     stored: &mut StoredRows,
@@ -124,11 +126,12 @@ fn change_served<H: Histories, W: Wire>(
     request: &Request,
     moment: Moment,
     frame: Reply,
-    change: Change,
+    made: FoundChange,
     wire: &mut W,
 ) -> Answer
     requires before { AreReplays pairs.now (H.held histories.old) stored.old }
-    requires makes { MakesChange pairs.now (H.held histories.old) stored.old (entry_of pairs.now request.now moment) change }
+    requires makes { MakesChange pairs.now (H.held histories.old) stored.old (entry_of pairs.now request.now moment) made.change }
+    requires found { AreFoundIn stored.old made.change made.found }
     requires reply { IsReplyFor pairs.now (H.held histories.old) request.now moment stored.old.range.to frame }
     requires sure { doubt_of stored.old ≡ None }
     requires none { doubt.old ≡ None }
@@ -139,17 +142,17 @@ fn change_served<H: Histories, W: Wire>(
 {
     match make_ready(pairs, alloc, request, moment) {
         Ok(ready) => change_answered(
-            histories, stored, doubt, pairs, alloc, ready, frame, change, wire,
+            histories, stored, doubt, pairs, alloc, ready, frame, made, wire,
         ),
         Err(AllocError) => {
-            drop(change);
+            drop(made);
             drop(frame);
             Answer::NoMemory
         }
     }
 }
 
-// SlotServes a request that nothing refuses, with this answer and this change, if it makes one.
+// Serves a request that nothing refuses, with this answer, this change, if it makes one, and the blocks that the change takes.
 fn allowed_served<H: Histories, W: Wire>(
     histories: &mut H,
     stored: &mut StoredRows,
@@ -160,10 +163,11 @@ fn allowed_served<H: Histories, W: Wire>(
     moment: Moment,
     answer: Framed,
     change: Option<Change>,
+    found: FoundBlocks,
     wire: &mut W,
 ) -> Answer
     requires before { AreReplays pairs.now (H.held histories.old) stored.old }
-    requires allowed { AllowsFor pairs.now (H.held histories.old) stored.old request.now moment answer change }
+    requires allowed { AllowsFor pairs.now (H.held histories.old) stored.old request.now moment answer change found }
     requires sure { doubt_of stored.old ≡ None }
     requires none { doubt.old ≡ None }
     ensures after { AreOfStreams pairs.now (H.held histories.new) stored.new doubt.new }
@@ -172,16 +176,20 @@ fn allowed_served<H: Histories, W: Wire>(
     ensures grown { Grows (W.faults wire.old) (W.faults wire.new) }
 {
     match change {
-        None => reading(stored, alloc, answer, wire),
+        None => {
+            drop(found);
+            reading(stored, alloc, answer, wire)
+        }
         Some(change) => {
             let Framed { frame, spans } = answer;
             drop(spans);
+            let made = FoundChange { change, found };
             match frame.write(alloc) {
                 Ok(frame) => change_served(
-                    histories, stored, doubt, pairs, alloc, request, moment, frame, change, wire,
+                    histories, stored, doubt, pairs, alloc, request, moment, frame, made, wire,
                 ),
                 Err(AllocError) => {
-                    drop(change);
+                    drop(made);
                     Answer::NoMemory
                 }
             }
@@ -189,7 +197,7 @@ fn allowed_served<H: Histories, W: Wire>(
     }
 }
 
-// SlotServes a request on which this was decided.
+// Serves a request on which this was decided.
 fn decision_served<H: Histories, W: Wire>(
     histories: &mut H,
     stored: &mut StoredRows,
@@ -212,16 +220,13 @@ fn decision_served<H: Histories, W: Wire>(
 {
     match decision {
         FramedDecision::Refused(refusal) => denial(alloc, refusal),
-        FramedDecision::Allowed(answer, change, found) => {
-            drop(found);
-            allowed_served(
-                histories, stored, doubt, pairs, alloc, request, moment, answer, change, wire,
-            )
-        }
+        FramedDecision::Allowed(answer, change, found) => allowed_served(
+            histories, stored, doubt, pairs, alloc, request, moment, answer, change, found, wire,
+        ),
     }
 }
 
-// SlotServes a request on a slot without a doubt, whose rows are loaded.
+// Serves a request on a slot without a doubt, whose rows are loaded.
 fn loaded_served<H: Histories, W: Wire>(
     histories: &mut H,
     stored: &mut StoredRows,

@@ -7,7 +7,7 @@ use Rattle.stored_slot.proofs.serving.change_served.Goals as goal
 
 pub change_answered-requires-clause-makes : goal.change_answered-requires-clause-makes
 change_answered-requires-clause-makes g c =
-    subst (λ (e : Past). MakesChange c.args.pairs.now (g.H.Histories.held c.args.histories.now) c.args.stored.now e c.args.change) (sym c.in-Ok.ensures.entry) c.requires.makes
+    subst (λ (e : Past). MakesChange c.args.pairs.now (g.H.Histories.held c.args.histories.now) c.args.stored.now e c.args.made.change) (sym c.in-Ok.ensures.entry) c.requires.makes
 
 pub change_answered-requires-clause-entry : goal.change_answered-requires-clause-entry
 change_answered-requires-clause-entry g c = subst (λ (e : Past). e ≡ entry_of c.args.pairs.now e.request e.moment) (sym c.in-Ok.ensures.entry) refl
