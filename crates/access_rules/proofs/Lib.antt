@@ -8,6 +8,7 @@ pub mod OrderLemmas
 pub mod RotationLemmas
 pub mod RouteLaw
 pub mod SignatureLemmas
+pub mod SignerLemmas
 pub mod StringLemmas
 pub mod TokenLaws
 pub mod TokenLemmas

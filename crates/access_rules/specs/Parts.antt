@@ -1,6 +1,6 @@
 -- The parts of a request that the rules of the key route judge (Blob service REST reference, 2012-02-12, Authentication
 -- for the Azure Storage Services: the headers Authorization, x-ms-date and Date).
-use Rattle.std.specs.Prelude.{ℕ, ◌+◌, Bool, ◌||◌, cond, nat_lt, List, Option, Some, None, option_and_then, bytes_eq, codes}
+use Rattle.std.specs.Prelude.{ℕ, ◌+◌, Bool, true, false, ◌||◌, cond, nat_lt, List, Option, Some, None, option_and_then, bytes_eq, codes}
 use Rattle.std.specs.Option.{option_or}
 use Rattle.std.specs.Result.{result_ok}
 use Rattle.stamp_values.specs.Fields.{first_value}
@@ -13,6 +13,8 @@ use Rattle.moment_text.specs.Http.{http_moment}
 use Rattle.shared_key.specs.Authorizations.{Claim}
 use Rattle.shared_key.specs.Readings.{authorization_of}
 use Rattle.shared_key.specs.Strings.{key_string}
+use Rattle.access_rules.specs.declared.judgement.SignedBy.{SignedBy}
+use Rattle.access_rules.specs.declared.judgement.SignedBy.TheVariants as by
 use Rattle.access_rules.specs.declared.keys.Keys.{Keys}
 
 -- the claim that Authorization makes, if it was sent once and in its form
@@ -54,3 +56,19 @@ is_far moment date = nat_lt (date + leeway) moment || nat_lt (moment + leeway) d
 abbrev pub is_signed : Keys → List ℕ → List ℕ → Bool
 is_signed pair string signature =
     bytes_eq signature (signature_of pair.first string) || bytes_eq signature (signature_of pair.second string)
+
+-- the first key in both places
+abbrev pub first_alone : Keys → Keys
+first_alone pair = record { account = pair.account; first = pair.first; second = pair.first; epoch = pair.epoch }
+
+-- one of the two keys gives the signature
+abbrev pub is_by_either : SignedBy → Bool
+is_by_either by.First = true
+is_by_either by.Second = true
+is_by_either by.Neither = false
+
+-- the first key gives the signature
+abbrev pub is_by_first : SignedBy → Bool
+is_by_first by.First = true
+is_by_first by.Second = false
+is_by_first by.Neither = false

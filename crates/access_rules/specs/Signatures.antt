@@ -1,14 +1,16 @@
 -- The signature that a request brings, by itself: neither the container nor the moment matters (Blob service REST reference,
 -- 2012-02-12, Authentication for the Azure Storage Services; Delegating Access with a Shared Access Signature).
-use Rattle.std.specs.Prelude.{◌≡◌, ◌≢◌, Bool, ◌&&◌, ◌||◌, ◌⊎◌, IsSome, List, ℕ, [], ◌∷◌, Option}
+use Rattle.std.specs.Prelude.{◌≡◌, ◌≢◌, Bool, ◌&&◌, ◌||◌, ◌⊎◌, if◌then◌else◌, IsSome, List, ℕ, [], ◌∷◌, Option, option_map}
 use Rattle.stamp_values.specs.declared.signing.Credential.TheVariants.{Shared, Token}
 use Rattle.stamp_types.specs.declared.ask.Ask.{Ask}
 use Rattle.sas_token.specs.Tokens.{Sent, IsToken}
 use Rattle.sas_token.specs.declared.token.Resource.TheVariants.{Blob}
 use Rattle.hmac_sign.specs.Signature.{signature_of}
 use Rattle.shared_key.specs.Authorizations.{Claim, Authorizes}
+use Rattle.access_rules.specs.declared.judgement.SignedBy.{SignedBy}
+use Rattle.access_rules.specs.declared.judgement.SignedBy.TheVariants as by
 use Rattle.access_rules.specs.declared.keys.Keys.{Keys}
-use Rattle.access_rules.specs.Parts.{claim_of, keys_for, string_of, is_signed}
+use Rattle.access_rules.specs.Parts.{claim_of, first_alone, keys_for, string_of, is_signed}
 use Rattle.access_rules.specs.Rules.{on_key, of_token, some_passes}
 use Rattle.access_rules.specs.TokenParts.{names_resource, text_of}
 
@@ -32,6 +34,13 @@ has_true_token keys q =
 -- the signature that the request brings, by the key of an account or by a token, can be judged, and it is true
 abbrev pub has_true_signature : Option Keys → Ask → Bool
 has_true_signature keys q = has_true_claim keys q || has_true_token keys q
+
+-- which of the two keys gives the signature that the request brings: the first key, or else the second; neither key, if the signature
+-- is false or cannot be judged
+abbrev pub signed_by : Option Keys → Ask → SignedBy
+signed_by keys q =
+    if has_true_signature (option_map first_alone keys) q then by.First
+    else (if has_true_signature keys q then by.Second else by.Neither)
 
 -- Authorization was sent once and makes a claim, the pair is of the path's account, and one of its keys gives the signature
 pub record IsKeySigned (pair : Keys) (q : Ask) : Type 0 where

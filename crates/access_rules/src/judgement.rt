@@ -1,4 +1,4 @@
-//! Verdicts: a request is allowed by its route, or denied by a rule.
+//! Verdicts: a request is allowed by its route, or denied by a rule; and which key gives a signature.
 
 use stamp_types::Rule;
 
@@ -11,6 +11,15 @@ pub enum Way {
     Token,
     /// By public access, with no credential.
     Anonymous,
+}
+
+/// Which of the two keys of a pair gives a signature. If both keys give it, the first key is named.
+#[derive(Clone, Copy, Debug, PartialEq, Eq)]
+pub enum SignedBy {
+    First,
+    Second,
+    /// The signature is false.
+    Neither,
 }
 
 /// Whether a request may be served.

@@ -1,16 +1,17 @@
 //! The key route: what is judged before the signature, the signature, and the verdict after it.
-ghost use Rattle.std.specs.Prelude.{◌≡◌, ℕ, not, IfOk, IsErr, IsTrue, MatchResult, if◌then◌else◌, Option, Some, None, option_copied};
+ghost use Rattle.std.specs.Prelude.{◌≡◌, ℕ, not, IfOk, IsErr, IsTrue, MatchResult, if◌then◌else◌, Option, Some, None, option_copied, option_map};
 ghost use Rattle.stamp_values.specs.declared.acl.Acl.{Acl};
 ghost use Rattle.stamp_values.specs.declared.signing.Credential.TheVariants as credential;
 ghost use Rattle.stamp_types.specs.declared.rule.Rule.TheVariants.{K5};
 ghost use Rattle.access_rules.specs.declared.judgement.Way.TheVariants as way;
 ghost use Rattle.access_rules.specs.Parts as parts;
+ghost use Rattle.access_rules.specs.Parts.{first_alone, is_by_either, is_by_first};
 ghost use Rattle.access_rules.specs.Rules.{has_false_claim, has_false_signature, has_signature, needs_signature, rule_before_signature, some_passes, verdict_by, verdict_of};
 ghost use Rattle.access_rules.specs.Signatures.{has_true_claim};
 
-use crate::judgement::{Verdict, Way};
+use crate::judgement::{SignedBy, Verdict, Way};
 use crate::keys::Keys;
-use crate::parts::{claim_in, date_in, is_far, is_signed, keys_for};
+use crate::parts::{claim_in, date_in, is_false, is_far, key_signer, keys_for};
 use shared_key::Authorization;
 use stamp_types::{Ask, Bytes, Moment, Rule};
 use std::alloc::{AllocError, Global};
@@ -55,21 +56,25 @@ fn before_signature<'a>(
     Ok(Claimed { claim, pair })
 }
 
-/// Whether one of the two keys gives the signature that the values of Authorization claim. `None` if there is no claim, or if the
-/// stamp does not have the keys of the path's account.
+/// Which of the two keys gives the signature that the values of Authorization claim. `None` if there is no claim, or if the stamp does
+/// not have the keys of the path's account.
 ///
 /// `AllocError` if memory runs out for the string to sign or for a signature.
-pub(crate) fn is_true_claim(
+#[tactic(auto, using(crate::proofs::SignerLemmas::first_for))]
+pub(crate) fn signer_of_claim(
     alloc: Global,
     keys: Option<&Keys>,
     ask: &Ask,
     values: &[Bytes],
-) -> Result<Option<bool>, AllocError>
+) -> Result<Option<SignedBy>, AllocError>
     requires { ask.now.credential ≡ credential.Shared values.now }
     ensures true_one { IfOk result (λ it.
-        some_passes (λ is. is) it ≡ has_true_claim (option_copied keys.entry) ask.now) }
+        some_passes is_by_either it ≡ has_true_claim (option_copied keys.entry) ask.now) }
     ensures false_one { IfOk result (λ it.
-        some_passes (λ is. not is) it ≡ has_false_claim (option_copied keys.entry) ask.now) }
+        some_passes (λ by. not (is_by_either by)) it
+        ≡ has_false_claim (option_copied keys.entry) ask.now) }
+    ensures first { IfOk result (λ it. some_passes is_by_first it
+        ≡ has_true_claim (option_map first_alone (option_copied keys.entry)) ask.now) }
     ensures memory { IsErr result → IsTrue (has_signature (option_copied keys.entry) ask.now) }
 {
     let Some(claim) = claim_in(values) else {
@@ -78,8 +83,8 @@ pub(crate) fn is_true_claim(
     let Some(pair) = keys_for(keys, &ask.key.account) else {
         return Ok(None);
     };
-    let signed = is_signed(alloc, pair, ask, claim.signature)?;
-    Ok(Some(signed))
+    let by = key_signer(alloc, pair, ask, claim.signature)?;
+    Ok(Some(by))
 }
 
 // The verdict after the signature was judged.
@@ -112,8 +117,8 @@ pub(crate) fn by_key(
         Ok(left) => left,
         Err(rule) => return Ok(Verdict::Deny(rule)),
     };
-    let signed = is_signed(alloc, left.pair, ask, left.claim.signature)?;
-    Ok(after_signature(!signed))
+    let by = key_signer(alloc, left.pair, ask, left.claim.signature)?;
+    Ok(after_signature(is_false(by)))
 }
 
 /// The verdict on a request that asks by a key, if it is known whether its signature is false.

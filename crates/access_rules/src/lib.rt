@@ -18,7 +18,7 @@ mod token_parts;
 mod token_route;
 
 pub use judge::{verdict, verdict_judged, verdict_vouched};
-pub use judgement::{Verdict, Way};
+pub use judgement::{SignedBy, Verdict, Way};
 pub use keys::Keys;
 pub use laws::{
     a_container_that_does_not_exist_is_as_closed, each_level_opens_what_it_names,
@@ -30,6 +30,7 @@ pub use rotation::{KeysFault, Which};
 pub use rotation_laws::each_pair_has_its_place_as_epoch;
 pub use signatures::{
     a_true_signature_is_the_routes_own, has_false_signature, has_true_signature, is_true_signature,
+    signature_by,
 };
 pub use string_laws::a_token_signs_what_no_key_signs;
 pub use token_laws::{

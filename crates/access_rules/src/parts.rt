@@ -1,8 +1,9 @@
 //! The parts of a request that the rules of the key route judge.
-ghost use Rattle.std.specs.Prelude.{◌≡◌, IfOk, option_copied, option_map, bytes_eq};
+ghost use Rattle.std.specs.Prelude.{◌≡◌, not, IfOk, option_copied, option_map, bytes_eq};
 ghost use Rattle.hmac_sign.specs.Signature.{signature_of};
-ghost use Rattle.access_rules.specs.Parts.{claim_in, keys_for, date_text, date_in, string_of, is_far, is_signed};
+ghost use Rattle.access_rules.specs.Parts.{claim_in, first_alone, keys_for, date_text, date_in, string_of, is_by_either, is_by_first, is_far, is_signed};
 
+use crate::judgement::SignedBy;
 use crate::keys::Keys;
 use hmac_sign::SigningKey;
 use moment_text::read_http;
@@ -87,31 +88,49 @@ fn gives(
     Ok(same_bytes(signature, text.as_bytes()))
 }
 
-/// Whether one of the two keys gives this signature for the string.
-pub(crate) fn signs(
+/// Which of the two keys gives this signature for the string.
+pub(crate) fn signer(
     alloc: Global,
     keys: &Keys,
     string: &[u8],
     signature: &[u8],
-) -> Result<bool, AllocError>
-    ensures { IfOk result (λ signed. signed ≡ is_signed keys.now string.now signature.now) }
+) -> Result<SignedBy, AllocError>
+    ensures either { IfOk result (λ by.
+        is_by_either by ≡ is_signed keys.now string.now signature.now) }
+    ensures first { IfOk result (λ by.
+        is_by_first by ≡ is_signed (first_alone keys.now) string.now signature.now) }
 {
     if gives(alloc, &keys.first, string, signature)? {
-        return Ok(true);
+        return Ok(SignedBy::First);
     }
-    gives(alloc, &keys.second, string, signature)
+    if gives(alloc, &keys.second, string, signature)? {
+        return Ok(SignedBy::Second);
+    }
+    Ok(SignedBy::Neither)
 }
 
-/// Whether one of the two keys gives this signature for the string to sign of the request.
-pub(crate) fn is_signed(
+/// Which of the two keys gives this signature for the string to sign of the request.
+pub(crate) fn key_signer(
     alloc: Global,
     keys: &Keys,
     ask: &Ask,
     signature: &[u8],
-) -> Result<bool, AllocError>
-    ensures { IfOk result (λ signed.
-        signed ≡ is_signed keys.now (string_of ask.now) signature.now) }
+) -> Result<SignedBy, AllocError>
+    ensures either { IfOk result (λ by.
+        is_by_either by ≡ is_signed keys.now (string_of ask.now) signature.now) }
+    ensures first { IfOk result (λ by.
+        is_by_first by ≡ is_signed (first_alone keys.now) (string_of ask.now) signature.now) }
 {
     let string = key_string(alloc, &ask.signing, ask.key.account.as_str().as_bytes())?;
-    signs(alloc, keys, &string, signature)
+    signer(alloc, keys, &string, signature)
+}
+
+/// Whether neither of the two keys gives the signature.
+pub(crate) fn is_false(by: SignedBy) -> bool
+    ensures { result ≡ not (is_by_either by) }
+{
+    match by {
+        SignedBy::First | SignedBy::Second => false,
+        SignedBy::Neither => true,
+    }
 }

@@ -1,22 +1,52 @@
 //! The signature that a request brings, judged by itself.
-ghost use Rattle.std.specs.Prelude.{◌≡◌, ◌↔◌, not, IfOk, IsErr, IsTrue, Some, option_copied};
+ghost use Rattle.std.specs.Prelude.{◌≡◌, ◌↔◌, not, IfOk, IsErr, IsTrue, Some, option_copied, unwrap_or};
 ghost use Rattle.stamp_types.specs.declared.ask.Ask.{Ask};
+ghost use Rattle.access_rules.specs.declared.judgement.SignedBy.TheVariants.{Neither};
 ghost use Rattle.access_rules.specs.declared.keys.Keys.{Keys};
+ghost use Rattle.access_rules.specs.Parts.{is_by_either};
 ghost use Rattle.access_rules.specs.Rules.{has_false_signature, has_signature, some_passes};
-ghost use Rattle.access_rules.specs.Signatures.{has_true_signature, IsSigned};
+ghost use Rattle.access_rules.specs.Signatures.{has_true_signature, signed_by, IsSigned};
 
-use crate::key_route::is_true_claim;
+use crate::judgement::SignedBy;
+use crate::key_route::signer_of_claim;
 use crate::keys::Keys;
-use crate::token_route::is_true_token;
+use crate::token_route::signer_of_token;
 use stamp_types::{Ask, Credential, Request};
 use std::alloc::{AllocError, Global};
 
-/// Whether the signature that the request brings, by the key of an account or by a token, is true under these keys. `None` if there
-/// is no signature to judge: the request brings none, the claim or the token is not in its form, `keys` are not the keys of the
-/// path's account, or a token is not for what the request names.
+/// Which of the two keys gives the signature that the request brings, by the key of an account or by a token. `None` if there is no
+/// signature to judge: the request brings none, the claim or the token is not in its form, `keys` are not the keys of the path's
+/// account, or a token is not for what the request names.
 ///
 /// Keys and what is asked alone decide: the answer is the same for any body and any container and at any moment, so it can be asked
-/// for once the head is read, and before a lock is taken. It says at once what `has_true_signature` and `has_false_signature` say.
+/// for once the head is read, and before a lock is taken.
+///
+/// `AllocError` if memory runs out for the string to sign or for a signature.
+#[tactic(auto, using(crate::proofs::SignerLemmas::named_signer))]
+pub fn signature_by(
+    alloc: Global,
+    keys: Option<&Keys>,
+    ask: &Ask,
+) -> Result<Option<SignedBy>, AllocError>
+    ensures true_one { IfOk result (λ it.
+        some_passes is_by_either it ≡ has_true_signature (option_copied keys.entry) ask.now) }
+    ensures false_one { IfOk result (λ it. some_passes (λ by. not (is_by_either by)) it
+        ≡ has_false_signature (option_copied keys.entry) ask.now) }
+    ensures named { IfOk result (λ it.
+        unwrap_or it Neither ≡ signed_by (option_copied keys.entry) ask.now) }
+    ensures memory { IsErr result → IsTrue (has_signature (option_copied keys.entry) ask.now) }
+{
+    match &ask.credential {
+        Credential::Shared(values) => signer_of_claim(alloc, keys, ask, values.as_slice()),
+        Credential::Token => signer_of_token(alloc, keys, ask),
+        Credential::Anonymous => Ok(None),
+    }
+}
+
+/// Whether the signature that the request brings, by the key of an account or by a token, is true under these keys. `None` if there
+/// is no signature to judge, as `signature_by` says.
+///
+/// Keys and what is asked alone decide. It says at once what `has_true_signature` and `has_false_signature` say.
 ///
 /// `AllocError` if memory runs out for the string to sign or for a signature.
 pub fn is_true_signature(
@@ -30,10 +60,10 @@ pub fn is_true_signature(
         some_passes (λ is. not is) it ≡ has_false_signature (option_copied keys.entry) ask.now) }
     ensures memory { IsErr result → IsTrue (has_signature (option_copied keys.entry) ask.now) }
 {
-    match &ask.credential {
-        Credential::Shared(values) => is_true_claim(alloc, keys, ask, values.as_slice()),
-        Credential::Token => is_true_token(alloc, keys, ask),
-        Credential::Anonymous => Ok(None),
+    match signature_by(alloc, keys, ask)? {
+        Some(SignedBy::First | SignedBy::Second) => Ok(Some(true)),
+        Some(SignedBy::Neither) => Ok(Some(false)),
+        None => Ok(None),
     }
 }
 

@@ -1,11 +1,12 @@
 //! The parts of a request that the rules of the signature route judge.
 ghost use Rattle.std.specs.Prelude.{◌≡◌, IfOk, IsTrue};
-ghost use Rattle.access_rules.specs.Parts.{is_signed};
+ghost use Rattle.access_rules.specs.Parts.{first_alone, is_by_either, is_by_first, is_signed};
 ghost use Rattle.access_rules.specs.TokenParts as parts;
 
+use crate::judgement::SignedBy;
 use crate::keys::Keys;
 use crate::needs::Letter;
-use crate::parts::signs;
+use crate::parts::signer;
 use sas_token::{Resource, Token, read_token, token_string};
 use stamp_types::{Ask, Letters, Text};
 use std::alloc::{AllocError, Global};
@@ -37,20 +38,22 @@ pub(crate) fn names_resource(ask: &Ask, resource: Resource) -> bool
     }
 }
 
-/// Whether one of the two keys gives the signature of a token, which is for what the request names.
+/// Which of the two keys gives the signature of a token, which is for what the request names.
 #[tactic(auto, using(crate::proofs::TokenLemmas::container_named, crate::proofs::TokenLemmas::blob_named))]
-pub(crate) fn is_token_signed(
+pub(crate) fn token_signer(
     alloc: Global,
     keys: &Keys,
     ask: &Ask,
     token: &Token<'_>,
-) -> Result<bool, AllocError>
+) -> Result<SignedBy, AllocError>
     requires { IsTrue (parts.names_resource ask.now token.now.resource) }
-    ensures { IfOk result (λ signed.
-        signed ≡ is_signed keys.now (parts.text_of ask.now token.now) token.now.signature) }
+    ensures either { IfOk result (λ by. is_by_either by
+        ≡ is_signed keys.now (parts.text_of ask.now token.now) token.now.signature) }
+    ensures first { IfOk result (λ by. is_by_first by
+        ≡ is_signed (first_alone keys.now) (parts.text_of ask.now token.now) token.now.signature) }
 {
     let string = token_string(alloc, token, &ask.key, ask.blob.as_ref())?;
-    signs(alloc, keys, &string, token.signature)
+    signer(alloc, keys, &string, token.signature)
 }
 
 /// Whether the permissions have the letter.

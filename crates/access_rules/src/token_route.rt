@@ -1,21 +1,21 @@
 //! The signature route: what is judged before the signature, the signature, and the rules after it.
-ghost use Rattle.std.specs.Prelude.{◌≡◌, ℕ, false, true, not, IfErr, IfOk, IsErr, IsTrue, if◌then◌else◌, Option, Some, option_copied};
+ghost use Rattle.std.specs.Prelude.{◌≡◌, ℕ, false, true, not, IfErr, IfOk, IsErr, IsTrue, if◌then◌else◌, Option, Some, option_copied, option_map};
 ghost use Rattle.stamp_values.specs.declared.acl.Acl.{Acl};
 ghost use Rattle.stamp_values.specs.declared.signing.Credential.TheVariants as credential;
 ghost use Rattle.stamp_types.specs.declared.rule.Rule.TheVariants.{S4};
 ghost use Rattle.access_rules.specs.declared.judgement.Way.TheVariants as way;
 ghost use Rattle.access_rules.specs.Needs.{need_of};
-ghost use Rattle.access_rules.specs.Parts.{keys_for};
+ghost use Rattle.access_rules.specs.Parts.{first_alone, is_by_either, is_by_first, keys_for};
 ghost use Rattle.access_rules.specs.Rules.{has_false_signature, has_false_token, has_signature, needs_signature, some_passes, verdict_by, verdict_of};
 ghost use Rattle.access_rules.specs.Signatures.{has_true_token};
 ghost use Rattle.access_rules.specs.TokenParts as parts;
 ghost use Rattle.access_rules.specs.TokenRoute as route;
 
-use crate::judgement::{Verdict, Way};
+use crate::judgement::{SignedBy, Verdict, Way};
 use crate::keys::Keys;
 use crate::needs::need_of;
-use crate::parts::keys_for;
-use crate::token_parts::{allows, is_token_signed, names_resource, token_in};
+use crate::parts::{is_false, keys_for};
+use crate::token_parts::{allows, names_resource, token_in, token_signer};
 use container_acl::{FieldFault, Fields, fields_with};
 use sas_token::Token;
 use stamp_types::{Acl, Ask, Moment, Rule};
@@ -91,7 +91,8 @@ fn before_signature<'a>(keys: Option<&'a Keys>, ask: &'a Ask) -> Result<Brought<
         ≡ Some rule) }
     ensures unsigned { IsErr result
         → (has_true_token (option_copied keys.entry) ask.now ≡ false)
-        × (has_false_token (option_copied keys.entry) ask.now ≡ false) }
+        × (has_false_token (option_copied keys.entry) ask.now ≡ false)
+        × (has_true_token (option_map first_alone (option_copied keys.entry)) ask.now ≡ false) }
 {
     let Some(token) = token_in(ask) else {
         return Err(Rule::S1);
@@ -105,26 +106,30 @@ fn before_signature<'a>(keys: Option<&'a Keys>, ask: &'a Ask) -> Result<Brought<
     Ok(Brought { token, pair })
 }
 
-/// Whether one of the two keys gives the signature of the request's token. `None` if one of the rules S1 to S3 holds.
+/// Which of the two keys gives the signature of the request's token. `None` if one of the rules S1 to S3 holds.
 ///
 /// `AllocError` if memory runs out for the string to sign or for a signature.
-pub(crate) fn is_true_token(
+#[tactic(auto, using(crate::proofs::SignerLemmas::first_for))]
+pub(crate) fn signer_of_token(
     alloc: Global,
     keys: Option<&Keys>,
     ask: &Ask,
-) -> Result<Option<bool>, AllocError>
+) -> Result<Option<SignedBy>, AllocError>
     requires { ask.now.credential ≡ credential.Token }
     ensures true_one { IfOk result (λ it.
-        some_passes (λ is. is) it ≡ has_true_token (option_copied keys.entry) ask.now) }
+        some_passes is_by_either it ≡ has_true_token (option_copied keys.entry) ask.now) }
     ensures false_one { IfOk result (λ it.
-        some_passes (λ is. not is) it ≡ has_false_token (option_copied keys.entry) ask.now) }
+        some_passes (λ by. not (is_by_either by)) it
+        ≡ has_false_token (option_copied keys.entry) ask.now) }
+    ensures first { IfOk result (λ it. some_passes is_by_first it
+        ≡ has_true_token (option_map first_alone (option_copied keys.entry)) ask.now) }
     ensures memory { IsErr result → IsTrue (has_signature (option_copied keys.entry) ask.now) }
 {
     let Ok(left) = before_signature(keys, ask) else {
         return Ok(None);
     };
-    let signed = is_token_signed(alloc, left.pair, ask, &left.token)?;
-    Ok(Some(signed))
+    let by = token_signer(alloc, left.pair, ask, &left.token)?;
+    Ok(Some(by))
 }
 
 // The first rule from S4 on that holds, if it is known whether the signature is false.
@@ -161,8 +166,8 @@ fn rule_by_token(
         Ok(left) => left,
         Err(rule) => return Ok(Some(rule)),
     };
-    let signed = is_token_signed(alloc, left.pair, ask, &left.token)?;
-    Ok(rule_from_signature(acl, ask, &left.token, now, !signed))
+    let by = token_signer(alloc, left.pair, ask, &left.token)?;
+    Ok(rule_from_signature(acl, ask, &left.token, now, is_false(by)))
 }
 
 // The same, if it is known whether the signature is false.

@@ -7,6 +7,7 @@ use Rattle.stamp_types.specs.declared.ask.Ask.{Ask}
 use Rattle.moment_text.specs.Civil.{time_at}
 use Rattle.moment_text.specs.Iso.{iso_text, to_fraction}
 use Rattle.sas_token.specs.Tokens.{Sent}
+use Rattle.access_rules.specs.Parts.{first_alone}
 use Rattle.access_rules.specs.Signatures.{has_true_signature}
 use Rattle.access_rules.specs.TokenParts.{token_in}
 use Rattle.access_rules.specs.declared.judgement.Way.{Way}
@@ -62,10 +63,6 @@ abbrev pub id_of : Option Sent → List ℕ
 id_of None = []
 id_of (Some token) = token.id
 
--- the first key in both places
-abbrev pub first_alone : Keys → Keys
-first_alone pair = record { account = pair.account; first = pair.first; second = pair.first; epoch = pair.epoch }
-
 -- which of the two keys gives the signature that the request brings: the first key, or else the second; without keys it is 0
 abbrev pub key_number : Option Keys → Ask → ℕ
 key_number None q = 0
@@ -99,15 +96,11 @@ path_text q = (codes "/" ++ escaped q.key.account) ++ (codes "/" ++ escaped q.ke
 unfoldable pub field : List ℕ → List ℕ
 field word = word ++ codes " "
 
--- the line of a request that was allowed at a moment, by a way, under keys, and after so many changes of its container
-abbrev pub line_with : ℕ → Way → Option Keys → Ask → ℕ → List ℕ
-line_with t way keys q place =
-    field (iso_text (to_fraction 7) (time_at t)) ++ field (way_word way) ++ field (by_text way keys q) ++ field (op_word q.op)
-    ++ field (path_text q) ++ decimal place ++ codes "\n"
-
 -- the line of an entry: moment, way, key or policy, operation, path, and place
 abbrev pub line_of : AuditEntry → List ℕ
-line_of e = line_with e.moment e.way e.revision.keys e.request.ask e.place
+line_of e =
+    field (iso_text (to_fraction 7) (time_at e.moment)) ++ field (way_word e.way) ++ field (by_text e.way e.revision.keys e.request.ask)
+    ++ field (op_word e.request.ask.op) ++ field (path_text e.request.ask) ++ decimal e.place ++ codes "\n"
 
 -- the book has this entry at this index
 abbrev pub IsAt : Shelved → ℕ → AuditEntry → Type 0

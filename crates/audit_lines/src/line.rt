@@ -1,19 +1,18 @@
 //! Lines of entries.
-ghost use Rattle.std.specs.Prelude.{◌≡◌, ◌++◌, IfOk, OnOk, codes, decimal};
-ghost use Rattle.std.specs.Option.{option_copied};
+ghost use Rattle.std.specs.Prelude.{◌≡◌, ◌++◌, OnOk, codes, decimal};
 ghost use Rattle.access_rules.specs.TokenParts.{token_in};
 ghost use Rattle.audit_lines.specs.Lines as lines;
-ghost use Rattle.audit_lines.specs.Lines.{field, id_of, line_of, line_with};
+ghost use Rattle.audit_lines.specs.Lines.{field, id_of, line_of};
 ghost use Rattle.moment_text.specs.Civil.{time_at};
 ghost use Rattle.moment_text.specs.Iso.{iso_text, to_fraction};
 
 use crate::escaped::append_escaped;
-use access_rules::{Keys, Way, has_true_signature};
+use access_rules::{SignedBy, Way};
 use itoa::Buffer;
 use moment_text::write_iso;
 use policy_book::Entry;
 use sas_token::read_token;
-use stamp_types::{Ask, Moment, Op, Request, Text};
+use stamp_types::{Ask, Op, Text};
 use std::alloc::{AllocError, Global};
 
 // The word for a way.
@@ -71,48 +70,26 @@ fn append_number(out: &mut Vec<u8>, number: u64) -> Result<(), AllocError>
     out.extend_from_slice(digits.format(number).as_bytes())
 }
 
-// The first key of the pair in both places.
-fn first_alone(pair: &Keys) -> Result<Keys, AllocError>
-    ensures { IfOk result (λ keys. keys ≡ lines.first_alone pair.now) }
+// Which of the two keys gives the signature that the request of the entry brings. 0 if there are no keys.
+#[tactic(auto, using(crate::proofs::LineLemmas::first_number, crate::proofs::LineLemmas::other_number))]
+fn key_number(entry: &Entry) -> u64
+    ensures { result ≡ lines.key_number entry.now.revision.keys entry.now.request.ask }
 {
-    let account = pair.account.clone()?;
-    let first = pair.first.clone()?;
-    let second = pair.first.clone()?;
-    Ok(Keys {
-        account,
-        first,
-        second,
-        epoch: pair.epoch,
-    })
-}
-
-// Which of the two keys gives the signature that the request brings. 0 if there are no keys.
-fn key_number(alloc: Global, keys: Option<&Keys>, request: &Request) -> Result<u64, AllocError>
-    ensures { IfOk result (λ number. number ≡ lines.key_number (option_copied keys.entry) request.now.ask) }
-{
-    let Some(pair) = keys else {
-        return Ok(0);
-    };
-    let first = first_alone(pair)?;
-    if has_true_signature(alloc, Some(&first), request)? {
-        Ok(1)
-    } else {
-        Ok(2)
+    match entry.revision().keys() {
+        None => 0,
+        Some(_pair) => match entry.by() {
+            SignedBy::First => 1,
+            SignedBy::Second | SignedBy::Neither => 2,
+        },
     }
 }
 
 // Appends the key that gives the signature.
-fn append_key(
-    alloc: Global,
-    out: &mut Vec<u8>,
-    keys: Option<&Keys>,
-    request: &Request,
-) -> Result<(), AllocError>
-    ensures { OnOk result (out.new.items ≡ out.old.items ++ lines.key_text (option_copied keys.entry) request.now.ask) }
+fn append_key(out: &mut Vec<u8>, entry: &Entry) -> Result<(), AllocError>
+    ensures { OnOk result (out.new.items ≡ out.old.items ++ lines.key_text entry.now.revision.keys entry.now.request.ask) }
 {
-    let number = key_number(alloc, keys, request)?;
     out.extend_from_slice(b"key")?;
-    append_number(out, number)
+    append_number(out, key_number(entry))
 }
 
 // The id of the stored policy that the token of the request names.
@@ -126,17 +103,12 @@ fn policy_id(ask: &Ask) -> &[u8]
 }
 
 // Appends the stored policy, or the key if the token names no policy.
-fn append_policy(
-    alloc: Global,
-    out: &mut Vec<u8>,
-    id: &[u8],
-    keys: Option<&Keys>,
-    request: &Request,
-) -> Result<(), AllocError>
-    ensures { OnOk result (out.new.items ≡ out.old.items ++ lines.policy_text id.now (option_copied keys.entry) request.now.ask) }
+fn append_policy(out: &mut Vec<u8>, id: &[u8], entry: &Entry) -> Result<(), AllocError>
+    ensures { OnOk result (out.new.items
+        ≡ out.old.items ++ lines.policy_text id.now entry.now.revision.keys entry.now.request.ask) }
 {
     match id {
-        [] => append_key(alloc, out, keys, request),
+        [] => append_key(out, entry),
         [_, ..] => {
             out.extend_from_slice(b"policy=")?;
             append_escaped(out, id)
@@ -144,19 +116,14 @@ fn append_policy(
     }
 }
 
-// Appends what the way allows the request by.
-fn append_by(
-    alloc: Global,
-    out: &mut Vec<u8>,
-    way: Way,
-    keys: Option<&Keys>,
-    request: &Request,
-) -> Result<(), AllocError>
-    ensures { OnOk result (out.new.items ≡ out.old.items ++ lines.by_text way (option_copied keys.entry) request.now.ask) }
+// Appends what the way of the entry allows the request by.
+fn append_by(out: &mut Vec<u8>, entry: &Entry) -> Result<(), AllocError>
+    ensures { OnOk result (out.new.items
+        ≡ out.old.items ++ lines.by_text entry.now.way entry.now.revision.keys entry.now.request.ask) }
 {
-    match way {
-        Way::Shared => append_key(alloc, out, keys, request),
-        Way::Token => append_policy(alloc, out, policy_id(request.ask()), keys, request),
+    match entry.way() {
+        Way::Shared => append_key(out, entry),
+        Way::Token => append_policy(out, policy_id(entry.request().ask()), entry),
         Way::Anonymous => out.extend_from_slice(b"-"),
     }
 }
@@ -188,34 +155,23 @@ fn append_path(out: &mut Vec<u8>, ask: &Ask) -> Result<(), AllocError>
     append_blob(out, &ask.blob)
 }
 
-// Appends the moment and the way.
-fn append_moment_and_way(
-    alloc: Global,
-    out: &mut Vec<u8>,
-    moment: Moment,
-    way: Way,
-) -> Result<(), AllocError>
-    ensures { OnOk result (out.new.items
-        ≡ out.old.items ++ field (iso_text (to_fraction 7) (time_at moment)) ++ field (lines.way_word way)) }
+// Appends the moment and the way of the entry.
+fn append_moment_and_way(alloc: Global, out: &mut Vec<u8>, entry: &Entry) -> Result<(), AllocError>
+    ensures { OnOk result (out.new.items ≡ out.old.items
+        ++ field (iso_text (to_fraction 7) (time_at entry.now.moment)) ++ field (lines.way_word entry.now.way)) }
 {
-    let text = write_iso(alloc, moment)?;
+    let text = write_iso(alloc, entry.moment())?;
     append_field(out, text.as_str().as_bytes())?;
-    append_field(out, way_word(way).as_bytes())
+    append_field(out, way_word(entry.way()).as_bytes())
 }
 
 // Appends the key or the policy, and a space.
 #[tactic(auto, unfolding(crate::specs::Lines::field))]
-fn append_by_field(
-    alloc: Global,
-    out: &mut Vec<u8>,
-    way: Way,
-    keys: Option<&Keys>,
-    request: &Request,
-) -> Result<(), AllocError>
+fn append_by_field(out: &mut Vec<u8>, entry: &Entry) -> Result<(), AllocError>
     ensures { OnOk result (out.new.items
-        ≡ out.old.items ++ field (lines.by_text way (option_copied keys.entry) request.now.ask)) }
+        ≡ out.old.items ++ field (lines.by_text entry.now.way entry.now.revision.keys entry.now.request.ask)) }
 {
-    append_by(alloc, out, way, keys, request)?;
+    append_by(out, entry)?;
     out.extend_from_slice(b" ")
 }
 
@@ -228,50 +184,27 @@ fn append_path_field(out: &mut Vec<u8>, ask: &Ask) -> Result<(), AllocError>
     out.extend_from_slice(b" ")
 }
 
-// Appends what the request is, and its place.
-fn append_request(out: &mut Vec<u8>, ask: &Ask, place: u64) -> Result<(), AllocError>
-    ensures { OnOk result (out.new.items
-        ≡ out.old.items ++ field (lines.op_word ask.now.op) ++ field (lines.path_text ask.now) ++ decimal place ++ codes "\n") }
+// Appends what the request of the entry is, and its place.
+fn append_request(out: &mut Vec<u8>, entry: &Entry) -> Result<(), AllocError>
+    ensures { OnOk result (out.new.items ≡ out.old.items ++ field (lines.op_word entry.now.request.ask.op)
+        ++ field (lines.path_text entry.now.request.ask) ++ decimal entry.now.place ++ codes "\n") }
 {
+    let ask = entry.request().ask();
     append_field(out, op_word(ask.op).as_bytes())?;
     append_path_field(out, ask)?;
-    append_number(out, place)?;
+    append_number(out, entry.place())?;
     out.extend_from_slice(b"\n")
 }
 
-// Appends the line of a request that was allowed.
-fn append_parts(
-    alloc: Global,
-    out: &mut Vec<u8>,
-    moment: Moment,
-    way: Way,
-    keys: Option<&Keys>,
-    request: &Request,
-    place: u64,
-) -> Result<(), AllocError>
-    ensures { OnOk result (out.new.items
-        ≡ out.old.items ++ line_with moment way (option_copied keys.entry) request.now.ask place) }
-{
-    append_moment_and_way(alloc, out, moment, way)?;
-    append_by_field(alloc, out, way, keys, request)?;
-    append_request(out, request.ask(), place)?;
-    Ok(())
-}
-
 /// Appends the line of an entry: its moment, its way, the key or the stored policy that allowed it, the operation, the path, and the place,
-/// with a space between each two, and a line feed at the end.
+/// with a space between each two, and a line feed at the end. No signature is made: the entry keeps which key gives it.
 ///
-/// The key is worked out here, by one signature or two. `AllocError` if memory runs out. Then some of the line may have been appended.
+/// `AllocError` if memory runs out. Then some of the line may have been appended.
 pub fn append_line(alloc: Global, out: &mut Vec<u8>, entry: &Entry) -> Result<(), AllocError>
     ensures { OnOk result (out.new.items ≡ out.old.items ++ line_of entry.now) }
 {
-    append_parts(
-        alloc,
-        out,
-        entry.moment(),
-        entry.way(),
-        entry.revision().keys(),
-        entry.request(),
-        entry.place(),
-    )
+    append_moment_and_way(alloc, out, entry)?;
+    append_by_field(out, entry)?;
+    append_request(out, entry)?;
+    Ok(())
 }

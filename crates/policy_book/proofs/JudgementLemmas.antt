@@ -3,7 +3,8 @@ use Rattle.std.proofs.Common.{◌≡◌, ◌↔◌, ◌∙◌, Bool, true, false
 use Rattle.stamp_types.specs.declared.ask.Ask.{Ask}
 use Rattle.access_rules.specs.declared.keys.Keys.{Keys}
 use Rattle.access_rules.specs.Rules.{has_false_signature}
-use Rattle.access_rules.specs.Signatures.{has_true_signature, IsSigned}
+use Rattle.access_rules.specs.declared.judgement.SignedBy.{SignedBy}
+use Rattle.access_rules.specs.Signatures.{has_true_signature, signed_by, IsSigned}
 use Rattle.access_rules.proofs.SignatureLemmas.{signed_is, true_not_false}
 use Rattle.policy_book.specs.Judgements.{signature_under}
 use Rattle.policy_book.specs.declared.judged.Signature.{Signature}
@@ -51,3 +52,7 @@ false_under b s pair keys q test is force =
 -- a signature that is false of what one request asks is false of what another asks, if both ask the same
 pub false_of_ask : (b : Bool) (keys : Option Keys) (a c : Ask) → b ≡ has_false_signature keys a → a ≡ c → b ≡ has_false_signature keys c
 false_of_ask b keys a c is same = is ∙ ap (has_false_signature keys) same
+
+-- the key that signs what one request asks signs what another asks, if both ask the same
+pub signer_of_ask : (by : SignedBy) (pair : Keys) (keys : Option Keys) (a c : Ask) → by ≡ signed_by (Some pair) a → keys ≡ Some pair → a ≡ c → by ≡ signed_by keys c
+signer_of_ask by pair keys a c is force same = is ∙ ap (λ k. signed_by k a) (sym force) ∙ ap (signed_by keys) same

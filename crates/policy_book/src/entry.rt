@@ -2,16 +2,18 @@
 ghost use Rattle.std.specs.Prelude.{◌≡◌, IfOk, IsNone, IfSome, IsSome, ◌↔◌};
 ghost use Rattle.access_rules.specs.declared.judgement.Verdict.TheVariants.{Allow};
 ghost use Rattle.access_rules.specs.Rules.{first_rule, verdict_of, way_of};
+ghost use Rattle.access_rules.specs.Signatures.{signed_by};
 ghost use Rattle.policy_book.specs.Entries.{IsTrueEntry, audit_entry_of};
 
 use crate::revision::Revision;
-use access_rules::{Verdict, Way, verdict};
+use crate::verdict::signer_by;
+use access_rules::{SignedBy, Verdict, Way, verdict};
 use stamp_types::{Moment, Request};
 use std::alloc::{AllocError, Global};
 use std::marker::Model;
 
 /// A request that was allowed, and by what. Its type keeps that it is true: under the access and the keys of its revision no rule of
-/// permission refuses the request at the moment.
+/// permission refuses the request at the moment. It also keeps that the key named gives the signature: the first key, if it does.
 ///
 /// That `place` is the number of changes is what its maker says.
 #[derive(Drop)]
@@ -19,18 +21,22 @@ pub struct Entry {
     request: Request,
     place: u64,
     way: Way,
+    by: SignedBy,
     moment: Moment,
     revision: Revision,
 }
 
 impl Model for Entry {
+    ghost use Rattle.std.specs.Prelude.{◌≡◌};
+    ghost use Rattle.access_rules.specs.Signatures.{signed_by};
     ghost use Rattle.policy_book.specs.Entries.{AuditEntry, IsTrueEntry};
 
     ghost Value = { AuditEntry };
 
     ghost view = { λ e. record { request = e.request; place = e.place; way = e.way; moment = e.moment; revision = e.revision } };
 
-    ghost invariant = { λ e. IsTrueEntry (record { request = e.request; place = e.place; way = e.way; moment = e.moment; revision = e.revision }) };
+    ghost invariant = { λ e. IsTrueEntry (record { request = e.request; place = e.place; way = e.way; moment = e.moment; revision = e.revision })
+        × (e.by ≡ signed_by e.revision.keys e.request.ask) };
 }
 
 // The way by which a revision allows the request, or `None` if a rule of permission refuses it.
@@ -53,18 +59,20 @@ fn way_under(
 }
 
 impl Entry {
-    /// The entry of a request that was allowed, from the verdict that its caller has. It shares what the request asks, and keeps no
-    /// body.
+    /// The entry of a request that was allowed, from the verdict that its caller has and from the key that gives the signature. It shares
+    /// what the request asks, and keeps no body.
     ///
     /// `AllocError` if what is shared can have no further owner. Then `revision` is dropped.
     pub fn new(
         request: &Request,
         place: u64,
         way: Way,
+        by: SignedBy,
         moment: Moment,
         revision: Revision,
     ) -> Result<Self, AllocError>
-        requires { verdict_of revision.keys revision.acl request.now.ask moment ≡ Allow way }
+        requires allowed { verdict_of revision.keys revision.acl request.now.ask moment ≡ Allow way }
+        requires signed { by ≡ signed_by revision.keys request.now.ask }
         ensures { IfOk result (λ e. e ≡ audit_entry_of request.now place way moment revision) }
     {
         let request = request.without_body()?;
@@ -72,6 +80,7 @@ impl Entry {
             request,
             place,
             way,
+            by,
             moment,
             revision,
         })
@@ -96,7 +105,8 @@ impl Entry {
         let Some(way) = way_under(alloc, &revision, request, moment)? else {
             return Ok(None);
         };
-        Ok(Some(Self::new(request, place, way, moment, revision)?))
+        let by = signer_by(alloc, revision.keys(), request, None)?;
+        Ok(Some(Self::new(request, place, way, by, moment, revision)?))
     }
 
     /// The request, without its body. It names the container.
@@ -118,6 +128,16 @@ impl Entry {
         ensures { result ≡ self.now.way }
     {
         self.way
+    }
+
+    /// Which of the two keys of the revision gives the signature that the request brings: the first key, if it gives it, or else the
+    /// second. `Neither` if the request brings no signature.
+    pub fn by(&self) -> SignedBy
+        ensures { result ≡ signed_by self.now.revision.keys self.now.request.ask }
+    {
+        let _revision = &self.revision;
+        let _request = &self.request;
+        self.by
     }
 
     /// The moment at which the request was judged.

@@ -1,12 +1,12 @@
-//! Judgements of signatures, with each outcome.
+//! Judgements of signatures, with each outcome, and the key that gives a signature.
 ghost use Rattle.std.specs.Prelude.{◌≡◌, ◌↔◌, IfOk, IsTrue, Some};
 ghost use Rattle.std.specs.Arc.{arc_value};
 ghost use Rattle.access_rules.specs.Rules.{has_false_signature};
-ghost use Rattle.access_rules.specs.Signatures.{IsSigned};
+ghost use Rattle.access_rules.specs.Signatures.{signed_by, IsSigned};
 ghost use Rattle.policy_book.specs.Judgements.{signature_under};
 ghost use Rattle.policy_book.specs.declared.judged.Signature.TheVariants as signature;
 
-use access_rules::{Keys, is_true_signature};
+use access_rules::{Keys, SignedBy, signature_by};
 use stamp_types::Request;
 use std::alloc::{AllocError, Global};
 use std::marker::Model;
@@ -25,7 +25,7 @@ pub enum Signature {
 }
 
 /// The judgement on the signature of a request under a pair of keys. It shares what the request asks and the pair, and copies
-/// neither. The body of the request does not matter.
+/// neither. The body of the request does not matter. It also keeps which of the two keys gives the signature.
 ///
 /// It says nothing of a container, a policy or a moment.
 #[derive(Drop)]
@@ -33,29 +33,42 @@ pub struct Judged {
     request: Request,
     keys: Arc<Keys>,
     signature: Signature,
+    by: SignedBy,
 }
 
 impl Model for Judged {
-    ghost use Rattle.std.specs.Prelude.{◌≡◌};
+    ghost use Rattle.std.specs.Prelude.{◌≡◌, Some};
     ghost use Rattle.std.specs.Arc.{arc_value};
+    ghost use Rattle.access_rules.specs.Signatures.{signed_by};
     ghost use Rattle.policy_book.specs.Judgements.{Judgement, signature_under};
 
     ghost Value = { Judgement };
 
     ghost view = { λ j. record { ask = j.request.ask; keys = arc_value j.keys; signature = j.signature } };
 
-    ghost invariant = { λ j. j.signature ≡ signature_under (arc_value j.keys) j.request.ask };
+    ghost invariant = { λ j. (j.signature ≡ signature_under (arc_value j.keys) j.request.ask)
+        × (j.by ≡ signed_by (Some (arc_value j.keys)) j.request.ask) };
 }
 
-// How the signature of the request is judged.
-fn found(alloc: Global, keys: &Keys, request: &Request) -> Result<Signature, AllocError>
-    ensures { IfOk result (λ s. s ≡ signature_under keys.now request.now.ask) }
+// How the signature of a request is judged, and which key gives it.
+#[derive(Drop)]
+struct Outcome {
+    signature: Signature,
+    by: SignedBy,
+}
+
+// How the signature of the request is judged, and which key gives it. Neither key is named if there is no signature to judge.
+fn found(alloc: Global, keys: &Keys, request: &Request) -> Result<Outcome, AllocError>
+    ensures signature { IfOk result (λ f. f.signature ≡ signature_under keys.now request.now.ask) }
+    ensures by { IfOk result (λ f. f.by ≡ signed_by (Some keys.now) request.now.ask) }
 {
-    match is_true_signature(alloc, Some(keys), request.ask())? {
-        Some(true) => Ok(Signature::True),
-        Some(false) => Ok(Signature::False),
-        None => Ok(Signature::Unjudged),
-    }
+    let (signature, by) = match signature_by(alloc, Some(keys), request.ask())? {
+        Some(SignedBy::First) => (Signature::True, SignedBy::First),
+        Some(SignedBy::Second) => (Signature::True, SignedBy::Second),
+        Some(SignedBy::Neither) => (Signature::False, SignedBy::Neither),
+        None => (Signature::Unjudged, SignedBy::Neither),
+    };
+    Ok(Outcome { signature, by })
 }
 
 /// Judges the signature of the request under the pair of keys.
@@ -69,13 +82,14 @@ pub fn judge(alloc: Global, keys: &Arc<Keys>, request: &Request) -> Result<Judge
     ensures false_one { IfOk result (λ j. (j.signature ≡ signature.False)
         ↔ IsTrue (has_false_signature (Some (arc_value keys.now)) request.now.ask)) }
 {
-    let signature = found(alloc, keys, request)?;
+    let outcome = found(alloc, keys, request)?;
     let request = request.without_body()?;
     let keys = keys.clone()?;
     Ok(Judged {
         request,
         keys,
-        signature,
+        signature: outcome.signature,
+        by: outcome.by,
     })
 }
 
@@ -101,5 +115,14 @@ impl Judged {
     {
         let _request = &self.request;
         self.signature
+    }
+
+    /// Which of the two keys gives the signature: the first key, if it gives it, or else the second. `Neither` if the signature is not
+    /// judged true.
+    pub fn by(&self) -> SignedBy
+        ensures { result ≡ signed_by (Some self.now.keys) self.now.ask }
+    {
+        let _request = &self.request;
+        self.by
     }
 }

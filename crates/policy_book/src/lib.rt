@@ -14,5 +14,5 @@ pub use entry::Entry;
 pub use judged::{Judged, Signature, judge};
 pub use laws::audit_entries_are_true;
 pub use revision::Revision;
-pub use verdict::verdict_by;
+pub use verdict::{signer_by, verdict_by};
 pub use voucher::{Voucher, vouch};

@@ -1,10 +1,11 @@
-//! The verdict on a request whose signature may have been judged before.
+//! The verdict on a request whose signature may have been judged before, and the key that gives its signature.
 ghost use Rattle.std.specs.Prelude.{◌≡◌, ◌↔◌, IfOk, IfSome, IsErr, IsOk, IsSome, IsTrue, Some, option_copied};
 ghost use Rattle.access_rules.specs.Rules.{has_false_signature, needs_signature, verdict_of};
+ghost use Rattle.access_rules.specs.Signatures.{signed_by};
 ghost use Rattle.policy_book.specs.Judgements.{IsInForce, IsOfAsk};
 
 use crate::judged::{Judged, Signature};
-use access_rules::{Keys, Verdict, verdict, verdict_judged};
+use access_rules::{Keys, SignedBy, Verdict, signature_by, verdict, verdict_judged};
 use stamp_types::{Acl, Moment, Request};
 use std::alloc::{AllocError, Global};
 
@@ -68,4 +69,28 @@ pub fn verdict_by(
         }
     }
     verdict(alloc, keys, acl, request, now)
+}
+
+/// Which key of the pair in force gives the signature of a request: the first key, if it gives it, or else the second. `Neither` if there
+/// is no true signature. A judgement of that pair spares the signature; one of another pair is not used.
+///
+/// `AllocError` if memory runs out for the string to sign or for a signature.
+#[tactic(auto, using(crate::proofs::JudgementLemmas::signer_of_ask))]
+pub fn signer_by(
+    alloc: Global,
+    keys: Option<&Keys>,
+    request: &Request,
+    judged: Option<&Judged>,
+) -> Result<SignedBy, AllocError>
+    requires { IsOfAsk (option_copied judged) request.now.ask }
+    ensures value { IfOk result (λ by. by ≡ signed_by (option_copied keys.entry) request.now.ask) }
+    ensures spared { IsInForce (option_copied judged.entry) (option_copied keys.entry) → IsOk result }
+{
+    match judged {
+        Some(judged) if is_in_force(judged, keys) => Ok(judged.by()),
+        _ => {
+            let signer = signature_by(alloc, keys, request.ask())?;
+            Ok(signer.unwrap_or(SignedBy::Neither))
+        }
+    }
 }

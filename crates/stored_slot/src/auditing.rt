@@ -21,7 +21,7 @@ use crate::answering::failed;
 use crate::stored_slot::StoredSlot;
 use access_rules::{Keys, Verdict, Way};
 use extent_node::Wire;
-use policy_book::{Entry, Judged, Revision, verdict_by};
+use policy_book::{Entry, Judged, Revision, signer_by, verdict_by};
 use range_rows::Reading;
 use row_trees::Found;
 use slot_state::{AccountPairs, Histories, PairList};
@@ -146,7 +146,8 @@ fn entry_found(
     let Some(way) = way_by(alloc, &revision, request, judged, moment)? else {
         return Ok(None);
     };
-    let entry = Entry::new(request, found.count(), way, moment, revision)?;
+    let by = signer_by(alloc, revision.keys(), request, judged)?;
+    let entry = Entry::new(request, found.count(), way, by, moment, revision)?;
     Ok(Some(entry))
 }
 

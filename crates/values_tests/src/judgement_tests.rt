@@ -4,35 +4,43 @@ ghost use Rattle.policy_book.specs.Judgements.{IsOfAsk};
 
 use crate::access_cases::{ACCOUNT, Case, Sent, keys, request};
 use crate::rule_tests::{DATED, FIRST, FIRST_OF_PLAIN, NOON, SECOND};
-use access_rules::{Keys, Verdict, Way};
-use policy_book::{Judged, Revision, Signature, judge, verdict_by, vouch};
+use access_rules::{Keys, SignedBy, Verdict, Way};
+use policy_book::{Judged, Revision, Signature, judge, signer_by, verdict_by, vouch};
 use stamp_types::{Acl, Level, Moment, Op, Policies, Request, Rule};
 use std::alloc::Global;
 use std::process::Abort;
 use std::sync::Arc;
 
-type Row = (Sent, Signature, Verdict);
+type Row = (Sent, Signature, SignedBy, Verdict);
 
-// The credential, how its signature is judged, and the verdict. The signatures are those of `rule_tests`; the third is that of
+// The credential, how its signature is judged, the key that gives it, and the verdict. The signatures are those of `rule_tests`; the third is that of
 // another string.
 fn rows() -> [Row; 4] {
     [
         (
             Sent::Authorization(&[FIRST]),
             Signature::True,
+            SignedBy::First,
             Verdict::Allow(Way::Shared),
         ),
         (
             Sent::Authorization(&[SECOND]),
             Signature::True,
+            SignedBy::Second,
             Verdict::Allow(Way::Shared),
         ),
         (
             Sent::Authorization(&[FIRST_OF_PLAIN]),
             Signature::False,
+            SignedBy::Neither,
             Verdict::Deny(Rule::K5),
         ),
-        (Sent::Nothing, Signature::Unjudged, Verdict::Deny(Rule::P1)),
+        (
+            Sent::Nothing,
+            Signature::Unjudged,
+            SignedBy::Neither,
+            Verdict::Deny(Rule::P1),
+        ),
     ]
 }
 
@@ -73,10 +81,11 @@ fn verdict_with(
 fn a_signature_is_judged_before_the_verdict(rt: HostRuntime) {
     let alloc = rt.alloc();
     let pair = shared(&rt, alloc, 0);
-    for (sent, signature, wanted) in rows() {
+    for (sent, signature, by, wanted) in rows() {
         let request = put(&rt, alloc, sent);
         let judged = judge(alloc, &pair, &request).expect(&rt, "memory");
         assert!(rt; judged.signature() == signature);
+        assert!(rt; judged.by() == by);
         assert!(rt; judged.is_for(&request));
         let verdict = verdict_with(&rt, alloc, &pair, &request, Some(&judged));
         assert!(rt; verdict == wanted);
@@ -87,7 +96,7 @@ fn a_signature_is_judged_before_the_verdict(rt: HostRuntime) {
 fn a_voucher_is_given_for_a_true_signature_alone(rt: HostRuntime) {
     let alloc = rt.alloc();
     let pair = shared(&rt, alloc, 0);
-    for (sent, signature, _) in rows() {
+    for (sent, signature, _, _) in rows() {
         let request = put(&rt, alloc, sent);
         let voucher = vouch(alloc, &pair, &request).expect(&rt, "memory");
         assert!(rt; voucher.is_some() == (signature == Signature::True));
@@ -100,11 +109,12 @@ fn the_verdict_is_the_same_without_a_judgement_of_the_pair(rt: HostRuntime) {
     let alloc = rt.alloc();
     let older = shared(&rt, alloc, 0);
     let pair = shared(&rt, alloc, 1);
-    for (sent, _, wanted) in rows() {
+    for (sent, _, by, wanted) in rows() {
         let request = put(&rt, alloc, sent);
         let judged = judge(alloc, &older, &request).expect(&rt, "memory");
         assert!(rt; verdict_with(&rt, alloc, &pair, &request, Some(&judged)) == wanted);
         assert!(rt; verdict_with(&rt, alloc, &pair, &request, None) == wanted);
+        assert!(rt; signer_by(alloc, Some(&pair), &request, Some(&judged)) == Ok(by));
     }
 }
 

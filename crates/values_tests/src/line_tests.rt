@@ -1,9 +1,10 @@
 //! What no clause says about lines of the audit book: that they can be written, and that the definitions mean what the page on the audit
 //! file says. The lines were written by hand from that page, and the signatures were made by Python's hmac.
 
-use crate::access_cases::{ACCOUNT, Case, Sent, get_with, keys, request};
+use crate::access_cases::{ACCOUNT, Case, Sent, get_with, key, keys, request};
 use crate::rule_tests::{DATED, FIRST, NOON, SECOND};
 use crate::sample_values::{bytes, text};
+use access_rules::Keys;
 use audit_lines::{append_line, append_line_at};
 use policy_book::{Book, Entry, Revision};
 use stamp_types::{
@@ -14,8 +15,17 @@ use std::alloc::Global;
 use std::process::Abort;
 use std::sync::{Arc, Wait};
 
-// A token for `a.txt` until 13 o'clock, signed by the second key.
-const TOKEN: [(&str, &str); 5] = [
+// A token for `a.txt` until 13 o'clock, signed by the first key.
+const BY_FIRST_TOKEN: [(&str, &str); 5] = [
+    ("sv", "2012-02-12"),
+    ("sr", "b"),
+    ("sp", "r"),
+    ("se", "2012-10-01T13:00:00Z"),
+    ("sig", "/pBX2z6ZAz3Vfm5I/v36IJDo956LK+rZZR6bLQuIrbY="),
+];
+
+// The same token, signed by the second key.
+const BY_SECOND_TOKEN: [(&str, &str); 5] = [
     ("sv", "2012-02-12"),
     ("sr", "b"),
     ("sp", "r"),
@@ -48,20 +58,36 @@ fn acl(rt: &impl Abort, alloc: Global) -> Acl {
 
 /// The entry of the request at noon.
 pub(crate) fn entry(rt: &impl Abort, alloc: Global, request: &Request, place: u64) -> Entry {
+    entry_under(rt, alloc, keys(rt, alloc, ACCOUNT), request, place)
+}
+
+// The entry of the request at noon, if the stamp has these keys.
+fn entry_under(
+    rt: &impl Abort,
+    alloc: Global,
+    keys: Keys,
+    request: &Request,
+    place: u64,
+) -> Entry {
     let noon = Moment::new(NOON).expect(rt, "a moment");
     let acl = Arc::new(alloc, acl(rt, alloc)).expect(rt, "memory");
-    let keys = Arc::new(alloc, keys(rt, alloc, ACCOUNT)).expect(rt, "memory");
+    let keys = Arc::new(alloc, keys).expect(rt, "memory");
     let revision = Revision::new(Some(acl), Some(keys));
     let entry = Entry::judged(alloc, request, place, noon, revision).expect(rt, "memory");
     entry.expect(rt, "an allowed request")
 }
 
+// Whether this is the line of the entry.
+fn is_line_of(rt: &impl Abort, alloc: Global, entry: &Entry, line: &str) -> bool {
+    let mut out = Vec::new(alloc);
+    append_line(alloc, &mut out, entry).expect(rt, "memory");
+    out.as_slice() == line.as_bytes()
+}
+
 // Whether this is the line of the request's entry.
 fn is_line(rt: &impl Abort, alloc: Global, request: &Request, place: u64, line: &str) -> bool {
     let entry = entry(rt, alloc, request, place);
-    let mut out = Vec::new(alloc);
-    append_line(alloc, &mut out, &entry).expect(rt, "memory");
-    out.as_slice() == line.as_bytes()
+    is_line_of(rt, alloc, &entry, line)
 }
 
 /// A Put Blob of `a.txt` with this Authorization.
@@ -118,10 +144,29 @@ fn a_line_names_the_key(rt: HostRuntime) {
 }
 
 #[test]
+fn a_line_names_the_key_of_a_token(rt: HostRuntime) {
+    let alloc = rt.alloc();
+    let first = "2012-10-01T12:00:00.0000000Z token key1 GetBlob /devstoreaccount1/pics/a.txt 1\n";
+    assert!(rt; is_line(&rt, alloc, &get_with(&rt, alloc, &BY_FIRST_TOKEN), 1, first));
+    let second =
+        "2012-10-01T12:00:00.0000000Z token key2 GetBlob /devstoreaccount1/pics/a.txt 2\n";
+    assert!(rt; is_line(&rt, alloc, &get_with(&rt, alloc, &BY_SECOND_TOKEN), 2, second));
+}
+
+// Both keys are the one that signed.
+#[test]
+fn a_line_names_the_first_of_two_equal_keys(rt: HostRuntime) {
+    let alloc = rt.alloc();
+    let mut pair = keys(&rt, alloc, ACCOUNT);
+    pair.first = key(&rt, alloc, "key2");
+    let put = put_by(&rt, alloc, &[SECOND]);
+    let entry = entry_under(&rt, alloc, pair, &put, 7);
+    assert!(rt; is_line_of(&rt, alloc, &entry, BY_FIRST));
+}
+
+#[test]
 fn a_line_names_the_policy(rt: HostRuntime) {
     let alloc = rt.alloc();
-    let by_key = "2012-10-01T12:00:00.0000000Z token key2 GetBlob /devstoreaccount1/pics/a.txt 2\n";
-    assert!(rt; is_line(&rt, alloc, &get_with(&rt, alloc, &TOKEN), 2, by_key));
     let by_policy =
         "2012-10-01T12:00:00.0000000Z token policy=read%20only GetBlob /devstoreaccount1/pics/a.txt 3\n";
     assert!(rt; is_line(&rt, alloc, &get_with(&rt, alloc, &BY_POLICY), 3, by_policy));
