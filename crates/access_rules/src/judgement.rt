@@ -18,7 +18,7 @@ pub enum Way {
 pub enum SignedBy {
     First,
     Second,
-    /// The signature is false.
+    /// The signature is false, or there is no signature.
     Neither,
 }
 
