@@ -1,5 +1,6 @@
 """Which connection a server ends if it has no place for a new one: the one that was idle for the longest time, or, if none is idle, the one
-that has waited inside a head for the longest time (docs/using.md, "Limits of connections").
+that has waited inside a head for the longest time, or, if none is inside a head, the one without a true signature that has waited inside a body
+for the longest time (docs/using.md, "Limits of connections").
 
 The server may have so few descriptors that it has eight places. Each newcomer ends one connection.
 """
@@ -10,6 +11,7 @@ import subprocess
 import time
 
 import shown
+import signed
 
 # The server keeps 16 descriptors for what is not a connection.
 DESCRIPTORS, PLACES = 24, 8
@@ -59,12 +61,12 @@ class Client:
             self.leave(number)
         return numbers
 
-    def newcomer(self):
-        """Opens a connection, which then waits inside a head, and returns the connections that the server ends for it."""
+    def newcomer(self, beginning=HEAD):
+        """Opens a connection, which then waits for the rest of this request, and returns the connections that the server ends for it."""
         number = self.open()
         numbers = self.ended()
         if number not in numbers:
-            self.begin(number)
+            self.begin(number, beginning)
         return numbers
 
 
@@ -79,19 +81,35 @@ def ended_in_turn(address):
     client.leave(4)
     # It takes the place of the one that left.
     client.ask(client.open())
-    # Inside a body no connection gives way.
+    # Inside a body no connection gives way while another one is idle or inside a head.
     client.begin(6, BODY)
     return [client.newcomer() for _ in range(8)]
 
 
-def which_give_way(program):
+def bodies_in_turn(address):
+    """Which connections end, for each of eight newcomers, if all are inside a body. The first two have a true signature."""
+    client = Client(address)
+    head = signed.head_of("PUT", "/devstoreaccount1/pics/a.txt", "x-ms-blob-type: BlockBlob", "Content-Length: 9")
+    for beginning in [*[head + b"abc"] * 2, *[BODY] * (PLACES - 2)]:
+        client.begin(client.open(), beginning)
+    return [client.newcomer(BODY) for _ in range(8)]
+
+
+def given(program, ended):
+    """The connections that end at a server of eight places."""
     address = shown.free_address()
     words = [program, "serve", address, "4", *shown.REPLAY[2:]]
     server = subprocess.Popen(words, stdin=subprocess.DEVNULL, stdout=subprocess.PIPE, preexec_fn=limit_descriptors)
     try:
         server.stdout.readline()
-        # First those that are idle, then those inside a head: number 2, and the first newcomer.
-        yield "connections that give way", ended_in_turn(address), [[it] for it in (0, 5, 7, 3, 1, 8, 2, 9)]
+        return ended(address)
     finally:
         server.kill()
         server.communicate()
+
+
+def which_give_way(program):
+    # First those that are idle, then those inside a head: number 2, and the first newcomer.
+    yield "connections that give way", given(program, ended_in_turn), [[it] for it in (0, 5, 7, 3, 1, 8, 2, 9)]
+    # Those without a signature, and then the first newcomers.
+    yield "bodies that give way", given(program, bodies_in_turn), [[it] for it in range(2, 10)]

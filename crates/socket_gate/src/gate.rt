@@ -80,6 +80,8 @@ pub(crate) struct Gate<
     pub(crate) held: AtomicU64,
     /// How many of them are of bodies that the route of their request is not known to admit.
     pub(crate) others: AtomicU64,
+    /// Whether a newcomer waits, and no connection can give way.
+    pub(crate) is_full: AtomicBool,
     /// Whether no more connections are taken.
     pub(crate) is_closed: AtomicBool,
 }
@@ -418,9 +420,9 @@ impl<'a, R: Wait + Drop, C: Clock + Drop, K: front::Clock + Drop, S: Service + D
                 .is_late(waiting.counts, now, &self.limits, keeps_room)
     }
 
-    /// Whether another connection waits for the room that the reply of a place takes.
+    /// Whether another connection waits for the room that the reply of a place takes, or a newcomer for the place.
     pub(crate) fn keeps_room(&self, place: &LinkPlace<'a, K, S>) -> bool {
-        place.reply.bytes > 0 && self.ready.is_room_awaited()
+        self.is_full.load(Ordering::SeqCst) || place.reply.bytes > 0 && self.ready.is_room_awaited()
     }
 
     // Puts a connection that waits into its place. If its reply has less room than before, the rest is handed out.

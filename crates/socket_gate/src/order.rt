@@ -4,7 +4,7 @@ use crate::place::Phase;
 use std::alloc::{AllocError, Global};
 
 /// How many lists there are.
-const LISTS: usize = 4;
+const LISTS: usize = 5;
 
 /// The places before and after a place.
 #[derive(Clone, Copy, Drop)]
@@ -13,8 +13,8 @@ struct Neighbours {
     after: usize,
 }
 
-/// Four lists of places: those of connections that are idle, those that wait inside a head, those that wait for the room of the admitted, and
-/// those that wait for the room of others. In each list the connection that began to wait first comes first. A place is in one list at
+/// Five lists of places: those of connections that are idle, those that wait inside a head, those that wait inside a body, those that wait for
+/// the room of the admitted, and those that wait for the room of others. In each list the connection that began to wait first comes first. A place is in one list at
 /// most.
 ///
 /// Each list is a ring through a number that is not a place. What is in no list is a ring of its own. So no change depends on how many places
@@ -45,7 +45,8 @@ impl WaitOrder {
             Phase::Head => Some(self.places.wrapping_add(1)),
             Phase::Room => Some(self.places.wrapping_add(2)),
             Phase::OthersRoom => Some(self.places.wrapping_add(3)),
-            Phase::Body | Phase::Reply => None,
+            Phase::Body => Some(self.places.wrapping_add(4)),
+            Phase::Reply => None,
         }
     }
 

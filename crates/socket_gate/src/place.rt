@@ -17,7 +17,7 @@ const TRIED: u64 = 1;
 /// 5 MB, and rests for 100 seconds.
 const SPANS: u32 = 12;
 
-/// Over so many spans a long reply is looked at while another connection waits for the room that it takes.
+/// Over so many spans a reply is looked at while another connection waits for the room of a long reply that it has, or a newcomer for its place.
 const SHORT_SPANS: u32 = 2;
 
 /// What a connection waits for.
@@ -170,7 +170,7 @@ impl Timer {
 
     /// Whether the connection was waited for too long, or a write of its reply has to be tried. If enough bytes of a body or a reply were received or sent, its time begins anew.
     ///
-    /// `keeps_room` says whether another connection waits for the room that its reply takes.
+    /// `keeps_room` says whether somebody waits for the room that its reply takes, or for its place.
     pub(crate) fn is_late(
         &mut self,
         counts: Counts,

@@ -188,6 +188,7 @@ impl<'a, R: Wait + Drop, C: Clock + Drop, K: front::Clock + Drop, S: Service + D
         let Some(index) = self.empty.lock(&self.rt).pop() else {
             return self.make_room();
         };
+        self.is_full.store(false, Ordering::SeqCst);
         match self.listener.accept() {
             Ok((stream, _)) => {
                 self.admit(index, stream, next.take());
@@ -218,17 +219,19 @@ impl<'a, R: Wait + Drop, C: Clock + Drop, K: front::Clock + Drop, S: Service + D
     }
 
     // Lets a connection give way to one that waits to be taken: the one that is idle for the longest time, or else the one that has waited
-    // inside a head for the longest time, or else the one that has waited for room for the longest time and that its route is not known to
-    // admit. If nobody waits to be taken, none gives way.
+    // inside a head for the longest time, or else one that its route does not admit and that has waited for room, or else inside a body, for
+    // the longest time. If nobody waits to be taken, none gives way.
     fn make_room(&self) -> Asked {
         if !comes_within(self.listener.as_raw_fd(), 0) {
+            self.is_full.store(false, Ordering::SeqCst);
             return Asked::Nobody;
         }
-        for phase in [Phase::Idle, Phase::Head, Phase::OthersRoom] {
+        for phase in [Phase::Idle, Phase::Head, Phase::OthersRoom, Phase::Body] {
             if self.end_longest(phase) {
                 return Asked::Came;
             }
         }
+        self.is_full.store(true, Ordering::SeqCst);
         Asked::Short
     }
 
@@ -386,16 +389,51 @@ impl<'a, R: Wait + Drop, C: Clock + Drop, K: front::Clock + Drop, S: Service + D
     fn end_longest(&self, phase: Phase) -> bool {
         let mut last = None;
         for _ in 0..LOOKS {
-            last = self.waits.lock(&self.rt).order.next(phase, last);
-            let Some(index) = last else {
+            let next = self.waits.lock(&self.rt).order.next(phase, last);
+            let Some(index) = next else {
                 return false;
             };
-            if let Some(link) = self.take_waiting(index, phase) {
-                self.give_way(link);
-                return true;
+            match self.look_at(index, phase) {
+                Looked::Taken(link) => {
+                    self.give_way(link);
+                    return true;
+                }
+                Looked::Stays => last = next,
+                // Whoever comes after it now follows the one before it.
+                Looked::Spared => {}
             }
         }
         false
+    }
+
+    // Takes the connection of a place if it waits in this phase, unless it waits inside a body that its route may admit: nobody looks at that
+    // body again.
+    fn look_at(&self, index: usize, phase: Phase) -> Looked<SocketLink<'a, K, S>> {
+        if phase == Phase::Body && self.spares(index) {
+            return Looked::Spared;
+        }
+        match self.take_waiting(index, phase) {
+            Some(link) => Looked::Taken(link),
+            None => Looked::Stays,
+        }
+    }
+
+    // Takes the place of a connection out of the list of bodies, if its route may admit the body. So the service is asked once of each body.
+    fn spares(&self, index: usize) -> bool {
+        let Some(place) = self.places.get(index) else {
+            return false;
+        };
+        let place = place.lock(&self.rt);
+        let is_admitted = match &place.content {
+            Content::Waiting(link) => link.is_admitted() || link.may_admit(self.alloc),
+            Content::Idle(_) | Content::Awaiting(_) | Content::Lingering(_) => false,
+            Content::Empty | Content::Busy => false,
+        };
+        let is_spared = is_admitted && place.timer.phase == Phase::Body;
+        if is_spared {
+            self.waits.lock(&self.rt).order.remove(index);
+        }
+        is_spared
     }
 
     // Ends a connection whose place somebody else needs. If its request is whole, its peer is told that memory ran out.
@@ -428,6 +466,17 @@ impl<'a, R: Wait + Drop, C: Clock + Drop, K: front::Clock + Drop, S: Service + D
             }
         }
     }
+}
+
+/// What a look at a place found whose connection may give way.
+#[derive(Drop)]
+enum Looked<L: Drop> {
+    /// The connection gives way.
+    Taken(L),
+    /// A worker has the connection, or will have it next. Its place stays in the list.
+    Stays,
+    /// The route of its request may admit its body. Its place is in no list any more.
+    Spared,
 }
 
 /// A connection that was waited for too long.

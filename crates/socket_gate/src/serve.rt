@@ -171,6 +171,7 @@ pub fn serve_listener<
         connections: AtomicUsize::new(0),
         held: AtomicU64::new(0),
         others: AtomicU64::new(0),
+        is_full: AtomicBool::new(false),
         is_closed: AtomicBool::new(false),
     };
     let (_, worked) = thread::join(
