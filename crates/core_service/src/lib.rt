@@ -4,5 +4,7 @@
 mod service;
 #[cfg(test)]
 mod service_tests;
+mod steady;
 
 pub use service::CoreService;
+pub use steady::Steady;

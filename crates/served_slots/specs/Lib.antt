@@ -3,4 +3,5 @@ pub mod Audits
 pub mod Reserves
 pub mod Rotations
 pub mod Slots
+pub mod SteadyCounts
 pub mod Steps
