@@ -12,6 +12,7 @@ use Rattle.access_rules.specs.Rotation.{epoch_after, rotated}
 use Rattle.partition_map.specs.declared.fault.MapFault.{MapFault}
 use Rattle.partition_map.specs.declared.fault.MapFault.TheVariants as map_fault
 use Rattle.partition_map.specs.Spans.{split_refusal}
+use Rattle.slot_state.specs.NextPairs.{last_epoch}
 use Rattle.slot_state.specs.Pairs.{current_at}
 use Rattle.slot_state.specs.Slots.{entry_of}
 use Rattle.stored_slot.specs.Served.{busy, unknown}
@@ -108,10 +109,6 @@ SplitsBy None s i middle faulted r s' =
     ⊎ ((r ≡ Err (fault.Map map_fault.NoMemory)) × (s' ≡ s))
 
 -- ---- keys
-
--- the last epoch that there can be
-abbrev pub last_epoch : ℕ
-last_epoch = 18446744073709551615
 
 -- a key of the pair in force is replaced: the account has one pair more, of the next epoch
 abbrev pub RotatesBy : Option Keys → State → List ℕ → Which → List ℕ → Answer → State → Type 0

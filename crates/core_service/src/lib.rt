@@ -4,7 +4,5 @@
 mod service;
 #[cfg(test)]
 mod service_tests;
-mod steady;
 
 pub use service::CoreService;
-pub use steady::Steady;

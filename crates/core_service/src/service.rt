@@ -6,7 +6,6 @@ ghost use Rattle.core_run.specs.Cores.{StandsFor, first_core};
 ghost use Rattle.stamp_core.specs.CoreSteps.{IsCalm};
 ghost use Rattle.core_service.specs.Services.{AnswersAsMachine, opening_of};
 
-use crate::steady::Steady;
 use access_rules::Keys;
 use http_front::Service;
 use range_rows::Reading;
@@ -15,6 +14,7 @@ use stamp_core::Core;
 use stamp_types::{Moment, Reply, Request};
 use std::alloc::{AllocError, Global};
 use std::marker::Model;
+use stored_slot::Steady;
 
 // One more owner of each part of the pair.
 fn copy_of(keys: &Keys) -> Result<Keys, AllocError>

@@ -170,7 +170,12 @@ fn shared(rt: &impl Abort, alloc: Global, pair: Keys) -> Arc<Keys>
 }
 
 // The pairs after a key of the account is replaced.
-fn rotated(rt: &impl Abort, alloc: Global, pairs: &AccountPairs, account: &Text) -> AccountPairs {
+fn rotated(
+    rt: &impl Abort,
+    alloc: Global,
+    pairs: &AccountPairs,
+    account: &Text,
+) -> Arc<AccountPairs> {
     let next = shared(rt, alloc, next_pair(rt, alloc, pairs, account));
     pairs.with_next(alloc, account, next).expect(rt, "memory")
 }

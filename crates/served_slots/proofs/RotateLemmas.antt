@@ -1,5 +1,5 @@
 -- A slot whose containers are those that its history leaves, and that replaces a key.
-use Rattle.std.proofs.Common.{◌≡◌, ◌<◌, ◌-◌, ℕ, arith, true, List, [], ◌∷◌, ◌++◌, map, Option, Some, None, refl, sym, ap, ◌∙◌, subst}
+use Rattle.std.proofs.Common.{◌≡◌, ◌-◌, ℕ, true, List, [], ◌∷◌, ◌++◌, map, Option, Some, None, refl, sym, ap, ◌∙◌, subst}
 use Rattle.std.specs.Cmp.{eq_by_cmp_equiv}
 use Rattle.std.specs.Ordering.{eq_by_cmp}
 use Rattle.std.specs.Prelude.{is_some}
@@ -9,16 +9,16 @@ use Rattle.stamp_values.specs.Order.{name_cmp, names_total}
 use Rattle.stamp_values.specs.declared.key.Key.{Key}
 use Rattle.stamp_types.specs.World.{World, part_at}
 use Rattle.access_rules.specs.declared.keys.Keys.{Keys}
-use Rattle.access_rules.specs.declared.rotation.KeysFault.{KeysFault}
-use Rattle.access_rules.specs.declared.rotation.KeysFault.TheVariants as fault
 use Rattle.access_rules.specs.declared.rotation.Which.{Which}
-use Rattle.access_rules.specs.declared.rotation.Which.TheVariants as side
 use Rattle.access_rules.specs.Rotation.{epoch_after, rotated}
 use Rattle.access_rules.proofs.RotationLemmas.{epoch-rotated}
-use Rattle.slot_state.specs.NextPairs.{AreFront, IsNext, ReplaysBy, with_next, with_pairs}
-use Rattle.slot_state.specs.Pairs.{AreNumbered, Pairs, current_at, pairs_at}
+use Rattle.slot_state.specs.NextPairs.{AreFront, HasNextPair, HasNoNextPair, ReplaysBy, with_next, with_pairs}
+use Rattle.slot_state.specs.Pairs.{AreNumbered, Pairs, current_at}
 use Rattle.slot_state.specs.Slots.{SlotState, covers}
+use Rattle.slot_state.specs.declared.rotate_fault.RotateFault.{RotateFault}
+use Rattle.slot_state.specs.declared.rotate_fault.RotateFault.TheVariants as fault
 use Rattle.slot_state.proofs.NextLemmas.{next_are_longer, next_are_numbered}
+use Rattle.slot_state.proofs.RotationLemmas.{next_is}
 use Rattle.served_history.specs.declared.entry.Entry.{Entry}
 use Rattle.served_history.specs.declared.entry.Entry.TheVariants.{Rotated}
 use Rattle.served_history.specs.Connections.{IsAmong}
@@ -29,48 +29,10 @@ use Rattle.served_history.proofs.KeyLemmas.{bound-one, by_true, owner-one}
 use Rattle.served_history.proofs.PairLemmas.{current_next, pair_next}
 use Rattle.served_history.proofs.RotationLemmas.{pairs_rotated}
 use Rattle.served_history.proofs.StayLemmas.{world_left-append}
-use Rattle.served_slots.specs.Rotations.{HasNewKey, HasLastEpoch, HasNextPair, HasNoNextPair, HasRotated, IsToldBy, RotatesSlots, last_epoch, rotations_of}
+use Rattle.served_slots.specs.Rotations.{HasLastEpoch, HasRotated, IsToldBy, RotatesSlots, rotations_of}
 use Rattle.served_slots.specs.Slots.{IsLeftBy}
 
 -- ---- key pairs
-
--- the next pair comes after the pair in force
-next_is : (pairs : Pairs) (account : List ℕ) (which : Which) (key : List ℕ) (old : Keys) → current_at pairs account ≡ Some old → IsNext (pairs_at pairs account) (rotated old which key (epoch_after old.epoch))
-next_is pairs account which key old there = (old, (there, epoch-rotated old which key (epoch_after old.epoch)))
-
--- a pair with the account of the old pair, the epoch after its epoch, and the keys
-pub pair_is : (pair old : Keys) (which : Which) (key : List ℕ) → pair.account ≡ old.account → old.epoch < pair.epoch → pair.epoch - old.epoch ≡ 1 → HasNewKey pair old which key → pair ≡ rotated old which key (epoch_after old.epoch)
-pair_is pair old which key same later next has = by which has
-  where
-    epoch : pair.epoch ≡ epoch_after old.epoch
-    epoch = omega (arith, later, next)
-
-    by : (w : Which) → HasNewKey pair old w key → pair ≡ rotated old w key (epoch_after old.epoch)
-    by side.First has = λ i. record { account = same i; first = has.0 i; second = has.1 i; epoch = epoch i }
-    by side.Second has = λ i. record { account = same i; first = has.0 i; second = has.1 i; epoch = epoch i }
-
--- a pair that was made is the next one
-pub made_next : (pairs : Pairs) (account : List ℕ) (which : Which) (key : List ℕ) (old pair : Keys) → Some old ≡ current_at pairs account → pair ≡ rotated old which key (epoch_after old.epoch) → IsNext (pairs_at pairs account) pair
-made_next pairs account which key old pair there is = subst (IsNext (pairs_at pairs account)) (sym is) (next_is pairs account which key old (sym there))
-
--- the pairs of all accounts with it
-pub made_longer : (pairs longer : Pairs) (account : List ℕ) (which : Which) (key : List ℕ) (old pair : Keys) (n : ℕ) → Some old ≡ current_at pairs account → pair ≡ rotated old which key (epoch_after old.epoch) → n ≡ pair.epoch
-    → longer ≡ with_next pairs account pair → HasNextPair pairs account which key n longer
-made_longer pairs longer account which key old pair n there is epoch put = (
-  old,
-  (
-    sym there,
-    (
-      epoch ∙ ap (λ (k : Keys). k.epoch) is ∙ epoch-rotated old which key (epoch_after old.epoch),
-      put ∙ ap (with_next pairs account) is ∙ sym (ap (next_from pairs account which key) (sym there)),
-    ),
-  ),
-)
-
--- why no pair was made
-pub not_made : (pairs : Pairs) (account : List ℕ) (old : Keys) (f : KeysFault) → Some old ≡ current_at pairs account → (f ≡ fault.Last → old.epoch ≡ last_epoch) → HasNoNextPair pairs account f
-not_made pairs account old fault.Last there last = (old, (sym there, last refl))
-not_made pairs account old fault.NoMemory there last = tt
 
 module _ (pairs : Pairs) (account : List ℕ) (which : Which) (key : List ℕ) (n : ℕ) (longer : Pairs) (next : HasNextPair pairs account which key n longer) where
   abbrev old : Keys
@@ -80,7 +42,11 @@ module _ (pairs : Pairs) (account : List ℕ) (which : Which) (key : List ℕ) (
   pair = rotated old which key (epoch_after old.epoch)
 
   longer_is : longer ≡ with_next pairs account pair
-  longer_is = next.1.1.1 ∙ ap (next_from pairs account which key) next.1.0
+  longer_is = next.1.1.1
+
+  -- the pairs are those that a history has after the rotation
+  as_entered : longer ≡ next_pairs pairs account which key
+  as_entered = longer_is ∙ sym (ap (next_from pairs account which key) next.1.0)
 
   -- the slot may take the longer pairs
   pub may_take : AreFront pairs longer
@@ -92,7 +58,7 @@ module _ (pairs : Pairs) (account : List ℕ) (which : Which) (key : List ℕ) (
   -- by the longer pairs the pair with this epoch is in force
   now_in_force : current_at longer account ≡ Some pair
   now_in_force =
-      ap (λ (p : Pairs). current_at p account) next.1.1.1
+      ap (λ (p : Pairs). current_at p account) as_entered
       ∙ current_next pairs account which key account
       ∙ by_true (eq_by_cmp name_cmp account account) (pair_next (current_at pairs account) which key) (current_at pairs account) ((eq_by_cmp_equiv names_total).refl account)
       ∙ ap (λ (o : Option Keys). pair_next o which key) next.1.0
@@ -108,7 +74,7 @@ module _ (front : SlotFront) (to : Option Key) (s : SlotState) (left : IsLeftBy 
   first_pair = ap (λ (p : Pairs). current_at p account) (left.pairs s.from left.first)
 
   -- a pair with the last epoch
-  pub has_last : (known history : List Entry) → IsPrefix known history → IsPrefix front.log history → (f : KeysFault) → f ≡ fault.Last → HasNoNextPair s.pairs account f → HasLastEpoch known account
+  pub has_last : (known history : List Entry) → IsPrefix known history → IsPrefix front.log history → (f : RotateFault) → f ≡ fault.Last → HasNoNextPair s.pairs account f → HasLastEpoch known account
   has_last known history knew begins f is none =
       let last = subst (HasNoNextPair s.pairs account) is none in record {
         history = history;
@@ -140,7 +106,7 @@ module _ (front : SlotFront) (to : Option Key) (s : SlotState) (left : IsLeftBy 
       pairs_then k inside =
           pairs_rotated front.slot front.log known account which key known' k entered (left.has k inside)
           ∙ ap (λ (p : Pairs). next_pairs p account which key) (left.pairs k inside)
-          ∙ sym next.1.1.1
+          ∙ sym (as_entered s.pairs account which key n longer next)
 
       -- the epoch is that of the pair by which the slot judges from then on
       pub told_then : IsToldBy front.slot account n known'

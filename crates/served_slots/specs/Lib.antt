@@ -3,5 +3,4 @@ pub mod Audits
 pub mod Reserves
 pub mod Rotations
 pub mod Slots
-pub mod SteadyCounts
 pub mod Steps

@@ -4,39 +4,14 @@ use Rattle.std.specs.Prelude.{◌≡◌, ⊤, ℕ, List, [], ◌∷◌, ◌++◌
 use mathlib.Core.List.{IsPrefix}
 use Rattle.stamp_values.specs.declared.key.Key.{Key}
 use Rattle.access_rules.specs.declared.keys.Keys.{Keys}
-use Rattle.access_rules.specs.declared.rotation.KeysFault.{KeysFault}
-use Rattle.access_rules.specs.declared.rotation.KeysFault.TheVariants as fault
 use Rattle.access_rules.specs.declared.rotation.Which.{Which}
-use Rattle.access_rules.specs.declared.rotation.Which.TheVariants as side
-use Rattle.access_rules.specs.Rotation.{epoch_after}
-use Rattle.slot_state.specs.Pairs.{Pairs, current_at}
+use Rattle.slot_state.specs.NextPairs.{last_epoch}
 use Rattle.served_history.specs.declared.entry.Entry.{Entry}
 use Rattle.served_history.specs.declared.entry.Entry.TheVariants.{Rotated}
 use Rattle.served_history.specs.Connections.{IsAmong}
 use Rattle.served_history.specs.Growth.{IsEntered, SlotFront}
-use Rattle.served_history.specs.Histories.{next_pairs, owner, pair_for}
+use Rattle.served_history.specs.Histories.{owner, pair_for}
 use Rattle.served_slots.specs.Steps.{HasOneMore}
-
--- ---- key pairs
-
--- the last epoch that there can be
-abbrev pub last_epoch : ℕ
-last_epoch = 18446744073709551615
-
--- the pair has this key in the place of the one that is replaced, and the other key of the old pair
-abbrev pub HasNewKey : Keys → Keys → Which → List ℕ → Type 0
-HasNewKey pair old side.First key = (pair.first ≡ key) × (pair.second ≡ old.second)
-HasNewKey pair old side.Second key = (pair.first ≡ old.first) × (pair.second ≡ key)
-
--- the account has a pair in force, after which comes the pair with this epoch; and these are the pairs of all accounts with it
-abbrev pub HasNextPair : Pairs → List ℕ → Which → List ℕ → ℕ → Pairs → Type 0
-HasNextPair pairs account which key epoch longer =
-    (old : Keys) × ((current_at pairs account ≡ Some old) × ((epoch ≡ epoch_after old.epoch) × (longer ≡ next_pairs pairs account which key)))
-
--- why no pair comes after the pair in force: it has the last epoch, or memory ran out, or the account has no pair
-abbrev pub HasNoNextPair : Pairs → List ℕ → KeysFault → Type 0
-HasNoNextPair pairs account fault.Last = (old : Keys) × ((current_at pairs account ≡ Some old) × (old.epoch ≡ last_epoch))
-HasNoNextPair pairs account fault.NoMemory = ⊤
 
 -- ---- one slot
 

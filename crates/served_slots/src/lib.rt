@@ -25,7 +25,6 @@ mod slots;
 mod slots_tests;
 mod splitting;
 mod steadily;
-mod steady;
 mod table;
 mod taking;
 mod told;

@@ -2,10 +2,10 @@
 ghost use Rattle.std.specs.Prelude.{◌≡◌, IfOk};
 ghost use Rattle.served_slots.specs.Steps.{SaysReply};
 
-use crate::steady::Steady;
 use stamp_types::Reply;
 use std::alloc::AllocError;
 use std::marker::Model;
+use stored_slot::Steady;
 use tickets::{Answer, Ticket};
 
 /// The reply to a request that was served: it is there, or a ticket gives it, since some of its content is in sealed extents. Contracts see it as

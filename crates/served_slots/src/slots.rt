@@ -23,6 +23,7 @@ use crate::table::Table;
 use crate::told::Told;
 use access_rules::{Keys, KeysFault, Which};
 use hmac_sign::SigningKey;
+use partition_map::MOST_SLOTS;
 use range_rows::Reading;
 use served_history::{Account, Front, NewHistory, SlotHistory, SlotWord};
 use slot_state::{AccountPairs, PairsFault};
@@ -44,7 +45,7 @@ struct Words<A: Account> {
 impl<A: Account> Words<A> {
     // The word of the next slot; none if all slots have theirs.
     fn next(&mut self) -> Option<SlotWord<A>> {
-        if self.next >= 256 {
+        if self.next >= MOST_SLOTS as u64 {
             return None;
         }
         let word = self.history.word::<A>(self.next);
@@ -56,8 +57,8 @@ impl<A: Account> Words<A> {
 // The words of all slots but the first.
 fn spares<A: Account>(alloc: Global, words: Words<A>) -> Result<Vec<SlotWord<A>>, AllocError> {
     let mut words = words;
-    let mut spares = Vec::with_capacity(alloc, 255)?;
-    for _ in 0..255u32 {
+    let mut spares = Vec::with_capacity(alloc, MOST_SLOTS - 1)?;
+    for _ in 1..MOST_SLOTS {
         if let Some(word) = words.next() {
             spares.push(word)?;
         }

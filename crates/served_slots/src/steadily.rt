@@ -14,7 +14,6 @@ ghost use Rattle.slot_state.specs.Slots.{empty_slot, lower_half, upper_half};
 ghost use Rattle.served_slots.specs.Audits.{AuditsInSlot};
 
 use crate::replied::Replied;
-use crate::steady::Steady;
 use crate::told::Told;
 use policy_book::Judged;
 use range_rows::Reading;
@@ -23,10 +22,7 @@ use stamp_types::{Key, Moment, Request};
 use std::alloc::{AllocError, Global};
 use std::sync::Arc;
 use stored_rows::{Compacted, KeyRange, StoredRows};
-use stored_slot::{Audited, StoredSlot};
-
-/// How many bytes an extent of two or more blocks may have.
-const EXTENT_BYTES: u32 = 268_435_456;
+use stored_slot::{Audited, EXTENT_BYTES, Steady, StoredSlot};
 
 // A slot of all keys with these rows.
 #[tactic(auto, using(crate::proofs::FirstLemmas::slot_of_all))]

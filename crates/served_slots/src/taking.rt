@@ -1,18 +1,18 @@
 //! A slot that takes longer key pairs, and enters the rotation.
 ghost use Rattle.std.specs.Prelude.{◌≡◌, ◌<◌, ◌^◌, IfSome, None, OnSome};
 ghost use Rattle.std.specs.Arc.{arc_value};
+ghost use Rattle.slot_state.specs.NextPairs.{HasNextPair};
 ghost use Rattle.served_history.specs.declared.entry.Entry.TheVariants.{Rotated};
 ghost use Rattle.served_history.specs.Growth.{IsEntered};
 ghost use Rattle.served_history.specs.Histories.{count_of};
-ghost use Rattle.served_slots.specs.Rotations.{HasNextPair, IsToldBy};
+ghost use Rattle.served_slots.specs.Rotations.{IsToldBy};
 ghost use Rattle.served_slots.specs.Slots.{IsLeftBy};
 ghost use Rattle.served_slots.specs.Steps.{HasOneMore};
 
-use crate::next_pairs::Longer;
 use access_rules::Which;
 use hmac_sign::SigningKey;
 use served_history::{Account, Front, SlotHistory};
-use slot_state::ProvedHistories;
+use slot_state::{Longer, ProvedHistories};
 use stamp_types::{Key, Text};
 use stored_slot::StoredSlot;
 

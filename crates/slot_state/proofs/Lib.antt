@@ -6,6 +6,7 @@ pub mod NextLemmas
 pub mod PairLemmas
 pub mod PartLemmas
 pub mod RangeLemmas
+pub mod RotationLemmas
 pub mod RowLemmas
 pub mod SplitLemmas
 pub mod StepLemmas

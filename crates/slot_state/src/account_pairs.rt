@@ -49,8 +49,8 @@ fn first_list(alloc: Global, pair: Keys) -> Result<Shared<PairList>, AllocError>
     Ok(shared)
 }
 
-// The pair in an allocation that can be shared.
-fn share(alloc: Global, pair: Keys) -> Result<Arc<Keys>, AllocError>
+/// The pair in an allocation that can be shared.
+pub(crate) fn share(alloc: Global, pair: Keys) -> Result<Arc<Keys>, AllocError>
     ensures { IfOk result (λ shared. arc_value shared ≡ pair) }
 {
     let shared = Arc::new(alloc, pair)?;

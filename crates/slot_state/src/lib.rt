@@ -14,6 +14,8 @@ mod next_pairs;
 mod pair_list;
 mod pairs_fault;
 mod proved;
+mod rotate_fault;
+mod rotating;
 
 pub use account_pairs::AccountPairs;
 pub use event::Event;
@@ -27,3 +29,5 @@ pub use laws::{
 pub use pair_list::PairList;
 pub use pairs_fault::PairsFault;
 pub use proved::ProvedHistories;
+pub use rotate_fault::RotateFault;
+pub use rotating::Longer;

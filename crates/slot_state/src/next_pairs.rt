@@ -67,17 +67,9 @@ fn longer_list(
 }
 
 impl AccountPairs {
-    /// These pairs with one pair more of an account, which is then in force. All earlier pairs are shared, and so are the lists of the other
-    /// accounts. Of the account's list [`longer`](PairList::longer) makes a longer one.
-    ///
-    /// `AllocError` if memory runs out for the longer list or for the names, or if a pair can have no further owner.
+    // These pairs with one pair more of an account.
     #[tactic(auto, using(crate::proofs::NextLemmas::numbered_longer))]
-    pub fn with_next(
-        &self,
-        alloc: Global,
-        account: &Text,
-        pair: Arc<Keys>,
-    ) -> Result<Self, AllocError>
+    fn longer(&self, alloc: Global, account: &Text, pair: Arc<Keys>) -> Result<Self, AllocError>
         requires { IsNext (pairs_at self.now account.now) (arc_value pair) }
         ensures { IfOk result (λ longer. longer ≡ with_next self.now account.now (arc_value pair)) }
     {
@@ -89,5 +81,23 @@ impl AccountPairs {
             by_account,
             none: PairList::new(alloc),
         })
+    }
+
+    /// These pairs with one pair more of an account, which is then in force, in an allocation that can be shared. All earlier pairs are shared,
+    /// and so are the lists of the other accounts. Of the account's list [`longer`](PairList::longer) makes a longer one.
+    ///
+    /// `AllocError` if memory runs out for the longer list or for the names, or if a pair can have no further owner.
+    pub fn with_next(
+        &self,
+        alloc: Global,
+        account: &Text,
+        pair: Arc<Keys>,
+    ) -> Result<Arc<Self>, AllocError>
+        requires { IsNext (pairs_at self.now account.now) (arc_value pair) }
+        ensures { IfOk result (λ longer. arc_value longer ≡ with_next self.now account.now (arc_value pair)) }
+    {
+        let longer = self.longer(alloc, account, pair)?;
+        let shared = Arc::new(alloc, longer)?;
+        Ok(shared)
     }
 }

@@ -9,12 +9,15 @@ use Rattle.stamp_types.specs.World.{part_at}
 use Rattle.access_rules.specs.declared.keys.Keys.{Keys}
 use Rattle.access_rules.specs.declared.rotation.Which.{Which}
 use Rattle.access_rules.specs.Rotation.{epoch_after, rotated}
-use Rattle.access_rules.proofs.RotationLemmas.{epoch-rotated}
 use Rattle.partition_map.specs.Spans.{least_key, slot_of}
-use Rattle.slot_state.specs.NextPairs.{AreFront, IsNext, ReplaysBy, with_next, with_pairs}
-use Rattle.slot_state.specs.Pairs.{Pairs, current_at, pairs_at}
+use Rattle.slot_state.specs.NextPairs as next
+use Rattle.slot_state.specs.NextPairs.{AreFront, HasNextPair, ReplaysBy, with_next, with_pairs}
+use Rattle.slot_state.specs.Pairs.{Pairs, current_at}
 use Rattle.slot_state.specs.Slots.{SlotState, replayed_at}
+use Rattle.slot_state.specs.declared.rotate_fault.RotateFault.{RotateFault}
+use Rattle.slot_state.specs.declared.rotate_fault.RotateFault.TheVariants as cause
 use Rattle.slot_state.proofs.NextLemmas.{next_are_longer}
+use Rattle.slot_state.proofs.RotationLemmas.{next_is}
 use Rattle.core_run.specs.Cores.{CoreState, StandsFor, no_slot, slot_at}
 use Rattle.core_run.specs.Machine.{Answer, RotatesBy, Takes}
 use Rattle.core_run.specs.States.{State, with_pair}
@@ -24,7 +27,7 @@ use Rattle.core_run.specs.declared.step.StepFault.{StepFault}
 use Rattle.core_run.specs.declared.step.StepFault.TheVariants as fault
 use Rattle.core_run.proofs.SoundLemmas.{rotated_sound, slot_of-within}
 use Rattle.stamp_core.specs.Ranges.{HaveSpans, Range, range_of, ranges_from}
-use Rattle.stamp_core.specs.Rotations.{BeginPairs, HasNextPair, HasNoNextPair, HaveCaughtUp, IsNextPair, IsRotated, map_from, pairs_of_all}
+use Rattle.stamp_core.specs.Rotations.{BeginPairs, HaveCaughtUp, IsRotated, TellsNoNextPair, map_from, pairs_of_all, told}
 use Rattle.stamp_core.proofs.RangeLemmas.{counted, shared_pairs}
 use Rattle.stamp_core.proofs.ServeLemmas.{get_any}
 
@@ -118,45 +121,9 @@ mapped_doubts : (pairs : Pairs) (slots : List SlotState) → map (λ (h : SlotSt
 mapped_doubts pairs [] = refl
 mapped_doubts pairs (h ∷ slots) = λ i. h.doubt ∷ mapped_doubts pairs slots i
 
--- the next pair comes after the pair in force
-next_is : (pairs : Pairs) (account : List ℕ) (which : Which) (key : List ℕ) (old : Keys) → current_at pairs account ≡ Some old → IsNext (pairs_at pairs account) (rotated old which key (epoch_after old.epoch))
-next_is pairs account which key old current = (old, (current, epoch-rotated old which key (epoch_after old.epoch)))
-
--- a pair that was made is the next one
-pub made_next : (pairs : Pairs) (account : List ℕ) (which : Which) (key : List ℕ) (pair : Keys) → IsNextPair (current_at pairs account) which key (Ok pair) → IsNext (pairs_at pairs account) pair
-made_next pairs account which key pair is = by (current_at pairs account) refl is
-  where
-    by : (o : Option Keys) → current_at pairs account ≡ o → IsNextPair o which key (Ok pair) → IsNext (pairs_at pairs account) pair
-    by None there is = absurd is
-    by (Some old) there is = subst (IsNext (pairs_at pairs account)) (sym is) (next_is pairs account which key old there)
-
--- the pairs of all accounts with it
-pub made_longer : (pairs longer : Pairs) (account : List ℕ) (which : Which) (key : List ℕ) (pair : Keys) (n : ℕ) → IsNextPair (current_at pairs account) which key (Ok pair) → n ≡ pair.epoch
-    → longer ≡ with_next pairs account pair → HasNextPair pairs account which key n longer
-made_longer pairs longer account which key pair n is epoch put = by (current_at pairs account) refl is
-  where
-    by : (o : Option Keys) → current_at pairs account ≡ o → IsNextPair o which key (Ok pair) → HasNextPair pairs account which key n longer
-    by None there is = absurd is
-    by (Some old) there is =
-        (old, (there, (epoch ∙ ap (λ (k : Keys). k.epoch) is ∙ epoch-rotated old which key (epoch_after old.epoch), put ∙ ap (with_next pairs account) is)))
-
--- if memory ran out for the pairs of all accounts, the account has a pair in force
-pub made_then_none : (pairs : Pairs) (account : List ℕ) (which : Which) (key : List ℕ) (pair : Keys) → IsNextPair (current_at pairs account) which key (Ok pair) → IsSome (current_at pairs account)
-made_then_none pairs account which key pair is = by (current_at pairs account) is
-  where
-    by : (o : Option Keys) → IsNextPair o which key (Ok pair) → IsSome o
-    by None is = absurd is
-    by (Some old) is = refl
-
--- why no pair was made
-pub not_made : (pairs : Pairs) (account : List ℕ) (which : Which) (key : List ℕ) (f : StepFault) → IsNextPair (current_at pairs account) which key (Err f) → HasNoNextPair pairs account f
-not_made pairs account which key f is = by (current_at pairs account) f refl is
-  where
-    by : (o : Option Keys) (f : StepFault) → current_at pairs account ≡ o → IsNextPair o which key (Err f) → HasNoNextPair pairs account f
-    by None fault.NoAccount there is = there
-    by (Some old) fault.Last there is = (old, (there, is))
-    by (Some old) fault.NoMemory there is = ap (λ (o : Option Keys). is_some o) there
-    by o f there is = absurd is
+-- why no pair was made, as a step tells it
+pub not_made : (pairs : Pairs) (account : List ℕ) (c : RotateFault) (f : StepFault) → f ≡ told c → next.HasNoNextPair pairs account c → TellsNoNextPair pairs account f
+not_made pairs account c f is none = (c, (is, none))
 
 module _ (slots : List SlotState) (points : List Key) (have : HaveSpans slots points) where
   pub some_slot : 0 < length slots
@@ -172,9 +139,9 @@ module _ (slots : List SlotState) (points : List Key) (have : HaveSpans slots po
 
   module _ (longer : Pairs) where
     pub begin_pairs : (account : List ℕ) (which : Which) (key : List ℕ) (n : ℕ) → HasNextPair (pairs_of_all slots) account which key n longer → BeginPairs slots longer
-    begin_pairs account which key n next i low =
+    begin_pairs account which key n made i low =
         subst (λ (ps : Pairs). AreFront ps longer) (sym (same_as_first i low))
-        (subst (AreFront (pairs_of_all slots)) (sym next.1.1.1) (next_are_longer (pairs_of_all slots) account _ (next_is (pairs_of_all slots) account which key next.0 next.1.0)))
+        (subst (AreFront (pairs_of_all slots)) (sym made.1.1.1) (next_are_longer (pairs_of_all slots) account _ (next_is (pairs_of_all slots) account which key made.0 made.1.0)))
 
     pub spans_caught_up : (slots' : List SlotState) → HaveCaughtUp slots 0 longer slots' → HaveSpans slots' points
     spans_caught_up slots' done = (
@@ -182,9 +149,9 @@ module _ (slots : List SlotState) (points : List Key) (have : HaveSpans slots po
       ap (map range_of) done.0 ∙ mapped_ranges longer slots ∙ ap (map (with_range longer)) have.1 ∙ ranges_with have.0 longer least_key points,
     )
 
--- an account whose next pair was made has a pair in force
-pub some_current : (pairs longer : Pairs) (account : List ℕ) (which : Which) (key : List ℕ) (n : ℕ) → HasNextPair pairs account which key n longer → IsSome (current_at pairs account)
-some_current pairs longer account which key n made = ap (λ (o : Option Keys). is_some o) made.1.0
+-- memory can run out after the next pair of an account was made
+pub made_then_none : (pairs longer : Pairs) (account : List ℕ) (which : Which) (key : List ℕ) (n : ℕ) → HasNextPair pairs account which key n longer → TellsNoNextPair pairs account fault.NoMemory
+made_then_none pairs longer account which key n made = (cause.NoMemory, (refl, ap (λ (o : Option Keys). is_some o) made.1.0))
 
 -- ---- steps of the machine
 
@@ -241,19 +208,21 @@ module _ (c : CoreState) (have : HaveSpans c.slots c.points) (s : State) (stands
   no_memory None some = absurd cc
   no_memory (Some old) some = inr (inr (refl, refl))
 
-  fails : (f : StepFault) → HasNoNextPair pairs account f → slots ≡ c.slots → Steps (Err f)
-  fails fault.NoAccount none same = (s, (takes (Err fault.NoAccount) s None none (refl, refl), unchanged same))
-  fails fault.Last last same = (s, (takes (Err fault.Last) s (Some last.0) last.1.0 (inr (inl (last.1.1, (refl, refl)))), unchanged same))
-  fails fault.NoMemory some same = (s, (takes (Err fault.NoMemory) s (current_at pairs account) refl (no_memory (current_at pairs account) some), unchanged same))
-  fails other never same = absurd never
+  fails_by : (why : RotateFault) → next.HasNoNextPair pairs account why → slots ≡ c.slots → Steps (Err (told why))
+  fails_by cause.NoAccount none same = (s, (takes (Err fault.NoAccount) s None none (refl, refl), unchanged same))
+  fails_by cause.Last last same = (s, (takes (Err fault.Last) s (Some last.0) last.1.0 (inr (inl (last.1.1, (refl, refl)))), unchanged same))
+  fails_by cause.NoMemory some same = (s, (takes (Err fault.NoMemory) s (current_at pairs account) refl (no_memory (current_at pairs account) some), unchanged same))
+
+  fails : (f : StepFault) → TellsNoNextPair pairs account f → slots ≡ c.slots → Steps (Err f)
+  fails f none same = subst (λ (f : StepFault). Steps (Err f)) (sym none.1.0) (fails_by none.0 none.1.1 same)
 
   rotate_step : (r : Answer) → IsRotated c.slots account which key r slots → Steps r
   rotate_step (Ok (outcome.Epoch n)) is =
-      let next = is.1.0 in (
-        after is.0 next.0 next.1.0 next.1.1.1 is.1.1,
+      let made = is.1.0 in (
+        after is.0 made.0 made.1.0 made.1.1.1 is.1.1,
         (
-          takes (Ok (outcome.Epoch n)) (after is.0 next.0 next.1.0 next.1.1.1 is.1.1) (Some next.0) next.1.0 (inl (ap (λ (m : ℕ). Ok (outcome.Epoch m)) next.1.1.0, refl)),
-          stands_after is.0 next.0 next.1.0 next.1.1.1 is.1.1,
+          takes (Ok (outcome.Epoch n)) (after is.0 made.0 made.1.0 made.1.1.1 is.1.1) (Some made.0) made.1.0 (inl (ap (λ (m : ℕ). Ok (outcome.Epoch m)) made.1.1.0, refl)),
+          stands_after is.0 made.0 made.1.0 made.1.1.1 is.1.1,
         ),
       )
   rotate_step (Err f) is = fails f is.0 is.1

@@ -1,40 +1,30 @@
 -- What a core does if a key of an account is replaced (Blob service REST reference, 2012-02-12, Authentication for the Azure Storage
 -- Services: an account has two keys). That all slots take the new pair in one step is the stamp's own.
-use Rattle.std.specs.Prelude.{◌≡◌, ◌≤◌, ◌<◌, ⊤, ℕ, zero, suc, List, [], ◌∷◌, length, map, Option, Some, None, IsSome, Result, Ok, Err, slice_index_or}
-use Rattle.access_rules.specs.declared.keys.Keys.{Keys}
+use Rattle.std.specs.Prelude.{◌≡◌, ◌≤◌, ◌<◌, ℕ, zero, suc, List, [], ◌∷◌, length, map, Ok, Err, slice_index_or}
 use Rattle.access_rules.specs.declared.rotation.Which.{Which}
-use Rattle.access_rules.specs.Rotation.{epoch_after, rotated}
-use Rattle.slot_state.specs.NextPairs.{AreFront, ReplaysBy, with_next, with_pairs}
-use Rattle.slot_state.specs.Pairs.{Pairs, current_at}
+use Rattle.slot_state.specs.NextPairs as next
+use Rattle.slot_state.specs.NextPairs.{AreFront, HasNextPair, ReplaysBy, with_pairs}
+use Rattle.slot_state.specs.Pairs.{Pairs}
 use Rattle.slot_state.specs.Slots.{SlotState}
+use Rattle.slot_state.specs.declared.rotate_fault.RotateFault.{RotateFault}
+use Rattle.slot_state.specs.declared.rotate_fault.RotateFault.TheVariants as cause
 use Rattle.core_run.specs.declared.step.Outcome.TheVariants as outcome
 use Rattle.core_run.specs.declared.step.StepFault.{StepFault}
 use Rattle.core_run.specs.declared.step.StepFault.TheVariants as fault
 use Rattle.core_run.specs.Cores.{no_slot}
-use Rattle.core_run.specs.Machine.{Answer, last_epoch}
+use Rattle.core_run.specs.Machine.{Answer}
 
 -- ---- pairs
 
--- the pair after the pair in force, with one of its keys replaced; or why there is none
-abbrev pub IsNextPair : Option Keys → Which → List ℕ → Result Keys StepFault → Type 0
-IsNextPair None which key (Err fault.NoAccount) = ⊤
-IsNextPair (Some old) which key (Ok pair) = pair ≡ rotated old which key (epoch_after old.epoch)
-IsNextPair (Some old) which key (Err fault.Last) = old.epoch ≡ last_epoch
-IsNextPair (Some old) which key (Err fault.NoMemory) = ⊤
-IsNextPair o which key r = ⊥
+-- the fault of a step for why no key is replaced
+abbrev pub told : RotateFault → StepFault
+told cause.NoAccount = fault.NoAccount
+told cause.Last = fault.Last
+told cause.NoMemory = fault.NoMemory
 
--- the account has a pair in force, after which comes the pair with this epoch; and these are the pairs of all accounts with it
-abbrev pub HasNextPair : Pairs → List ℕ → Which → List ℕ → ℕ → Pairs → Type 0
-HasNextPair pairs account which key epoch longer =
-    (old : Keys) × ((current_at pairs account ≡ Some old) × ((epoch ≡ epoch_after old.epoch) × (longer ≡ with_next pairs account (rotated old which key (epoch_after old.epoch)))))
-
--- why no pair comes after the pair in force: the stamp has no such account, or no epoch comes after the epoch of the pair, or memory ran
--- out
-abbrev pub HasNoNextPair : Pairs → List ℕ → StepFault → Type 0
-HasNoNextPair pairs account fault.NoAccount = current_at pairs account ≡ None
-HasNoNextPair pairs account fault.Last = (old : Keys) × ((current_at pairs account ≡ Some old) × (old.epoch ≡ last_epoch))
-HasNoNextPair pairs account fault.NoMemory = IsSome (current_at pairs account)
-HasNoNextPair pairs account other = ⊥
+-- why no pair comes after the pair in force, as a step tells it
+abbrev pub TellsNoNextPair : Pairs → List ℕ → StepFault → Type 0
+TellsNoNextPair pairs account f = (c : RotateFault) × ((f ≡ told c) × next.HasNoNextPair pairs account c)
 
 -- ---- slots
 
@@ -61,5 +51,5 @@ pairs_of_all slots = (slice_index_or slots 0 no_slot).pairs
 abbrev pub IsRotated : List SlotState → List ℕ → Which → List ℕ → Answer → List SlotState → Type 0
 IsRotated slots account which key (Ok (outcome.Epoch n)) slots' =
     (longer : Pairs) × (HasNextPair (pairs_of_all slots) account which key n longer × HaveCaughtUp slots 0 longer slots')
-IsRotated slots account which key (Err f) slots' = HasNoNextPair (pairs_of_all slots) account f × (slots' ≡ slots)
+IsRotated slots account which key (Err f) slots' = TellsNoNextPair (pairs_of_all slots) account f × (slots' ≡ slots)
 IsRotated slots account which key other slots' = ⊥

@@ -41,10 +41,7 @@ use std::alloc::{AllocError, Global};
 use std::marker::Model;
 use std::sync::Arc;
 use stored_rows::{KeyRange, StoredRows};
-use stored_slot::StoredSlot;
-
-/// How many bytes an extent of two or more blocks may have.
-pub const EXTENT_BYTES: u32 = 268_435_456;
+use stored_slot::{EXTENT_BYTES, StoredSlot};
 
 /// Slots over streams, the spans of keys that they have, and the tickets that were given.
 ///

@@ -14,4 +14,4 @@ mod tending;
 
 pub use auditing::AuditedReply;
 pub use care::Care;
-pub use cores::{Core, EXTENT_BYTES};
+pub use cores::Core;

@@ -1,96 +1,48 @@
 //! How a key of an account is replaced, for all slots at once.
 ghost use Rattle.std.specs.Prelude.{◌≡◌, ◌+◌, IfErr, IfOk, OnErr, OnOk};
 ghost use Rattle.std.specs.Arc.{arc_value};
-ghost use Rattle.slot_state.specs.NextPairs.{IsNext, with_next};
-ghost use Rattle.slot_state.specs.Pairs.{current_at, pairs_at};
+ghost use Rattle.slot_state.specs.NextPairs.{HasNextPair};
 ghost use Rattle.stamp_core.specs.Ranges.{HaveSpans};
-ghost use Rattle.stamp_core.specs.Rotations.{BeginPairs, HasNextPair, HasNoNextPair, HaveCaughtUp, IsNextPair, IsRotated, pairs_of_all};
+ghost use Rattle.stamp_core.specs.Rotations as rotations;
+ghost use Rattle.stamp_core.specs.Rotations.{BeginPairs, HaveCaughtUp, IsRotated, TellsNoNextPair, pairs_of_all};
 
-use access_rules::{Keys, KeysFault, Which};
+use access_rules::Which;
 use core_run::{Outcome, StepFault};
 use hmac_sign::SigningKey;
 use partition_map::Spans;
-use slot_state::{AccountPairs, Histories};
+use slot_state::{AccountPairs, Histories, Longer, RotateFault};
 use stamp_types::Text;
 use std::alloc::{AllocError, Global};
 use std::sync::Arc;
 use stored_slot::StoredSlot;
 
-// The pairs of all accounts with a new pair, and the epoch of that pair.
-#[derive(Drop)]
-struct Longer {
-    pairs: Arc<AccountPairs>,
-    epoch: u64,
-}
-
-// The pair after the account's pair in force, with one of its keys replaced.
-fn next_pair(
-    pairs: &AccountPairs,
-    account: &Text,
-    which: Which,
-    key: SigningKey,
-) -> Result<Keys, StepFault>
-    ensures { IsNextPair (current_at pairs.now account.now) which key result }
+// The fault of a step for why no key is replaced.
+fn told(fault: RotateFault) -> StepFault
+    ensures { result ≡ rotations.told fault }
 {
-    match pairs.current(account) {
-        Some(old) => match old.next(which, key) {
-            Ok(pair) => Ok(pair),
-            Err(KeysFault::Last) => Err(StepFault::Last),
-            Err(KeysFault::NoMemory) => Err(StepFault::NoMemory),
-        },
-        None => {
-            drop(key);
-            Err(StepFault::NoAccount)
-        }
+    match fault {
+        RotateFault::NoAccount => StepFault::NoAccount,
+        RotateFault::Last => StepFault::Last,
+        RotateFault::NoMemory => StepFault::NoMemory,
     }
 }
 
-// The pair in an allocation that can be shared.
-fn share(alloc: Global, pair: Keys) -> Result<Arc<Keys>, AllocError>
-    ensures { IfOk result (λ shared. arc_value shared ≡ pair) }
-{
-    let shared = Arc::new(alloc, pair)?;
-    Ok(shared)
-}
-
-// The pairs with the next pair of an account, in an allocation that can be shared.
-fn with_pair(
-    pairs: &AccountPairs,
-    alloc: Global,
-    account: &Text,
-    pair: Keys,
-) -> Result<Arc<AccountPairs>, AllocError>
-    requires { IsNext (pairs_at pairs.now account.now) pair }
-    ensures { IfOk result (λ shared. arc_value shared ≡ with_next pairs.now account.now pair) }
-{
-    let pair = share(alloc, pair)?;
-    let longer = pairs.with_next(alloc, account, pair)?;
-    let shared = Arc::new(alloc, longer)?;
-    Ok(shared)
-}
-
-// The pairs of all accounts, after a key of one account was replaced.
-#[tactic(auto, using(crate::proofs::RotateLemmas::made_next, crate::proofs::RotateLemmas::made_longer, crate::proofs::RotateLemmas::made_then_none, crate::proofs::RotateLemmas::not_made))]
+// The pairs of all accounts, after a key of one account is replaced.
+#[tactic(auto, using(crate::proofs::RotateLemmas::not_made))]
 fn next_pairs(
     pairs: &AccountPairs,
     alloc: Global,
     account: &Text,
     which: Which,
-    key: SigningKey,
+    key: &SigningKey,
 ) -> Result<Longer, StepFault>
     ensures made { IfOk result (λ longer.
-        HasNextPair pairs.now account.now which key longer.epoch (arc_value longer.pairs)) }
-    ensures refused { IfErr result (λ fault. HasNoNextPair pairs.now account.now fault) }
+        HasNextPair pairs.now account.now which key.now longer.epoch (arc_value longer.pairs)) }
+    ensures refused { IfErr result (λ fault. TellsNoNextPair pairs.now account.now fault) }
 {
-    match next_pair(pairs, account, which, key) {
-        Ok(pair) => {
-            let epoch = pair.epoch;
-            match with_pair(pairs, alloc, account, pair) {
-                Ok(pairs) => Ok(Longer { pairs, epoch }),
-                Err(AllocError) => Err(StepFault::NoMemory),
-            }
-        }
-        Err(fault) => Err(fault),
+    match pairs.rotated(alloc, account, which, key, None) {
+        Ok(longer) => Ok(longer),
+        Err(fault) => Err(told(fault)),
     }
 }
 
@@ -101,12 +53,12 @@ fn longer_pairs<H: Histories>(
     alloc: Global,
     account: &Text,
     which: Which,
-    key: SigningKey,
+    key: &SigningKey,
 ) -> Result<Longer, StepFault>
     requires { HaveSpans slots.now.items spans.now }
     ensures made { IfOk result (λ longer.
-        HasNextPair (pairs_of_all slots.now.items) account.now which key longer.epoch (arc_value longer.pairs)) }
-    ensures refused { IfErr result (λ fault. HasNoNextPair (pairs_of_all slots.now.items) account.now fault) }
+        HasNextPair (pairs_of_all slots.now.items) account.now which key.now longer.epoch (arc_value longer.pairs)) }
+    ensures refused { IfErr result (λ fault. TellsNoNextPair (pairs_of_all slots.now.items) account.now fault) }
 {
     let _spans = spans;
     next_pairs(slots[0].account_pairs(), alloc, account, which, key)
@@ -136,7 +88,7 @@ fn bring_up<H: Histories>(
 ///
 /// `NoAccount` if the stamp has no such account, `Last` if no epoch comes after the epoch of the pair in force, and `NoMemory` if memory runs
 /// out. The slots are then as they were.
-#[tactic(auto, using(crate::proofs::RotateLemmas::some_current))]
+#[tactic(auto, using(crate::proofs::RotateLemmas::made_then_none))]
 pub(crate) fn rotate<H: Histories>(
     slots: &mut Vec<StoredSlot<H>>,
     spans: &Spans,
@@ -149,7 +101,7 @@ pub(crate) fn rotate<H: Histories>(
     ensures after { HaveSpans slots.new.items spans.now }
     ensures rotated { IsRotated slots.old.items account.now which key result slots.new.items }
 {
-    match longer_pairs(slots, spans, alloc, account, which, key) {
+    match longer_pairs(slots, spans, alloc, account, which, &key) {
         Ok(longer) => match bring_up(slots, 0, &longer.pairs) {
             Ok(()) => Ok(Outcome::Epoch(longer.epoch)),
             Err(AllocError) => Err(StepFault::NoMemory),

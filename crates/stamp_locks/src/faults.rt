@@ -31,25 +31,3 @@ pub enum SplitError {
     /// Nodes that were needed did not answer, or memory ran out for the halves of the slot.
     Slot(StoredFault),
 }
-
-/// Why no key was replaced.
-#[derive(Clone, Copy, Debug, PartialEq, Eq)]
-pub enum RotateFault {
-    /// The stamp has no such account.
-    NoAccount,
-    /// No epoch comes after the epoch of the pair in force.
-    Last,
-    /// Memory ran out.
-    NoMemory,
-}
-
-impl From<AllocError> for RotateFault {
-    ghost use Rattle.std.specs.Prelude.{◌≡◌};
-    ghost use Rattle.stamp_locks.specs.declared.faults.RotateFault.TheVariants.{NoMemory};
-
-    ghost from_gives = { λ _ e. e ≡ NoMemory };
-
-    fn from(_error: AllocError) -> Self {
-        Self::NoMemory
-    }
-}

@@ -14,7 +14,7 @@ mod table;
 mod tending;
 
 pub use care::Care;
-pub use faults::{MoveFault, RotateFault, SplitError, TendFault};
+pub use faults::{MoveFault, SplitError, TendFault};
 pub use laws::{
     changes_of_two_passes_are_in_one_list, who_was_shown_a_withdrawal_gets_no_answer_by_it,
 };

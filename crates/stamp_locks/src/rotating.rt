@@ -1,64 +1,14 @@
 //! How a key of an account is replaced, for all slots at once: the table has the next pair, and each slot takes it before it serves.
-ghost use Rattle.std.specs.Prelude.{◌≡◌, IfOk, OnOk, true};
-ghost use Rattle.std.specs.Arc.{arc_value};
-ghost use Rattle.slot_state.specs.NextPairs.{IsNext, with_next};
+ghost use Rattle.std.specs.Prelude.{◌≡◌, OnOk, true};
+ghost use Rattle.slot_state.specs.NextPairs.{IsNext};
 ghost use Rattle.slot_state.specs.Pairs.{current_at, pairs_at};
-ghost use Rattle.stamp_locks.specs.Rotations.{IsNextPair};
 
-use crate::faults::RotateFault;
-use access_rules::{Keys, KeysFault, Which};
-use hmac_sign::SigningKey;
+use access_rules::Keys;
 use slot_state::{AccountPairs, KeptHistories};
 use stamp_types::Text;
 use std::alloc::{AllocError, Global};
 use std::sync::Arc;
 use stored_slot::StoredSlot;
-
-/// The pair after the account's pair in force, with one of its keys replaced.
-pub(crate) fn next_pair(
-    pairs: &AccountPairs,
-    account: &Text,
-    which: Which,
-    key: SigningKey,
-) -> Result<Keys, RotateFault>
-    ensures { IsNextPair (current_at pairs.now account.now) which key result }
-{
-    match pairs.current(account) {
-        Some(old) => match old.next(which, key) {
-            Ok(pair) => Ok(pair),
-            Err(KeysFault::Last) => Err(RotateFault::Last),
-            Err(KeysFault::NoMemory) => Err(RotateFault::NoMemory),
-        },
-        None => {
-            drop(key);
-            Err(RotateFault::NoAccount)
-        }
-    }
-}
-
-// The pair in an allocation that can be shared.
-fn share(alloc: Global, pair: Keys) -> Result<Arc<Keys>, AllocError>
-    ensures { IfOk result (λ shared. arc_value shared ≡ pair) }
-{
-    let shared = Arc::new(alloc, pair)?;
-    Ok(shared)
-}
-
-/// The pairs with the next pair of an account, in an allocation that can be shared.
-pub(crate) fn with_pair(
-    pairs: &AccountPairs,
-    alloc: Global,
-    account: &Text,
-    pair: Keys,
-) -> Result<Arc<AccountPairs>, AllocError>
-    requires { IsNext (pairs_at pairs.now account.now) pair }
-    ensures { IfOk result (λ shared. arc_value shared ≡ with_next pairs.now account.now pair) }
-{
-    let pair = share(alloc, pair)?;
-    let longer = pairs.with_next(alloc, account, pair)?;
-    let shared = Arc::new(alloc, longer)?;
-    Ok(shared)
-}
 
 // Whether both are the same pair: the same account, the same two keys and the same epoch.
 fn is_same_pair(pair: &Keys, other: &Keys) -> bool

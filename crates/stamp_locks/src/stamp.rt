@@ -10,7 +10,7 @@ ghost use Rattle.stamp_locks.specs.Shown.{IsBack, IsHandledAfter, IsHandledAfter
 ghost use Rattle.stamp_locks.specs.declared.faults.MoveFault.TheVariants as move_fault;
 
 use crate::care::Care;
-use crate::faults::{MoveFault, RotateFault, SplitError, TendFault};
+use crate::faults::{MoveFault, SplitError, TendFault};
 use crate::posting::post;
 use crate::table::Table;
 use crate::tending::TakenOut;
@@ -20,7 +20,7 @@ use hmac_sign::SigningKey;
 use policy_book::Book;
 use range_rows::Reading;
 use slot_pass::{AfterFault, Pass};
-use slot_state::{AccountPairs, PairsFault};
+use slot_state::{AccountPairs, PairsFault, RotateFault};
 use stamp_types::{Key, Moment, Request, Text};
 use std::alloc::Global;
 use std::sync::{RwLock, Wait};

@@ -4,17 +4,16 @@ ghost use Rattle.std.proofs.Props.{props};
 ghost use Rattle.std.specs.Arc.{arc_value};
 ghost use Rattle.partition_map.specs.Spans.{AreSpans};
 ghost use Rattle.range_rows.specs.Readings.{reading_of};
+ghost use Rattle.slot_state.specs.NextPairs.{HasNextPair, HasNoNextPair};
 ghost use Rattle.stamp_locks.specs.Lent.{CutsSlot, FailsSplit, HandlesBy, HasSlot, IsCutFault, IsSplit, IsTended};
-ghost use Rattle.stamp_locks.specs.Rotations.{HasNextPair, HasNoNextPair};
 ghost use Rattle.stamp_locks.specs.Shown.{HandlesAfterBy, IsBack};
 ghost use Rattle.stamp_locks.specs.declared.faults.MoveFault.TheVariants as move_fault;
 ghost use Rattle.stamp_locks.specs.declared.faults.TendFault.TheVariants as tend_fault;
 
 use crate::care::Care;
-use crate::faults::{MoveFault, RotateFault, SplitError, TendFault};
+use crate::faults::{MoveFault, SplitError, TendFault};
 use crate::locked::Locked;
 use crate::ready::Ready;
-use crate::rotating::{next_pair, with_pair};
 use crate::tending::{TakenOut, tend};
 use access_rules::Which;
 use extent_node::Wire;
@@ -22,16 +21,13 @@ use hmac_sign::SigningKey;
 use partition_map::Spans;
 use range_rows::Reading;
 use slot_pass::{AfterFault, Pass};
-use slot_state::AccountPairs;
+use slot_state::{AccountPairs, Longer, RotateFault};
 use stamp_types::{Key, Moment, Request, Text};
 use std::alloc::{AllocError, Global};
 use std::sync::{Arc, Mutex, Wait};
 use stored_rows::{KeyRange, StoredFault, StoredRows, Unloaded};
-use stored_slot::{Audited, StoredSlot};
+use stored_slot::{Audited, EXTENT_BYTES, StoredSlot};
 use tickets::Answer;
-
-/// How many bytes an extent of two or more blocks may have.
-const EXTENT_BYTES: u32 = 268_435_456;
 
 /// The spans of keys, a slot under a lock of its own for each, and the key pairs of all accounts.
 #[derive(Drop)]
@@ -279,7 +275,6 @@ impl<W: Wire + Drop> Table<W> {
     ///
     /// `NoAccount` if the stamp has no such account, `Last` if no epoch comes after the epoch of the pair in force, and `NoMemory` if memory
     /// runs out. The pairs are then as they were.
-    #[tactic(auto, using(crate::proofs::RotateLemmas::made_next, crate::proofs::RotateLemmas::made_longer, crate::proofs::RotateLemmas::made_then_none, crate::proofs::RotateLemmas::not_made))]
     pub(crate) fn rotate(
         &mut self,
         alloc: Global,
@@ -291,16 +286,11 @@ impl<W: Wire + Drop> Table<W> {
         ensures refused { IfErr result (λ fault. HasNoNextPair (arc_value self.old.pairs) account.now fault) }
         ensures same { OnErr result (self.new.pairs ≡ self.old.pairs) }
     {
-        match next_pair(&self.pairs, account, which, key) {
-            Ok(pair) => {
-                let epoch = pair.epoch;
-                match with_pair(&self.pairs, alloc, account, pair) {
-                    Ok(longer) => {
-                        self.pairs = longer;
-                        Ok(epoch)
-                    }
-                    Err(AllocError) => Err(RotateFault::NoMemory),
-                }
+        match self.pairs.rotated(alloc, account, which, &key, None) {
+            Ok(longer) => {
+                let Longer { pairs, epoch } = longer;
+                self.pairs = pairs;
+                Ok(epoch)
             }
             Err(fault) => Err(fault),
         }

@@ -4,3 +4,4 @@ pub mod Decided
 pub mod Meanings
 pub mod Served
 pub mod Settled
+pub mod SteadyCounts

@@ -13,6 +13,7 @@ mod lent;
 mod rotating;
 mod serving;
 mod settling;
+mod steady;
 mod stored_slot;
 
 pub use auditing::Audited;
@@ -20,4 +21,5 @@ pub use laws::{
     a_doubt_of_a_slot_ends_whole, a_split_loses_nothing,
     after_unload_and_load_the_rows_are_the_replay,
 };
-pub use stored_slot::StoredSlot;
+pub use steady::Steady;
+pub use stored_slot::{EXTENT_BYTES, StoredSlot};

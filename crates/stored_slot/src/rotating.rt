@@ -1,5 +1,5 @@
 //! Key pairs of a slot that become longer.
-ghost use Rattle.std.specs.Prelude.{◌≡◌, IfOk, OnErr, OnOk};
+ghost use Rattle.std.specs.Prelude.{◌≡◌, OnErr, OnOk};
 ghost use Rattle.std.specs.Arc.{arc_value};
 ghost use Rattle.slot_state.specs.NextPairs.{AreFront, IsNext, ReplaysBy, with_next, with_pairs};
 ghost use Rattle.slot_state.specs.Pairs.{pairs_at};
@@ -10,21 +10,6 @@ use slot_state::{AccountPairs, Histories};
 use stamp_types::Text;
 use std::alloc::{AllocError, Global};
 use std::sync::Arc;
-
-// The pairs with one pair more of an account, in an allocation that can be shared.
-fn longer(
-    pairs: &AccountPairs,
-    alloc: Global,
-    account: &Text,
-    pair: Arc<Keys>,
-) -> Result<Arc<AccountPairs>, AllocError>
-    requires { IsNext (pairs_at pairs.now account.now) (arc_value pair) }
-    ensures { IfOk result (λ shared. arc_value shared ≡ with_next pairs.now account.now (arc_value pair)) }
-{
-    let longer = pairs.with_next(alloc, account, pair)?;
-    let shared = Arc::new(alloc, longer)?;
-    Ok(shared)
-}
 
 impl<H: Histories> StoredSlot<H> {
     /// The key pairs of all accounts, which the slot shares. Takes no memory.
@@ -61,7 +46,7 @@ impl<H: Histories> StoredSlot<H> {
         ensures replays { OnOk result (ReplaysBy (with_next self.old.pairs account.now (arc_value pair)) self.old) }
         ensures refused { OnErr result (self.new ≡ self.old) }
     {
-        let pairs = longer(&self.pairs, alloc, account, pair)?;
+        let pairs = self.pairs.with_next(alloc, account, pair)?;
         self.catch_up(pairs);
         Ok(())
     }

@@ -36,6 +36,9 @@ use std::sync::Arc;
 use stored_rows::{Repaired, Sealed, StoredFault, StoredRows, Unloaded, Unrepaired};
 use tickets::Answer;
 
+/// How many bytes an extent of two or more blocks may have, if nothing asks for another limit.
+pub const EXTENT_BYTES: u32 = 268_435_456;
+
 /// The containers of a range of keys, which three streams keep, and the accepted changes of each, with the key pairs of all accounts.
 ///
 /// Contracts see it as its histories, its key pairs, its range and its doubt. In bytes, each container of the range is what its history

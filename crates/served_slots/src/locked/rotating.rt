@@ -2,18 +2,19 @@
 ghost use Rattle.std.specs.Prelude.{◌≡◌, ◌<◌, ◌^◌, Err, IfOk, IfSome, List, None, OnErr, OnOk};
 ghost use Rattle.std.specs.Arc.{arc_value};
 ghost use Rattle.access_rules.specs.declared.rotation.KeysFault.TheVariants.{Last};
+ghost use Rattle.slot_state.specs.NextPairs.{HasNextPair};
 ghost use Rattle.served_history.specs.declared.entry.Entry.{Entry};
 ghost use Rattle.served_history.specs.Histories.{count_of};
-ghost use Rattle.served_slots.specs.Rotations.{HasLastEpoch, HasNextPair, RotatesSlot, RotatesSlots};
+ghost use Rattle.served_slots.specs.Rotations.{HasLastEpoch, RotatesSlot, RotatesSlots};
 ghost use Rattle.served_slots.specs.Slots.{IsLeftBy};
 
 use crate::locked::LockedSlot;
-use crate::next_pairs::{Longer, longer_in};
+use crate::next_pairs::longer_in;
 use crate::taking::take_and_enter;
 use access_rules::{Keys, KeysFault, Which};
 use hmac_sign::SigningKey;
 use served_history::{Account, Front, SlotHistory};
-use slot_state::ProvedHistories;
+use slot_state::{Longer, ProvedHistories, RotateFault};
 use stamp_types::{Key, Text};
 use std::alloc::Global;
 use std::sync::{Arc, Mutex};
@@ -51,8 +52,8 @@ fn longer_of<A: Account>(
     both.learn(known);
     match longer_in(slot, alloc, account, which, key, made) {
         Ok(longer) => Ok(Some(longer)),
-        Err(KeysFault::Last) => Err(KeysFault::Last),
-        Err(KeysFault::NoMemory) => Err(KeysFault::NoMemory),
+        Err(RotateFault::Last) => Err(KeysFault::Last),
+        Err(RotateFault::NoAccount | RotateFault::NoMemory) => Err(KeysFault::NoMemory),
     }
 }
 

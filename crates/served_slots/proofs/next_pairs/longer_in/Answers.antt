@@ -1,14 +1,14 @@
 use Rattle.std.proofs.Common.{◌∙◌, IfErr, IfOk, subst}
 use Rattle.std.specs.Arc.{arc_value}
+use Rattle.slot_state.specs.NextPairs.{HasNextPair, HasNoNextPair}
 use Rattle.slot_state.specs.Pairs.{Pairs}
-use Rattle.served_slots.specs.Rotations.{HasNextPair, HasNoNextPair}
 use Rattle.served_slots.proofs.next_pairs.longer_in.Goals as goal
 
 pub returns-clause-made : goal.returns-clause-made
 returns-clause-made c =
-    subst (λ (ps : Pairs). IfOk c.longer_pairs.result (λ longer. HasNextPair ps c.args.account.now c.args.which c.args.key.now longer.epoch (arc_value longer.pairs)))
-    (c.deref.ensures ∙ c.account_pairs.ensures) c.longer_pairs.ensures.made
+    subst (λ (ps : Pairs). IfOk c.rotated.result (λ longer. HasNextPair ps c.args.account.now c.args.which c.args.key.now longer.epoch (arc_value longer.pairs)))
+    (c.deref.ensures ∙ c.account_pairs.ensures) c.rotated.ensures.made
 
 pub returns-clause-refused : goal.returns-clause-refused
 returns-clause-refused c =
-    subst (λ (ps : Pairs). IfErr c.longer_pairs.result (λ fault. HasNoNextPair ps c.args.account.now fault)) (c.deref.ensures ∙ c.account_pairs.ensures) c.longer_pairs.ensures.refused
+    subst (λ (ps : Pairs). IfErr c.rotated.result (λ fault. HasNoNextPair ps c.args.account.now fault)) (c.deref.ensures ∙ c.account_pairs.ensures) c.rotated.ensures.refused

@@ -1,6 +1,6 @@
 use Rattle.std.proofs.Common.{Ok}
 use Rattle.extent_seal.specs.Counting.{all_faults}
-use Rattle.served_slots.specs.SteadyCounts.{no_faults}
+use Rattle.stored_slot.specs.SteadyCounts.{no_faults}
 use Rattle.served_slots.proofs.EnterLemmas.{never_less}
 use Rattle.served_slots.proofs.SteadyLemmas.{audited_steadily, entry_steadily}
 use Rattle.served_slots.proofs.steadily.audit_steadily.Goals as goal

@@ -1,5 +1,5 @@
 use Rattle.extent_seal.specs.Counting.{all_faults}
-use Rattle.served_slots.specs.SteadyCounts.{no_faults}
+use Rattle.stored_slot.specs.SteadyCounts.{no_faults}
 use Rattle.served_slots.proofs.EnterLemmas.{never_less}
 use Rattle.served_slots.proofs.SteadyLemmas.{served_steadily}
 use Rattle.served_slots.proofs.steadily.serve_steadily.Goals as goal

@@ -1,5 +1,6 @@
 use Rattle.std.specs.Arc.{arc_value}
-use Rattle.stamp_locks.specs.Rotations.{HasNextPair, HasNoNextPair, IsNotRotated, IsRotated}
+use Rattle.slot_state.specs.NextPairs.{HasNextPair, HasNoNextPair}
+use Rattle.stamp_locks.specs.Rotations.{IsNotRotated, IsRotated}
 use Rattle.stamp_locks.proofs.TellLemmas.{if_err, if_ok}
 use Rattle.stamp_locks.proofs.stamp.Stamp.rotate.Goals as goal
 

@@ -1,6 +1,6 @@
 -- What the wire of nodes in memory counts (SOSP 2011, section 4.3: the calls of an append; that no call fails is the stamp's own).
 use Rattle.extent_node.specs.Faults.{Calls, Counts}
-use Rattle.core_service.specs.declared.steady.NodeCounts.{NodeCounts}
+use Rattle.stored_slot.specs.declared.steady.NodeCounts.{NodeCounts}
 
 -- how often each node was called
 abbrev pub node_counts : NodeCounts → Counts

@@ -1,6 +1,6 @@
 //! The wire of nodes that are in memory, which never fails.
 ghost use Rattle.std.specs.Prelude.{◌≡◌};
-ghost use Rattle.served_slots.specs.SteadyCounts.{node_counts, no_faults};
+ghost use Rattle.stored_slot.specs.SteadyCounts.{node_counts, no_faults};
 
 use extent_node::{Delivery, Node, Wire};
 
@@ -39,16 +39,16 @@ impl NodeCounts {
 
 /// The wire to nodes in the memory of this process: each block is taken, and each node answers.
 ///
-/// It counts no fault, whatever it is asked: so a core over it never answers N1 or N2.
+/// It counts no fault, whatever it is asked: so a slot over it never answers N1 or N2.
 #[derive(Drop)]
-pub(crate) struct Steady {
+pub struct Steady {
     puts: NodeCounts,
     asks: NodeCounts,
 }
 
 impl Steady {
     /// A wire without calls. Takes no memory.
-    pub(crate) fn new() -> Self {
+    pub fn new() -> Self {
         Self {
             puts: NodeCounts::none(),
             asks: NodeCounts::none(),
@@ -60,7 +60,7 @@ impl Wire for Steady {
     ghost use Rattle.std.specs.Prelude.{◌≡◌, true};
     ghost use Rattle.extent_node.specs.Faults.{CountsAsk, CountsAskFault, CountsPut, CountsPutFault, is_done};
     ghost use Rattle.extent_node.specs.declared.wire.Delivery.TheVariants.{Done};
-    ghost use Rattle.served_slots.specs.SteadyCounts.{node_counts, no_faults};
+    ghost use Rattle.stored_slot.specs.SteadyCounts.{node_counts, no_faults};
 
     ghost calls = { λ s. record { puts = node_counts s.puts; asks = node_counts s.asks } };
 
