@@ -13,7 +13,7 @@ pub enum Way {
     Anonymous,
 }
 
-/// Which of the two keys of a pair gives a signature. If both keys give it, the first key is named.
+/// The key of a pair that gives a signature. If both keys give it, the first key is named.
 #[derive(Clone, Copy, Debug, PartialEq, Eq)]
 pub enum SignedBy {
     First,

@@ -56,7 +56,7 @@ fn before_signature<'a>(
     Ok(Claimed { claim, pair })
 }
 
-/// Which of the two keys gives the signature that the values of Authorization claim. `None` if there is no claim, or if the stamp does
+/// The key of the two that gives the signature that the values of Authorization claim. `None` if there is no claim, or if the stamp does
 /// not have the keys of the path's account.
 ///
 /// `AllocError` if memory runs out for the string to sign or for a signature.

@@ -88,7 +88,7 @@ fn gives(
     Ok(same_bytes(signature, text.as_bytes()))
 }
 
-/// Which of the two keys gives this signature for the string.
+/// The key of the two that gives this signature for the string.
 pub(crate) fn signer(
     alloc: Global,
     keys: &Keys,
@@ -109,7 +109,7 @@ pub(crate) fn signer(
     Ok(SignedBy::Neither)
 }
 
-/// Which of the two keys gives this signature for the string to sign of the request.
+/// The key of the two that gives this signature for the string to sign of the request.
 pub(crate) fn key_signer(
     alloc: Global,
     keys: &Keys,

@@ -14,7 +14,7 @@ use crate::token_route::signer_of_token;
 use stamp_types::{Ask, Credential, Request};
 use std::alloc::{AllocError, Global};
 
-/// Which of the two keys gives the signature that the request brings, by the key of an account or by a token. `None` if there is no
+/// The key of the two that gives the signature that the request brings, by the key of an account or by a token. `None` if there is no
 /// signature to judge: the request brings none, the claim or the token is not in its form, `keys` are not the keys of the path's
 /// account, or a token is not for what the request names.
 ///

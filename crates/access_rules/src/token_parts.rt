@@ -38,7 +38,7 @@ pub(crate) fn names_resource(ask: &Ask, resource: Resource) -> bool
     }
 }
 
-/// Which of the two keys gives the signature of a token, which is for what the request names.
+/// The key of the two that gives the signature of a token, which is for what the request names.
 #[tactic(auto, using(crate::proofs::TokenLemmas::container_named, crate::proofs::TokenLemmas::blob_named))]
 pub(crate) fn token_signer(
     alloc: Global,

@@ -106,7 +106,7 @@ fn before_signature<'a>(keys: Option<&'a Keys>, ask: &'a Ask) -> Result<Brought<
     Ok(Brought { token, pair })
 }
 
-/// Which of the two keys gives the signature of the request's token. `None` if one of the rules S1 to S3 holds.
+/// The key of the two that gives the signature of the request's token. `None` if one of the rules S1 to S3 holds.
 ///
 /// `AllocError` if memory runs out for the string to sign or for a signature.
 #[tactic(auto, using(crate::proofs::SignerLemmas::first_for))]

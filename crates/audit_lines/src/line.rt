@@ -70,7 +70,7 @@ fn append_number(out: &mut Vec<u8>, number: u64) -> Result<(), AllocError>
     out.extend_from_slice(digits.format(number).as_bytes())
 }
 
-// Which of the two keys gives the signature that the request of the entry brings. 0 if there are no keys.
+// The key of the two that gives the signature that the request of the entry brings. 0 if there are no keys.
 #[tactic(auto, using(crate::proofs::LineLemmas::first_number, crate::proofs::LineLemmas::other_number))]
 fn key_number(entry: &Entry) -> u64
     ensures { result ≡ lines.key_number entry.now.revision.keys entry.now.request.ask }

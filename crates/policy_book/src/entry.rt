@@ -130,7 +130,7 @@ impl Entry {
         self.way
     }
 
-    /// Which of the two keys of the revision gives the signature that the request brings: the first key, if it gives it, or else the
+    /// The key of the revision that gives the signature that the request brings: the first key, if it gives it, or else the
     /// second. `Neither` if the request brings no signature.
     pub fn by(&self) -> SignedBy
         ensures { result ≡ signed_by self.now.revision.keys self.now.request.ask }

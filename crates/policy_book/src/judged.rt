@@ -117,7 +117,7 @@ impl Judged {
         self.signature
     }
 
-    /// Which of the two keys gives the signature: the first key, if it gives it, or else the second. `Neither` if the signature is not
+    /// The key of the two that gives the signature: the first key, if it gives it, or else the second. `Neither` if the signature is not
     /// judged true.
     pub fn by(&self) -> SignedBy
         ensures { result ≡ signed_by (Some self.now.keys) self.now.ask }

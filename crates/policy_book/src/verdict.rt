@@ -71,7 +71,7 @@ pub fn verdict_by(
     verdict(alloc, keys, acl, request, now)
 }
 
-/// Which key of the pair in force gives the signature of a request: the first key, if it gives it, or else the second. `Neither` if there
+/// The key of the pair in force that gives the signature of a request: the first, if it gives it, or else the second. `Neither` if there
 /// is no true signature. A judgement of that pair spares the signature; one of another pair is not used.
 ///
 /// `AllocError` if memory runs out for the string to sign or for a signature.

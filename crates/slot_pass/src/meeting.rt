@@ -5,7 +5,7 @@ ghost use Rattle.slot_pass.specs.Passes.{IsMeetFault, IsOrder};
 use crate::comparing::front_differs;
 use crate::pass::Pass;
 
-/// Which of two fronts begins the other.
+/// The front of two that begins the other.
 #[derive(Clone, Copy, PartialEq, Eq, Debug)]
 pub enum Order {
     /// They are equal.
@@ -25,7 +25,7 @@ pub enum MeetFault {
     Differ(usize),
 }
 
-/// Which of two passes was shown more of their container. Takes no memory. The time is linear in the shorter front.
+/// The pass of two that was shown more of their container. Takes no memory. The time is linear in the shorter front.
 ///
 /// `Keys` if the passes are of different containers, or else `Differ` if neither front begins the other.
 #[tactic(auto, using(crate::proofs::ListLemmas::same_of, crate::proofs::ListLemmas::first_of, crate::proofs::ListLemmas::second_of, crate::proofs::ListLemmas::parts_of))]

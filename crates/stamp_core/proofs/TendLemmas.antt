@@ -13,7 +13,6 @@ use Rattle.stream_manager.specs.declared.faults.RepairFault.{RepairFault}
 use Rattle.stream_manager.specs.declared.faults.RepairFault.TheVariants as repair
 use Rattle.slot_state.specs.Slots.{SlotState}
 use Rattle.stored_slot.specs.Served.{Faulted}
-use Rattle.stored_slot.specs.Settled as settles
 use Rattle.stored_slot.specs.Settled.{LeavesRepaired, LeavesSettled, SettlesOrFails}
 use Rattle.core_run.specs.Cores.{CoreState, StandsFor, no_slot}
 use Rattle.core_run.specs.Machine.{Answer, Fails, MadeOrFails, OnSettled, OnSlotIf, SettledFirst, SettlesDoubt, Takes}

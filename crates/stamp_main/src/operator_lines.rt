@@ -44,7 +44,7 @@ pub(crate) enum Answer {
     NoMemory,
 }
 
-// Which key a line asks to replace, and the text of the new key.
+// The key that a line asks to replace, and the text of the new key.
 fn rotation_in(line: &[u8]) -> Option<(Which, &[u8])>
     ensures { option_map (λ asked. (asked.0, asked.1.now)) result ≡ lines.rotation_in line.now }
 {

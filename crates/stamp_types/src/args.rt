@@ -15,7 +15,7 @@ pub struct Kept {
     pub md5: Option<[u8; 16]>,
 }
 
-/// Which names are to be listed ("List Containers", "List Blobs").
+/// The names that are to be listed ("List Containers", "List Blobs").
 #[derive(PartialEq, Eq, Drop)]
 pub struct Page {
     /// What each name begins with.

@@ -25,7 +25,7 @@ pub struct Operation {
     pub block: Option<BlockId>,
     /// The kinds of blocks, if the operation is Get Block List.
     pub kinds: Option<BlockKinds>,
-    /// Which names are to be listed, if the operation lists names.
+    /// The names that are to be listed, if the operation lists names.
     pub page: Option<Page>,
 }
 

@@ -178,7 +178,7 @@ fn first_page() -> Page
     }
 }
 
-// Which names a query with parameters of a page asks for.
+// The names that a query with parameters of a page asks for.
 #[tactic(auto, unfolding(crate::specs::HeadPages::page_of, crate::specs::HeadRules::has_bad_page))]
 fn read_names(alloc: Global, op: Op, query: &FieldList) -> Result<Page, ValueFault>
     ensures { MatchResult result
@@ -207,7 +207,7 @@ fn page_by(op: Op, page: Page) -> Option<Page>
     if op.lists_names() { Some(page) } else { None }
 }
 
-/// Which names a query asks for, if the operation lists names. The delimiter counts if the operation is List Blobs.
+/// The names that a query asks for, if the operation lists names. The delimiter counts if the operation is List Blobs.
 ///
 /// `Refused` if a parameter of a page is given twice or has a bad value, whatever the operation is.
 pub(crate) fn read_page(
