@@ -38,7 +38,7 @@ CAUSES = {
     "None": ("valid", "complete"), "Over": ("ended",), "PairsFault.NotFirst": ("not_first", "refused"), "PairsFault.Twice": ("twice", "refused"),
     "PutFault": ("counted",), "ReadFault": ("unreachable",), "RecordFault": ("exact",), "RepairFault.NoSuchExtent": ("refused",),
     "RepairFault": ("faulty", "counted"), "RotateFault": ("refused",), "SecretFault": ("refused",), "SettleFault": ("counted",),
-    "SplitError": ("fault",), "StepFault.NoSuchExtent": (), "StepFault": ("taken", "ran"), "StoredFault": ("counted",), "TakeFault": ("counted",),
+    "SplitError": ("fault",), "SplitFault": ("fault",), "StepFault.NoSuchExtent": (), "StepFault": ("taken", "ran"), "StoredFault": ("counted",), "TakeFault": ("counted",),
     "TendFault.Repair(NoSuchExtent)": (), "TendFault": (ONLY,), "TimeFault.Form": ("form",), "TimeFault.Range": ("range",),
     "TokenFault": ("refused",), "Unreachable": ("unreachable",), "Unrepaired.NoSuchExtent": ("refused",), "Unrepaired": ("counted",),
 }

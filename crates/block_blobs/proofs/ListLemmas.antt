@@ -12,8 +12,8 @@ use Rattle.std.proofs.lemmas.List.{length-append}
 use Rattle.std.proofs.lemmas.Iterator.Adapters.{position_from-zero}
 use Rattle.std.proofs.lemmas.List.Elements.{All-head, All-tail}
 use Rattle.stamp_values.specs.Order.{name_cmp}
-use Rattle.stamp_values.specs.declared.block.Source.{Source}
-use Rattle.stamp_values.specs.declared.block.Source.TheVariants as source
+use Rattle.stamp_values.specs.declared.block.BlockSource.{BlockSource}
+use Rattle.stamp_values.specs.declared.block.BlockSource.TheVariants as source
 use Rattle.stamp_values.specs.declared.block.Taken.{Taken}
 use Rattle.stamp_values.specs.declared.block.Wanted.{Wanted}
 use Rattle.stamp_types.specs.declared.committed.Block.{Block}
@@ -75,7 +75,7 @@ each_in_one_piece b committed uncommitted source.Committed id = found_committed 
 -- ---- the entries of a list
 
 -- no sources give no entries
-pub no_sources : (ws : List Wanted) (ss : List Source) → length ss < 1 → entries_from ws ss ≡ []
+pub no_sources : (ws : List Wanted) (ss : List BlockSource) → length ss < 1 → entries_from ws ss ≡ []
 unfolding entries_from
 no_sources [] ss none = refl
 no_sources (w ∷ ws) [] none = refl
@@ -200,7 +200,7 @@ module _ {C : Type 0} (b : Blob C) where
   entries_from_found ws none = entries_from-found ws (each_found ws none)
 
   -- what is found first passes the test
-  find_passes : (test : Source → Bool) (ss : List Source) → IfSome (find test ss) (λ s. test s ≡ true)
+  find_passes : (test : BlockSource → Bool) (ss : List BlockSource) → IfSome (find test ss) (λ s. test s ≡ true)
   find_passes test [] = tt
   find_passes test (s ∷ ss) =
       elim (test s) as (λ t. test s ≡ t → IfSome (cond t (Some s) (find test ss)) (λ s. test s ≡ true)) [
@@ -212,7 +212,7 @@ module _ {C : Type 0} (b : Blob C) where
   not_none None some = cc
   not_none (Some x) some = refl
 
-  entry_is_there : (w : Wanted) (o : Option Source) → IfSome o (λ s. is_some (content_from s w.id b) ≡ true)
+  entry_is_there : (w : Wanted) (o : Option BlockSource) → IfSome o (λ s. is_some (content_from s w.id b) ≡ true)
       → AllByRecursion (λ t. is_none (content_from t.from t.id b) ≡ false) (option_to_list (option_map (taken_from w) o))
   entry_is_there w None some = tt
   entry_is_there w (Some s) some = (not_none (content_from s w.id b) some, tt)

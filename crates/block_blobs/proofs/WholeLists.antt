@@ -12,7 +12,7 @@ use Rattle.std.proofs.lemmas.List.Sums.{sum_by-cons}
 use Rattle.std.proofs.lemmas.Iterator.Adapters.{position_from-zero}
 use Rattle.stamp_values.specs.declared.block.Lookup.{Lookup}
 use Rattle.stamp_values.specs.declared.block.Lookup.TheVariants as lookup
-use Rattle.stamp_values.specs.declared.block.Source.TheVariants as source
+use Rattle.stamp_values.specs.declared.block.BlockSource.TheVariants as source
 use Rattle.stamp_values.specs.declared.block.Taken.{Taken}
 use Rattle.stamp_values.specs.declared.block.Wanted.{Wanted}
 use Rattle.stamp_types.specs.declared.piece.Piece.{Piece}

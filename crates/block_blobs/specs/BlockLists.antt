@@ -6,8 +6,8 @@ use Rattle.std.specs.Option.{option_map, option_and_then, option_to_list}
 use Rattle.stamp_values.specs.Limits.{entries_limit, blob_limit}
 use Rattle.stamp_values.specs.declared.block.Lookup.{Lookup}
 use Rattle.stamp_values.specs.declared.block.Lookup.TheVariants as lookup
-use Rattle.stamp_values.specs.declared.block.Source.{Source}
-use Rattle.stamp_values.specs.declared.block.Source.TheVariants as source
+use Rattle.stamp_values.specs.declared.block.BlockSource.{BlockSource}
+use Rattle.stamp_values.specs.declared.block.BlockSource.TheVariants as source
 use Rattle.stamp_values.specs.declared.block.Taken.{Taken}
 use Rattle.stamp_values.specs.declared.block.Wanted.{Wanted}
 use Rattle.stamp_types.specs.declared.piece.Piece.{Piece}
@@ -19,17 +19,17 @@ use Rattle.block_blobs.specs.declared.block_fault.BlockFault.{BlockFault}
 use Rattle.block_blobs.specs.declared.block_fault.BlockFault.TheVariants as fault
 
 -- where Put Block List looks for a block, in this order
-abbrev pub sources_of : Lookup → List Source
+abbrev pub sources_of : Lookup → List BlockSource
 sources_of lookup.Latest = source.Uncommitted ∷ source.Committed ∷ []
 sources_of lookup.Committed = source.Committed ∷ []
 sources_of lookup.Uncommitted = source.Uncommitted ∷ []
 
 -- where the wanted block is found: the first of these sources in which the blob has a block of the id
-abbrev pub source_of : {C : Type 0} → Blob C → Wanted → Option Source
+abbrev pub source_of : {C : Type 0} → Blob C → Wanted → Option BlockSource
 source_of b w = find (λ s. is_some (content_from s w.id b)) (sources_of w.lookup)
 
 -- the entry of a block that is found in this source
-abbrev pub taken_from : Wanted → Source → Taken
+abbrev pub taken_from : Wanted → BlockSource → Taken
 taken_from w s = record { id = w.id; from = s }
 
 -- the entries of the wanted blocks that are found, in their order
@@ -37,7 +37,7 @@ abbrev pub found_entries : {C : Type 0} → Blob C → List Wanted → List Take
 found_entries b ws = flat_map (λ w. option_to_list (option_map (taken_from w) (source_of b w))) ws
 
 -- where the wanted blocks are found, in their order, without those that are not found
-abbrev pub found_sources : {C : Type 0} → Blob C → List Wanted → List Source
+abbrev pub found_sources : {C : Type 0} → Blob C → List Wanted → List BlockSource
 found_sources b ws = flat_map (λ w. option_to_list (source_of b w)) ws
 
 -- the content of the wanted block, if it is found
@@ -49,7 +49,7 @@ abbrev pub found_blocks : {C : Type 0} → Blob C → List Wanted → List (Bloc
 found_blocks b ws = flat_map (λ w. option_to_list (option_map whole_block (found_content b w))) ws
 
 -- the entries of wanted blocks that are found in these sources, in their order
-unfoldable pub entries_from : List Wanted → List Source → List Taken
+unfoldable pub entries_from : List Wanted → List BlockSource → List Taken
 entries_from [] ss = []
 entries_from (w ∷ ws) [] = []
 entries_from (w ∷ ws) (s ∷ ss) = taken_from w s ∷ entries_from ws ss
@@ -134,4 +134,4 @@ taken_fault b ts = list_fault (first_absent b ts) (length ts) (listed_len b ts)
 
 -- each block that a list may take is in one piece
 abbrev pub EachInOnePiece : Blob (List Piece) → Type 0
-EachInOnePiece b = (s : Source) (id : List ℕ) → IfSome (content_from s id b) (λ content. IsTrue (is_in_one_piece content))
+EachInOnePiece b = (s : BlockSource) (id : List ℕ) → IfSome (content_from s id b) (λ content. IsTrue (is_in_one_piece content))

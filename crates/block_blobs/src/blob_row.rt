@@ -71,7 +71,7 @@ fn content_len(committed: &Option<Committed<Pieces>>) -> u64
     };
     match total_len(committed.blocks.as_slice()) {
         Some(len) => len,
-        None => unreachable!(),
+        None => unreachable!("the length of committed content fits 64 bits"),
     }
 }
 

@@ -66,7 +66,7 @@ impl<'a> CommittedBlocks<'a> {
         }
         match &self.index {
             Some(index) => Ok(first_content(index, id)),
-            None => unreachable!(),
+            None => unreachable!("the index was made above"),
         }
     }
 }

@@ -8,7 +8,7 @@ ghost use Rattle.block_blobs.specs.FirstBlocks.{blocks_of};
 use crate::blob_row::BlobRow;
 use crate::committed_blocks::CommittedBlocks;
 use crate::next_blocks::NextBlocks;
-use stamp_types::{Block, BlockId, Pieces, Source};
+use stamp_types::{Block, BlockId, BlockSource, Pieces};
 use std::alloc::{AllocError, Global};
 
 /// Puts a block without an id after the blocks. Its content has one more owner.
@@ -50,7 +50,7 @@ impl BlobRow {
         alloc: Global,
         committed: &mut CommittedBlocks<'a>,
         next: &mut NextBlocks<'a>,
-        from: Source,
+        from: BlockSource,
         id: &'a BlockId,
     ) -> Result<Option<&'a Pieces>, AllocError>
         requires committed { committed.old ≡ blocks_of self.now.committed }
@@ -61,8 +61,8 @@ impl BlobRow {
         ensures same { next.new ≡ next.old }
     {
         match from {
-            Source::Uncommitted => Ok(next.content(id)),
-            Source::Committed => committed.content(alloc, id),
+            BlockSource::Uncommitted => Ok(next.content(id)),
+            BlockSource::Committed => committed.content(alloc, id),
         }
     }
 }

@@ -13,17 +13,17 @@ use crate::found_blocks::FoundBlocks;
 use crate::lookups::push_unnamed;
 use crate::next_blocks::NextBlocks;
 use crate::resolved::Resolved;
-use stamp_types::{Block, Items, Lookup, Pieces, Source, Taken, Wanted};
+use stamp_types::{Block, BlockSource, Items, Lookup, Pieces, Taken, Wanted};
 use std::alloc::{AllocError, Global};
 
 // Where a block list looks for a block, in this order.
-fn sources_of(lookup: Lookup) -> &'static [Source]
+fn sources_of(lookup: Lookup) -> &'static [BlockSource]
     ensures { result.now ≡ lists.sources_of lookup }
 {
     match lookup {
-        Lookup::Latest => &[Source::Uncommitted, Source::Committed],
-        Lookup::Committed => &[Source::Committed],
-        Lookup::Uncommitted => &[Source::Uncommitted],
+        Lookup::Latest => &[BlockSource::Uncommitted, BlockSource::Committed],
+        Lookup::Committed => &[BlockSource::Committed],
+        Lookup::Uncommitted => &[BlockSource::Uncommitted],
     }
 }
 
@@ -34,7 +34,7 @@ fn sources_of(lookup: Lookup) -> &'static [Source]
 pub fn entries_from(
     alloc: Global,
     wanted: Items<Wanted>,
-    sources: &[Source],
+    sources: &[BlockSource],
 ) -> Result<Items<Taken>, AllocError>
     ensures { IfOk result (λ entries. entries ≡ lists.entries_from wanted sources.now) }
 {
@@ -63,7 +63,7 @@ impl BlobRow {
         committed: &mut CommittedBlocks<'a>,
         next: &mut NextBlocks<'a>,
         wanted: &'a Wanted,
-    ) -> Result<Option<(Source, &'a Pieces)>, AllocError>
+    ) -> Result<Option<(BlockSource, &'a Pieces)>, AllocError>
         requires committed { committed.old ≡ blocks_of self.now.committed }
         requires uncommitted { next.old ≡ self.now.uncommitted }
         ensures found { IfOk result (λ found. MatchOption found
@@ -88,7 +88,7 @@ impl BlobRow {
         &'a self,
         alloc: Global,
         wanted: &'a [Wanted],
-    ) -> Result<(Vec<Source>, Vec<Block<Pieces>>), BlockFault>
+    ) -> Result<(Vec<BlockSource>, Vec<Block<Pieces>>), BlockFault>
         ensures sources { IfOk result (λ p.
             p.0.items ≡ lists.found_sources self.now wanted.now) }
         ensures blocks { IfOk result (λ p. p.1.items ≡ lists.found_blocks self.now wanted.now) }

@@ -10,7 +10,7 @@ use crate::blob_row::BlobRow;
 use crate::block_fault::BlockFault;
 use crate::found_blocks::FoundBlocks;
 use crate::resolved::Resolved;
-use stamp_types::{BLOB_LIMIT, BlockId, Items, Lookup, Pieces, Source, Wanted};
+use stamp_types::{BLOB_LIMIT, BlockId, BlockSource, Items, Lookup, Pieces, Wanted};
 use std::alloc::Global;
 use std::collections::btree_map::Iter;
 
@@ -93,7 +93,7 @@ impl BlobRow {
             return Err(BlockFault::TooLarge);
         };
         let blocks = FoundBlocks::all(alloc, wanted.len(), len)?;
-        let sources = vec![in alloc; Source::Uncommitted; wanted.len()]?;
+        let sources = vec![in alloc; BlockSource::Uncommitted; wanted.len()]?;
         Ok(Resolved {
             sources: Items::new(sources),
             blocks,

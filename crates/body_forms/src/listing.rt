@@ -48,7 +48,7 @@ pub fn page_asked(request: &Request) -> &Page
 {
     match &request.ask().args.page {
         Some(page) => page,
-        None => unreachable!(),
+        None => unreachable!("each operation that lists names asks for a page"),
     }
 }
 

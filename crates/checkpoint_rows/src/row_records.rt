@@ -29,11 +29,11 @@ fn name_of(alloc: Global, name: &[u8]) -> Result<Text, AllocError>
     ensures { IfOk result (λ t. t ≡ name.now) }
 {
     let Some(text) = utf8_text(name) else {
-        unreachable!();
+        unreachable!("the name of a blob is UTF-8");
     };
     match Text::new(String::from_str(alloc, text)?) {
         Some(text) => Ok(text),
-        None => unreachable!(),
+        None => unreachable!("the name of a blob is a text"),
     }
 }
 
@@ -61,7 +61,7 @@ pub(crate) fn blob_row(
     ensures { IfOk result (λ c. c ≡ record { key = key.now; act = blob_row_of (name.now, blob.now) }) }
 {
     let Some(row) = blob.row() else {
-        unreachable!();
+        unreachable!("the rows have this blob");
     };
     let key = key.clone()?;
     let name = name_of(alloc, name)?;

@@ -39,7 +39,7 @@ fn core_of(alloc: Global, keys: &Keys) -> Result<Core<ProvedHistories>, AllocErr
     match Core::new(alloc, pairs) {
         Ok(core) => Ok(core),
         Err(PairsFault::NoMemory) => Err(AllocError),
-        Err(_) => unreachable!(),
+        Err(_) => unreachable!("one pair of epoch 0 has no other fault"),
     }
 }
 

@@ -6,7 +6,7 @@ use core_run::{Outcome, Step, StepFault};
 use extent_node::{Delivery, Script};
 use http_front::Service;
 use slot_state::KeptHistories;
-use stamp_core::{Care, Core};
+use stamp_core::{Core, CoreCare};
 use stamp_types::{Moment, Reply, Request};
 use std::alloc::{AllocError, Global};
 use std::process::Abort;
@@ -123,7 +123,7 @@ pub(crate) fn tended(
     alloc: Global,
     driven: &mut Driven,
     slot: usize,
-    care: Care,
+    care: CoreCare,
 ) -> Option<StepFault> {
     let tended = driven.core.tend(alloc, slot, care, &mut driven.wire);
     tended.map(drop).err()

@@ -14,7 +14,7 @@ use core_run::{Outcome, Step, StepFault};
 use extent_node::Node;
 use partition_map::MapFault;
 use partition_stream::StreamName;
-use stamp_core::Care;
+use stamp_core::CoreCare;
 use std::alloc::Global;
 use std::process::Abort;
 
@@ -64,7 +64,7 @@ fn is_committed(rt: &impl Abort, alloc: Global, driven: &mut Driven, container: 
 fn keep_a_ticket(rt: &impl Abort, alloc: Global, driven: &mut Driven) {
     assert!(rt; begins(rt, alloc, driven, CREATE, CREATED));
     assert!(rt; begins(rt, alloc, driven, PUT, CREATED));
-    assert!(rt; tended(alloc, driven, 0, Care::Seal).is_none());
+    assert!(rt; tended(alloc, driven, 0, CoreCare::Seal).is_none());
     driven.keeps = true;
     sent_if(rt, alloc, driven, GET);
     driven.keeps = false;
@@ -98,9 +98,9 @@ fn begin_a_doubt(rt: &impl Abort, alloc: Global, driven: &mut Driven) {
 fn settles_a_doubt(rt: &impl Abort, alloc: Global, driven: &mut Driven) {
     begin_a_doubt(rt, alloc, driven);
     give(rt, alloc, driven, &[], &SILENT_TWICE);
-    assert!(rt; tended(alloc, driven, 0, Care::Settle) == Some(StepFault::Busy));
+    assert!(rt; tended(alloc, driven, 0, CoreCare::Settle) == Some(StepFault::Busy));
     assert!(rt; says(rt, alloc, driven, CREATE, "Refused by rule N1."));
-    assert!(rt; tended(alloc, driven, 0, Care::Settle).is_none());
+    assert!(rt; tended(alloc, driven, 0, CoreCare::Settle).is_none());
     assert!(rt; begins(rt, alloc, driven, CREATE, CONFLICT));
 }
 
@@ -118,8 +118,8 @@ fn splits_in_doubt(rt: &impl Abort, alloc: Global, driven: &mut Driven) {
 // A slot that was moved or unloaded keeps its doubt, and loads its rows again.
 fn moves_in_doubt(rt: &impl Abort, alloc: Global, driven: &mut Driven) {
     begin_a_doubt(rt, alloc, driven);
-    assert!(rt; tended(alloc, driven, 0, Care::Unload).is_none());
-    assert!(rt; tended(alloc, driven, 0, Care::Move { server: 1 }).is_none());
+    assert!(rt; tended(alloc, driven, 0, CoreCare::Unload).is_none());
+    assert!(rt; tended(alloc, driven, 0, CoreCare::Move { server: 1 }).is_none());
     give(
         rt,
         alloc,
@@ -127,22 +127,22 @@ fn moves_in_doubt(rt: &impl Abort, alloc: Global, driven: &mut Driven) {
         &[],
         &[false, false, false, true, false, false],
     );
-    assert!(rt; tended(alloc, driven, 0, Care::Load) == Some(StepFault::Busy));
-    assert!(rt; tended(alloc, driven, 0, Care::Load).is_none());
+    assert!(rt; tended(alloc, driven, 0, CoreCare::Load) == Some(StepFault::Busy));
+    assert!(rt; tended(alloc, driven, 0, CoreCare::Load).is_none());
     assert!(rt; begins(rt, alloc, driven, CREATE, CONFLICT));
 }
 
 // What is done to a slot that does not exist.
 fn has_one_slot(rt: &impl Abort, alloc: Global, driven: &mut Driven) {
-    assert!(rt; tended(alloc, driven, 1, Care::Settle) == Some(StepFault::NoSuchSlot));
-    assert!(rt; tended(alloc, driven, 1, Care::Checkpoint) == Some(StepFault::NoSuchSlot));
-    assert!(rt; tended(alloc, driven, 1, Care::Unload) == Some(StepFault::NoSuchSlot));
+    assert!(rt; tended(alloc, driven, 1, CoreCare::Settle) == Some(StepFault::NoSuchSlot));
+    assert!(rt; tended(alloc, driven, 1, CoreCare::Checkpoint) == Some(StepFault::NoSuchSlot));
+    assert!(rt; tended(alloc, driven, 1, CoreCare::Unload) == Some(StepFault::NoSuchSlot));
     assert!(rt; tended(alloc, driven, 1, repair_of(0)) == Some(StepFault::NoSuchSlot));
 }
 
 // The repair of an extent of the log, on the second node.
-fn repair_of(extent: u64) -> Care {
-    Care::Repair {
+fn repair_of(extent: u64) -> CoreCare {
+    CoreCare::Repair {
         stream: StreamName::Log,
         extent,
         node: Node::One,
@@ -153,14 +153,14 @@ fn repair_of(extent: u64) -> Care {
 fn repairs_the_log(rt: &impl Abort, alloc: Global, driven: &mut Driven) {
     assert!(rt; begins(rt, alloc, driven, CREATE, CREATED));
     give(rt, alloc, driven, &[], &[true, false, true]);
-    assert!(rt; tended(alloc, driven, 0, Care::Seal).is_none());
+    assert!(rt; tended(alloc, driven, 0, CoreCare::Seal).is_none());
     assert!(rt; tended(alloc, driven, 0, repair_of(99)) == Some(StepFault::NoSuchExtent));
     give(rt, alloc, driven, &[], &[false, false]);
     assert!(rt; tended(alloc, driven, 0, repair_of(0)) == Some(StepFault::Unreachable));
     assert!(rt; tended(alloc, driven, 0, repair_of(0)).is_none());
-    assert!(rt; tended(alloc, driven, 0, Care::Unload).is_none());
+    assert!(rt; tended(alloc, driven, 0, CoreCare::Unload).is_none());
     give(rt, alloc, driven, &[], &[false, true]);
-    assert!(rt; tended(alloc, driven, 0, Care::Load).is_none());
+    assert!(rt; tended(alloc, driven, 0, CoreCare::Load).is_none());
 }
 
 // A checkpoint settles first: it is Busy as long as no node answers. Then the container is kept, also after its rows are loaded again. A checkpoint
@@ -168,13 +168,13 @@ fn repairs_the_log(rt: &impl Abort, alloc: Global, driven: &mut Driven) {
 fn makes_a_checkpoint(rt: &impl Abort, alloc: Global, driven: &mut Driven) {
     begin_a_doubt(rt, alloc, driven);
     give(rt, alloc, driven, &[], &SILENT_TWICE);
-    assert!(rt; tended(alloc, driven, 0, Care::Checkpoint) == Some(StepFault::Busy));
+    assert!(rt; tended(alloc, driven, 0, CoreCare::Checkpoint) == Some(StepFault::Busy));
     assert!(rt; says(rt, alloc, driven, CREATE, "Refused by rule N1."));
-    assert!(rt; tended(alloc, driven, 0, Care::Checkpoint).is_none());
-    assert!(rt; tended(alloc, driven, 0, Care::Unload).is_none());
+    assert!(rt; tended(alloc, driven, 0, CoreCare::Checkpoint).is_none());
+    assert!(rt; tended(alloc, driven, 0, CoreCare::Unload).is_none());
     assert!(rt; begins(rt, alloc, driven, CREATE, CONFLICT));
     give(rt, alloc, driven, &[R, R, R, R, R, R], &[]);
-    assert!(rt; tended(alloc, driven, 0, Care::Checkpoint) == Some(StepFault::Busy));
+    assert!(rt; tended(alloc, driven, 0, CoreCare::Checkpoint) == Some(StepFault::Busy));
     assert!(rt; begins(rt, alloc, driven, CREATE, CONFLICT));
 }
 
@@ -182,14 +182,14 @@ fn makes_a_checkpoint(rt: &impl Abort, alloc: Global, driven: &mut Driven) {
 fn makes_a_compaction(rt: &impl Abort, alloc: Global, driven: &mut Driven) {
     begin_a_doubt(rt, alloc, driven);
     give(rt, alloc, driven, &[], &SILENT_TWICE);
-    assert!(rt; tended(alloc, driven, 0, Care::Compact) == Some(StepFault::Busy));
+    assert!(rt; tended(alloc, driven, 0, CoreCare::Compact) == Some(StepFault::Busy));
     assert!(rt; says(rt, alloc, driven, CREATE, "Refused by rule N1."));
-    assert!(rt; tended(alloc, driven, 0, Care::Compact).is_none());
+    assert!(rt; tended(alloc, driven, 0, CoreCare::Compact).is_none());
     assert!(rt; begins(rt, alloc, driven, PUT, CREATED));
-    assert!(rt; tended(alloc, driven, 0, Care::Compact).is_none());
+    assert!(rt; tended(alloc, driven, 0, CoreCare::Compact).is_none());
     assert!(rt; ends(rt, alloc, driven, GET, b"\r\n\r\nhello"));
     give(rt, alloc, driven, &[R, R, R, R, R, R], &[]);
-    assert!(rt; tended(alloc, driven, 0, Care::Compact) == Some(StepFault::Busy));
+    assert!(rt; tended(alloc, driven, 0, CoreCare::Compact) == Some(StepFault::Busy));
     assert!(rt; ends(rt, alloc, driven, GET, b"\r\n\r\nhello"));
 }
 
@@ -197,7 +197,7 @@ fn makes_a_compaction(rt: &impl Abort, alloc: Global, driven: &mut Driven) {
 fn reads_the_old_data(rt: &impl Abort, alloc: Global, driven: &mut Driven) {
     keep_a_ticket(rt, alloc, driven);
     assert!(rt; begins(rt, alloc, driven, PUT_WORLD, CREATED));
-    assert!(rt; tended(alloc, driven, 0, Care::Compact).is_none());
+    assert!(rt; tended(alloc, driven, 0, CoreCare::Compact).is_none());
     assert!(rt; ends(rt, alloc, driven, GET, b"\r\n\r\nworld"));
     let content = fetched(rt, alloc, driven, 0).expect(rt, "a reply");
     assert!(rt; content.as_slice() == b"hello".as_slice());

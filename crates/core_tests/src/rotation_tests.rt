@@ -13,7 +13,7 @@ use http_front::Service;
 use policy_book::judge;
 use range_rows::Reading;
 use slot_state::KeptHistories;
-use stamp_core::{Care, Core};
+use stamp_core::{Core, CoreCare};
 use stamp_types::{Moment, Reply, Request};
 use std::alloc::{AllocError, Global};
 use std::process::Abort;
@@ -101,7 +101,7 @@ fn keeps_a_doubt(rt: &impl Abort, alloc: Global, driven: &mut Driven) {
     assert!(rt; says(rt, alloc, driven, CREATE, "Refused by rule N2."));
     assert!(rt; rotated(rt, alloc, driven, b"new1") == Some(1));
     give(rt, alloc, driven, &[], &[true, false, false]);
-    assert!(rt; tended(alloc, driven, 0, Care::Settle).is_none());
+    assert!(rt; tended(alloc, driven, 0, CoreCare::Settle).is_none());
     assert!(rt; begins(rt, alloc, driven, PUT_BY_NEW, CREATED));
     assert!(rt; says(rt, alloc, driven, CREATE, "Refused by rule K5."));
 }
@@ -111,7 +111,7 @@ fn loads_both_epochs(rt: &impl Abort, alloc: Global, driven: &mut Driven) {
     assert!(rt; begins(rt, alloc, driven, CREATE, CREATED));
     assert!(rt; rotated(rt, alloc, driven, b"new1") == Some(1));
     assert!(rt; begins(rt, alloc, driven, PUT_BY_NEW, CREATED));
-    assert!(rt; tended(alloc, driven, 0, Care::Unload).is_none());
+    assert!(rt; tended(alloc, driven, 0, CoreCare::Unload).is_none());
     assert!(rt; ends(rt, alloc, driven, GET_BY_SECOND, b"\r\n\r\nhello"));
 }
 

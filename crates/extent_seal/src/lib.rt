@@ -13,4 +13,4 @@ pub use copying::CopyFault;
 pub use laws::replicas_hold_prefixes;
 pub use open_extent::{Appended, NoReplica, OpenExtent};
 pub use sealed::{ReadFault, Sealed};
-pub use shares::Shares;
+pub use shares::BlockOwners;

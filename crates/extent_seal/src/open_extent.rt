@@ -4,7 +4,7 @@ ghost use Rattle.extent_seal.specs.Extents.{least_room};
 
 use crate::cutting::cut;
 use crate::sealed::{ReadFault, Sealed, shared};
-use crate::shares::Shares;
+use crate::shares::BlockOwners;
 use extent_node::{Node, Replica, Wire};
 use stamp_values::Share;
 use std::alloc::{AllocError, Global};
@@ -132,7 +132,7 @@ impl OpenExtent {
         ensures refused { OnErr result (self.new ≡ self.old) }
         ensures unheard { OnErr result (wire.new ≡ wire.old) }
     {
-        let shares = Shares::new(block)?;
+        let shares = BlockOwners::new(block)?;
         self.reserve()?;
         Ok(self.append_reserved(shares, wire))
     }
@@ -140,7 +140,7 @@ impl OpenExtent {
     /// Puts the block to each of the three nodes, with the room that was made. Takes no memory.
     ///
     /// The block is acknowledged if all three nodes take it and say so.
-    pub fn append_reserved<W: Wire>(&mut self, block: Shares, wire: &mut W) -> Appended
+    pub fn append_reserved<W: Wire>(&mut self, block: BlockOwners, wire: &mut W) -> Appended
         requires clear { self.old.extent.tried ≡ None }
         requires room { 0 < self.old.room }
         ensures appended { IsAppended result self.old.extent block self.new.extent }

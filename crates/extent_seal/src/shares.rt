@@ -9,14 +9,14 @@ use std::marker::Model;
 ///
 /// It is seen as the block. No byte is copied.
 #[derive(Drop)]
-pub struct Shares {
+pub struct BlockOwners {
     pub(crate) zero: Share,
     pub(crate) one: Share,
     pub(crate) two: Share,
     pub(crate) tried: Share,
 }
 
-impl Model for Shares {
+impl Model for BlockOwners {
     ghost use Rattle.std.specs.Prelude.{◌≡◌};
     ghost use Rattle.extent_node.specs.Copies.{Block};
 
@@ -27,7 +27,7 @@ impl Model for Shares {
     ghost invariant = { λ s. (s.zero ≡ s.tried) × ((s.one ≡ s.tried) × (s.two ≡ s.tried)) };
 }
 
-impl Shares {
+impl BlockOwners {
     ghost use Rattle.std.specs.Prelude.{◌≡◌, length, IfOk};
 
     /// Four more owners of the bytes of the block.

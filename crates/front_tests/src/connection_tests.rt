@@ -2,7 +2,9 @@
 //! awaited.
 ghost use Rattle.std.specs.Prelude.{⊤};
 
-use http_front::{Clock, Connection, End, FrontFault, Service, Stage, Step, advance, finish, run};
+use http_front::{
+    Clock, Connection, End, FrontFault, Progress, Service, Stage, advance, finish, run,
+};
 use reply_form::out_of_memory_reply;
 use stamp_types::{Code, Moment, Refusal, Reply, Request, Rule};
 use std::alloc::{AllocError, Global};
@@ -279,8 +281,8 @@ fn go_on(
             &mut service,
             true,
         ) {
-            Ok(Step::Waits(next)) => stage = next,
-            Ok(Step::Ended(end)) => {
+            Ok(Progress::Waits(next)) => stage = next,
+            Ok(Progress::Ended(end)) => {
                 ended = Some(finish(&mut connection, Ok(end)));
                 waits = wait;
                 break;

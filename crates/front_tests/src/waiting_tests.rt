@@ -2,7 +2,7 @@
 ghost use Rattle.std.specs.Prelude.{⊤};
 
 use http_front::{
-    Clock, Connection, End, FrontFault, Service, Stage, Step, advance, finish, give_up, run,
+    Clock, Connection, End, FrontFault, Progress, Service, Stage, advance, finish, give_up, run,
 };
 use stamp_types::{Items, Moment, Reply, Request, Share, Shares, Status};
 use std::alloc::{AllocError, Global};
@@ -209,7 +209,7 @@ fn go_on(alloc: Global, first: usize, most: usize, writer: Taking, shares: u64) 
             &mut service,
             true,
         ) {
-            Ok(Step::Waits(next)) => {
+            Ok(Progress::Waits(next)) => {
                 let waits = next.wants_write();
                 if waits {
                     writes = writes.saturating_add(1);
@@ -220,7 +220,7 @@ fn go_on(alloc: Global, first: usize, most: usize, writer: Taking, shares: u64) 
                 waited = waits;
                 stage = next;
             }
-            Ok(Step::Ended(end)) => {
+            Ok(Progress::Ended(end)) => {
                 ended = Some(finish(&mut connection, Ok(end)));
                 break;
             }
@@ -391,7 +391,7 @@ fn a_connection_that_is_given_up_ends_by_what_it_waits_for(rt: HostRuntime) {
                 &mut service,
                 true,
             ) {
-                Ok(Step::Waits(next)) => {
+                Ok(Progress::Waits(next)) => {
                     if next.wants_write() == writes {
                         let fault = give_up(&mut connection, next);
                         ended = Some(finish(&mut connection, Err(fault)));
@@ -399,7 +399,7 @@ fn a_connection_that_is_given_up_ends_by_what_it_waits_for(rt: HostRuntime) {
                     }
                     stage = next;
                 }
-                Ok(Step::Ended(_end)) => break,
+                Ok(Progress::Ended(_end)) => break,
                 Err(_fault) => break,
             }
         }
@@ -435,14 +435,14 @@ fn one_reply_is_held_at_a_time(rt: HostRuntime) {
             &mut service,
             true,
         ) {
-            Ok(Step::Waits(next)) => {
+            Ok(Progress::Waits(next)) => {
                 waits = waits.saturating_add(1);
                 if waits == 100 {
                     most = asked.get();
                 }
                 stage = next;
             }
-            Ok(Step::Ended(_end)) => break,
+            Ok(Progress::Ended(_end)) => break,
             Err(_fault) => break,
         }
     }

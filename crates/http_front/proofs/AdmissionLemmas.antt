@@ -4,8 +4,8 @@ use Rattle.stamp_types.specs.declared.ask.Ask.{Ask}
 use Rattle.request_form.specs.HeadForms.{Form}
 use Rattle.http_front.specs.declared.end.FrontFault.{FrontFault}
 use Rattle.http_front.specs.declared.item.Found.{Found}
-use Rattle.http_front.specs.declared.item.Step.{Step}
-use Rattle.http_front.specs.declared.item.Step.TheVariants.{Ended, Waits}
+use Rattle.http_front.specs.declared.item.Progress.{Progress}
+use Rattle.http_front.specs.declared.item.Progress.TheVariants.{Ended, Waits}
 use Rattle.http_front.specs.Admissions.{ReadsAdmitted, StaysAdmitted, StepAdmitted, stage_admitted}
 use Rattle.http_front.specs.Stages.{IsCallOf}
 
@@ -17,7 +17,7 @@ pub stays_more : (before then now : Option Ask) → StaysAdmitted before then �
 stays_more before then None p q = tt
 stays_more before then (Some ask) p q = subst (StaysAdmitted before) q p
 
-pub step_more : (before then : Option Ask) (step : Step) → StaysAdmitted before then → StepAdmitted then (Ok step) → StepAdmitted before (Ok step)
+pub step_more : (before then : Option Ask) (step : Progress) → StaysAdmitted before then → StepAdmitted then (Ok step) → StepAdmitted before (Ok step)
 step_more before then (Ended end) p q = tt
 step_more before then (Waits stage) p q = stays_more before then (stage_admitted stage) p q
 

@@ -17,8 +17,8 @@ use Rattle.http_front.specs.declared.item.PartialItem.TheVariants.{InHead, Askin
 use Rattle.http_front.specs.declared.item.PartialReply.{PartialReply}
 use Rattle.http_front.specs.declared.item.Stage.{Stage}
 use Rattle.http_front.specs.declared.item.Stage.TheVariants.{Reading, Answering, Replying}
-use Rattle.http_front.specs.declared.item.Step.{Step}
-use Rattle.http_front.specs.declared.item.Step.TheVariants.{Ended, Waits}
+use Rattle.http_front.specs.declared.item.Progress.{Progress}
+use Rattle.http_front.specs.declared.item.Progress.TheVariants.{Ended, Waits}
 use Rattle.http_front.specs.Answers.{AnswersItem, found_closes, LeavesItemUnanswered}
 use Rattle.http_front.specs.Connections.{ConnectionState, ReaderState, WriterState, Receives, Sends, IsFresh, IsIdle, IsOpen, IsLeftBy}
 use Rattle.http_front.specs.Conversations.{AnswersInput, AnswersReceived, BreaksOff, EndsOutOfMemory}
@@ -121,7 +121,7 @@ can_go_on (Reading (InBody begun)) c waits = let less = waits.1 in ((waits.0.0, 
 can_go_on (Answering found) c waits = (waits.0, tt)
 can_go_on (Replying reply) c waits = ((waits.0.0, waits.0.1), tt)
 
-pub step_can_go_on : (result : Result Step FrontFault) (c : ConnectionState) → LeavesStep result c → CanGoOn result c
+pub step_can_go_on : (result : Result Progress FrontFault) (c : ConnectionState) → LeavesStep result c → CanGoOn result c
 step_can_go_on (Ok (Ended end)) c left = tt
 step_can_go_on (Ok (Waits stage)) c left = can_go_on stage c left
 step_can_go_on (Err fault) c left = tt
@@ -134,7 +134,7 @@ takes_found (next_item.Refused denial) c = tt
 -- ---- what writing on at a reply leaves
 
 -- no connection waits for room while its reply is written
-pub answered_replied : (reply : PartialReply) (result : Result (Option Step) FrontFault) (from to : WriterState) → WritesReply reply result from to → HasAnsweredOn result
+pub answered_replied : (reply : PartialReply) (result : Result (Option Progress) FrontFault) (from to : WriterState) → WritesReply reply result from to → HasAnsweredOn result
 answered_replied reply (Ok None) from to w = tt
 answered_replied reply (Ok (Some (Ended end))) from to w = tt
 answered_replied reply (Ok (Some (Waits (Reading item)))) from to w = absurd w
@@ -149,7 +149,7 @@ module _ (reply : PartialReply) (a b : ConnectionState) (unread : (b.reader ≡ 
       let size = ap length unread.1 in
       omega arith
 
-  pub leaves_replied : (result : Result (Option Step) FrontFault) → a.reader.input ≡ inputs.Open → WritesReply reply result a.writer b.writer → LeavesOn result b
+  pub leaves_replied : (result : Result (Option Progress) FrontFault) → a.reader.input ≡ inputs.Open → WritesReply reply result a.writer b.writer → LeavesOn result b
   leaves_replied (Ok None) opened w = (ap (λ (r : ReaderState). r.input) unread.0 ∙ opened, w.1)
   leaves_replied (Ok (Some (Ended Clean))) opened w = absurd w
   leaves_replied (Ok (Some (Ended Closed))) opened w = (ap (λ (r : ReaderState). r.input) unread.0 ∙ opened, w.1)
@@ -162,13 +162,13 @@ module _ (reply : PartialReply) (a b : ConnectionState) (unread : (b.reader ≡ 
   leaves_replied (Err NoMemory) opened w = absurd w
 
   -- a reply was left to write
-  pub less_replied : (result : Result (Option Step) FrontFault) → HasLess result (suc (load a)) b
+  pub less_replied : (result : Result (Option Progress) FrontFault) → HasLess result (suc (load a)) b
   less_replied (Ok None) = let same = same_load in omega arith
   less_replied (Ok (Some step)) = tt
   less_replied (Err fault) = tt
 
   -- an item was taken off
-  pub less_answered : (result : Result (Option Step) FrontFault) (found : NextItem) (before : ℕ) → TakesWork (Ok (Whole found)) before a → reply.closes ≡ found_closes found
+  pub less_answered : (result : Result (Option Progress) FrontFault) (found : NextItem) (before : ℕ) → TakesWork (Ok (Whole found)) before a → reply.closes ≡ found_closes found
       → WritesReply reply result a.writer b.writer → HasLess result before b
   less_answered (Ok None) (next_item.Called call) before less closing w = let same = same_load in omega arith
   less_answered (Ok None) (next_item.Refused denial) before less closing w = absurd (let both = sym closing ∙ w.2 in cc)
@@ -250,7 +250,7 @@ module _ {C S : Type 0} (gives : C → ℕ → C → Type 0) (answers : S → As
         broken_answer gives answers clock r.clock_then clock' world r.world_then world' from r.between r.read b r.found answer r.serving r.takes r.stays.1 r.answered (all_sent sent) still_unread
 
     -- what writing on at the reply comes to
-    pub comes_replied : (result : Result (Option Step) FrontFault) → WritesReply reply result a.writer b.writer → ComesOn gives answers starves clock clock' world world' from b result
+    pub comes_replied : (result : Result (Option Progress) FrontFault) → WritesReply reply result a.writer b.writer → ComesOn gives answers starves clock clock' world world' from b result
     comes_replied (Ok None) w =
         serving_more gives answers clock r.clock_then clock' world r.world_then world' from r.between r.read b r.found answer r.serving r.takes r.stays.1 r.answered (all_sent w.0) still_unread
         (sym r.closing ∙ w.2) r.stays.0 w.1

@@ -11,7 +11,7 @@ use Rattle.http_front.specs.declared.end.End.TheVariants.{Clean, Closed}
 use Rattle.http_front.specs.declared.end.FrontFault.{FrontFault}
 use Rattle.http_front.specs.declared.end.FrontFault.TheVariants.{Read, Write, Turns, NoMemory}
 use Rattle.http_front.specs.declared.item.Stage.{Stage}
-use Rattle.http_front.specs.declared.item.Step.{Step}
+use Rattle.http_front.specs.declared.item.Progress.{Progress}
 use Rattle.reply_form.specs.FixedReplies.{out_of_memory_bytes}
 use Rattle.http_front.specs.Connections.{ConnectionState, Sends}
 use Rattle.http_front.specs.Conversations.{Exchange, item_of, moment_of, bytes_of, ClockGives, ServiceReplies, AnswersInput, BreaksOff, EndsAs, EndsByWrite, LeavesRun}
@@ -29,7 +29,7 @@ use Rattle.http_front.proofs.StreamLemmas.{reads_one}
 
 module _ {C S : Type 0} (gives : C → ℕ → C → Type 0) (answers : S → Asked → ℕ → Reply → S → Type 0) (starves : S → S → Type 0) where
   -- what a connection has said at its first call, and at each call after a wait, it has said at the last call
-  pub resumed : (first clock clock' : C) (start world world' : S) (fresh from to : ConnectionState) (stage : Stage) (waits : List (Wait C S)) (result : Result Step FrontFault)
+  pub resumed : (first clock clock' : C) (start world world' : S) (fresh from to : ConnectionState) (stage : Stage) (waits : List (Wait C S)) (result : Result Progress FrontFault)
       → Conversing gives answers first clock start world fresh stage from
       → IsResumed gives answers starves clock clock' world world' stage from waits to result
       → Comes gives answers starves first clock' start world' fresh to result
@@ -38,7 +38,7 @@ module _ {C S : Type 0} (gives : C → ℕ → C → Type 0) (answers : S → As
       resumed first wait.clock clock' start wait.world world' fresh wait.connection to wait.stage waits result (s.0.comes first start fresh c) s.1
 
   -- how the last call left the connection
-  pub resumed_left : (clock clock' : C) (world world' : S) (from to : ConnectionState) (stage : Stage) (waits : List (Wait C S)) (result : Result Step FrontFault)
+  pub resumed_left : (clock clock' : C) (world world' : S) (from to : ConnectionState) (stage : Stage) (waits : List (Wait C S)) (result : Result Progress FrontFault)
       → IsResumed gives answers starves clock clock' world world' stage from waits to result → LeavesStep result to
   resumed_left clock clock' world world' from to stage [] result s = s.left
   resumed_left clock clock' world world' from to stage (wait ∷ waits) result s =

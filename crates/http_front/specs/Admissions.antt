@@ -14,8 +14,8 @@ use Rattle.http_front.specs.declared.item.PartialItem.{PartialItem}
 use Rattle.http_front.specs.declared.item.PartialItem.TheVariants.{InHead, Asking, InBody}
 use Rattle.http_front.specs.declared.item.Stage.{Stage}
 use Rattle.http_front.specs.declared.item.Stage.TheVariants.{Reading, Answering, Replying}
-use Rattle.http_front.specs.declared.item.Step.{Step}
-use Rattle.http_front.specs.declared.item.Step.TheVariants.{Ended, Waits}
+use Rattle.http_front.specs.declared.item.Progress.{Progress}
+use Rattle.http_front.specs.declared.item.Progress.TheVariants.{Ended, Waits}
 
 -- the operation brings content that is kept
 abbrev pub brings_content : Op → Bool
@@ -75,13 +75,13 @@ ReadsAdmitted before (Ok (finds.Waits item)) = StaysAdmitted before (item_admitt
 ReadsAdmitted before (Err fault) = Unit {0}
 
 -- a step admits nothing
-abbrev pub StepAdmitted : Option Ask → Result Step FrontFault → Type 0
+abbrev pub StepAdmitted : Option Ask → Result Progress FrontFault → Type 0
 StepAdmitted before (Ok (Ended end)) = Unit {0}
 StepAdmitted before (Ok (Waits stage)) = StaysAdmitted before (stage_admitted stage)
 StepAdmitted before (Err fault) = Unit {0}
 
 -- a step admits nothing, if there was one
-abbrev pub StepsAdmitted : Option Ask → Result (Option Step) FrontFault → Type 0
+abbrev pub StepsAdmitted : Option Ask → Result (Option Progress) FrontFault → Type 0
 StepsAdmitted before (Ok None) = Unit {0}
 StepsAdmitted before (Ok (Some step)) = StepAdmitted before (Ok step)
 StepsAdmitted before (Err fault) = Unit {0}

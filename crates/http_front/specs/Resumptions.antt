@@ -9,21 +9,21 @@ use Rattle.http_front.specs.declared.end.End.{End}
 use Rattle.http_front.specs.declared.end.FrontFault.{FrontFault}
 use Rattle.http_front.specs.declared.end.FrontFault.TheVariants.{Read, Write, Turns, NoMemory}
 use Rattle.http_front.specs.declared.item.Stage.{Stage}
-use Rattle.http_front.specs.declared.item.Step.{Step}
-use Rattle.http_front.specs.declared.item.Step.TheVariants.{Ended, Waits}
+use Rattle.http_front.specs.declared.item.Progress.{Progress}
+use Rattle.http_front.specs.declared.item.Progress.TheVariants.{Ended, Waits}
 use Rattle.http_front.specs.Connections.{ConnectionState, GivesUp, Sends, StopsWriting}
 use Rattle.http_front.specs.Conversations.{AnswersInput, AnswersReceived, BreaksOff, EndsByWrite, EndsOutOfMemory, LeavesRun}
 use Rattle.http_front.specs.Outcomes.{IsOfWholeInput, UnlessWriteFailed, UnlessWriteOrMemoryFailed}
 use Rattle.http_front.specs.Steps.{Comes, Conversing, LeavesStep}
 
 -- what the last call of `advance` gives if the connection ends so
-abbrev pub step_of : Result End FrontFault → Result Step FrontFault
+abbrev pub step_of : Result End FrontFault → Result Progress FrontFault
 step_of (Ok end) = Ok (Ended end)
 step_of (Err fault) = Err fault
 
 -- what one call of `advance` ensures
 pub record GoesOn {C S : Type 0} (gives : C → ℕ → C → Type 0) (answers : S → Asked → ℕ → Reply → S → Type 0) (starves : S → S → Type 0)
-    (clock clock' : C) (world world' : S) (stage : Stage) (from to : ConnectionState) (result : Result Step FrontFault) : Type 0 where
+    (clock clock' : C) (world world' : S) (stage : Stage) (from to : ConnectionState) (result : Result Progress FrontFault) : Type 0 where
   pub comes : (first : C) (start : S) (fresh : ConnectionState) → Conversing gives answers first clock start world fresh stage from
       → Comes gives answers starves first clock' start world' fresh to result
   pub left : LeavesStep result to
@@ -37,7 +37,7 @@ pub record Wait (C S : Type 0) : Type 0 where
 
 -- Calls of `advance` followed each other. The connection was left at each of these waits, and the last call gave the result.
 abbrev pub IsResumed : {C S : Type 0} → (C → ℕ → C → Type 0) → (S → Asked → ℕ → Reply → S → Type 0) → (S → S → Type 0)
-    → C → C → S → S → Stage → ConnectionState → List (Wait C S) → ConnectionState → Result Step FrontFault → Type 0
+    → C → C → S → S → Stage → ConnectionState → List (Wait C S) → ConnectionState → Result Progress FrontFault → Type 0
 IsResumed gives answers starves clock clock' world world' stage from [] to result =
     GoesOn gives answers starves clock clock' world world' stage from to result
 IsResumed gives answers starves clock clock' world world' stage from (wait ∷ waits) to result =

@@ -8,7 +8,7 @@ ghost use Rattle.http_front.specs.Stages.{awaits_room, fresh_stage, wants_write}
 ghost use Rattle.http_front.specs.declared.end.End.{End};
 ghost use Rattle.http_front.specs.declared.end.FrontFault.{FrontFault};
 ghost use Rattle.http_front.specs.declared.item.Stage.{Stage};
-ghost use Rattle.http_front.specs.declared.item.Step.TheVariants.{Waits};
+ghost use Rattle.http_front.specs.declared.item.Progress.TheVariants.{Waits};
 
 use crate::service::{Clock, Service};
 

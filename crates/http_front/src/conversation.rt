@@ -15,12 +15,12 @@ ghost use Rattle.http_front.specs.declared.counted.Output.{Output};
 ghost use Rattle.http_front.specs.declared.end.FrontFault.{FrontFault};
 ghost use Rattle.http_front.specs.declared.item.Found.TheVariants.{Whole};
 ghost use Rattle.http_front.specs.declared.item.Stage.TheVariants.{Answering};
-ghost use Rattle.http_front.specs.declared.item.Step.TheVariants.{Waits};
+ghost use Rattle.http_front.specs.declared.item.Progress.TheVariants.{Waits};
 
 use crate::answers::answer_item;
 use crate::connection::Connection;
 use crate::end::{End, FrontFault};
-use crate::item::{Found, NextItem, PartialItem, PartialReply, Stage, Step};
+use crate::item::{Found, NextItem, PartialItem, PartialReply, Progress, Stage};
 use crate::service::{Clock, Service};
 use reply_form::out_of_memory_reply;
 use std::alloc::Global;
@@ -30,7 +30,7 @@ use std::io::{Read, Write};
 fn reply_on<R: Read, W: Write>(
     connection: &mut Connection<R, W>,
     reply: PartialReply,
-) -> Result<Option<Step>, FrontFault>
+) -> Result<Option<Progress>, FrontFault>
     requires { connection.old.writer.output ≢ Output.Failed }
     ensures written { WritesReply reply result connection.old.writer connection.new.writer }
     ensures admitted { (before : Option Ask) → StepsAdmitted before result }
@@ -53,14 +53,14 @@ fn reply_on<R: Read, W: Write>(
                 closes,
                 may_be_long,
             };
-            return Ok(Some(Step::Waits(Stage::Replying(reply))));
+            return Ok(Some(Progress::Waits(Stage::Replying(reply))));
         }
         Ok(true) => {
             drop(pending);
         }
     }
     if closes {
-        return Ok(Some(Step::Ended(End::Closed)));
+        return Ok(Some(Progress::Ended(End::Closed)));
     }
     Ok(None)
 }
@@ -74,7 +74,7 @@ fn answer_on<R: Read, W: Write, C: Clock, S: Service>(
     clock: &mut C,
     service: &mut S,
     has_room: bool,
-) -> Result<Option<Step>, FrontFault>
+) -> Result<Option<Progress>, FrontFault>
     requires { IsOpen connection.old }
     ensures comes { (first : C) (start : S.World) (from : ConnectionState) →
         IsAnswering C.gives S.answers first clock.old start (S.world service.old) from found connection.old →
@@ -90,7 +90,7 @@ fn answer_on<R: Read, W: Write, C: Clock, S: Service>(
         × (clock.new ≡ clock.old) × (service.new ≡ service.old) }
 {
     if !has_room && found.may_be_long() {
-        return Ok(Some(Step::Waits(Stage::Answering(found))));
+        return Ok(Some(Progress::Waits(Stage::Answering(found))));
     }
     let reply = answer_item(alloc, clock, service, found)?;
     return reply_on(connection, reply);
@@ -104,7 +104,7 @@ fn read_on<R: Read, W: Write, C: Clock, S: Service>(
     clock: &mut C,
     service: &mut S,
     has_room: bool,
-) -> Result<Option<Step>, FrontFault>
+) -> Result<Option<Progress>, FrontFault>
     requires open { IsOpen connection.old }
     requires partial { IsPartial item connection.old }
     ensures comes { (first : C) (start : S.World) (from : ConnectionState) →
@@ -116,8 +116,8 @@ fn read_on<R: Read, W: Write, C: Clock, S: Service>(
     ensures answered { has_room ≡ true → HasAnsweredOn result }
 {
     match connection.next_item(alloc, &*service, item)? {
-        Found::End => return Ok(Some(Step::Ended(End::Clean))),
-        Found::Waits(item) => return Ok(Some(Step::Waits(Stage::Reading(item)))),
+        Found::End => return Ok(Some(Progress::Ended(End::Clean))),
+        Found::Waits(item) => return Ok(Some(Progress::Waits(Stage::Reading(item)))),
         Found::Whole(found) => {
             return answer_on(alloc, connection, found, clock, service, has_room);
         }
@@ -132,7 +132,7 @@ fn go_on<R: Read, W: Write, C: Clock, S: Service>(
     clock: &mut C,
     service: &mut S,
     has_room: bool,
-) -> Result<Option<Step>, FrontFault>
+) -> Result<Option<Progress>, FrontFault>
     requires open { IsOpen connection.old }
     requires staged { IsStaged stage connection.old }
     ensures comes { (first : C) (start : S.World) (from : ConnectionState) →
@@ -166,7 +166,7 @@ pub fn advance<R: Read, W: Write, C: Clock, S: Service>(
     clock: &mut C,
     service: &mut S,
     has_room: bool,
-) -> Result<Step, FrontFault>
+) -> Result<Progress, FrontFault>
     requires open { IsOpen connection.old }
     requires staged { IsStaged stage connection.old }
     // Whatever the connection has said since it began, it has then said that and what this call adds.
@@ -233,8 +233,8 @@ fn converse<R: Read, W: Write, C: Clock, S: Service>(
 {
     let step = advance(alloc, connection, Stage::new(), clock, service, true)?;
     match step {
-        Step::Ended(end) => return Ok(end),
-        Step::Waits(stage) => return Err(give_up(connection, stage)),
+        Progress::Ended(end) => return Ok(end),
+        Progress::Waits(stage) => return Err(give_up(connection, stage)),
     }
 }
 

@@ -28,7 +28,7 @@ pub use connection_laws::a_connection_left_and_resumed_answers_as_run;
 pub use conversation::{advance, finish, give_up, run};
 pub use counted::{Came, Input, Output};
 pub use end::{End, FrontFault};
-pub use item::{Stage, Step};
+pub use item::{Progress, Stage};
 pub use link::{Link, Over, Resting, go_on};
 pub use service::{Clock, Service};
 pub use source::Source;

@@ -12,8 +12,8 @@ use Rattle.stamp_values.specs.Policies.{is_policies}
 use Rattle.stamp_values.specs.declared.level.Level.{Level}
 use Rattle.stamp_values.specs.declared.level.Level.TheVariants as level
 use Rattle.stamp_values.specs.declared.place.Place.{Place}
-use Rattle.stamp_values.specs.declared.block.Source.{Source}
-use Rattle.stamp_values.specs.declared.block.Source.TheVariants as source
+use Rattle.stamp_values.specs.declared.block.BlockSource.{BlockSource}
+use Rattle.stamp_values.specs.declared.block.BlockSource.TheVariants as source
 use Rattle.stamp_types.specs.declared.piece.Piece.{Piece}
 use Rattle.stamp_types.specs.declared.piece.Piece.TheVariants.{Bytes, At}
 use Rattle.stamp_types.specs.Pieces.{is_pieces}
@@ -121,12 +121,12 @@ pub metadata_form : IsForm FitsMetadata metadata_bytes metadata_at
 unfolding metadata_at
 metadata_form = tested is_metadata (listed meta_form)
 
-source_again : (s : Source) (rest : List ℕ) → Unit {0} → source_at (source_bytes s ++ rest) ≡ Some (s, rest)
+source_again : (s : BlockSource) (rest : List ℕ) → Unit {0} → source_at (source_bytes s ++ rest) ≡ Some (s, rest)
 unfolding source_at
 source_again source.Uncommitted rest fits = refl
 source_again source.Committed rest fits = refl
 
-source_taken : (t : List ℕ) (s : Source) (rest : List ℕ) → IsBytes t → source_at t ≡ Some (s, rest) → t ≡ source_bytes s ++ rest
+source_taken : (t : List ℕ) (s : BlockSource) (rest : List ℕ) → IsBytes t → source_at t ≡ Some (s, rest) → t ≡ source_bytes s ++ rest
 unfolding source_at
 source_taken [] s rest good e = absurd cc
 source_taken (b ∷ t) s rest good e =
@@ -135,8 +135,8 @@ source_taken (b ∷ t) s rest good e =
     P : ℕ → Type 0
     P k = k ∷ t ≡ source_bytes s ++ rest
 
-    read : (m : Source) → got m t ≡ got s rest → source_number m ∷ t ≡ source_number s ∷ rest
-    read m h = subst (λ (x : Source × List ℕ). source_number m ∷ t ≡ source_number x.0 ∷ x.1) (some_is (m, t) (s, rest) h) refl
+    read : (m : BlockSource) → got m t ≡ got s rest → source_number m ∷ t ≡ source_number s ∷ rest
+    read m h = subst (λ (x : BlockSource × List ℕ). source_number m ∷ t ≡ source_number x.0 ∷ x.1) (some_is (m, t) (s, rest) h) refl
 
 pub source_form : IsForm FitsSource source_bytes source_at
 source_form = record { again = source_again; taken = source_taken }

@@ -12,7 +12,7 @@ use Rattle.stamp_values.specs.declared.acl.Acl.{Acl}
 use Rattle.stamp_values.specs.declared.place.Place.{Place}
 use Rattle.stamp_values.specs.declared.key.Key.{Key}
 use Rattle.stamp_values.specs.declared.block.Taken.{Taken}
-use Rattle.stamp_values.specs.declared.block.Source.{Source}
+use Rattle.stamp_values.specs.declared.block.BlockSource.{BlockSource}
 use Rattle.stamp_types.specs.declared.piece.Piece.{Piece}
 use Rattle.stamp_types.specs.declared.piece.Piece.TheVariants.{Bytes, At}
 use Rattle.stamp_types.specs.Pieces.{is_pieces}
@@ -53,7 +53,7 @@ abbrev pub FitsLevel : Level → Type 0
 FitsLevel l = Unit {0}
 
 -- each place where a block can be found fits
-abbrev pub FitsSource : Source → Type 0
+abbrev pub FitsSource : BlockSource → Type 0
 FitsSource s = Unit {0}
 
 -- 1 to 64 bytes

@@ -14,8 +14,8 @@ use Rattle.stamp_values.specs.declared.acl.Acl.{Acl}
 use Rattle.stamp_values.specs.declared.place.Place.{Place}
 use Rattle.stamp_values.specs.declared.key.Key.{Key}
 use Rattle.stamp_values.specs.declared.block.Taken.{Taken}
-use Rattle.stamp_values.specs.declared.block.Source.{Source}
-use Rattle.stamp_values.specs.declared.block.Source.TheVariants as source
+use Rattle.stamp_values.specs.declared.block.BlockSource.{BlockSource}
+use Rattle.stamp_values.specs.declared.block.BlockSource.TheVariants as source
 use Rattle.stamp_types.specs.declared.piece.Piece.{Piece}
 use Rattle.stamp_types.specs.declared.piece.Piece.TheVariants.{Bytes, At}
 use Rattle.stamp_types.specs.Pieces.{is_pieces}
@@ -42,7 +42,7 @@ level_at (b ∷ t) =
     else if b == 2 then Some (level.Container, t)
     else None
 
-unfoldable pub source_at : List ℕ → Read Source
+unfoldable pub source_at : List ℕ → Read BlockSource
 source_at [] = None
 source_at (b ∷ t) = if b == 1 then Some (source.Uncommitted, t) else if b == 2 then Some (source.Committed, t) else None
 
@@ -155,7 +155,7 @@ standing_of p = record { etag = p.0; made = p.1.0; metadata = p.1.1.1.0; acl = a
 unfoldable pub standing_at : List ℕ → Read Standing
 standing_at = made_at standing_of (both_at (number_at w64) (both_at moment_at (both_at level_at (both_at metadata_at policies_at))))
 
-abbrev pub taken_of : List ℕ × Source → Taken
+abbrev pub taken_of : List ℕ × BlockSource → Taken
 taken_of p = record { id = p.0; from = p.1 }
 
 unfoldable pub taken_at : List ℕ → Read Taken

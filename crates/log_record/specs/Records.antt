@@ -10,8 +10,8 @@ use Rattle.stamp_values.specs.declared.acl.Acl.{Acl}
 use Rattle.stamp_values.specs.declared.place.Place.{Place}
 use Rattle.stamp_values.specs.declared.key.Key.{Key}
 use Rattle.stamp_values.specs.declared.block.Taken.{Taken}
-use Rattle.stamp_values.specs.declared.block.Source.{Source}
-use Rattle.stamp_values.specs.declared.block.Source.TheVariants as source
+use Rattle.stamp_values.specs.declared.block.BlockSource.{BlockSource}
+use Rattle.stamp_values.specs.declared.block.BlockSource.TheVariants as source
 use Rattle.stamp_types.specs.declared.piece.Piece.{Piece}
 use Rattle.stamp_types.specs.declared.piece.Piece.TheVariants.{Bytes, At}
 use Rattle.stamp_types.specs.PropsFields.{PropsFields}
@@ -117,12 +117,12 @@ standing_bytes s =
     long_bytes s.etag ++ (moment_bytes s.made ++ (level_bytes s.acl.level ++ (metadata_bytes s.metadata ++ policies_bytes s.acl.policies)))
 
 -- where a block was found: 1 uncommitted, 2 committed
-abbrev pub source_number : Source → ℕ
+abbrev pub source_number : BlockSource → ℕ
 source_number source.Uncommitted = 1
 source_number source.Committed = 2
 
 -- the byte for where a block was found
-abbrev pub source_bytes : Source → List ℕ
+abbrev pub source_bytes : BlockSource → List ℕ
 source_bytes s = source_number s ∷ []
 
 -- an entry of a Put Block List

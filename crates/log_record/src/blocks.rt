@@ -11,10 +11,10 @@ use crate::left::Left;
 use crate::lists::{append_list, read_list};
 use crate::record_fault::RecordFault;
 use stamp_types::{Block, Committed, Pieces, Props, UncommittedBlock};
-use stamp_values::{BlockId, Bytes, Items, Metadata, Moment, Source, Taken};
+use stamp_values::{BlockId, BlockSource, Bytes, Items, Metadata, Moment, Taken};
 use std::alloc::{AllocError, Global};
 
-impl Recorded for Source {
+impl Recorded for BlockSource {
     ghost bytes = { records.source_bytes };
 
     ghost at = { reading.source_at };
@@ -23,16 +23,16 @@ impl Recorded for Source {
 
     fn append(&self, out: &mut Vec<u8>) -> Result<(), AllocError> {
         match self {
-            Source::Uncommitted => out.extend_from_slice(&[1]),
-            Source::Committed => out.extend_from_slice(&[2]),
+            BlockSource::Uncommitted => out.extend_from_slice(&[1]),
+            BlockSource::Committed => out.extend_from_slice(&[2]),
         }
     }
 
     #[tactic(auto, unfolding(crate::specs::ReadFields::source_at))]
     fn read(_alloc: Global, left: &mut Left<'_>) -> Result<Self, RecordFault> {
         match left.byte()? {
-            1 => Ok(Source::Uncommitted),
-            2 => Ok(Source::Committed),
+            1 => Ok(BlockSource::Uncommitted),
+            2 => Ok(BlockSource::Committed),
             _ => Err(RecordFault::Form),
         }
     }
@@ -53,7 +53,7 @@ impl Recorded for Taken {
     #[tactic(auto, unfolding(crate::specs::ReadFields::taken_at))]
     fn read(alloc: Global, left: &mut Left<'_>) -> Result<Self, RecordFault> {
         let id = BlockId::read(alloc, left)?;
-        let from = Source::read(alloc, left)?;
+        let from = BlockSource::read(alloc, left)?;
         Ok(Self { id, from })
     }
 }

@@ -58,7 +58,7 @@ pub(crate) fn time_of(moment: Moment) -> CivilTime
 {
     let ticks = moment.ticks();
     let Ok(date) = CivilDate::from_unix_epoch_day((ticks / 864_000_000_000) as i64) else {
-        unreachable!()
+        unreachable!("each moment lies on a day of the calendar")
     };
     CivilTime {
         year: date.year as u32,

@@ -33,7 +33,7 @@ pub fn write_http(moment: Moment) -> [u8; 29]
     ensures read_back { http_moment result ≡ Ok (moment / 10_000_000 * 10_000_000) }
 {
     let Ok(date) = HttpDate::from_unix_secs(moment.ticks() / 10_000_000) else {
-        unreachable!()
+        unreachable!("each moment lies on a day of the calendar")
     };
     date.to_bytes()
 }

@@ -46,8 +46,9 @@ fn change_of(alloc: Global, block: &Share) -> Result<(Change, u64), ReadFault>
     match read_change(alloc, block.as_slice()) {
         Ok(read) => Ok(read),
         Err(RecordFault::NoMemory) => Err(ReadFault::NoMemory),
-        Err(RecordFault::Form) => unreachable!(),
-        Err(RecordFault::Version) => unreachable!(),
+        Err(RecordFault::Form | RecordFault::Version) => {
+            unreachable!("a block of the log is a record")
+        }
     }
 }
 

@@ -32,7 +32,7 @@ fn put_bytes<W: Wire>(blobs: &mut Stream, bytes: &Share, wire: &mut W) -> Result
         Err(AppendFault::Busy) => Err(PutFault::Busy),
         Err(AppendFault::Doubt) => Err(PutFault::Busy),
         Err(AppendFault::NoMemory) => Err(PutFault::NoMemory),
-        Err(AppendFault::TooLarge) => unreachable!(),
+        Err(AppendFault::TooLarge) => unreachable!("a piece fits a block"),
     }
 }
 
@@ -57,7 +57,7 @@ fn put_piece<W: Wire>(blobs: &mut Stream, piece: &Piece, wire: &mut W) -> Result
                 length: bytes.len() as u32,
             })
         }
-        Piece::At { .. } => unreachable!(),
+        Piece::At { .. } => unreachable!("content that comes is bytes"),
     }
 }
 
@@ -103,6 +103,6 @@ pub(crate) fn put_content<W: Wire>(
     let placed = put_pieces(alloc, blobs, content.as_slice(), wire)?;
     match Pieces::new(placed) {
         Some(pieces) => Ok(pieces),
-        None => unreachable!(),
+        None => unreachable!("as many pieces were put, of the same lengths"),
     }
 }

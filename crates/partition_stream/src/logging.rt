@@ -49,6 +49,6 @@ pub(crate) fn append_record<W: Wire>(
         Err(AppendFault::Busy) => Err(LogFault::Busy),
         Err(AppendFault::Doubt) => Err(LogFault::Doubt),
         Err(AppendFault::NoMemory) => Err(LogFault::NoMemory),
-        Err(AppendFault::TooLarge) => unreachable!(),
+        Err(AppendFault::TooLarge) => unreachable!("a record fits a block"),
     }
 }

@@ -27,7 +27,7 @@ fn read_piece<W: Wire>(old: &Stream, piece: &Piece, wire: &mut W) -> Result<Piec
             Err(ReadFault::Unreachable) => Err(CompactionFault::Unreachable),
             Err(ReadFault::NoMemory) => Err(CompactionFault::NoMemory),
         },
-        Piece::Bytes(_) => unreachable!(),
+        Piece::Bytes(_) => unreachable!("content that is stored is at places"),
     }
 }
 
@@ -64,7 +64,7 @@ fn read_content<W: Wire>(
     let read = read_pieces(alloc, old, content.as_slice(), wire)?;
     match Pieces::new(read) {
         Some(pieces) => Ok(pieces),
-        None => unreachable!(),
+        None => unreachable!("as many pieces were read, of the same lengths"),
     }
 }
 

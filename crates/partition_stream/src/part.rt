@@ -15,7 +15,7 @@ use stream_manager::{Handle, Stream};
 
 // Where the bytes of a part are.
 #[derive(Drop)]
-enum Source {
+enum BlockSource {
     // The bytes were read from the last extent.
     Read(Share),
     // The bytes from `from` up to but not including `to` of a block of a sealed extent.
@@ -32,7 +32,7 @@ enum Source {
 /// A part of a block in a sealed extent keeps all blocks of this extent in memory.
 #[derive(Drop)]
 pub struct Part {
-    source: Source,
+    source: BlockSource,
 }
 
 impl Model for Part {
@@ -57,7 +57,7 @@ impl Part {
         ensures read { result.is_read ≡ true }
     {
         Self {
-            source: Source::Read(bytes),
+            source: BlockSource::Read(bytes),
         }
     }
 
@@ -70,7 +70,7 @@ impl Part {
         ensures read { result.is_read ≡ false }
     {
         Self {
-            source: Source::Sealed {
+            source: BlockSource::Sealed {
                 handle,
                 index,
                 from,
@@ -85,8 +85,8 @@ impl Part {
         ensures bytes { IfSome (option_copied result) (λ s. s ≡ self.now.bytes) }
     {
         match &self.source {
-            Source::Read(bytes) => Some(bytes),
-            Source::Sealed { .. } => None,
+            BlockSource::Read(bytes) => Some(bytes),
+            BlockSource::Sealed { .. } => None,
         }
     }
 
@@ -100,8 +100,8 @@ impl Part {
         ensures grown { Grows (W.faults wire.old) (W.faults wire.new) }
     {
         match &self.source {
-            Source::Read(bytes) => shared(bytes),
-            Source::Sealed {
+            BlockSource::Read(bytes) => shared(bytes),
+            BlockSource::Sealed {
                 handle,
                 index,
                 from,

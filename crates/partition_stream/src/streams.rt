@@ -254,7 +254,7 @@ impl Streams {
                     Err(AllocError) => Err(ReadFault::NoMemory),
                 }
             }
-            Piece::Bytes(_) => unreachable!(),
+            Piece::Bytes(_) => unreachable!("content that is stored is at places"),
         }
     }
 
@@ -282,7 +282,7 @@ impl Streams {
     {
         match piece {
             Piece::At { place, .. } => part_at(&mut self.blobs, *place, start, end, wire),
-            Piece::Bytes(_) => unreachable!(),
+            Piece::Bytes(_) => unreachable!("content that is stored is at places"),
         }
     }
 

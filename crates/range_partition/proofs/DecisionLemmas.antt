@@ -24,7 +24,7 @@ use Rattle.access_rules.specs.declared.keys.Keys.{Keys}
 use Rattle.access_rules.specs.Rules.{first_rule, verdict_by, verdict_of, way_of}
 use Rattle.block_blobs.specs.declared.found_blocks.FoundBlocks.{FoundBlocks}
 use Rattle.row_trees.specs.Access.{acl_of}
-use Rattle.range_rows.specs.declared.answer.Answer.{Answer}
+use Rattle.range_rows.specs.declared.answer.FramedAnswer.{FramedAnswer}
 use Rattle.range_rows.specs.declared.answer.Span.{Span}
 use Rattle.row_trees.specs.FoundParts.{sizes_found}
 use Rattle.range_rows.specs.Judgements.{IsAllowed, blocks_found}
@@ -73,16 +73,16 @@ module _ (keys : Option Keys) (p : Part (List Piece)) (q : Asked) (t : ℕ) wher
 -- ---- the decision
 
 -- a request that is decided to be refused before its content is read has this refusal
-pub framed_refused : (o : Option Refusal) (answer : Answer) (change : Option KeyedAct) (found : FoundBlocks) (r : Refusal) → framed.Refused r ≡ framed_by o answer change found → o ≡ Some r
+pub framed_refused : (o : Option Refusal) (answer : FramedAnswer) (change : Option KeyedAct) (found : FoundBlocks) (r : Refusal) → framed.Refused r ≡ framed_by o answer change found → o ≡ Some r
 framed_refused None answer change found r e = cc
 framed_refused (Some x) answer change found r e = let same : x ≡ r = cc in ap Some same
 
 -- nothing refuses a request that is decided to be allowed, and it has this answer, this change and these blocks
-pub framed_allowed : (o : Option Refusal) (answer given : Answer) (change made : Option KeyedAct) (found blocks : FoundBlocks)
+pub framed_allowed : (o : Option Refusal) (answer given : FramedAnswer) (change made : Option KeyedAct) (found blocks : FoundBlocks)
     → framed.Allowed given made blocks ≡ framed_by o answer change found → (o ≡ None) × ((given ≡ answer) × ((made ≡ change) × (blocks ≡ found)))
 framed_allowed None answer given change made found blocks e = (refl, (ap answer_told e, (ap change_told e, ap found_told e)))
   where
-    answer_told : FramedDecision → Answer
+    answer_told : FramedDecision → FramedAnswer
     answer_told (framed.Allowed r c bs) = r
     answer_told (framed.Refused r) = answer
 
@@ -157,7 +157,7 @@ fits_memory v r p d q ss is out short =
     short
 
 -- an answer without content fits
-pub sent_whole : (a : Answer) → a.spans ≡ [] → CanBeSent a
+pub sent_whole : (a : FramedAnswer) → a.spans ≡ [] → CanBeSent a
 sent_whole a none = record { within = ap (list_all is_within) none; short = inl none }
 
 -- ---- the change

@@ -14,7 +14,7 @@ use Rattle.stamp_types.specs.World.{Part, World}
 use Rattle.access_rules.specs.declared.keys.Keys.{Keys}
 use Rattle.block_blobs.specs.declared.found_blocks.FoundBlocks.{FoundBlocks}
 use Rattle.row_trees.specs.FoundParts.{sizes_found}
-use Rattle.range_rows.specs.declared.answer.Answer.{Answer}
+use Rattle.range_rows.specs.declared.answer.FramedAnswer.{FramedAnswer}
 use Rattle.range_rows.specs.FoundParts.{pieces_found_after, sizes_found_after}
 use Rattle.range_rows.specs.Frames.{frame}
 use Rattle.range_rows.specs.SentContent.{AreShort, is_within, span_bytes, spans, with_content}
@@ -32,30 +32,30 @@ found_refusal keys p q t = refusal keys (sizes_found p) q t
 
 -- the answer to a request from its container: the frame with the headers that the request overrides, and the spans of the content that goes
 -- out after the body of the frame
-abbrev pub found_answer : Part (List Piece) → Asked → ℕ → Answer
+abbrev pub found_answer : Part (List Piece) → Asked → ℕ → FramedAnswer
 found_answer p q t = record { frame = frame (overrides_of q.ask) (sizes_found_after p q t) q; spans = spans (pieces_found_after p q t) q }
 
 -- the answer to a request of the operation that nothing refuses, from all rows, its container, and the bound of a list of containers
-abbrev pub row_answer_by : Op → World (List Piece) → Part (List Piece) → Asked → ℕ → Option Key → Answer
+abbrev pub row_answer_by : Op → World (List Piece) → Part (List Piece) → Asked → ℕ → Option Key → FramedAnswer
 row_answer_by op.ListContainers w p q t bound = record { frame = container_list_reply w q bound; spans = [] }
 row_answer_by op.ListBlobs w p q t bound = record { frame = blob_list_reply (sizes_found p) q; spans = [] }
 row_answer_by _ w p q t bound = found_answer p q t
 
 -- the answer to a request that nothing refuses, from all rows, its container, and the bound of a list of containers
-abbrev pub row_answer : World (List Piece) → Part (List Piece) → Asked → ℕ → Option Key → Answer
+abbrev pub row_answer : World (List Piece) → Part (List Piece) → Asked → ℕ → Option Key → FramedAnswer
 row_answer w p q t bound = row_answer_by q.ask.op w p q t bound
 
 -- the reply of an answer, if pieces are read in this way
-abbrev pub reply_read : (Piece → List ℕ) → Answer → Reply
+abbrev pub reply_read : (Piece → List ℕ) → FramedAnswer → Reply
 reply_read read a = with_content a.frame (flat_map (span_bytes read) a.spans)
 
 -- each span lies within its piece, and if there are spans, they fit into memory after the body of the frame
-pub record CanBeSent (a : Answer) : Type 0 where
+pub record CanBeSent (a : FramedAnswer) : Type 0 where
   pub within : IsTrue (list_all is_within a.spans)
   pub short : AreShort a.frame.body a.spans
 
 -- a request is refused, or else these are its answer, its change and the blocks that were found for it
-abbrev pub framed_by : Option Refusal → Answer → Option KeyedAct → FoundBlocks → FramedDecision
+abbrev pub framed_by : Option Refusal → FramedAnswer → Option KeyedAct → FoundBlocks → FramedDecision
 framed_by (Some r) answer change found = framed.Refused r
 framed_by None answer change found = framed.Allowed answer change found
 

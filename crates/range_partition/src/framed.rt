@@ -21,7 +21,7 @@ use block_blobs::FoundBlocks;
 use body_forms::Draft;
 use list_pages::{blob_list_reply, container_list_reply};
 use policy_book::verdict_by;
-use range_rows::{Allowed, Answer, Judged, Reading, Target};
+use range_rows::{Allowed, FramedAnswer, ObjectVerdict, Reading, Target};
 use row_trees::Rows;
 use stamp_types::{Change, Code, Items, Key, Moment, Op, Refusal, Request, Rule};
 use std::alloc::{AllocError, Global};
@@ -33,7 +33,7 @@ pub enum FramedDecision {
     Refused(Refusal),
     /// Nothing refuses the request. This is the frame of its reply with the spans of the content, the change, if the request makes one,
     /// and the blocks that were found for it.
-    Allowed(Answer, Option<Change>, FoundBlocks),
+    Allowed(FramedAnswer, Option<Change>, FoundBlocks),
 }
 
 // The refusal by a rule of permission.
@@ -74,7 +74,7 @@ fn answer_found(
     allowed: &Allowed<'_>,
     request: &Request,
     moment: Moment,
-) -> Result<Answer, AllocError>
+) -> Result<FramedAnswer, AllocError>
     requires allowed { IsAllowed allowed.now request.now }
     requires names { lists_names request.now.ask.op ≡ false }
     ensures found { IfOk result (λ answer.
@@ -88,11 +88,11 @@ fn answer_found(
 
 // The answer whose content is all in its frame.
 #[tactic(auto, using(crate::proofs::DecisionLemmas::sent_whole))]
-fn whole(alloc: Global, frame: Draft) -> Answer
+fn whole(alloc: Global, frame: Draft) -> FramedAnswer
     ensures whole { result ≡ record { frame = frame; spans = [] } }
     ensures sent { CanBeSent result }
 {
-    Answer {
+    FramedAnswer {
         frame,
         spans: Items::new(Vec::new(alloc)),
     }
@@ -106,7 +106,7 @@ fn answer(
     request: &Request,
     moment: Moment,
     bound: Option<&Key>,
-) -> Result<Answer, AllocError>
+) -> Result<FramedAnswer, AllocError>
     requires { IsAllowed allowed.now request.now }
     ensures answered { IfOk result (λ answer. answer ≡ row_answer rows.now allowed.now.target.container
         request.now moment (option_copied bound.entry)) }
@@ -203,8 +203,10 @@ fn permitted(
     ensures sent { IfOk result (λ decision. AnswerCanBeSent decision) }
 {
     match target.judge(alloc, request, &reading)? {
-        Judged::Refused(refusal) => Ok(FramedDecision::Refused(refusal)),
-        Judged::Allowed(allowed) => answered(alloc, rows, allowed, request, reading, moment, bound),
+        ObjectVerdict::Refused(refusal) => Ok(FramedDecision::Refused(refusal)),
+        ObjectVerdict::Allowed(allowed) => answered(
+            alloc, rows, allowed, request, reading, moment, bound,
+        ),
     }
 }
 

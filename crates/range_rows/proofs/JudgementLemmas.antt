@@ -15,8 +15,8 @@ use Rattle.range_rows.specs.ObjectRules.{object_refusal}
 use Rattle.range_rows.specs.Readings.{wanted_blocks}
 use Rattle.range_rows.specs.declared.block_rules.Blocks.{Blocks}
 use Rattle.range_rows.specs.declared.block_rules.Blocks.TheVariants as blocks
-use Rattle.range_rows.specs.declared.judged.Judged.{Judged}
-use Rattle.range_rows.specs.declared.judged.Judged.TheVariants as judged
+use Rattle.range_rows.specs.declared.judged.ObjectVerdict.{ObjectVerdict}
+use Rattle.range_rows.specs.declared.judged.ObjectVerdict.TheVariants as judged
 use Rattle.range_rows.specs.declared.target.Target.{Target}
 use Rattle.range_rows.proofs.GroupLemmas.{refusal_of_blocks, refused_by_blocks, refused_by_last, found_of_blocks}
 
@@ -26,7 +26,7 @@ module _ (t : Target) (q : Asked) where
   refusal_of (Some r) found = refl
   refusal_of None found = refl
 
-  pub refusal_of_judgement : (j : Judged) → j ≡ judgement t q → refusal_in j ≡ object_refusal (sizes_found t.container) q
+  pub refusal_of_judgement : (j : ObjectVerdict) → j ≡ judgement t q → refusal_in j ≡ object_refusal (sizes_found t.container) q
   refusal_of_judgement j is = subst (λ j. refusal_in j ≡ object_refusal (sizes_found t.container) q) (sym is) (refusal_of (object_refusal (sizes_found t.container) q) (blocks_found t.container q))
 
   module _ (target : IsTarget t q.ask) where
@@ -36,7 +36,7 @@ module _ (t : Target) (q : Asked) where
     allowed_by None free = ((target, free, refl), refl)
 
     -- what was found for a request that no rule of the object refuses
-    pub allowed_in_judgement : (j : Judged) → j ≡ judgement t q → IfAllowed j (λ a. IsAllowed a q × (a.target ≡ t))
+    pub allowed_in_judgement : (j : ObjectVerdict) → j ≡ judgement t q → IfAllowed j (λ a. IsAllowed a q × (a.target ≡ t))
     allowed_in_judgement j is = subst (λ j. IfAllowed j (λ a. IsAllowed a q × (a.target ≡ t))) (sym is) (allowed_by (object_refusal (sizes_found t.container) q) refl)
 
 -- what judging gives if no early cause exists, and the blocks were judged
@@ -49,7 +49,7 @@ module _ (t : Target) (q : Asked) (early : group_refusal early_causes (sizes_fou
       sym (ap (λ o. judged_by o t (blocks_found t.container q)) (refused_by_blocks (sizes_found t.container) q early r group))
 
   -- the blocks are found, and the causes that come last decide
-  pub judged_by_last : (found : Resolved) (j : Judged) → b ≡ blocks.Found found → j ≡ judged_by (group_refusal last_causes (sizes_found t.container) q) t found → j ≡ judgement t q
+  pub judged_by_last : (found : Resolved) (j : ObjectVerdict) → b ≡ blocks.Found found → j ≡ judged_by (group_refusal last_causes (sizes_found t.container) q) t found → j ≡ judgement t q
   judged_by_last found j are last =
       let told = found_of_blocks (group_refusal block_causes (sizes_found t.container) q) (resolved seen (wanted_blocks q)) found (sym are ∙ by) in
       last

@@ -2,7 +2,7 @@
 use Rattle.std.proofs.Common.{◌≡◌, ℕ, List, None, length, sym, ap, ◌∙◌}
 use Rattle.std.specs.Prelude.{Result, Ok, Err, IfOk, IsTrue, nat_le}
 use Rattle.std.specs.declared.alloc.AllocError.{AllocError}
-use Rattle.stamp_values.specs.declared.block.Source.{Source}
+use Rattle.stamp_values.specs.declared.block.BlockSource.{BlockSource}
 use Rattle.stamp_values.specs.declared.block.Taken.{Taken}
 use Rattle.stamp_types.specs.declared.piece.Piece.{Piece}
 use Rattle.stamp_types.specs.Pieces.{pieces_len}
@@ -28,7 +28,7 @@ module _ (p : Part (List Piece)) (q : Asked) (free : object_refusal (sizes_found
       ∙ ap (λ (b : Blob ℕ). found_entries b (wanted_blocks q)) (sym (target_blob-part_value pieces_len p q.ask))
 
   -- the sources that were found give the entries of the list
-  entries_of_target : (sources : List Source) → sources ≡ (blocks_found p q).sources
+  entries_of_target : (sources : List BlockSource) → sources ≡ (blocks_found p q).sources
       → entries_from (wanted_blocks q) sources ≡ found_entries (target_blob (sizes_found p) q.ask) (wanted_blocks q)
   entries_of_target sources is =
       let b = target_blob p q.ask in
@@ -37,7 +37,7 @@ module _ (p : Part (List Piece)) (q : Asked) (free : object_refusal (sizes_found
       ap (entries_from ws) is ∙ entries_from_found b ws all ∙ entries_of_sizes
 
   -- the same if the list of entries was made, or else memory ran out
-  pub made_entries : (sources : List Source) (made : Result (List Taken) AllocError) → sources ≡ (blocks_found p q).sources
+  pub made_entries : (sources : List BlockSource) (made : Result (List Taken) AllocError) → sources ≡ (blocks_found p q).sources
       → IfOk made (λ entries. entries ≡ entries_from (wanted_blocks q) sources)
       → IfOk made (λ entries. entries ≡ found_entries (target_blob (sizes_found p) q.ask) (wanted_blocks q))
   made_entries sources (Ok entries) is made = made ∙ entries_of_target sources is

@@ -11,8 +11,8 @@ use Rattle.range_rows.specs.NamedBlobs.{IsTarget, target_blob}
 use Rattle.range_rows.specs.ObjectRules.{object_refusal}
 use Rattle.range_rows.specs.Readings.{wanted_blocks}
 use Rattle.range_rows.specs.declared.judged.Allowed.{Allowed}
-use Rattle.range_rows.specs.declared.judged.Judged.{Judged}
-use Rattle.range_rows.specs.declared.judged.Judged.TheVariants as judged
+use Rattle.range_rows.specs.declared.judged.ObjectVerdict.{ObjectVerdict}
+use Rattle.range_rows.specs.declared.judged.ObjectVerdict.TheVariants as judged
 use Rattle.range_rows.specs.declared.target.Target.{Target}
 
 -- what the blob that the request names has of the blocks that the request wants
@@ -24,12 +24,12 @@ abbrev pub allowed_in : Target → Resolved → Allowed
 allowed_in t found = record { target = t; found = found }
 
 -- the request is refused, or else this was found for it
-abbrev pub judged_by : Option Refusal → Target → Resolved → Judged
+abbrev pub judged_by : Option Refusal → Target → Resolved → ObjectVerdict
 judged_by (Some r) t found = judged.Refused r
 judged_by None t found = judged.Allowed (allowed_in t found)
 
 -- what judging a request gives, from what was found
-abbrev pub judgement : Target → Asked → Judged
+abbrev pub judgement : Target → Asked → ObjectVerdict
 judgement t q = judged_by (object_refusal (sizes_found t.container) q) t (blocks_found t.container q)
 
 -- no rule of the object refuses the request, and this was found for it
@@ -38,11 +38,11 @@ IsAllowed a q =
     IsTarget a.target q.ask × (object_refusal (sizes_found a.target.container) q ≡ None) × (a.found ≡ blocks_found a.target.container q)
 
 -- if no rule of the object refuses the request, this holds of what was found for it
-abbrev pub IfAllowed : Judged → (Allowed → Type 0) → Type 0
+abbrev pub IfAllowed : ObjectVerdict → (Allowed → Type 0) → Type 0
 IfAllowed (judged.Refused r) P = ⊤
 IfAllowed (judged.Allowed a) P = P a
 
 -- the refusal that judging gave, if it gave one
-abbrev pub refusal_in : Judged → Option Refusal
+abbrev pub refusal_in : ObjectVerdict → Option Refusal
 refusal_in (judged.Refused r) = Some r
 refusal_in (judged.Allowed a) = None

@@ -14,7 +14,7 @@ pub struct Span {
 /// The reply to a request, without the content that goes out with it. The spans give that content,
 /// in their order. The frame's length counts the content. The frame of a list may have to be written.
 #[derive(Drop)]
-pub struct Answer {
+pub struct FramedAnswer {
     pub frame: Draft,
     pub spans: Items<Span>,
 }

@@ -16,7 +16,7 @@ ghost use Rattle.range_rows.specs.Replaced.{Replaced};
 ghost use Rattle.range_rows.specs.SentContent as content;
 
 use crate::acl_reply::acl_reply;
-use crate::answer::{Answer, Span};
+use crate::answer::{FramedAnswer, Span};
 use crate::block_list_reply::list_reply;
 use crate::frames::{get_frame, metadata_reply, part_frame, write_frame};
 use crate::judged::Allowed;
@@ -57,11 +57,11 @@ fn spans_of(alloc: Global, blocks: &[Block<Pieces>]) -> Result<Vec<Span>, AllocE
 }
 
 // The answer without content.
-fn without_content(alloc: Global, frame: Reply) -> Answer
+fn without_content(alloc: Global, frame: Reply) -> FramedAnswer
     ensures frame { result.frame ≡ frame }
     ensures spans { result.spans ≡ [] }
 {
-    Answer {
+    FramedAnswer {
         frame: Draft::written(frame),
         spans: Items::new(Vec::new(alloc)),
     }
@@ -74,7 +74,7 @@ fn get_answer(
     blob: &Committed<Pieces>,
     len: u64,
     replaced: &Replacements<'_>,
-) -> Result<Answer, AllocError>
+) -> Result<FramedAnswer, AllocError>
     requires blocks { IsTrue (are_blocks blob.now.blocks) }
     requires len { len ≡ blocks_len blob.now.blocks }
     ensures frame { IfOk result (λ answer.
@@ -86,7 +86,7 @@ fn get_answer(
 {
     let frame = get_frame(alloc, blob, len, replaced)?;
     let spans = spans_of(alloc, blob.blocks.as_slice())?;
-    Ok(Answer {
+    Ok(FramedAnswer {
         frame: Draft::written(frame),
         spans: Items::new(spans),
     })
@@ -100,7 +100,7 @@ fn part_answer(
     blob: &Committed<Pieces>,
     len: u64,
     replaced: &Replacements<'_>,
-) -> Result<Answer, AllocError>
+) -> Result<FramedAnswer, AllocError>
     requires blocks { IsTrue (are_blocks blob.now.blocks) }
     requires len { len ≡ blocks_len blob.now.blocks }
     ensures frame { IfOk result (λ answer.
@@ -113,7 +113,7 @@ fn part_answer(
     let frame = part_frame(alloc, range, blob, len, replaced)?;
     let end = range_end(range, len);
     let spans = part_of(alloc, range.first, end, blob.blocks.as_slice())?;
-    Ok(Answer {
+    Ok(FramedAnswer {
         frame: Draft::written(frame),
         spans: Items::new(spans),
     })
@@ -126,7 +126,7 @@ fn ranged_answer(
     blob: &Committed<Pieces>,
     len: u64,
     replaced: &Replacements<'_>,
-) -> Result<Answer, AllocError>
+) -> Result<FramedAnswer, AllocError>
     requires blocks { IsTrue (are_blocks blob.now.blocks) }
     requires len { len ≡ blocks_len blob.now.blocks }
     ensures frame { IfOk result (λ answer.
@@ -150,7 +150,7 @@ fn write_answer(
     found: &Found<'_>,
     request: &Request,
     moment: Moment,
-) -> Result<Answer, AllocError>
+) -> Result<FramedAnswer, AllocError>
     requires writes { IsTrue (writes request.now.ask.op) }
     requires allowed { object_refusal (sizes_found found.now) request.now ≡ None }
     ensures frame { (v : Replaced) → IfOk result (λ answer. answer.frame
@@ -168,7 +168,7 @@ fn read_answer(
     target: &Target<'_>,
     request: &Request,
     replaced: &Replacements<'_>,
-) -> Result<Answer, AllocError>
+) -> Result<FramedAnswer, AllocError>
     requires target { IsTarget target.now request.now.ask }
     requires names { lists_names request.now.ask.op ≡ false }
     requires reads { writes request.now.ask.op ≡ false }
@@ -207,7 +207,7 @@ fn read_answer(
             let frame = list_reply(alloc, ask.args.kinds, seen)?;
             Ok(without_content(alloc, frame))
         }
-        _ => unreachable!(),
+        _ => unreachable!("each other operation writes or lists names"),
     }
 }
 
@@ -228,7 +228,7 @@ impl<'a> Allowed<'a> {
         request: &Request,
         moment: Moment,
         replaced: &Replacements<'_>,
-    ) -> Result<Answer, AllocError>
+    ) -> Result<FramedAnswer, AllocError>
         requires allowed { IsAllowed self.now request.now }
         requires names { lists_names request.now.ask.op ≡ false }
         ensures frame { IfOk result (λ answer.

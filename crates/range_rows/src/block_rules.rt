@@ -38,7 +38,9 @@ fn judged_list(alloc: Global, seen: &FoundBlob<'_>, wanted: &[Wanted]) -> Result
         Err(BlockFault::TooMany) => refused(Rule::O6, Code::BlockListTooLong),
         Err(BlockFault::TooLarge) => refused(Rule::O6, Code::RequestBodyTooLarge),
         Err(BlockFault::NoMemory) => return Err(AllocError),
-        Err(BlockFault::Id | BlockFault::Length) => unreachable!(),
+        Err(BlockFault::Id | BlockFault::Length) => unreachable!(
+            "only a new block has a fault of its id"
+        ),
     };
     Ok(Blocks::Refused(refusal))
 }

@@ -270,7 +270,7 @@ pub(crate) fn write_frame(
         Op::DeleteContainer | Op::DeleteBlob => {
             Ok(success_reply(alloc, Status::Accepted, Vec::new(alloc), 0))
         }
-        _ => unreachable!(),
+        _ => unreachable!("each other operation reads"),
     }
 }
 

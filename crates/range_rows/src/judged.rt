@@ -8,7 +8,7 @@ use stamp_types::Refusal;
 
 /// What the object says of a request.
 #[derive(Drop)]
-pub enum Judged<'a> {
+pub enum ObjectVerdict<'a> {
     /// A rule of the object refuses the request.
     Refused(Refusal),
     /// No rule of the object refuses the request.
@@ -25,7 +25,7 @@ pub struct Allowed<'a> {
     pub found: Resolved,
 }
 
-impl<'a> Judged<'a> {
+impl<'a> ObjectVerdict<'a> {
     /// The refusal, if the request is refused.
     pub fn refusal(&self) -> Option<Refusal>
         ensures { result ≡ refusal_in self.now }

@@ -20,12 +20,12 @@ mod request_changes;
 mod rows_rules;
 mod target;
 
-pub use answer::{Answer, Span};
+pub use answer::{FramedAnswer, Span};
 pub use answer_laws::{
     spans_say_what_content_goes_out, the_length_is_the_number_of_bytes_that_go_out,
 };
 pub use change_laws::a_change_that_no_rule_refuses_fits;
-pub use judged::{Allowed, Judged};
+pub use judged::{Allowed, ObjectVerdict};
 pub use reading::Reading;
 pub use replacements::Replacements;
 pub use rows_rules::ObjectRules;

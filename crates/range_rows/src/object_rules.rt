@@ -16,7 +16,7 @@ ghost use Rattle.range_rows.specs.ObjectRules as rules;
 use crate::block_rules::{Blocks, judged_blocks};
 use crate::body_rules::body_refusal;
 use crate::conditions::{fails_if_match, has_unwanted_etag, is_not_modified, must_be_new};
-use crate::judged::{Allowed, Judged};
+use crate::judged::{Allowed, ObjectVerdict};
 use crate::reading::Reading;
 use crate::target::Target;
 use block_blobs::Resolved;
@@ -164,15 +164,15 @@ impl<'a> Target<'a> {
 
     // What is judged last, if this was found of the blocks that the request wants: the range, and
     // whether the container takes a further change.
-    fn last_judged(self, request: &Request, found: Resolved) -> Judged<'a>
+    fn last_judged(self, request: &Request, found: Resolved) -> ObjectVerdict<'a>
         requires { IsTarget self request.now.ask }
         ensures { result ≡ judged_by (groups.group_refusal groups.last_causes
             (sizes_found self.entry.container) request.now) self.entry found }
     {
         let seen = self.named(request.ask());
         match self.last_refusal(request, seen) {
-            Some(refusal) => Judged::Refused(refusal),
-            None => Judged::Allowed(Allowed {
+            Some(refusal) => ObjectVerdict::Refused(refusal),
+            None => ObjectVerdict::Allowed(Allowed {
                 target: self,
                 found,
             }),
@@ -207,7 +207,7 @@ impl<'a> Target<'a> {
         alloc: Global,
         request: &Request,
         reading: &Reading,
-    ) -> Result<Judged<'a>, AllocError>
+    ) -> Result<ObjectVerdict<'a>, AllocError>
         requires target { IsTarget self request.now.ask }
         requires read { reading.now ≡ reading_of request.now }
         ensures judged { IfOk result (λ judged. judged ≡ judgement self.entry request.now) }
@@ -216,11 +216,11 @@ impl<'a> Target<'a> {
         ensures memory { IsErr result → request.now.ask.op ≡ op.PutBlockList }
     {
         if let Some(refusal) = self.early_refusal(request, reading) {
-            return Ok(Judged::Refused(refusal));
+            return Ok(ObjectVerdict::Refused(refusal));
         }
         let blocks = judged_blocks(alloc, request, reading, self.named(request.ask()))?;
         match blocks {
-            Blocks::Refused(refusal) => Ok(Judged::Refused(refusal)),
+            Blocks::Refused(refusal) => Ok(ObjectVerdict::Refused(refusal)),
             Blocks::Found(found) => Ok(self.last_judged(request, found)),
         }
     }

@@ -130,14 +130,14 @@ pub(crate) fn visible(alloc: Global, bytes: &[u8]) -> Result<Visible, AllocError
     ensures { IfOk result (λ text. text ≡ bytes.now) }
 {
     let Ok(text) = str::from_utf8(bytes) else {
-        unreachable!()
+        unreachable!("printable ASCII is UTF-8")
     };
     let Some(clean) = Text::new(String::from_str(alloc, text)?) else {
-        unreachable!()
+        unreachable!("printable ASCII is a text")
     };
     match Visible::new(clean) {
         Some(visible) => Ok(visible),
-        None => unreachable!(),
+        None => unreachable!("printable ASCII is visible"),
     }
 }
 

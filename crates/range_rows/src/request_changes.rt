@@ -267,7 +267,7 @@ impl<'a> Allowed<'a> {
                 let put = put_block_list(alloc, request, moment, blob, kept, entries)?;
                 Ok(Act::PutBlockList(put))
             }
-            _ => unreachable!(),
+            _ => unreachable!("each operation that writes has these arguments"),
         }
     }
 

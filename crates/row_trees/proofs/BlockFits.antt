@@ -13,7 +13,7 @@ use Rattle.std.specs.declared.alloc.AllocError.{AllocError}
 use Rattle.stamp_values.specs.Maps.{entry_value, map_values}
 use Rattle.stamp_values.specs.Names.{is_blob}
 use Rattle.stamp_values.specs.Order.{name_cmp, names_exact, names_total}
-use Rattle.stamp_values.specs.declared.block.Source.{Source}
+use Rattle.stamp_values.specs.declared.block.BlockSource.{BlockSource}
 use Rattle.stamp_values.specs.declared.block.Taken.{Taken}
 use Rattle.stamp_values.specs.declared.block.Wanted.{Wanted}
 use Rattle.stamp_values.proofs.MapsLemmas.{get-map_values}
@@ -112,7 +112,7 @@ module _ {C D : Type 0} (f : C → D) (b : Blob C) where
       ∙ sym (takes_nothing t.id (content_from t.from t.id b))
 
   -- a block is found among read content if it is found
-  is_found-blob_value : (s : Source) (id : List ℕ) → is_some (content_from s id (blob_value f b)) ≡ is_some (content_from s id b)
+  is_found-blob_value : (s : BlockSource) (id : List ℕ) → is_some (content_from s id (blob_value f b)) ≡ is_some (content_from s id b)
   is_found-blob_value s id =
       is_some-not_none (content_from s id (blob_value f b))
       ∙ ap not (is_absent-blob_value (record { id = id; from = s }))

@@ -25,7 +25,7 @@ fn found_in(
     match seen.listed(alloc, entries) {
         Ok(found) => Ok(found),
         Err(BlockFault::NoMemory) => Err(AllocError),
-        Err(_) => unreachable!(),
+        Err(_) => unreachable!("the caller has seen that the list takes these blocks"),
     }
 }
 

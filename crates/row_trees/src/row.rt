@@ -122,7 +122,7 @@ impl Row {
         match self.blob.put_block(id, content) {
             Ok(()) => Ok(()),
             Err(BlockFault::NoMemory) => Err(AllocError),
-            Err(_) => unreachable!(),
+            Err(_) => unreachable!("the caller has seen that the block fits"),
         }
     }
 

@@ -7,8 +7,8 @@ use body_forms::BodyFault;
 use range_rows::{ObjectRules, Reading};
 use row_trees::Rows;
 use stamp_types::{
-    Act, Args, Block, Body, Bytes, Change, Code, Items, Lookup, Metadata, Op, Piece, Pieces,
-    Policy, PutBlock, PutBlockList, Refusal, Request, Rule, Source, StoredBlob, Taken,
+    Act, Args, Block, BlockSource, Body, Bytes, Change, Code, Items, Lookup, Metadata, Op, Piece,
+    Pieces, Policy, PutBlock, PutBlockList, Refusal, Request, Rule, StoredBlob, Taken,
     UncommittedBlock, Wanted,
 };
 use std::alloc::Global;
@@ -22,7 +22,7 @@ const B: &[u8] = &[4, 16, 65];
 // An id of another length.
 const SHORT: &[u8] = &[0];
 
-type Entry = (&'static [u8], Source);
+type Entry = (&'static [u8], BlockSource);
 
 /// What a step does to its blob.
 #[derive(Clone, Copy)]
@@ -63,14 +63,19 @@ fn steps() -> [Step; 12] {
         // A blob of blocks alone is not seen.
         planned("a", Kind::Put(A, "one"), true, None),
         planned("a", Kind::Put(SHORT, "three"), false, None),
-        planned("a", Kind::Commit(&[(B, Source::Uncommitted)]), false, None),
+        planned(
+            "a",
+            Kind::Commit(&[(B, BlockSource::Uncommitted)]),
+            false,
+            None,
+        ),
         planned("a", Kind::Put(B, "two"), true, None),
         planned(
             "a",
             Kind::Commit(&[
-                (B, Source::Uncommitted),
-                (A, Source::Uncommitted),
-                (B, Source::Uncommitted),
+                (B, BlockSource::Uncommitted),
+                (A, BlockSource::Uncommitted),
+                (B, BlockSource::Uncommitted),
             ]),
             true,
             TWO_ONE_TWO,
@@ -78,24 +83,32 @@ fn steps() -> [Step; 12] {
         // No block is uncommitted after a commit, and committed ids may have another length.
         planned(
             "a",
-            Kind::Commit(&[(A, Source::Uncommitted)]),
+            Kind::Commit(&[(A, BlockSource::Uncommitted)]),
             false,
             TWO_ONE_TWO,
         ),
         planned("a", Kind::Put(SHORT, "three"), true, TWO_ONE_TWO),
         planned(
             "a",
-            Kind::Commit(&[(A, Source::Committed), (SHORT, Source::Uncommitted)]),
+            Kind::Commit(&[
+                (A, BlockSource::Committed),
+                (SHORT, BlockSource::Uncommitted),
+            ]),
             true,
             Some((6, &["one", "three"])),
         ),
         // Names that no change used before.
-        planned("b", Kind::Commit(&[(A, Source::Committed)]), false, None),
+        planned(
+            "b",
+            Kind::Commit(&[(A, BlockSource::Committed)]),
+            false,
+            None,
+        ),
         planned("b", Kind::Commit(&[]), true, Some((7, &[]))),
         planned("c", Kind::Put(B, "four"), true, None),
         planned(
             "c",
-            Kind::Commit(&[(B, Source::Uncommitted)]),
+            Kind::Commit(&[(B, BlockSource::Uncommitted)]),
             true,
             Some((9, &["four"])),
         ),

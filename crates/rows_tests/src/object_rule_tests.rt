@@ -2,7 +2,7 @@
 //! and that no body is copied. Printed replies, with their lines, are cases of `replay_cases`.
 
 use crate::sample_requests::{Sum, allowed, body, make, moment, pics, pics_and_gone, request};
-use range_rows::{Answer, ObjectRules, Reading, Replacements, Span};
+use range_rows::{FramedAnswer, ObjectRules, Reading, Replacements, Span};
 use row_trees::Rows;
 use stamp_types::{Body, Change, Header, Items, Op, Piece, Reply, Request, Rule, Status};
 use std::alloc::Global;
@@ -125,7 +125,7 @@ fn answer(
     let reading = Reading::of(alloc, request).expect(rt, "memory");
     let allowed = allowed(rt, alloc, rows, request, &reading);
     let answer = allowed.reply(alloc, request, moment(rt), &Replacements::none());
-    let Answer { frame, spans } = answer.expect(rt, "memory");
+    let FramedAnswer { frame, spans } = answer.expect(rt, "memory");
     let frame = frame.write(alloc).expect(rt, "memory");
     assert!(rt; frame.status == status && frame.length == length && frame.body.is_empty());
     (frame, spans)

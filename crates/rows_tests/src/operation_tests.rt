@@ -2,7 +2,7 @@
 //! length, the body and the content of each reply, against values that were written by hand.
 
 use crate::sample_requests::{allowed, body, four_names, make, moment_after, request_with};
-use range_rows::{Answer, Reading, Replacements, Span};
+use range_rows::{FramedAnswer, Reading, Replacements, Span};
 use row_trees::Rows;
 use stamp_types::{Change, Header, Level, Moment, Op, Piece, Request, Status};
 use std::alloc::Global;
@@ -192,7 +192,7 @@ fn answer(
     rows: &Rows,
     request: &Request,
     moment: Moment,
-) -> Answer {
+) -> FramedAnswer {
     assert!(rt; !request.ask().op.lists_names());
     let reading = Reading::of(alloc, request).expect(rt, "memory");
     let allowed = allowed(rt, alloc, rows, request, &reading);
@@ -230,8 +230,8 @@ fn asked(rt: &impl Abort, alloc: Global, op: Op) -> Request {
     request_with(rt, alloc, op, metadata, body(rt, alloc, bytes))
 }
 
-fn judge(rt: &impl Abort, alloc: Global, op: Op, answer: Answer) {
-    let Answer { frame, spans } = answer;
+fn judge(rt: &impl Abort, alloc: Global, op: Op, answer: FramedAnswer) {
+    let FramedAnswer { frame, spans } = answer;
     let frame = frame.write(alloc).expect(rt, "memory");
     compare(rt, frame.headers.as_slice(), lines(op));
     assert!(rt; frame.status == status(op), "{op:?}");

@@ -4,7 +4,7 @@ ghost use Rattle.range_rows.specs.Judgements.{IsAllowed};
 ghost use Rattle.range_rows.specs.Readings.{reading_of};
 
 use crate::sample_parts::deleted_row;
-use range_rows::{Allowed, Judged, Reading, Target};
+use range_rows::{Allowed, ObjectVerdict, Reading, Target};
 use row_trees::Rows;
 use stamp_types::{
     Acl, Act, Args, Ask, Body, Bytes, Change, ContainerRow, Credential, FieldList, Items, Kept,
@@ -290,7 +290,7 @@ pub(crate) fn allowed<'a>(
     let ask = request.ask();
     let target = Target::of(rows.find(&ask.key), ask);
     match target.judge(alloc, request, reading).expect(rt, "memory") {
-        Judged::Allowed(allowed) => allowed,
-        Judged::Refused(_) => panic!(rt; "refused"),
+        ObjectVerdict::Allowed(allowed) => allowed,
+        ObjectVerdict::Refused(_) => panic!(rt; "refused"),
     }
 }

@@ -7,7 +7,7 @@ ghost use Rattle.served_history.specs.declared.entry.Entry.TheVariants.{Opened, 
 ghost use Rattle.served_history.specs.Growth.{IsAdded, word_of};
 ghost use Rattle.served_history.specs.Histories.{count_of, IsHistory, IsOwn};
 
-use crate::entry::{Call, Entry, NextRotation, NextServed, NextSplit};
+use crate::entry::{Entry, NextRotation, NextServed, NextSplit, TimedCall};
 use access_rules::{Keys, Which};
 use hmac_sign::SigningKey;
 use logbook::{Gain, Offer, Opening, Pens, Plain, Play, Rule, Seen, Start, Word};
@@ -157,11 +157,11 @@ impl NewHistory {
     }
 
     /// What is known of it: its first entry.
-    pub fn front<A: Account>(&self) -> Front<A>
+    pub fn front<A: Account>(&self) -> LogFront<A>
         requires { self.now.book ≡ A.history }
         ensures { result ≡ self.now.log }
     {
-        Front {
+        LogFront {
             seen: self.seen.again(),
             account: PhantomData,
         }
@@ -180,12 +180,12 @@ pub struct SlotWord<A: Account> {
 
 /// A beginning of the history, which somebody knows. Contracts see it as its entries.
 #[derive(Drop)]
-pub struct Front<A: Account> {
+pub struct LogFront<A: Account> {
     seen: Seen<Entry, u64, Counted>,
     account: PhantomData<A>,
 }
 
-impl<A: Account> Model for Front<A> {
+impl<A: Account> Model for LogFront<A> {
     ghost use Rattle.std.specs.Prelude.{◌≡◌, List};
     ghost use Rattle.served_history.specs.declared.entry.Entry.{Entry};
     ghost use Rattle.served_history.specs.Histories.{IsHistory};
@@ -197,20 +197,20 @@ impl<A: Account> Model for Front<A> {
     ghost invariant = { λ f. (f.seen.book ≡ A.history) × IsHistory f.seen.log };
 }
 
-impl<A: Account> Front<A> {
+impl<A: Account> LogFront<A> {
     /// A copy.
-    pub fn again(&self) -> Front<A>
+    pub fn again(&self) -> LogFront<A>
         ensures same { result ≡ self.now }
         ensures history { IsHistory self.now }
     {
-        Front {
+        LogFront {
             seen: self.seen.again(),
             account: PhantomData,
         }
     }
 
     /// Afterwards it knows what both knew.
-    pub fn learn(&mut self, other: &Front<A>)
+    pub fn learn(&mut self, other: &LogFront<A>)
         ensures this { IsPrefix self.old self.new }
         ensures that { IsPrefix other.now self.new }
     {
@@ -219,7 +219,12 @@ impl<A: Account> Front<A> {
 
     /// Adds a request of a slot to a history that goes on from what is known, and returns whether it did. It did not if the slot has not made
     /// so many entries.
-    pub(crate) fn add_served(&mut self, word: &SlotWord<A>, count: u64, call: &Call<'_>) -> bool
+    pub(crate) fn add_served(
+        &mut self,
+        word: &SlotWord<A>,
+        count: u64,
+        call: &TimedCall<'_>,
+    ) -> bool
         requires room { count < 2 ^ 62 }
         requires own { (log : List History_entry) → IsPrefix self.old log → count_of word.now.number log ≡ count → IsHistory log → IsOwn log (Served word.now.number call.now) }
         ensures { MatchBool result (IsAdded word.now.number count self.old (Served word.now.number call.now) self.new) (Unit {0}) }

@@ -3,8 +3,8 @@ ghost use Rattle.std.specs.Prelude.{◌≡◌, ◌<◌, ◌^◌, ◌∷◌, [], 
 ghost use Rattle.served_history.specs.declared.entry.Entry.TheVariants.{Opened, Served};
 ghost use Rattle.served_history.specs.Histories.{count_of, IsOwn};
 
-use crate::entry::Call;
-use crate::history::{Account, Front, NewHistory};
+use crate::entry::TimedCall;
+use crate::history::{Account, LogFront, NewHistory};
 use crate::laws::two_connections_agree;
 use crate::slot_history::SlotHistory;
 use request_form::read_head;
@@ -35,14 +35,14 @@ fn key(rt: &impl Abort, alloc: Global, name: &str) -> Key {
 fn serve<A: Account>(
     rt: &impl Abort,
     slot: &mut SlotHistory<A>,
-    known: &mut Front<A>,
+    known: &mut LogFront<A>,
     request: &Request,
     moment: Moment,
 )
     requires room { count_of slot.old.slot slot.old.log < 2 ^ 62 }
     requires own { IsOwn slot.old.log (Served slot.old.slot (record { request = request.now; moment = moment; keys = None; bound = None })) }
 {
-    let call = Call {
+    let call = TimedCall {
         request,
         moment,
         keys: None,

@@ -19,7 +19,7 @@ ghost use Rattle.served_history.specs.Growth.{IsEntered};
 ghost use Rattle.served_history.specs.Histories.{GoesOnWithout, HasStayed, IsHistory, IsServed, IsUnchanged, entry_after, owner, served_requests, timed_at, world_left};
 ghost use Rattle.served_history.specs.Connections.{AddsOneAtMost, AreOfOneHistory, Call, IsReadAfter, ReadsHistory, calls_of};
 
-use crate::history::{Account, Front};
+use crate::history::{Account, LogFront};
 use http_front::Clock;
 
 /// While a slot makes no entry, its keys stay its own, and their bounds, their key pairs and their containers stay as they are, whatever entries
@@ -50,7 +50,7 @@ pub fn an_entered_request_is_served()
 {}
 
 /// What is known of the history is a history: it begins with the key pairs of the accounts, and each slot had the keys of its entries.
-pub fn what_is_known_is_a_history<A: Account>(front: &Front<A>)
+pub fn what_is_known_is_a_history<A: Account>(front: &LogFront<A>)
     ensures { IsHistory front.now }
 {
     let _same = front.again();
@@ -78,7 +78,7 @@ pub fn each_connection_reads_one_history<C: Clock>()
 {}
 
 /// What two connections know, or two slots, are beginnings of one history.
-pub fn two_connections_agree<A: Account>(one: &Front<A>, other: &Front<A>)
+pub fn two_connections_agree<A: Account>(one: &LogFront<A>, other: &LogFront<A>)
     ensures { AreOfOneHistory one.now other.now }
 {
     let mut both = one.again();

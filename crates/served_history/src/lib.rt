@@ -9,8 +9,8 @@ mod laws;
 mod rotation_laws;
 mod slot_history;
 
-pub use entry::Call;
-pub use history::{Account, Front, NewHistory, SlotWord};
+pub use entry::TimedCall;
+pub use history::{Account, LogFront, NewHistory, SlotWord};
 pub use laws::{
     a_connection_reads_its_own_writes, a_slot_has_what_its_entry_leaves, a_slot_keeps_what_it_has,
     an_entered_request_is_served, each_connection_reads_one_history, two_connections_agree,

@@ -4,8 +4,8 @@ ghost use Rattle.served_history.specs.declared.entry.Entry.TheVariants.{Rotated,
 ghost use Rattle.served_history.specs.Growth.{IsEntered};
 ghost use Rattle.served_history.specs.Histories.{count_of, GoesOnWithout, IsOwn};
 
-use crate::entry::Call;
-use crate::history::{Account, Front, SlotWord};
+use crate::entry::TimedCall;
+use crate::history::{Account, LogFront, SlotWord};
 use access_rules::Which;
 use hmac_sign::SigningKey;
 use stamp_types::{Key, Text};
@@ -20,7 +20,7 @@ const MOST: u64 = 1 << 61;
 pub struct SlotHistory<A: Account> {
     word: SlotWord<A>,
     count: u64,
-    front: Front<A>,
+    front: LogFront<A>,
 }
 
 impl<A: Account> Model for SlotHistory<A> {
@@ -37,7 +37,7 @@ impl<A: Account> Model for SlotHistory<A> {
 
 impl<A: Account> SlotHistory<A> {
     /// What a slot without entries knows.
-    pub fn new(word: SlotWord<A>, front: Front<A>) -> Self
+    pub fn new(word: SlotWord<A>, front: LogFront<A>) -> Self
         requires { count_of word.number front ≡ 0 }
         ensures slot { result.slot ≡ word.number }
         ensures log { result.log ≡ front }
@@ -57,7 +57,7 @@ impl<A: Account> SlotHistory<A> {
     }
 
     /// A copy of what the slot knows of the history.
-    pub fn front(&self) -> Front<A>
+    pub fn front(&self) -> LogFront<A>
         ensures { result ≡ self.now.log }
     {
         self.front.again()
@@ -68,7 +68,7 @@ impl<A: Account> SlotHistory<A> {
     ///
     /// It did not if the slot's word says another number of entries than the slot made. No thread makes such an entry, though no clause says so.
     /// Then both know what they knew, and the slot is of no use any more.
-    pub fn enter(&mut self, known: &mut Front<A>, call: &Call<'_>) -> bool
+    pub fn enter(&mut self, known: &mut LogFront<A>, call: &TimedCall<'_>) -> bool
         requires room { count_of self.old.slot self.old.log < 2 ^ 62 }
         requires own { IsOwn self.old.log (Served self.old.slot call.now) }
         ensures entered { MatchBool result (IsEntered self.old.slot self.old.log known.old (Served self.old.slot call.now) known.new)
@@ -95,7 +95,7 @@ impl<A: Account> SlotHistory<A> {
     /// It did not if the slot's word says another number of entries than the slot made, as `enter`.
     pub fn rotate(
         &mut self,
-        known: &mut Front<A>,
+        known: &mut LogFront<A>,
         account: &Text,
         which: Which,
         key: &SigningKey,

@@ -13,8 +13,8 @@ use Rattle.served_history.specs.Histories.{count_of}
 use Rattle.served_slots.specs.Slots.{IsParted}
 use Rattle.served_slots.specs.declared.entering.Missed.{Missed}
 use Rattle.served_slots.specs.declared.entering.Missed.TheVariants as missed
-use Rattle.served_slots.specs.declared.splitting.SplitError.{SplitError}
-use Rattle.served_slots.specs.declared.splitting.SplitError.TheVariants as split
+use Rattle.served_slots.specs.declared.splitting.SplitFault.{SplitFault}
+use Rattle.served_slots.specs.declared.splitting.SplitFault.TheVariants as split
 
 -- the reply that is there, or that the ticket gives
 abbrev pub told_reply : Result Reply Reply → Reply
@@ -71,7 +71,7 @@ abbrev pub split_at : List Key → Key → List Key
 split_at points middle = with_point points (slot_of points middle) middle
 
 -- the cause for which spans refuse a split, by what is answered. Lack of memory is not such a cause
-abbrev pub split_cause : SplitError → Option MapFault
+abbrev pub split_cause : SplitFault → Option MapFault
 split_cause split.FirstKey = Some cause.NotInside
 split_cause split.Full = Some cause.Full
 split_cause split.NoMemory = None
@@ -83,5 +83,5 @@ pub record SpansSay (middle : Key) (cause : Option MapFault) : Type 0 where
 
 -- why no slot is split at this key: a slot begins with it, or there are as many slots as there may be; or the spans allow it, and memory ran out or
 -- the slot is not cut
-abbrev pub IsSplitFault : Key → SplitError → Type 0
+abbrev pub IsSplitFault : Key → SplitFault → Type 0
 IsSplitFault middle fault = SpansSay middle (split_cause fault)

@@ -2,7 +2,7 @@
 ghost use Rattle.std.specs.Prelude.{◌≡◌, ◌∷◌, []};
 ghost use Rattle.served_history.specs.declared.entry.Entry.TheVariants.{Opened};
 
-use crate::connection::Connection;
+use crate::connection::SlotsService;
 use crate::rotation_tests::{GET_PICS, PUT_PICS};
 use crate::slots::Slots;
 use crate::slots_tests::{CREATE_PICS, CREATED, key, pairs, sent};
@@ -21,7 +21,7 @@ const PUT_BLOCK: &[u8] =
 fn waste<A: Account, R: Wait + Abort>(
     rt: &R,
     alloc: Global,
-    connection: &mut Connection<'_, A, R>,
+    connection: &mut SlotsService<'_, A, R>,
 ) {
     assert!(rt; sent(rt, alloc, connection, CREATE_PICS).starts_with(CREATED));
     let mut request = PUT_BLOCK.to_vec(alloc).expect(rt, "memory");
@@ -46,8 +46,8 @@ fn compacts_for_another<A: Account, R: Wait + Abort>(
     requires log { history.log ≡ Opened pairs.items ∷ [] }
 {
     let (slots, front) = Slots::<A>::new(alloc, pairs, history).expect(rt, "memory");
-    let mut writer = Connection::new(rt, &slots, front.again());
-    let mut reader = Connection::new(rt, &slots, front);
+    let mut writer = SlotsService::new(rt, &slots, front.again());
+    let mut reader = SlotsService::new(rt, &slots, front);
     let pics = key(rt, alloc, "pics");
     waste(rt, alloc, &mut writer);
     assert!(rt; slots.is_wasteful(rt, &pics));

@@ -10,26 +10,26 @@ use crate::slots::Slots;
 use audit_lines::Books;
 use http_front::{Service, brings_content};
 use range_rows::Reading;
-use served_history::{Account, Front};
+use served_history::{Account, LogFront};
 use stamp_types::{Ask, Moment, Op, Reply, Request};
 use std::alloc::{AllocError, Global};
 use std::sync::Wait;
 
 /// The service of one connection: the slots, and what the connection knows of their history.
 #[derive(Drop)]
-pub struct Connection<'a, A: Account, R: Wait> {
+pub struct SlotsService<'a, A: Account, R: Wait> {
     rt: &'a R,
     slots: &'a Slots<A>,
-    known: Front<A>,
+    known: LogFront<A>,
     // Where the entries of the requests are posted, if entries are made.
     books: Option<&'a Books>,
     // What is given up if memory runs out.
     reserve: Option<&'a Reserve>,
 }
 
-impl<'a, A: Account, R: Wait> Connection<'a, A, R> {
+impl<'a, A: Account, R: Wait> SlotsService<'a, A, R> {
     /// A connection that knows this of the history.
-    pub fn new(rt: &'a R, slots: &'a Slots<A>, known: Front<A>) -> Self
+    pub fn new(rt: &'a R, slots: &'a Slots<A>, known: LogFront<A>) -> Self
         ensures { result.known ≡ known }
     {
         Self::audited(rt, slots, known, None)
@@ -39,7 +39,7 @@ impl<'a, A: Account, R: Wait> Connection<'a, A, R> {
     pub fn audited(
         rt: &'a R,
         slots: &'a Slots<A>,
-        known: Front<A>,
+        known: LogFront<A>,
         books: Option<&'a Books>,
     ) -> Self
         ensures { result.known ≡ known }
@@ -67,21 +67,21 @@ impl<'a, A: Account, R: Wait> Connection<'a, A, R> {
     }
 
     /// What the connection knows of the history.
-    pub fn known(&self) -> &Front<A>
+    pub fn known(&self) -> &LogFront<A>
         ensures { result.now ≡ self.now.known }
     {
         &self.known
     }
 
     /// Ends the connection, and gives what it knows of the history.
-    pub fn into_known(self) -> Front<A>
+    pub fn into_known(self) -> LogFront<A>
         ensures { result ≡ self.entry.known }
     {
         self.known
     }
 }
 
-impl<'a, A: Account, R: Wait> Connection<'a, A, R> {
+impl<'a, A: Account, R: Wait> SlotsService<'a, A, R> {
     // Gives the reserve up, if there is one. Returns whether it was held.
     fn give_up_reserve(&self) -> bool {
         match self.reserve {
@@ -146,7 +146,7 @@ impl<'a, A: Account, R: Wait> Connection<'a, A, R> {
     }
 }
 
-impl<'a, A: Account, R: Wait> Service for Connection<'a, A, R> {
+impl<'a, A: Account, R: Wait> Service for SlotsService<'a, A, R> {
     ghost use Rattle.std.specs.Prelude.{List};
     ghost use Rattle.served_history.specs.declared.entry.Entry.{Entry};
     ghost use Rattle.served_history.specs.Histories.{IsServed, IsUnchanged};
@@ -213,8 +213,8 @@ impl<'a, A: Account, R: Wait> Service for Connection<'a, A, R> {
 
 /// What two connections of the same slots know are beginnings of one history.
 pub fn two_connections_agree<A: Account, R: Wait>(
-    one: &Connection<'_, A, R>,
-    other: &Connection<'_, A, R>,
+    one: &SlotsService<'_, A, R>,
+    other: &SlotsService<'_, A, R>,
 )
     ensures { AreOfOneHistory one.now.known other.now.known }
 {

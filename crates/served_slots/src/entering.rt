@@ -16,7 +16,7 @@ use crate::steadily::{cut_steadily, tell_steadily};
 use crate::told::Told;
 use policy_book::Judged;
 use range_rows::Reading;
-use served_history::{Account, Call, Front, SlotHistory, SlotWord};
+use served_history::{Account, LogFront, SlotHistory, SlotWord, TimedCall};
 use slot_state::ProvedHistories;
 use stamp_types::{Key, Moment, Request};
 use std::alloc::Global;
@@ -38,11 +38,11 @@ fn call_of<'a>(
     to: &'a Option<Key>,
     request: &'a Request,
     moment: Moment,
-) -> Call<'a>
+) -> TimedCall<'a>
     ensures { result ≡ timed_in slot.now to.now request.now moment }
 {
     let ask = request.ask();
-    Call {
+    TimedCall {
         request,
         moment,
         keys: slot.pairs(&ask.key.account).current(),
@@ -55,7 +55,7 @@ fn enter<A: Account>(
     slot: &StoredSlot<ProvedHistories>,
     own: &mut SlotHistory<A>,
     to: &Option<Key>,
-    known: &mut Front<A>,
+    known: &mut LogFront<A>,
     request: &Request,
     moment: Moment,
 ) -> bool
@@ -77,7 +77,7 @@ pub(crate) fn serve_and_enter<A: Account>(
     own: &mut SlotHistory<A>,
     to: &Option<Key>,
     alloc: Global,
-    known: &mut Front<A>,
+    known: &mut LogFront<A>,
     request: &Request,
     first: &Key,
     judged: Option<&Judged>,

@@ -29,11 +29,11 @@ mod table;
 mod taking;
 mod told;
 
-pub use connection::{Connection, two_connections_agree};
+pub use connection::{SlotsService, two_connections_agree};
 pub use laws::{
     a_slot_has_what_its_requests_leave, both_halves_have_what_is_left, the_first_slot_has_all_keys,
 };
 pub use operator::Operator;
 pub use reserve::Reserve;
 pub use slots::Slots;
-pub use splitting::SplitError;
+pub use splitting::SplitFault;

@@ -17,7 +17,7 @@ use crate::ready::Ready;
 use crate::steadily::{compact_steadily, first_slot};
 use crate::told::Told;
 use range_rows::Reading;
-use served_history::{Account, Front, SlotHistory, SlotWord};
+use served_history::{Account, LogFront, SlotHistory, SlotWord};
 use slot_state::{AccountPairs, ProvedHistories};
 use stamp_types::{Key, Moment, Request};
 use std::alloc::{AllocError, Global};
@@ -109,7 +109,7 @@ impl<A: Account> LockedSlot<A> {
     pub(crate) fn answer(
         &mut self,
         alloc: Global,
-        known: &mut Front<A>,
+        known: &mut LogFront<A>,
         request: &Request,
         ready: &Ready,
         reading: Reading,

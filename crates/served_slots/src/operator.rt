@@ -5,10 +5,10 @@ ghost use Rattle.served_slots.specs.Rotations.{HasLastEpoch, HasRotated};
 ghost use Rattle.served_slots.specs.Steps.{IsSplitFault, SpansSay};
 
 use crate::slots::Slots;
-use crate::splitting::SplitError;
+use crate::splitting::SplitFault;
 use access_rules::{KeysFault, Which};
 use hmac_sign::SigningKey;
-use served_history::{Account, Front};
+use served_history::{Account, LogFront};
 use stamp_types::{Key, Text};
 use std::alloc::{AllocError, Global};
 use std::sync::Wait;
@@ -19,12 +19,12 @@ pub struct Operator<'a, A: Account, R: Wait> {
     rt: &'a R,
     slots: &'a Slots<A>,
     account: Text,
-    known: Front<A>,
+    known: LogFront<A>,
 }
 
 impl<'a, A: Account, R: Wait> Operator<'a, A, R> {
     /// An operator of this account, who knows this of the history.
-    pub fn new(rt: &'a R, slots: &'a Slots<A>, account: Text, known: Front<A>) -> Self
+    pub fn new(rt: &'a R, slots: &'a Slots<A>, account: Text, known: LogFront<A>) -> Self
         ensures account { result.account ≡ account }
         ensures known { result.known ≡ known }
     {
@@ -37,14 +37,14 @@ impl<'a, A: Account, R: Wait> Operator<'a, A, R> {
     }
 
     /// What the operator knows of the history.
-    pub fn known(&self) -> &Front<A>
+    pub fn known(&self) -> &LogFront<A>
         ensures { result.now ≡ self.now.known }
     {
         &self.known
     }
 
     /// Ends the work of the operator, and gives what the operator knows of the history.
-    pub fn into_known(self) -> Front<A>
+    pub fn into_known(self) -> LogFront<A>
         ensures { result ≡ self.entry.known }
     {
         self.known
@@ -86,7 +86,7 @@ impl<'a, A: Account, R: Wait> Operator<'a, A, R> {
     /// Splits the slot that has the key. The key is then the first key of the upper half. No request is answered meanwhile.
     ///
     /// The faults are those of [`Slots::split`]. After a fault nothing is changed.
-    pub fn split(&self, alloc: Global, middle: &Key) -> Result<(), SplitError>
+    pub fn split(&self, alloc: Global, middle: &Key) -> Result<(), SplitFault>
         ensures allowed { OnOk result (SpansSay middle.now None) }
         ensures fault { IfErr result (IsSplitFault middle.now) }
     {

@@ -2,7 +2,7 @@
 ghost use Rattle.std.specs.Prelude.{◌≡◌, ◌∷◌, []};
 ghost use Rattle.served_history.specs.declared.entry.Entry.TheVariants.{Opened};
 
-use crate::connection::Connection;
+use crate::connection::SlotsService;
 use crate::slots::Slots;
 use crate::slots_tests::{CREATE_ZOO, CREATED, GET_ZOO, PUT_ZOO, pairs, sent};
 use access_rules::{Keys, Way};
@@ -36,8 +36,8 @@ fn posts<A: Account, R: Wait + Abort>(rt: &R, alloc: Global, pairs: Vec<Keys>, h
 {
     let (slots, front) = Slots::<A>::new(alloc, pairs, history).expect(rt, "memory");
     let books = Books::new(alloc, 10).expect(rt, "memory");
-    let mut client = Connection::audited(rt, &slots, front.again(), Some(&books));
-    let mut other = Connection::new(rt, &slots, front);
+    let mut client = SlotsService::audited(rt, &slots, front.again(), Some(&books));
+    let mut other = SlotsService::new(rt, &slots, front);
     assert!(rt; sent(rt, alloc, &mut client, CREATE_ZOO).starts_with(CREATED));
     assert!(rt; sent(rt, alloc, &mut client, CREATE_ZOO).starts_with(CONFLICT));
     assert!(rt; sent(rt, alloc, &mut client, PUT_ZOO).starts_with(CREATED));

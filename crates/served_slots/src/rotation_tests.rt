@@ -2,13 +2,13 @@
 ghost use Rattle.std.specs.Prelude.{◌≡◌, ◌∷◌, []};
 ghost use Rattle.served_history.specs.declared.entry.Entry.TheVariants.{Opened};
 
-use crate::connection::Connection;
+use crate::connection::SlotsService;
 use crate::operator::Operator;
 use crate::slots::Slots;
 use crate::slots_tests::{
     CREATE_PICS, CREATE_ZOO, CREATED, GET_ZOO, PUT_ZOO, key, pairs, sent, signing,
 };
-use crate::splitting::SplitError;
+use crate::splitting::SplitFault;
 use access_rules::{Keys, Which};
 use served_history::{Account, NewHistory};
 use stamp_types::Text;
@@ -46,7 +46,7 @@ const FORBIDDEN: &[u8] = b"HTTP/1.1 403 Forbidden\r\n";
 fn is_answered<A: Account, R: Wait + Abort>(
     rt: &R,
     alloc: Global,
-    connection: &mut Connection<'_, A, R>,
+    connection: &mut SlotsService<'_, A, R>,
     request: &[u8],
     answer: &[u8],
 ) -> bool {
@@ -63,7 +63,7 @@ fn account(rt: &impl Abort, alloc: Global) -> Text {
 fn opens_by_first<A: Account, R: Wait + Abort>(
     rt: &R,
     alloc: Global,
-    client: &mut Connection<'_, A, R>,
+    client: &mut SlotsService<'_, A, R>,
 ) {
     assert!(rt; is_answered(rt, alloc, client, CREATE_PICS, CREATED));
     assert!(rt; is_answered(rt, alloc, client, CREATE_ZOO, CREATED));
@@ -79,7 +79,7 @@ fn opens_by_first<A: Account, R: Wait + Abort>(
 fn opens_by_new<A: Account, R: Wait + Abort>(
     rt: &R,
     alloc: Global,
-    client: &mut Connection<'_, A, R>,
+    client: &mut SlotsService<'_, A, R>,
 ) {
     assert!(rt; is_answered(rt, alloc, client, GET_PICS, FORBIDDEN));
     assert!(rt; is_answered(rt, alloc, client, GET_ZOO, FORBIDDEN));
@@ -106,7 +106,7 @@ fn rotates<A: Account, R: Wait + Abort>(
     let slots = &slots;
     assert!(rt; slots.split(rt, alloc, &key(rt, alloc, "q")).is_ok());
     let mut operator = Operator::new(rt, slots, account(rt, alloc), front.again());
-    let mut client = Connection::new(rt, slots, front);
+    let mut client = SlotsService::new(rt, slots, front);
     opens_by_first(rt, alloc, &mut client);
     let new = signing(rt, alloc, b"new1");
     assert!(rt; operator.rotate(alloc, Which::First, &new) == Ok(1));
@@ -116,7 +116,7 @@ fn rotates<A: Account, R: Wait + Abort>(
         .container(Text::new(name).expect(rt, "a text"))
         .expect(rt, "memory");
     assert!(rt; operator.split(alloc, &middle).is_ok());
-    assert!(rt; operator.split(alloc, &middle) == Err(SplitError::FirstKey));
+    assert!(rt; operator.split(alloc, &middle) == Err(SplitFault::FirstKey));
     assert!(rt; operator.rotate(alloc, Which::First, &new) == Ok(2));
     opens_by_new(rt, alloc, &mut client);
 }

@@ -18,14 +18,14 @@ ghost use Rattle.served_slots.specs.Steps.{IsSplitFault, SpansSay};
 
 use crate::next_pairs::{judging_pairs, made_pair};
 use crate::ready::Ready;
-use crate::splitting::SplitError;
+use crate::splitting::SplitFault;
 use crate::table::Table;
 use crate::told::Told;
 use access_rules::{Keys, KeysFault, Which};
 use hmac_sign::SigningKey;
 use partition_map::MOST_SLOTS;
 use range_rows::Reading;
-use served_history::{Account, Front, NewHistory, SlotHistory, SlotWord};
+use served_history::{Account, LogFront, NewHistory, SlotHistory, SlotWord};
 use slot_state::{AccountPairs, PairsFault};
 use stamp_types::{Key, Moment, Request, Text};
 use std::alloc::{AllocError, Global};
@@ -88,7 +88,7 @@ fn shared_pairs(alloc: Global, pairs: Vec<Keys>) -> Result<Arc<AccountPairs>, Pa
 }
 
 // What the first slot knows of a new history.
-fn first_own<A: Account>(history: &mut NewHistory, front: &Front<A>) -> SlotHistory<A>
+fn first_own<A: Account>(history: &mut NewHistory, front: &LogFront<A>) -> SlotHistory<A>
     requires book { history.old.book ≡ A.history }
     requires fresh { history.old.next ≡ 0 }
     requires none { count_of 0 front.now ≡ 0 }
@@ -146,7 +146,7 @@ impl<A: Account> Slots<A> {
         alloc: Global,
         pairs: Vec<Keys>,
         history: NewHistory,
-    ) -> Result<(Slots<A>, Front<A>), PairsFault>
+    ) -> Result<(Slots<A>, LogFront<A>), PairsFault>
         requires book { history.book ≡ A.history }
         requires fresh { history.next ≡ 0 }
         requires log { history.log ≡ Opened pairs.items ∷ [] }
@@ -204,7 +204,7 @@ impl<A: Account> Slots<A> {
         &self,
         rt: &R,
         alloc: Global,
-        known: &mut Front<A>,
+        known: &mut LogFront<A>,
         request: &Request,
         ready: &Ready,
         reading: Reading,
@@ -240,7 +240,7 @@ impl<A: Account> Slots<A> {
         &self,
         rt: &R,
         alloc: Global,
-        known: &mut Front<A>,
+        known: &mut LogFront<A>,
         account: &Text,
         which: Which,
         key: &SigningKey,
@@ -265,7 +265,7 @@ impl<A: Account> Slots<A> {
     /// `FirstKey` if a slot begins with the key, or else `Full` if there are 256 slots. `NoMemory` if memory runs out, if no word is left for the upper
     /// half, or if the slot is of no use any more. After a fault nothing is changed.
     #[tactic(auto, using(crate::proofs::SpanLemmas::said_by))]
-    pub fn split<R: Wait>(&self, rt: &R, alloc: Global, middle: &Key) -> Result<(), SplitError>
+    pub fn split<R: Wait>(&self, rt: &R, alloc: Global, middle: &Key) -> Result<(), SplitFault>
         ensures allowed { OnOk result (SpansSay middle.now None) }
         ensures fault { IfErr result (IsSplitFault middle.now) }
     {

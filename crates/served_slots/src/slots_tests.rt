@@ -2,13 +2,13 @@
 ghost use Rattle.std.specs.Prelude.{◌≡◌, ◌∷◌, []};
 ghost use Rattle.served_history.specs.declared.entry.Entry.TheVariants.{Opened};
 
-use crate::connection::{Connection, two_connections_agree};
+use crate::connection::{SlotsService, two_connections_agree};
 use crate::slots::Slots;
-use crate::splitting::SplitError;
+use crate::splitting::SplitFault;
 use access_rules::Keys;
 use hmac_sign::SigningKey;
 use http_front::{Clock, End, run};
-use served_history::{Account, Front, NewHistory};
+use served_history::{Account, LogFront, NewHistory};
 use stamp_types::{AccountName, Key, Moment, Text};
 use std::alloc::Global;
 use std::marker::Brand;
@@ -54,7 +54,7 @@ impl Clock for Still {
 pub(crate) fn sent<A: Account, R: Wait + Abort>(
     rt: &R,
     alloc: Global,
-    connection: &mut Connection<'_, A, R>,
+    connection: &mut SlotsService<'_, A, R>,
     input: &[u8],
 ) -> Vec<u8> {
     let moment = Moment::new(NOON).expect(rt, "a moment");
@@ -69,9 +69,9 @@ pub(crate) fn sent<A: Account, R: Wait + Abort>(
 fn sent_on<A: Account, R: Wait + Abort>(
     rt: &R,
     alloc: Global,
-    connection: Connection<'_, A, R>,
+    connection: SlotsService<'_, A, R>,
     input: &[u8],
-) -> (Vec<u8>, Front<A>) {
+) -> (Vec<u8>, LogFront<A>) {
     let mut connection = connection;
     let out = sent(rt, alloc, &mut connection, input);
     (out, connection.into_known())
@@ -101,19 +101,19 @@ fn two_slots<A: Account + Send + Sync, R: Threads + Wait + Abort + Sync>(
     let (slots, front) = Slots::<A>::new(alloc, pairs, history).expect(rt, "memory");
     let slots = &slots;
     assert!(rt; slots.split(rt, alloc, &key(rt, alloc, "q")).is_ok());
-    let first = Connection::new(rt, slots, front.again());
-    let second = Connection::new(rt, slots, front);
+    let first = SlotsService::new(rt, slots, front.again());
+    let second = SlotsService::new(rt, slots, front);
     let ((one, known), (two, also)) = thread::join(
         rt,
-        move || -> (Vec<u8>, Front<A>) { sent_on(rt, alloc, first, CREATE_PICS) },
-        move || -> (Vec<u8>, Front<A>) { sent_on(rt, alloc, second, CREATE_ZOO) },
+        move || -> (Vec<u8>, LogFront<A>) { sent_on(rt, alloc, first, CREATE_PICS) },
+        move || -> (Vec<u8>, LogFront<A>) { sent_on(rt, alloc, second, CREATE_ZOO) },
     );
     assert!(rt; one.starts_with(CREATED));
     assert!(rt; two.starts_with(CREATED));
     assert!(rt; slots.split(rt, alloc, &key(rt, alloc, "z")).is_ok());
-    assert!(rt; slots.split(rt, alloc, &key(rt, alloc, "z")) == Err(SplitError::FirstKey));
-    let mut first = Connection::new(rt, slots, known);
-    let mut second = Connection::new(rt, slots, also);
+    assert!(rt; slots.split(rt, alloc, &key(rt, alloc, "z")) == Err(SplitFault::FirstKey));
+    let mut first = SlotsService::new(rt, slots, known);
+    let mut second = SlotsService::new(rt, slots, also);
     assert!(rt; sent(rt, alloc, &mut first, PUT_ZOO).starts_with(CREATED));
     assert!(rt; sent(rt, alloc, &mut second, GET_ZOO).ends_with(b"\r\n\r\nhello"));
     two_connections_agree(&first, &second);

@@ -3,7 +3,7 @@ use std::alloc::AllocError;
 
 /// Why no slot was split at a key.
 #[derive(Clone, Copy, PartialEq, Eq, Debug)]
-pub enum SplitError {
+pub enum SplitFault {
     /// A slot begins with the key.
     FirstKey,
     /// There are 256 slots.
@@ -12,13 +12,13 @@ pub enum SplitError {
     NoMemory,
 }
 
-impl From<AllocError> for SplitError {
+impl From<AllocError> for SplitFault {
     ghost use Rattle.std.specs.Prelude.{◌≡◌};
-    ghost use Rattle.served_slots.specs.declared.splitting.SplitError.TheVariants.{NoMemory};
+    ghost use Rattle.served_slots.specs.declared.splitting.SplitFault.TheVariants.{NoMemory};
 
     ghost from_gives = { λ _ e. e ≡ NoMemory };
 
     fn from(_error: AllocError) -> Self {
-        SplitError::NoMemory
+        SplitFault::NoMemory
     }
 }

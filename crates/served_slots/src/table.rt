@@ -10,11 +10,11 @@ ghost use Rattle.served_slots.specs.Steps.{refusal_at, split_at, split_cause};
 
 use crate::locked::LockedSlot;
 use crate::locked::rotating::rotate_from;
-use crate::splitting::SplitError;
+use crate::splitting::SplitFault;
 use access_rules::{Keys, KeysFault, Which};
 use hmac_sign::SigningKey;
 use partition_map::{MapFault, Spans};
-use served_history::{Account, Front, SlotHistory, SlotWord};
+use served_history::{Account, LogFront, SlotHistory, SlotWord};
 use slot_state::AccountPairs;
 use stamp_types::{Key, Text};
 use std::alloc::{AllocError, Global};
@@ -55,7 +55,7 @@ fn halve_reserved<A: Account>(
     match cut_in(&mut slots[at], alloc, middle, spares) {
         Ok(upper) => match slots.insert(at + 1, Mutex::new(upper)) {
             Ok(()) => Ok(()),
-            Err(_) => unreachable!(),
+            Err(_) => unreachable!("there is room for one slot more"),
         },
         Err(AllocError) => Err(AllocError),
     }
@@ -96,7 +96,7 @@ fn compacted<'a, A: Account, R: Wait>(
 
 // Splits the span of this slot, which has the key: another span begins with the key then.
 #[tactic(auto, using(crate::proofs::SpanLemmas::has_slot))]
-fn split_span(spans: &mut Spans, slot: usize, middle: &Key) -> Result<(), SplitError>
+fn split_span(spans: &mut Spans, slot: usize, middle: &Key) -> Result<(), SplitFault>
     requires within { slot ≤ length spans.old }
     ensures split { OnOk result (spans.new ≡ with_point spans.old slot middle.now) }
     ensures allowed { OnOk result (split_refusal spans.old slot middle.now ≡ None) }
@@ -105,10 +105,10 @@ fn split_span(spans: &mut Spans, slot: usize, middle: &Key) -> Result<(), SplitE
 {
     match spans.split(slot, middle) {
         Ok(()) => Ok(()),
-        Err(MapFault::NoSuchSlot) => unreachable!(),
-        Err(MapFault::NotInside) => Err(SplitError::FirstKey),
-        Err(MapFault::Full) => Err(SplitError::Full),
-        Err(MapFault::NoMemory) => Err(SplitError::NoMemory),
+        Err(MapFault::NoSuchSlot) => unreachable!("the spans have this slot"),
+        Err(MapFault::NotInside) => Err(SplitFault::FirstKey),
+        Err(MapFault::Full) => Err(SplitFault::Full),
+        Err(MapFault::NoMemory) => Err(SplitFault::NoMemory),
     }
 }
 
@@ -116,7 +116,7 @@ fn split_span(spans: &mut Spans, slot: usize, middle: &Key) -> Result<(), SplitE
 fn rotate_slots<A: Account>(
     slots: &mut [Mutex<LockedSlot<A>>],
     alloc: Global,
-    known: &mut Front<A>,
+    known: &mut LogFront<A>,
     account: &Text,
     which: Which,
     key: &SigningKey,
@@ -204,7 +204,7 @@ impl<A: Account> Table<A> {
     /// `FirstKey` if a slot begins with the key, or else `Full` if there are 256 slots. Or else `NoMemory` if memory runs out, if no word is left
     /// for the upper half, or if the slot is of no use any more. After a fault the spans are as they were.
     #[tactic(auto, using(crate::proofs::SpanLemmas::refusal_of_found, crate::proofs::SpanLemmas::split_of_found))]
-    pub(crate) fn split(&mut self, alloc: Global, middle: &Key) -> Result<(), SplitError>
+    pub(crate) fn split(&mut self, alloc: Global, middle: &Key) -> Result<(), SplitFault>
         ensures split { OnOk result (self.new.spans ≡ split_at self.old.spans middle.now) }
         ensures allowed { OnOk result (refusal_at self.old.spans middle.now ≡ None) }
         ensures refused { IfErr result (λ fault. refusal_at self.old.spans middle.now ≡ split_cause fault) }
@@ -215,7 +215,7 @@ impl<A: Account> Table<A> {
         let halved = halve(&mut self.slots, alloc, slot, middle, &mut self.spares);
         if halved.is_err() {
             self.spans.join(slot);
-            return Err(SplitError::NoMemory);
+            return Err(SplitFault::NoMemory);
         }
         Ok(())
     }
@@ -227,7 +227,7 @@ impl<A: Account> Table<A> {
     pub(crate) fn rotate(
         &mut self,
         alloc: Global,
-        known: &mut Front<A>,
+        known: &mut LogFront<A>,
         account: &Text,
         which: Which,
         key: &SigningKey,

@@ -11,7 +11,7 @@ ghost use Rattle.served_slots.specs.Steps.{HasOneMore};
 
 use access_rules::Which;
 use hmac_sign::SigningKey;
-use served_history::{Account, Front, SlotHistory};
+use served_history::{Account, LogFront, SlotHistory};
 use slot_state::{Longer, ProvedHistories};
 use stamp_types::{Key, Text};
 use stored_slot::StoredSlot;
@@ -24,7 +24,7 @@ pub(crate) fn take_and_enter<A: Account>(
     slot: &mut StoredSlot<ProvedHistories>,
     own: &mut SlotHistory<A>,
     to: &Option<Key>,
-    known: &mut Front<A>,
+    known: &mut LogFront<A>,
     account: &Text,
     which: Which,
     key: &SigningKey,

@@ -55,7 +55,7 @@ impl History {
     {
         match self.entries.pop() {
             Some(entry) => entry,
-            None => unreachable!(),
+            None => unreachable!("the history has an entry"),
         }
     }
 }

@@ -82,7 +82,7 @@ fn shorten_at(lists: &mut Keyed<History>, key: &Key) -> bool
 {
     match lists.get_mut(key) {
         Some(history) => shorten(history),
-        None => unreachable!(),
+        None => unreachable!("the container has a history"),
     }
 }
 

@@ -18,7 +18,7 @@ use Rattle.core_run.proofs.ChangedCores.{set_same}
 use Rattle.stamp_core.specs.Compactions.{CompactsFirst, IsCompactedSlot, TakesCompact}
 use Rattle.stamp_core.specs.CoreSteps.{CaresSettled, IsCalm, IsTended, IsTendedAt, slot_answer}
 use Rattle.stamp_core.specs.Ranges.{HaveSpans}
-use Rattle.stamp_core.specs.declared.care.Care.TheVariants as care
+use Rattle.stamp_core.specs.declared.care.CoreCare.TheVariants as care
 use Rattle.stamp_core.proofs.TendLemmas.{leaves_cared, spans_tended, tend_at_core, tended_there}
 
 -- ---- a call of a slot

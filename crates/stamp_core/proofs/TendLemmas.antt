@@ -24,8 +24,8 @@ use Rattle.core_run.specs.declared.step.StepFault.TheVariants as fault
 use Rattle.core_run.proofs.ChangedCores.{doubt_is, settled_core, stands_same, with_slot}
 use Rattle.stamp_core.specs.CoreSteps.{CaresSettled, FailsCare, IsTended, IsTendedAt, out_of_reach, repair_answer, slot_answer, step_of}
 use Rattle.stamp_core.specs.Ranges.{HaveSpans, range_of}
-use Rattle.stamp_core.specs.declared.care.Care.{Care}
-use Rattle.stamp_core.specs.declared.care.Care.TheVariants as care
+use Rattle.stamp_core.specs.declared.care.CoreCare.{CoreCare}
+use Rattle.stamp_core.specs.declared.care.CoreCare.TheVariants as care
 use Rattle.stamp_core.proofs.RangeLemmas.{set_spans, settled_range}
 use Rattle.stamp_core.proofs.ServeLemmas.{get_any}
 
@@ -33,7 +33,7 @@ use Rattle.stamp_core.proofs.ServeLemmas.{get_any}
 
 module _ (h new : SlotState) (old later : Calls) where
   -- a step that settles, and then leaves the slot
-  pub leaves_cared : {T : Type 0} (x : Care) → out_of_reach x ≡ Err fault.Busy → (r : Result T StoredFault) → LeavesSettled r h new → FailsStored r old later
+  pub leaves_cared : {T : Type 0} (x : CoreCare) → out_of_reach x ≡ Err fault.Busy → (r : Result T StoredFault) → LeavesSettled r h new → FailsStored r old later
       → CaresSettled x h (Faulted old later) (slot_answer r) new (slot_answer r ≡ Ok outcome.Made)
   leaves_cared x reach (Ok u) left counted = inl (left, inl refl)
   leaves_cared x reach (Err stored.Busy) (inl left) counted = inl (left, inr (inl (counted.0, sym reach)))
@@ -46,7 +46,7 @@ module _ (h new : SlotState) (old later : Calls) where
   settle_cared (Err stored.Busy) left counted = inr (left.0, (inl (counted.0, refl), left.1))
   settle_cared (Err stored.NoMemory) left counted = inr (left.0, (inr refl, left.1))
 
-  pub repair_cared : (x : Care) → out_of_reach x ≡ Err fault.Unreachable → (r : Result (Unit {0}) RepairFault) → LeavesRepaired r h new → FailsRepair r old later
+  pub repair_cared : (x : CoreCare) → out_of_reach x ≡ Err fault.Unreachable → (r : Result (Unit {0}) RepairFault) → LeavesRepaired r h new → FailsRepair r old later
       → CaresSettled x h (Faulted old later) (repair_answer r) new ((repair_answer r ≡ Ok outcome.Made) ⊎ (repair_answer r ≡ Err fault.NoSuchExtent))
   repair_cared x reach (Ok u) left counted = inl (left, inl (inl refl))
   repair_cared x reach (Err repair.NoSuchExtent) left counted = inl (left, inl (inr refl))
@@ -57,12 +57,12 @@ module _ (h new : SlotState) (old later : Calls) where
 
 -- ---- ranges
 
-cared_range : (x : Care) (h new : SlotState) (F : Type 0) (r : Answer) (so : Type 0) → CaresSettled x h F r new so → range_of new ≡ range_of h
+cared_range : (x : CoreCare) (h new : SlotState) (F : Type 0) (r : Answer) (so : Type 0) → CaresSettled x h F r new so → range_of new ≡ range_of h
 cared_range x h new F r so (inl p) = settled_range h new p.0
 cared_range x h new F r so (inr p) = ap range_of p.1.1
 
 -- a care leaves the range of its slot
-tended_range : (x : Care) (h new : SlotState) (F : Type 0) (r : Answer) → IsTended x h F r new → range_of new ≡ range_of h
+tended_range : (x : CoreCare) (h new : SlotState) (F : Type 0) (r : Answer) → IsTended x h F r new → range_of new ≡ range_of h
 tended_range care.Settle h new F r (inl p) = settled_range h new p.0
 tended_range care.Settle h new F r (inr p) = ap range_of p.1.1
 tended_range care.Seal h new F r p = cared_range care.Seal h new F r _ p
@@ -73,7 +73,7 @@ tended_range (care.Repair stream extent node) h new F r p = cared_range (care.Re
 tended_range care.Unload h new F r p = ap range_of p.1
 tended_range (care.Move server) h new F r p = ap range_of p.1
 
-module _ (slots : List SlotState) (points : List Key) (i : ℕ) (x : Care) (F : Type 0) (r : Answer) where
+module _ (slots : List SlotState) (points : List Key) (i : ℕ) (x : CoreCare) (F : Type 0) (r : Answer) where
   -- no slot has the number
   pub not_tended : length slots ≤ i → r ≡ Err fault.NoSuchSlot → IsTendedAt slots i x F r slots
   not_tended over is = inl (over, (is, refl))
@@ -106,7 +106,7 @@ module _ (F : Type 0) (b : Bool) (failed : F → b ≡ true) (c : CoreState) (s 
   not_there : (so : Type 0) → length c.slots ≤ i → r ≡ Err fault.NoSuchSlot → OnSlotIf (has_slot s i) s r s so
   not_there so over is = subst (λ (x : Bool). OnSlotIf x s r s so) (sym (is_absent over)) (is, refl)
 
-  no_slot_takes : (x : Care) → length c.slots ≤ i → r ≡ Err fault.NoSuchSlot → Takes s (step_of i x) b r s
+  no_slot_takes : (x : CoreCare) → length c.slots ≤ i → r ≡ Err fault.NoSuchSlot → Takes s (step_of i x) b r s
   no_slot_takes care.Settle over is = not_there _ over is
   no_slot_takes care.Seal over is = not_there _ over is
   no_slot_takes care.Load over is = not_there _ over is
@@ -126,12 +126,12 @@ module _ (F : Type 0) (b : Bool) (failed : F → b ≡ true) (c : CoreState) (s 
     abbrev Stood : (State → Type 0) → Type 0
     Stood takes = (s' : State) × (takes s' × StandsFor (with_slot c i new) s')
 
-    fails : (x : Care) (y : Step) → ((F × (r ≡ out_of_reach x)) → Fails y b r) → FailsCare x F r → Fails y b r
+    fails : (x : CoreCare) (y : Step) → ((F × (r ≡ out_of_reach x)) → Fails y b r) → FailsCare x F r → Fails y b r
     fails x y reach (inl p) = reach p
     fails x y reach (inr is) = inr is
 
     -- a care that settles first
-    cared : (x : Care) (y : Step) → ((F × (r ≡ out_of_reach x)) → Fails y b r) → (so : Type 0) → CaresSettled x old F r new so → Stood (λ s'. OnSettled y s i b r s' (λ m. so × (s' ≡ m)))
+    cared : (x : CoreCare) (y : Step) → ((F × (r ≡ out_of_reach x)) → Fails y b r) → (so : Type 0) → CaresSettled x old F r new so → Stood (λ s'. OnSettled y s i b r s' (λ m. so × (s' ≡ m)))
     cared x y reach so (inl p) =
         let m = settled_core c s stands i low new p.0 in
         (m.0, (inl (m.0, (m.1.0, elim p.1 [ inl is ↦ inl (is, refl) | inr is ↦ inr (fails x y reach is, refl) ])), m.1.1))
@@ -148,7 +148,7 @@ module _ (F : Type 0) (b : Bool) (failed : F → b ≡ true) (c : CoreState) (s 
     leaves : (r ≡ Ok outcome.Made) × (new ≡ old) → Stood (λ s'. OnSlotIf (has_slot s i) s r s' ((r ≡ Ok outcome.Made) × (s' ≡ s)))
     leaves p = (s, (on_slot s _ low (p.0, refl), stands_same c s stands i low new p.1))
 
-    tended_takes : (x : Care) → IsTended x old F r new → Stood (λ s'. Takes s (step_of i x) b r s')
+    tended_takes : (x : CoreCare) → IsTended x old F r new → Stood (λ s'. Takes s (step_of i x) b r s')
     tended_takes care.Settle p = there _ (settles_only p)
     tended_takes care.Seal p = there _ (cared care.Seal (step.Seal i) (λ f. inl (failed f.0, f.1)) (r ≡ Ok outcome.Made) p)
     tended_takes care.Load p = there _ (cared care.Load (step.Load i) (λ f. inl (failed f.0, f.1)) (r ≡ Ok outcome.Made) p)
@@ -159,13 +159,13 @@ module _ (F : Type 0) (b : Bool) (failed : F → b ≡ true) (c : CoreState) (s 
     tended_takes care.Unload p = leaves p
     tended_takes (care.Move server) p = leaves p
 
-  tend_step : (x : Care) (slots' : List SlotState) → IsTendedAt c.slots i x F r slots' → (s' : State) × (Takes s (step_of i x) b r s' × StandsFor (record c { slots = slots' }) s')
+  tend_step : (x : CoreCare) (slots' : List SlotState) → IsTendedAt c.slots i x F r slots' → (s' : State) × (Takes s (step_of i x) b r s' × StandsFor (record c { slots = slots' }) s')
   tend_step x slots' (inl p) = (s, (no_slot_takes x p.0 p.1.0, subst (λ (hs : List SlotState). StandsFor (record c { slots = hs }) s) (sym p.1.1) stands))
   tend_step x slots' (inr p) =
       let made = tended_takes p.0 p.1.0 x p.1.1.0 in
       (made.0, (made.1.0, subst (λ (hs : List SlotState). StandsFor (record c { slots = hs }) made.0) (sym p.1.1.1) made.1.1))
 
 -- the step; c is the value that contracts see
-pub tend_at_core : (F : Type 0) (b : Bool) → (F → b ≡ true) → (c seen : CoreState) → c ≡ seen → (i : ℕ) (x : Care) (r : Answer) (slots' : List SlotState) → IsTendedAt c.slots i x F r slots'
+pub tend_at_core : (F : Type 0) (b : Bool) → (F → b ≡ true) → (c seen : CoreState) → c ≡ seen → (i : ℕ) (x : CoreCare) (r : Answer) (slots' : List SlotState) → IsTendedAt c.slots i x F r slots'
     → (s : State) → StandsFor seen s → (s' : State) × (Takes s (step_of i x) b r s' × StandsFor (record { slots = slots'; points = c.points; tickets = c.tickets }) s')
 tend_at_core F b failed c seen same i x r slots' is s stands = tend_step F b failed c s (subst (λ (y : CoreState). StandsFor y s) (sym same) stands) i r x slots' is

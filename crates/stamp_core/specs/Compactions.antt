@@ -6,7 +6,7 @@ use Rattle.core_run.specs.declared.step.Outcome.TheVariants as outcome
 use Rattle.core_run.specs.Machine.{Answer, Takes}
 use Rattle.core_run.specs.States.{State}
 use Rattle.stamp_core.specs.CoreSteps.{IsTended, IsTendedAt}
-use Rattle.stamp_core.specs.declared.care.Care.TheVariants as care
+use Rattle.stamp_core.specs.declared.care.CoreCare.TheVariants as care
 
 -- the slot is compacted, or its compaction failed
 abbrev pub IsCompactedSlot : {T : Type 0} → Option T → SlotState → Type 0 → SlotState → Type 0

@@ -27,8 +27,8 @@ use Rattle.core_run.specs.declared.step.StepFault.TheVariants as fault
 use Rattle.core_run.specs.Cores.{CoreState, StandsFor, no_slot}
 use Rattle.core_run.specs.Machine.{Answer}
 use Rattle.core_run.specs.States.{State, reply_in, served}
-use Rattle.stamp_core.specs.declared.care.Care.{Care}
-use Rattle.stamp_core.specs.declared.care.Care.TheVariants as care
+use Rattle.stamp_core.specs.declared.care.CoreCare.{CoreCare}
+use Rattle.stamp_core.specs.declared.care.CoreCare.TheVariants as care
 
 -- whether a call of the wire failed, by its counts before and after
 abbrev pub has_faults : Calls → Calls → Bool
@@ -120,7 +120,7 @@ IsSplit slots points i middle faulted other slots' points' = ⊥
 -- ---- cares of one slot
 
 -- the step that takes this care of the slot with this number
-abbrev pub step_of : ℕ → Care → Step
+abbrev pub step_of : ℕ → CoreCare → Step
 step_of i care.Settle = step.Settle i
 step_of i care.Seal = step.Seal i
 step_of i care.Load = step.Load i
@@ -152,21 +152,21 @@ repair_answer (Ok u) = Ok outcome.Made
 repair_answer (Err e) = Err (fault_of_repair e)
 
 -- what a care answers if nodes are out of reach
-abbrev pub out_of_reach : Care → Answer
+abbrev pub out_of_reach : CoreCare → Answer
 out_of_reach (care.Repair stream extent node) = Err fault.Unreachable
 out_of_reach x = Err fault.Busy
 
 -- the care fails: nodes are out of reach, which is so only if a call of the wire failed; or memory ran out
-abbrev pub FailsCare : Care → Type 0 → Answer → Type 0
+abbrev pub FailsCare : CoreCare → Type 0 → Answer → Type 0
 FailsCare x faulted r = (faulted × (r ≡ out_of_reach x)) ⊎ (r ≡ Err fault.NoMemory)
 
 -- the care settles the doubt of the slot, and is then made or fails; or the settle fails, and the doubt stays
-abbrev pub CaresSettled : Care → SlotState → Type 0 → Answer → SlotState → Type 0 → Type 0
+abbrev pub CaresSettled : CoreCare → SlotState → Type 0 → Answer → SlotState → Type 0 → Type 0
 CaresSettled x h faulted r h' made =
     (SettlesSlot h h' × (made ⊎ FailsCare x faulted r)) ⊎ (IsSome h.doubt × (FailsCare x faulted r × (h' ≡ h)))
 
 -- what a care of a slot answers, and what it leaves
-abbrev pub IsTended : Care → SlotState → Type 0 → Answer → SlotState → Type 0
+abbrev pub IsTended : CoreCare → SlotState → Type 0 → Answer → SlotState → Type 0
 IsTended care.Settle h faulted r h' = (SettlesSlot h h' × (r ≡ Ok outcome.Made)) ⊎ (IsSome h.doubt × (FailsCare care.Settle faulted r × (h' ≡ h)))
 IsTended care.Seal h faulted r h' = CaresSettled care.Seal h faulted r h' (r ≡ Ok outcome.Made)
 IsTended care.Load h faulted r h' = CaresSettled care.Load h faulted r h' (r ≡ Ok outcome.Made)
@@ -178,7 +178,7 @@ IsTended care.Unload h faulted r h' = (r ≡ Ok outcome.Made) × (h' ≡ h)
 IsTended (care.Move server) h faulted r h' = (r ≡ Ok outcome.Made) × (h' ≡ h)
 
 -- a slot that does not exist is told so, and the slots stay; a slot that exists is tended
-abbrev pub IsTendedAt : List SlotState → ℕ → Care → Type 0 → Answer → List SlotState → Type 0
+abbrev pub IsTendedAt : List SlotState → ℕ → CoreCare → Type 0 → Answer → List SlotState → Type 0
 IsTendedAt slots i x faulted r slots' =
     ((length slots ≤ i) × ((r ≡ Err fault.NoSuchSlot) × (slots' ≡ slots)))
     ⊎ ((i < length slots) × ChangesSlot slots i slots' (λ h h'. IsTended x h faulted r h'))

@@ -4,7 +4,7 @@ use partition_stream::StreamName;
 
 /// What is done to one slot.
 #[derive(Clone, Copy)]
-pub enum Care {
+pub enum CoreCare {
     /// Keep or drop the change that is in doubt.
     Settle,
     /// Seal the open extents.

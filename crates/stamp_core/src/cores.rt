@@ -21,7 +21,7 @@ ghost use Rattle.stamp_core.specs.CoreSteps.{AnswersSteadily, told_answer, has_f
 mod audit;
 mod compact;
 
-use crate::care::Care;
+use crate::care::CoreCare;
 use crate::open_tickets::OpenTickets;
 use crate::rotating::rotate;
 use crate::serving::{serve_one, serve_unread};
@@ -274,7 +274,7 @@ impl<H: Histories> Core<H> {
         &mut self,
         alloc: Global,
         slot: usize,
-        care: Care,
+        care: CoreCare,
         wire: &mut W,
     ) -> Result<Outcome, StepFault>
         ensures taken { (s : State) → StandsFor self.old s
@@ -343,20 +343,20 @@ impl<H: Histories> Core<H> {
                 key,
             } => self.rotate(alloc, &account, which, key),
             Step::Split { slot, middle } => self.split(alloc, slot, &middle, wire),
-            Step::Settle { slot } => self.tend(alloc, slot, Care::Settle, wire),
-            Step::Seal { slot } => self.tend(alloc, slot, Care::Seal, wire),
-            Step::Load { slot } => self.tend(alloc, slot, Care::Load, wire),
-            Step::Checkpoint { slot } => self.tend(alloc, slot, Care::Checkpoint, wire),
-            Step::Compact { slot } => self.tend(alloc, slot, Care::Compact, wire),
-            Step::Unload { slot } => self.tend(alloc, slot, Care::Unload, wire),
-            Step::Move { slot, server } => self.tend(alloc, slot, Care::Move { server }, wire),
+            Step::Settle { slot } => self.tend(alloc, slot, CoreCare::Settle, wire),
+            Step::Seal { slot } => self.tend(alloc, slot, CoreCare::Seal, wire),
+            Step::Load { slot } => self.tend(alloc, slot, CoreCare::Load, wire),
+            Step::Checkpoint { slot } => self.tend(alloc, slot, CoreCare::Checkpoint, wire),
+            Step::Compact { slot } => self.tend(alloc, slot, CoreCare::Compact, wire),
+            Step::Unload { slot } => self.tend(alloc, slot, CoreCare::Unload, wire),
+            Step::Move { slot, server } => self.tend(alloc, slot, CoreCare::Move { server }, wire),
             Step::Repair {
                 slot,
                 stream,
                 extent,
                 node,
             } => {
-                let care = Care::Repair {
+                let care = CoreCare::Repair {
                     stream,
                     extent,
                     node,
@@ -387,7 +387,7 @@ impl<H: Histories> Core<H> {
         while let Some(step) = later.next() {
             let answer = self.step(alloc, step, wire);
             if answers.push(answer).is_err() {
-                unreachable!();
+                unreachable!("there is room for each answer");
             }
         }
         Ok(answers)

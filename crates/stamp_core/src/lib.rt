@@ -13,5 +13,5 @@ mod telling;
 mod tending;
 
 pub use auditing::AuditedReply;
-pub use care::Care;
+pub use care::CoreCare;
 pub use cores::Core;

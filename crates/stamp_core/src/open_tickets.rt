@@ -46,7 +46,7 @@ fn put(tree: &mut BTreeMap<u64, Option<Ticket>>, number: u64, ticket: Ticket) ->
         Ok(_before) => Ok(()),
         Err(failed) => match failed.value {
             (_, Some(ticket)) => Err(ticket),
-            (_, None) => unreachable!(),
+            (_, None) => unreachable!("the tree gives back what it was given"),
         },
     }
 }

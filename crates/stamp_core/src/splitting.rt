@@ -36,7 +36,7 @@ fn halve_reserved<H: Histories, W: Wire>(
     match slots[at].split(alloc, middle, wire) {
         Ok(upper) => match slots.insert(at + 1, upper) {
             Ok(()) => Ok(()),
-            Err(_) => unreachable!(),
+            Err(_) => unreachable!("there is room for one slot more"),
         },
         Err(fault) => Err(fault),
     }

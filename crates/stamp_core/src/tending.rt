@@ -7,14 +7,14 @@ ghost use Rattle.stamp_core.specs.CoreSteps as steps;
 ghost use Rattle.stamp_core.specs.CoreSteps.{IsTended, IsTendedAt};
 ghost use Rattle.stamp_core.specs.Ranges.{HaveSpans};
 
-use crate::care::Care;
+use crate::care::CoreCare;
 use core_run::{Outcome, StepFault};
 use extent_node::Wire;
 use partition_map::Spans;
 use partition_stream::Replaced;
 use slot_state::Histories;
 use std::alloc::Global;
-use stored_rows::{Compacted, Repaired, Sealed, StoredFault, Unrepaired};
+use stored_rows::{AllSealed, Compacted, Repaired, StoredFault, Unrepaired};
 use stored_slot::StoredSlot;
 
 /// Why a step on a slot fails.
@@ -49,7 +49,7 @@ fn slot_answer(called: Result<(), StoredFault>) -> Result<Outcome, StepFault>
 }
 
 // What a seal answers that ended so.
-fn seal_answer(called: Result<Sealed, StoredFault>) -> Result<Outcome, StepFault>
+fn seal_answer(called: Result<AllSealed, StoredFault>) -> Result<Outcome, StepFault>
     ensures { result ≡ steps.slot_answer called }
 {
     match called {
@@ -98,7 +98,7 @@ fn repair_answer(called: Result<Repaired, Unrepaired>) -> Result<Outcome, StepFa
 #[tactic(auto, using(stored_rows::proofs::CountLemmas::grows_not))]
 fn tend_slot<H: Histories, W: Wire>(
     slot: &mut StoredSlot<H>,
-    care: Care,
+    care: CoreCare,
     alloc: Global,
     wire: &mut W,
 ) -> Result<Outcome, StepFault>
@@ -106,20 +106,20 @@ fn tend_slot<H: Histories, W: Wire>(
     ensures grown { Grows (W.faults wire.old) (W.faults wire.new) }
 {
     match care {
-        Care::Settle => slot_answer(slot.settle(alloc, wire)),
-        Care::Seal => seal_answer(slot.seal(alloc, wire)),
-        Care::Load => slot_answer(slot.load(alloc, wire)),
-        Care::Checkpoint => checkpoint_answer(slot.checkpoint(alloc, wire)),
-        Care::Compact => compact_answer(slot.compact(alloc, wire)),
-        Care::Unload => {
+        CoreCare::Settle => slot_answer(slot.settle(alloc, wire)),
+        CoreCare::Seal => seal_answer(slot.seal(alloc, wire)),
+        CoreCare::Load => slot_answer(slot.load(alloc, wire)),
+        CoreCare::Checkpoint => checkpoint_answer(slot.checkpoint(alloc, wire)),
+        CoreCare::Compact => compact_answer(slot.compact(alloc, wire)),
+        CoreCare::Unload => {
             drop(slot.unload());
             Ok(Outcome::Made)
         }
-        Care::Move { server } => {
+        CoreCare::Move { server } => {
             drop(slot.move_to(server));
             Ok(Outcome::Made)
         }
-        Care::Repair {
+        CoreCare::Repair {
             stream,
             extent,
             node,
@@ -135,7 +135,7 @@ pub(crate) fn tend<H: Histories, W: Wire>(
     slots: &mut Vec<StoredSlot<H>>,
     spans: &Spans,
     at: usize,
-    care: Care,
+    care: CoreCare,
     alloc: Global,
     wire: &mut W,
 ) -> Result<Outcome, StepFault>

@@ -79,7 +79,7 @@ fn halve_reserved<W: Wire + Drop>(
     match cut_in(&mut slots[at], alloc, spans, at, middle, wire) {
         Ok(upper) => match slots.insert(at + 1, Mutex::new(upper)) {
             Ok(()) => Ok(()),
-            Err(_) => unreachable!(),
+            Err(_) => unreachable!("there is room for one slot more"),
         },
         Err(back) => Err(back),
     }

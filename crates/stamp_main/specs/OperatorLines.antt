@@ -9,7 +9,7 @@ use Rattle.served_history.specs.declared.entry.Entry.{Entry}
 use Rattle.served_history.specs.Histories.{IsUnchanged}
 use Rattle.served_slots.specs.Rotations.{HasLastEpoch, HasRotated}
 use Rattle.served_slots.specs.Steps.{IsSplitFault, SpansSay}
-use Rattle.served_slots.specs.declared.splitting.SplitError.TheVariants as split
+use Rattle.served_slots.specs.declared.splitting.SplitFault.TheVariants as split
 use Rattle.stamp_main.specs.declared.operator_lines.Answer.{Answer}
 use Rattle.stamp_main.specs.declared.operator_lines.Answer.TheVariants as answer
 

@@ -124,7 +124,7 @@ pub(crate) fn account_of(alloc: Global, keys: &Keys) -> Result<Text, AllocError>
     let name = String::from_str(alloc, keys.account.as_str())?;
     match Text::new(name) {
         Some(account) => Ok(account),
-        None => unreachable!(),
+        None => unreachable!("the name of an account is a text"),
     }
 }
 

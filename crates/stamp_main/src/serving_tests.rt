@@ -11,7 +11,7 @@ use crate::sockets::{SlotServices, serve_and_obey, serve_on};
 use crate::words::{Served, read_served};
 use access_rules::Keys;
 use http_front::Clock as _;
-use served_history::{Account, Front, NewHistory};
+use served_history::{Account, LogFront, NewHistory};
 use served_slots::{Operator, Reserve, Slots};
 use socket_gate::Limits;
 use stamp_types::Text;
@@ -230,7 +230,7 @@ fn both_ends_of<
     alloc: Global,
     slots: &'a Slots<A>,
     reserve: &'a Reserve,
-    first: Front<A>,
+    first: LogFront<A>,
     account: Text,
     workers: usize,
     connections: u64,

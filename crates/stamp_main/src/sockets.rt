@@ -8,8 +8,8 @@ use crate::console::Console;
 use crate::machine::Machine;
 use access_rules::Keys;
 use audit_lines::{Books, write_books};
-use served_history::{Account, Front, NewHistory};
-use served_slots::{Connection, Operator, Reserve, Slots};
+use served_history::{Account, LogFront, NewHistory};
+use served_slots::{Operator, Reserve, Slots, SlotsService};
 use slot_state::PairsFault;
 use socket_gate::{Limits, Services, serve_listener};
 use stamp_types::Text;
@@ -31,7 +31,7 @@ pub(crate) struct SlotServices<'a, A: Account, R: Wait, C: Clock> {
     slots: &'a Slots<A>,
     books: Option<&'a Books>,
     reserve: &'a Reserve,
-    first: Front<A>,
+    first: LogFront<A>,
     // How many connections may still be taken.
     left: Mutex<u64>,
 }
@@ -127,7 +127,7 @@ fn serve_by<
     alloc: Global,
     slots: &'a Slots<A>,
     reserve: &'a Reserve,
-    first: Front<A>,
+    first: LogFront<A>,
     account: Text,
     listener: &TcpListener,
     workers: usize,
@@ -170,7 +170,7 @@ fn serve_and_write<
     reserve: &'a Reserve,
     books: &'a Books,
     writer: &mut W,
-    first: Front<A>,
+    first: LogFront<A>,
     account: Text,
     listener: &TcpListener,
     workers: usize,
@@ -256,7 +256,7 @@ impl<'a, A: Account, R: Wait, C: Clock> SlotServices<'a, A, R, C> {
         slots: &'a Slots<A>,
         books: Option<&'a Books>,
         reserve: &'a Reserve,
-        first: Front<A>,
+        first: LogFront<A>,
         connections: u64,
     ) -> Self {
         SlotServices {
@@ -271,13 +271,13 @@ impl<'a, A: Account, R: Wait, C: Clock> SlotServices<'a, A, R, C> {
     }
 }
 
-impl<'a, A: Account, R: Wait, C: Clock> Services<Machine<'a, C>, Connection<'a, A, R>>
+impl<'a, A: Account, R: Wait, C: Clock> Services<Machine<'a, C>, SlotsService<'a, A, R>>
     for SlotServices<'a, A, R, C> {
-    fn make(&self) -> Option<(Machine<'a, C>, Connection<'a, A, R>)> {
+    fn make(&self) -> Option<(Machine<'a, C>, SlotsService<'a, A, R>)> {
         if !take_one(&mut self.left.lock(self.rt)) {
             return None;
         }
-        let service = Connection::audited(self.rt, self.slots, self.first.again(), self.books);
+        let service = SlotsService::audited(self.rt, self.slots, self.first.again(), self.books);
         Some((Machine::new(self.clock), service.with_reserve(self.reserve)))
     }
 }

@@ -6,7 +6,7 @@ ghost use Rattle.stamp_main.specs.OperatorLines.{AnswersSplit, container_key};
 
 use crate::operator_lines::Answer;
 use served_history::Account;
-use served_slots::{Operator, SplitError};
+use served_slots::{Operator, SplitFault};
 use stamp_types::{Key, Text, container_ok};
 use std::alloc::{AllocError, Global};
 use std::str;
@@ -29,11 +29,11 @@ fn text_of(alloc: Global, name: &[u8]) -> Result<Text, AllocError>
     ensures { IfOk result (λ text. text ≡ name.now) }
 {
     let Ok(name) = str::from_utf8(name) else {
-        unreachable!();
+        unreachable!("the name of a container is UTF-8");
     };
     match Text::new(String::from_str(alloc, name)?) {
         Some(text) => Ok(text),
-        None => unreachable!(),
+        None => unreachable!("the name of a container is a text"),
     }
 }
 
@@ -66,8 +66,8 @@ pub(crate) fn split_at<A: Account, R: Wait>(
     };
     match operator.split(alloc, &middle) {
         Ok(()) => Answer::Split,
-        Err(SplitError::FirstKey) => Answer::FirstKey,
-        Err(SplitError::Full) => Answer::Full,
-        Err(SplitError::NoMemory) => Answer::NoMemory,
+        Err(SplitFault::FirstKey) => Answer::FirstKey,
+        Err(SplitFault::Full) => Answer::Full,
+        Err(SplitFault::NoMemory) => Answer::NoMemory,
     }
 }

@@ -13,8 +13,8 @@ use Rattle.stamp_values.specs.declared.block.BlockKinds.{BlockKinds}
 use Rattle.stamp_values.specs.declared.block.BlockKinds.TheVariants as kinds
 use Rattle.stamp_values.specs.declared.block.Lookup.{Lookup}
 use Rattle.stamp_values.specs.declared.block.Lookup.TheVariants as lookup
-use Rattle.stamp_values.specs.declared.block.Source.{Source}
-use Rattle.stamp_values.specs.declared.block.Source.TheVariants as source
+use Rattle.stamp_values.specs.declared.block.BlockSource.{BlockSource}
+use Rattle.stamp_values.specs.declared.block.BlockSource.TheVariants as source
 use Rattle.stamp_values.specs.declared.block.Taken.{Taken}
 use Rattle.stamp_values.specs.declared.block.Wanted.{Wanted}
 use Rattle.stamp_values.specs.declared.condition.ByteRange.{ByteRange}
@@ -97,7 +97,7 @@ there_both f id (Some x) None h = cc
 there_both f id (Some x) (Some y) h = refl
 
 module _ {C D : Type 0} (f : C → D) (b : Blob C) where
-  there-read : (s : Source) (id : List ℕ) → is_some (content_from s id (blob_value f b)) ≡ is_some (content_from s id b)
+  there-read : (s : BlockSource) (id : List ℕ) → is_some (content_from s id (blob_value f b)) ≡ is_some (content_from s id b)
   there-read s id =
       there_both f id (content_from s id (blob_value f b)) (content_from s id b) (taken_blocks-blob_value f b (record { id = id; from = s } ∷ []))
 
@@ -113,15 +113,15 @@ module _ {C D : Type 0} (f : C → D) (b : Blob C) where
 
 -- ---- the content of wanted blocks
 
-module _ {C : Type 0} (content : Source → Option C) where
-  abbrev there : Source → Bool
+module _ {C : Type 0} (content : BlockSource → Option C) where
+  abbrev there : BlockSource → Bool
   there s = is_some (content s)
 
-  at_last_source : (s : Source) (o : Option C) → content s ≡ o → option_and_then content (cond (is_some o) (Some s) None) ≡ o
+  at_last_source : (s : BlockSource) (o : Option C) → content s ≡ o → option_and_then content (cond (is_some o) (Some s) None) ≡ o
   at_last_source s None is = refl
   at_last_source s (Some c) is = is
 
-  at_source : (s : Source) (more : List Source) (rest o : Option C) → content s ≡ o → option_and_then content (find there more) ≡ rest
+  at_source : (s : BlockSource) (more : List BlockSource) (rest o : Option C) → content s ≡ o → option_and_then content (find there more) ≡ rest
       → option_and_then content (cond (is_some o) (Some s) (find there more)) ≡ option_or o rest
   at_source s more rest None is later = later
   at_source s more rest (Some c) is later = is
@@ -130,7 +130,7 @@ module _ {C : Type 0} (content : Source → Option C) where
 pub content-source : {C : Type 0} (b : Blob C) (w : Wanted) → option_and_then (λ s. content_from s w.id b) (source_of b w) ≡ wanted_content b w
 content-source {C} b w = by_lookup w.lookup
   where
-    content : Source → Option C
+    content : BlockSource → Option C
     content s = content_from s w.id b
 
     by_lookup : (l : Lookup) → option_and_then content (find (λ s. is_some (content s)) (sources_of l)) ≡ content_by l w.id b
@@ -145,7 +145,7 @@ abbrev content_of : List (Block (List ℕ)) → List ℕ
 content_of blocks = flat_map (λ block. block.content) blocks
 
 module _ (b : Blob (List ℕ)) where
-  one_taken : (w : Wanted) (o : Option Source) (rest : List Taken)
+  one_taken : (w : Wanted) (o : Option BlockSource) (rest : List Taken)
       → content_of (taken_blocks b (option_to_list (option_map (taken_from w) o) ++ rest)) ≡ unwrap_or (option_and_then (λ s. content_from s w.id b) o) [] ++ content_of (taken_blocks b rest)
   one_taken w None rest = refl
   one_taken w (Some s) rest =

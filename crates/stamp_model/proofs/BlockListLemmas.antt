@@ -15,7 +15,7 @@ use Rattle.std.specs.declared.cmp.Ordering.TheVariants.{Less, Equal, Greater}
 use Rattle.stamp_values.specs.Maps.{map_values}
 use Rattle.stamp_values.specs.Order.{name_cmp, names_total, names_exact}
 use Rattle.stamp_values.specs.declared.block.BlockKinds.{BlockKinds}
-use Rattle.stamp_values.specs.declared.block.Source.{Source}
+use Rattle.stamp_values.specs.declared.block.BlockSource.{BlockSource}
 use Rattle.stamp_values.specs.declared.block.Taken.{Taken}
 use Rattle.stamp_values.specs.declared.block.Wanted.{Wanted}
 use Rattle.stamp_values.specs.declared.key.Key.{Key}
@@ -59,7 +59,7 @@ module _ (b : Blob (List ℕ)) where
   abbrev shown : List (Block (List ℕ)) → List ListedBlock
   shown blocks = shown_blocks (map (block_value byte_count) blocks)
 
-  one_shown : (w : Wanted) (o : Option Source) (rest : List Taken) → is_none o ≡ false → IfSome o (λ s. is_some (content_from s w.id b) ≡ true)
+  one_shown : (w : Wanted) (o : Option BlockSource) (rest : List Taken) → is_none o ≡ false → IfSome o (λ s. is_some (content_from s w.id b) ≡ true)
       → shown (taken_blocks b (option_to_list (option_map (taken_from w) o) ++ rest))
       ≡ record { id = w.id; len = length (unwrap_or (option_and_then (λ s. content_from s w.id b) o) []) } ∷ shown (taken_blocks b rest)
   one_shown w None rest some there = cc

@@ -11,7 +11,7 @@ use Rattle.stamp_values.specs.declared.block.Wanted.{Wanted}
 use Rattle.stamp_values.specs.declared.op.Op.{Op}
 use Rattle.stamp_values.specs.declared.op.Op.TheVariants as op
 use Rattle.stamp_values.specs.Order.{name_cmp}
-use Rattle.stamp_values.specs.declared.block.Source.TheVariants as source
+use Rattle.stamp_values.specs.declared.block.BlockSource.TheVariants as source
 use Rattle.stamp_types.specs.World.{Blob, content_from}
 use Rattle.body_forms.specs.WrittenLists.{ListedBlock}
 use Rattle.range_rows.specs.ShownBlocks.{shows_uncommitted}

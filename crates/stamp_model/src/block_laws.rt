@@ -2,7 +2,7 @@
 ghost use Rattle.std.specs.Prelude.{◌≡◌, ◌≢◌, ℕ, ◌+◌, IsTrue, All, List, [], ◌∷◌, ◌++◌, Some, None, length, map};
 ghost use Rattle.std.specs.FinMap as finite;
 ghost use Rattle.md5.specs.Md5.{md5};
-ghost use Rattle.stamp_values.specs.declared.block.Source.TheVariants as source;
+ghost use Rattle.stamp_values.specs.declared.block.BlockSource.TheVariants as source;
 ghost use Rattle.stamp_values.specs.declared.key.Key.{Key};
 ghost use Rattle.stamp_values.specs.declared.op.Op.{Op};
 ghost use Rattle.stamp_values.specs.declared.op.Op.TheVariants.{BlobProperties, DeleteBlob, GetBlob, GetBlockList, PutBlob, PutBlock, PutBlockList};

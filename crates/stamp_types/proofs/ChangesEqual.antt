@@ -9,11 +9,11 @@ use Rattle.std.specs.Cmp.Lexicographic.{pointwise}
 use mathlib.Core.Bool.{beq}
 use denote.Enum.Bare.{sameb, same_true, true_same}
 use Rattle.stamp_values.specs.contracts.level.Level as level
-use Rattle.stamp_values.specs.contracts.block.Source as source
+use Rattle.stamp_values.specs.contracts.block.BlockSource as source
 use Rattle.stamp_types.specs.contracts.act.ActPartialEq.TheImpl as act_impl
 use Rattle.stamp_types.specs.contracts.piece.PiecePartialEq.TheImpl as piece_impl
 use Rattle.stamp_values.specs.declared.level.Level.{Level}
-use Rattle.stamp_values.specs.declared.block.Source.{Source}
+use Rattle.stamp_values.specs.declared.block.BlockSource.{BlockSource}
 use Rattle.stamp_values.specs.declared.block.Taken.{Taken}
 use Rattle.stamp_values.specs.declared.key.Key.{Key}
 use Rattle.stamp_values.specs.declared.meta.Meta.{Meta}
@@ -56,7 +56,7 @@ options_decide each (Some x) (Some y) = Decides-like _ (λ e i. Some (e i)) (λ 
 level_decides : (a b : Level) → Decides (sameb level.the_type a b) (a ≡ b)
 level_decides a b = (same_true level.the_type (search rules) a b, true_same level.the_type a b)
 
-source_decides : (a b : Source) → Decides (sameb source.the_type a b) (a ≡ b)
+source_decides : (a b : BlockSource) → Decides (sameb source.the_type a b) (a ≡ b)
 source_decides a b = (same_true source.the_type (search rules) a b, true_same source.the_type a b)
 
 abbrev taken_eq : Taken → Taken → Bool

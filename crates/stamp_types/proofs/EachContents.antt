@@ -9,8 +9,8 @@ use Rattle.std.proofs.lemmas.List.Elements.{All-nil, All-cons, All-head, All-tai
 use Rattle.std.proofs.lemmas.Option.{IfSome_then}
 use Rattle.stamp_values.specs.Order.{name_cmp, names_total, key_cmp, keys_total}
 use Rattle.stamp_values.specs.declared.block.Taken.{Taken}
-use Rattle.stamp_values.specs.declared.block.Source.{Source}
-use Rattle.stamp_values.specs.declared.block.Source.TheVariants as source
+use Rattle.stamp_values.specs.declared.block.BlockSource.{BlockSource}
+use Rattle.stamp_values.specs.declared.block.BlockSource.TheVariants as source
 use Rattle.stamp_types.specs.World.{Blob, Part, World, no_blob, no_part, blob_in, part_at, block_value, committed_value, blob_value, part_value, has_block_id, block_of, committed_content, content_from, taken_blocks, with_committed, committed_with_metadata, uncommitted_entry, whole_block, blobs_after, changed, changed_in}
 use Rattle.stamp_types.specs.Contents.{EachCommittedContent, EachBlobContent, EachContent, EachWorldContent, EachActContent}
 use Rattle.stamp_types.specs.Changes.{KeyedAct, content_of}
@@ -133,7 +133,7 @@ module _ {C : Type 0} (P : C → Type 0) where
   each_committed (Some c) id each = of_read P (λ (block : Block C). block.content) _ (of_found (λ (block : Block C). P block.content) (has_block_id id) c.blocks each)
 
   -- the content that is found among the blocks that a block list says
-  pub IfSome-content_from : (s : Source) (id : List ℕ) (b : Blob C) → EachBlobContent P b → IfSome (content_from s id b) P
+  pub IfSome-content_from : (s : BlockSource) (id : List ℕ) (b : Blob C) → EachBlobContent P b → IfSome (content_from s id b) P
   IfSome-content_from source.Uncommitted id b each = each.uncommitted id
   IfSome-content_from source.Committed id b each = each_committed b.committed id each.committed
 

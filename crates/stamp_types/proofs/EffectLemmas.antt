@@ -12,7 +12,7 @@ use Rattle.stamp_values.specs.Order.{name_cmp, names_total, names_exact}
 use Rattle.stamp_types.specs.World.{Blob, Part, no_blob, blob_in, has_block_id, block_of, committed_content, content_from, taken_blocks, with_committed, committed_with_metadata, uncommitted_entry, changed}
 use Rattle.stamp_types.specs.EffectKinds.{AreThere, EtagsAtMost, blob_dated, blob_named, blob_stamp, blocks_and_props, listed_content, stamp_if}
 use Rattle.stamp_values.specs.declared.block.Taken.{Taken}
-use Rattle.stamp_values.specs.declared.block.Source.TheVariants as source
+use Rattle.stamp_values.specs.declared.block.BlockSource.TheVariants as source
 use Rattle.stamp_types.specs.declared.piece.Piece.{Piece}
 use Rattle.stamp_types.specs.declared.committed.Block.{Block}
 use Rattle.stamp_types.specs.declared.committed.Committed.{Committed}

@@ -12,8 +12,8 @@ use Rattle.stamp_types.specs.World.{Blob, Part, World, no_blob, no_part, blob_in
 use Rattle.stamp_types.specs.Changes.{KeyedAct}
 use Rattle.stamp_values.specs.declared.key.Key.{Key}
 use Rattle.stamp_values.specs.declared.block.Taken.{Taken}
-use Rattle.stamp_values.specs.declared.block.Source.{Source}
-use Rattle.stamp_values.specs.declared.block.Source.TheVariants as source
+use Rattle.stamp_values.specs.declared.block.BlockSource.{BlockSource}
+use Rattle.stamp_values.specs.declared.block.BlockSource.TheVariants as source
 use Rattle.stamp_types.specs.declared.piece.Piece.{Piece}
 use Rattle.stamp_types.specs.declared.committed.Block.{Block}
 use Rattle.stamp_types.specs.declared.committed.Committed.{Committed}
@@ -57,7 +57,7 @@ module _ {C D : Type 0} (f : C → D) where
   content_in id None = refl
   content_in id (Some c) = found_block id c.blocks
 
-  content_from-blob_value : (s : Source) (id : List ℕ) (b : Blob C) → content_from s id (blob_value f b) ≡ option_map f (content_from s id b)
+  content_from-blob_value : (s : BlockSource) (id : List ℕ) (b : Blob C) → content_from s id (blob_value f b) ≡ option_map f (content_from s id b)
   content_from-blob_value source.Uncommitted id b = get-map_values names_total f b.uncommitted id
   content_from-blob_value source.Committed id b = content_in id b.committed
 

@@ -10,8 +10,8 @@ use Rattle.stamp_values.specs.Order.{name_cmp, key_cmp}
 use Rattle.stamp_values.specs.Maps.{map_values}
 use Rattle.stamp_values.specs.declared.key.Key.{Key}
 use Rattle.stamp_values.specs.declared.block.Taken.{Taken}
-use Rattle.stamp_values.specs.declared.block.Source.{Source}
-use Rattle.stamp_values.specs.declared.block.Source.TheVariants as source
+use Rattle.stamp_values.specs.declared.block.BlockSource.{BlockSource}
+use Rattle.stamp_values.specs.declared.block.BlockSource.TheVariants as source
 use Rattle.stamp_types.specs.declared.piece.Piece.{Piece}
 use Rattle.stamp_types.specs.declared.standing.Standing.{Standing}
 use Rattle.stamp_types.specs.declared.committed.Block.{Block}
@@ -66,7 +66,7 @@ abbrev pub committed_content : {C : Type 0} → List ℕ → Committed C → Opt
 committed_content id c = option_map (λ block. block.content) (find (has_block_id id) c.blocks)
 
 -- the content of the block of an id, among the uncommitted or the committed blocks, as the list says
-abbrev pub content_from : {C : Type 0} → Source → List ℕ → Blob C → Option C
+abbrev pub content_from : {C : Type 0} → BlockSource → List ℕ → Blob C → Option C
 content_from source.Uncommitted id b = finite.get b.uncommitted id
 content_from source.Committed id b = option_and_then (committed_content id) b.committed
 

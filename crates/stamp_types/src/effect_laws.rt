@@ -19,7 +19,7 @@ ghost use Rattle.stamp_types.specs.declared.act.StoredBlob.{StoredBlob};
 ghost use Rattle.stamp_types.specs.declared.committed.Block.{Block};
 ghost use Rattle.stamp_types.specs.declared.committed.Committed.{Committed};
 ghost use Rattle.stamp_types.specs.declared.piece.Piece.{Piece};
-ghost use Rattle.stamp_values.specs.declared.block.Source.TheVariants as source;
+ghost use Rattle.stamp_values.specs.declared.block.BlockSource.TheVariants as source;
 
 /// A change of a blob reaches that blob alone. The container's ETag, moment, access and metadata
 /// stay as they were, and so does each blob of another name.

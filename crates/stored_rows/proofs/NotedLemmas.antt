@@ -32,7 +32,7 @@ use Rattle.stored_rows.specs.States.{IsTaken, MeansTheSame, SettlesRows, Stored}
 use Rattle.stored_rows.specs.declared.key_range.KeyRange.{KeyRange}
 use Rattle.stored_rows.specs.declared.faults.Ended.{Ended}
 use Rattle.stored_rows.specs.declared.faults.TakeFault.TheVariants as take
-use Rattle.stored_rows.specs.declared.sealed.Sealed.{Sealed}
+use Rattle.stored_rows.specs.declared.sealed.AllSealed.{AllSealed}
 use Rattle.stored_rows.specs.declared.logging.Unlogged.{Unlogged}
 use Rattle.stored_rows.specs.declared.logging.Unlogged.TheVariants as fault
 use Rattle.stored_rows.proofs.CountLemmas.{load_fails, seal_fails, seal_grows, settle_fails, settle_grows}
@@ -145,7 +145,7 @@ settled_fails (Err f) a b h = settle_fails Ended f a b h
 -- a seal fails as that of its streams did
 pub sealed_fails : (r : Result (Unit {0}) SettleFault) (a b : Calls) → FailsSeals r a b → FailsStored (sealed_by r) a b
 sealed_fails (Ok u) a b h = seal_grows u a b h
-sealed_fails (Err f) a b h = seal_fails Sealed f a b h
+sealed_fails (Err f) a b h = seal_fails AllSealed f a b h
 
 -- a seal whose answer is Ok
 pub sealed_whole : (r : Result (Unit {0}) SettleFault) (t : ThreeStreams) → OnOk r (AreSealed t) → OnOk (sealed_by r) (AreSealed t)

@@ -14,7 +14,7 @@ use Rattle.stored_rows.specs.declared.faults.Ended.TheVariants as ended
 use Rattle.stored_rows.specs.declared.faults.StoredFault.{StoredFault}
 use Rattle.stored_rows.specs.declared.faults.TakeFault.{TakeFault}
 use Rattle.stored_rows.specs.declared.faults.TakeFault.TheVariants as take
-use Rattle.stored_rows.specs.declared.sealed.Sealed.{Sealed}
+use Rattle.stored_rows.specs.declared.sealed.AllSealed.{AllSealed}
 use Rattle.stored_rows.specs.declared.logging.Unlogged.{Unlogged}
 use Rattle.stored_rows.specs.declared.logging.Unlogged.TheVariants as fault
 
@@ -52,7 +52,7 @@ IsSettledBeside (Ok settled.Dropped) v w d e = (w ≡ v) × (e ≡ None)
 IsSettledBeside (Err f) v w d e = (w ≡ v) × (e ≡ d)
 
 -- what a seal of rows answers if that of their streams ended so
-abbrev pub sealed_by : Result (Unit {0}) SettleFault → Result Sealed StoredFault
+abbrev pub sealed_by : Result (Unit {0}) SettleFault → Result AllSealed StoredFault
 sealed_by (Ok u) = Ok (record { done = u })
 sealed_by (Err f) = Err (stored_fault_of_settle f)
 

@@ -24,6 +24,6 @@ pub use laws::{
     a_taken_change_is_one_more,
 };
 pub use repaired::{NoExtent, Repaired, Unrepaired};
-pub use sealed::Sealed;
+pub use sealed::AllSealed;
 pub use stored_rows::StoredRows;
 pub use unloaded::Unloaded;

@@ -7,16 +7,16 @@ use stream_manager::SettleFault;
 
 /// The log, the data and the rows were sealed. Only [`StoredRows::seal`](crate::StoredRows::seal) makes such a value.
 #[derive(Clone, Copy)]
-pub struct Sealed {
+pub struct AllSealed {
     pub(crate) done: (),
 }
 
 /// The answer of a seal.
-pub(crate) fn note_sealed(sealed: Result<(), SettleFault>) -> Result<Sealed, StoredFault>
+pub(crate) fn note_sealed(sealed: Result<(), SettleFault>) -> Result<AllSealed, StoredFault>
     ensures { result ≡ sealed_by sealed }
 {
     match sealed {
-        Ok(()) => Ok(Sealed { done: () }),
+        Ok(()) => Ok(AllSealed { done: () }),
         Err(fault) => Err(StoredFault::from(fault)),
     }
 }

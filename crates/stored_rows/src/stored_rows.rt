@@ -12,7 +12,7 @@ use crate::key_range::KeyRange;
 use crate::loading::rows_of;
 use crate::logging::put_and_log;
 use crate::noting::{note, note_loaded, note_settled};
-use crate::sealed::{Sealed, note_sealed};
+use crate::sealed::{AllSealed, note_sealed};
 use crate::unloaded::Unloaded;
 use crate::waste::{Waste, bound_of, list_of, list_size, recounted, weigh};
 use block_blobs::FoundBlocks;
@@ -185,7 +185,7 @@ impl StoredRows {
         self.kept();
         match &self.rows {
             Some(rows) => rows.find(key),
-            None => unreachable!(),
+            None => unreachable!("the rows are loaded"),
         }
     }
 
@@ -200,7 +200,7 @@ impl StoredRows {
     {
         match &self.rows {
             Some(rows) => rows.fits(self.alloc, change),
-            None => unreachable!(),
+            None => unreachable!("the rows are loaded"),
         }
     }
 
@@ -358,7 +358,7 @@ impl StoredRows {
     /// Seals the streams. Each container is as it was, also after a fault.
     ///
     /// Busy: no node answered the seal of a stream. NoMemory: memory ran out.
-    pub fn seal<W: Wire>(&mut self, wire: &mut W) -> Result<Sealed, StoredFault>
+    pub fn seal<W: Wire>(&mut self, wire: &mut W) -> Result<AllSealed, StoredFault>
         requires sure { doubt_of self.old ≡ None }
         ensures same { MeansTheSame self.old self.new }
         ensures doubt { doubt_of self.new ≡ None }

@@ -27,7 +27,7 @@ use Rattle.stamp_types.proofs.WorldLemmas.{part_at-world_value}
 use Rattle.access_rules.specs.declared.keys.Keys.{Keys}
 use Rattle.block_blobs.specs.declared.found_blocks.FoundBlocks.{FoundBlocks}
 use Rattle.row_trees.specs.ListedBlocks.{AreFoundFor}
-use Rattle.range_rows.specs.declared.answer.Answer.{Answer}
+use Rattle.range_rows.specs.declared.answer.FramedAnswer.{FramedAnswer}
 use Rattle.range_rows.specs.FoundParts.{pieces_found_after}
 use Rattle.range_rows.specs.Judgements.{blocks_found}
 use Rattle.range_rows.specs.RequestChanges.{change_of}
@@ -219,19 +219,19 @@ module _ (pairs : Pairs) (h : Histories) (s : Stored) (q : Asked) (t : ℕ) (w :
       by true writing = writing
       by false reading = absurd (none_some c (no_change row_sizes q t reading ∙ change))
 
-  bare_reply : (a : Answer) → a.spans ≡ [] → reply_read (bytes_at es) a ≡ a.frame
+  bare_reply : (a : FramedAnswer) → a.spans ≡ [] → reply_read (bytes_at es) a ≡ a.frame
   bare_reply a none = ap (λ ss. reply_read (bytes_at es) (record { frame = a.frame; spans = ss })) none ∙ with_nothing a.frame
 
-  frame_told : (a : Answer) (c : KeyedAct) → a ≡ row_answer w part q t s.range.to → refusal keys row_sizes q t ≡ None → change_of row_sizes q t ≡ Some c → IsReplyFor pairs h q t s.range.to a.frame
+  frame_told : (a : FramedAnswer) (c : KeyedAct) → a ≡ row_answer w part q t s.range.to → refusal keys row_sizes q t ≡ None → change_of row_sizes q t ≡ Some c → IsReplyFor pairs h q t s.range.to a.frame
   frame_told a c is free change =
-      replied a.frame (sym (bare_reply a (ap (λ (a : Answer). a.spans) is ∙ no_spans q.ask.op (changing_writes c change)))
-      ∙ ap (λ (a : Answer). reply_read (bytes_at es) a) is
+      replied a.frame (sym (bare_reply a (ap (λ (a : FramedAnswer). a.spans) is ∙ no_spans q.ask.op (changing_writes c change)))
+      ∙ ap (λ (a : FramedAnswer). reply_read (bytes_at es) a) is
       ∙ reply_made (bytes_at es) (λ bs. refl) keys w q t s.range.to all_read free)
 
-  read_told : (a : Answer) → a ≡ row_answer w part q t s.range.to → refusal keys row_sizes q t ≡ None → IsReplyFor pairs h q t s.range.to (reply_read (bytes_at es) a)
+  read_told : (a : FramedAnswer) → a ≡ row_answer w part q t s.range.to → refusal keys row_sizes q t ≡ None → IsReplyFor pairs h q t s.range.to (reply_read (bytes_at es) a)
   read_told a is free =
       replied (reply_read (bytes_at es) a)
-      (ap (λ (a : Answer). reply_read (bytes_at es) a) is ∙ reply_made (bytes_at es) (λ bs. refl) keys w q t s.range.to all_read free)
+      (ap (λ (a : FramedAnswer). reply_read (bytes_at es) a) is ∙ reply_made (bytes_at es) (λ bs. refl) keys w q t s.range.to all_read free)
 
   -- what is decided from the rows is what the histories have
   pub decides : (d : FramedDecision) → d ≡ framed_of keys w part q t s.range.to → AnswerCanBeSent d → DecidesFor pairs h s q t d
@@ -244,7 +244,7 @@ module _ (pairs : Pairs) (h : Histories) (s : Stored) (q : Asked) (t : ℕ) (w :
       let told = framed_allowed (refusal keys row_sizes q t) (row_answer w part q t s.range.to) a (change_of row_sizes q t) None (blocks_found part q).blocks found is in record {
         reply = read_told a told.1.0 told.0;
         unchanged = change_free told.0 ∙ sym told.1.1.0;
-        stored = subst (λ (a : Answer). All (IsSpanStored es) a.spans) (sym told.1.0) (spans_stored q.ask.op);
+        stored = subst (λ (a : FramedAnswer). All (IsSpanStored es) a.spans) (sym told.1.0) (spans_stored q.ask.op);
         sent = sent;
       }
   decides (framed.Allowed a (Some c) found) is sent =

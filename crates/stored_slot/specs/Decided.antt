@@ -6,7 +6,7 @@ use Rattle.stamp_types.specs.Requests.{Asked}
 use Rattle.block_blobs.specs.declared.found_blocks.FoundBlocks.{FoundBlocks}
 use Rattle.stream_manager.specs.Streams.{laid}
 use Rattle.partition_stream.specs.Contents.{bytes_at}
-use Rattle.range_rows.specs.declared.answer.Answer.{Answer}
+use Rattle.range_rows.specs.declared.answer.FramedAnswer.{FramedAnswer}
 use Rattle.range_partition.specs.Decisions.{CanBeSent, reply_read}
 use Rattle.range_partition.specs.declared.framed.FramedDecision.{FramedDecision}
 use Rattle.range_partition.specs.declared.framed.FramedDecision.TheVariants as framed
@@ -18,7 +18,7 @@ use Rattle.slot_state.specs.Slots.{IsReplyFor, change_now, entry_of}
 use Rattle.stored_slot.specs.Meanings.{MakesChange}
 
 -- the answer to a request that changes nothing: read in the data it is the model's reply, and its spans are stored there
-pub record IsReadAnswer (pairs : Pairs) (h : Histories) (s : Stored) (q : Asked) (t : ℕ) (a : Answer) : Type 0 where
+pub record IsReadAnswer (pairs : Pairs) (h : Histories) (s : Stored) (q : Asked) (t : ℕ) (a : FramedAnswer) : Type 0 where
   pub reply : IsReplyFor pairs h q t s.range.to (reply_read (bytes_at (laid s.streams.blobs)) a)
   pub unchanged : change_now pairs h q t ≡ None
   pub stored : All (IsSpanStored (laid s.streams.blobs)) a.spans
@@ -26,7 +26,7 @@ pub record IsReadAnswer (pairs : Pairs) (h : Histories) (s : Stored) (q : Asked)
 
 -- A request that nothing refuses changes nothing, and this is its answer; or its frame is the model's reply, this is its change, and these are
 -- the blocks that the change takes
-abbrev pub AllowsFor : Pairs → Histories → Stored → Asked → ℕ → Answer → Option KeyedAct → FoundBlocks → Type 0
+abbrev pub AllowsFor : Pairs → Histories → Stored → Asked → ℕ → FramedAnswer → Option KeyedAct → FoundBlocks → Type 0
 AllowsFor pairs h s q t a None blocks = IsReadAnswer pairs h s q t a
 AllowsFor pairs h s q t a (Some c) blocks = IsReplyFor pairs h q t s.range.to a.frame × (MakesChange pairs h s (entry_of pairs q t) c × AreFoundIn s c blocks)
 

@@ -10,7 +10,7 @@ ghost use Rattle.stored_slot.specs.Served as served;
 ghost use Rattle.stored_slot.specs.Served.{Faulted, IsFailed, ReadsAnswer};
 
 use extent_node::Wire;
-use range_rows::Answer as Framed;
+use range_rows::FramedAnswer;
 use stamp_types::{Code, Refusal, Reply, Rule};
 use std::alloc::{AllocError, Global};
 use stored_rows::{StoredFault, StoredRows};
@@ -70,7 +70,7 @@ pub(crate) fn failed(alloc: Global, fault: StoredFault) -> Answer
 pub(crate) fn reading<W: Wire>(
     stored: &mut StoredRows,
     alloc: Global,
-    answer: Framed,
+    answer: FramedAnswer,
     wire: &mut W,
 ) -> Answer
     requires stored { All (IsSpanStored (laid stored.old.streams.blobs)) answer.spans }
@@ -79,7 +79,7 @@ pub(crate) fn reading<W: Wire>(
     ensures same { stored.new ≡ stored.old }
     ensures grown { Grows (W.faults wire.old) (W.faults wire.new) }
 {
-    let Framed { frame, spans } = answer;
+    let FramedAnswer { frame, spans } = answer;
     let gathers = stored.gathers_lists();
     match stored.answer(frame, spans.as_slice(), gathers, wire) {
         Ok(answer) => answer,

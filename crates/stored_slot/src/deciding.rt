@@ -81,6 +81,6 @@ pub(crate) fn deciding<H: Histories>(
             moment,
             stored.end(),
         ),
-        None => unreachable!(),
+        None => unreachable!("the rows are loaded"),
     }
 }

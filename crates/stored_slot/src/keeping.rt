@@ -14,7 +14,7 @@ use partition_stream::{Replaced, StreamName};
 use slot_state::{AccountPairs, Histories};
 use stamp_types::Past;
 use std::alloc::Global;
-use stored_rows::{Repaired, Sealed, StoredFault, StoredRows, Unrepaired};
+use stored_rows::{AllSealed, Repaired, StoredFault, StoredRows, Unrepaired};
 
 /// Settles a doubt, if there is one, and then loads the rows, if they are not loaded.
 pub(crate) fn loading<H: Histories, W: Wire>(
@@ -46,7 +46,7 @@ pub(crate) fn sealing<H: Histories, W: Wire>(
     pairs: &AccountPairs,
     alloc: Global,
     wire: &mut W,
-) -> Result<Sealed, StoredFault>
+) -> Result<AllSealed, StoredFault>
     requires before { AreOfStreams pairs.now (H.held histories.old) stored.old doubt.old }
     ensures after { AreOfStreams pairs.now (H.held histories.new) stored.new doubt.new }
     ensures left { LeavesSettled result (slot_with pairs.now (H.held histories.old) stored.old doubt.old)

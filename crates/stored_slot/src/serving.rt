@@ -21,7 +21,7 @@ use block_blobs::FoundBlocks;
 use extent_node::Wire;
 use policy_book::Judged;
 use range_partition::FramedDecision;
-use range_rows::{Answer as Framed, Reading};
+use range_rows::{FramedAnswer, Reading};
 use slot_state::{AccountPairs, Histories};
 use stamp_types::{Change, Moment, Past, Reply, Request};
 use std::alloc::{AllocError, Global};
@@ -161,7 +161,7 @@ fn allowed_served<H: Histories, W: Wire>(
     alloc: Global,
     request: &Request,
     moment: Moment,
-    answer: Framed,
+    answer: FramedAnswer,
     change: Option<Change>,
     found: FoundBlocks,
     wire: &mut W,
@@ -181,7 +181,7 @@ fn allowed_served<H: Histories, W: Wire>(
             reading(stored, alloc, answer, wire)
         }
         Some(change) => {
-            let Framed { frame, spans } = answer;
+            let FramedAnswer { frame, spans } = answer;
             drop(spans);
             let made = FoundChange { change, found };
             match frame.write(alloc) {

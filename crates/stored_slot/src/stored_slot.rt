@@ -33,7 +33,7 @@ use stamp_types::{Key, Moment, Past, Request};
 use std::alloc::{AllocError, Global};
 use std::marker::Model;
 use std::sync::Arc;
-use stored_rows::{Repaired, Sealed, StoredFault, StoredRows, Unloaded, Unrepaired};
+use stored_rows::{AllSealed, Repaired, StoredFault, StoredRows, Unloaded, Unrepaired};
 use tickets::Answer;
 
 /// How many bytes an extent of two or more blocks may have, if nothing asks for another limit.
@@ -204,7 +204,7 @@ impl<H: Histories> StoredSlot<H> {
     ///
     /// After a fault nothing is changed, except that a doubt may have ended. Busy: nodes that were needed did not answer. NoMemory: memory ran
     /// out.
-    pub fn seal<W: Wire>(&mut self, alloc: Global, wire: &mut W) -> Result<Sealed, StoredFault>
+    pub fn seal<W: Wire>(&mut self, alloc: Global, wire: &mut W) -> Result<AllSealed, StoredFault>
         ensures left { LeavesSettled result self.old self.new }
         ensures counted { FailsStored result (W.faults wire.old) (W.faults wire.new) }
     {

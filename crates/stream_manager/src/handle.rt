@@ -64,7 +64,7 @@ impl Handle {
         match &self.held {
             Held::Own(sealed) => sealed,
             Held::Shared(sealed) => &**sealed,
-            Held::Moved => unreachable!(),
+            Held::Moved => unreachable!("a handle is moved only inside of `share`"),
         }
     }
 
@@ -108,7 +108,7 @@ impl Handle {
         let shared = match &mut self.held {
             Held::Own(sealed) => return sealed.repair(node, alloc, wire),
             Held::Shared(shared) => shared,
-            Held::Moved => unreachable!(),
+            Held::Moved => unreachable!("a handle is moved only inside of `share`"),
         };
         if shared.replica(node).is_some() {
             return Ok(());
@@ -125,7 +125,7 @@ impl Handle {
         ensures shared { IfOk result (λ h. h ≡ self.old) }
     {
         let shared = match mem::replace(&mut self.held, Held::Moved) {
-            Held::Moved => unreachable!(),
+            Held::Moved => unreachable!("a handle is moved only inside of `share`"),
             Held::Shared(shared) => shared,
             Held::Own(sealed) => match Arc::new(alloc, sealed) {
                 Ok(shared) => shared,

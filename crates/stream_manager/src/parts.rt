@@ -5,7 +5,7 @@ use crate::faults::{AppendFault, SettleFault, Settled};
 use crate::handle::{Handle, share_all};
 use crate::spares::Spares;
 use extent_node::Wire;
-use extent_seal::{Appended, NoReplica, OpenExtent, ReadFault, Shares};
+use extent_seal::{Appended, BlockOwners, NoReplica, OpenExtent, ReadFault};
 use stamp_values::{BLOCK_LIMIT, Place, Share};
 use std::alloc::{AllocError, Global};
 use std::mem;
@@ -104,7 +104,7 @@ impl Parts {
 
     // Tries the block on the last extent. Takes no memory.
     #[tactic(auto, using(crate::proofs::SizeLemmas::short_sized, crate::proofs::SizeLemmas::whole_sized, crate::proofs::CountLemmas::one_more_bound))]
-    fn try_once<W: Wire>(&mut self, block: Shares, wire: &mut W) -> Tried
+    fn try_once<W: Wire>(&mut self, block: BlockOwners, wire: &mut W) -> Tried
         requires whole { IsWhole self.old }
         requires ready { IsReadyFor self.old block }
         requires room { vec_len self.old.sealed < vec_capacity self.old.sealed }
@@ -140,8 +140,8 @@ impl Parts {
     #[tactic(auto, using(crate::proofs::SizeLemmas::first_within, crate::proofs::CountLemmas::one_more_bound))]
     fn put<W: Wire>(
         &mut self,
-        block: Shares,
-        again: Shares,
+        block: BlockOwners,
+        again: BlockOwners,
         wire: &mut W,
     ) -> Result<Place, AppendFault>
         requires whole { IsWhole self.old }
@@ -247,8 +247,8 @@ impl Parts {
         if block.len() > BLOCK_LIMIT {
             return Err(AppendFault::TooLarge);
         }
-        let first = Shares::new(block)?;
-        let again = Shares::new(block)?;
+        let first = BlockOwners::new(block)?;
+        let again = BlockOwners::new(block)?;
         let seals = self.seals_before(block.len());
         self.make_room(seals)?;
         match self.make_ready(seals, wire) {

@@ -5,8 +5,8 @@ use crate::sample_fields::{
     two_pieces,
 };
 use stamp_types::{
-    Act, Block, Committed, ContainerRow, CreateContainer, DeleteBlob, Items, Level, Pieces,
-    PutBlob, PutBlock, PutBlockList, SetAcl, SetContainerMetadata, SetMetadata, Source, Standing,
+    Act, Block, BlockSource, Committed, ContainerRow, CreateContainer, DeleteBlob, Items, Level,
+    Pieces, PutBlob, PutBlock, PutBlockList, SetAcl, SetContainerMetadata, SetMetadata, Standing,
     StoredBlob, Taken, UncommittedBlock,
 };
 use std::alloc::Global;
@@ -102,11 +102,11 @@ pub(crate) fn put_block_of(rt: &impl Abort, alloc: Global, content: Pieces) -> A
 fn entries(rt: &impl Abort, alloc: Global) -> Items<Taken> {
     let first = Taken {
         id: id(rt, alloc, b"one"),
-        from: Source::Uncommitted,
+        from: BlockSource::Uncommitted,
     };
     let second = Taken {
         id: id(rt, alloc, b"two"),
-        from: Source::Committed,
+        from: BlockSource::Committed,
     };
     Items::new(vec![in alloc; first, second].expect(rt, "memory"))
 }
@@ -117,7 +117,7 @@ fn most_entries(rt: &impl Abort, alloc: Global) -> Items<Taken> {
     for _ in 0..50_000 {
         let entry = Taken {
             id: id(rt, alloc, LONGEST_ID),
-            from: Source::Uncommitted,
+            from: BlockSource::Uncommitted,
         };
         entries.push(entry).expect(rt, "memory");
     }
@@ -142,7 +142,7 @@ pub(crate) fn put_no_blocks(rt: &impl Abort, alloc: Global) -> Act {
 pub(crate) fn put_one_block(rt: &impl Abort, alloc: Global) -> Act {
     let block = Taken {
         id: id(rt, alloc, b"one"),
-        from: Source::Uncommitted,
+        from: BlockSource::Uncommitted,
     };
     let entries = vec![in alloc; block].expect(rt, "memory");
     put_block_list_of(rt, alloc, Items::new(entries))

@@ -8,9 +8,9 @@ use crate::stored_samples::{change_of, compact, create, load, stored};
 use log_record::write_change;
 use row_trees::{Found, FoundBlob};
 use stamp_types::{
-    Acl, Act, Change, CreateContainer, Items, Key, Letters, Level, Metadata, Piece, Pieces,
-    Policies, Policy, Props, PutBlob, PutBlock, PutBlockList, SetAcl, SetContainerMetadata,
-    SetMetadata, Share, Source, Taken, Text, Visible,
+    Acl, Act, BlockSource, Change, CreateContainer, Items, Key, Letters, Level, Metadata, Piece,
+    Pieces, Policies, Policy, Props, PutBlob, PutBlock, PutBlockList, SetAcl, SetContainerMetadata,
+    SetMetadata, Share, Taken, Text, Visible,
 };
 use std::alloc::Global;
 use std::process::Abort;
@@ -135,7 +135,7 @@ fn thousand(rt: &impl Abort, alloc: Global) -> Items<Taken> {
     for _ in 0..1_000 {
         let entry = Taken {
             id: id(rt, alloc, LONGEST_ID),
-            from: Source::Uncommitted,
+            from: BlockSource::Uncommitted,
         };
         entries.push(entry).expect(rt, "memory");
     }

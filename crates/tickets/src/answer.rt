@@ -126,7 +126,7 @@ fn push_read(body: &mut Shares, part: &Part) -> Result<(), AllocError>
             body.push(bytes.share()?)?;
             Ok(())
         }
-        None => unreachable!(),
+        None => unreachable!("the part was read"),
     }
 }
 

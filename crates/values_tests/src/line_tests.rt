@@ -62,13 +62,7 @@ pub(crate) fn entry(rt: &impl Abort, alloc: Global, request: &Request, place: u6
 }
 
 // The entry of the request at noon, if the stamp has these keys.
-fn entry_under(
-    rt: &impl Abort,
-    alloc: Global,
-    keys: Keys,
-    request: &Request,
-    place: u64,
-) -> Entry {
+fn entry_under(rt: &impl Abort, alloc: Global, keys: Keys, request: &Request, place: u64) -> Entry {
     let noon = Moment::new(NOON).expect(rt, "a moment");
     let acl = Arc::new(alloc, acl(rt, alloc)).expect(rt, "memory");
     let keys = Arc::new(alloc, keys).expect(rt, "memory");
@@ -148,9 +142,16 @@ fn a_line_names_the_key_of_a_token(rt: HostRuntime) {
     let alloc = rt.alloc();
     let first = "2012-10-01T12:00:00.0000000Z token key1 GetBlob /devstoreaccount1/pics/a.txt 1\n";
     assert!(rt; is_line(&rt, alloc, &get_with(&rt, alloc, &BY_FIRST_TOKEN), 1, first));
-    let second =
-        "2012-10-01T12:00:00.0000000Z token key2 GetBlob /devstoreaccount1/pics/a.txt 2\n";
-    assert!(rt; is_line(&rt, alloc, &get_with(&rt, alloc, &BY_SECOND_TOKEN), 2, second));
+    let second = "2012-10-01T12:00:00.0000000Z token key2 GetBlob /devstoreaccount1/pics/a.txt 2\n";
+    assert!(rt;
+        is_line(
+            &rt,
+            alloc,
+            &get_with(&rt, alloc, &BY_SECOND_TOKEN),
+            2,
+            second
+        )
+    );
 }
 
 // Both keys are the one that signed.

@@ -5,9 +5,9 @@ ghost use Rattle.stamp_types.specs.Pieces.{piece_len};
 use crate::sample_parts::first_place;
 use crate::sample_values::{acl, block_id, metadata, moment, text, visible};
 use stamp_types::{
-    Act, Block, Committed, ContainerRow, CreateContainer, DeleteBlob, Items, Level, Piece, Pieces,
-    Props, PutBlob, PutBlockList, SetAcl, SetContainerMetadata, SetMetadata, Source, Standing,
-    StoredBlob, Taken, UncommittedBlock,
+    Act, Block, BlockSource, Committed, ContainerRow, CreateContainer, DeleteBlob, Items, Level,
+    Piece, Pieces, Props, PutBlob, PutBlockList, SetAcl, SetContainerMetadata, SetMetadata,
+    Standing, StoredBlob, Taken, UncommittedBlock,
 };
 use std::alloc::Global;
 use std::process::Abort;
@@ -83,7 +83,7 @@ pub(crate) fn delete_blob(rt: &impl Abort, alloc: Global) -> Act {
 pub(crate) fn put_block_list(rt: &impl Abort, alloc: Global) -> Act {
     let taken = Taken {
         id: block_id(rt, alloc, b"0001"),
-        from: Source::Committed,
+        from: BlockSource::Committed,
     };
     Act::PutBlockList(PutBlockList {
         blob: text(rt, alloc, "a"),

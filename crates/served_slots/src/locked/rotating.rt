@@ -13,7 +13,7 @@ use crate::next_pairs::longer_in;
 use crate::taking::take_and_enter;
 use access_rules::{Keys, KeysFault, Which};
 use hmac_sign::SigningKey;
-use served_history::{Account, Front, SlotHistory};
+use served_history::{Account, LogFront, SlotHistory};
 use slot_state::{Longer, ProvedHistories, RotateFault};
 use stamp_types::{Key, Text};
 use std::alloc::Global;
@@ -28,7 +28,7 @@ fn longer_of<A: Account>(
     slot: &StoredSlot<ProvedHistories>,
     history: &Option<SlotHistory<A>>,
     to: &Option<Key>,
-    known: &Front<A>,
+    known: &LogFront<A>,
     alloc: Global,
     account: &Text,
     which: Which,
@@ -62,7 +62,7 @@ fn enter_longer<A: Account>(
     slot: &mut StoredSlot<ProvedHistories>,
     history: &mut Option<SlotHistory<A>>,
     to: &Option<Key>,
-    known: &mut Front<A>,
+    known: &mut LogFront<A>,
     account: &Text,
     which: Which,
     key: &SigningKey,
@@ -104,7 +104,7 @@ pub(crate) fn rotate_from<A: Account>(
     locked: &mut LockedSlot<A>,
     rest: &mut [Mutex<LockedSlot<A>>],
     alloc: Global,
-    known: &mut Front<A>,
+    known: &mut LogFront<A>,
     account: &Text,
     which: Which,
     key: &SigningKey,

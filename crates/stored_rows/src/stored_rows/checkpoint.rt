@@ -35,7 +35,7 @@ impl StoredRows {
     {
         self.streams.kept();
         let Some(rows) = &self.rows else {
-            unreachable!();
+            unreachable!("the rows are loaded");
         };
         match checkpoint_rows(self.alloc, &mut self.streams, rows, self.extent_bytes, wire) {
             Ok(replaced) => {

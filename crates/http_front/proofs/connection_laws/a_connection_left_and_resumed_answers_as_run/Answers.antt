@@ -1,5 +1,5 @@
 use Rattle.std.proofs.Common.{Ok, Err}
-use Rattle.http_front.specs.declared.item.Step.TheVariants.{Waits}
+use Rattle.http_front.specs.declared.item.Progress.TheVariants.{Waits}
 use Rattle.http_front.specs.Stages.{fresh_stage}
 use Rattle.http_front.proofs.Going.{awaits_peer, comes_given_up, conversing_none, given_up_left}
 use Rattle.http_front.proofs.Resumed.{answers_one, has_conversed, has_run, resumed, resumed_left}

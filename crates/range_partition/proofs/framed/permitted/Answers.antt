@@ -1,7 +1,7 @@
 use Rattle.std.proofs.Common.{◌≡◌, rules}
 use Rattle.std.specs.Option.{option_copied}
 use Rattle.range_rows.specs.Judgements.{judgement}
-use Rattle.range_rows.specs.declared.judged.Judged.TheVariants as judged
+use Rattle.range_rows.specs.declared.judged.ObjectVerdict.TheVariants as judged
 use Rattle.range_rows.proofs.JudgementLemmas.{refusal_of_judgement}
 use Rattle.range_partition.proofs.DecisionLemmas.{given_allowed, object_refused}
 use Rattle.range_partition.proofs.framed.permitted.Goals as goal

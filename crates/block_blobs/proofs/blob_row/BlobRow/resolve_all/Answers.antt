@@ -1,6 +1,6 @@
 use Rattle.std.proofs.Common.{rules, ◌≡◌, length}
 use Rattle.std.proofs.Math.ListN.{replicate}
-use Rattle.stamp_values.specs.declared.block.Source.TheVariants as source
+use Rattle.stamp_values.specs.declared.block.BlockSource.TheVariants as source
 use Rattle.block_blobs.proofs.WholeLists.{all_are_found}
 use Rattle.block_blobs.proofs.blob_row.BlobRow.resolve_all.Goals as goal
 

@@ -1,7 +1,7 @@
 use Rattle.std.proofs.Common.{sym, ◌∙◌, ap}
 use Rattle.served_history.specs.declared.entry.Entry.TheVariants.{Split}
 use Rattle.served_history.proofs.Adding.{looks_moves}
-use Rattle.served_history.proofs.history.Front.look.Goals as goal
+use Rattle.served_history.proofs.history.LogFront.look.Goals as goal
 
 pub load-requires : goal.load-requires
 load-requires g c =

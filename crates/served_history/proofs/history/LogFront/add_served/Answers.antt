@@ -1,7 +1,7 @@
 use Rattle.std.proofs.Common.{sym, ◌∙◌, ◌==◌, ap, refl}
 use Rattle.served_history.specs.declared.entry.Entry.TheVariants.{Served}
 use Rattle.served_history.proofs.Adding.{adds_moves, history_then}
-use Rattle.served_history.proofs.history.Front.add_served.Goals as goal
+use Rattle.served_history.proofs.history.LogFront.add_served.Goals as goal
 
 pub compare_exchange-found-requires : goal.compare_exchange-found-requires
 compare_exchange-found-requires g c =

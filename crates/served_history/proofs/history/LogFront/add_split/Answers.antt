@@ -1,7 +1,7 @@
 use Rattle.std.proofs.Common.{sym, ◌∙◌, ◌==◌, ap, refl}
 use Rattle.served_history.specs.declared.entry.Entry.TheVariants.{Split}
 use Rattle.served_history.proofs.Adding.{adds_moves, history_then}
-use Rattle.served_history.proofs.history.Front.add_split.Goals as goal
+use Rattle.served_history.proofs.history.LogFront.add_split.Goals as goal
 
 pub compare_exchange-found-requires : goal.compare_exchange-found-requires
 compare_exchange-found-requires g c =
