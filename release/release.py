@@ -55,9 +55,10 @@ def why_not_started(program):
     return (ran.stderr.strip().splitlines() or [f"it ended with status {ran.returncode}"])[-1]
 
 
-def is_as_built(copy):
-    """Whether the shipped program is, byte for byte, the one that was built in a copy of the tree, if both are of the same sources."""
-    if shipped_digest() != tree.digest_of_program(copy):
+def is_as_built(copy, built):
+    """Whether the shipped program is, byte for byte, the one that was built in a copy of the tree from sources of this digest, if both are of the same
+    sources."""
+    if shipped_digest() != built:
         print("prove: the shipped program is of other sources than those here; release/renew replaces it", flush=True)
         return True
     return SHIPPED.read_bytes() == tree.program_of(copy).read_bytes()

@@ -1,4 +1,4 @@
-"""Runs the tests of all crates that hold only tests: joined to one crate, which is compiled once, with checks at run time and without a proof."""
+"""Runs the tests of crates, with checks at run time and without a proof. Crates that hold only tests are joined to one, which is compiled once."""
 import re
 import subprocess
 
@@ -38,10 +38,11 @@ def have_all_passed(said, wanted):
 
 
 def run_tests(names):
-    """Runs the tests of these crates on a copy of the tree. Returns whether as many passed as there are, and what the run said."""
-    wanted = sum(map(tree.tests_in, names))
+    """Runs the tests of these crates of tests, or of one other crate, on a copy of the tree. Returns whether as many passed as there are, and what
+    the run said."""
+    wanted, are_alone = sum(map(tree.tests_in, names)), {*names} <= {*tree.crates_of_tests()}
     with tree.copy_of_tree(tree.with_crates_below(names), ()) as copy:
-        folder = write_joined(copy, names)
+        folder = write_joined(copy, names) if are_alone else copy / "crates" / names[0]
         how = {"stdin": subprocess.DEVNULL, "stdout": subprocess.PIPE, "stderr": subprocess.STDOUT, "text": True, "errors": "replace"}
         ran = subprocess.run(["rt", "try", "--test", "--seconds", str(LONGEST)], cwd=folder, **how)
     return not ran.returncode and have_all_passed(ran.stdout, wanted), f"{ran.stdout}prove: there are {wanted} tests\n"

@@ -24,6 +24,8 @@ PART = re.compile(
     r"""|"(?:\\.|[^"\\])*"|/\*.*?\*/|//[^\n]*""",
     re.S,
 )
+# A module that only tests have, in a file of its own or where it is named.
+MODULE_OF_TESTS = re.compile(r"^#\[cfg\(test\)\]\nmod (\w+)(?:(;)\n| \{\n.*?^\}\n)", re.M | re.S)
 # What replaces the end of a line inside of a text, so that no line of the text is taken for a blank one.
 LINE_OF_TEXT = "\0"
 
@@ -106,6 +108,25 @@ def crates_of_tests(root=ROOT):
     below = {it for line in lines.values() for it in named_by(line)}
     is_library = lambda name: (root / "crates" / name / "src" / "lib.rt").is_file()
     return [name for name in lines if name.endswith("_tests") and name not in below and is_library(name) and tests_in(name, root)]
+
+
+def crates_with_tests(root=ROOT):
+    """The crates of a tree that hold more than tests, and tests of their own, in the order of crates.txt."""
+    alone = crates_of_tests(root)
+    return [name for name in lines_of_crates(root) if name not in alone and tests_in(name, root)]
+
+
+def leave_tests_out(copy):
+    """Takes the modules of tests, and what only they use, out of the crates of a copy of the tree that hold more than tests."""
+    for name in crates_with_tests(copy):
+        for file in sorted((copy / "crates" / name / "src").rglob("*.rt")):
+            text = file.read_text(encoding="utf-8") if file.exists() else ""
+            for module, end in MODULE_OF_TESTS.findall(text):
+                if end == ";":
+                    (file.parent / f"{module}.rt").unlink()
+            left = MODULE_OF_TESTS.sub("", text)
+            if left != text:
+                file.write_text(left, encoding="utf-8")
 
 
 def end_on_signal(number, _frame):
@@ -215,9 +236,9 @@ def why_not_kept(digest):
         return f"{place}: {error.strerror}"
 
 
-def keep_program(copy):
-    """Keeps the program that was built in a copy of the tree under the digest of the copy, and drops older ones. Returns where it is."""
-    kept = kept_program(digest_of_program(copy))
+def keep_program(copy, digest):
+    """Keeps the program that was built in a copy of the tree under the digest of its sources, and drops older ones. Returns where it is."""
+    kept = kept_program(digest)
     shutil.rmtree(kept.parent.parent, ignore_errors=True)
     new = kept.parent.with_suffix(".new")
     new.mkdir(parents=True)
