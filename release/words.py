@@ -1,12 +1,15 @@
 """What is wrong with the words of `serve`, before the program is started.
 
 The program answers bad words with its line of usage alone, and an address or an audit file that cannot be taken with a status alone. `./stamp` adds the reason.
+
+Two things are words of `./stamp` and not of the program: a key `@FILE`, which is read from that file, and a port 0, for which a free port is chosen.
 """
 import base64
 import binascii
 import os
 import re
 import socket
+import stat
 
 # The statuses of the program for bad words, and for an address or an audit file that cannot be taken.
 USAGE, NOT_TAKEN = 2, 3
@@ -18,6 +21,42 @@ EMPTY = "is empty, and whoever guesses that can sign for the account. To have on
 SIZE, UNITS = re.compile(r"([1-9][0-9]{0,15})([KMG]?)"), {"": 1, "K": 1 << 10, "M": 1 << 20, "G": 1 << 30}
 # A server of one worker starts with less, but then has no room for a request.
 LEAST_MEMORY = 64 << 20
+# The file of a key has fewer bytes: a line of the program's operator has at most 4,096.
+KEY_ROOM = 4000
+
+
+class Fault(Exception):
+    """What is wrong with the words of `serve`: the status and the reason."""
+
+    def __init__(self, status, reason):
+        super().__init__(reason)
+        self.status, self.reason = status, reason
+
+
+def is_file(key):
+    """Whether the word of a key names a file."""
+    return key.startswith("@")
+
+
+def text_of_key(name, file):
+    """The key that a file has. A file that other users may read is refused, since a key that they know is no secret."""
+    try:
+        with open(file, "rb") as opened:
+            if stat.S_IMODE(os.fstat(opened.fileno()).st_mode) & 0o077:
+                raise Fault(NOT_TAKEN, f"the file {file} of {name} may be read or written by others: chmod 600 {file}")
+            text = opened.read(KEY_ROOM + 1)
+    except OSError as error:
+        raise Fault(NOT_TAKEN, f"the file {file} of {name} cannot be read: {error.strerror}") from None
+    if len(text) > KEY_ROOM:
+        raise Fault(USAGE, f"the file {file} of {name} has more than {KEY_ROOM:,} bytes")
+    # (bytes that are no text are no Base64 either, which is said later)
+    return text.decode(errors="replace").strip()
+
+
+def keys_of_files(words):
+    """For each key among the words the key that its file has, or None if the word is the key itself."""
+    named = zip(NAMES[3:], words[3:]) if len(words) == len(NAMES) else ()
+    return [text_of_key(name, word[1:]) if is_file(word) else None for name, word in named]
 
 
 def is_padded_base64(word):
@@ -51,13 +90,39 @@ def empty_key(words):
     return next((f"{name} {EMPTY}" for name, word in zip(NAMES, words) if name.startswith("KEY") and not word), None)
 
 
+def has_no_port(address):
+    """Whether an address leaves its port to `./stamp`."""
+    parts = ADDRESS.fullmatch(address)
+    return bool(parts) and int(parts[2]) == 0
+
+
+def places_of(host, port):
+    """Where a host and a port may be bound, in the order in which the program tries them."""
+    return socket.getaddrinfo(host.strip("[]"), port, type=socket.SOCK_STREAM, flags=socket.AI_PASSIVE)
+
+
+def with_port(address):
+    """The address with a port that is free just now, if it has the port 0."""
+    if not has_no_port(address):
+        return address
+    host = ADDRESS.fullmatch(address)[1]
+    for family, kind, protocol, _, place in places_of(host, 0):
+        with socket.socket(family, kind, protocol) as it:
+            try:
+                it.bind(place)
+            except OSError:
+                continue
+            return f"{host}:{it.getsockname()[1]}"
+    return address
+
+
 def why_not_taken(address):
     """Why no program can listen at the address, or None if it was free just now."""
     parts = ADDRESS.fullmatch(address)
     if not parts or int(parts[2]) > 65_535:
         return "an address is a host and a port, as in 127.0.0.1:10800"
     try:
-        found = socket.getaddrinfo(parts[1].strip("[]"), int(parts[2]), type=socket.SOCK_STREAM, flags=socket.AI_PASSIVE)
+        found = places_of(parts[1], int(parts[2]))
     except (OSError, UnicodeError) as error:
         return getattr(error, "strerror", None) or str(error)
     reason = None

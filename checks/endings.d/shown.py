@@ -1,16 +1,20 @@
-"""What README.md, docs/using.md and pages of docs/formats show: commands with what they print, tables of requests with their answers, and
+"""What README.md, docs/using.md, docs/recipes.md and pages of docs/formats show: commands with what they print, tables of requests with their answers, and
 the bytes of records.
 
 Each function gives what was tried, what came of it, and what the page says.
 """
+import contextlib
+import os
 import re
 import shlex
+import signal
 import socket
 import subprocess
+import tempfile
 from pathlib import Path
 
 ROOT = Path(__file__).resolve().parents[2]
-PAGES = ("docs/using.md", "docs/formats/tokens.md")
+PAGES = ("docs/using.md", "docs/recipes.md", "docs/formats/tokens.md")
 REPLAY = ["replay", "2012-10-01T12:00:00Z", "devstoreaccount1", "a2V5MQ==", "a2V5Mg=="]
 # A command, perhaps a line about it, and perhaps what it prints.
 SHOWN = re.compile(r"^```sh\n(.*?)^```\n(?:\n[^`\n][^\n]*\n)?\n(?:```text\n(.*?)^```\n)?", re.S | re.M)
@@ -62,28 +66,26 @@ def without_dates(text):
 
 
 def served(program):
-    """The README's first run: a blob that is shared in a replay, then a server at a free address, and what its client prints, but for the dates.
-    The client begins before the server, since the page says that it waits. The server is ended after that."""
+    """The README's blocks, as one script: a server, a client that waits for it, and a blob that is shared in a replay. What all of them print is
+    compared with what the page shows, dates aside. The server has a free address in the place of the page's, and ends at the end of the script."""
     serve, client, share = SHOWN.findall((ROOT / "README.md").read_text(encoding="utf-8"))
-    ran = subprocess.run(["bash", "-euc", share[0].replace("./stamp ", f"{shlex.quote(program)} ")], cwd=ROOT, capture_output=True, timeout=60)
-    wanted = (ROOT / "examples" / "share.replies").read_bytes()
-    yield "README.md: a blob is shared", (ran.returncode, ran.stdout, ran.stderr), (0, wanted, b"")
     address = free_address()
-    words = shlex.split(serve[0].replace(ADDRESS, address))
-    yield "README.md: the words of the server", (words[0], words[-1]), ("./stamp", "&")
-    script = CURL + client[0].replace(ADDRESS, address)
-    asking = subprocess.Popen(["bash", "-euc", script], cwd=ROOT, stdout=subprocess.PIPE, stderr=subprocess.STDOUT)
-    server = subprocess.Popen([program, *words[1:-1]], stdin=subprocess.DEVNULL, stdout=subprocess.PIPE, stderr=subprocess.PIPE)
-    try:
-        yield "README.md: the line of the server", server.stdout.readline().decode(), serve[1].replace(ADDRESS, address)
-        wrote, _ = asking.communicate(timeout=60)
-        # (the blob has no line feed at its end)
-        yield "README.md: the first run", (asking.returncode, without_dates(wrote.decode()) + "\n"), (0, without_dates(client[1]))
-    finally:
-        asking.kill()
-        server.kill()
-        said = server.communicate()
-    yield "README.md: what the server says beside that", said, (b"", b"")
+    script = "".join(command for command, _ in (serve, client, share)).replace(ADDRESS, address)
+    script = CURL + script.replace("./stamp ", f"{shlex.quote(program)} ") + "kill %1\nwait $!\n"
+    # (the blob has no line feed at its end, and a page has no CR)
+    wanted = f"{serve[1]}{client[1]}".replace(ADDRESS, address).rstrip("\n") + (ROOT / "examples" / "share.replies").read_bytes().decode()
+    with tempfile.TemporaryFile() as output:
+        running = subprocess.Popen(["bash", "-uc", script], cwd=ROOT, stdin=subprocess.DEVNULL, stdout=output, stderr=subprocess.STDOUT, start_new_session=True)
+        try:
+            running.wait(60)
+        finally:
+            # What is left of the script ends with it.
+            with contextlib.suppress(ProcessLookupError):
+                os.killpg(running.pid, signal.SIGKILL)
+            running.wait()
+        output.seek(0)
+        printed = output.read().decode(errors="replace")
+    yield "README.md, its blocks as one script", (running.returncode, without_dates(printed)), (128 + signal.SIGTERM, without_dates(wanted))
 
 
 def rows(heading):

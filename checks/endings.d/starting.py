@@ -15,7 +15,7 @@ import time
 from pathlib import Path
 
 ROOT = Path(__file__).resolve().parents[2]
-FILES = ("stamp", "HANDLES", "release/start", "release/release.py", "release/words.py", "checks/gate.d/tree.py")
+FILES = ("stamp", "HANDLES", "release/start", "release/release.py", "release/watched.py", "release/words.py", "checks/gate.d/tree.py")
 NEEDED = ("python3", "readlink", "dirname")
 SIGN = ["sign", "SmVmZQ=="]
 # Words of `serve` that are good, for an address of the documentation's network, at which no machine listens (RFC 5737).
