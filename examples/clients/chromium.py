@@ -138,6 +138,11 @@ class Chromium:
         self.call("Browser.setDownloadBehavior", behavior="allow", downloadPath=str(folder))
         self.session = session
 
+    def show_as(self, width, height, scheme):
+        """Gives the page the size of a screen, in pixels, and a scheme of colours."""
+        self.call("Emulation.setDeviceMetricsOverride", width=width, height=height, deviceScaleFactor=1, mobile=False)
+        self.call("Emulation.setEmulatedMedia", features=[{"name": "prefers-color-scheme", "value": scheme}])
+
     def picture(self):
         """What the page shows, as a PNG."""
         return base64.b64decode(self.call("Page.captureScreenshot", format="png")["data"])

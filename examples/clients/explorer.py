@@ -1,13 +1,14 @@
 #!/usr/bin/env python3
 """Opens the page examples/site/index.html, which shows what is in a container, in headless Chromium, and uses it by the keyboard.
 
-usage: examples/with-stamp examples/clients/explorer.py [FILE]
+usage: examples/with-stamp examples/clients/explorer.py [FOLDER]
 
 STAMP_URL, STAMP_ACCOUNT and STAMP_KEY name the server; examples/with-stamp sets them. The page is a blob of an open container, beside a picture, a
 film, texts, names that hold markup, and a folder with 10,000 blobs. A second container is closed, and is opened by a token.
 
 Each check prints a line, and the last line has two counts. The status is 1 if a check failed, or if the page does not come as far as it has to within
-a minute. The containers are deleted at the end. With FILE, what Chromium shows is written there as a PNG.
+a minute. The containers are deleted at the end. With FOLDER, four pictures of the page are written there: explorer-390-light.png for a phone, explorer-1280-light.png
+for a desk, and both in dark.
 """
 import base64
 import datetime
@@ -39,6 +40,8 @@ MANY, CLIENTS, FIRST = 10_000, 4, 1_000
 MARKUP = ("<b>&\"'", "<img src=x onerror=hurt()>", "</td><script>hurt()</script>", "100%.txt", "a/../b", "two  words+#?;.txt", "é ü", "\\")
 HOSTILE = b"<script>hurt()</script> & <b>bold</b>"
 SECONDS, RED_UNTIL = 40, 20
+# The widths of a phone and of a desk, with their heights, and the schemes of colours.
+SIZES, SCHEMES = {390: 844, 1280: 800}, ("light", "dark")
 
 
 def put(container, name, content, kind="text/plain"):
@@ -68,8 +71,8 @@ def text(value):
 class Session:
     """The page and who uses it."""
 
-    def __init__(self, browser, folder, picture):
-        self.browser, self.folder, self.picture = browser, folder, picture
+    def __init__(self, browser, folder, pictures):
+        self.browser, self.folder, self.pictures = browser, folder, pictures
         self.address = f"{URL.scheme}://{URL.netloc}{URL.path}/{NAME}/index.html"
 
     # --- What is done at the page ---
@@ -147,7 +150,7 @@ class Session:
     def by_keyboard(self):
         browser = self.browser
         browser.value("at('told').textContent = ''; document.activeElement.blur()")
-        for _ in range(12):
+        for _ in range(16):
             browser.press("Tab")
             if browser.value("document.activeElement.closest('#rows') !== null"):
                 break
@@ -235,19 +238,22 @@ class Session:
         print(f"the film has {len(content):,} bytes; {len(parts)} requests, {parts.count(200)} of them answered by the whole film", flush=True)
         self.browser.press("Escape")
 
-    def answer(self, key):
-        """Answers the question of the page by a key, when it is asked."""
+    def answer(self, *keys):
+        """Answers the question of the page by keys, when it is asked. The focus is on No, and Tab leads to Yes."""
         self.browser.until("at('question').open")
-        self.browser.press(key)
+        self.browser.press(*keys)
 
     def without_the_letter(self):
         small = self.folder / "small.txt"
         small.write_bytes(b"hello")
         self.go("texts/")
         self.upload(small)
-        yield "without a token a write is refused in plain words", self.until_told("rule"), (
-            "The server refused to put “texts/small.txt”: nobody may do this without a token. Paste one that has the letter w, which lets write"
-            " (rule P1, ResourceNotFound).")
+        yield "without a token nothing is uploaded", self.until_told("Paste"), "To upload you need a token that has the letter w, which lets write. Paste it first."
+        self.open("notes.txt")
+        self.browser.press("Delete")
+        yield "without a token nothing is deleted", self.until_told("Paste"), (
+            "To delete “texts/notes.txt” you need a token that has the letter d, which lets delete. Paste it first.")
+        yield "and no question is asked", self.browser.value("at('question').open"), False
         self.use_token(token("rl", NAME))
         yield "what a token lets is told", self.browser.value("at('allows').textContent").startswith("A token is used; it lets read, list; it ends "), True
         self.upload(small)
@@ -255,7 +261,7 @@ class Session:
             "The server refused to put “texts/small.txt”: the token does not have the letter w, which lets write (rule S11, AuthenticationFailed).")
         self.open("notes.txt")
         self.browser.press("Delete")
-        self.answer("Enter")
+        self.answer("Tab", "Enter")
         yield "a token without the letter d too", self.until_told("rule"), (
             "The server refused to delete “texts/notes.txt”: the token does not have the letter d, which lets delete (rule S11, AuthenticationFailed).")
         yield "the server has not changed", (get(NAME, "texts/small.txt")[0], get(NAME, "texts/notes.txt")[2]), (404, b"one\ntwo\n")
@@ -283,18 +289,40 @@ class Session:
         yield "after Esc a blob that exists is not replaced", (self.until_told("uploaded"), get(NAME, "texts/small.txt")[2]), ("0 of 1 file is uploaded.", b"hello")
         self.upload(small)
         self.answer("Enter")
-        yield "after Enter it is replaced", (self.until_told("1 of 1"), get(NAME, "texts/small.txt")[2]), ("1 of 1 file is uploaded.", b"hello again")
+        yield "after Enter it is not replaced either", (self.until_told("uploaded"), get(NAME, "texts/small.txt")[2]), ("0 of 1 file is uploaded.", b"hello")
+        self.upload(small)
+        self.answer("Tab", "Enter")
+        yield "after Yes it is replaced", (self.until_told("1 of 1"), get(NAME, "texts/small.txt")[2]), ("1 of 1 file is uploaded.", b"hello again")
         put(NAME, "texts/small.txt", b"by somebody else")
         self.focus("small.txt")
         self.browser.press("Delete")
-        self.answer("Enter")
+        self.answer("Tab", "Enter")
         yield "what somebody else has put is not deleted", self.until_told("rule"), (
             "The server refused to delete “texts/small.txt”: somebody else has put or changed the blob. List the names again (rule O4, ConditionNotMet).")
         self.focus("notes.txt")
         self.browser.press("Delete")
-        self.answer("Enter")
+        self.answer("Tab", "Enter")
         yield "a blob is deleted", (self.until_told("deleted"), get(NAME, "texts/notes.txt")[0]), ("“texts/notes.txt” is deleted.", 404)
         yield "the name after it has the focus", self.browser.value("document.activeElement.textContent"), "small.txt"
+
+    def details(self):
+        """The address, the MD5 and the metadata come if somebody asks for them."""
+        browser, shown = self.browser, "document.querySelector('#shown {}')"
+        button = "[...document.querySelectorAll('#shown button')].find((it) => it.textContent === '{}').click()"
+        self.go("texts/")
+        self.open("small.txt")
+        yield "no address is shown at first", browser.value(f"{shown.format('input')} === null"), True
+        browser.value(shown.format("summary") + ".click()")
+        browser.until(shown.format("input"))
+        yield "the address has no token", browser.value(shown.format("input") + ".value"), f"{URL.scheme}://{URL.netloc}{URL.path}/{NAME}/texts/small.txt"
+        md5 = base64.b64encode(hashlib.md5(b"by somebody else").digest()).decode()
+        yield "the MD5 is shown", f"MD5: {md5}" in browser.value("at('shown').textContent"), True
+        browser.value(button.format("Edit metadata"))
+        browser.value(shown.format("textarea") + ".value = 'Colour: red\\nsize: 5'")
+        browser.value(button.format("Save metadata"))
+        yield "metadata are set", self.until_told("are set"), "The metadata of “texts/small.txt” are set."
+        reply = Client().send("HEAD", f"{URL.path}/{NAME}/texts/small.txt")
+        yield "the server has them", (reply.headers.get("x-ms-meta-colour"), reply.headers.get("x-ms-meta-size")), ("red", "5")
 
     def closed(self):
         self.go("", CLOSED)
@@ -324,8 +352,14 @@ class Session:
         self.go("")
         self.open("picture.svg")
         self.browser.until("document.querySelector('#shown img')?.complete")
-        if self.picture:
-            Path(self.picture).write_bytes(self.browser.picture())
+        for width, height in SIZES.items():
+            for scheme in SCHEMES:
+                self.browser.show_as(width, height, scheme)
+                if self.pictures:
+                    (Path(self.pictures) / f"explorer-{width}-{scheme}.png").write_bytes(self.browser.picture())
+            yield f"at {width} pixels nothing runs out of the page", self.browser.value("document.documentElement.scrollWidth"), width
+            room = self.browser.value("at('rows').rows[0].cells[0].getBoundingClientRect().width")
+            yield f"at {width} pixels a name has room", room >= min(240, width / 3), True
         yield "no script failed", [it["exceptionDetails"]["text"] for it in self.browser.told("Runtime.exceptionThrown")], []
         hosts = {it["request"]["url"].split("/")[2] for it in self.browser.told("Network.requestWillBeSent") if it["request"]["url"].startswith("http")}
         yield "only this server was asked", hosts, {URL.netloc}
@@ -333,7 +367,7 @@ class Session:
 
     def checks(self):
         return (self.blobs, self.first_sight, self.by_keyboard, self.texts, self.markup, self.many, self.film, self.without_the_letter, self.changes,
-                self.closed, self.last)
+                self.details, self.closed, self.last)
 
 
 def main(words):
