@@ -18,7 +18,13 @@ FENCED = re.compile(r"^```.*?^```", re.S | re.M)
 SHORT_SENTENCES = ("README.md", "docs/using.md", "docs/theorem.md", "docs/architecture.md", "docs/gate.md")
 SENTENCE = 40
 # The most words of a page, beside the lists that are generated. The pages together have no limit: a page may say more to be understood.
-LIMITS = {"README.md": 1250, "crates/stamp_model/README.md": 480, "docs/architecture.md": 2200, "docs/gate.md": 1600, "docs/using.md": 4900}
+LIMITS = {"README.md": 1250, "docs/architecture.md": 2200, "docs/using.md": 4900}
+# A sentence or an item that begins so has a clause as its subject, and not a person or a thing (docs/STYLE.md, "Plain English"). A question may.
+HEADLESS = re.compile(r"(?:That|What|Whoever|Which)\b")
+# Marks before the first word of a sentence: of an item, of a quotation, of emphasis.
+MARKS = re.compile(r"^(?:[-*>\s(\[\"“]|\d+\. )+")
+# A row that names the columns of a table.
+COLUMNS = re.compile(r"^\|.*\n(?=\|[-| :]+\|$)", re.M)
 
 
 def definitions_of(crate):
@@ -96,6 +102,16 @@ def sentences(page):
         yield from re.split(r"(?<=[.?!])[)*]*\s+(?=[^a-z])", paragraph)
 
 
+def headless_sentences():
+    """Sentences and items of pages that people write whose subject is a clause."""
+    for file in all_pages():
+        page = COLUMNS.sub("", by_hand(text_of(file)))
+        for sentence in sentences(re.sub(r"^#.*$", "", page, flags=re.M)):
+            sentence = " ".join(sentence.split())
+            if HEADLESS.match(MARKS.sub("", sentence)) and not sentence.rstrip("*_ ").endswith("?"):
+                yield f"{name_of(file)}: a clause is the subject: {sentence[:90]}"
+
+
 def long_sentences():
     for name in SHORT_SENTENCES:
         for sentence in sentences(text_of(tree.ROOT / name)):
@@ -118,5 +134,5 @@ def doubled_terms():
 
 
 def faults():
-    for found in (broken_links, changed_calls, doubled_terms, long_sentences, long_pages):
+    for found in (broken_links, changed_calls, doubled_terms, headless_sentences, long_sentences, long_pages):
         yield from found()
