@@ -21,8 +21,8 @@ SENTENCE = 40
 LIMITS = {"README.md": 1250, "docs/architecture.md": 2200, "docs/using.md": 4900}
 # A sentence or an item that begins so has a clause as its subject, and not a person or a thing (docs/STYLE.md, "Plain English"). A question may.
 HEADLESS = re.compile(r"(?:That|What|Whoever|Which)\b")
-# Marks before the first word of a sentence: of an item, of a quotation, of emphasis.
-MARKS = re.compile(r"^(?:[-*>\s(\[\"“]|\d+\. )+")
+# Marks before the first word of a sentence: of an item, of a link, of emphasis. A message of a tool is quoted as it is.
+MARKS = re.compile(r"^(?:[-*>\s(\[]|\d+\. )+")
 # A row that names the columns of a table.
 COLUMNS = re.compile(r"^\|.*\n(?=\|[-| :]+\|$)", re.M)
 
@@ -91,6 +91,21 @@ def changed_calls():
             yield from (f"{name_of(file)}: no such line in {' and '.join(texts)}: {line}" for line in lines_of(code) if line not in found)
 
 
+def halves_of_calls():
+    """Blocks of code that a page takes from functions, and that close what they did not open, or do not close what they open."""
+    for file in all_pages():
+        for _, code in CALL.findall(text_of(file)):
+            opened = 0
+            for line in lines_of(code):
+                bare = re.sub(r'"(?:[^"\\]|\\.)*"', "", line)
+                depths = list(itertools.accumulate(bare, lambda depth, it: depth + (it in "([{") - (it in ")]}"), initial=opened))
+                opened = depths[-1]
+                if min(depths) < 0:
+                    break
+            if opened:
+                yield f"{name_of(file)}: its code has a half of a call, at: {line}"
+
+
 def words_in(text):
     """How many words a text has: a word has a letter, so the numbers of a table are none."""
     return sum(bool(re.search(r"[^\W\d_]", word)) for word in text.split())
@@ -134,5 +149,5 @@ def doubled_terms():
 
 
 def faults():
-    for found in (broken_links, changed_calls, doubled_terms, headless_sentences, long_sentences, long_pages):
+    for found in (broken_links, changed_calls, halves_of_calls, doubled_terms, headless_sentences, long_sentences, long_pages):
         yield from found()
