@@ -359,7 +359,7 @@ class Session:
                     (Path(self.pictures) / f"explorer-{width}-{scheme}.png").write_bytes(self.browser.picture())
             yield f"at {width} pixels nothing runs out of the page", self.browser.value("document.documentElement.scrollWidth"), width
             room = self.browser.value("at('rows').rows[0].cells[0].getBoundingClientRect().width")
-            yield f"at {width} pixels a name has room", room >= min(240, width / 3), True
+            yield f"at {width} pixels a name has room", room >= 130, True
         yield "no script failed", [it["exceptionDetails"]["text"] for it in self.browser.told("Runtime.exceptionThrown")], []
         hosts = {it["request"]["url"].split("/")[2] for it in self.browser.told("Network.requestWillBeSent") if it["request"]["url"].startswith("http")}
         yield "only this server was asked", hosts, {URL.netloc}
