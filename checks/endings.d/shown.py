@@ -71,7 +71,7 @@ def served(program):
     serve, client, share = SHOWN.findall((ROOT / "README.md").read_text(encoding="utf-8"))
     address = free_address()
     script = "".join(command for command, _ in (serve, client, share)).replace(ADDRESS, address)
-    script = CURL + script.replace("./stamp ", f"{shlex.quote(program)} ") + "kill %1\nwait $!\n"
+    script = CURL + script.replace("./stamp ", f"{shlex.quote(program)} ") + "kill $!\nwait $!\n"
     # (the blob has no line feed at its end, and a page has no CR)
     wanted = f"{serve[1]}{client[1]}".replace(ADDRESS, address).rstrip("\n") + (ROOT / "examples" / "share.replies").read_bytes().decode()
     with tempfile.TemporaryFile() as output:
