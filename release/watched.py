@@ -38,7 +38,7 @@ def thrown_away():
 
 
 def ends_with_parent(prepare):
-    """What the process does before it becomes the program: it ends if its parent ends, and takes its limits."""
+    """The steps of the process before it becomes the program: it asks to end when its parent ends, and takes its limits."""
     libc, parent = ctypes.CDLL(None), os.getpid()
 
     def begin():

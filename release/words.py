@@ -26,7 +26,7 @@ KEY_ROOM = 4000
 
 
 class Fault(Exception):
-    """What is wrong with the words of `serve`: the status and the reason."""
+    """A fault of the words of `serve`: the status and the reason."""
 
     def __init__(self, status, reason):
         super().__init__(reason)

@@ -1,4 +1,4 @@
-"""What `./stamp` adds to the program: `--help` and `--version`, a free port for the port 0, and keys that are in files. It runs in a small tree that is
+"""The additions of `./stamp` to the program: `--help` and `--version`, a free port for the port 0, and keys that are in files. It runs in a small tree that is
 made for it, as in starting.py.
 
 Each function gives what was tried, what came of it, and what was wanted.

@@ -66,8 +66,8 @@ def without_dates(text):
 
 
 def served(program):
-    """The README's blocks, as one script: a server, a client that waits for it, and a blob that is shared in a replay. What all of them print is
-    compared with what the page shows, dates aside. The server has a free address in the place of the page's, and ends at the end of the script."""
+    """The README's blocks, as one script: a server, a client that waits for it, and a blob that is shared in a replay. Their output is
+    compared with the page, dates aside. The server has a free address in the place of the page's, and ends at the end of the script."""
     serve, client, share = SHOWN.findall((ROOT / "README.md").read_text(encoding="utf-8"))
     address = free_address()
     script = "".join(command for command, _ in (serve, client, share)).replace(ADDRESS, address)
