@@ -79,7 +79,7 @@ def served(program):
         try:
             running.wait(60)
         finally:
-            # What is left of the script ends with it.
+            # The rest of the script ends with it.
             with contextlib.suppress(ProcessLookupError):
                 os.killpg(running.pid, signal.SIGKILL)
             running.wait()
