@@ -1,0 +1,4 @@
+pub mod Frames
+pub mod ReadFrames
+pub mod Crashes
+pub mod WordDigests
