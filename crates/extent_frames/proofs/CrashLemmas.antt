@@ -7,7 +7,7 @@ use Rattle.std.specs.Prelude.{bytes_eq}
 use Rattle.std.specs.List.{slice_get}
 use Rattle.extent_frames.specs.Frames.{EntryBytes, SegmentDigest, IsOf64Bits, AreEntries, least_entry, frame_of, frames_of}
 use Rattle.extent_frames.specs.ReadFrames.{first_frame, HasFrames}
-use Rattle.extent_frames.specs.Crashes.{IsFileLength, IsHonest, ReadsFirst, Forged, KeepsAcknowledged, HasOneReading, DropsCutFrame, TornIsWholeOrMissing, EndsBeforeZeros}
+use Rattle.extent_frames.specs.Crashes.{IsFileLength, IsCut, IsHonest, ReadsFirst, Forged, KeepsAcknowledged, HasOneReading, DropsCutFrame, TornIsWholeOrMissing, EndsBeforeZeros}
 use Rattle.extent_frames.proofs.FrameLemmas.{frame_again, frames_more, length-frame_of, some_is, first_is_long, rest_is_long, no_frame_of_zeros}
 
 -- the frame of an entry that is neither too short nor too long is read, whatever comes after it
@@ -119,7 +119,7 @@ none_after a b e = let sum = length-append a b in let none : length (a ++ b) ≡
 
 -- a frame that is cut is no frame
 cut_is_none : (digest : SegmentDigest) (index : ℕ) → IsOf64Bits digest → (e m : EntryBytes) (ms : List EntryBytes) (rest : List ℕ) (n : ℕ) → least_entry ≤ length e → least_entry ≤ length m
-    → IsFileLength (frame_of digest index e) → n < length (frame_of digest index e) → take n (frame_of digest index e) ≡ frames_of digest index (m ∷ ms) ++ rest → ⊥
+    → IsFileLength (frame_of digest index e) → IsCut n (frame_of digest index e) → take n (frame_of digest index e) ≡ frames_of digest index (m ∷ ms) ++ rest → ⊥
 cut_is_none digest index good e m ms rest n long_e long_m short less behind =
     let f = frame_of digest index e in
     let after = frames_of digest (index + 1) ms ++ rest in

@@ -20,12 +20,16 @@ KeepsAcknowledged digest = (acknowledged : List EntryBytes) (tail : List ℕ) (e
     → HasFrames digest (frames_of digest 0 acknowledged ++ tail) entries
     → (more : List EntryBytes) × (entries ≡ acknowledged ++ more)
 
+-- so many bytes are not all
+abbrev pub IsCut : ℕ → List ℕ → Type 0
+IsCut n bytes = n < length bytes
+
 -- if a file ends inside its last frame, the entries of the other frames are read, and no more
 abbrev pub DropsCutFrame : SegmentDigest → Type 0
 DropsCutFrame digest = (acknowledged : List EntryBytes) (entry : EntryBytes) (n : ℕ) (entries : List EntryBytes)
     → AreEntries (acknowledged ++ entry ∷ [])
     → IsFileLength (frames_of digest 0 acknowledged ++ frame_of digest (length acknowledged) entry)
-    → n < length (frame_of digest (length acknowledged) entry)
+    → IsCut n (frame_of digest (length acknowledged) entry)
     → HasFrames digest (frames_of digest 0 acknowledged ++ take n (frame_of digest (length acknowledged) entry)) entries
     → entries ≡ acknowledged
 
