@@ -20,7 +20,7 @@ KeepsAcknowledged digest = (acknowledged : List EntryBytes) (tail : List ℕ) (e
     → HasFrames digest (frames_of digest 0 acknowledged ++ tail) entries
     → (more : List EntryBytes) × (entries ≡ acknowledged ++ more)
 
--- so many bytes are not all
+-- the first n of these bytes are not all of them
 abbrev pub IsCut : ℕ → List ℕ → Type 0
 IsCut n bytes = n < length bytes
 
