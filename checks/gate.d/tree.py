@@ -117,16 +117,17 @@ def crates_with_tests(root=ROOT):
 
 
 def leave_tests_out(copy):
-    """Takes the modules of tests, and what only they use, out of the crates of a copy of the tree that hold more than tests."""
+    """Takes the modules of tests that the root of a crate names, what only they use and their proofs out of the crates of a copy of the tree that hold
+    more than tests."""
     for name in crates_with_tests(copy):
-        for file in sorted((copy / "crates" / name / "src").rglob("*.rt")):
-            text = file.read_text(encoding="utf-8") if file.exists() else ""
+        crate = copy / "crates" / name
+        for root in filter(Path.is_file, (crate / "src/lib.rt", crate / "src/main.rt")):
+            text = root.read_text(encoding="utf-8")
             for module, end in MODULE_OF_TESTS.findall(text):
+                shutil.rmtree(crate / "proofs" / module, ignore_errors=True)
                 if end == ";":
-                    (file.parent / f"{module}.rt").unlink()
-            left = MODULE_OF_TESTS.sub("", text)
-            if left != text:
-                file.write_text(left, encoding="utf-8")
+                    (root.parent / f"{module}.rt").unlink()
+            root.write_text(MODULE_OF_TESTS.sub("", text), encoding="utf-8")
 
 
 def end_on_signal(number, _frame):
