@@ -25,7 +25,7 @@ PART = re.compile(
     re.S,
 )
 # A module that only tests have, in a file of its own or where it is named.
-MODULE_OF_TESTS = re.compile(r"^#\[cfg\(test\)\]\nmod (\w+)(?:(;)\n| \{\n.*?^\}\n)", re.M | re.S)
+MODULE_OF_TESTS = re.compile(r"^#\[cfg\(test\)\]\nmod (\w+)(;)\n|^\n#\[cfg\(test\)\]\nmod (\w+) \{\n.*?^\}\n", re.M | re.S)
 # What replaces the end of a line inside of a text, so that no line of the text is taken for a blank one.
 LINE_OF_TEXT = "\0"
 
@@ -123,10 +123,10 @@ def leave_tests_out(copy):
         crate = copy / "crates" / name
         for root in filter(Path.is_file, (crate / "src/lib.rt", crate / "src/main.rt")):
             text = root.read_text(encoding="utf-8")
-            for module, end in MODULE_OF_TESTS.findall(text):
-                shutil.rmtree(crate / "proofs" / module, ignore_errors=True)
-                if end == ";":
-                    (root.parent / f"{module}.rt").unlink()
+            for apart, end, inside in MODULE_OF_TESTS.findall(text):
+                shutil.rmtree(crate / "proofs" / (apart or inside), ignore_errors=True)
+                if end:
+                    (root.parent / f"{apart}.rt").unlink()
             root.write_text(MODULE_OF_TESTS.sub("", text), encoding="utf-8")
 
 
