@@ -2,7 +2,7 @@
 use crate::sample_wires::{D, R, script};
 use crate::stream_samples::block;
 use extent_node::Node;
-use extent_seal::{Appended, OpenExtent, Shares};
+use extent_seal::{Appended, BlockOwners, OpenExtent};
 
 #[test]
 fn an_extent_is_read_before_and_after_its_seal(rt: HostRuntime) {
@@ -29,7 +29,7 @@ fn a_block_is_appended_with_the_room_that_was_made(rt: HostRuntime) {
     let mut extent = OpenExtent::new(alloc);
     let mut wire = script(&rt, alloc, &[D, R, D], &[]);
     let one = block(&rt, alloc, 7, 3);
-    let shares = Shares::new(&one).expect(&rt, "memory");
+    let shares = BlockOwners::new(&one).expect(&rt, "memory");
     assert_eq!(rt; shares.len(), 3);
     extent.reserve().expect(&rt, "memory");
     let appended = extent.append_reserved(shares, &mut wire);
