@@ -2,23 +2,23 @@ use Rattle.std.specs.Arc.{arc_value}
 use Rattle.stored_slot.proofs.MeaningLemmas.{slot_tried, take_covered, take_fits, take_held, take_plain, tried_kept}
 use Rattle.stored_slot.proofs.parts.SlotParts.change.Goals as goal
 
-pub take_entry-requires-clause-covered : goal.take_entry-requires-clause-covered
-take_entry-requires-clause-covered g c =
+pub take_entry-taken-requires-clause-covered : goal.take_entry-taken-requires-clause-covered
+take_entry-taken-requires-clause-covered g c =
     let p = c.args.self.now in
     take_covered (arc_value p.pairs) (g.H.Histories.held p.histories) p.stored c.args.entry c.args.made.change c.requires.makes
 
-pub take_entry-requires-clause-plain : goal.take_entry-requires-clause-plain
-take_entry-requires-clause-plain g c =
+pub take_entry-taken-requires-clause-plain : goal.take_entry-taken-requires-clause-plain
+take_entry-taken-requires-clause-plain g c =
     let p = c.args.self.now in
     take_plain (arc_value p.pairs) (g.H.Histories.held p.histories) p.stored c.args.entry c.args.made.change c.requires.makes
 
-pub take_entry-requires-clause-held : goal.take_entry-requires-clause-held
-take_entry-requires-clause-held g c =
+pub take_entry-taken-requires-clause-held : goal.take_entry-taken-requires-clause-held
+take_entry-taken-requires-clause-held g c =
     let p = c.args.self.now in
     take_held (arc_value p.pairs) (g.H.Histories.held p.histories) p.stored c.args.entry c.args.made.change c.requires.makes
 
-pub take_entry-requires-clause-fits : goal.take_entry-requires-clause-fits
-take_entry-requires-clause-fits g c =
+pub take_entry-taken-requires-clause-fits : goal.take_entry-taken-requires-clause-fits
+take_entry-taken-requires-clause-fits g c =
     let p = c.args.self.now in
     take_fits (arc_value p.pairs) (g.H.Histories.held p.histories) p.stored c.args.entry c.args.made.change c.requires.makes c.requires.before.replays c.kept.ensures.sizes
 

@@ -1,4 +1,4 @@
-use Rattle.std.proofs.Common.{◌≡◌, refl, subst, sym, tt}
+use Rattle.std.proofs.Common.{◌≡◌, refl, subst, sym}
 use Rattle.std.specs.Arc.{arc_value}
 use Rattle.stamp_types.specs.declared.past.Past.{Past}
 use Rattle.slot_state.specs.Slots.{entry_of}

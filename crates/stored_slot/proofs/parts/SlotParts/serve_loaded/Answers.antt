@@ -1,4 +1,4 @@
-use Rattle.std.proofs.Common.{refl, tt}
+use Rattle.std.proofs.Common.{refl}
 use Rattle.stored_slot.proofs.ServeLemmas.{kept_parts}
 use Rattle.stored_slot.proofs.parts.SlotParts.serve_loaded.Goals as goal
 

@@ -1,4 +1,4 @@
-use Rattle.std.proofs.Common.{refl, subst, sym, tt}
+use Rattle.std.proofs.Common.{refl, subst, sym}
 use Rattle.stamp_types.specs.declared.reply.Reply.{Reply}
 use Rattle.stored_slot.specs.Parts.{IsReplyOf}
 use Rattle.stored_slot.proofs.ServeLemmas.{kept_parts}

@@ -1,8 +1,8 @@
 use Rattle.std.proofs.Common.{◌≡◌, subst, sym, true}
 use Rattle.stamp_model.specs.SeenContainers.{routed}
 use Rattle.slot_state.specs.Slots.{SlotState, covers}
-use Rattle.stored_slot.specs.Audits.{SlotAudits}
 use Rattle.stored_slot.specs.Parts.{slot_of}
+use Rattle.stored_slot.proofs.ViewLemmas.{audits_seen}
 use Rattle.stored_slot.proofs.stored_slot.StoredSlot.serve_audited.Goals as goal
 
 pub audit-requires-clause-covered : goal.audit-requires-clause-covered
@@ -10,4 +10,5 @@ audit-requires-clause-covered g c = subst (λ (s : SlotState). covers s (routed 
 
 pub returns-clause-served : goal.returns-clause-served
 returns-clause-served g c =
-    subst (λ (s : SlotState). SlotAudits s c.args.request.now c.args.moment _ c.audit.result.answer c.audit.result.entry (slot_of g.H.Histories.held c.audit.new.self)) c.self.view_is c.audit.ensures.served
+    let held = g.H.Histories.held in
+    audits_seen (slot_of held c.self.inside.parts) _ c.args.request.now c.args.moment _ c.audit.result.answer c.audit.result.entry (slot_of held c.audit.new.self) c.self.view_is c.audit.ensures.served
