@@ -1,28 +1,32 @@
-//! What is made of a request before the lock of a slot is taken.
-ghost use Rattle.std.specs.Prelude.{◌≡◌, [], IfOk, unwrap_or};
-ghost use Rattle.std.specs.Option.{option_and_then};
+//! What a request needs before the lock of a slot is taken.
+ghost use Rattle.std.specs.Prelude.{◌≡◌, IfOk};
 ghost use Rattle.policy_book.specs.Judgements.{IsOfAsk};
 ghost use Rattle.stamp_model.specs.SeenContainers.{routed};
+ghost use Rattle.slot_state.specs.Markers.{marker_key, marker_of};
 
+use crate::account_pairs::AccountPairs;
 use policy_book::{Judged, judge};
-use slot_state::AccountPairs;
-use stamp_types::{Ask, Key, Request, Text};
+use stamp_types::{Ask, Key, Moment, Request, Text};
 use std::alloc::{AllocError, Global};
 
-/// What is made of a request before the lock of a slot is taken.
+/// A request that is ready for the lock of a slot: what takes time without the slot is done. What its body says is read apart, since the slot keeps
+/// parts of the reading.
 #[derive(Drop)]
-pub(crate) struct Ready {
+pub struct Ready<'a> {
+    pub request: &'a Request,
+    /// When the request is served.
+    pub moment: Moment,
     /// The first key that the request looks at.
-    pub(crate) first: Key,
+    pub first: Key,
     /// The judgement on the signature, by the key pair of the account that is in force; none if the stamp has no such account.
-    pub(crate) judged: Option<Judged>,
+    pub judged: Option<Judged>,
     /// Whether an entry of the audit book is made, if the request is let in.
-    pub(crate) is_audited: bool,
+    pub is_audited: bool,
 }
 
 // The container at which a list begins: its marker, or the empty text.
 fn marker(alloc: Global, ask: &Ask) -> Result<Text, AllocError>
-    ensures { IfOk result (λ text. text ≡ unwrap_or (option_and_then (λ page. page.marker) ask.now.args.page) []) }
+    ensures { IfOk result (λ text. text ≡ marker_of ask.now) }
 {
     let Some(page) = &ask.args.page else {
         return Ok(Text::empty(alloc));
@@ -33,9 +37,11 @@ fn marker(alloc: Global, ask: &Ask) -> Result<Text, AllocError>
     }
 }
 
-// The key of the marker of a list.
-fn key_of_list(alloc: Global, ask: &Ask) -> Result<Key, AllocError>
-    ensures { IfOk result (λ key. key ≡ record { account = ask.now.key.account; container = unwrap_or (option_and_then (λ page. page.marker) ask.now.args.page) [] }) }
+/// The key of the marker at which a List Containers begins.
+///
+/// `AllocError` if memory runs out.
+pub fn key_of_list(alloc: Global, ask: &Ask) -> Result<Key, AllocError>
+    ensures { IfOk result (λ key. key ≡ marker_key ask.now) }
 {
     let account = ask.key.account.clone()?;
     let container = marker(alloc, ask)?;
@@ -75,16 +81,19 @@ fn judgement(
     Ok(Some(judged))
 }
 
-impl Ready {
-    /// What is made of the request.
+impl<'a> Ready<'a> {
+    /// The request with its first key, and with the judgement on its signature by the pair in force among these pairs.
     ///
     /// `AllocError` if memory runs out.
-    pub(crate) fn of(
+    pub fn of(
         alloc: Global,
         pairs: &AccountPairs,
-        request: &Request,
+        request: &'a Request,
+        moment: Moment,
         is_audited: bool,
     ) -> Result<Self, AllocError>
+        ensures request { IfOk result (λ ready. ready.request.now ≡ request.now) }
+        ensures moment { IfOk result (λ ready. ready.moment ≡ moment) }
         ensures first { IfOk result (λ ready. ready.first ≡ routed request.now) }
         ensures judged { IfOk result (λ ready. IsOfAsk ready.judged request.now.ask) }
         ensures audited { IfOk result (λ ready. ready.is_audited ≡ is_audited) }
@@ -92,6 +101,8 @@ impl Ready {
         let first = first_key(alloc, request)?;
         let judged = judgement(alloc, pairs, request)?;
         Ok(Self {
+            request,
+            moment,
             first,
             judged,
             is_audited,
