@@ -32,7 +32,7 @@ use tickets::Answer;
 #[derive(Drop)]
 struct Call<'a> {
     request: &'a Request,
-    judged: Option<&'a Judged>,
+    judged: Option<&'a Judged<'a>>,
     moment: Moment,
     // Whether an entry of the audit book is made, if the request is let in.
     is_audited: bool,
@@ -255,7 +255,7 @@ pub fn serve_after<W: Wire>(
     alloc: Global,
     pass: &mut Pass,
     request: &Request,
-    judged: Option<&Judged>,
+    judged: Option<&Judged<'_>>,
     moment: Moment,
     wire: &mut W,
     is_audited: bool,

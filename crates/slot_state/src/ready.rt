@@ -19,7 +19,7 @@ pub struct Ready<'a> {
     /// The first key that the request looks at.
     pub first: Key,
     /// The judgement on the signature, by the key pair of the account that is in force; none if the stamp has no such account.
-    pub judged: Option<Judged>,
+    pub judged: Option<Judged<'a>>,
     /// Whether an entry of the audit book is made, if the request is let in.
     pub is_audited: bool,
 }
@@ -67,11 +67,11 @@ fn first_key(alloc: Global, request: &Request) -> Result<Key, AllocError>
 }
 
 // The judgement on the signature, by the pair in force.
-fn judgement(
+fn judgement<'a>(
     alloc: Global,
     pairs: &AccountPairs,
-    request: &Request,
-) -> Result<Option<Judged>, AllocError>
+    request: &'a Request,
+) -> Result<Option<Judged<'a>>, AllocError>
     ensures { IfOk result (λ judged. IsOfAsk judged request.now.ask) }
 {
     let Some(pair) = pairs.of_account(&request.ask().key.account).last() else {

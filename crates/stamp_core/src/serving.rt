@@ -27,7 +27,7 @@ use tickets::Answer;
 #[derive(Drop)]
 pub(crate) struct Call<'a> {
     pub(crate) request: &'a Request,
-    pub(crate) judged: Option<&'a Judged>,
+    pub(crate) judged: Option<&'a Judged<'a>>,
     pub(crate) moment: Moment,
     /// Whether an entry of the audit book is made, if the request is let in.
     pub(crate) is_audited: bool,

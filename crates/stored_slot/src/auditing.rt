@@ -166,7 +166,7 @@ fn entry_by(
     alloc: Global,
     seen: Seen,
     request: &Request,
-    judged: Option<&Judged>,
+    judged: Option<&Judged<'_>>,
     moment: Moment,
 ) -> Result<Entry, AllocError>
     requires judged { IsOfAsk (option_copied judged) request.now.ask }
@@ -186,7 +186,7 @@ fn entry_if(
     let_in: bool,
     seen: Option<Seen>,
     request: &Request,
-    judged: Option<&Judged>,
+    judged: Option<&Judged<'_>>,
     moment: Moment,
 ) -> Option<Entry>
     requires judged { IsOfAsk (option_copied judged) request.now.ask }
@@ -244,7 +244,7 @@ impl<H: Histories> SlotParts<H> {
         &mut self,
         alloc: Global,
         request: &Request,
-        judged: Option<&Judged>,
+        judged: Option<&Judged<'_>>,
         reading: Reading,
         moment: Moment,
         wire: &mut W,
@@ -271,7 +271,7 @@ impl<H: Histories> SlotParts<H> {
         &mut self,
         alloc: Global,
         request: &Request,
-        judged: Option<&Judged>,
+        judged: Option<&Judged<'_>>,
         reading: Reading,
         moment: Moment,
         wire: &mut W,
@@ -310,7 +310,7 @@ impl<H: Histories> StoredSlot<H> {
         &mut self,
         alloc: Global,
         request: &Request,
-        judged: Option<&Judged>,
+        judged: Option<&Judged<'_>>,
         reading: Reading,
         moment: Moment,
         wire: &mut W,

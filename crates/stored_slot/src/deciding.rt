@@ -28,7 +28,7 @@ impl<H: Histories> SlotParts<H> {
         rows: &Rows,
         alloc: Global,
         request: &Request,
-        judged: Option<&Judged>,
+        judged: Option<&Judged<'_>>,
         reading: Reading,
         moment: Moment,
     ) -> Result<FramedDecision, AllocError>
@@ -56,7 +56,7 @@ impl<H: Histories> SlotParts<H> {
         &self,
         alloc: Global,
         request: &Request,
-        judged: Option<&Judged>,
+        judged: Option<&Judged<'_>>,
         reading: Reading,
         moment: Moment,
     ) -> Result<FramedDecision, AllocError>

@@ -103,7 +103,7 @@ impl<H: Histories> StoredSlot<H> {
         &mut self,
         alloc: Global,
         request: &Request,
-        judged: Option<&Judged>,
+        judged: Option<&Judged<'_>>,
         reading: Reading,
         moment: Moment,
         wire: &mut W,
@@ -123,7 +123,7 @@ impl<H: Histories> StoredSlot<H> {
         &mut self,
         alloc: Global,
         request: &Request,
-        judged: Option<&Judged>,
+        judged: Option<&Judged<'_>>,
         moment: Moment,
         wire: &mut W,
     ) -> Answer
