@@ -31,7 +31,7 @@ ONLY = "the only one"
 # The clauses that give the cause of a refusal: by its type and its case, or by its type. The first one that a contract has is the one.
 CAUSES = {
     "AfterFault": ("fault", "back"), "AllocError": ("memory",), "AppendFault.TooLarge": ("large",), "AppendFault": ("counted",),
-    "BlockFault": ("fault",), "BodyFault": ("refused",), "CompactionFault": ("counted",), "CopyFault": ("unreachable",), "FieldFault": (ONLY,),
+    "BlockFault": ("fault",), "BodyFault": ("refused",), "CompactionFault": ("counted",), "FieldFault": (ONLY,),
     "FrontFault": ("left", "failed", ONLY), "HeadFault.Denied": ("denied",), "HeaderFault.Form": ("form",), "HeaderFault.Scheme": ("scheme",),
     "HeaderFault.Twice": ("twice",), "KeysFault.Last": ("last",), "Link": ("between",), "LogFault": ("counted",), "MapFault": ("refused",),
     "MeetFault": ("fault",), "Missed": ("told",), "MoveFault": ("none",), "NameFault": (ONLY,), "NoReplica": ("unanswered", "same"),

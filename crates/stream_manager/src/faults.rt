@@ -1,7 +1,7 @@
 //! What appends and settles of a stream answer.
 ghost use Rattle.std.specs.Prelude.{◌≡◌};
 
-use extent_seal::CopyFault;
+use extent_seal::ReadFault;
 use stamp_values::Place;
 use std::alloc::AllocError;
 
@@ -82,16 +82,16 @@ impl From<AllocError> for RepairFault {
     }
 }
 
-impl From<CopyFault> for RepairFault {
+impl From<ReadFault> for RepairFault {
     ghost use Rattle.std.specs.Prelude.{◌≡◌};
     ghost use Rattle.stream_manager.specs.Repairs.{fault_of};
 
     ghost from_gives = { λ f e. e ≡ fault_of f };
 
-    fn from(fault: CopyFault) -> Self {
+    fn from(fault: ReadFault) -> Self {
         match fault {
-            CopyFault::Unreachable => Self::Unreachable,
-            CopyFault::NoMemory => Self::NoMemory,
+            ReadFault::Unreachable => Self::Unreachable,
+            ReadFault::NoMemory => Self::NoMemory,
         }
     }
 }
