@@ -9,10 +9,10 @@ use Rattle.partition_map.specs.Spans.{cause_of, slot_of, split_refusal, with_poi
 use Rattle.stamp_model.specs.SeenContainers.{routed}
 use Rattle.tickets.specs.declared.answer.Answer as answers
 use Rattle.tickets.specs.declared.answer.Answer.TheVariants as answer
-use Rattle.stored_rows.specs.declared.faults.StoredFault.{StoredFault}
-use Rattle.stored_rows.specs.declared.faults.StoredFault.TheVariants as stored
 use Rattle.stream_manager.specs.declared.faults.RepairFault.{RepairFault}
 use Rattle.stream_manager.specs.declared.faults.RepairFault.TheVariants as repair
+use Rattle.stream_manager.specs.declared.faults.StoredFault.{StoredFault}
+use Rattle.stream_manager.specs.declared.faults.StoredFault.TheVariants as stored
 use Rattle.slot_state.specs.Slots.{SlotState, lower_half, upper_half}
 use Rattle.stored_slot.specs.Served.{SlotServes, busy}
 use Rattle.stored_slot.specs.Settled.{SettlesSlot}

@@ -19,6 +19,7 @@ use Rattle.range_rows.specs.SentContent.{sizes}
 use Rattle.stamp_model.specs.Effects.{unless_refused}
 use Rattle.stamp_model.specs.Refusals.{refusal}
 use Rattle.stamp_model.specs.SeenContainers.{is_under, routed}
+use Rattle.stream_manager.specs.declared.faults.StoredFault.{StoredFault}
 use Rattle.stamp_model.proofs.CountLemmas.{count-replayed, none_before}
 use Rattle.stamp_model.proofs.ReplyLemmas.{unrefused}
 use Rattle.tickets.specs.declared.answer.Answer.{Answer}
@@ -26,7 +27,6 @@ use Rattle.tickets.specs.declared.answer.Answer.TheVariants as answer
 use Rattle.stored_rows.specs.Counting.{FailsStored}
 use Rattle.stored_rows.specs.Ranges as ranges
 use Rattle.stored_rows.specs.States.{Stored, bytes_of, pieces_of}
-use Rattle.stored_rows.specs.declared.faults.StoredFault.{StoredFault}
 use Rattle.slot_state.specs.HistoryMaps.{Histories, history_at}
 use Rattle.slot_state.specs.Pairs.{Pairs, current_at, pairs_at}
 use Rattle.slot_state.specs.Slots.{SlotState, replayed_at}

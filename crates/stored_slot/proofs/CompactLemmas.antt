@@ -4,10 +4,10 @@ use Rattle.std.specs.Arc.{arc_value}
 use Rattle.std.specs.Prelude.{OnOk}
 use Rattle.partition_stream.specs.Streams.{logged}
 use Rattle.stamp_types.specs.declared.past.Past.{Past}
+use Rattle.stream_manager.specs.declared.faults.StoredFault.{StoredFault}
 use Rattle.stored_rows.specs.Compactions.{IsCompacted, KeepsTheRange}
 use Rattle.stored_rows.specs.Ranges.{covers}
 use Rattle.stored_rows.specs.States.{Stored, doubt_of}
-use Rattle.stored_rows.specs.declared.faults.StoredFault.{StoredFault}
 use Rattle.slot_state.specs.HistoryMaps.{Histories}
 use Rattle.slot_state.specs.Pairs.{Pairs}
 use Rattle.stored_slot.specs.Meanings.{AreOfStreams, AreReplays, slot_with}

@@ -9,12 +9,12 @@ use Rattle.stamp_values.specs.Trees.{is_below, is_from}
 use Rattle.stamp_values.specs.declared.key.Key.{Key}
 use Rattle.stamp_types.specs.declared.past.Past.{Past}
 use Rattle.stamp_types.specs.World.{no_part}
+use Rattle.stream_manager.specs.declared.faults.StoredFault.{StoredFault}
 use Rattle.stamp_model.specs.Histories.{IsLegal, NoneIsLater, replay}
 use Rattle.stamp_model.specs.SeenContainers.{is_under}
 use Rattle.stamp_model.proofs.HistoryLemmas.{IsLegalFrom-nil}
 use Rattle.stored_rows.specs.Ranges.{covers, is_before_end}
 use Rattle.stored_rows.specs.States.{IsHalf, Stored, bytes_of}
-use Rattle.stored_rows.specs.declared.faults.StoredFault.{StoredFault}
 use Rattle.stored_rows.specs.declared.key_range.KeyRange.{KeyRange}
 use Rattle.slot_state.specs.HistoryMaps.{Histories, history_at}
 use Rattle.slot_state.specs.Pairs.{Pairs, current_at, epoch_of, pairs_at}

@@ -5,11 +5,11 @@ use Rattle.std.specs.Prelude.{OnErr, OnOk}
 use Rattle.extent_node.specs.Faults.{Calls}
 use Rattle.extent_seal.specs.Counting.{Grows}
 use Rattle.stamp_types.specs.declared.past.Past.{Past}
+use Rattle.stream_manager.specs.declared.faults.StoredFault.{StoredFault}
+use Rattle.stream_manager.specs.declared.faults.StoredFault.TheVariants as stored
 use Rattle.stored_rows.specs.Checkpoints.{MeansTheRange}
 use Rattle.stored_rows.specs.Counting.{FailsStored}
 use Rattle.stored_rows.specs.States.{MeansTheSame, Stored, doubt_of}
-use Rattle.stored_rows.specs.declared.faults.StoredFault.{StoredFault}
-use Rattle.stored_rows.specs.declared.faults.StoredFault.TheVariants as stored
 use Rattle.stored_rows.proofs.CountLemmas.{fails_later, grows_twice}
 use Rattle.slot_state.specs.HistoryMaps.{Histories}
 use Rattle.slot_state.specs.Pairs.{Pairs}

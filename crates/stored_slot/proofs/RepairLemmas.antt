@@ -7,13 +7,13 @@ use Rattle.extent_node.specs.declared.wire.Node.{Node}
 use Rattle.extent_seal.specs.Counting.{Grows}
 use Rattle.stream_manager.specs.declared.faults.RepairFault.{RepairFault}
 use Rattle.stream_manager.specs.declared.faults.RepairFault.TheVariants as repair
+use Rattle.stream_manager.specs.declared.faults.StoredFault.{StoredFault}
+use Rattle.stream_manager.specs.declared.faults.StoredFault.TheVariants as stored
 use Rattle.partition_stream.specs.Repairs.{stream_of}
 use Rattle.partition_stream.specs.declared.repair.StreamName.{StreamName}
 use Rattle.stored_rows.specs.Counting.{FailsStored}
 use Rattle.stored_rows.specs.Repairs.{FailsRepair, IsRepairOf, unnamed}
 use Rattle.stored_rows.specs.States.{MeansTheSame, Stored, doubt_of}
-use Rattle.stored_rows.specs.declared.faults.StoredFault.{StoredFault}
-use Rattle.stored_rows.specs.declared.faults.StoredFault.TheVariants as stored
 use Rattle.stored_rows.specs.declared.repaired.Repaired.{Repaired}
 use Rattle.stored_rows.specs.declared.repaired.Unrepaired.{Unrepaired}
 use Rattle.stored_rows.proofs.CountLemmas.{fails_later, grows_twice}

@@ -11,6 +11,10 @@ use Rattle.stamp_types.specs.Changes.{KeyedAct}
 use Rattle.stamp_types.specs.Replies.{denied}
 use Rattle.stamp_types.specs.Requests.{Asked}
 use Rattle.access_rules.specs.declared.keys.Keys.{Keys}
+use Rattle.stream_manager.specs.declared.faults.StoredFault.{StoredFault}
+use Rattle.stream_manager.specs.declared.faults.StoredFault.TheVariants as stored
+use Rattle.partition_stream.specs.declared.faults.TakeFault.{TakeFault}
+use Rattle.partition_stream.specs.declared.faults.TakeFault.TheVariants as fault
 use Rattle.range_rows.specs.RequestChanges.{change_of}
 use Rattle.range_rows.specs.SentContent.{sizes}
 use Rattle.stamp_model.specs.Effects.{unless_refused}
@@ -24,10 +28,6 @@ use Rattle.tickets.specs.declared.answer.Answer.TheVariants as answer
 use Rattle.stored_rows.specs.Counting.{FailsStored, FailsTake}
 use Rattle.stored_rows.specs.States.{Stored, doubt_of}
 use Rattle.stored_rows.proofs.CountLemmas.{grows_twice}
-use Rattle.stored_rows.specs.declared.faults.StoredFault.{StoredFault}
-use Rattle.stored_rows.specs.declared.faults.StoredFault.TheVariants as stored
-use Rattle.stored_rows.specs.declared.faults.TakeFault.{TakeFault}
-use Rattle.stored_rows.specs.declared.faults.TakeFault.TheVariants as fault
 use Rattle.slot_state.specs.HistoryMaps.{Histories, with_entry}
 use Rattle.slot_state.specs.Pairs.{Pairs, current_at, pairs_at}
 use Rattle.slot_state.specs.Slots as slots
