@@ -11,14 +11,6 @@ use std::alloc::{AllocError, Global};
 use std::sync::Arc;
 use stored_slot::StoredSlot;
 
-/// A key that takes the place of one of the two keys of an account.
-#[derive(Drop)]
-pub(crate) struct KeyChange<'a> {
-    pub(crate) account: &'a Text,
-    pub(crate) which: Which,
-    pub(crate) key: &'a SigningKey,
-}
-
 /// The pairs of the slot after a key of the account's pair in force is replaced. If the new pair was made before, for other pairs, it has one more
 /// owner.
 ///
@@ -26,14 +18,16 @@ pub(crate) struct KeyChange<'a> {
 pub(crate) fn longer_in(
     slot: &StoredSlot<ProvedHistories>,
     alloc: Global,
-    change: &KeyChange<'_>,
+    account: &Text,
+    which: Which,
+    key: &SigningKey,
     made: Option<&Arc<Keys>>,
 ) -> Result<Longer, RotateFault>
-    ensures made { IfOk result (λ longer. HasNextPair slot.now.pairs change.now.account.now change.now.which change.now.key.now longer.epoch (arc_value longer.pairs)) }
-    ensures refused { IfErr result (λ fault. HasNoNextPair slot.now.pairs change.now.account.now fault) }
+    ensures made { IfOk result (λ longer. HasNextPair slot.now.pairs account.now which key.now longer.epoch (arc_value longer.pairs)) }
+    ensures refused { IfErr result (λ fault. HasNoNextPair slot.now.pairs account.now fault) }
 {
     slot.account_pairs()
-        .rotated(alloc, change.account, change.which, change.key, made)
+        .rotated(alloc, account, which, key, made)
 }
 
 /// The pairs by which signatures are judged before a lock is taken, after the rotation; none if no epoch comes after their pair in force. No clause

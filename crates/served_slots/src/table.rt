@@ -10,7 +10,6 @@ ghost use Rattle.served_slots.specs.Steps.{refusal_at, split_at, split_cause};
 
 use crate::locked::LockedSlot;
 use crate::locked::rotating::rotate_from;
-use crate::next_pairs::KeyChange;
 use crate::splitting::SplitFault;
 use access_rules::{Keys, KeysFault, Which};
 use hmac_sign::SigningKey;
@@ -130,12 +129,16 @@ fn rotate_slots<A: Account>(
     let Some((first, rest)) = slots.split_first_mut() else {
         return Ok(None);
     };
-    let change = KeyChange {
+    rotate_from(
+        first.get_mut(),
+        rest,
+        alloc,
+        known,
         account,
         which,
         key,
-    };
-    rotate_from(first.get_mut(), rest, alloc, known, &change, made)
+        made,
+    )
 }
 
 impl<A: Account> Table<A> {

@@ -1,5 +1,4 @@
 pub mod HistoryMaps
-pub mod Markers
 pub mod NextPairs
 pub mod PairFaults
 pub mod PairLists

@@ -1,4 +1,4 @@
-//! Histories of containers, the key pairs of accounts, and what a request needs before a lock.
+//! Slots: the containers of a range of keys, each with the list of its accepted changes.
 #![tactic(auto)]
 
 mod account_pairs;
@@ -14,7 +14,6 @@ mod next_pairs;
 mod pair_list;
 mod pairs_fault;
 mod proved;
-mod ready;
 mod rotate_fault;
 mod rotating;
 
@@ -30,6 +29,5 @@ pub use laws::{
 pub use pair_list::PairList;
 pub use pairs_fault::PairsFault;
 pub use proved::ProvedHistories;
-pub use ready::{Ready, key_of_list};
 pub use rotate_fault::RotateFault;
 pub use rotating::Longer;

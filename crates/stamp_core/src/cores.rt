@@ -21,13 +21,12 @@ ghost use Rattle.stamp_core.specs.CoreSteps.{AnswersSteadily, told_answer, has_f
 mod audit;
 mod compact;
 
-use crate::auditing::AuditedReply;
 use crate::care::CoreCare;
 use crate::open_tickets::OpenTickets;
 use crate::rotating::rotate;
-use crate::serving::{Call, answer_one, serve_unread};
+use crate::serving::{serve_one, serve_unread};
 use crate::splitting::split;
-use crate::telling::{answered, tell};
+use crate::telling::{answered, tell, tell_now};
 use crate::tending::tend;
 use access_rules::{Keys, Which};
 use core_run::{Outcome, Step, StepFault};
@@ -174,7 +173,7 @@ impl<H: Histories> Core<H> {
         &mut self,
         alloc: Global,
         request: &Request,
-        judged: Option<&Judged<'_>>,
+        judged: Option<&Judged>,
         reading: Reading,
         moment: Moment,
         wire: &mut W,
@@ -185,13 +184,16 @@ impl<H: Histories> Core<H> {
             → (s' : State) × (Takes s (Serve request.now moment) (has_faults (W.faults wire.old) (W.faults wire.new)) result s' × StandsFor self.new s') }
         ensures grown { Grows (W.faults wire.old) (W.faults wire.new) }
     {
-        let call = Call {
+        let answer = serve_one(
+            &mut self.slots,
+            &self.spans,
+            alloc,
             request,
             judged,
+            reading,
             moment,
-            is_audited: false,
-        };
-        let answer = answer_one(&mut self.slots, &self.spans, alloc, &call, reading, wire);
+            wire,
+        );
         tell(&mut self.tickets, alloc, answer, wire)
     }
 
@@ -204,7 +206,7 @@ impl<H: Histories> Core<H> {
         &mut self,
         alloc: Global,
         request: &Request,
-        judged: Option<&Judged<'_>>,
+        judged: Option<&Judged>,
         reading: Reading,
         moment: Moment,
         wire: &mut W,
@@ -216,15 +218,17 @@ impl<H: Histories> Core<H> {
         ensures steady { all_faults (W.faults wire.new) ≡ all_faults (W.faults wire.old) → AnswersSteadily self.old request.now moment result self.new }
         ensures grown { Grows (W.faults wire.old) (W.faults wire.new) }
     {
-        let call = Call {
+        let answer = serve_one(
+            &mut self.slots,
+            &self.spans,
+            alloc,
             request,
             judged,
+            reading,
             moment,
-            is_audited: false,
-        };
-        let AuditedReply { reply, entry } = self.answer_by(alloc, &call, reading, wire);
-        drop(entry);
-        reply
+            wire,
+        );
+        tell_now(alloc, answer, wire)
     }
 
     /// One Fetch step: the reply of a ticket, which ends.

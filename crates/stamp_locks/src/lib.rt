@@ -7,6 +7,7 @@ mod laws;
 mod locked;
 mod numbered;
 mod posting;
+mod ready;
 mod rotating;
 mod stamp;
 mod table;

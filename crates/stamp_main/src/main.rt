@@ -12,7 +12,7 @@ use console::{Console, Input};
 use ending::Ending;
 use http_front::Connection;
 use replay::run_replay;
-use serving::{ServeWords, run_serve};
+use serving::run_serve;
 use signing::run_sign;
 use std::alloc::Global;
 use std::fs::File;
@@ -139,16 +139,9 @@ fn run<
                 first_key,
                 second_key,
             },
-        ) => {
-            let words = ServeWords {
-                address,
-                workers,
-                account,
-                first: first_key,
-                second: second_key,
-            };
-            run_serve(rt, alloc, connection, &words, console)
-        }
+        ) => run_serve(
+            rt, alloc, connection, address, workers, account, first_key, second_key, console,
+        ),
         None => Ending::Usage,
     }
 }

@@ -10,7 +10,6 @@ mod deciding;
 mod keeping;
 mod laws;
 mod lent;
-mod parts;
 mod rotating;
 mod serving;
 mod settling;

@@ -20,13 +20,16 @@ ghost use Rattle.stored_slot.specs.Settled.{CutsSettled, LeavesRepaired, LeavesS
 
 mod compact;
 
-use crate::parts::SlotParts;
+use crate::cutting::cutting;
+use crate::keeping::{checkpointing, loading, repairing, sealing};
+use crate::serving::serving;
+use crate::settling::settling;
 use extent_node::{Node, Wire};
 use partition_stream::{Replaced, StreamName};
 use policy_book::Judged;
 use range_rows::Reading;
 use slot_state::{AccountPairs, Histories};
-use stamp_types::{Key, Moment, Request};
+use stamp_types::{Key, Moment, Past, Request};
 use std::alloc::{AllocError, Global};
 use std::marker::Model;
 use std::sync::Arc;
@@ -42,20 +45,26 @@ pub const EXTENT_BYTES: u32 = 268_435_456;
 /// replays to, always. A change of which it is not known whether it was made is the slot's doubt.
 #[derive(Drop)]
 pub struct StoredSlot<H: Histories> {
-    pub(crate) parts: SlotParts<H>,
+    pub(crate) histories: H,
+    pub(crate) stored: StoredRows,
+    pub(crate) pairs: Arc<AccountPairs>,
+    // The change that is in doubt, with the moment and the epoch at which it was served.
+    pub(crate) doubt: Option<Past>,
 }
 
 impl<H: Histories> Model for StoredSlot<H> {
+    ghost use Rattle.std.specs.Arc.{arc_value};
+    ghost use Rattle.std.specs.FinMap as finite;
     ghost use Rattle.slot_state.specs.Slots.{SlotState, slot_code};
-    ghost use Rattle.stored_slot.specs.Parts.{AreOfSlot, slot_of};
+    ghost use Rattle.stored_slot.specs.Meanings.{AreOfStreams, slot_with};
 
     ghost Value = { SlotState };
 
     ghost coded = { slot_code };
 
-    ghost view = { λ s. slot_of H.held s.parts };
+    ghost view = { λ s. slot_with (arc_value s.pairs) (H.held s.histories) s.stored s.doubt };
 
-    ghost invariant = { λ s. AreOfSlot H.held s.parts };
+    ghost invariant = { λ s. AreOfStreams (arc_value s.pairs) (H.held s.histories) s.stored s.doubt };
 }
 
 impl<H: Histories> StoredSlot<H> {
@@ -67,13 +76,12 @@ impl<H: Histories> StoredSlot<H> {
         ensures { result ≡ slot_with (arc_value pairs) finite.empty rows None }
     {
         pairs.numbered();
-        let parts = SlotParts {
+        Self {
             histories: H::none(alloc),
             stored: rows,
             pairs,
             doubt: None,
-        };
-        Self { parts }
+        }
     }
 
     /// Whether the key is in the range of the slot.
@@ -81,7 +89,7 @@ impl<H: Histories> StoredSlot<H> {
     pub fn covers(&self, key: &Key) -> bool
         ensures { result ≡ slots.covers self.now key.now }
     {
-        self.parts.stored.covers(key)
+        self.stored.covers(key)
     }
 
     /// Whether the key comes after the first key of the slot and before the end of its range, so that the slot can be split at it.
@@ -89,7 +97,7 @@ impl<H: Histories> StoredSlot<H> {
     pub fn is_inside(&self, key: &Key) -> bool
         ensures { result ≡ slots.is_inside self.now key.now }
     {
-        key.cmp(self.parts.stored.first()).is_gt() && self.parts.stored.covers(key)
+        key.cmp(self.stored.first()).is_gt() && self.stored.covers(key)
     }
 
     /// One step of the model, on a request whose body was read before. The caller keeps the request, and may judge its signature before:
@@ -103,7 +111,7 @@ impl<H: Histories> StoredSlot<H> {
         &mut self,
         alloc: Global,
         request: &Request,
-        judged: Option<&Judged<'_>>,
+        judged: Option<&Judged>,
         reading: Reading,
         moment: Moment,
         wire: &mut W,
@@ -114,8 +122,18 @@ impl<H: Histories> StoredSlot<H> {
         ensures served { SlotServes self.old request.now moment (Faulted (W.faults wire.old) (W.faults wire.new)) result self.new }
         ensures grown { Grows (W.faults wire.old) (W.faults wire.new) }
     {
-        self.parts
-            .serve(alloc, request, judged, reading, moment, wire)
+        serving(
+            &mut self.histories,
+            &mut self.stored,
+            &mut self.doubt,
+            &self.pairs,
+            alloc,
+            request,
+            judged,
+            reading,
+            moment,
+            wire,
+        )
     }
 
     /// One step of the model. The answer is NoMemory if memory runs out for the reading of the body.
@@ -123,7 +141,7 @@ impl<H: Histories> StoredSlot<H> {
         &mut self,
         alloc: Global,
         request: &Request,
-        judged: Option<&Judged<'_>>,
+        judged: Option<&Judged>,
         moment: Moment,
         wire: &mut W,
     ) -> Answer
@@ -146,7 +164,14 @@ impl<H: Histories> StoredSlot<H> {
         ensures settled { SettlesOrFails result self.old self.new }
         ensures counted { FailsStored result (W.faults wire.old) (W.faults wire.new) }
     {
-        self.parts.settle(alloc, wire)
+        settling(
+            &mut self.histories,
+            &mut self.stored,
+            &mut self.doubt,
+            &self.pairs,
+            alloc,
+            wire,
+        )
     }
 
     /// Takes the rows out of memory, and gives them, so that a caller may drop them once it holds no lock. A change that is in doubt stays in
@@ -154,7 +179,7 @@ impl<H: Histories> StoredSlot<H> {
     pub fn unload(&mut self) -> Unloaded
         ensures { self.new ≡ self.old }
     {
-        self.parts.stored.unload()
+        self.stored.unload()
     }
 
     /// Settles a doubt, if there is one, and reads the rows from the streams, if they are not loaded.
@@ -165,7 +190,14 @@ impl<H: Histories> StoredSlot<H> {
         ensures left { LeavesSettled result self.old self.new }
         ensures counted { FailsStored result (W.faults wire.old) (W.faults wire.new) }
     {
-        self.parts.load(alloc, wire)
+        loading(
+            &mut self.histories,
+            &mut self.stored,
+            &mut self.doubt,
+            &self.pairs,
+            alloc,
+            wire,
+        )
     }
 
     /// Settles a doubt, if there is one, and seals the streams: what is written later goes to new extents.
@@ -176,7 +208,14 @@ impl<H: Histories> StoredSlot<H> {
         ensures left { LeavesSettled result self.old self.new }
         ensures counted { FailsStored result (W.faults wire.old) (W.faults wire.new) }
     {
-        self.parts.seal(alloc, wire)
+        sealing(
+            &mut self.histories,
+            &mut self.stored,
+            &mut self.doubt,
+            &self.pairs,
+            alloc,
+            wire,
+        )
     }
 
     /// Settles a doubt, if there is one, loads the rows, if they are not loaded, and writes them as a checkpoint: they take the place of the
@@ -192,7 +231,14 @@ impl<H: Histories> StoredSlot<H> {
         ensures left { LeavesSettled result self.old self.new }
         ensures counted { FailsStored result (W.faults wire.old) (W.faults wire.new) }
     {
-        self.parts.checkpoint(alloc, wire)
+        checkpointing(
+            &mut self.histories,
+            &mut self.stored,
+            &mut self.doubt,
+            &self.pairs,
+            alloc,
+            wire,
+        )
     }
 
     /// Settles a doubt, if there is one, seals the streams, and cuts the slot at a key: the containers of `middle` and of the keys after it
@@ -210,7 +256,15 @@ impl<H: Histories> StoredSlot<H> {
         ensures cut { CutsSettled result self.old middle.now self.new }
         ensures counted { FailsStored result (W.faults wire.old) (W.faults wire.new) }
     {
-        self.parts.cut(alloc, middle, wire)
+        cutting(
+            &mut self.histories,
+            &mut self.stored,
+            &mut self.doubt,
+            &self.pairs,
+            alloc,
+            middle,
+            wire,
+        )
     }
 
     /// Another partition server takes the slot: it has none of the rows in memory, and reads them from the streams when they are needed. A
@@ -220,7 +274,7 @@ impl<H: Histories> StoredSlot<H> {
     pub fn move_to(&mut self, _server: u32) -> Unloaded
         ensures { self.new ≡ self.old }
     {
-        self.parts.stored.unload()
+        self.stored.unload()
     }
 
     /// Settles a doubt, if there is one, and gives the node a copy of a whole sealed extent of one stream, if it has no copy. No byte is
@@ -244,6 +298,16 @@ impl<H: Histories> StoredSlot<H> {
         ensures left { LeavesRepaired (unnamed result) self.old self.new }
         ensures counted { FailsRepair (unnamed result) (W.faults wire.old) (W.faults wire.new) }
     {
-        self.parts.repair(alloc, part, extent, node, wire)
+        repairing(
+            &mut self.histories,
+            &mut self.stored,
+            &mut self.doubt,
+            &self.pairs,
+            alloc,
+            part,
+            extent,
+            node,
+            wire,
+        )
     }
 }
