@@ -1,4 +1,4 @@
--- What a crash leaves of a segment, and what is read of it then (docs/formats/journal.md).
+-- The bytes that a crash leaves of a segment, and the frames that are read of them (docs/formats/journal.md).
 use Rattle.std.specs.Prelude.{◌≡◌, ◌≢◌, ◌<◌, ◌≤◌, ◌⊎◌, ◌^◌, ℕ, List, [], ◌∷◌, ◌++◌, length, take, replicate, Some}
 use Rattle.std.specs.List.{slice_get}
 use Rattle.extent_frames.specs.Frames.{EntryBytes, SegmentDigest, AreEntries, frame_of, frames_of}

@@ -1,4 +1,4 @@
--- What is read of the bytes of a segment (docs/formats/journal.md).
+-- The entries that are read of the bytes of a segment (docs/formats/journal.md).
 use Rattle.std.specs.Prelude.{◌≡◌, ◌<◌, ◌==◌, ℕ, List, ◌++◌, length, take, drop, get_or, Option, Some, None, option_and_then, nat_lt, if◌then◌else◌}
 use Rattle.std.specs.Int.{w64, from_be_bytes}
 use Rattle.extent_frames.specs.Frames.{EntryBytes, SegmentDigest, AreEntries, least_entry, frames_of}

@@ -37,7 +37,7 @@ fn push_number(out: &mut Vec<u8>, number: u64)
 
 /// Appends the frame of an entry, which has at least 16 bytes and this index in this segment.
 ///
-/// `AllocError` if there is no room for the frame and memory runs out. Nothing is appended then.
+/// `AllocError` if there is no room for the frame and memory runs out. Then it appends nothing.
 #[tactic(auto, unfolding(crate::specs::Frames::frame_of))]
 pub fn write_frame<D: Digest>(
     out: &mut Vec<u8>,
