@@ -24,8 +24,8 @@ PART = re.compile(
     r"""|"(?:\\.|[^"\\])*"|/\*.*?\*/|//[^\n]*""",
     re.S,
 )
-# A module that only tests have, in a file of its own or where it is named.
-MODULE_OF_TESTS = re.compile(r"^#\[cfg\(test\)\]\nmod (\w+)(;)\n|^\n#\[cfg\(test\)\]\nmod (\w+) \{\n.*?^\}\n", re.M | re.S)
+# What only tests have: a module in a file of its own or where it is named, or an impl.
+OF_TESTS = re.compile(r"^#\[cfg\(test\)\]\nmod (\w+);\n|^\n#\[cfg\(test\)\]\n(?:mod (\w+)|impl[^\n]*) \{\n.*?^\}\n", re.M | re.S)
 # What replaces the end of a line inside of a text, so that no line of the text is taken for a blank one.
 LINE_OF_TEXT = "\0"
 
@@ -117,17 +117,19 @@ def crates_with_tests(root=ROOT):
 
 
 def leave_tests_out(copy):
-    """Takes the modules of tests that the root of a crate names, what only they use and their proofs out of the crates of a copy of the tree that hold
-    more than tests."""
+    """Takes the modules of tests with their proofs, and what only they use, out of the crates of a copy of the tree that hold more than tests."""
     for name in crates_with_tests(copy):
         crate = copy / "crates" / name
-        for root in filter(Path.is_file, (crate / "src/lib.rt", crate / "src/main.rt")):
-            text = root.read_text(encoding="utf-8")
-            for apart, end, inside in MODULE_OF_TESTS.findall(text):
-                shutil.rmtree(crate / "proofs" / (apart or inside), ignore_errors=True)
-                if end:
-                    (root.parent / f"{apart}.rt").unlink()
-            root.write_text(MODULE_OF_TESTS.sub("", text), encoding="utf-8")
+        for file in sorted((crate / "src").rglob("*.rt")):
+            text = file.read_text(encoding="utf-8") if file.exists() else ""
+            for apart, inside in OF_TESTS.findall(text):
+                if apart or inside:
+                    shutil.rmtree(crate / "proofs" / (apart or inside), ignore_errors=True)
+                if apart:
+                    (file.parent / f"{apart}.rt").unlink()
+            left = OF_TESTS.sub("", text)
+            if left != text:
+                file.write_text(left, encoding="utf-8")
 
 
 def end_on_signal(number, _frame):

@@ -31,13 +31,13 @@ ONLY = "the only one"
 # The clauses that give the cause of a refusal: by its type and its case, or by its type. The first one that a contract has is the one.
 CAUSES = {
     "AfterFault": ("fault", "back"), "AllocError": ("memory",), "AppendFault.TooLarge": ("large",), "AppendFault": ("counted",),
-    "BlockFault": ("fault",), "BodyFault": ("refused",), "CompactionFault": ("counted",), "CopyFault": ("unreachable",), "FieldFault": (ONLY,),
+    "BlockFault": ("fault",), "BodyFault": ("refused",), "CompactionFault": ("counted",), "FieldFault": (ONLY,),
     "FrontFault": ("left", "failed", ONLY), "HeadFault.Denied": ("denied",), "HeaderFault.Form": ("form",), "HeaderFault.Scheme": ("scheme",),
-    "HeaderFault.Twice": ("twice",), "KeysFault.Last": ("last",), "Link": ("between",), "LogFault": ("counted",), "MapFault": ("refused",),
+    "HeaderFault.Twice": ("twice",), "KeysFault.Last": ("last",), "Link": ("between",), "MapFault": ("refused",),
     "MeetFault": ("fault",), "Missed": ("told",), "MoveFault": ("none",), "NameFault": (ONLY,), "NoReplica": ("unanswered", "same"),
     "None": ("valid", "complete"), "Over": ("ended",), "PairsFault.NotFirst": ("not_first", "refused"), "PairsFault.Twice": ("twice", "refused"),
-    "PutFault": ("counted",), "ReadFault": ("unreachable",), "RecordFault": ("exact",), "RepairFault.NoSuchExtent": ("refused",),
-    "RepairFault": ("faulty", "counted"), "RotateFault": ("refused",), "SecretFault": ("refused",), "SettleFault": ("counted",),
+    "ReadFault": ("unreachable",), "RecordFault": ("exact",), "RepairFault.NoSuchExtent": ("refused",),
+    "RepairFault": ("faulty", "counted"), "RotateFault": ("refused",), "SecretFault": ("refused",),
     "SplitError": ("fault",), "SplitFault": ("fault",), "StepFault.NoSuchExtent": (), "StepFault": ("taken", "ran"), "StoredFault": ("counted",), "TakeFault": ("counted",),
     "TendFault.Repair(NoSuchExtent)": (), "TendFault": (ONLY,), "TimeFault.Form": ("form",), "TimeFault.Range": ("range",),
     "TokenFault": ("refused",), "Unreachable": ("unreachable",), "Unrepaired.NoSuchExtent": ("refused",), "Unrepaired": ("counted",),
@@ -131,8 +131,9 @@ def kind_of(name, file):
     """The type that a source file calls so, if it is a public type of the repository. The same name may be another type in another crate."""
     *path, name = name.split("::")
     crate = path[0] if path else taken_by(file).get(name, "crate")
-    # A type of stamp_values may be taken from stamp_types.
-    homes = {"crate": [crate_of(file)], "stamp_types": ["stamp_types", "stamp_values"]}.get(crate, [crate])
+    # A type may be taken from a crate that passes it on: those of stamp_values from stamp_types, and faults of streams from stored_rows.
+    passed_on = {"stamp_types": ["stamp_values"], "stored_rows": ["stream_manager", "partition_stream"]}
+    homes = [crate_of(file)] if crate == "crate" else [crate, *passed_on.get(crate, [])]
     return next((kinds()[it, name] for it in homes if (it, name) in kinds()), None)
 
 

@@ -18,7 +18,7 @@ use Rattle.access_rules.specs.declared.keys.Keys.{Keys}
 use Rattle.access_rules.specs.declared.needs.Letter.{Letter}
 use Rattle.access_rules.specs.Needs.{need_of}
 use Rattle.access_rules.specs.Parts.{keys_for, is_signed}
-use Rattle.access_rules.specs.Rules.{first_rule, some_passes}
+use Rattle.access_rules.specs.Rules.{first_rule, on_token, some_passes, token_asked}
 use Rattle.access_rules.specs.TokenParts.{token_in, is_named, names_resource, text_of, given_once, allows}
 use Rattle.access_rules.specs.TokenRoute.{rule_of_given, token_rule}
 
@@ -159,3 +159,7 @@ pub first_token_rule : (keys : Option Keys) (acl : Option Acl) (q : Ask) (t : �
 first_token_rule keys acl q t is =
     subst (λ (c : Credential). first_rule keys acl (record q { credential = c }) t ≡ token_rule keys acl q t (token_in q)) (sym is)
     (first_of_route keys acl q t ∙ route_is keys acl q t (token_in q))
+
+-- the token by which a request asks is the token that its query is, if it asks by a token
+pub asked_by_token : (q : Ask) → q.credential ≡ Token → token_asked q ≡ token_in q
+asked_by_token q is = ap (λ (c : Credential). cond (on_token c) (token_in q) None) is

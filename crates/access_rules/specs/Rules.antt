@@ -1,7 +1,7 @@
 -- The rules of permission, each by itself, and the first rule that holds (Blob service REST reference, 2012-02-12,
 -- Authentication for the Azure Storage Services; Delegating Access with a Shared Access Signature; Set Container ACL). Which rules
 -- there are, and their order, is the stamp's own.
-use Rattle.std.specs.Prelude.{ℕ, Bool, true, false, not, ◌&&◌, ◌||◌, List, [], ◌∷◌, Option, Some, None, is_none, is_some, nat_le, nat_lt, bytes_eq, find}
+use Rattle.std.specs.Prelude.{ℕ, Bool, true, false, cond, not, ◌&&◌, ◌||◌, List, [], ◌∷◌, Option, Some, None, is_none, is_some, nat_le, nat_lt, bytes_eq, find}
 use Rattle.stamp_values.specs.declared.level.Level.{Level}
 use Rattle.stamp_values.specs.declared.acl.Acl.{Acl}
 use Rattle.stamp_values.specs.declared.signing.Credential.{Credential}
@@ -33,6 +33,10 @@ abbrev pub on_token : Credential → Bool
 on_token (credential.Shared values) = false
 on_token credential.Token = true
 on_token credential.Anonymous = false
+
+-- the token by which the request asks: nothing, if it asks by another route, or if its query is not a token
+abbrev pub token_asked : Ask → Option Sent
+token_asked q = cond (on_token q.credential) (token_in q) None
 
 -- the request asks by public access
 abbrev pub on_public : Credential → Bool

@@ -2,15 +2,17 @@
 ghost use Rattle.std.specs.Prelude.{◌≡◌, ℕ, IfOk, IsErr, IsTrue, Option, option_copied};
 ghost use Rattle.stamp_values.specs.declared.signing.Credential.TheVariants as credential;
 ghost use Rattle.access_rules.specs.declared.keys.Keys.{Keys};
-ghost use Rattle.access_rules.specs.Rules.{has_false_signature, needs_signature, verdict_of};
+ghost use Rattle.access_rules.specs.Rules.{has_false_signature, needs_signature, token_asked, verdict_of};
 ghost use Rattle.access_rules.specs.Signatures.{has_true_signature};
 
 use crate::judgement::{Verdict, Way};
 use crate::key_route::{by_judged_key, by_key};
 use crate::keys::Keys;
 use crate::needs::need_of;
+use crate::token_parts::token_asked;
 use crate::token_route::{by_judged_token, by_token};
 use container_acl::permits;
+use sas_token::Token;
 use stamp_types::{Acl, Ask, Credential, Moment, Request, Rule};
 use std::alloc::{AllocError, Global};
 
@@ -61,22 +63,26 @@ pub fn verdict(
 }
 
 /// The verdict on a request whose signature was judged before, under the same keys: `is_false` is what `has_false_signature`
-/// answers. The answer is the verdict that `verdict` gives. The call takes no memory.
+/// answers, and `token` what `token_asked` answers. The answer is the verdict that `verdict` gives. The call takes no memory, and does not
+/// look at the query.
+#[tactic(auto, using(crate::proofs::TokenLemmas::asked_by_token))]
 pub fn verdict_judged(
     keys: Option<&Keys>,
     acl: Option<&Acl>,
     request: &Request,
+    token: Option<&Token<'_>>,
     now: Moment,
     is_false: bool,
 ) -> Verdict
-    requires { is_false ≡ has_false_signature (option_copied keys) request.now.ask }
+    requires token { option_copied token ≡ token_asked request.now.ask }
+    requires judged { is_false ≡ has_false_signature (option_copied keys) request.now.ask }
     ensures { result
         ≡ verdict_of (option_copied keys.entry) (option_copied acl.entry) request.now.ask now }
 {
     let ask = request.ask();
     match &ask.credential {
         Credential::Shared(values) => by_judged_key(keys, ask, values.as_slice(), now, is_false),
-        Credential::Token => by_judged_token(keys, acl, ask, now, is_false),
+        Credential::Token => by_judged_token(keys, acl, ask, token, now, is_false),
         Credential::Anonymous => by_public(acl, ask),
     }
 }
@@ -94,5 +100,6 @@ pub fn verdict_vouched(
     ensures { result
         ≡ verdict_of (option_copied keys.entry) (option_copied acl.entry) request.now.ask now }
 {
-    verdict_judged(keys, acl, request, now, false)
+    let token = token_asked(request.ask());
+    verdict_judged(keys, acl, request, token.as_ref(), now, false)
 }

@@ -30,9 +30,10 @@ pub use rotation::{KeysFault, Which};
 pub use rotation_laws::each_pair_has_its_place_as_epoch;
 pub use signatures::{
     a_true_signature_is_the_routes_own, has_false_signature, has_true_signature, is_true_signature,
-    signature_by,
+    signature_by, signature_with,
 };
 pub use string_laws::a_token_signs_what_no_key_signs;
 pub use token_laws::{
     a_token_has_one_time, each_letter_opens_what_it_names, no_token_reaches_a_container_itself,
 };
+pub use token_parts::token_asked;

@@ -4,13 +4,15 @@ ghost use Rattle.stamp_types.specs.declared.ask.Ask.{Ask};
 ghost use Rattle.access_rules.specs.declared.judgement.SignedBy.TheVariants.{Neither};
 ghost use Rattle.access_rules.specs.declared.keys.Keys.{Keys};
 ghost use Rattle.access_rules.specs.Parts.{is_by_either};
-ghost use Rattle.access_rules.specs.Rules.{has_false_signature, has_signature, some_passes};
+ghost use Rattle.access_rules.specs.Rules.{has_false_signature, has_signature, some_passes, token_asked};
 ghost use Rattle.access_rules.specs.Signatures.{has_true_signature, signed_by, IsSigned};
 
 use crate::judgement::SignedBy;
 use crate::key_route::signer_of_claim;
 use crate::keys::Keys;
+use crate::token_parts::token_asked;
 use crate::token_route::signer_of_token;
+use sas_token::Token;
 use stamp_types::{Ask, Credential, Request};
 use std::alloc::{AllocError, Global};
 
@@ -22,7 +24,6 @@ use std::alloc::{AllocError, Global};
 /// for once the head is read, and before a lock is taken.
 ///
 /// `AllocError` if memory runs out for the string to sign or for a signature.
-#[tactic(auto, using(crate::proofs::SignerLemmas::named_signer))]
 pub fn signature_by(
     alloc: Global,
     keys: Option<&Keys>,
@@ -36,9 +37,32 @@ pub fn signature_by(
         unwrap_or it Neither ≡ signed_by (option_copied keys.entry) ask.now) }
     ensures memory { IsErr result → IsTrue (has_signature (option_copied keys.entry) ask.now) }
 {
+    let token = token_asked(ask);
+    signature_with(alloc, keys, ask, token.as_ref())
+}
+
+/// What `signature_by` answers, if the token was read before: `token` is what `token_asked` answers.
+///
+/// `AllocError` if memory runs out for the string to sign or for a signature.
+#[tactic(auto, using(crate::proofs::SignerLemmas::named_signer, crate::proofs::TokenLemmas::asked_by_token))]
+pub fn signature_with(
+    alloc: Global,
+    keys: Option<&Keys>,
+    ask: &Ask,
+    token: Option<&Token<'_>>,
+) -> Result<Option<SignedBy>, AllocError>
+    requires { option_copied token ≡ token_asked ask.now }
+    ensures true_one { IfOk result (λ it.
+        some_passes is_by_either it ≡ has_true_signature (option_copied keys.entry) ask.now) }
+    ensures false_one { IfOk result (λ it. some_passes (λ by. not (is_by_either by)) it
+        ≡ has_false_signature (option_copied keys.entry) ask.now) }
+    ensures named { IfOk result (λ it.
+        unwrap_or it Neither ≡ signed_by (option_copied keys.entry) ask.now) }
+    ensures memory { IsErr result → IsTrue (has_signature (option_copied keys.entry) ask.now) }
+{
     match &ask.credential {
         Credential::Shared(values) => signer_of_claim(alloc, keys, ask, values.as_slice()),
-        Credential::Token => signer_of_token(alloc, keys, ask),
+        Credential::Token => signer_of_token(alloc, keys, ask, token),
         Credential::Anonymous => Ok(None),
     }
 }

@@ -1,6 +1,7 @@
 //! The parts of a request that the rules of the signature route judge.
 ghost use Rattle.std.specs.Prelude.{◌≡◌, IfOk, IsTrue};
 ghost use Rattle.access_rules.specs.Parts.{first_alone, is_by_either, is_by_first, is_signed};
+ghost use Rattle.access_rules.specs.Rules.{token_asked};
 ghost use Rattle.access_rules.specs.TokenParts as parts;
 
 use crate::judgement::SignedBy;
@@ -8,7 +9,7 @@ use crate::keys::Keys;
 use crate::needs::Letter;
 use crate::parts::signer;
 use sas_token::{Resource, Token, read_token, token_string};
-use stamp_types::{Ask, Letters, Text};
+use stamp_types::{Ask, Credential, Letters, Text};
 use std::alloc::{AllocError, Global};
 
 /// The token that the query of a request is, if the query is a token.
@@ -16,6 +17,19 @@ pub(crate) fn token_in(ask: &Ask) -> Option<Token<'_>>
     ensures { result ≡ parts.token_in ask.now }
 {
     read_token(&ask.signing.query).ok()
+}
+
+/// The token by which a request asks. `None` if it asks by another route, or if its query is not a token.
+///
+/// The call looks at the query only if the request asks by a token, and takes no memory. A caller that keeps the token reads it once, for the
+/// signature, for the verdict and for the headers that the token replaces.
+pub fn token_asked(ask: &Ask) -> Option<Token<'_>>
+    ensures { result ≡ token_asked ask.now }
+{
+    match &ask.credential {
+        Credential::Token => token_in(ask),
+        _ => None,
+    }
 }
 
 fn is_named(name: &Text) -> bool

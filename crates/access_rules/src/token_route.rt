@@ -72,20 +72,13 @@ fn rule_after_signature(
     }
 }
 
-// What is left to judge after the rules before the signature: the token, and the keys of the path's account.
-#[derive(Drop)]
-struct Brought<'a> {
-    token: Token<'a>,
-    pair: &'a Keys,
-}
-
-// The token and the keys, or the first rule of S1 to S3 that holds.
-fn before_signature<'a>(keys: Option<&'a Keys>, ask: &'a Ask) -> Result<Brought<'a>, Rule>
-    requires { ask.now.credential ≡ credential.Token }
-    ensures brought { IfOk result (λ left.
-        (parts.token_in ask.now ≡ Some left.token)
-        × (keys_for (option_copied keys.entry) ask.now.key.account ≡ Some left.pair.now)
-        × (parts.names_resource ask.now left.token.resource ≡ true)) }
+// The keys of the path's account, or the rule of S2 and S3 that holds of the token first.
+fn pair_for<'a>(keys: Option<&'a Keys>, ask: &Ask, token: &Token<'_>) -> Result<&'a Keys, Rule>
+    requires asks { ask.now.credential ≡ credential.Token }
+    requires token { parts.token_in ask.now ≡ Some token.now }
+    ensures known { IfOk result (λ pair.
+        (keys_for (option_copied keys.entry) ask.now.key.account ≡ Some pair.now)
+        × (parts.names_resource ask.now token.now.resource ≡ true)) }
     ensures refused { IfErr result (λ rule. (acl : Option Acl) (t : ℕ)
         → route.token_rule (option_copied keys.entry) acl ask.now t (parts.token_in ask.now)
         ≡ Some rule) }
@@ -94,19 +87,16 @@ fn before_signature<'a>(keys: Option<&'a Keys>, ask: &'a Ask) -> Result<Brought<
         × (has_false_token (option_copied keys.entry) ask.now ≡ false)
         × (has_true_token (option_map first_alone (option_copied keys.entry)) ask.now ≡ false) }
 {
-    let Some(token) = token_in(ask) else {
-        return Err(Rule::S1);
-    };
     let Some(pair) = keys_for(keys, &ask.key.account) else {
         return Err(Rule::S2);
     };
     if !names_resource(ask, token.resource) {
         return Err(Rule::S3);
     }
-    Ok(Brought { token, pair })
+    Ok(pair)
 }
 
-/// The key of the two that gives the signature of the request's token. `None` if one of the rules S1 to S3 holds.
+/// The key of the two that gives the signature of the request's token, which was read before. `None` if one of the rules S1 to S3 holds.
 ///
 /// `AllocError` if memory runs out for the string to sign or for a signature.
 #[tactic(auto, using(crate::proofs::SignerLemmas::first_for))]
@@ -114,8 +104,10 @@ pub(crate) fn signer_of_token(
     alloc: Global,
     keys: Option<&Keys>,
     ask: &Ask,
+    token: Option<&Token<'_>>,
 ) -> Result<Option<SignedBy>, AllocError>
-    requires { ask.now.credential ≡ credential.Token }
+    requires asks { ask.now.credential ≡ credential.Token }
+    requires token { option_copied token ≡ parts.token_in ask.now }
     ensures true_one { IfOk result (λ it.
         some_passes is_by_either it ≡ has_true_token (option_copied keys.entry) ask.now) }
     ensures false_one { IfOk result (λ it.
@@ -125,10 +117,13 @@ pub(crate) fn signer_of_token(
         ≡ has_true_token (option_map first_alone (option_copied keys.entry)) ask.now) }
     ensures memory { IsErr result → IsTrue (has_signature (option_copied keys.entry) ask.now) }
 {
-    let Ok(left) = before_signature(keys, ask) else {
+    let Some(token) = token else {
         return Ok(None);
     };
-    let by = token_signer(alloc, left.pair, ask, &left.token)?;
+    let Ok(pair) = pair_for(keys, ask, token) else {
+        return Ok(None);
+    };
+    let by = token_signer(alloc, pair, ask, token)?;
     Ok(Some(by))
 }
 
@@ -162,29 +157,37 @@ fn rule_by_token(
         (option_copied acl.entry) ask.now now (parts.token_in ask.now)) }
     ensures memory { IsErr result → IsTrue (needs_signature (option_copied keys.entry) ask.now now) }
 {
-    let left = match before_signature(keys, ask) {
-        Ok(left) => left,
+    let Some(token) = token_in(ask) else {
+        return Ok(Some(Rule::S1));
+    };
+    let pair = match pair_for(keys, ask, &token) {
+        Ok(pair) => pair,
         Err(rule) => return Ok(Some(rule)),
     };
-    let by = token_signer(alloc, left.pair, ask, &left.token)?;
-    Ok(rule_from_signature(acl, ask, &left.token, now, is_false(by)))
+    let by = token_signer(alloc, pair, ask, &token)?;
+    Ok(rule_from_signature(acl, ask, &token, now, is_false(by)))
 }
 
-// The same, if it is known whether the signature is false.
+// The same, if the token was read before, and it is known whether the signature is false.
 fn rule_by_judged_token(
     keys: Option<&Keys>,
     acl: Option<&Acl>,
     ask: &Ask,
+    token: Option<&Token<'_>>,
     now: Moment,
     is_false: bool,
 ) -> Option<Rule>
     requires asks { ask.now.credential ≡ credential.Token }
+    requires token { option_copied token ≡ parts.token_in ask.now }
     requires judged { is_false ≡ has_false_signature (option_copied keys) ask.now }
     ensures { result ≡ route.token_rule (option_copied keys.entry)
         (option_copied acl.entry) ask.now now (parts.token_in ask.now) }
 {
-    match before_signature(keys, ask) {
-        Ok(left) => rule_from_signature(acl, ask, &left.token, now, is_false),
+    let Some(token) = token else {
+        return Some(Rule::S1);
+    };
+    match pair_for(keys, ask, token) {
+        Ok(_pair) => rule_from_signature(acl, ask, token, now, is_false),
         Err(rule) => Some(rule),
     }
 }
@@ -219,18 +222,20 @@ pub(crate) fn by_token(
     Ok(token_verdict(rule))
 }
 
-/// The verdict on a request that asks by a token, if it is known whether its signature is false.
+/// The verdict on a request that asks by a token, if the token was read before, and it is known whether its signature is false.
 #[tactic(auto, using(crate::proofs::TokenLemmas::first_token_rule))]
 pub(crate) fn by_judged_token(
     keys: Option<&Keys>,
     acl: Option<&Acl>,
     ask: &Ask,
+    token: Option<&Token<'_>>,
     now: Moment,
     is_false: bool,
 ) -> Verdict
     requires asks { ask.now.credential ≡ credential.Token }
+    requires token { option_copied token ≡ parts.token_in ask.now }
     requires judged { is_false ≡ has_false_signature (option_copied keys) ask.now }
     ensures { result ≡ verdict_of (option_copied keys.entry) (option_copied acl.entry) ask.now now }
 {
-    token_verdict(rule_by_judged_token(keys, acl, ask, now, is_false))
+    token_verdict(rule_by_judged_token(keys, acl, ask, token, now, is_false))
 }

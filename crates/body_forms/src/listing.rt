@@ -99,6 +99,26 @@ fn text_of(
 }
 
 impl Listing {
+    // The page with these entries that a request asks for.
+    fn of(
+        alloc: Global,
+        request: &Request,
+        entries: Entries,
+        next: Option<&[u8]>,
+    ) -> Result<Self, AllocError>
+        requires { lists_names request.now.ask.op ≡ true }
+        ensures { IfOk result (λ listing. listing
+            ≡ drafts.page_told request.now entries (option_map (λ t. t.now) next.entry)) }
+    {
+        let next = marker_of(alloc, next)?;
+        let request = request.clone()?;
+        Ok(Self {
+            request,
+            entries,
+            next,
+        })
+    }
+
     /// The page of these blobs and groups that a request asks for. `next` is the marker with which the list goes on, or `None` if this page ends it.
     ///
     /// `AllocError` if memory runs out for the marker, or if the request can have no further owner.
@@ -112,13 +132,7 @@ impl Listing {
         ensures { IfOk result (λ listing. listing
             ≡ drafts.blobs_reply (drafts.page_asked request.now) entries.items (option_map (λ t. t.now) next.entry)) }
     {
-        let next = marker_of(alloc, next)?;
-        let request = request.clone()?;
-        Ok(Self {
-            request,
-            entries: Entries::Blobs(Items::new(entries)),
-            next,
-        })
+        Self::of(alloc, request, Entries::Blobs(Items::new(entries)), next)
     }
 
     /// The page of these containers that a request asks for, as `of_blobs` gives a page of blobs.
@@ -134,13 +148,12 @@ impl Listing {
         ensures { IfOk result (λ listing. listing
             ≡ drafts.containers_reply (drafts.page_asked request.now) entries.items (option_map (λ t. t.now) next.entry)) }
     {
-        let next = marker_of(alloc, next)?;
-        let request = request.clone()?;
-        Ok(Self {
+        Self::of(
+            alloc,
             request,
-            entries: Entries::Containers(Items::new(entries)),
+            Entries::Containers(Items::new(entries)),
             next,
-        })
+        )
     }
 
     /// Writes the text of the reply. Takes time and memory with the text.

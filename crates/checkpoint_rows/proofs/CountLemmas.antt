@@ -2,9 +2,9 @@
 use Rattle.std.proofs.Common.{inl, inr, Result, Ok, Err, arith}
 use Rattle.extent_node.specs.Faults.{Calls, Counts}
 use Rattle.extent_seal.specs.Counting.{Grows, GrowsEach}
+use Rattle.stream_manager.specs.declared.faults.StoredFault.{StoredFault}
+use Rattle.stream_manager.specs.declared.faults.StoredFault.TheVariants as stored_fault
 use Rattle.partition_stream.specs.Counting.{FailsPut}
-use Rattle.partition_stream.specs.declared.faults.PutFault.{PutFault}
-use Rattle.partition_stream.specs.declared.faults.PutFault.TheVariants as put_fault
 
 each_twice : (a b c : Counts) → GrowsEach a b → GrowsEach b c → GrowsEach a c
 each_twice a b c g f = (omega (arith, g, f), omega (arith, g, f), omega (arith, g, f))
@@ -18,9 +18,9 @@ pub grows_none : (a : Calls) → Grows a a
 grows_none a = ((omega arith, omega arith, omega arith), (omega arith, omega arith, omega arith))
 
 -- the faults of a call, after those of the calls before it
-pub put_later : {T : Type 0} (r : Result T PutFault) (a b c : Calls) → Grows a b → FailsPut r b c → FailsPut r a c
+pub put_later : {T : Type 0} (r : Result T StoredFault) (a b c : Calls) → Grows a b → FailsPut r b c → FailsPut r a c
 put_later (Ok u) a b c g f = grows_twice a b c g f
-put_later (Err put_fault.Busy) a b c g (inl f) =
+put_later (Err stored_fault.Busy) a b c g (inl f) =
     inl (each_twice a.puts b.puts c.puts g.0 f.0, omega (arith, g, f), omega (arith, g, f), omega (arith, g, f))
-put_later (Err put_fault.Busy) a b c g (inr f) = inr (omega (arith, g, f), grows_twice a b c g f.1)
-put_later (Err put_fault.NoMemory) a b c g f = grows_twice a b c g f
+put_later (Err stored_fault.Busy) a b c g (inr f) = inr (omega (arith, g, f), grows_twice a b c g f.1)
+put_later (Err stored_fault.NoMemory) a b c g f = grows_twice a b c g f

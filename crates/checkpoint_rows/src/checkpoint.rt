@@ -13,10 +13,11 @@ ghost use Rattle.checkpoint_rows.specs.Writing.{AreReadyParts, AreWritable, HasR
 
 use crate::writing::add_containers;
 use extent_node::Wire;
-use partition_stream::{NewRows, PutFault, Replaced, Streams};
+use partition_stream::{NewRows, Replaced, Streams};
 use row_trees::{ContainerWalk, Rows};
 use stamp_types::{Key, Text};
 use std::alloc::Global;
+use stream_manager::StoredFault;
 
 // A walk over all containers.
 fn all_containers(alloc: Global, rows: &Rows) -> ContainerWalk<'_>
@@ -35,7 +36,7 @@ fn write_rows<W: Wire>(
     new: &mut NewRows,
     rows: &Rows,
     wire: &mut W,
-) -> Result<(), PutFault>
+) -> Result<(), StoredFault>
     requires whole { new.old.last.tried ≡ None }
     requires ready { AreReadyParts (entries rows.now) }
     ensures written { OnOk result (HasRows new.old (all_records (entries rows.now)) new.new) }
@@ -59,7 +60,7 @@ pub fn checkpoint_rows<W: Wire>(
     rows: &Rows,
     extent_bytes: u32,
     wire: &mut W,
-) -> Result<Replaced, PutFault>
+) -> Result<Replaced, StoredFault>
     requires sure { (logged streams.old).doubt ≡ None }
     requires writable { AreWritable rows.now }
     requires stored { EachWorldContent (AreStored (laid streams.old.blobs)) rows.now }

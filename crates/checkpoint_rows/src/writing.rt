@@ -9,10 +9,11 @@ ghost use Rattle.checkpoint_rows.specs.Writing.{AreReady, AreReadyParts, HasGood
 
 use crate::row_records::{blob_row, container_row};
 use extent_node::Wire;
-use partition_stream::{NewRows, PutFault};
+use partition_stream::NewRows;
 use row_trees::{BlobWalk, ContainerWalk, Found, FoundBlob};
 use stamp_types::Key;
 use std::alloc::Global;
+use stream_manager::StoredFault;
 
 // Writes the row of a blob.
 fn add_blob<W: Wire>(
@@ -22,7 +23,7 @@ fn add_blob<W: Wire>(
     name: &[u8],
     blob: &FoundBlob<'_>,
     wire: &mut W,
-) -> Result<(), PutFault>
+) -> Result<(), StoredFault>
     requires whole { new.old.last.tried ≡ None }
     requires writable { IsWritableBlob key.now name.now blob.now }
     requires placed { IsPlacedRow (name.now, blob.now) }
@@ -41,7 +42,7 @@ fn add_blobs<W: Wire>(
     key: &Key,
     blobs: BlobWalk<'_>,
     wire: &mut W,
-) -> Result<(), PutFault>
+) -> Result<(), StoredFault>
     requires whole { new.old.last.tried ≡ None }
     requires ready { AreReady key.now blobs }
     ensures written { OnOk result (HasRows new.old (map (recorded key.now) (map blob_row_of blobs.entry)) new.new) }
@@ -61,7 +62,7 @@ fn add_container_row<W: Wire>(
     key: &Key,
     found: &Found<'_>,
     wire: &mut W,
-) -> Result<(), PutFault>
+) -> Result<(), StoredFault>
     requires whole { new.old.last.tried ≡ None }
     requires named { HasGoodNames key.now }
     requires seen { 1 ≤ found.now.count }
@@ -80,7 +81,7 @@ fn add_own<W: Wire>(
     key: &Key,
     found: &Found<'_>,
     wire: &mut W,
-) -> Result<(), PutFault>
+) -> Result<(), StoredFault>
     requires whole { new.old.last.tried ≡ None }
     requires writable { IsWritable key.now found.now }
     ensures written { OnOk result (HasRows new.old (map (recorded key.now) (own_acts found.now)) new.new) }
@@ -108,7 +109,7 @@ fn add_container<W: Wire>(
     key: &Key,
     found: &Found<'_>,
     wire: &mut W,
-) -> Result<(), PutFault>
+) -> Result<(), StoredFault>
     requires whole { new.old.last.tried ≡ None }
     requires writable { IsWritable key.now found.now }
     requires ready { AreReady key.now (entries found.now.blobs) }
@@ -128,7 +129,7 @@ pub(crate) fn add_containers<W: Wire>(
     new: &mut NewRows,
     containers: ContainerWalk<'_>,
     wire: &mut W,
-) -> Result<(), PutFault>
+) -> Result<(), StoredFault>
     requires whole { new.old.last.tried ≡ None }
     requires ready { AreReadyParts containers }
     ensures written { OnOk result (HasRows new.old (all_records containers.entry) new.new) }

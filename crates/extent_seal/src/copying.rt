@@ -9,26 +9,6 @@ ghost use Rattle.extent_seal.specs.Repairs.{CountsCalls, CountsCallsUpTo};
 use extent_node::{Node, Replica, Wire};
 use std::alloc::{AllocError, Global};
 
-/// Why a node did not get a copy of an extent.
-#[derive(Clone, Copy, Debug, PartialEq, Eq)]
-pub enum CopyFault {
-    /// Each node with a copy was asked and answered no, or a block was put to the node and the delivery was not Done.
-    Unreachable,
-    /// Memory ran out before a node was called.
-    NoMemory,
-}
-
-impl From<AllocError> for CopyFault {
-    ghost use Rattle.std.specs.Prelude.{◌≡◌};
-    ghost use Rattle.extent_seal.specs.declared.copying.CopyFault.TheVariants.{NoMemory};
-
-    ghost from_gives = { λ _ e. e ≡ NoMemory };
-
-    fn from(_error: AllocError) -> Self {
-        Self::NoMemory
-    }
-}
-
 /// A replica with the same blocks. No byte is copied.
 #[tactic(auto, using(crate::proofs::RepairLemmas::take_next))]
 pub(crate) fn copy_of(replica: &Replica, alloc: Global) -> Result<Replica, AllocError>

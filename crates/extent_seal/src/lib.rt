@@ -9,7 +9,6 @@ mod repair;
 mod sealed;
 mod shares;
 
-pub use copying::CopyFault;
 pub use laws::replicas_hold_prefixes;
 pub use open_extent::{Appended, NoReplica, OpenExtent};
 pub use sealed::{ReadFault, Sealed};

@@ -1,8 +1,8 @@
 //! The repair of a sealed extent: a node that has no copy gets the whole extent.
 ghost use Rattle.std.specs.Prelude.{◌≡◌};
 
-use crate::copying::{CopyFault, answers, copy_if, copy_of, put_all};
-use crate::sealed::Sealed;
+use crate::copying::{answers, copy_if, copy_of, put_all};
+use crate::sealed::{ReadFault, Sealed};
 use extent_node::{Node, Replica, Wire};
 use std::alloc::{AllocError, Global};
 
@@ -12,7 +12,7 @@ impl Sealed {
     ghost use Rattle.extent_seal.specs.Counting.{AsksCopies, FailsCopies, Grows, GrowsEach, all_faults, all_nodes};
     ghost use Rattle.extent_seal.specs.Extents.{answer_of};
     ghost use Rattle.extent_seal.specs.Repairs.{Copies, FailsToCopy, FirstAnswers, with_copy};
-    ghost use Rattle.extent_seal.specs.declared.copying.CopyFault.TheVariants.{NoMemory, Unreachable};
+    ghost use Rattle.extent_seal.specs.declared.sealed.ReadFault.TheVariants.{NoMemory, Unreachable};
 
     // Whether a node with a copy answers. These nodes are asked in the order 0, 1, 2 until one of them answers yes.
     fn is_reached<W: Wire>(&self, wire: &mut W) -> bool
@@ -82,7 +82,7 @@ impl Sealed {
         node: Node,
         alloc: Global,
         wire: &mut W,
-    ) -> Result<(), CopyFault>
+    ) -> Result<(), ReadFault>
         ensures repaired { OnOk result (self.new ≡ with_copy node self.old) }
         ensures same { OnErr result (self.new ≡ self.old) }
         ensures lacking { OnErr result (answer_of self.old.kept node ≡ false) }
@@ -98,7 +98,7 @@ impl Sealed {
         }
         let replica = self.copied(alloc)?;
         if !self.is_put(node, wire) {
-            return Err(CopyFault::Unreachable);
+            return Err(ReadFault::Unreachable);
         }
         self.keep(node, replica);
         Ok(())

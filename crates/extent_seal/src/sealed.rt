@@ -8,15 +8,27 @@ ghost use Rattle.extent_seal.specs.declared.sealed.ReadFault.TheVariants.{Unreac
 
 use extent_node::{Node, Replica, Wire};
 use stamp_values::Share;
+use std::alloc::AllocError;
 use std::marker::Model;
 
-/// Why a block was not read.
-#[derive(Clone, Copy)]
+/// Why a block was not read, or a node did not get a copy of an extent.
+#[derive(Clone, Copy, Debug, PartialEq, Eq)]
 pub enum ReadFault {
-    /// Every node with a copy was asked, and each answered no.
+    /// Every node with a copy was asked, and each answered no; or a block was put to the node that lacks a copy, and the delivery was not Done.
     Unreachable,
-    /// The block cannot have another owner.
+    /// Memory ran out, or the block cannot have another owner.
     NoMemory,
+}
+
+impl From<AllocError> for ReadFault {
+    ghost use Rattle.std.specs.Prelude.{◌≡◌};
+    ghost use Rattle.extent_seal.specs.declared.sealed.ReadFault.TheVariants.{NoMemory};
+
+    ghost from_gives = { λ _ e. e ≡ NoMemory };
+
+    fn from(_error: AllocError) -> Self {
+        Self::NoMemory
+    }
 }
 
 /// An extent that takes no more blocks: the replicas of the nodes that answered when it was sealed (SOSP 2011, section 4.3.2).

@@ -33,10 +33,14 @@ listed prefix delimiter names = each_once (filter_map (entry_of prefix delimiter
 abbrev pub from_marker : {X : Type 0} → List ℕ → List (Entry X) → List (Entry X)
 from_marker marker entries = filter (λ entry. is_name_from marker entry.0) entries
 
--- a page of a list, and the text of the first entry that it leaves out, if it leaves an entry out
-pub record PageOf (X : Type 0) : Type 0 where
-  pub entries : List (Entry X)
+-- a page whose entries have this type, and the text of the first entry that it leaves out, if it leaves an entry out
+pub record PageWith (E : Type 0) : Type 0 where
+  pub entries : List E
   pub next : Option (List ℕ)
+
+-- a page of a list
+abbrev pub PageOf : Type 0 → Type 0
+PageOf X = PageWith (Entry X)
 
 -- the first `max` entries
 abbrev pub page : {X : Type 0} → ℕ → List (Entry X) → PageOf X

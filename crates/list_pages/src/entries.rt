@@ -19,19 +19,24 @@ pub(crate) fn listed_blob<'a>(blob: &FoundBlob<'a>) -> Option<LentBlob<'a>>
     }
 }
 
-/// A page of a list of blobs. It lends its marker from the rows.
+/// A page of a list, with its entries in the order of their texts. It lends its marker from the rows or from the bound.
 #[derive(Drop)]
-pub struct BlobPage<'a> {
-    entries: Vec<BlobEntry>,
+pub struct ListPage<'a, E> {
+    entries: Vec<E>,
     next: Option<&'a [u8]>,
 }
 
-impl<'a> Model for BlobPage<'a> {
-    ghost use Rattle.std.specs.Option.{option_map};
-    ghost use Rattle.body_forms.specs.ListEntries.{ShownBlob};
-    ghost use Rattle.list_pages.specs.Pages.{PageOf};
+/// A page of a list of blobs.
+pub type BlobPage<'a> = ListPage<'a, BlobEntry>;
 
-    ghost Value = { PageOf ShownBlob };
+/// A page of a list of containers.
+pub type ContainerPage<'a> = ListPage<'a, ContainerEntry>;
+
+impl<'a, E> Model for ListPage<'a, E> {
+    ghost use Rattle.std.specs.Option.{option_map};
+    ghost use Rattle.list_pages.specs.Pages.{PageWith};
+
+    ghost Value = { PageWith E };
 
     ghost view = { λ p. record {
       entries = p.entries.items;
@@ -39,8 +44,8 @@ impl<'a> Model for BlobPage<'a> {
     } };
 }
 
-impl<'a> BlobPage<'a> {
-    pub(crate) fn new(entries: Vec<BlobEntry>, next: Option<&'a [u8]>) -> Self
+impl<'a, E> ListPage<'a, E> {
+    pub(crate) fn new(entries: Vec<E>, next: Option<&'a [u8]>) -> Self
         ensures entries { result.entries ≡ entries.items }
         ensures next { result.next ≡ option_map (λ t. t.now) next.entry }
     {
@@ -48,64 +53,14 @@ impl<'a> BlobPage<'a> {
     }
 
     /// The entries, in the order of their texts.
-    pub fn entries(&self) -> &[BlobEntry]
+    pub fn entries(&self) -> &[E]
         ensures { result.now ≡ self.now.entries }
     {
         &self.entries
     }
 
     /// The entries. They are moved.
-    pub(crate) fn into_entries(self) -> Vec<BlobEntry>
-        ensures { result.items ≡ self.entry.entries }
-    {
-        self.entries
-    }
-
-    /// The marker with which the list goes on, or `None` if this page ends it.
-    pub fn next_marker(&self) -> Option<&'a [u8]>
-        ensures { option_map (λ t. t.now) result ≡ self.now.next }
-    {
-        self.next
-    }
-}
-
-/// A page of a list of containers. It lends its marker from the rows or from the bound.
-#[derive(Drop)]
-pub struct ContainerPage<'a> {
-    entries: Vec<ContainerEntry>,
-    next: Option<&'a [u8]>,
-}
-
-impl<'a> Model for ContainerPage<'a> {
-    ghost use Rattle.std.specs.Option.{option_map};
-    ghost use Rattle.body_forms.specs.ListEntries.{ShownContainer};
-    ghost use Rattle.list_pages.specs.Pages.{PageOf};
-
-    ghost Value = { PageOf ShownContainer };
-
-    ghost view = { λ p. record {
-      entries = p.entries.items;
-      next = option_map (λ t. t.now) p.next;
-    } };
-}
-
-impl<'a> ContainerPage<'a> {
-    pub(crate) fn new(entries: Vec<ContainerEntry>, next: Option<&'a [u8]>) -> Self
-        ensures entries { result.entries ≡ entries.items }
-        ensures next { result.next ≡ option_map (λ t. t.now) next.entry }
-    {
-        Self { entries, next }
-    }
-
-    /// The entries, in the order of their names.
-    pub fn entries(&self) -> &[ContainerEntry]
-        ensures { result.now ≡ self.now.entries }
-    {
-        &self.entries
-    }
-
-    /// The entries. They are moved.
-    pub(crate) fn into_entries(self) -> Vec<ContainerEntry>
+    pub(crate) fn into_entries(self) -> Vec<E>
         ensures { result.items ≡ self.entry.entries }
     {
         self.entries

@@ -12,7 +12,7 @@ mod worked_pages;
 
 pub use blobs::blob_page;
 pub use containers::container_page;
-pub use entries::{BlobPage, ContainerPage};
+pub use entries::{BlobPage, ContainerPage, ListPage};
 pub use full_pages::a_page_with_a_next_marker_is_full;
 pub use laws::{
     a_page_has_each_name_that_it_reaches, a_page_is_in_order_and_in_bounds,

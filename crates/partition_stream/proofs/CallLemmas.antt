@@ -5,12 +5,10 @@ use Rattle.extent_node.specs.Faults.{Calls, Counts, CountsNone, one_more}
 use Rattle.extent_seal.specs.Counting.{CountsEach, Grows, GrowsEach}
 use Rattle.stream_manager.specs.Counting.{AsksAtMost, CallsAppend, CallsAtMost, CallsSeal, FailsAppend, FailsEachAtLeast, FailsPutsAtLeast, PutsAtMost, PutsOnceOrTwice, PutsTwice}
 use Rattle.stream_manager.specs.declared.faults.AppendFault.TheVariants as append_fault
-use Rattle.stream_manager.specs.declared.faults.SettleFault.{SettleFault}
-use Rattle.stream_manager.specs.declared.faults.SettleFault.TheVariants as settle_fault
+use Rattle.stream_manager.specs.declared.faults.StoredFault.{StoredFault}
+use Rattle.stream_manager.specs.declared.faults.StoredFault.TheVariants as stored_fault
 use Rattle.stream_manager.proofs.CountLemmas.{one_more_bound}
 use Rattle.partition_stream.specs.Counting.{CallsPut, CallsSeals, FailsPut}
-use Rattle.partition_stream.specs.declared.faults.PutFault.{PutFault}
-use Rattle.partition_stream.specs.declared.faults.PutFault.TheVariants as put_fault
 
 -- nothing was counted
 none_counted : (old new : Calls) → new ≡ old → CountsNone old.puts new.puts
@@ -30,11 +28,11 @@ each_asked more before after old new room each =
     (omega (arith, room, each, one_more_bound old.zero), omega (arith, room, each, one_more_bound old.one), omega (arith, room, each, one_more_bound old.two))
 
 -- the calls of a seal of one stream, for each extent that was sealed
-pub seal_calls : (r : Result (Unit {0}) SettleFault) (before after : ℕ) (old new : Calls) → CallsSeal r before after old new → CallsSeals r before after old new
+pub seal_calls : (r : Result (Unit {0}) StoredFault) (before after : ℕ) (old new : Calls) → CallsSeal r before after old new → CallsSeals r before after old new
 seal_calls (Ok u) before after old new (inl h) = (none_counted old new h.1, none_asked before after old new h.0 h.1)
 seal_calls (Ok u) before after old new (inr h) = (h.1.0, each_asked 0 before after old.asks new.asks (omega (arith, h.0)) h.1.1)
-seal_calls (Err settle_fault.Busy) before after old new h = (h.1.0, each_asked 1 before after old.asks new.asks (omega (arith, h.0)) h.1.1)
-seal_calls (Err settle_fault.NoMemory) before after old new h = (none_counted old new h.1, none_asked before after old new h.0 h.1)
+seal_calls (Err stored_fault.Busy) before after old new h = (h.1.0, each_asked 1 before after old.asks new.asks (omega (arith, h.0)) h.1.1)
+seal_calls (Err stored_fault.NoMemory) before after old new h = (none_counted old new h.1, none_asked before after old new h.0 h.1)
 
 -- two puts to each node
 twice_put : (old new : Counts) → PutsTwice old new → PutsAtMost 2 old new
@@ -78,14 +76,14 @@ grown : (a b c : Counts) → GrowsEach a b → GrowsEach b c → GrowsEach a c
 grown a b c g f = (omega (arith, g, f), omega (arith, g, f), omega (arith, g, f))
 
 -- the calls of a put that failed, after those of the pieces before it
-pub failed_calls : (e : PutFault) (i n before m after : ℕ) (a b c : Calls) → i + 1 ≤ n → CallsAtMost (2 * i) 0 before m a b
+pub failed_calls : (e : StoredFault) (i n before m after : ℕ) (a b c : Calls) → i + 1 ≤ n → CallsAtMost (2 * i) 0 before m a b
     → CallsPut {T = Place} (Err e) 1 m after b c → CallsPut {T = Place} (Err e) n before after a c
-failed_calls put_fault.Busy i n before m after a b c l h f = more_calls 1 i n before m after a b c l h f
-failed_calls put_fault.NoMemory i n before m after a b c l h f = more_calls 0 i n before m after a b c l h f
+failed_calls stored_fault.Busy i n before m after a b c l h f = more_calls 1 i n before m after a b c l h f
+failed_calls stored_fault.NoMemory i n before m after a b c l h f = more_calls 0 i n before m after a b c l h f
 
 -- the faults of a put that failed, after those of the pieces before it
-pub failed_faults : (e : PutFault) (a b c : Calls) → Grows a b → FailsPut {T = Place} (Err e) b c → FailsPut {T = Place} (Err e) a c
-failed_faults put_fault.Busy a b c g (inl f) =
+pub failed_faults : (e : StoredFault) (a b c : Calls) → Grows a b → FailsPut {T = Place} (Err e) b c → FailsPut {T = Place} (Err e) a c
+failed_faults stored_fault.Busy a b c g (inl f) =
     inl (grown a.puts b.puts c.puts g.0 f.0, omega (arith, g, f), omega (arith, g, f), omega (arith, g, f))
-failed_faults put_fault.Busy a b c g (inr f) = inr (omega (arith, g, f), (grown a.puts b.puts c.puts g.0 f.1.0, grown a.asks b.asks c.asks g.1 f.1.1))
-failed_faults put_fault.NoMemory a b c g f = (grown a.puts b.puts c.puts g.0 f.0, grown a.asks b.asks c.asks g.1 f.1)
+failed_faults stored_fault.Busy a b c g (inr f) = inr (omega (arith, g, f), (grown a.puts b.puts c.puts g.0 f.1.0, grown a.asks b.asks c.asks g.1 f.1.1))
+failed_faults stored_fault.NoMemory a b c g f = (grown a.puts b.puts c.puts g.0 f.0, grown a.asks b.asks c.asks g.1 f.1)

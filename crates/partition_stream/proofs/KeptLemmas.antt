@@ -12,12 +12,12 @@ use Rattle.stream_manager.specs.Outcomes.{IsSettled, IsSealed}
 use Rattle.stream_manager.specs.Places.{block_at, blocks_of, is_kept, KeepsPlaces}
 use Rattle.stream_manager.specs.Streams.{Streamed, laid}
 use Rattle.stream_manager.specs.declared.faults.Settled.{Settled}
-use Rattle.stream_manager.specs.declared.faults.SettleFault.{SettleFault}
+use Rattle.stream_manager.specs.declared.faults.StoredFault.{StoredFault}
 use Rattle.partition_stream.specs.Changes.{changes_of}
 use Rattle.partition_stream.specs.Logging.{IsRecordAppended}
 use Rattle.partition_stream.specs.Storing.{IsRecord, IsStoredRecord, IsStoredChange, AreKept}
 use Rattle.partition_stream.specs.Streams.{ThreeStreams, logged}
-use Rattle.partition_stream.specs.declared.faults.LogFault.{LogFault}
+use Rattle.partition_stream.specs.declared.faults.TakeFault.{TakeFault}
 use Rattle.partition_stream.proofs.ContentLemmas.{change_stays}
 use Rattle.partition_stream.proofs.StreamLemmas.{Each, each_appended, each_sealed, each_settled, each_empty}
 
@@ -37,17 +37,17 @@ stored_record es block c epoch fits within bytes stored =
     record { change = c; epoch = epoch; fits = fits; within = within; bytes = second_version block c epoch bytes; stored = stored }
 
 -- a record was appended to the log
-pub kept_appended : (r : Result ℕ LogFault) (s : ThreeStreams) (log : Streamed) (block : Block)
+pub kept_appended : (r : Result ℕ TakeFault) (s : ThreeStreams) (log : Streamed) (block : Block)
     → AreKept s → IsStoredRecord (laid s.blobs) block → IsRecordAppended r s.log block log → AreKept (streams log s.blobs s.rows)
 kept_appended r s log block kept own h = with_log s log kept (each_appended (IsStoredRecord (laid s.blobs)) r s.log log block (log_each s kept) own h)
 
 -- the log was settled
-pub kept_settled : (r : Result Settled SettleFault) (s : ThreeStreams) (log : Streamed)
+pub kept_settled : (r : Result Settled StoredFault) (s : ThreeStreams) (log : Streamed)
     → AreKept s → IsSettled r (laid s.log) s.log.last (laid log) log.last → AreKept (streams log s.blobs s.rows)
 kept_settled r s log kept h = with_log s log kept (each_settled (IsStoredRecord (laid s.blobs)) r s.log log (log_each s kept) h)
 
 -- the log was sealed
-pub kept_log_sealed : (r : Result (Unit {0}) SettleFault) (s : ThreeStreams) (log : Streamed)
+pub kept_log_sealed : (r : Result (Unit {0}) StoredFault) (s : ThreeStreams) (log : Streamed)
     → AreKept s → IsSealed r (laid s.log) s.log.last (laid log) log.last → AreKept (streams log s.blobs s.rows)
 kept_log_sealed r s log kept h = with_log s log kept (each_sealed (IsStoredRecord (laid s.blobs)) r s.log log (log_each s kept) h)
 
@@ -67,7 +67,7 @@ kept_blobs s blobs kept keeps =
     }
 
 -- a seal of data
-pub blobs_sealed : (r : Result (Unit {0}) SettleFault) (s t : Streamed) → IsSealed r (laid s) s.last (laid t) t.last → KeepsPlaces (laid s) (laid t)
+pub blobs_sealed : (r : Result (Unit {0}) StoredFault) (s t : Streamed) → IsSealed r (laid s) s.last (laid t) t.last → KeepsPlaces (laid s) (laid t)
 blobs_sealed (Ok u) s t h = h.0.kept
 blobs_sealed (Err e) s t h = λ p b here. subst (λ es. block_at es p ≡ Some b) (sym h.0) here
 
@@ -79,21 +79,21 @@ held_none true = refl
 held_none false = refl
 
 -- the rows have the same blocks after a seal
-pub rows_sealed : (r : Result (Unit {0}) SettleFault) (s t : Streamed) → s.last.tried ≡ None → IsSealed r (laid s) s.last (laid t) t.last
+pub rows_sealed : (r : Result (Unit {0}) StoredFault) (s t : Streamed) → s.last.tried ≡ None → IsSealed r (laid s) s.last (laid t) t.last
     → (blocks_of (laid t) ≡ blocks_of (laid s)) × (t.last.tried ≡ None)
 rows_sealed (Ok u) s t none h =
     let nothing : held (is_kept (laid s) s.last (laid t)) s.last.tried ≡ [] = ap (held (is_kept (laid s) s.last (laid t))) none ∙ held_none (is_kept (laid s) s.last (laid t)) in
     (h.0.order ∙ ap (λ l. blocks_of (laid s) ++ l) nothing ∙ append-nil (blocks_of (laid s)), h.2)
 rows_sealed (Err e) s t none h = (ap blocks_of h.0, ap (λ last. last.tried) h.1 ∙ none)
 
-pub kept_rows_sealed : (r : Result (Unit {0}) SettleFault) (s : ThreeStreams) (rows : Streamed)
+pub kept_rows_sealed : (r : Result (Unit {0}) StoredFault) (s : ThreeStreams) (rows : Streamed)
     → AreKept s → IsSealed r (laid s.rows) s.rows.last (laid rows) rows.last → AreKept (streams s.log s.blobs rows)
 kept_rows_sealed r s rows kept h =
     let same = rows_sealed r s.rows rows kept.whole h in
     record { rows = subst (All (IsStoredRecord (laid s.blobs))) (sym same.0) kept.rows; whole = same.1; log = kept.log; doubt = kept.doubt }
 
 -- the rows are the same changes after a seal
-pub rows_stay : (r : Result (Unit {0}) SettleFault) (s : ThreeStreams) (rows : Streamed) → AreKept s → IsSealed r (laid s.rows) s.rows.last (laid rows) rows.last
+pub rows_stay : (r : Result (Unit {0}) StoredFault) (s : ThreeStreams) (rows : Streamed) → AreKept s → IsSealed r (laid s.rows) s.rows.last (laid rows) rows.last
     → changes_of (blocks_of (laid rows)) ≡ (logged s).rows
 rows_stay r s rows kept h = ap changes_of (rows_sealed r s.rows rows kept.whole h).0
 

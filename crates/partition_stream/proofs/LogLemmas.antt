@@ -8,14 +8,14 @@ use Rattle.stream_manager.specs.Places.{blocks_of, is_kept}
 use Rattle.stream_manager.specs.Streams.{Streamed, laid}
 use Rattle.stream_manager.specs.declared.faults.Settled.{Settled}
 use Rattle.stream_manager.specs.declared.faults.Settled.TheVariants as settled
-use Rattle.stream_manager.specs.declared.faults.SettleFault.{SettleFault}
+use Rattle.stream_manager.specs.declared.faults.StoredFault.{StoredFault}
 use Rattle.partition_stream.specs.Changes.{Recorded, change_in, changes_of}
 use Rattle.partition_stream.specs.Logging.{HasMore, IsRecordAppended}
 use Rattle.partition_stream.specs.Outcomes.{kept_doubt, Logs, IsKeptAt, IsLogged, IsLogSettled, IsLogSealed}
 use Rattle.partition_stream.specs.Storing.{IsRecord}
 use Rattle.partition_stream.specs.Streams.{ThreeStreams, logged}
-use Rattle.partition_stream.specs.declared.faults.LogFault.{LogFault}
-use Rattle.partition_stream.specs.declared.faults.LogFault.TheVariants as fault
+use Rattle.partition_stream.specs.declared.faults.TakeFault.{TakeFault}
+use Rattle.partition_stream.specs.declared.faults.TakeFault.TheVariants as fault
 use Rattle.partition_stream.proofs.ChangeLemmas.{changes_of-held, changes_of-more, changes_of-one, change_in-block}
 use Rattle.partition_stream.proofs.StreamLemmas.{more_sealed}
 
@@ -43,7 +43,7 @@ same_streams : (s t : ThreeStreams) → t.log ≡ s.log → t.blobs ≡ s.blobs 
 same_streams s t log blobs rows = λ i. record { log = log i; blobs = blobs i; rows = rows i }
 
 -- a record was appended
-pub is_logged : (r : Result ℕ LogFault) (s t : ThreeStreams) (block : Block) (c : Recorded) → change_in block ≡ Some c
+pub is_logged : (r : Result ℕ TakeFault) (s t : ThreeStreams) (block : Block) (c : Recorded) → change_in block ≡ Some c
     → IsRecordAppended r s.log block t.log → t.blobs ≡ s.blobs → t.rows ≡ s.rows → IsLogged r s c t
 is_logged (Ok n) s t block c e h blobs rows = logs_more s t (block ∷ []) None (c ∷ []) None h (changes_of-one block c e) refl
 is_logged (Err fault.Doubt) s t block c e h blobs rows = logs_more s t [] (Some block) [] (Some c) h refl e
@@ -51,7 +51,7 @@ is_logged (Err fault.Busy) s t block c e h blobs rows = elim h [ inl more ↦ in
 is_logged (Err fault.NoMemory) s t block c e h blobs rows = same_streams s t h blobs rows
 
 -- a seal
-pub is_log_sealed : (r : Result (Unit {0}) SettleFault) (s t : ThreeStreams) → IsSealed r (laid s.log) s.log.last (laid t.log) t.log.last → IsLogSealed r s t
+pub is_log_sealed : (r : Result (Unit {0}) StoredFault) (s t : ThreeStreams) → IsSealed r (laid s.log) s.log.last (laid t.log) t.log.last → IsLogSealed r s t
 is_log_sealed (Ok u) s t h = logs_none s t (more_sealed s.log t.log h.0 h.2)
 is_log_sealed (Err e) s t h = inr (record { blocks = h.0; last = h.1 })
 
@@ -67,7 +67,7 @@ no_doubt : (t : ThreeStreams) → t.log.last.tried ≡ None → (logged t).doubt
 no_doubt t none = ap (option_and_then change_in) none
 
 -- a settle
-pub is_log_settled : (r : Result Settled SettleFault) (s t : ThreeStreams) → IfSome s.log.last.tried IsRecord
+pub is_log_settled : (r : Result Settled StoredFault) (s t : ThreeStreams) → IfSome s.log.last.tried IsRecord
     → IsSettled r (laid s.log) s.log.last (laid t.log) t.log.last → IsLogSettled r s t
 is_log_settled (Ok settled.Clean) s t d h = (no_doubt s h.0, record { blocks = h.1; last = h.2 })
 is_log_settled (Ok (settled.Kept p)) s t d h =
@@ -88,7 +88,7 @@ is_log_settled (Ok settled.Dropped) s t d h =
 is_log_settled (Err e) s t d h = (some_doubt s.log.last.tried d h.0, record { blocks = h.1; last = h.2 })
 
 -- the place of a doubt that was kept
-pub is_kept_at : (r : Result Settled SettleFault) (s t : Streamed) → IsSettled r (laid s) s.last (laid t) t.last → IsKeptAt r s t
+pub is_kept_at : (r : Result Settled StoredFault) (s t : Streamed) → IsSettled r (laid s) s.last (laid t) t.last → IsKeptAt r s t
 is_kept_at (Ok settled.Clean) s t h = tt
 is_kept_at (Ok (settled.Kept p)) s t h = (h.0.0, (h.0.1, h.0.3))
 is_kept_at (Ok settled.Dropped) s t h = tt

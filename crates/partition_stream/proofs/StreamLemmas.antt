@@ -8,10 +8,10 @@ use Rattle.stream_manager.specs.Places.{blocks_of, is_kept, Follows}
 use Rattle.stream_manager.specs.Streams.{Streamed, laid}
 use Rattle.stream_manager.specs.declared.faults.Settled.{Settled}
 use Rattle.stream_manager.specs.declared.faults.Settled.TheVariants as settled
-use Rattle.stream_manager.specs.declared.faults.SettleFault.{SettleFault}
+use Rattle.stream_manager.specs.declared.faults.StoredFault.{StoredFault}
 use Rattle.partition_stream.specs.Logging.{HasMore, IsSameStream, IsRecordAppended}
-use Rattle.partition_stream.specs.declared.faults.LogFault.{LogFault}
-use Rattle.partition_stream.specs.declared.faults.LogFault.TheVariants as fault
+use Rattle.partition_stream.specs.declared.faults.TakeFault.{TakeFault}
+use Rattle.partition_stream.specs.declared.faults.TakeFault.TheVariants as fault
 
 -- P holds of each block, and of the block that is in doubt
 pub record Each (P : Block → Type 0) (s : Streamed) : Type 0 where
@@ -37,7 +37,7 @@ each_same P s t old h = record {
 }
 
 -- a record was appended
-pub each_appended : (P : Block → Type 0) (r : Result ℕ LogFault) (s t : Streamed) (block : Block)
+pub each_appended : (P : Block → Type 0) (r : Result ℕ TakeFault) (s t : Streamed) (block : Block)
     → Each P s → P block → IsRecordAppended r s block t → Each P t
 each_appended P (Ok n) s t block old new h = each_more P s t (block ∷ []) None old (All-cons P block [] new (All-nil P)) tt h
 each_appended P (Err fault.Doubt) s t block old new h = each_more P s t [] (Some block) old (All-nil P) new h
@@ -52,7 +52,7 @@ followed s t added f = f.order
 pub more_sealed : (s t : Streamed) → Follows (laid s) (held (is_kept (laid s) s.last (laid t)) s.last.tried) (laid t) → t.last.tried ≡ None → HasMore s [] None t
 more_sealed s t f none = record { blocks = f.order ∙ ap (λ l. blocks_of (laid s) ++ l) (sym (append-nil _)); left = none }
 
-pub each_sealed : (P : Block → Type 0) (r : Result (Unit {0}) SettleFault) (s t : Streamed)
+pub each_sealed : (P : Block → Type 0) (r : Result (Unit {0}) StoredFault) (s t : Streamed)
     → Each P s → IsSealed r (laid s) s.last (laid t) t.last → Each P t
 each_sealed P (Ok u) s t old h = each_more P s t [] None old (All-nil P) tt (more_sealed s t h.0 h.2)
 each_sealed P (Err e) s t old h = each_same P s t old (record { blocks = h.0; last = h.1 })
@@ -64,7 +64,7 @@ each_followed P s t added old new f none = record {
   doubt = subst (λ o. IfSome o P) (sym none) tt;
 }
 
-pub each_settled : (P : Block → Type 0) (r : Result Settled SettleFault) (s t : Streamed)
+pub each_settled : (P : Block → Type 0) (r : Result Settled StoredFault) (s t : Streamed)
     → Each P s → IsSettled r (laid s) s.last (laid t) t.last → Each P t
 each_settled P (Ok settled.Clean) s t old h = each_same P s t old (record { blocks = h.1; last = h.2 })
 each_settled P (Ok (settled.Kept p)) s t old h =

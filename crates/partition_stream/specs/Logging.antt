@@ -4,8 +4,8 @@ use Rattle.extent_node.specs.Copies.{Block}
 use Rattle.extent_node.specs.Faults.{held}
 use Rattle.stream_manager.specs.Places.{blocks_of, is_kept}
 use Rattle.stream_manager.specs.Streams.{Streamed, laid}
-use Rattle.partition_stream.specs.declared.faults.LogFault.{LogFault}
-use Rattle.partition_stream.specs.declared.faults.LogFault.TheVariants as fault
+use Rattle.partition_stream.specs.declared.faults.TakeFault.{TakeFault}
+use Rattle.partition_stream.specs.declared.faults.TakeFault.TheVariants as fault
 
 -- the log has the block that was in doubt, if it was kept, and then these blocks, and this block is in doubt
 pub record HasMore (s : Streamed) (added : List Block) (tried : Option Block) (t : Streamed) : Type 0 where
@@ -18,7 +18,7 @@ pub record IsSameStream (s t : Streamed) : Type 0 where
   pub last : t.last ≡ s.last
 
 -- the append of a record, which is never too large
-abbrev pub IsRecordAppended : Result ℕ LogFault → Streamed → Block → Streamed → Type 0
+abbrev pub IsRecordAppended : Result ℕ TakeFault → Streamed → Block → Streamed → Type 0
 IsRecordAppended (Ok _) s block t = HasMore s (block ∷ []) None t
 IsRecordAppended (Err fault.Doubt) s block t = HasMore s [] (Some block) t
 IsRecordAppended (Err fault.Busy) s block t = HasMore s [] None t ⊎ IsSameStream s t

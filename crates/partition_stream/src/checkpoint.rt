@@ -1,13 +1,13 @@
 //! Checkpoints: new rows that are written beside the old ones, and then put in their place (SOSP 2011, section 5.3).
 ghost use Rattle.std.specs.Prelude.{◌≡◌, ◌≤◌, None, Err, OnOk, length};
+ghost use Rattle.stream_manager.specs.declared.faults.StoredFault.TheVariants.{NoMemory};
 ghost use Rattle.log_record.specs.Fits.{IsRecorded};
 ghost use Rattle.log_record.specs.Records.{record_bytes};
 ghost use Rattle.log_record.specs.Sizes.{IsPlacedChange};
 ghost use Rattle.partition_stream.specs.Checkpoints.{HasOneRow};
 ghost use Rattle.partition_stream.specs.Counting.{CallsPut, FailsPut};
-ghost use Rattle.partition_stream.specs.declared.faults.PutFault.TheVariants.{NoMemory};
 
-use crate::faults::{LogFault, PutFault};
+use crate::faults::TakeFault;
 use crate::logging::{append_record, record_of};
 use crate::streams::Streams;
 use extent_node::Wire;
@@ -16,7 +16,7 @@ use stamp_values::Share;
 use std::alloc::Global;
 use std::marker::Model;
 use std::mem;
-use stream_manager::Stream;
+use stream_manager::{StoredFault, Stream};
 
 /// The rows of a checkpoint that is not in place yet, seen as their stream.
 #[derive(Drop)]
@@ -51,7 +51,7 @@ fn append_row<W: Wire>(
     change: &Change,
     block: &Share,
     wire: &mut W,
-) -> Result<(), PutFault>
+) -> Result<(), StoredFault>
     requires whole { rows.old.last.tried ≡ None }
     requires written { block.now ≡ record_bytes 2 change.now 0 }
     requires fits { IsRecorded change.now }
@@ -65,9 +65,9 @@ fn append_row<W: Wire>(
 {
     match append_record(rows, block, wire) {
         Ok(_length) => Ok(()),
-        Err(LogFault::Busy) => Err(PutFault::Busy),
-        Err(LogFault::Doubt) => Err(PutFault::Busy),
-        Err(LogFault::NoMemory) => Err(PutFault::NoMemory),
+        Err(TakeFault::Busy) => Err(StoredFault::Busy),
+        Err(TakeFault::Doubt) => Err(StoredFault::Busy),
+        Err(TakeFault::NoMemory) => Err(StoredFault::NoMemory),
     }
 }
 
@@ -76,7 +76,7 @@ impl NewRows {
     ///
     /// Busy: the rows cannot go on. They are dropped, and the streams are as they were. NoMemory: no node was called, and the rows are
     /// as they were.
-    pub fn add<W: Wire>(&mut self, change: &Change, wire: &mut W) -> Result<(), PutFault>
+    pub fn add<W: Wire>(&mut self, change: &Change, wire: &mut W) -> Result<(), StoredFault>
         requires whole { self.old.last.tried ≡ None }
         requires placed { IsPlacedChange change.now }
         ensures added { OnOk result (HasOneRow self.old change.now self.new) }
@@ -88,7 +88,7 @@ impl NewRows {
     {
         match record_of(self.alloc, change, 0) {
             Ok(block) => append_row(&mut self.rows, change, &block, wire),
-            Err(_fault) => Err(PutFault::NoMemory),
+            Err(_fault) => Err(StoredFault::NoMemory),
         }
     }
 }

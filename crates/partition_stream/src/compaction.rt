@@ -15,7 +15,7 @@ ghost use Rattle.partition_stream.specs.Storing.{IsStoredChange};
 ghost use Rattle.partition_stream.specs.Streams.{logged};
 
 use crate::checkpoint::NewRows;
-use crate::faults::{CompactionFault, PutFault};
+use crate::faults::CompactionFault;
 use crate::moving_rows::moved_blob;
 use crate::streams::Streams;
 use extent_node::Wire;
@@ -23,7 +23,7 @@ use stamp_types::{Act, Change, Key, StoredBlob};
 use std::alloc::Global;
 use std::marker::Model;
 use std::mem;
-use stream_manager::Stream;
+use stream_manager::{StoredFault, Stream};
 
 /// The data and the rows of a compaction that is not in place yet.
 #[derive(Drop)]
@@ -85,8 +85,8 @@ fn add_row<W: Wire>(
 {
     match rows.add(change, wire) {
         Ok(()) => Ok(()),
-        Err(PutFault::Busy) => Err(CompactionFault::Busy),
-        Err(PutFault::NoMemory) => Err(CompactionFault::NoMemory),
+        Err(StoredFault::Busy) => Err(CompactionFault::Busy),
+        Err(StoredFault::NoMemory) => Err(CompactionFault::NoMemory),
     }
 }
 

@@ -3,20 +3,19 @@ ghost use Rattle.std.specs.Prelude.{◌≡◌, ◌≤◌, ◌⊎◌, Err, IfOk, 
 ghost use Rattle.stamp_types.specs.Pieces.{is_held, is_held_piece, is_pieces, piece_len};
 ghost use Rattle.stream_manager.specs.Places.{KeepsPlaces, block_at};
 ghost use Rattle.stream_manager.specs.Streams.{laid};
+ghost use Rattle.stream_manager.specs.declared.faults.StoredFault.TheVariants.{NoMemory};
 ghost use Rattle.partition_stream.specs.Contents.{ArePlaced, EndsWithBlock, IsPlaced};
 ghost use Rattle.partition_stream.specs.Counting.{CallsPut, FailsPut};
-ghost use Rattle.partition_stream.specs.declared.faults.PutFault.TheVariants.{NoMemory};
 
-use crate::faults::PutFault;
 use extent_node::Wire;
 use stamp_types::{Piece, Pieces};
 use stamp_values::{Place, Share};
 use std::alloc::Global;
-use stream_manager::{AppendFault, Stream};
+use stream_manager::{AppendFault, StoredFault, Stream};
 
 // Puts bytes into the data, as one block.
 #[tactic(auto, using(crate::proofs::CallLemmas::busy_faults, crate::proofs::DataLemmas::ends_here))]
-fn put_bytes<W: Wire>(blobs: &mut Stream, bytes: &Share, wire: &mut W) -> Result<Place, PutFault>
+fn put_bytes<W: Wire>(blobs: &mut Stream, bytes: &Share, wire: &mut W) -> Result<Place, StoredFault>
     requires { length bytes.now ≤ 4_194_304 }
     ensures placed { IfOk result (λ p. block_at (laid blobs.new) p ≡ Some bytes.now) }
     ensures kept { KeepsPlaces (laid blobs.old) (laid blobs.new) }
@@ -29,15 +28,15 @@ fn put_bytes<W: Wire>(blobs: &mut Stream, bytes: &Share, wire: &mut W) -> Result
 {
     match blobs.append(bytes, wire) {
         Ok(place) => Ok(place),
-        Err(AppendFault::Busy) => Err(PutFault::Busy),
-        Err(AppendFault::Doubt) => Err(PutFault::Busy),
-        Err(AppendFault::NoMemory) => Err(PutFault::NoMemory),
+        Err(AppendFault::Busy) => Err(StoredFault::Busy),
+        Err(AppendFault::Doubt) => Err(StoredFault::Busy),
+        Err(AppendFault::NoMemory) => Err(StoredFault::NoMemory),
         Err(AppendFault::TooLarge) => unreachable!("a piece fits a block"),
     }
 }
 
 // Puts a piece into the data, and answers the piece that says where its bytes are.
-fn put_piece<W: Wire>(blobs: &mut Stream, piece: &Piece, wire: &mut W) -> Result<Piece, PutFault>
+fn put_piece<W: Wire>(blobs: &mut Stream, piece: &Piece, wire: &mut W) -> Result<Piece, StoredFault>
     requires held { IsTrue (is_held_piece piece.now) }
     requires short { piece_len piece.now ≤ 4_194_304 }
     ensures placed { IfOk result (λ p. IsPlaced (laid blobs.new) piece.now p) }
@@ -67,7 +66,7 @@ fn put_pieces<W: Wire>(
     blobs: &mut Stream,
     pieces: &[Piece],
     wire: &mut W,
-) -> Result<Vec<Piece>, PutFault>
+) -> Result<Vec<Piece>, StoredFault>
     requires held { IsTrue (is_held pieces.now) }
     requires short { IsTrue (is_pieces pieces.now) }
     ensures placed { IfOk result (λ ps. ArePlaced (laid blobs.new) pieces.now ps.items) }
@@ -91,7 +90,7 @@ pub(crate) fn put_content<W: Wire>(
     blobs: &mut Stream,
     content: &Pieces,
     wire: &mut W,
-) -> Result<Pieces, PutFault>
+) -> Result<Pieces, StoredFault>
     requires { IsTrue (is_held content.now) }
     ensures placed { IfOk result (λ ps. ArePlaced (laid blobs.new) content.now ps) }
     ensures kept { KeepsPlaces (laid blobs.old) (laid blobs.new) }

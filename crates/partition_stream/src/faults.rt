@@ -1,22 +1,22 @@
-//! Why changes were not logged, data was not put, and rows were not moved.
+//! Why changes were not taken, and rows were not moved.
 ghost use Rattle.std.specs.Prelude.{◌≡◌};
 
 use std::alloc::{AllocError, AllocFailed};
 
-/// Why a change was not logged.
+/// Why a change was not taken.
 #[derive(Clone, Copy, Debug, PartialEq, Eq)]
-pub enum LogFault {
-    /// The change is not in the log: its record was tried twice, or no node answered the seal of a full extent or of an older doubt.
+pub enum TakeFault {
+    /// The change is not in the log: a block or its record was tried twice, or no node answered the seal of a full extent or of an older doubt.
     Busy,
     /// Some delivery was not Done, and then no node answered. The change is in doubt until the next settle, seal or change.
     Doubt,
-    /// Memory ran out before a node was called.
+    /// Memory ran out. The change is not in the log.
     NoMemory,
 }
 
-impl From<AllocError> for LogFault {
+impl From<AllocError> for TakeFault {
     ghost use Rattle.std.specs.Prelude.{◌≡◌};
-    ghost use Rattle.partition_stream.specs.declared.faults.LogFault.TheVariants.{NoMemory};
+    ghost use Rattle.partition_stream.specs.declared.faults.TakeFault.TheVariants.{NoMemory};
 
     ghost from_gives = { λ _ e. e ≡ NoMemory };
 
@@ -25,40 +25,9 @@ impl From<AllocError> for LogFault {
     }
 }
 
-impl<T: Drop> From<AllocFailed<T>> for LogFault {
+impl<T: Drop> From<AllocFailed<T>> for TakeFault {
     ghost use Rattle.std.specs.Prelude.{◌≡◌};
-    ghost use Rattle.partition_stream.specs.declared.faults.LogFault.TheVariants.{NoMemory};
-
-    ghost from_gives = { λ _ e. e ≡ NoMemory };
-
-    fn from(_error: AllocFailed<T>) -> Self {
-        Self::NoMemory
-    }
-}
-
-/// Why data was not put. Blocks to which nothing refers may be left in the data.
-#[derive(Clone, Copy, Debug, PartialEq, Eq)]
-pub enum PutFault {
-    /// A block was tried twice, or no node answered.
-    Busy,
-    /// Memory ran out.
-    NoMemory,
-}
-
-impl From<AllocError> for PutFault {
-    ghost use Rattle.std.specs.Prelude.{◌≡◌};
-    ghost use Rattle.partition_stream.specs.declared.faults.PutFault.TheVariants.{NoMemory};
-
-    ghost from_gives = { λ _ e. e ≡ NoMemory };
-
-    fn from(_error: AllocError) -> Self {
-        Self::NoMemory
-    }
-}
-
-impl<T: Drop> From<AllocFailed<T>> for PutFault {
-    ghost use Rattle.std.specs.Prelude.{◌≡◌};
-    ghost use Rattle.partition_stream.specs.declared.faults.PutFault.TheVariants.{NoMemory};
+    ghost use Rattle.partition_stream.specs.declared.faults.TakeFault.TheVariants.{NoMemory};
 
     ghost from_gives = { λ _ e. e ≡ NoMemory };
 

@@ -10,7 +10,7 @@ ghost use Rattle.stamp_types.specs.declared.piece.Piece.{Piece};
 ghost use Rattle.stamp_values.specs.declared.key.Key.{Key};
 ghost use Rattle.stream_manager.specs.Places.{KeepsPlaces, blocks_of};
 ghost use Rattle.stream_manager.specs.Streams.{laid};
-ghost use Rattle.stream_manager.specs.declared.faults.SettleFault.{SettleFault};
+ghost use Rattle.stream_manager.specs.declared.faults.StoredFault.{StoredFault};
 ghost use Rattle.partition_stream.specs.Changes.{Recorded};
 ghost use Rattle.partition_stream.specs.Contents.{AreStored, content_at};
 ghost use Rattle.partition_stream.specs.Meanings.{acts_on, after_acts, held_of, meaning, IsOneMore, IsWithDoubt};
@@ -19,7 +19,7 @@ ghost use Rattle.partition_stream.specs.Positions.{IsFirstPart, all_changes, cha
 ghost use Rattle.partition_stream.specs.Storing.{AreKept, IsStoredChange};
 ghost use Rattle.partition_stream.specs.Streams.{HaveSameBlocks, Logged, ThreeStreams, logged};
 ghost use Rattle.partition_stream.specs.Written.{IsWritten, Written, said_of, written_bytes};
-ghost use Rattle.partition_stream.specs.declared.faults.LogFault.{LogFault};
+ghost use Rattle.partition_stream.specs.declared.faults.TakeFault.{TakeFault};
 ghost use Rattle.partition_stream.specs.declared.position.Position.{Position};
 
 /// Content that is stored stays stored and reads the same, if the blocks of the data stay at their places. A change that gets content
@@ -73,9 +73,9 @@ pub fn a_doubt_is_one_change_or_none()
 /// A change that fails leaves each container as it was, or as the older change that was in doubt leaves it. So does a seal, whatever
 /// it answers.
 pub fn a_change_that_fails_is_not_counted()
-    ensures logged { (s t : ThreeStreams) (e : LogFault) (c : Recorded) (key : Key) → IsLogged (Err e) s c t
+    ensures logged { (s t : ThreeStreams) (e : TakeFault) (c : Recorded) (key : Key) → IsLogged (Err e) s c t
         → (logged t).rows ≡ (logged s).rows → IsWithDoubt (logged s) (logged t) (logged s).doubt key }
-    ensures sealed { (s t : ThreeStreams) (r : Result (Unit {0}) SettleFault) (key : Key) → IsLogSealed r s t
+    ensures sealed { (s t : ThreeStreams) (r : Result (Unit {0}) StoredFault) (key : Key) → IsLogSealed r s t
         → (logged t).rows ≡ (logged s).rows → IsWithDoubt (logged s) (logged t) (logged s).doubt key }
 {}
 

@@ -25,7 +25,7 @@ pub use compaction_laws::{
     a_compaction_means_what_it_meant, a_row_that_is_added_is_moved,
     no_content_is_lost_by_a_compaction,
 };
-pub use faults::{CompactionFault, LogFault, PutFault};
+pub use faults::{CompactionFault, TakeFault};
 pub use laws::{
     a_body_that_is_cut_may_be_put, a_change_that_fails_is_not_counted,
     a_doubt_is_one_change_or_none, a_shared_log_means_the_same, a_walk_meets_all_changes_in_order,

@@ -7,9 +7,9 @@ ghost use Rattle.log_record.specs.Sizes.{IsPlacedChange};
 ghost use Rattle.stream_manager.specs.Streams.{laid};
 ghost use Rattle.partition_stream.specs.Counting.{CallsLog, FailsLog};
 ghost use Rattle.partition_stream.specs.Logging.{IsRecordAppended};
-ghost use Rattle.partition_stream.specs.declared.faults.LogFault.TheVariants.{NoMemory};
+ghost use Rattle.partition_stream.specs.declared.faults.TakeFault.TheVariants.{NoMemory};
 
-use crate::faults::LogFault;
+use crate::faults::TakeFault;
 use extent_node::Wire;
 use log_record::write_change;
 use stamp_types::Change;
@@ -18,7 +18,7 @@ use std::alloc::Global;
 use stream_manager::{AppendFault, Stream};
 
 /// The record of a change with its epoch.
-pub(crate) fn record_of(alloc: Global, change: &Change, epoch: u64) -> Result<Share, LogFault>
+pub(crate) fn record_of(alloc: Global, change: &Change, epoch: u64) -> Result<Share, TakeFault>
     requires { IsPlacedChange change.now }
     ensures written { IfOk result (λ b. b ≡ record_bytes 2 change.now epoch) }
     ensures fits { IfOk result (λ b. IsRecorded change.now) }
@@ -35,7 +35,7 @@ pub(crate) fn append_record<W: Wire>(
     log: &mut Stream,
     block: &Share,
     wire: &mut W,
-) -> Result<u64, LogFault>
+) -> Result<u64, TakeFault>
     requires { length block.now ≤ 16_777_216 }
     ensures length { IfOk result (λ n. n ≡ length block.now) }
     ensures appended { IsRecordAppended result log.old block.now log.new }
@@ -46,9 +46,9 @@ pub(crate) fn append_record<W: Wire>(
 {
     match log.append(block, wire) {
         Ok(_place) => Ok(block.len() as u64),
-        Err(AppendFault::Busy) => Err(LogFault::Busy),
-        Err(AppendFault::Doubt) => Err(LogFault::Doubt),
-        Err(AppendFault::NoMemory) => Err(LogFault::NoMemory),
+        Err(AppendFault::Busy) => Err(TakeFault::Busy),
+        Err(AppendFault::Doubt) => Err(TakeFault::Doubt),
+        Err(AppendFault::NoMemory) => Err(TakeFault::NoMemory),
         Err(AppendFault::TooLarge) => unreachable!("a record fits a block"),
     }
 }

@@ -8,12 +8,12 @@ ghost use Rattle.partition_stream.specs.Contents.{ArePlaced, AreStored, IsStored
 ghost use Rattle.partition_stream.specs.Counting.{FailsCompaction};
 
 use crate::data::put_content;
-use crate::faults::{CompactionFault, PutFault};
+use crate::faults::CompactionFault;
 use extent_node::Wire;
 use extent_seal::ReadFault;
 use stamp_types::{Block, Piece, Pieces, UncommittedBlock};
 use std::alloc::Global;
-use stream_manager::Stream;
+use stream_manager::{StoredFault, Stream};
 
 // The piece with its bytes.
 fn read_piece<W: Wire>(old: &Stream, piece: &Piece, wire: &mut W) -> Result<Piece, CompactionFault>
@@ -83,8 +83,8 @@ fn put_read<W: Wire>(
 {
     match put_content(alloc, new, read, wire) {
         Ok(placed) => Ok(placed),
-        Err(PutFault::Busy) => Err(CompactionFault::Busy),
-        Err(PutFault::NoMemory) => Err(CompactionFault::NoMemory),
+        Err(StoredFault::Busy) => Err(CompactionFault::Busy),
+        Err(StoredFault::NoMemory) => Err(CompactionFault::NoMemory),
     }
 }
 

@@ -3,7 +3,7 @@ ghost use Rattle.std.specs.Prelude.{◌≡◌};
 
 use crate::changes::next_in;
 use crate::data::put_content;
-use crate::faults::{LogFault, PutFault};
+use crate::faults::TakeFault;
 use crate::logging::{append_record, record_of};
 use crate::part::{Part, part_at};
 use crate::position::Position;
@@ -13,7 +13,7 @@ use stamp_types::{Change, Piece, Pieces};
 use stamp_values::Share;
 use std::alloc::{AllocError, Global};
 use std::marker::Model;
-use stream_manager::{SettleFault, Settled, Stream};
+use stream_manager::{Settled, StoredFault, Stream};
 
 /// The log of a partition, its data, and the rows of its last checkpoint (SOSP 2011, section 5).
 ///
@@ -45,6 +45,7 @@ impl Streams {
     ghost use Rattle.stream_manager.specs.Counting.{CallsSettle, FailsSettle, kept_in};
     ghost use Rattle.stream_manager.specs.Places.{KeepsPlaces};
     ghost use Rattle.stream_manager.specs.Streams.{laid};
+    ghost use Rattle.stream_manager.specs.declared.faults.StoredFault.TheVariants as stored_fault;
     ghost use Rattle.partition_stream.specs.Contents.{ArePlaced, EndsWithBlock, IsStored, bytes_at, extent_of};
     ghost use Rattle.partition_stream.specs.Counting.{CallsLog, CallsPut, CallsSeals, FailsLog, FailsPut, FailsSeals, sealed_extents};
     ghost use Rattle.partition_stream.specs.Outcomes.{IsKeptAt, IsLogged, IsLogSettled, IsLogSealed};
@@ -53,8 +54,7 @@ impl Streams {
     ghost use Rattle.partition_stream.specs.Storing.{AreKept, IsStoredChange};
     ghost use Rattle.partition_stream.specs.Streams.{AreSealed, HaveSameBlocks, HaveSameLimits, IsEmptyLast, logged};
     ghost use Rattle.partition_stream.specs.Written.{written_len};
-    ghost use Rattle.partition_stream.specs.declared.faults.LogFault.TheVariants.{NoMemory};
-    ghost use Rattle.partition_stream.specs.declared.faults.PutFault.TheVariants as put_fault;
+    ghost use Rattle.partition_stream.specs.declared.faults.TakeFault.TheVariants.{NoMemory};
 
     /// Streams without a change and without data, whose extents of two or more blocks have at most `extent_bytes` bytes. Takes no memory.
     pub fn new(alloc: Global, extent_bytes: u32) -> Self
@@ -86,7 +86,11 @@ impl Streams {
     ///
     /// After a fault blocks may be left in the data to which nothing refers. Busy: a block was tried twice, or no node answered a seal.
     /// NoMemory: memory ran out before a node was called for a block. No block before it was excluded twice, and no seal failed.
-    pub fn put_data<W: Wire>(&mut self, content: &Pieces, wire: &mut W) -> Result<Pieces, PutFault>
+    pub fn put_data<W: Wire>(
+        &mut self,
+        content: &Pieces,
+        wire: &mut W,
+    ) -> Result<Pieces, StoredFault>
         requires { IsTrue (is_held content.now) }
         ensures placed { IfOk result (λ ps. ArePlaced (laid self.new.blobs) content.now ps) }
         ensures kept { KeepsPlaces (laid self.old.blobs) (laid self.new.blobs) }
@@ -95,7 +99,7 @@ impl Streams {
         ensures limit { self.new.blobs.limit ≡ self.old.blobs.limit }
         ensures called { CallsPut result (length content.now) (length self.old.blobs.sealed) (length self.new.blobs.sealed) (W.calls wire.old) (W.calls wire.new) }
         ensures counted { FailsPut result (W.faults wire.old) (W.faults wire.new) }
-        ensures spent { result ≡ Err put_fault.NoMemory → ((self.new.blobs ≡ self.old.blobs) × (wire.new ≡ wire.old)) ⊎ EndsWithBlock (laid self.new.blobs) }
+        ensures spent { result ≡ Err stored_fault.NoMemory → ((self.new.blobs ≡ self.old.blobs) × (wire.new ≡ wire.old)) ⊎ EndsWithBlock (laid self.new.blobs) }
     {
         put_content(self.alloc, &mut self.blobs, content, wire)
     }
@@ -110,7 +114,7 @@ impl Streams {
         change: &Change,
         epoch: u64,
         wire: &mut W,
-    ) -> Result<u64, LogFault>
+    ) -> Result<u64, TakeFault>
         requires stored { IsStoredChange (laid self.old.blobs) change.now }
         ensures length { IfOk result (λ n. n ≡ written_len (change.now, epoch)) }
         ensures logged { IsLogged result self.old (change.now, epoch) self.new }
@@ -129,7 +133,7 @@ impl Streams {
     /// at the place that is answered.
     ///
     /// Busy: no node answered. NoMemory: no node was called. After both the streams are as they were, and the doubt stays.
-    pub fn settle<W: Wire>(&mut self, wire: &mut W) -> Result<Settled, SettleFault>
+    pub fn settle<W: Wire>(&mut self, wire: &mut W) -> Result<Settled, StoredFault>
         ensures settled { IsLogSettled result self.old self.new }
         ensures at { IsKeptAt result self.old.log self.new.log }
         ensures blobs { self.new.blobs ≡ self.old.blobs }
@@ -143,7 +147,7 @@ impl Streams {
 
     // Seals the log.
     #[tactic(auto, using(crate::proofs::CallLemmas::seal_calls))]
-    fn seal_log<W: Wire>(&mut self, wire: &mut W) -> Result<(), SettleFault>
+    fn seal_log<W: Wire>(&mut self, wire: &mut W) -> Result<(), StoredFault>
         ensures log { IsLogSealed result self.old self.new }
         ensures sealed { OnOk result (IsEmptyLast self.new.log) }
         ensures blobs { self.new.blobs ≡ self.old.blobs }
@@ -158,7 +162,7 @@ impl Streams {
 
     // Seals the data.
     #[tactic(auto, using(crate::proofs::CallLemmas::seal_calls))]
-    fn seal_blobs<W: Wire>(&mut self, wire: &mut W) -> Result<(), SettleFault>
+    fn seal_blobs<W: Wire>(&mut self, wire: &mut W) -> Result<(), StoredFault>
         ensures kept { KeepsPlaces (laid self.old.blobs) (laid self.new.blobs) }
         ensures sealed { OnOk result (IsEmptyLast self.new.blobs) }
         ensures log { self.new.log ≡ self.old.log }
@@ -173,7 +177,7 @@ impl Streams {
 
     // Seals the rows.
     #[tactic(auto, using(crate::proofs::CallLemmas::seal_calls))]
-    fn seal_rows<W: Wire>(&mut self, wire: &mut W) -> Result<(), SettleFault>
+    fn seal_rows<W: Wire>(&mut self, wire: &mut W) -> Result<(), StoredFault>
         ensures same { (logged self.new).rows ≡ (logged self.old).rows }
         ensures sealed { OnOk result (IsEmptyLast self.new.rows) }
         ensures log { self.new.log ≡ self.old.log }
@@ -190,7 +194,7 @@ impl Streams {
     ///
     /// Busy: no node answered the seal of a stream. NoMemory: no node was called for a stream. After both the streams before this one are
     /// sealed.
-    pub fn seal<W: Wire>(&mut self, wire: &mut W) -> Result<(), SettleFault>
+    pub fn seal<W: Wire>(&mut self, wire: &mut W) -> Result<(), StoredFault>
         ensures sealed { OnOk result (AreSealed self.new) }
         ensures log { IsLogSealed result self.old self.new }
         ensures rows { (logged self.new).rows ≡ (logged self.old).rows }

@@ -2,7 +2,8 @@
 use Rattle.std.proofs.Common.{◌≡◌, ◌↔◌, ◌∙◌, Bool, true, false, if◌then◌else◌, Option, Some, IsTrue, refl, sym, ap}
 use Rattle.stamp_types.specs.declared.ask.Ask.{Ask}
 use Rattle.access_rules.specs.declared.keys.Keys.{Keys}
-use Rattle.access_rules.specs.Rules.{has_false_signature}
+use Rattle.sas_token.specs.Tokens.{Sent}
+use Rattle.access_rules.specs.Rules.{has_false_signature, token_asked}
 use Rattle.access_rules.specs.declared.judgement.SignedBy.{SignedBy}
 use Rattle.access_rules.specs.Signatures.{has_true_signature, signed_by, IsSigned}
 use Rattle.access_rules.proofs.SignatureLemmas.{signed_is, true_not_false}
@@ -56,3 +57,7 @@ false_of_ask b keys a c is same = is ∙ ap (has_false_signature keys) same
 -- the key that signs what one request asks signs what another asks, if both ask the same
 pub signer_of_ask : (by : SignedBy) (pair : Keys) (keys : Option Keys) (a c : Ask) → by ≡ signed_by (Some pair) a → keys ≡ Some pair → a ≡ c → by ≡ signed_by keys c
 signer_of_ask by pair keys a c is force same = is ∙ ap (λ k. signed_by k a) (sym force) ∙ ap (signed_by keys) same
+
+-- the token by which one request asks is that by which another asks, if both ask the same
+pub token_of_ask : (token : Option Sent) (a c : Ask) → token ≡ token_asked a → a ≡ c → token ≡ token_asked c
+token_of_ask token a c is same = is ∙ ap token_asked same

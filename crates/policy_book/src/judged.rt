@@ -1,12 +1,13 @@
 //! Judgements of signatures, with each outcome, and the key that gives a signature.
-ghost use Rattle.std.specs.Prelude.{◌≡◌, ◌↔◌, IfOk, IsTrue, Some};
+ghost use Rattle.std.specs.Prelude.{◌≡◌, ◌↔◌, IfOk, IsTrue, Some, option_copied};
 ghost use Rattle.std.specs.Arc.{arc_value};
-ghost use Rattle.access_rules.specs.Rules.{has_false_signature};
+ghost use Rattle.access_rules.specs.Rules.{has_false_signature, token_asked};
 ghost use Rattle.access_rules.specs.Signatures.{signed_by, IsSigned};
 ghost use Rattle.policy_book.specs.Judgements.{signature_under};
 ghost use Rattle.policy_book.specs.declared.judged.Signature.TheVariants as signature;
 
-use access_rules::{Keys, SignedBy, signature_by};
+use access_rules::{Keys, SignedBy, signature_with, token_asked};
+use sas_token::Token;
 use stamp_types::Request;
 use std::alloc::{AllocError, Global};
 use std::marker::Model;
@@ -24,30 +25,34 @@ pub enum Signature {
     Unjudged,
 }
 
-/// The judgement on the signature of a request under a pair of keys. It shares what the request asks and the pair, and copies
-/// neither. The body of the request does not matter. It also keeps which of the two keys gives the signature.
+/// The judgement on the signature of a request under a pair of keys. It borrows the request, whose body does not matter, and shares
+/// the pair. It also keeps which of the two keys gives the signature, and the token by which the request asks, so that nobody reads the token
+/// out of the query a second time.
 ///
 /// It says nothing of a container, a policy or a moment.
 #[derive(Drop)]
-pub struct Judged {
-    request: Request,
+pub struct Judged<'a> {
+    request: &'a Request,
     keys: Arc<Keys>,
     signature: Signature,
     by: SignedBy,
+    token: Option<Token<'a>>,
 }
 
-impl Model for Judged {
+impl<'a> Model for Judged<'a> {
     ghost use Rattle.std.specs.Prelude.{◌≡◌, Some};
     ghost use Rattle.std.specs.Arc.{arc_value};
+    ghost use Rattle.access_rules.specs.Rules.{token_asked};
     ghost use Rattle.access_rules.specs.Signatures.{signed_by};
     ghost use Rattle.policy_book.specs.Judgements.{Judgement, signature_under};
 
     ghost Value = { Judgement };
 
-    ghost view = { λ j. record { ask = j.request.ask; keys = arc_value j.keys; signature = j.signature } };
+    ghost view = { λ j. record { ask = j.request.now.ask; keys = arc_value j.keys; signature = j.signature } };
 
-    ghost invariant = { λ j. (j.signature ≡ signature_under (arc_value j.keys) j.request.ask)
-        × (j.by ≡ signed_by (Some (arc_value j.keys)) j.request.ask) };
+    ghost invariant = { λ j. (j.signature ≡ signature_under (arc_value j.keys) j.request.now.ask)
+        × (j.by ≡ signed_by (Some (arc_value j.keys)) j.request.now.ask)
+        × (j.token ≡ token_asked j.request.now.ask) };
 }
 
 // How the signature of a request is judged, and which key gives it.
@@ -57,12 +62,19 @@ struct Outcome {
     by: SignedBy,
 }
 
-// How the signature of the request is judged, and which key gives it. Neither key is named if there is no signature to judge.
-fn found(alloc: Global, keys: &Keys, request: &Request) -> Result<Outcome, AllocError>
+// How the signature of the request, whose token was read, is judged, and which key gives it. Neither key is named if there is no
+// signature to judge.
+fn found(
+    alloc: Global,
+    keys: &Keys,
+    request: &Request,
+    token: Option<&Token<'_>>,
+) -> Result<Outcome, AllocError>
+    requires { option_copied token ≡ token_asked request.now.ask }
     ensures signature { IfOk result (λ f. f.signature ≡ signature_under keys.now request.now.ask) }
     ensures by { IfOk result (λ f. f.by ≡ signed_by (Some keys.now) request.now.ask) }
 {
-    let (signature, by) = match signature_by(alloc, Some(keys), request.ask())? {
+    let (signature, by) = match signature_with(alloc, Some(keys), request.ask(), token)? {
         Some(SignedBy::First) => (Signature::True, SignedBy::First),
         Some(SignedBy::Second) => (Signature::True, SignedBy::Second),
         Some(SignedBy::Neither) => (Signature::False, SignedBy::Neither),
@@ -73,8 +85,12 @@ fn found(alloc: Global, keys: &Keys, request: &Request) -> Result<Outcome, Alloc
 
 /// Judges the signature of the request under the pair of keys.
 ///
-/// `AllocError` if memory runs out for the string to sign or for a signature, or if what is shared can have no further owner.
-pub fn judge(alloc: Global, keys: &Arc<Keys>, request: &Request) -> Result<Judged, AllocError>
+/// `AllocError` if memory runs out for the string to sign or for a signature, or if the pair can have no further owner.
+pub fn judge<'a>(
+    alloc: Global,
+    keys: &Arc<Keys>,
+    request: &'a Request,
+) -> Result<Judged<'a>, AllocError>
     ensures ask { IfOk result (λ j. j.ask ≡ request.now.ask) }
     ensures keys { IfOk result (λ j. j.keys ≡ arc_value keys.now) }
     ensures true_one { IfOk result (λ j.
@@ -82,18 +98,19 @@ pub fn judge(alloc: Global, keys: &Arc<Keys>, request: &Request) -> Result<Judge
     ensures false_one { IfOk result (λ j. (j.signature ≡ signature.False)
         ↔ IsTrue (has_false_signature (Some (arc_value keys.now)) request.now.ask)) }
 {
-    let outcome = found(alloc, keys, request)?;
-    let request = request.without_body()?;
+    let token = token_asked(request.ask());
+    let outcome = found(alloc, keys, request, token.as_ref())?;
     let keys = keys.clone()?;
     Ok(Judged {
         request,
         keys,
         signature: outcome.signature,
         by: outcome.by,
+        token,
     })
 }
 
-impl Judged {
+impl<'a> Judged<'a> {
     /// Whether the judgement is of this request, whose body does not matter.
     pub fn is_for(&self, request: &Request) -> bool
         ensures { IsTrue result ↔ (self.now.ask ≡ request.now.ask) }
@@ -124,5 +141,16 @@ impl Judged {
     {
         let _request = &self.request;
         self.by
+    }
+
+    /// The token by which the request asks, as `token_asked` reads it. `None` if it asks by another route, or if its query is not a token.
+    pub fn token(&self) -> Option<&Token<'a>>
+        ensures { option_copied result ≡ token_asked self.now.ask }
+    {
+        let _request = &self.request;
+        match &self.token {
+            Some(token) => Some(token),
+            None => None,
+        }
     }
 }

@@ -20,7 +20,7 @@ fn is_same_pair(pair: &Keys, other: &Keys) -> bool
 }
 
 // Whether the judgement is of the pair in force.
-fn is_in_force(judged: &Judged, keys: Option<&Keys>) -> bool
+fn is_in_force(judged: &Judged<'_>, keys: Option<&Keys>) -> bool
     ensures { IsTrue result ↔ (option_copied keys.entry ≡ Some judged.now.keys) }
 {
     match keys {
@@ -31,7 +31,7 @@ fn is_in_force(judged: &Judged, keys: Option<&Keys>) -> bool
 
 // Whether the signature is false under the keys in force, if the judgement is of that pair.
 #[tactic(auto, using(crate::proofs::JudgementLemmas::false_under))]
-fn is_false_by(judged: &Judged, keys: Option<&Keys>) -> Option<bool>
+fn is_false_by(judged: &Judged<'_>, keys: Option<&Keys>) -> Option<bool>
     ensures known { IsSome result ↔ (option_copied keys.entry ≡ Some judged.now.keys) }
     ensures value { IfSome result (λ is_false.
         is_false ≡ has_false_signature (option_copied keys.entry) judged.now.ask) }
@@ -44,17 +44,17 @@ fn is_false_by(judged: &Judged, keys: Option<&Keys>) -> Option<bool>
 }
 
 /// Whether a request may be served at a moment: what `verdict` answers. A judgement changes no answer: one of the pair in force spares
-/// the signature, and the call then takes no memory; one of another pair, or of another epoch, is not used.
+/// the signature and the reading of the token, and the call then takes no memory; one of another pair, or of another epoch, is not used.
 ///
 /// `AllocError` if memory runs out for the string to sign or for a signature.
-#[tactic(auto, using(crate::proofs::JudgementLemmas::false_of_ask))]
+#[tactic(auto, using(crate::proofs::JudgementLemmas::false_of_ask, crate::proofs::JudgementLemmas::token_of_ask))]
 pub fn verdict_by(
     alloc: Global,
     keys: Option<&Keys>,
     acl: Option<&Acl>,
     request: &Request,
     now: Moment,
-    judged: Option<&Judged>,
+    judged: Option<&Judged<'_>>,
 ) -> Result<Verdict, AllocError>
     requires { IsOfAsk (option_copied judged) request.now.ask }
     ensures value { IfOk result (λ v.
@@ -65,7 +65,7 @@ pub fn verdict_by(
 {
     if let Some(judged) = judged {
         if let Some(is_false) = is_false_by(judged, keys) {
-            return Ok(verdict_judged(keys, acl, request, now, is_false));
+            return Ok(verdict_judged(keys, acl, request, judged.token(), now, is_false));
         }
     }
     verdict(alloc, keys, acl, request, now)
@@ -80,7 +80,7 @@ pub fn signer_by(
     alloc: Global,
     keys: Option<&Keys>,
     request: &Request,
-    judged: Option<&Judged>,
+    judged: Option<&Judged<'_>>,
 ) -> Result<SignedBy, AllocError>
     requires { IsOfAsk (option_copied judged) request.now.ask }
     ensures value { IfOk result (λ by. by ≡ signed_by (option_copied keys.entry) request.now.ask) }

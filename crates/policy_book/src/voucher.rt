@@ -11,15 +11,15 @@ use std::alloc::{AllocError, Global};
 use std::marker::Model;
 use std::sync::Arc;
 
-/// A request without its body whose signature was found true, and the pair of keys under which it is true.
+/// A request, whose body does not matter, whose signature was found true, and the pair of keys under which it is true.
 ///
 /// It says nothing of a container, a policy or a moment.
 #[derive(Drop)]
-pub struct Voucher {
-    judged: Judged,
+pub struct Voucher<'a> {
+    judged: Judged<'a>,
 }
 
-impl Model for Voucher {
+impl<'a> Model for Voucher<'a> {
     ghost use Rattle.std.specs.Prelude.{◌≡◌};
     ghost use Rattle.policy_book.specs.Judgements.{Vouched};
     ghost use Rattle.policy_book.specs.declared.judged.Signature.TheVariants as signature;
@@ -31,15 +31,15 @@ impl Model for Voucher {
     ghost invariant = { λ v. v.judged.signature ≡ signature.True };
 }
 
-/// A voucher for the request, if its signature is true under the pair of keys. It shares the pair and what the request asks, and
-/// copies neither.
+/// A voucher for the request, if its signature is true under the pair of keys. It borrows the request and
+/// shares the pair.
 ///
-/// `AllocError` if memory runs out for the string to sign or for a signature, or if what is shared can have no further owner.
-pub fn vouch(
+/// `AllocError` if memory runs out for the string to sign or for a signature, or if the pair can have no further owner.
+pub fn vouch<'a>(
     alloc: Global,
     keys: &Arc<Keys>,
-    request: &Request,
-) -> Result<Option<Voucher>, AllocError>
+    request: &'a Request,
+) -> Result<Option<Voucher<'a>>, AllocError>
     ensures signed { IfOk result (λ o. IsSome o ↔ IsSigned (arc_value keys.now) request.now.ask) }
     ensures value { IfOk result (λ o.
         IfSome o (λ v. v ≡ record { ask = request.now.ask; keys = arc_value keys.now })) }
@@ -52,7 +52,7 @@ pub fn vouch(
     Ok(Some(Voucher { judged }))
 }
 
-impl Voucher {
+impl<'a> Voucher<'a> {
     /// Whether the voucher is for this request, whose body does not matter.
     pub fn is_for(&self, request: &Request) -> bool
         ensures { IsTrue result ↔ (self.now.ask ≡ request.now.ask) }
@@ -68,7 +68,7 @@ impl Voucher {
     }
 
     /// The judgement, which found the signature true.
-    pub fn judged(&self) -> &Judged
+    pub fn judged(&self) -> &Judged<'a>
         ensures { result.now ≡ record { ask = self.now.ask; keys = self.now.keys; signature = signature.True } }
     {
         &self.judged

@@ -1,1 +1,2 @@
 pub mod DecisionLemmas
+pub mod OverrideLemmas

@@ -20,7 +20,7 @@ use access_rules::{Keys, Verdict};
 use block_blobs::FoundBlocks;
 use body_forms::Draft;
 use list_pages::{blob_list_reply, container_list_reply};
-use policy_book::verdict_by;
+use policy_book::{Judged, verdict_by};
 use range_rows::{Allowed, FramedAnswer, ObjectVerdict, Reading, Target};
 use row_trees::Rows;
 use stamp_types::{Change, Code, Items, Key, Moment, Op, Refusal, Request, Rule};
@@ -53,7 +53,7 @@ fn access_refusal(rule: Rule) -> Refusal
 fn permission(
     alloc: Global,
     keys: Option<&Keys>,
-    judged: Option<&policy_book::Judged>,
+    judged: Option<&Judged<'_>>,
     target: &Target<'_>,
     request: &Request,
     moment: Moment,
@@ -73,15 +73,17 @@ fn answer_found(
     alloc: Global,
     allowed: &Allowed<'_>,
     request: &Request,
+    judged: Option<&Judged<'_>>,
     moment: Moment,
 ) -> Result<FramedAnswer, AllocError>
+    requires judged { IsOfAsk (option_copied judged) request.now.ask }
     requires allowed { IsAllowed allowed.now request.now }
     requires names { lists_names request.now.ask.op ≡ false }
     ensures found { IfOk result (λ answer.
         answer ≡ found_answer allowed.now.target.container request.now moment) }
     ensures sent { IfOk result (λ answer. CanBeSent answer) }
 {
-    let replaced = replacements(request.ask());
+    let replaced = replacements(request.ask(), judged);
     let answer = allowed.reply(alloc, request, moment, &replaced)?;
     Ok(answer)
 }
@@ -98,30 +100,38 @@ fn whole(alloc: Global, frame: Draft) -> FramedAnswer
     }
 }
 
-// The answer to a request that nothing refuses. A list of containers is made from all rows, which end at the bound.
+// The rows from which a list of containers is made, and the key at which they end, if keys after it are elsewhere.
+#[derive(Drop)]
+struct Listed<'a> {
+    rows: &'a Rows,
+    bound: Option<&'a Key>,
+}
+
+// The answer to a request that nothing refuses.
 fn answer(
     alloc: Global,
-    rows: &Rows,
+    listed: &Listed<'_>,
     allowed: &Allowed<'_>,
     request: &Request,
+    judged: Option<&Judged<'_>>,
     moment: Moment,
-    bound: Option<&Key>,
 ) -> Result<FramedAnswer, AllocError>
-    requires { IsAllowed allowed.now request.now }
-    ensures answered { IfOk result (λ answer. answer ≡ row_answer rows.now allowed.now.target.container
-        request.now moment (option_copied bound.entry)) }
+    requires judged { IsOfAsk (option_copied judged) request.now.ask }
+    requires allowed { IsAllowed allowed.now request.now }
+    ensures answered { IfOk result (λ answer. answer ≡ row_answer listed.now.rows.now
+        allowed.now.target.container request.now moment (option_copied listed.now.bound)) }
     ensures sent { IfOk result (λ answer. CanBeSent answer) }
 {
     match request.ask().op {
         Op::ListContainers => {
-            let frame = container_list_reply(alloc, rows, request, bound)?;
+            let frame = container_list_reply(alloc, listed.rows, request, listed.bound)?;
             Ok(whole(alloc, frame))
         }
         Op::ListBlobs => {
             let frame = blob_list_reply(alloc, &allowed.target.container, request)?;
             Ok(whole(alloc, frame))
         }
-        _ => answer_found(alloc, allowed, request, moment),
+        _ => answer_found(alloc, allowed, request, judged, moment),
     }
 }
 
@@ -149,23 +159,24 @@ fn change(
 // What is decided on a request that nothing refuses.
 fn answered(
     alloc: Global,
-    rows: &Rows,
+    listed: &Listed<'_>,
     allowed: Allowed<'_>,
     request: &Request,
+    judged: Option<&Judged<'_>>,
     reading: Reading,
     moment: Moment,
-    bound: Option<&Key>,
 ) -> Result<FramedDecision, AllocError>
+    requires judged { IsOfAsk (option_copied judged) request.now.ask }
     requires allowed { IsAllowed allowed request.now }
     requires read { reading ≡ reading_of request.now }
     ensures given { IfOk result (λ given. given
-        ≡ framed.Allowed (row_answer rows.now allowed.entry.target.container request.now moment
-        (option_copied bound.entry))
+        ≡ framed.Allowed (row_answer listed.now.rows.now allowed.entry.target.container request.now
+        moment (option_copied listed.now.bound))
         (change_of (sizes_found allowed.entry.target.container) request.now moment)
         allowed.entry.found.blocks) }
     ensures sent { IfOk result (λ given. AnswerCanBeSent given) }
 {
-    let answer = match answer(alloc, rows, &allowed, request, moment, bound) {
+    let answer = match answer(alloc, listed, &allowed, request, judged, moment) {
         Ok(answer) => answer,
         Err(fault) => {
             drop(reading);
@@ -185,19 +196,20 @@ fn answered(
 // change.
 fn permitted(
     alloc: Global,
-    rows: &Rows,
+    listed: &Listed<'_>,
     target: Target<'_>,
     request: &Request,
+    judged: Option<&Judged<'_>>,
     reading: Reading,
     moment: Moment,
-    bound: Option<&Key>,
 ) -> Result<FramedDecision, AllocError>
+    requires judged { IsOfAsk (option_copied judged) request.now.ask }
     requires target { IsTarget target request.now.ask }
     requires read { reading ≡ reading_of request.now }
     ensures decided { IfOk result (λ decision. decision
         ≡ framed_by (object_refusal (sizes_found target.entry.container) request.now)
-        (row_answer rows.now target.entry.container request.now moment
-        (option_copied bound.entry))
+        (row_answer listed.now.rows.now target.entry.container request.now moment
+        (option_copied listed.now.bound))
         (change_of (sizes_found target.entry.container) request.now moment)
         (blocks_found target.entry.container request.now).blocks) }
     ensures sent { IfOk result (λ decision. AnswerCanBeSent decision) }
@@ -205,7 +217,7 @@ fn permitted(
     match target.judge(alloc, request, &reading)? {
         ObjectVerdict::Refused(refusal) => Ok(FramedDecision::Refused(refusal)),
         ObjectVerdict::Allowed(allowed) => answered(
-            alloc, rows, allowed, request, reading, moment, bound,
+            alloc, listed, allowed, request, judged, reading, moment,
         ),
     }
 }
@@ -214,16 +226,16 @@ fn permitted(
 /// frame. So the content of the rows may be anywhere, also at places in streams.
 ///
 /// `AllocError` if memory runs out.
-pub fn decide_frame(
+pub fn decide_frame<'a>(
     alloc: Global,
     keys: Option<&Keys>,
-    judged: Option<&policy_book::Judged>,
-    rows: &Rows,
+    judged: Option<&Judged<'_>>,
+    rows: &'a Rows,
     target: Target<'_>,
     request: &Request,
     reading: Reading,
     moment: Moment,
-    bound: Option<&Key>,
+    bound: Option<&'a Key>,
 ) -> Result<FramedDecision, AllocError>
     requires judged { IsOfAsk (option_copied judged) request.now.ask }
     requires target { IsTarget target request.now.ask }
@@ -234,6 +246,9 @@ pub fn decide_frame(
 {
     match permission(alloc, keys, judged, &target, request, moment)? {
         Verdict::Deny(rule) => Ok(FramedDecision::Refused(access_refusal(rule))),
-        Verdict::Allow(_way) => permitted(alloc, rows, target, request, reading, moment, bound),
+        Verdict::Allow(_way) => {
+            let listed = Listed { rows, bound };
+            permitted(alloc, &listed, target, request, judged, reading, moment)
+        }
     }
 }

@@ -25,6 +25,8 @@ use Rattle.stamp_types.specs.Replies.{text_reply, xml_header}
 use Rattle.stamp_types.specs.Requests.{Asked}
 use Rattle.stamp_types.specs.World.{Blob, Part, no_blob}
 use Rattle.body_forms.specs.WrittenPolicies.{policies_text}
+use Rattle.range_rows.specs.declared.frames.KeptHeader.{KeptHeader}
+use Rattle.range_rows.specs.declared.frames.KeptHeader.TheVariants as kept
 use Rattle.range_rows.specs.NamedBlobs.{target_blob}
 use Rattle.range_rows.specs.ObjectRules.{blob_size, named_blob}
 use Rattle.range_rows.specs.Ranges.{range_end, sent_range}
@@ -35,6 +37,12 @@ use Rattle.range_rows.specs.ShownBlocks.{list_text}
 abbrev pub line_of : (List ℕ → Header) → List ℕ → List Header
 line_of make [] = []
 line_of make (b ∷ bs) = make (b ∷ bs) ∷ []
+
+-- the header of a text that is kept with a blob, and that the request may replace
+abbrev pub header_of : KeptHeader → List ℕ → Header
+header_of kept.Encoding = header.ContentEncoding
+header_of kept.Language = header.ContentLanguage
+header_of kept.CacheControl = header.CacheControl
 
 -- which change wrote last, and when
 abbrev pub date_headers : ℕ → ℕ → List Header

@@ -20,50 +20,39 @@ use stamp_types::{
 };
 use std::alloc::{AllocError, Global};
 
-fn push_encoding(
-    alloc: Global,
-    headers: &mut Vec<Header>,
-    replacement: &[u8],
-    own: &Visible,
-) -> Result<(), AllocError>
-    requires { IsTrue (is_visible replacement.now) }
-    ensures { OnOk result (headers.new.items ≡ headers.old.items
-        ++ frames.line_of header.ContentEncoding (or_own replacement.now own.now)) }
-{
-    if !replacement.is_empty() || !own.as_str().is_empty() {
-        headers.push(Header::ContentEncoding(shown(alloc, replacement, own)?))?;
-    }
-    Ok(())
+// A header of a text that is kept with a blob, and that the request may replace.
+#[derive(Clone, Copy)]
+enum KeptHeader {
+    Encoding,
+    Language,
+    CacheControl,
 }
 
-fn push_language(
-    alloc: Global,
-    headers: &mut Vec<Header>,
-    replacement: &[u8],
-    own: &Visible,
-) -> Result<(), AllocError>
-    requires { IsTrue (is_visible replacement.now) }
-    ensures { OnOk result (headers.new.items ≡ headers.old.items
-        ++ frames.line_of header.ContentLanguage (or_own replacement.now own.now)) }
+// The header with this text.
+fn header_of(name: KeptHeader, text: Visible) -> Header
+    ensures { result ≡ frames.header_of name text }
 {
-    if !replacement.is_empty() || !own.as_str().is_empty() {
-        headers.push(Header::ContentLanguage(shown(alloc, replacement, own)?))?;
+    match name {
+        KeptHeader::Encoding => Header::ContentEncoding(text),
+        KeptHeader::Language => Header::ContentLanguage(text),
+        KeptHeader::CacheControl => Header::CacheControl(text),
     }
-    Ok(())
 }
 
-fn push_cache_control(
+// Puts the line of a header after the headers, if the header has a text.
+fn push_text(
     alloc: Global,
     headers: &mut Vec<Header>,
+    name: KeptHeader,
     replacement: &[u8],
     own: &Visible,
 ) -> Result<(), AllocError>
     requires { IsTrue (is_visible replacement.now) }
     ensures { OnOk result (headers.new.items ≡ headers.old.items
-        ++ frames.line_of header.CacheControl (or_own replacement.now own.now)) }
+        ++ frames.line_of (frames.header_of name) (or_own replacement.now own.now)) }
 {
     if !replacement.is_empty() || !own.as_str().is_empty() {
-        headers.push(Header::CacheControl(shown(alloc, replacement, own)?))?;
+        headers.push(header_of(name, shown(alloc, replacement, own)?))?;
     }
     Ok(())
 }
@@ -107,11 +96,13 @@ fn push_kept(
 {
     let content_type = shown(alloc, replaced.content_type(), props.content_type())?;
     headers.push(Header::ContentType(content_type))?;
-    push_encoding(alloc, headers, replaced.encoding(), props.encoding())?;
-    push_language(alloc, headers, replaced.language(), props.language())?;
+    let (encoding, own) = (replaced.encoding(), props.encoding());
+    push_text(alloc, headers, KeptHeader::Encoding, encoding, own)?;
+    let (language, own) = (replaced.language(), props.language());
+    push_text(alloc, headers, KeptHeader::Language, language, own)?;
     push_md5(headers, md5)?;
-    let cache_control = props.cache_control();
-    push_cache_control(alloc, headers, replaced.cache_control(), cache_control)?;
+    let (cache_control, own) = (replaced.cache_control(), props.cache_control());
+    push_text(alloc, headers, KeptHeader::CacheControl, cache_control, own)?;
     push_disposition(alloc, headers, replaced.disposition())?;
     Ok(())
 }

@@ -16,6 +16,11 @@ use Rattle.stored_slot.specs.Settled.{CutsSettled, SettlesDoubtBy, SettlesSlot}
 use Rattle.served_slots.specs.Audits.{AuditsInSlot}
 use Rattle.served_slots.specs.Steps.{SaysReply}
 
+-- a request that is served without an entry
+pub unaudited : (s : SlotState) (q : Asked) (t : ℕ) (F : Type 0) (a : Answer) (s' : SlotState) → SlotServes s q t F a s' → stored.SlotAudits s q t F a None s'
+unaudited s q t F a s' (inl is) = inl (is.0, (is.1.0, (is.1.1, tt)))
+unaudited s q t F a s' (inr is) = inr (is.0, (is.1.0, (is.1.1, refl)))
+
 some_none : (o : Option Past) → o ≡ None → IsSome o → ⊥
 some_none None is some = cc
 some_none (Some e) is some = cc

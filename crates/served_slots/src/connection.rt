@@ -123,22 +123,16 @@ impl<'a, A: Account, R: Wait> SlotsService<'a, A, R> {
         ensures same { OnErr result (self.new.known ≡ self.old.known) }
     {
         let reading = Reading::of(alloc, request)?;
-        let Ok(ready) = self.slots.ready(self.rt, alloc, request) else {
+        let is_audited = self.books.is_some();
+        let Ok(ready) = self
+            .slots
+            .ready(self.rt, alloc, request, moment, is_audited)
+        else {
             drop(reading);
             return Err(AllocError);
         };
         let mut known = self.known.again();
-        let told = self.slots.serve(
-            self.rt,
-            alloc,
-            &mut known,
-            request,
-            &ready,
-            reading,
-            moment,
-            self.books.is_some(),
-            self.is_short(),
-        )?;
+        let told = self.slots.serve(self.rt, alloc, &mut known, &ready, reading, self.is_short())?;
         let (reply, entry) = told.fetch()?;
         post(self.rt, self.books, entry);
         self.known = known;

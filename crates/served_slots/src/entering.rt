@@ -1,6 +1,5 @@
 //! A request or a split on a slot whose containers are those that its history leaves, and its entry in the history.
 ghost use Rattle.std.specs.Prelude.{◌≡◌, ◌+◌, ◌<◌, ◌^◌, IfOk, IfSome, MatchBool, None, OnErr, OnOk, false, true};
-ghost use Rattle.std.specs.Option.{option_copied};
 ghost use Rattle.policy_book.specs.Judgements.{IsOfAsk};
 ghost use Rattle.range_rows.specs.Readings.{reading_of};
 ghost use Rattle.stamp_model.specs.SeenContainers.{routed};
@@ -14,10 +13,9 @@ ghost use Rattle.served_slots.specs.Steps.{IfNoMemory, HasOneMore, UnlessLost};
 
 use crate::steadily::{cut_steadily, tell_steadily};
 use crate::told::Told;
-use policy_book::Judged;
 use range_rows::Reading;
 use served_history::{Account, LogFront, SlotHistory, SlotWord, TimedCall};
-use slot_state::ProvedHistories;
+use slot_state::{ProvedHistories, Ready};
 use stamp_types::{Key, Moment, Request};
 use std::alloc::Global;
 use stored_slot::StoredSlot;
@@ -78,38 +76,34 @@ pub(crate) fn serve_and_enter<A: Account>(
     to: &Option<Key>,
     alloc: Global,
     known: &mut LogFront<A>,
-    request: &Request,
-    first: &Key,
-    judged: Option<&Judged>,
+    ready: &Ready<'_>,
     reading: Reading,
-    moment: Moment,
-    is_audited: bool,
 ) -> Result<Told, Missed>
     requires left { IsLeftBy own.old to.now slot.old }
-    requires first { first.now ≡ routed request.now }
-    requires judged { IsOfAsk (option_copied judged) request.now.ask }
-    requires read { reading ≡ reading_of request.now }
-    ensures served { IfOk result (λ told. IsServed known.old request.now moment told.replied known.new) }
-    ensures audited { IfOk result (λ told. AuditsLast known.new request.now moment told.entry) }
-    ensures unasked { IfOk result (λ told. is_audited ≡ false → told.entry ≡ None) }
+    requires first { ready.now.first ≡ routed ready.now.request.now }
+    requires judged { IsOfAsk ready.now.judged ready.now.request.now.ask }
+    requires read { reading ≡ reading_of ready.now.request.now }
+    ensures served { IfOk result (λ told. IsServed known.old ready.now.request.now ready.now.moment told.replied known.new) }
+    ensures audited { IfOk result (λ told. AuditsLast known.new ready.now.request.now ready.now.moment told.entry) }
+    ensures unasked { IfOk result (λ told. ready.now.is_audited ≡ false → told.entry ≡ None) }
     ensures same { OnErr result (known.new ≡ known.old) }
     ensures left { UnlessLost result (IsLeftBy own.new to.now slot.new) }
     ensures made { OnOk result (HasOneMore own.old known.new own.new) }
     ensures stays { OnErr result (own.new ≡ own.old) }
 {
-    let _ask = request.ask();
+    let _ask = ready.request.ask();
     if own.is_full() {
         drop(reading);
         return Err(Missed::NoMemory);
     }
-    if !slot.covers(first) {
+    if !slot.covers(&ready.first) {
         drop(reading);
         return Err(Missed::NoMemory);
     }
-    let Ok(told) = tell_steadily(slot, alloc, request, judged, reading, moment, is_audited) else {
+    let Ok(told) = tell_steadily(slot, alloc, ready, reading) else {
         return Err(Missed::NoMemory);
     };
-    if !enter(slot, own, to, known, request, moment) {
+    if !enter(slot, own, to, known, ready.request, ready.moment) {
         drop(told);
         return Err(Missed::Lost);
     }

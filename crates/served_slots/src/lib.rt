@@ -13,7 +13,6 @@ mod operator;
 mod posting;
 #[cfg(test)]
 mod posting_tests;
-mod ready;
 mod replied;
 mod reserve;
 #[cfg(test)]

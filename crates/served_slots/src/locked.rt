@@ -13,13 +13,12 @@ ghost use Rattle.served_slots.specs.Steps.{IsPartedFrom, MakesOne, StaysOrEnds};
 pub(crate) mod rotating;
 
 use crate::entering::{Missed, Upper, cut_and_enter, serve_and_enter};
-use crate::ready::Ready;
 use crate::steadily::{compact_steadily, first_slot};
 use crate::told::Told;
 use range_rows::Reading;
 use served_history::{Account, LogFront, SlotHistory, SlotWord};
-use slot_state::{AccountPairs, ProvedHistories};
-use stamp_types::{Key, Moment, Request};
+use slot_state::{AccountPairs, ProvedHistories, Ready};
+use stamp_types::Key;
 use std::alloc::{AllocError, Global};
 use std::marker::Model;
 use std::sync::Arc;
@@ -110,18 +109,15 @@ impl<A: Account> LockedSlot<A> {
         &mut self,
         alloc: Global,
         known: &mut LogFront<A>,
-        request: &Request,
-        ready: &Ready,
+        ready: &Ready<'_>,
         reading: Reading,
-        moment: Moment,
-        is_audited: bool,
     ) -> Result<Told, AllocError>
-        requires first { ready.now.first ≡ routed request.now }
-        requires judged { IsOfAsk ready.now.judged request.now.ask }
-        requires read { reading ≡ reading_of request.now }
-        ensures served { IfOk result (λ told. IsServed known.old request.now moment told.replied known.new) }
-        ensures audited { IfOk result (λ told. AuditsLast known.new request.now moment told.entry) }
-        ensures unasked { IfOk result (λ told. is_audited ≡ false → told.entry ≡ None) }
+        requires first { ready.now.first ≡ routed ready.now.request.now }
+        requires judged { IsOfAsk ready.now.judged ready.now.request.now.ask }
+        requires read { reading ≡ reading_of ready.now.request.now }
+        ensures served { IfOk result (λ told. IsServed known.old ready.now.request.now ready.now.moment told.replied known.new) }
+        ensures audited { IfOk result (λ told. AuditsLast known.new ready.now.request.now ready.now.moment told.entry) }
+        ensures unasked { IfOk result (λ told. ready.now.is_audited ≡ false → told.entry ≡ None) }
         ensures same { OnErr result (known.new ≡ known.old) }
         ensures made { OnOk result (MakesOne self.old known.new self.new) }
         ensures stays { OnErr result (StaysOrEnds self.old self.new) }
@@ -130,19 +126,7 @@ impl<A: Account> LockedSlot<A> {
             drop(reading);
             return Err(AllocError);
         };
-        match serve_and_enter(
-            &mut self.slot,
-            own,
-            &self.to,
-            alloc,
-            known,
-            request,
-            &ready.first,
-            ready.judged.as_ref(),
-            reading,
-            moment,
-            is_audited,
-        ) {
+        match serve_and_enter(&mut self.slot, own, &self.to, alloc, known, ready, reading) {
             Ok(told) => Ok(told),
             Err(Missed::NoMemory) => Err(AllocError),
             Err(Missed::Lost) => {

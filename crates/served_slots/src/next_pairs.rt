@@ -11,6 +11,14 @@ use std::alloc::{AllocError, Global};
 use std::sync::Arc;
 use stored_slot::StoredSlot;
 
+/// A key that takes the place of one of the two keys of an account.
+#[derive(Drop)]
+pub(crate) struct KeyChange<'a> {
+    pub(crate) account: &'a Text,
+    pub(crate) which: Which,
+    pub(crate) key: &'a SigningKey,
+}
+
 /// The pairs of the slot after a key of the account's pair in force is replaced. If the new pair was made before, for other pairs, it has one more
 /// owner.
 ///
@@ -18,16 +26,14 @@ use stored_slot::StoredSlot;
 pub(crate) fn longer_in(
     slot: &StoredSlot<ProvedHistories>,
     alloc: Global,
-    account: &Text,
-    which: Which,
-    key: &SigningKey,
+    change: &KeyChange<'_>,
     made: Option<&Arc<Keys>>,
 ) -> Result<Longer, RotateFault>
-    ensures made { IfOk result (λ longer. HasNextPair slot.now.pairs account.now which key.now longer.epoch (arc_value longer.pairs)) }
-    ensures refused { IfErr result (λ fault. HasNoNextPair slot.now.pairs account.now fault) }
+    ensures made { IfOk result (λ longer. HasNextPair slot.now.pairs change.now.account.now change.now.which change.now.key.now longer.epoch (arc_value longer.pairs)) }
+    ensures refused { IfErr result (λ fault. HasNoNextPair slot.now.pairs change.now.account.now fault) }
 {
     slot.account_pairs()
-        .rotated(alloc, account, which, key, made)
+        .rotated(alloc, change.account, change.which, change.key, made)
 }
 
 /// The pairs by which signatures are judged before a lock is taken, after the rotation; none if no epoch comes after their pair in force. No clause

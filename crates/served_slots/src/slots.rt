@@ -17,7 +17,6 @@ ghost use Rattle.served_slots.specs.Slots.{IsLeftBy};
 ghost use Rattle.served_slots.specs.Steps.{IsSplitFault, SpansSay};
 
 use crate::next_pairs::{judging_pairs, made_pair};
-use crate::ready::Ready;
 use crate::splitting::SplitFault;
 use crate::table::Table;
 use crate::told::Told;
@@ -26,7 +25,7 @@ use hmac_sign::SigningKey;
 use partition_map::MOST_SLOTS;
 use range_rows::Reading;
 use served_history::{Account, LogFront, NewHistory, SlotHistory, SlotWord};
-use slot_state::{AccountPairs, PairsFault};
+use slot_state::{AccountPairs, PairsFault, Ready};
 use stamp_types::{Key, Moment, Request, Text};
 use std::alloc::{AllocError, Global};
 use std::marker::PhantomData;
@@ -172,20 +171,24 @@ impl<A: Account> Slots<A> {
         Ok((Slots { pairs, table }, front))
     }
 
-    /// What is made of the request before a lock is taken.
+    /// The request with what is made of it before a lock is taken.
     ///
     /// `AllocError` if memory runs out.
-    pub(crate) fn ready<R: Wait>(
+    pub(crate) fn ready<'a, R: Wait>(
         &self,
         rt: &R,
         alloc: Global,
-        request: &Request,
-    ) -> Result<Ready, AllocError>
+        request: &'a Request,
+        moment: Moment,
+        is_audited: bool,
+    ) -> Result<Ready<'a>, AllocError>
+        ensures request { IfOk result (λ ready. ready.request.now ≡ request.now) }
+        ensures moment { IfOk result (λ ready. ready.moment ≡ moment) }
         ensures first { IfOk result (λ ready. ready.first ≡ routed request.now) }
         ensures judged { IfOk result (λ ready. IsOfAsk ready.judged request.now.ask) }
     {
         let pairs = self.judging_pairs(rt)?;
-        Ready::of(alloc, &pairs, request)
+        Ready::of(alloc, &pairs, request, moment, is_audited)
     }
 
     /// The key pairs by which signatures are judged before a lock is taken.
@@ -205,24 +208,21 @@ impl<A: Account> Slots<A> {
         rt: &R,
         alloc: Global,
         known: &mut LogFront<A>,
-        request: &Request,
-        ready: &Ready,
+        ready: &Ready<'_>,
         reading: Reading,
-        moment: Moment,
-        is_audited: bool,
         is_short: bool,
     ) -> Result<Told, AllocError>
-        requires first { ready.now.first ≡ routed request.now }
-        requires judged { IsOfAsk ready.now.judged request.now.ask }
-        requires read { reading ≡ reading_of request.now }
-        ensures served { IfOk result (λ told. IsServed known.old request.now moment told.replied known.new) }
-        ensures audited { IfOk result (λ told. AuditsLast known.new request.now moment told.entry) }
-        ensures unasked { IfOk result (λ told. is_audited ≡ false → told.entry ≡ None) }
+        requires first { ready.now.first ≡ routed ready.now.request.now }
+        requires judged { IsOfAsk ready.now.judged ready.now.request.now.ask }
+        requires read { reading ≡ reading_of ready.now.request.now }
+        ensures served { IfOk result (λ told. IsServed known.old ready.now.request.now ready.now.moment told.replied known.new) }
+        ensures audited { IfOk result (λ told. AuditsLast known.new ready.now.request.now ready.now.moment told.entry) }
+        ensures unasked { IfOk result (λ told. ready.now.is_audited ≡ false → told.entry ≡ None) }
         ensures same { OnErr result (known.new ≡ known.old) }
     {
         let table = self.table.read(rt);
         let mut locked = table.locked(rt, alloc, &ready.first, is_short);
-        locked.answer(alloc, known, request, ready, reading, moment, is_audited)
+        locked.answer(alloc, known, ready, reading)
     }
 
     /// Has each slot give up what few bytes it has to which nothing refers. Returns whether a slot had such bytes.

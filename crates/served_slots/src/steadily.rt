@@ -1,9 +1,9 @@
 //! What a slot does over nodes in memory, which answer each call.
 ghost use Rattle.std.specs.Prelude.{◌≡◌, IfOk, None, OnErr, OnOk, false, true};
 ghost use Rattle.std.specs.Arc.{arc_value};
-ghost use Rattle.std.specs.Option.{option_copied};
 ghost use Rattle.stamp_types.specs.World.{no_part};
 ghost use Rattle.stamp_values.specs.declared.key.Key.{Key};
+ghost use Rattle.extent_seal.specs.Counting.{Grows};
 ghost use Rattle.policy_book.specs.Judgements.{IsOfAsk};
 ghost use Rattle.range_rows.specs.Readings.{reading_of};
 ghost use Rattle.stamp_model.specs.SeenContainers.{routed};
@@ -11,14 +11,16 @@ ghost use Rattle.stored_rows.specs.Ranges.{all_keys};
 ghost use Rattle.stored_rows.specs.States.{doubt_of, pieces_of};
 ghost use Rattle.slot_state.specs.Slots as slots;
 ghost use Rattle.slot_state.specs.Slots.{empty_slot, lower_half, upper_half};
+ghost use Rattle.stored_slot.specs.Audits.{SlotAudits};
+ghost use Rattle.stored_slot.specs.Served.{Faulted};
 ghost use Rattle.served_slots.specs.Audits.{AuditsInSlot};
 
 use crate::replied::Replied;
 use crate::told::Told;
-use policy_book::Judged;
+use extent_node::Wire;
 use range_rows::Reading;
-use slot_state::{AccountPairs, ProvedHistories};
-use stamp_types::{Key, Moment, Request};
+use slot_state::{AccountPairs, ProvedHistories, Ready};
+use stamp_types::Key;
 use std::alloc::{AllocError, Global};
 use std::sync::Arc;
 use stored_rows::{Compacted, KeyRange, StoredRows};
@@ -43,55 +45,31 @@ pub(crate) fn first_slot(alloc: Global, pairs: Arc<AccountPairs>) -> StoredSlot<
     slot_of(alloc, rows, pairs)
 }
 
-// Serves a request: one step of the model.
-//
-// `AllocError` if memory runs out. Then the slot is as it was.
-fn serve_steadily(
+// The slot serves a request. If an entry of the audit book is asked for, the request has one if it names a container and is let in.
+fn audit_if<W: Wire>(
     slot: &mut StoredSlot<ProvedHistories>,
     alloc: Global,
-    request: &Request,
-    judged: Option<&Judged>,
+    ready: &Ready<'_>,
     reading: Reading,
-    moment: Moment,
-) -> Result<Replied, AllocError>
-    requires covered { slots.covers slot.old (routed request.now) ≡ true }
-    requires judged { IsOfAsk (option_copied judged) request.now.ask }
-    requires read { reading ≡ reading_of request.now }
-    requires sure { slot.old.doubt ≡ None }
-    ensures served { IfOk result (λ reply. slots.IsServed slot.old request.now moment slot.old.to reply slot.new) }
-    ensures same { OnErr result (slot.new ≡ slot.old) }
+    wire: &mut W,
+) -> Audited
+    requires covered { slots.covers slot.old (routed ready.now.request.now) ≡ true }
+    requires judged { IsOfAsk ready.now.judged ready.now.request.now.ask }
+    requires read { reading ≡ reading_of ready.now.request.now }
+    ensures served { SlotAudits slot.old ready.now.request.now ready.now.moment (Faulted (W.faults wire.old) (W.faults wire.new)) result.answer result.entry slot.new }
+    ensures unasked { ready.now.is_audited ≡ false → result.entry ≡ None }
+    ensures grown { Grows (W.faults wire.old) (W.faults wire.new) }
 {
-    let wire = &mut Steady::new();
-    let answer = slot.serve_read(alloc, request, judged, reading, moment, wire);
-    Replied::of(answer)
-}
-
-// The same, with the entry of the request in the audit book.
-fn audit_steadily(
-    slot: &mut StoredSlot<ProvedHistories>,
-    alloc: Global,
-    request: &Request,
-    judged: Option<&Judged>,
-    reading: Reading,
-    moment: Moment,
-) -> Result<Told, AllocError>
-    requires covered { slots.covers slot.old (routed request.now) ≡ true }
-    requires judged { IsOfAsk (option_copied judged) request.now.ask }
-    requires read { reading ≡ reading_of request.now }
-    requires sure { slot.old.doubt ≡ None }
-    ensures served { IfOk result (λ told. slots.IsServed slot.old request.now moment slot.old.to told.replied slot.new) }
-    ensures audited { IfOk result (λ told. AuditsInSlot slot.old request.now moment told.entry) }
-    ensures same { OnErr result (slot.new ≡ slot.old) }
-{
-    let wire = &mut Steady::new();
-    let Audited { answer, entry } = slot.serve_audited(
-        alloc, request, judged, reading, moment, wire,
-    );
-    let Ok(replied) = Replied::of(answer) else {
-        drop(entry);
-        return Err(AllocError);
-    };
-    Ok(Told { replied, entry })
+    let judged = ready.judged.as_ref();
+    let moment = ready.moment;
+    if ready.is_audited {
+        return slot.serve_audited(alloc, ready.request, judged, reading, moment, wire);
+    }
+    let answer = slot.serve_read(alloc, ready.request, judged, reading, moment, wire);
+    Audited {
+        answer,
+        entry: None,
+    }
 }
 
 /// Serves a request: one step of the model. If entries of the audit book are asked for, the request has one if it names a container and is let in.
@@ -101,31 +79,25 @@ fn audit_steadily(
 pub(crate) fn tell_steadily(
     slot: &mut StoredSlot<ProvedHistories>,
     alloc: Global,
-    request: &Request,
-    judged: Option<&Judged>,
+    ready: &Ready<'_>,
     reading: Reading,
-    moment: Moment,
-    is_audited: bool,
 ) -> Result<Told, AllocError>
-    requires covered { slots.covers slot.old (routed request.now) ≡ true }
-    requires judged { IsOfAsk (option_copied judged) request.now.ask }
-    requires read { reading ≡ reading_of request.now }
+    requires covered { slots.covers slot.old (routed ready.now.request.now) ≡ true }
+    requires judged { IsOfAsk ready.now.judged ready.now.request.now.ask }
+    requires read { reading ≡ reading_of ready.now.request.now }
     requires sure { slot.old.doubt ≡ None }
-    ensures served { IfOk result (λ told. slots.IsServed slot.old request.now moment slot.old.to told.replied slot.new) }
-    ensures audited { IfOk result (λ told. AuditsInSlot slot.old request.now moment told.entry) }
-    ensures unasked { IfOk result (λ told. is_audited ≡ false → told.entry ≡ None) }
+    ensures served { IfOk result (λ told. slots.IsServed slot.old ready.now.request.now ready.now.moment slot.old.to told.replied slot.new) }
+    ensures audited { IfOk result (λ told. AuditsInSlot slot.old ready.now.request.now ready.now.moment told.entry) }
+    ensures unasked { IfOk result (λ told. ready.now.is_audited ≡ false → told.entry ≡ None) }
     ensures same { OnErr result (slot.new ≡ slot.old) }
 {
-    if is_audited {
-        return audit_steadily(slot, alloc, request, judged, reading, moment);
-    }
-    match serve_steadily(slot, alloc, request, judged, reading, moment) {
-        Ok(replied) => Ok(Told {
-            replied,
-            entry: None,
-        }),
-        Err(fault) => Err(fault),
-    }
+    let wire = &mut Steady::new();
+    let Audited { answer, entry } = audit_if(slot, alloc, ready, reading, wire);
+    let Ok(replied) = Replied::of(answer) else {
+        drop(entry);
+        return Err(AllocError);
+    };
+    Ok(Told { replied, entry })
 }
 
 /// Cuts a slot at a key of its range: the upper half is answered.

@@ -10,6 +10,7 @@ ghost use Rattle.served_slots.specs.Steps.{refusal_at, split_at, split_cause};
 
 use crate::locked::LockedSlot;
 use crate::locked::rotating::rotate_from;
+use crate::next_pairs::KeyChange;
 use crate::splitting::SplitFault;
 use access_rules::{Keys, KeysFault, Which};
 use hmac_sign::SigningKey;
@@ -129,16 +130,12 @@ fn rotate_slots<A: Account>(
     let Some((first, rest)) = slots.split_first_mut() else {
         return Ok(None);
     };
-    rotate_from(
-        first.get_mut(),
-        rest,
-        alloc,
-        known,
+    let change = KeyChange {
         account,
         which,
         key,
-        made,
-    )
+    };
+    rotate_from(first.get_mut(), rest, alloc, known, &change, made)
 }
 
 impl<A: Account> Table<A> {

@@ -28,6 +28,16 @@ use std::alloc::{AllocError, Global};
 use stored_slot::{Audited, StoredSlot};
 use tickets::Answer;
 
+// A request that a slot is asked to serve at a moment. Its signature may have been judged before.
+#[derive(Drop)]
+struct Call<'a> {
+    request: &'a Request,
+    judged: Option<&'a Judged<'a>>,
+    moment: Moment,
+    // Whether an entry of the audit book is made, if the request is let in.
+    is_audited: bool,
+}
+
 // Whether what these parts of a pass show is a beginning of what the slot has. The pairs come first.
 fn compare(
     slot: &StoredSlot<KeptHistories>,
@@ -143,28 +153,26 @@ fn follow(slot: &StoredSlot<KeptHistories>, key: &Key, front: &mut Front, known:
 fn serve<W: Wire>(
     slot: &mut StoredSlot<KeptHistories>,
     alloc: Global,
-    request: &Request,
-    judged: Option<&Judged>,
-    moment: Moment,
+    call: &Call<'_>,
     wire: &mut W,
-    is_audited: bool,
 ) -> Audited
-    requires judged { IsOfAsk (option_copied judged) request.now.ask }
-    requires covered { slots.covers slot.old (routed request.now) ≡ true }
-    ensures answered { ServesOrNot slot.old request.now moment (Faulted (W.faults wire.old) (W.faults wire.new)) result.answer slot.new }
-    ensures audited { AuditsSettled slot.old request.now moment result.answer result.entry }
-    ensures unasked { is_audited ≡ false → result.entry ≡ None }
+    requires judged { IsOfAsk (option_copied call.now.judged) call.now.request.now.ask }
+    requires covered { slots.covers slot.old (routed call.now.request.now) ≡ true }
+    ensures answered { ServesOrNot slot.old call.now.request.now call.now.moment (Faulted (W.faults wire.old) (W.faults wire.new)) result.answer slot.new }
+    ensures audited { AuditsSettled slot.old call.now.request.now call.now.moment result.answer result.entry }
+    ensures unasked { call.now.is_audited ≡ false → result.entry ≡ None }
     ensures grown { Grows (W.faults wire.old) (W.faults wire.new) }
 {
-    if !is_audited {
-        let answer = slot.serve(alloc, request, judged, moment, wire);
+    let moment = call.moment;
+    if !call.is_audited {
+        let answer = slot.serve(alloc, call.request, call.judged, moment, wire);
         return Audited {
             answer,
             entry: None,
         };
     }
-    match Reading::of(alloc, request) {
-        Ok(reading) => slot.serve_audited(alloc, request, judged, reading, moment, wire),
+    match Reading::of(alloc, call.request) {
+        Ok(reading) => slot.serve_audited(alloc, call.request, call.judged, reading, moment, wire),
         Err(AllocError) => Audited {
             answer: Answer::NoMemory,
             entry: None,
@@ -179,26 +187,23 @@ fn serve_ready<W: Wire>(
     key: &Key,
     front: &mut Front,
     alloc: Global,
-    request: &Request,
-    judged: Option<&Judged>,
-    moment: Moment,
+    call: &Call<'_>,
     wire: &mut W,
-    is_audited: bool,
 ) -> Audited
-    requires names { request.now.ask.key ≡ key.now }
-    requires ready { IsReady slot.old key.now request.now moment front.old }
-    requires judged { IsOfAsk (option_copied judged) request.now.ask }
-    requires covered { slots.covers slot.old (routed request.now) ≡ true }
-    ensures answered { ServesOrNot slot.old request.now moment (Faulted (W.faults wire.old) (W.faults wire.new)) result.answer slot.new }
-    ensures audited { AuditsSettled slot.old request.now moment result.answer result.entry }
-    ensures unasked { is_audited ≡ false → result.entry ≡ None }
+    requires names { call.now.request.now.ask.key ≡ key.now }
+    requires ready { IsReady slot.old key.now call.now.request.now call.now.moment front.old }
+    requires judged { IsOfAsk (option_copied call.now.judged) call.now.request.now.ask }
+    requires covered { slots.covers slot.old (routed call.now.request.now) ≡ true }
+    ensures answered { ServesOrNot slot.old call.now.request.now call.now.moment (Faulted (W.faults wire.old) (W.faults wire.new)) result.answer slot.new }
+    ensures audited { AuditsSettled slot.old call.now.request.now call.now.moment result.answer result.entry }
+    ensures unasked { call.now.is_audited ≡ false → result.entry ≡ None }
     ensures front { front.new ≡ history_at slot.new.histories key.now }
     ensures shown { IsShown (pairs_at slot.new.pairs key.now.account) key.now front.new }
     ensures pairs { slot.new.pairs ≡ slot.old.pairs }
     ensures grown { Grows (W.faults wire.old) (W.faults wire.new) }
 {
     let known = slot.history(key).len();
-    let audited = serve(slot, alloc, request, judged, moment, wire, is_audited);
+    let audited = serve(slot, alloc, call, wire);
     follow(slot, key, front, known);
     audited
 }
@@ -211,20 +216,17 @@ fn after<W: Wire>(
     front: &mut Front,
     pairs: &mut PairList,
     alloc: Global,
-    request: &Request,
-    judged: Option<&Judged>,
-    moment: Moment,
+    call: &Call<'_>,
     wire: &mut W,
-    is_audited: bool,
 ) -> Result<Audited, AfterFault>
     requires shown { IsShown pairs.old key.now front.old }
-    requires names { request.now.ask.key ≡ key.now }
-    requires judged { IsOfAsk (option_copied judged) request.now.ask }
-    requires covered { slots.covers slot.old (routed request.now) ≡ true }
+    requires names { call.now.request.now.ask.key ≡ key.now }
+    requires judged { IsOfAsk (option_copied call.now.judged) call.now.request.now.ask }
+    requires covered { slots.covers slot.old (routed call.now.request.now) ≡ true }
     ensures shown { IsShown pairs.new key.now front.new }
-    ensures answered { IfOk result (λ a. ServesOrNot slot.old request.now moment (Faulted (W.faults wire.old) (W.faults wire.new)) a.answer slot.new) }
-    ensures audited { IfOk result (λ a. AuditsSettled slot.old request.now moment a.answer a.entry) }
-    ensures unasked { IfOk result (λ a. is_audited ≡ false → a.entry ≡ None) }
+    ensures answered { IfOk result (λ a. ServesOrNot slot.old call.now.request.now call.now.moment (Faulted (W.faults wire.old) (W.faults wire.new)) a.answer slot.new) }
+    ensures audited { IfOk result (λ a. AuditsSettled slot.old call.now.request.now call.now.moment a.answer a.entry) }
+    ensures unasked { IfOk result (λ a. call.now.is_audited ≡ false → a.entry ≡ None) }
     ensures begins { OnOk result (Begins (pass_of key.now front.old pairs.old) slot.old) }
     ensures holds { OnOk result (pass_of key.now front.new pairs.new ≡ pass_with (pass_of key.now front.old pairs.old) slot.new) }
     ensures fault { IfErr result (λ fault. IsAfterFault (pass_of key.now front.old pairs.old) slot.old fault) }
@@ -233,12 +235,10 @@ fn after<W: Wire>(
     ensures grown { Grows (W.faults wire.old) (W.faults wire.new) }
 {
     compare(slot, key, front, pairs)?;
-    let Ok(()) = get_ready(slot, key, front, pairs, alloc, request, moment) else {
+    let Ok(()) = get_ready(slot, key, front, pairs, alloc, call.request, call.moment) else {
         return Err(AfterFault::NoMemory);
     };
-    let audited = serve_ready(
-        slot, key, front, alloc, request, judged, moment, wire, is_audited,
-    );
+    let audited = serve_ready(slot, key, front, alloc, call, wire);
     Ok(audited)
 }
 
@@ -255,7 +255,7 @@ pub fn serve_after<W: Wire>(
     alloc: Global,
     pass: &mut Pass,
     request: &Request,
-    judged: Option<&Judged>,
+    judged: Option<&Judged<'_>>,
     moment: Moment,
     wire: &mut W,
     is_audited: bool,
@@ -273,16 +273,19 @@ pub fn serve_after<W: Wire>(
     ensures untried { OnErr result (wire.new ≡ wire.old) }
     ensures grown { Grows (W.faults wire.old) (W.faults wire.new) }
 {
+    let call = Call {
+        request,
+        judged,
+        moment,
+        is_audited,
+    };
     after(
         slot,
         &pass.key,
         &mut pass.front,
         &mut pass.pairs,
         alloc,
-        request,
-        judged,
-        moment,
+        &call,
         wire,
-        is_audited,
     )
 }

@@ -1,4 +1,5 @@
 pub mod HistoryMaps
+pub mod Markers
 pub mod NextPairs
 pub mod PairFaults
 pub mod PairLists

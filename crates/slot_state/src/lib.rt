@@ -1,4 +1,4 @@
-//! Slots: the containers of a range of keys, each with the list of its accepted changes.
+//! Histories of containers, the key pairs of accounts, and what a request needs before a lock.
 #![tactic(auto)]
 
 mod account_pairs;
@@ -14,6 +14,7 @@ mod next_pairs;
 mod pair_list;
 mod pairs_fault;
 mod proved;
+mod ready;
 mod rotate_fault;
 mod rotating;
 
@@ -29,5 +30,6 @@ pub use laws::{
 pub use pair_list::PairList;
 pub use pairs_fault::PairsFault;
 pub use proved::ProvedHistories;
+pub use ready::{Ready, key_of_list};
 pub use rotate_fault::RotateFault;
 pub use rotating::Longer;

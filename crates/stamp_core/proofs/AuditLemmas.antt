@@ -19,6 +19,11 @@ use Rattle.stamp_core.specs.CoreSteps.{IsServedBySlot}
 use Rattle.stamp_core.specs.Ranges.{HaveSpans}
 use Rattle.stamp_core.proofs.ServeLemmas.{its_slot, spans_kept, starved}
 
+-- a request that a slot serves without an entry
+pub unaudited : (h h' : SlotState) (q : Asked) (t : ℕ) (F : Type 0) (a : Answer) → slots.SlotServes h q t F a h' → SlotAudits h q t F a None h'
+unaudited h h' q t F a (inl p) = inl (p.0, (p.1.0, (p.1.1, tt)))
+unaudited h h' q t F a (inr p) = inr (p.0, (p.1.0, (p.1.1, refl)))
+
 -- a request that a slot serves with its entry is served
 pub served_too : (hs : List SlotState) (points : List Key) (q : Asked) (t : ℕ) (F : Type 0) (a : Answer) (o : Option AuditEntry) (hs' : List SlotState)
     → IsAuditedBySlot hs points q t F a o hs' → IsServedBySlot hs points q t F a hs'
@@ -26,11 +31,7 @@ served_too hs points q t F a o hs' is = (is.0, (audits_serve (slot_at hs points 
 
 -- a request for which memory ran out before its slot was called
 pub starved_too : (F : Type 0) (hs : List SlotState) (points : List Key) (q : Asked) (t : ℕ) → IsAuditedBySlot hs points q t F answer.NoMemory None hs
-starved_too F hs points q t = let is = starved F hs points q t in (is.0, (unmade (slot_at hs points (routed q)) is.0 is.1.0, is.1.1))
-  where
-    unmade : (h h' : SlotState) → slots.SlotServes h q t F answer.NoMemory h' → SlotAudits h q t F answer.NoMemory None h'
-    unmade h h' (inl p) = inl (p.0, (p.1.0, (p.1.1, tt)))
-    unmade h h' (inr p) = inr (p.0, (p.1.0, (p.1.1, refl)))
+starved_too F hs points q t = let is = starved F hs points q t in (is.0, (unaudited (slot_at hs points (routed q)) is.0 q t F answer.NoMemory is.1.0, is.1.1))
 
 module _ (hs : List SlotState) (points : List Key) (have : HaveSpans hs points) (q : Asked) (at : ℕ) (place : at ≡ slot_of points (routed q)) (old d : SlotState) (was : old ≡ slice_index_or hs at d) (low : at < length hs)
     (F : Type 0) (t : ℕ) (a : Answer) (o : Option AuditEntry) (new : SlotState) (audits : SlotAudits old q t F a o new) where

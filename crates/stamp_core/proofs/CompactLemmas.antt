@@ -4,7 +4,7 @@ use Rattle.std.specs.Prelude.{IsSome, slice_index_or, slice_set}
 use Rattle.extent_node.specs.Faults.{Calls}
 use Rattle.stamp_values.specs.declared.key.Key.{Key}
 use Rattle.stamp_types.specs.declared.past.Past.{Past}
-use Rattle.stored_rows.specs.declared.faults.StoredFault.{StoredFault}
+use Rattle.stream_manager.specs.declared.faults.StoredFault.{StoredFault}
 use Rattle.stored_rows.specs.Counting.{FailsStored}
 use Rattle.slot_state.specs.Slots.{SlotState}
 use Rattle.stored_slot.specs.Served.{Faulted}

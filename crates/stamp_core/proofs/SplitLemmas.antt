@@ -7,13 +7,13 @@ use Rattle.std.proofs.lemmas.List.Edits.{length-insert}
 use Rattle.stamp_values.specs.declared.key.Key.{Key}
 use Rattle.stamp_types.specs.declared.past.Past.{Past}
 use Rattle.extent_node.specs.Faults.{Calls}
+use Rattle.stream_manager.specs.declared.faults.StoredFault.{StoredFault}
+use Rattle.stream_manager.specs.declared.faults.StoredFault.TheVariants as stored
 use Rattle.partition_map.specs.declared.fault.MapFault.{MapFault}
 use Rattle.partition_map.specs.declared.fault.MapFault.TheVariants as map_fault
 use Rattle.partition_map.specs.Spans.{cause_of, split_refusal, with_point, with_two}
 use Rattle.partition_map.proofs.BoundLemmas.{without_new}
 use Rattle.partition_map.proofs.RefusalLemmas.{allowed_is}
-use Rattle.stored_rows.specs.declared.faults.StoredFault.{StoredFault}
-use Rattle.stored_rows.specs.declared.faults.StoredFault.TheVariants as stored
 use Rattle.stored_rows.specs.Counting.{FailsStored}
 use Rattle.slot_state.specs.Slots.{SlotState, lower_half, upper_half}
 use Rattle.stored_slot.specs.Served.{Faulted}

@@ -5,12 +5,12 @@ use Rattle.std.proofs.lemmas.Bool.{le-ltb, lt-ltb}
 use Rattle.stamp_values.specs.declared.key.Key.{Key}
 use Rattle.stamp_types.specs.declared.past.Past.{Past}
 use Rattle.extent_node.specs.Faults.{Calls}
-use Rattle.stored_rows.specs.declared.faults.StoredFault.{StoredFault}
-use Rattle.stored_rows.specs.declared.faults.StoredFault.TheVariants as stored
 use Rattle.stored_rows.specs.Counting.{FailsStored}
 use Rattle.stored_rows.specs.Repairs.{FailsRepair}
 use Rattle.stream_manager.specs.declared.faults.RepairFault.{RepairFault}
 use Rattle.stream_manager.specs.declared.faults.RepairFault.TheVariants as repair
+use Rattle.stream_manager.specs.declared.faults.StoredFault.{StoredFault}
+use Rattle.stream_manager.specs.declared.faults.StoredFault.TheVariants as stored
 use Rattle.slot_state.specs.Slots.{SlotState}
 use Rattle.stored_slot.specs.Served.{Faulted}
 use Rattle.stored_slot.specs.Settled.{LeavesRepaired, LeavesSettled, SettlesOrFails}

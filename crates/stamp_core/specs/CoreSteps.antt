@@ -1,20 +1,18 @@
 -- What a core does at a step, part by part (Calder et al., SOSP 2011, section 5).
-use Rattle.std.specs.Prelude.{◌≡◌, ◌⊎◌, ◌<◌, ◌≤◌, ⊤, ℕ, nat_lt, Bool, true, false, List, [], ◌∷◌, ◌++◌, length, Option, Some, None, IsSome, unwrap_or, Result, Ok, Err, slice_index_or, slice_set}
-use Rattle.std.specs.Option.{option_and_then}
+use Rattle.std.specs.Prelude.{◌≡◌, ◌⊎◌, ◌<◌, ◌≤◌, ⊤, ℕ, nat_lt, Bool, true, false, List, [], ◌∷◌, ◌++◌, length, Option, Some, None, IsSome, Result, Ok, Err, slice_index_or, slice_set}
 use Rattle.extent_node.specs.Faults.{Calls}
 use Rattle.extent_seal.specs.Counting.{all_faults}
 use Rattle.stamp_values.specs.declared.key.Key.{Key}
-use Rattle.stamp_types.specs.declared.ask.Ask.{Ask}
 use Rattle.stamp_types.specs.declared.reply.Reply as replies
 use Rattle.stamp_types.specs.Requests.{Asked}
 use Rattle.partition_map.specs.Spans.{cause_of, slot_of, split_refusal, with_point, with_two}
 use Rattle.stamp_model.specs.SeenContainers.{routed}
 use Rattle.tickets.specs.declared.answer.Answer as answers
 use Rattle.tickets.specs.declared.answer.Answer.TheVariants as answer
-use Rattle.stored_rows.specs.declared.faults.StoredFault.{StoredFault}
-use Rattle.stored_rows.specs.declared.faults.StoredFault.TheVariants as stored
 use Rattle.stream_manager.specs.declared.faults.RepairFault.{RepairFault}
 use Rattle.stream_manager.specs.declared.faults.RepairFault.TheVariants as repair
+use Rattle.stream_manager.specs.declared.faults.StoredFault.{StoredFault}
+use Rattle.stream_manager.specs.declared.faults.StoredFault.TheVariants as stored
 use Rattle.slot_state.specs.Slots.{SlotState, lower_half, upper_half}
 use Rattle.stored_slot.specs.Served.{SlotServes, busy}
 use Rattle.stored_slot.specs.Settled.{SettlesSlot}
@@ -43,10 +41,6 @@ abbrev pub ChangesSlot : List SlotState → ℕ → List SlotState → (SlotStat
 ChangesSlot slots i slots' becomes = (h : SlotState) × (becomes (slice_index_or slots i no_slot) h × (slots' ≡ slice_set slots i h))
 
 -- ---- requests
-
--- the key of the marker of a list of containers
-abbrev pub marker_key : Ask → Key
-marker_key a = record { account = a.key.account; container = unwrap_or (option_and_then (λ page. page.marker) a.args.page) [] }
 
 -- the slot whose span has the first key of the request serves it
 abbrev pub IsServedBySlot : List SlotState → List Key → Asked → ℕ → Type 0 → answers.Answer → List SlotState → Type 0

@@ -21,12 +21,13 @@ ghost use Rattle.stamp_core.specs.CoreSteps.{AnswersSteadily, told_answer, has_f
 mod audit;
 mod compact;
 
+use crate::auditing::AuditedReply;
 use crate::care::CoreCare;
 use crate::open_tickets::OpenTickets;
 use crate::rotating::rotate;
-use crate::serving::{serve_one, serve_unread};
+use crate::serving::{Call, answer_one, serve_unread};
 use crate::splitting::split;
-use crate::telling::{answered, tell, tell_now};
+use crate::telling::{answered, tell};
 use crate::tending::tend;
 use access_rules::{Keys, Which};
 use core_run::{Outcome, Step, StepFault};
@@ -173,7 +174,7 @@ impl<H: Histories> Core<H> {
         &mut self,
         alloc: Global,
         request: &Request,
-        judged: Option<&Judged>,
+        judged: Option<&Judged<'_>>,
         reading: Reading,
         moment: Moment,
         wire: &mut W,
@@ -184,16 +185,13 @@ impl<H: Histories> Core<H> {
             → (s' : State) × (Takes s (Serve request.now moment) (has_faults (W.faults wire.old) (W.faults wire.new)) result s' × StandsFor self.new s') }
         ensures grown { Grows (W.faults wire.old) (W.faults wire.new) }
     {
-        let answer = serve_one(
-            &mut self.slots,
-            &self.spans,
-            alloc,
+        let call = Call {
             request,
             judged,
-            reading,
             moment,
-            wire,
-        );
+            is_audited: false,
+        };
+        let answer = answer_one(&mut self.slots, &self.spans, alloc, &call, reading, wire);
         tell(&mut self.tickets, alloc, answer, wire)
     }
 
@@ -206,7 +204,7 @@ impl<H: Histories> Core<H> {
         &mut self,
         alloc: Global,
         request: &Request,
-        judged: Option<&Judged>,
+        judged: Option<&Judged<'_>>,
         reading: Reading,
         moment: Moment,
         wire: &mut W,
@@ -218,17 +216,15 @@ impl<H: Histories> Core<H> {
         ensures steady { all_faults (W.faults wire.new) ≡ all_faults (W.faults wire.old) → AnswersSteadily self.old request.now moment result self.new }
         ensures grown { Grows (W.faults wire.old) (W.faults wire.new) }
     {
-        let answer = serve_one(
-            &mut self.slots,
-            &self.spans,
-            alloc,
+        let call = Call {
             request,
             judged,
-            reading,
             moment,
-            wire,
-        );
-        tell_now(alloc, answer, wire)
+            is_audited: false,
+        };
+        let AuditedReply { reply, entry } = self.answer_by(alloc, &call, reading, wire);
+        drop(entry);
+        reply
     }
 
     /// One Fetch step: the reply of a ticket, which ends.

@@ -5,6 +5,7 @@ use Rattle.stamp_values.specs.declared.key.Key.{Key}
 use Rattle.stamp_types.specs.Requests.{Asked}
 use Rattle.stamp_types.specs.declared.ask.Ask.{Ask}
 use Rattle.policy_book.specs.Entries.{AuditEntry}
+use Rattle.stream_manager.specs.declared.faults.StoredFault.TheVariants as stored
 use Rattle.stamp_model.specs.SeenContainers.{routed}
 use Rattle.partition_map.specs.Spans.{slot_of, split_refusal, with_point}
 use Rattle.tickets.specs.declared.answer.Answer.{Answer}
@@ -20,7 +21,6 @@ use Rattle.slot_pass.specs.Calls.{AnswersAfter}
 use Rattle.slot_pass.specs.Passes.{IsShown, PassState}
 use Rattle.slot_pass.specs.declared.after_fault.AfterFault.{AfterFault}
 use Rattle.slot_pass.specs.declared.after_fault.AfterFault.TheVariants as after
-use Rattle.stored_rows.specs.declared.faults.StoredFault.TheVariants as stored
 use Rattle.stamp_locks.specs.declared.faults.SplitError.{SplitError}
 use Rattle.stamp_locks.specs.declared.faults.SplitError.TheVariants as split
 use Rattle.stamp_locks.specs.Lent.{BeginsSpan, CutsSlot, FailsCut, FailsSplit, HandlesBy, HasSlot, IsCutFault, IsSlotFor, IsSplit}

@@ -4,12 +4,12 @@ use Rattle.extent_node.specs.Faults.{Calls}
 use Rattle.extent_node.specs.declared.wire.Node.{Node}
 use Rattle.partition_stream.specs.declared.repair.StreamName.{StreamName}
 use Rattle.stamp_values.specs.declared.key.Key.{Key}
+use Rattle.stream_manager.specs.declared.faults.StoredFault.{StoredFault}
+use Rattle.stream_manager.specs.declared.faults.StoredFault.TheVariants as stored
 use Rattle.stored_rows.specs.Counting.{FailsStored}
 use Rattle.stored_rows.specs.Repairs.{FailsRepair, IsRepairOf, unnamed}
 use Rattle.stored_rows.specs.declared.repaired.Repaired.{Repaired}
 use Rattle.stored_rows.specs.declared.repaired.Unrepaired.{Unrepaired}
-use Rattle.stored_rows.specs.declared.faults.StoredFault.{StoredFault}
-use Rattle.stored_rows.specs.declared.faults.StoredFault.TheVariants as stored
 use Rattle.slot_state.specs.Slots.{SlotState}
 use Rattle.stored_slot.specs.Settled.{LeavesRepaired, LeavesSettled, SettlesOrFails}
 use Rattle.stamp_locks.specs.declared.care.Care.{Care}

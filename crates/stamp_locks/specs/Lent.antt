@@ -11,13 +11,13 @@ use Rattle.stamp_model.specs.SeenContainers.{routed}
 use Rattle.tickets.specs.declared.answer.Answer.{Answer}
 use Rattle.tickets.specs.declared.answer.Answer.TheVariants as answer
 use Rattle.extent_node.specs.declared.wire.Node.{Node}
+use Rattle.stream_manager.specs.declared.faults.StoredFault.{StoredFault}
+use Rattle.stream_manager.specs.declared.faults.StoredFault.TheVariants as stored
 use Rattle.partition_stream.specs.declared.repair.StreamName.{StreamName}
 use Rattle.stored_rows.specs.Counting.{FailsStored}
 use Rattle.stored_rows.specs.Repairs.{FailsRepair, IsRepairOf, unnamed}
 use Rattle.stored_rows.specs.declared.repaired.Repaired.{Repaired}
 use Rattle.stored_rows.specs.declared.repaired.Unrepaired.{Unrepaired}
-use Rattle.stored_rows.specs.declared.faults.StoredFault.{StoredFault}
-use Rattle.stored_rows.specs.declared.faults.StoredFault.TheVariants as stored
 use Rattle.slot_state.specs.HistoryMaps.{history_at}
 use Rattle.slot_state.specs.Pairs.{Pairs, current_at, pairs_at}
 use Rattle.slot_state.specs.Slots.{SlotState, covers, is_inside}

@@ -7,7 +7,6 @@ mod laws;
 mod locked;
 mod numbered;
 mod posting;
-mod ready;
 mod rotating;
 mod stamp;
 mod table;

@@ -19,14 +19,13 @@ ghost use Rattle.stamp_locks.specs.declared.faults.MoveFault.TheVariants as move
 
 use crate::faults::{MoveFault, SplitError};
 use crate::numbered::{is_for, is_numbered};
-use crate::ready::Ready;
 use crate::rotating::bring_up;
 use extent_node::Wire;
 use partition_map::{MapFault, Spans};
 use range_rows::Reading;
 use slot_pass::{AfterFault, Pass, serve_after};
-use slot_state::{AccountPairs, KeptHistories};
-use stamp_types::{Key, Moment, Request};
+use slot_state::{AccountPairs, KeptHistories, Ready};
+use stamp_types::Key;
 use std::alloc::{AllocError, Global};
 use stored_rows::{StoredFault, Unloaded};
 use stored_slot::{Audited, StoredSlot};
@@ -48,27 +47,21 @@ fn show(slot: &StoredSlot<KeptHistories>, key: &Key)
 
 impl<W: Wire + Drop> Locked<W> {
     // Serves the request. If an entry of the audit book is asked for, the request has one if it names a container and is let in.
-    fn serve(
-        &mut self,
-        alloc: Global,
-        request: &Request,
-        ready: &Ready,
-        reading: Reading,
-        moment: Moment,
-    ) -> Audited
-        requires covered { slots.covers self.old.slot (routed request.now) ≡ true }
-        requires judged { IsOfAsk ready.now.judged request.now.ask }
-        requires read { reading ≡ reading_of request.now }
-        ensures served { SlotServes self.old.slot request.now moment (Faulted (W.faults self.old.wire) (W.faults self.new.wire)) result.answer self.new.slot }
-        ensures audited { AuditsSettled self.old.slot request.now moment result.answer result.entry }
+    fn serve(&mut self, alloc: Global, ready: &Ready<'_>, reading: Reading) -> Audited
+        requires covered { slots.covers self.old.slot (routed ready.now.request.now) ≡ true }
+        requires judged { IsOfAsk ready.now.judged ready.now.request.now.ask }
+        requires read { reading ≡ reading_of ready.now.request.now }
+        ensures served { SlotServes self.old.slot ready.now.request.now ready.now.moment (Faulted (W.faults self.old.wire) (W.faults self.new.wire)) result.answer self.new.slot }
+        ensures audited { AuditsSettled self.old.slot ready.now.request.now ready.now.moment result.answer result.entry }
         ensures unasked { ready.now.is_audited ≡ false → result.entry ≡ None }
     {
         let Self { slot, wire } = self;
         let judged = ready.judged.as_ref();
+        let moment = ready.moment;
         if ready.is_audited {
-            return slot.serve_audited(alloc, request, judged, reading, moment, wire);
+            return slot.serve_audited(alloc, ready.request, judged, reading, moment, wire);
         }
-        let answer = slot.serve_read(alloc, request, judged, reading, moment, wire);
+        let answer = slot.serve_read(alloc, ready.request, judged, reading, moment, wire);
         Audited {
             answer,
             entry: None,
@@ -81,23 +74,21 @@ impl<W: Wire + Drop> Locked<W> {
         alloc: Global,
         spans: &Spans,
         pairs: &AccountPairs,
-        request: &Request,
-        ready: &Ready,
+        ready: &Ready<'_>,
         reading: Reading,
-        moment: Moment,
     ) -> Audited
         requires begins { BeginsSpan spans.now (slot_of spans.now ready.now.first) self.old.slot }
         requires covered { slots.covers self.old.slot ready.now.first ≡ true }
-        requires current { current_at self.old.slot.pairs request.now.ask.key.account ≡ current_at pairs.now request.now.ask.key.account }
-        requires first { ready.now.first ≡ routed request.now }
-        requires judged { IsOfAsk ready.now.judged request.now.ask }
-        requires read { reading ≡ reading_of request.now }
-        ensures handled { HandlesBy W.faults pairs.now request.now moment result.answer result.entry }
+        requires current { current_at self.old.slot.pairs ready.now.request.now.ask.key.account ≡ current_at pairs.now ready.now.request.now.ask.key.account }
+        requires first { ready.now.first ≡ routed ready.now.request.now }
+        requires judged { IsOfAsk ready.now.judged ready.now.request.now.ask }
+        requires read { reading ≡ reading_of ready.now.request.now }
+        ensures handled { HandlesBy W.faults pairs.now ready.now.request.now ready.now.moment result.answer result.entry }
         ensures unasked { ready.now.is_audited ≡ false → result.entry ≡ None }
     {
         let (_spans, _pairs) = (spans, pairs);
-        show(&self.slot, &request.ask().key);
-        self.serve(alloc, request, ready, reading, moment)
+        show(&self.slot, &ready.request.ask().key);
+        self.serve(alloc, ready, reading)
     }
 
     // Serves the request by a slot whose pair in force is that of these pairs, as it is told outside of the lock.
@@ -106,17 +97,15 @@ impl<W: Wire + Drop> Locked<W> {
         alloc: Global,
         spans: &Spans,
         pairs: &AccountPairs,
-        request: &Request,
-        ready: &Ready,
+        ready: &Ready<'_>,
         reading: Reading,
-        moment: Moment,
     ) -> Audited
         requires rise { AreSpans spans.now }
-        requires current { current_at self.old.slot.pairs request.now.ask.key.account ≡ current_at pairs.now request.now.ask.key.account }
-        requires first { ready.now.first ≡ routed request.now }
-        requires judged { IsOfAsk ready.now.judged request.now.ask }
-        requires read { reading ≡ reading_of request.now }
-        ensures handled { HandlesBy W.faults pairs.now request.now moment result.answer result.entry }
+        requires current { current_at self.old.slot.pairs ready.now.request.now.ask.key.account ≡ current_at pairs.now ready.now.request.now.ask.key.account }
+        requires first { ready.now.first ≡ routed ready.now.request.now }
+        requires judged { IsOfAsk ready.now.judged ready.now.request.now.ask }
+        requires read { reading ≡ reading_of ready.now.request.now }
+        ensures handled { HandlesBy W.faults pairs.now ready.now.request.now ready.now.moment result.answer result.entry }
         ensures unasked { ready.now.is_audited ≡ false → result.entry ≡ None }
     {
         if !is_for(&self.slot, alloc, spans, &ready.first) {
@@ -126,7 +115,7 @@ impl<W: Wire + Drop> Locked<W> {
                 entry: None,
             };
         }
-        self.handle_found(alloc, spans, pairs, request, ready, reading, moment)
+        self.handle_found(alloc, spans, pairs, ready, reading)
     }
 
     /// Serves the request by the slot whose number is that of the request's span, as it is told outside of the lock. First the slot takes those
@@ -136,20 +125,23 @@ impl<W: Wire + Drop> Locked<W> {
         alloc: Global,
         spans: &Spans,
         pairs: &AccountPairs,
-        request: &Request,
-        ready: &Ready,
+        ready: &Ready<'_>,
         reading: Reading,
-        moment: Moment,
     ) -> Audited
         requires rise { AreSpans spans.now }
-        requires first { ready.now.first ≡ routed request.now }
-        requires judged { IsOfAsk ready.now.judged request.now.ask }
-        requires read { reading ≡ reading_of request.now }
-        ensures handled { HandlesBy W.faults pairs.now request.now moment result.answer result.entry }
+        requires first { ready.now.first ≡ routed ready.now.request.now }
+        requires judged { IsOfAsk ready.now.judged ready.now.request.now.ask }
+        requires read { reading ≡ reading_of ready.now.request.now }
+        ensures handled { HandlesBy W.faults pairs.now ready.now.request.now ready.now.moment result.answer result.entry }
         ensures unasked { ready.now.is_audited ≡ false → result.entry ≡ None }
     {
-        match bring_up(&mut self.slot, alloc, &request.ask().key.account, pairs) {
-            Ok(()) => { self.handle_current(alloc, spans, pairs, request, ready, reading, moment) }
+        match bring_up(
+            &mut self.slot,
+            alloc,
+            &ready.request.ask().key.account,
+            pairs,
+        ) {
+            Ok(()) => self.handle_current(alloc, spans, pairs, ready, reading),
             Err(AllocError) => {
                 drop(reading);
                 Audited {
@@ -167,15 +159,13 @@ impl<W: Wire + Drop> Locked<W> {
         &mut self,
         alloc: Global,
         pass: Pass,
-        request: &Request,
-        ready: &Ready,
-        moment: Moment,
+        ready: &Ready<'_>,
     ) -> Result<(Audited, Pass), (Pass, AfterFault)>
-        requires names { request.now.ask.key ≡ pass.key }
-        requires covered { slots.covers self.old.slot (routed request.now) ≡ true }
-        requires judged { IsOfAsk ready.now.judged request.now.ask }
-        ensures answered { IfOk result (λ r. AnswersAfter pass self.old.slot request.now moment (W.faults self.old.wire) (W.faults self.new.wire) r.0.answer r.1 self.new.slot) }
-        ensures audited { IfOk result (λ r. AuditsSettled self.old.slot request.now moment r.0.answer r.0.entry) }
+        requires names { ready.now.request.now.ask.key ≡ pass.key }
+        requires covered { slots.covers self.old.slot (routed ready.now.request.now) ≡ true }
+        requires judged { IsOfAsk ready.now.judged ready.now.request.now.ask }
+        ensures answered { IfOk result (λ r. AnswersAfter pass self.old.slot ready.now.request.now ready.now.moment (W.faults self.old.wire) (W.faults self.new.wire) r.0.answer r.1 self.new.slot) }
+        ensures audited { IfOk result (λ r. AuditsSettled self.old.slot ready.now.request.now ready.now.moment r.0.answer r.0.entry) }
         ensures unasked { IfOk result (λ r. ready.now.is_audited ≡ false → r.0.entry ≡ None) }
         ensures fault { IfErr result (λ r. IsAfterFault pass self.old.slot r.1) }
         ensures back { IfErr result (λ r. r.0 ≡ pass) }
@@ -187,9 +177,9 @@ impl<W: Wire + Drop> Locked<W> {
             slot,
             alloc,
             &mut pass,
-            request,
+            ready.request,
             ready.judged.as_ref(),
-            moment,
+            ready.moment,
             wire,
             ready.is_audited,
         ) {
@@ -205,22 +195,20 @@ impl<W: Wire + Drop> Locked<W> {
         spans: &Spans,
         pairs: &AccountPairs,
         pass: Pass,
-        request: &Request,
-        ready: &Ready,
-        moment: Moment,
+        ready: &Ready<'_>,
     ) -> Result<(Audited, Pass), (Pass, AfterFault)>
         requires begins { BeginsSpan spans.now (slot_of spans.now ready.now.first) self.old.slot }
         requires covered { slots.covers self.old.slot ready.now.first ≡ true }
-        requires current { current_at self.old.slot.pairs request.now.ask.key.account ≡ current_at pairs.now request.now.ask.key.account }
-        requires names { request.now.ask.key ≡ pass.key }
-        requires first { ready.now.first ≡ routed request.now }
-        requires judged { IsOfAsk ready.now.judged request.now.ask }
-        ensures handled { IfOk result (λ r. HandlesAfterBy W.faults pairs.now pass request.now moment r.0.answer r.0.entry r.1) }
+        requires current { current_at self.old.slot.pairs ready.now.request.now.ask.key.account ≡ current_at pairs.now ready.now.request.now.ask.key.account }
+        requires names { ready.now.request.now.ask.key ≡ pass.key }
+        requires first { ready.now.first ≡ routed ready.now.request.now }
+        requires judged { IsOfAsk ready.now.judged ready.now.request.now.ask }
+        ensures handled { IfOk result (λ r. HandlesAfterBy W.faults pairs.now pass ready.now.request.now ready.now.moment r.0.answer r.0.entry r.1) }
         ensures unasked { IfOk result (λ r. ready.now.is_audited ≡ false → r.0.entry ≡ None) }
-        ensures back { IfErr result (λ r. IsBack pass request.now r.0 r.1) }
+        ensures back { IfErr result (λ r. IsBack pass ready.now.request.now r.0 r.1) }
     {
         let (_spans, _pairs) = (spans, pairs);
-        match self.serve_after(alloc, pass, request, ready, moment) {
+        match self.serve_after(alloc, pass, ready) {
             Ok((audited, pass)) => Ok((audited, pass)),
             Err((pass, fault)) => Err((pass, fault)),
         }
@@ -233,23 +221,21 @@ impl<W: Wire + Drop> Locked<W> {
         spans: &Spans,
         pairs: &AccountPairs,
         pass: Pass,
-        request: &Request,
-        ready: &Ready,
-        moment: Moment,
+        ready: &Ready<'_>,
     ) -> Result<(Audited, Pass), (Pass, AfterFault)>
         requires rise { AreSpans spans.now }
-        requires current { current_at self.old.slot.pairs request.now.ask.key.account ≡ current_at pairs.now request.now.ask.key.account }
-        requires names { request.now.ask.key ≡ pass.key }
-        requires first { ready.now.first ≡ routed request.now }
-        requires judged { IsOfAsk ready.now.judged request.now.ask }
-        ensures handled { IfOk result (λ r. HandlesAfterBy W.faults pairs.now pass request.now moment r.0.answer r.0.entry r.1) }
+        requires current { current_at self.old.slot.pairs ready.now.request.now.ask.key.account ≡ current_at pairs.now ready.now.request.now.ask.key.account }
+        requires names { ready.now.request.now.ask.key ≡ pass.key }
+        requires first { ready.now.first ≡ routed ready.now.request.now }
+        requires judged { IsOfAsk ready.now.judged ready.now.request.now.ask }
+        ensures handled { IfOk result (λ r. HandlesAfterBy W.faults pairs.now pass ready.now.request.now ready.now.moment r.0.answer r.0.entry r.1) }
         ensures unasked { IfOk result (λ r. ready.now.is_audited ≡ false → r.0.entry ≡ None) }
-        ensures back { IfErr result (λ r. IsBack pass request.now r.0 r.1) }
+        ensures back { IfErr result (λ r. IsBack pass ready.now.request.now r.0 r.1) }
     {
         if !is_for(&self.slot, alloc, spans, &ready.first) {
             return Err((pass, AfterFault::NoMemory));
         }
-        self.handle_shown_found(alloc, spans, pairs, pass, request, ready, moment)
+        self.handle_shown_found(alloc, spans, pairs, pass, ready)
     }
 
     /// Serves the request after what the pass shows, by the slot whose number is that of the request's span, as it is told outside of the lock.
@@ -262,20 +248,23 @@ impl<W: Wire + Drop> Locked<W> {
         spans: &Spans,
         pairs: &AccountPairs,
         pass: Pass,
-        request: &Request,
-        ready: &Ready,
-        moment: Moment,
+        ready: &Ready<'_>,
     ) -> Result<(Audited, Pass), (Pass, AfterFault)>
         requires rise { AreSpans spans.now }
-        requires names { request.now.ask.key ≡ pass.key }
-        requires first { ready.now.first ≡ routed request.now }
-        requires judged { IsOfAsk ready.now.judged request.now.ask }
-        ensures handled { IfOk result (λ r. HandlesAfterBy W.faults pairs.now pass request.now moment r.0.answer r.0.entry r.1) }
+        requires names { ready.now.request.now.ask.key ≡ pass.key }
+        requires first { ready.now.first ≡ routed ready.now.request.now }
+        requires judged { IsOfAsk ready.now.judged ready.now.request.now.ask }
+        ensures handled { IfOk result (λ r. HandlesAfterBy W.faults pairs.now pass ready.now.request.now ready.now.moment r.0.answer r.0.entry r.1) }
         ensures unasked { IfOk result (λ r. ready.now.is_audited ≡ false → r.0.entry ≡ None) }
-        ensures back { IfErr result (λ r. IsBack pass request.now r.0 r.1) }
+        ensures back { IfErr result (λ r. IsBack pass ready.now.request.now r.0 r.1) }
     {
-        match bring_up(&mut self.slot, alloc, &request.ask().key.account, pairs) {
-            Ok(()) => self.handle_shown(alloc, spans, pairs, pass, request, ready, moment),
+        match bring_up(
+            &mut self.slot,
+            alloc,
+            &ready.request.ask().key.account,
+            pairs,
+        ) {
+            Ok(()) => self.handle_shown(alloc, spans, pairs, pass, ready),
             Err(AllocError) => Err((pass, AfterFault::NoMemory)),
         }
     }

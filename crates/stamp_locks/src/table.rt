@@ -13,7 +13,6 @@ ghost use Rattle.stamp_locks.specs.declared.faults.TendFault.TheVariants as tend
 use crate::care::Care;
 use crate::faults::{MoveFault, SplitError, TendFault};
 use crate::locked::Locked;
-use crate::ready::Ready;
 use crate::tending::{TakenOut, tend};
 use access_rules::Which;
 use extent_node::Wire;
@@ -21,7 +20,7 @@ use hmac_sign::SigningKey;
 use partition_map::Spans;
 use range_rows::Reading;
 use slot_pass::{AfterFault, Pass};
-use slot_state::{AccountPairs, Longer, RotateFault};
+use slot_state::{AccountPairs, Longer, Ready, RotateFault};
 use stamp_types::{Key, Moment, Request, Text};
 use std::alloc::{AllocError, Global};
 use std::sync::{Arc, Mutex, Wait};
@@ -145,7 +144,7 @@ impl<W: Wire + Drop> Table<W> {
         ensures handled { HandlesBy W.faults (arc_value self.now.pairs) request.now moment result.answer result.entry }
         ensures unasked { is_audited ≡ false → result.entry ≡ None }
     {
-        let Ok(ready) = Ready::of(alloc, &self.pairs, request, is_audited) else {
+        let Ok(ready) = Ready::of(alloc, &self.pairs, request, moment, is_audited) else {
             drop(reading);
             return Audited {
                 answer: Answer::NoMemory,
@@ -153,15 +152,7 @@ impl<W: Wire + Drop> Table<W> {
             };
         };
         let mut locked = self.slots[self.spans.find(&ready.first)].lock(rt);
-        locked.handle(
-            alloc,
-            &self.spans,
-            &self.pairs,
-            request,
-            &ready,
-            reading,
-            moment,
-        )
+        locked.handle(alloc, &self.spans, &self.pairs, &ready, reading)
     }
 
     /// One request after what the pass shows, by the slot of the span that has its first key.
@@ -181,20 +172,12 @@ impl<W: Wire + Drop> Table<W> {
         ensures unasked { IfOk result (λ r. is_audited ≡ false → r.0.entry ≡ None) }
         ensures back { IfErr result (λ r. IsBack pass request.now r.0 r.1) }
     {
-        let ready = match Ready::of(alloc, &self.pairs, request, is_audited) {
+        let ready = match Ready::of(alloc, &self.pairs, request, moment, is_audited) {
             Ok(ready) => ready,
             Err(AllocError) => return Err((pass, AfterFault::NoMemory)),
         };
         let mut locked = self.slots[self.spans.find(&ready.first)].lock(rt);
-        locked.handle_after(
-            alloc,
-            &self.spans,
-            &self.pairs,
-            pass,
-            request,
-            &ready,
-            moment,
-        )
+        locked.handle_after(alloc, &self.spans, &self.pairs, pass, &ready)
     }
 
     // The lock of the slot with this number; none if no slot has the number.

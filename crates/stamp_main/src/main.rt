@@ -12,7 +12,7 @@ use console::{Console, Input};
 use ending::Ending;
 use http_front::Connection;
 use replay::run_replay;
-use serving::run_serve;
+use serving::{ServeWords, run_serve};
 use signing::run_sign;
 use std::alloc::Global;
 use std::fs::File;
@@ -139,9 +139,16 @@ fn run<
                 first_key,
                 second_key,
             },
-        ) => run_serve(
-            rt, alloc, connection, address, workers, account, first_key, second_key, console,
-        ),
+        ) => {
+            let words = ServeWords {
+                address,
+                workers,
+                account,
+                first: first_key,
+                second: second_key,
+            };
+            run_serve(rt, alloc, connection, &words, console)
+        }
         None => Ending::Usage,
     }
 }

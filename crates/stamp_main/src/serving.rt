@@ -10,7 +10,7 @@ use crate::audit::{Audit, open_audit};
 use crate::console::Console;
 use crate::ending::Ending;
 use crate::signing::send;
-use crate::sockets::serve_on;
+use crate::sockets::{Intake, Opening, serve_on};
 use crate::words::{Served, read_served};
 use access_rules::Keys;
 use http_front::Connection;
@@ -26,6 +26,16 @@ use std::rt::{Env, Files};
 use std::sync::Wait;
 use std::thread::Threads;
 use std::time::Clock;
+
+/// The words after `serve`.
+#[derive(Drop)]
+pub(crate) struct ServeWords<'a> {
+    pub(crate) address: &'a str,
+    pub(crate) workers: &'a str,
+    pub(crate) account: &'a str,
+    pub(crate) first: &'a str,
+    pub(crate) second: &'a str,
+}
 
 /// Carries out `stamp serve ADDRESS WORKERS ACCOUNT KEY1 KEY2`: opens the audit file, if the environment names one, takes the address,
 /// writes `listening ADDRESS` and LF, and serves. Meanwhile the lines of the console are obeyed and audit lines are written, which the clauses
@@ -51,33 +61,36 @@ pub(crate) fn run_serve<
     rt: &R,
     alloc: Global,
     connection: &mut Connection<I, W>,
-    address: &str,
-    workers: &str,
-    account: &str,
-    first: &str,
-    second: &str,
+    words: &ServeWords<'_>,
     console: &mut Console<L, O>,
 ) -> Ending
     requires { IsFresh connection.old }
     ensures refused { result ≡ Usage →
-        ¬ IsServe (serve_line address.now workers.now account.now first.now second.now) }
+        ¬ IsServe (serve_line words.now.address.now words.now.workers.now words.now.account.now words.now.first.now words.now.second.now) }
     ensures untouched { result ≡ Usage → connection.new ≡ connection.old }
     ensures unread { connection.new.reader ≡ connection.old.reader }
     ensures listened { result ≡ ListenerFault →
-        IsServe (serve_line address.now workers.now account.now first.now second.now)
+        IsServe (serve_line words.now.address.now words.now.workers.now words.now.account.now words.now.first.now words.now.second.now)
         × ((connection.new ≡ connection.old)
-        ⊎ HasListened (serve_line address.now workers.now account.now first.now second.now)
+        ⊎ HasListened (serve_line words.now.address.now words.now.workers.now words.now.account.now words.now.first.now words.now.second.now)
         connection.old.writer connection.new.writer) }
     ensures starved { result ≡ NoMemory → (connection.new ≡ connection.old)
-        ⊎ HasListened (serve_line address.now workers.now account.now first.now second.now)
+        ⊎ HasListened (serve_line words.now.address.now words.now.workers.now words.now.account.now words.now.first.now words.now.second.now)
         connection.old.writer connection.new.writer }
     ensures broken { result ≡ WriteFault →
-        HasListened (serve_line address.now workers.now account.now first.now second.now)
+        HasListened (serve_line words.now.address.now words.now.workers.now words.now.account.now words.now.first.now words.now.second.now)
         connection.old.writer connection.new.writer
         × (connection.new.writer.output ≡ outputs.Failed) }
     ensures ended { IsTrue (ends_serving result) }
 {
-    let served = match read_served(alloc, address, workers, account, first, second) {
+    let served = match read_served(
+        alloc,
+        words.address,
+        words.workers,
+        words.account,
+        words.first,
+        words.second,
+    ) {
         Ok(served) => served,
         Err(ending) => return ending,
     };
@@ -151,20 +164,18 @@ fn serve_all<
         return Ending::NoMemory;
     };
     let history = NewHistory::new(&pairs);
-    match serve_on::<Brand, R, R, L, O, F>(
-        rt,
-        rt,
-        alloc,
+    let opening = Opening {
         history,
         pairs,
         account,
+    };
+    let intake = Intake {
         listener,
-        served.workers,
-        u64::MAX,
-        Limits::standard(),
-        console,
-        audit,
-    ) {
+        workers: served.workers,
+        limits: Limits::standard(),
+        connections: u64::MAX,
+    };
+    match serve_on::<Brand, R, R, L, O, F>(rt, rt, alloc, opening, &intake, console, audit) {
         Err(error) if error.kind() == ErrorKind::OutOfMemory => Ending::NoMemory,
         _ => Ending::ListenerFault,
     }

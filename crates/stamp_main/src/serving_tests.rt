@@ -7,7 +7,7 @@ ghost use Rattle.served_history.specs.declared.entry.Entry.TheVariants.{Opened};
 use crate::console::{Console, Input};
 use crate::machine::Machine;
 use crate::serving::account_of;
-use crate::sockets::{SlotServices, serve_and_obey, serve_on};
+use crate::sockets::{Common, Intake, Opening, SlotServices, serve_and_obey, serve_on};
 use crate::words::{Served, read_served};
 use access_rules::Keys;
 use http_front::Clock as _;
@@ -181,42 +181,40 @@ fn limits(patience: u64) -> Limits {
     }
 }
 
+// A client that is played, and how many connections are served meanwhile, by so many workers. A client that sends nothing has so many milliseconds.
+#[derive(Drop)]
+struct Scene<'a> {
+    workers: usize,
+    connections: u64,
+    patience: u64,
+    turns: &'a [Turn],
+}
+
 // Serves so many connections of new slots by so many workers, and plays a client beside them. Returns whether serving ended well, and the turn at
 // which the server did not do what the client expects.
 fn both_ends<
     A: Account + Send + Sync,
     R: Net<Stream = TcpStream, Listener = TcpListener> + Threads + Wait + Clock + Sync,
->(
-    rt: &R,
-    alloc: Global,
-    history: NewHistory,
-    pairs: Vec<Keys>,
-    account: Text,
-    workers: usize,
-    connections: u64,
-    patience: u64,
-    turns: &[Turn],
-) -> io::Result<(bool, Option<usize>)>
-    requires book { history.book ≡ A.history }
-    requires fresh { history.next ≡ 0 }
-    requires log { history.log ≡ Opened pairs.items ∷ [] }
+>(rt: &R, alloc: Global, opening: Opening, scene: &Scene<'_>) -> io::Result<(bool, Option<usize>)>
+    requires book { opening.history.book ≡ A.history }
+    requires fresh { opening.history.next ≡ 0 }
+    requires log { opening.history.log ≡ Opened opening.pairs.items ∷ [] }
 {
+    let Opening {
+        history,
+        pairs,
+        account,
+    } = opening;
     let Ok((slots, first)) = Slots::<A>::new(alloc, pairs, history) else {
         return Err(io::Error::from(io::ErrorKind::OutOfMemory));
     };
-    both_ends_of(
-        rt,
-        &Noon(rt),
-        alloc,
-        &slots,
-        &Reserve::new(alloc),
+    let common = Common {
+        slots: &slots,
+        reserve: &Reserve::new(alloc),
         first,
         account,
-        workers,
-        connections,
-        patience,
-        turns,
-    )
+    };
+    both_ends_of(rt, &Noon(rt), alloc, common, scene)
 }
 
 // The same of these slots. What is borrowed has one lifetime, since operator and services hold it.
@@ -228,20 +226,27 @@ fn both_ends_of<
     rt: &'a R,
     clock: &'a Noon<'a, R>,
     alloc: Global,
-    slots: &'a Slots<A>,
-    reserve: &'a Reserve,
-    first: LogFront<A>,
-    account: Text,
-    workers: usize,
-    connections: u64,
-    patience: u64,
-    turns: &[Turn],
+    common: Common<'a, A>,
+    scene: &Scene<'_>,
 ) -> io::Result<(bool, Option<usize>)> {
+    let Common {
+        slots,
+        reserve,
+        first,
+        account,
+    } = common;
+    let connections = scene.connections;
     let listener = TcpListener::bind(rt, "127.0.0.1:0")?;
     let address = listener.local_addr()?;
     let mut operator = Operator::new(rt, slots, account, first.again());
     let services = SlotServices::new(rt, clock, slots, None, reserve, first, connections);
     let mut console = Console::new(b"".as_slice(), Vec::new(alloc), Input::Ready);
+    let intake = Intake {
+        listener: &listener,
+        workers: scene.workers,
+        limits: limits(scene.patience),
+        connections,
+    };
     let (served, played) = thread::join(
         rt,
         || -> bool
@@ -253,15 +258,13 @@ fn both_ends_of<
                 alloc,
                 &mut operator,
                 &services,
-                &listener,
-                workers,
-                limits(patience),
+                &intake,
                 &mut console,
             )
             .is_ok()
         },
         || -> io::Result<Option<usize>> {
-            let played = play(rt, address, turns);
+            let played = play(rt, address, scene.turns);
             // If the client broke off, the server still waits for connections.
             for _ in 0..connections {
                 let _ = TcpStream::connect(rt, address);
@@ -377,17 +380,18 @@ fn connections_are_served_over_loopback(rt: HostRuntime) -> Result<(), Fail> {
     for (name, workers, connections, patience, turns) in table {
         let (account, pairs) = first_pairs(rt.alloc())?;
         let history = NewHistory::new(&pairs);
-        let (served, differs) = both_ends::<Brand, _>(
-            &rt,
-            rt.alloc(),
+        let opening = Opening {
             history,
             pairs,
             account,
+        };
+        let scene = Scene {
             workers,
-            u64::from(connections),
+            connections: u64::from(connections),
             patience,
             turns,
-        )?;
+        };
+        let (served, differs) = both_ends::<Brand, _>(&rt, rt.alloc(), opening, &scene)?;
         assert!(rt; served, "{name}");
         assert!(rt; differs.is_none(), "{name}: {differs:?}");
     }
@@ -402,18 +406,24 @@ fn a_listener_that_fails_for_good_ends_serving(rt: HostRuntime) -> Result<(), Fa
     let listener = TcpListener::from(OwnedFd::from(connected));
     let (account, pairs) = first_pairs(rt.alloc())?;
     let history = NewHistory::new(&pairs);
+    let opening = Opening {
+        history,
+        pairs,
+        account,
+    };
+    let intake = Intake {
+        listener: &listener,
+        workers: 2,
+        limits: limits(PATIENCE),
+        connections: 9,
+    };
     let mut console = Console::new(b"".as_slice(), Vec::new(rt.alloc()), Input::Ready);
     let served = serve_on::<Brand, _, Noon<'_, HostRuntime>, &[u8], Vec<u8>, Vec<u8>>(
         &rt,
         &Noon(&rt),
         rt.alloc(),
-        history,
-        pairs,
-        account,
-        &listener,
-        2,
-        9,
-        limits(PATIENCE),
+        opening,
+        &intake,
         &mut console,
         &mut None,
     );

@@ -36,6 +36,32 @@ pub(crate) struct SlotServices<'a, A: Account, R: Wait, C: Clock> {
     left: Mutex<u64>,
 }
 
+/// What is served: a new history, the first key pairs of its accounts, and the account whose keys an operator replaces.
+#[derive(Drop)]
+pub(crate) struct Opening {
+    pub(crate) history: NewHistory,
+    pub(crate) pairs: Vec<Keys>,
+    pub(crate) account: Text,
+}
+
+/// How connections are taken: of this listener, by so many workers at once, within these limits, and so many in all.
+#[derive(Drop)]
+pub(crate) struct Intake<'a> {
+    pub(crate) listener: &'a TcpListener,
+    pub(crate) workers: usize,
+    pub(crate) limits: Limits,
+    pub(crate) connections: u64,
+}
+
+/// What the operator and the connections share, with what their history begins with.
+#[derive(Drop)]
+pub(crate) struct Common<'a, A: Account> {
+    pub(crate) slots: &'a Slots<A>,
+    pub(crate) reserve: &'a Reserve,
+    pub(crate) first: LogFront<A>,
+    pub(crate) account: Text,
+}
+
 // Why slots could not be made, as an error of input or output.
 fn error_of(fault: PairsFault) -> io::Error {
     match fault {
@@ -44,9 +70,9 @@ fn error_of(fault: PairsFault) -> io::Error {
     }
 }
 
-/// Serves so many connections of a listener, by so many workers at once, and obeys the lines of a console meanwhile, by which the keys of the
-/// account are replaced. The accounts of these first key pairs have no containers at first. A connection that is beyond the limits ends. With an
-/// audit, a line of each request that was let in and names a container goes to its writer.
+/// Serves connections, and obeys the lines of a console meanwhile, by which the keys of the account are replaced. The accounts of the first key pairs
+/// have no containers at first. A connection that is beyond the limits ends. With an audit, a line of each request that was let in and names a
+/// container goes to its writer.
 ///
 /// It ends before that if the listener fails for good, and then when the lines are written. The error says why it could not begin.
 pub(crate) fn serve_on<
@@ -60,56 +86,34 @@ pub(crate) fn serve_on<
     rt: &R,
     clock: &C,
     alloc: Global,
-    history: NewHistory,
-    pairs: Vec<Keys>,
-    account: Text,
-    listener: &TcpListener,
-    workers: usize,
-    connections: u64,
-    limits: Limits,
+    opening: Opening,
+    intake: &Intake<'_>,
     console: &mut Console<L, O>,
     audit: &mut Option<Audit<W>>,
 ) -> io::Result<()>
-    requires book { history.book ≡ A.history }
-    requires fresh { history.next ≡ 0 }
-    requires log { history.log ≡ Opened pairs.items ∷ [] }
+    requires book { opening.history.book ≡ A.history }
+    requires fresh { opening.history.next ≡ 0 }
+    requires log { opening.history.log ≡ Opened opening.pairs.items ∷ [] }
 {
+    let Opening {
+        history,
+        pairs,
+        account,
+    } = opening;
     let (slots, first) = match Slots::<A>::new(alloc, pairs, history) {
         Ok(made) => made,
         Err(fault) => return Err(error_of(fault)),
     };
     let reserve = Reserve::new(alloc);
+    let common = Common {
+        slots: &slots,
+        reserve: &reserve,
+        first,
+        account,
+    };
     match audit {
-        Some(Audit { books, writer }) => serve_and_write(
-            rt,
-            clock,
-            alloc,
-            &slots,
-            &reserve,
-            books,
-            writer,
-            first,
-            account,
-            listener,
-            workers,
-            connections,
-            limits,
-            console,
-        ),
-        None => serve_by(
-            rt,
-            clock,
-            alloc,
-            &slots,
-            &reserve,
-            first,
-            account,
-            listener,
-            workers,
-            connections,
-            limits,
-            console,
-        ),
+        Some(audit) => serve_and_write(rt, clock, alloc, common, intake, console, audit),
+        None => serve_by(rt, clock, alloc, common, intake, console),
     }
 }
 
@@ -125,29 +129,20 @@ fn serve_by<
     rt: &'a R,
     clock: &'a C,
     alloc: Global,
-    slots: &'a Slots<A>,
-    reserve: &'a Reserve,
-    first: LogFront<A>,
-    account: Text,
-    listener: &TcpListener,
-    workers: usize,
-    connections: u64,
-    limits: Limits,
+    common: Common<'a, A>,
+    intake: &Intake<'_>,
     console: &mut Console<L, O>,
 ) -> io::Result<()> {
+    let Common {
+        slots,
+        reserve,
+        first,
+        account,
+    } = common;
     let mut operator = Operator::new(rt, slots, account, first.again());
-    let services = SlotServices::new(rt, clock, slots, None, reserve, first, connections);
-    serve_and_obey(
-        rt,
-        clock,
-        alloc,
-        &mut operator,
-        &services,
-        listener,
-        workers,
-        limits,
-        console,
-    )
+    let left = intake.connections;
+    let services = SlotServices::new(rt, clock, slots, None, reserve, first, left);
+    serve_and_obey(rt, clock, alloc, &mut operator, &services, intake, console)
 }
 
 // The same with books, whose lines go to a writer until serving has ended and they are written.
@@ -161,25 +156,27 @@ fn serve_and_write<
     C: Clock + Sync,
     L: Read + Drop + Send,
     O: Write + Drop + Send,
-    W: Write + Send,
+    W: Write + Drop + Send,
 >(
     rt: &'a R,
     clock: &'a C,
     alloc: Global,
-    slots: &'a Slots<A>,
-    reserve: &'a Reserve,
-    books: &'a Books,
-    writer: &mut W,
-    first: LogFront<A>,
-    account: Text,
-    listener: &TcpListener,
-    workers: usize,
-    connections: u64,
-    limits: Limits,
+    common: Common<'a, A>,
+    intake: &Intake<'_>,
     console: &mut Console<L, O>,
+    audit: &'a mut Audit<W>,
 ) -> io::Result<()> {
+    let Common {
+        slots,
+        reserve,
+        first,
+        account,
+    } = common;
+    let Audit { books, writer } = audit;
+    let books = &*books;
     let mut operator = Operator::new(rt, slots, account, first.again());
-    let services = SlotServices::new(rt, clock, slots, Some(books), reserve, first, connections);
+    let left = intake.connections;
+    let services = SlotServices::new(rt, clock, slots, Some(books), reserve, first, left);
     let ended = AtomicBool::new(false);
     let (_, served) = thread::join(
         rt,
@@ -193,9 +190,7 @@ fn serve_and_write<
                 alloc,
                 &mut operator,
                 &services,
-                listener,
-                workers,
-                limits,
+                intake,
                 console,
             );
             ended.store(true, Ordering::SeqCst);
@@ -219,11 +214,12 @@ pub(crate) fn serve_and_obey<
     alloc: Global,
     operator: &mut Operator<'a, A, R>,
     services: &SlotServices<'a, A, R, C>,
-    listener: &TcpListener,
-    workers: usize,
-    limits: Limits,
+    intake: &Intake<'_>,
     console: &mut Console<L, O>,
 ) -> io::Result<()> {
+    let listener = intake.listener;
+    let workers = intake.workers;
+    let limits = intake.limits;
     let is_over = AtomicBool::new(false);
     let (_, served) = thread::join(
         rt,

@@ -14,6 +14,8 @@ use Rattle.stamp_types.specs.declared.act.Act.{Act}
 use Rattle.stamp_types.specs.declared.act.Act.TheVariants as act
 use Rattle.stamp_types.specs.declared.piece.Piece.{Piece}
 use Rattle.stream_manager.specs.Streams.{laid}
+use Rattle.stream_manager.specs.declared.faults.StoredFault.{StoredFault}
+use Rattle.stream_manager.specs.declared.faults.StoredFault.TheVariants as stored
 use Rattle.partition_stream.specs.Changes.{Recorded}
 use Rattle.partition_stream.specs.Compactions.{AreMovedRecords, AreRows, HaveLimit, IsMovedAct}
 use Rattle.partition_stream.specs.Contents.{content_at}
@@ -34,8 +36,6 @@ use Rattle.stored_rows.specs.Loaded.{AreLoaded}
 use Rattle.stored_rows.specs.Ranges.{covers}
 use Rattle.stored_rows.specs.States.{Stored, bytes_of}
 use Rattle.stored_rows.specs.declared.compacted.Compacted.{Compacted}
-use Rattle.stored_rows.specs.declared.faults.StoredFault.{StoredFault}
-use Rattle.stored_rows.specs.declared.faults.StoredFault.TheVariants as stored
 use Rattle.stored_rows.specs.declared.key_range.KeyRange.{KeyRange}
 use Rattle.stored_rows.proofs.CheckpointLemmas.{IsRow, all_rows, rows_fit}
 use Rattle.stored_rows.proofs.CountLemmas.{each_fails, fails_later, grows_twice, puts_fail}

@@ -8,15 +8,13 @@ use Rattle.stamp_types.specs.Changes.{KeyedAct}
 use Rattle.stream_manager.specs.Counting.{FailsEachAtLeast, FailsNoPut, FailsPutsAtLeast, FailsSettle}
 use Rattle.stream_manager.specs.declared.faults.Settled.{Settled}
 use Rattle.stream_manager.specs.declared.faults.Settled.TheVariants as settled
-use Rattle.stream_manager.specs.declared.faults.SettleFault.{SettleFault}
-use Rattle.stream_manager.specs.declared.faults.SettleFault.TheVariants as settle
+use Rattle.stream_manager.specs.declared.faults.StoredFault.{StoredFault}
+use Rattle.stream_manager.specs.declared.faults.StoredFault.TheVariants as stored
 use Rattle.partition_stream.specs.Counting.{FailsLog, FailsPut, FailsSeals}
-use Rattle.partition_stream.specs.declared.faults.LogFault.{LogFault}
-use Rattle.partition_stream.specs.declared.faults.LogFault.TheVariants as log
-use Rattle.partition_stream.specs.declared.faults.PutFault.{PutFault}
-use Rattle.partition_stream.specs.declared.faults.PutFault.TheVariants as put
+use Rattle.partition_stream.specs.declared.faults.TakeFault.{TakeFault}
+use Rattle.partition_stream.specs.declared.faults.TakeFault.TheVariants as take
 use Rattle.stored_rows.specs.Counting.{Fails, FailsLogged, FailsStored}
-use Rattle.stored_rows.specs.Faults.{stored_fault_of_read, stored_fault_of_settle, unlogged_by, unlogged_of_put}
+use Rattle.stored_rows.specs.Faults.{stored_fault_of_read, unlogged_by, unlogged_of_put}
 
 grows_each : (a b c : Counts) → GrowsEach a b → GrowsEach b c → GrowsEach a c
 grows_each a b c g f = (omega (arith, g, f), omega (arith, g, f), omega (arith, g, f))
@@ -50,17 +48,17 @@ no_put_grows : (a b : Calls) → FailsNoPut a b → Grows a b
 no_put_grows a b h = ((omega (arith, h), omega (arith, h), omega (arith, h)), h.1)
 
 -- content was not put
-pub put_fails : (T : Type 0) (f : PutFault) (a b : Calls) → FailsPut {T = T} (Err f) a b → FailsLogged (Err (unlogged_of_put f)) a b
-put_fails T put.Busy a b (inl h) = each_fails a b h
-put_fails T put.Busy a b (inr h) = puts_fail a b h
-put_fails T put.NoMemory a b h = h
+pub put_fails : (T : Type 0) (f : StoredFault) (a b : Calls) → FailsPut {T = T} (Err f) a b → FailsLogged (Err (unlogged_of_put f)) a b
+put_fails T stored.Busy a b (inl h) = each_fails a b h
+put_fails T stored.Busy a b (inr h) = puts_fail a b h
+put_fails T stored.NoMemory a b h = h
 
 -- a change was not logged, after its content was put
-pub log_fails : (f : LogFault) (d : KeyedAct) (before after : ℕ) (a b c : Calls) → Grows a b → FailsLog (Err f) before after b c → FailsLogged (Err (unlogged_by f d)) a c
-log_fails log.Doubt d before after a b c g h = fails_later a b c g (each_fails b c h.1)
-log_fails log.Busy d before after a b c g (inl h) = fails_later a b c g (each_once b c h.1)
-log_fails log.Busy d before after a b c g (inr h) = fails_later a b c g (puts_fail b c h.1)
-log_fails log.NoMemory d before after a b c g h = grows_twice a b c g (grows_not b c h)
+pub log_fails : (f : TakeFault) (d : KeyedAct) (before after : ℕ) (a b c : Calls) → Grows a b → FailsLog (Err f) before after b c → FailsLogged (Err (unlogged_by f d)) a c
+log_fails take.Doubt d before after a b c g h = fails_later a b c g (each_fails b c h.1)
+log_fails take.Busy d before after a b c g (inl h) = fails_later a b c g (each_once b c h.1)
+log_fails take.Busy d before after a b c g (inr h) = fails_later a b c g (puts_fail b c h.1)
+log_fails take.NoMemory d before after a b c g h = grows_twice a b c g (grows_not b c h)
 
 -- a settle
 pub settle_grows : (e : Settled) (a b : Calls) → FailsSettle (Ok e) a b → Grows a b
@@ -68,17 +66,17 @@ settle_grows settled.Clean a b h = grows_not a b h
 settle_grows (settled.Kept p) a b h = no_put_grows a b h
 settle_grows settled.Dropped a b h = no_put_grows a b h
 
-pub settle_fails : (T : Type 0) (f : SettleFault) (a b : Calls) → FailsSettle (Err f) a b → FailsStored {T = T} (Err (stored_fault_of_settle f)) a b
-settle_fails T settle.Busy a b h = each_once a b h
-settle_fails T settle.NoMemory a b h = grows_not a b h
+pub settle_fails : (T : Type 0) (f : StoredFault) (a b : Calls) → FailsSettle (Err f) a b → FailsStored {T = T} (Err f) a b
+settle_fails T stored.Busy a b h = each_once a b h
+settle_fails T stored.NoMemory a b h = grows_not a b h
 
 -- a seal
 pub seal_grows : (u : Unit {0}) (a b : Calls) → FailsSeals (Ok u) a b → Grows a b
 seal_grows u a b h = no_put_grows a b h
 
-pub seal_fails : (T : Type 0) (f : SettleFault) (a b : Calls) → FailsSeals (Err f) a b → FailsStored {T = T} (Err (stored_fault_of_settle f)) a b
-seal_fails T settle.Busy a b h = each_fails a b h.1
-seal_fails T settle.NoMemory a b h = no_put_grows a b h
+pub seal_fails : (T : Type 0) (f : StoredFault) (a b : Calls) → FailsSeals (Err f) a b → FailsStored {T = T} (Err f) a b
+seal_fails T stored.Busy a b h = each_fails a b h.1
+seal_fails T stored.NoMemory a b h = no_put_grows a b h
 
 -- a load
 abbrev failed : (T : Type 0) → ReadFault → Result T ReadFault

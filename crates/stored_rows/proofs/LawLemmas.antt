@@ -5,11 +5,11 @@ use Rattle.stamp_types.specs.Pieces.{held}
 use Rattle.stamp_types.specs.World.{changed}
 use Rattle.partition_stream.specs.Changes.{Recorded}
 use Rattle.partition_stream.specs.Meanings.{acts_on, after_acts, is_on}
+use Rattle.partition_stream.specs.declared.faults.TakeFault.{TakeFault}
+use Rattle.partition_stream.specs.declared.faults.TakeFault.TheVariants as fault
 use Rattle.stored_rows.specs.States.{AreTaken, IsChanged, SettlesRows, IsTaken, MeansTheSame, Stored, bytes_of, doubt_of}
 use Rattle.stored_rows.specs.declared.faults.Ended.{Ended}
 use Rattle.stored_rows.specs.declared.faults.Ended.TheVariants as ended
-use Rattle.stored_rows.specs.declared.faults.TakeFault.{TakeFault}
-use Rattle.stored_rows.specs.declared.faults.TakeFault.TheVariants as fault
 use Rattle.stored_rows.proofs.FittingLemmas.{acts_on-next, is_on-same}
 use Rattle.stored_rows.proofs.LoadLemmas.{other_key}
 use Rattle.stored_rows.proofs.TakeLemmas.{same_twice}

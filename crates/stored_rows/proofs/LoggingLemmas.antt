@@ -5,13 +5,13 @@ use Rattle.extent_node.specs.Faults.{held}
 use Rattle.stamp_types.specs.Changes.{KeyedAct}
 use Rattle.stream_manager.specs.Places.{KeepsPlaces, blocks_of, is_kept}
 use Rattle.stream_manager.specs.Streams.{laid}
+use Rattle.stream_manager.specs.declared.faults.StoredFault.{StoredFault}
+use Rattle.stream_manager.specs.declared.faults.StoredFault.TheVariants as stored_fault
 use Rattle.partition_stream.specs.Changes.{Recorded, change_in, changes_of}
 use Rattle.partition_stream.specs.Outcomes.{Logs, IsLogged, with_kept}
 use Rattle.partition_stream.specs.Streams.{ThreeStreams, logged}
-use Rattle.partition_stream.specs.declared.faults.LogFault.{LogFault}
-use Rattle.partition_stream.specs.declared.faults.LogFault.TheVariants as log_fault
-use Rattle.partition_stream.specs.declared.faults.PutFault.{PutFault}
-use Rattle.partition_stream.specs.declared.faults.PutFault.TheVariants as put_fault
+use Rattle.partition_stream.specs.declared.faults.TakeFault.{TakeFault}
+use Rattle.partition_stream.specs.declared.faults.TakeFault.TheVariants as take_fault
 use Rattle.partition_stream.proofs.OneMoreLemmas.{one_more_logged}
 use Rattle.stored_rows.specs.Faults.{unlogged_by, unlogged_of_put}
 use Rattle.stored_rows.specs.Logging.{AddsChange, IsPutAndLogged, KeepsLog}
@@ -29,10 +29,10 @@ put_keeps s t log rows places = record {
 }
 
 -- content was not put
-pub put_refused : (f : PutFault) (s t : ThreeStreams) (c : Recorded) → t.log ≡ s.log → t.rows ≡ s.rows → KeepsPlaces (laid s.blobs) (laid t.blobs)
+pub put_refused : (f : StoredFault) (s t : ThreeStreams) (c : Recorded) → t.log ≡ s.log → t.rows ≡ s.rows → KeepsPlaces (laid s.blobs) (laid t.blobs)
     → (logged s).doubt ≡ None → IsPutAndLogged (Err (unlogged_of_put f)) s c t
-put_refused put_fault.Busy s t c log rows places none = (put_keeps s t log rows places, same_doubt s t log ∙ none)
-put_refused put_fault.NoMemory s t c log rows places none = (put_keeps s t log rows places, same_doubt s t log ∙ none)
+put_refused stored_fault.Busy s t c log rows places none = (put_keeps s t log rows places, same_doubt s t log ∙ none)
+put_refused stored_fault.NoMemory s t c log rows places none = (put_keeps s t log rows places, same_doubt s t log ∙ none)
 
 nothing_held : (kept : Bool) (doubt : Option Recorded) → doubt ≡ None → held kept doubt ≡ []
 nothing_held true doubt none = ap option_to_list none
@@ -78,14 +78,14 @@ module _ (s m t : ThreeStreams) (c : Recorded) (d : KeyedAct) (none : (logged s)
   keeps_log is = record { rows = rows_logged; log = is ∙ put.log; places = places_logged }
 
   -- the change was not logged
-  pub logged_refused : (f : LogFault) → IsLogged (Err f) m (d, c.1) t → IsPutAndLogged (Err (unlogged_by f d)) s c t
-  logged_refused log_fault.Doubt h = record {
+  pub logged_refused : (f : TakeFault) → IsLogged (Err f) m (d, c.1) t → IsPutAndLogged (Err (unlogged_by f d)) s c t
+  logged_refused take_fault.Doubt h = record {
     doubt = h.left;
     same = same_logged;
     log = keeps_log (none_added (Some (d, c.1)) h);
   }
-  logged_refused log_fault.Busy h = elim h [
+  logged_refused take_fault.Busy h = elim h [
     | inl more ↦ (keeps_log (none_added None more), more.left)
     | inr left ↦ (keeps_log (ap (λ es. changes_of (blocks_of es)) left.blocks), ap (λ last. option_and_then change_in last.tried) left.last ∙ none_put)
   ]
-  logged_refused log_fault.NoMemory h = (keeps_log (ap (λ u. changes_of (blocks_of (laid u.log))) h), ap (λ u. (logged u).doubt) h ∙ none_put)
+  logged_refused take_fault.NoMemory h = (keeps_log (ap (λ u. changes_of (blocks_of (laid u.log))) h), ap (λ u. (logged u).doubt) h ∙ none_put)

@@ -14,7 +14,7 @@ use Rattle.row_trees.specs.ListedBlocks.{AreFoundFor}
 use Rattle.stream_manager.specs.Counting.{FailsSettle}
 use Rattle.stream_manager.specs.declared.faults.Settled.{Settled}
 use Rattle.stream_manager.specs.declared.faults.Settled.TheVariants as settled
-use Rattle.stream_manager.specs.declared.faults.SettleFault.{SettleFault}
+use Rattle.stream_manager.specs.declared.faults.StoredFault.{StoredFault}
 use Rattle.partition_stream.specs.Changes.{Recorded}
 use Rattle.partition_stream.specs.Counting.{FailsSeals}
 use Rattle.partition_stream.specs.Meanings.{held_of}
@@ -22,6 +22,7 @@ use Rattle.partition_stream.specs.Outcomes.{IsLogSettled}
 use Rattle.partition_stream.specs.Positions.{all_changes}
 use Rattle.partition_stream.specs.Storing.{AreKept}
 use Rattle.partition_stream.specs.Streams.{AreSealed, ThreeStreams, logged}
+use Rattle.partition_stream.specs.declared.faults.TakeFault.TheVariants as take
 use Rattle.stored_rows.specs.Counting.{FailsLogged, FailsStored, FailsTake}
 use Rattle.stored_rows.specs.Fitting.{Fits}
 use Rattle.stored_rows.specs.Loaded.{AreLoaded, AreRowsOf}
@@ -31,7 +32,6 @@ use Rattle.stored_rows.specs.Ranges.{covers}
 use Rattle.stored_rows.specs.States.{IsTaken, MeansTheSame, SettlesRows, Stored}
 use Rattle.stored_rows.specs.declared.key_range.KeyRange.{KeyRange}
 use Rattle.stored_rows.specs.declared.faults.Ended.{Ended}
-use Rattle.stored_rows.specs.declared.faults.TakeFault.TheVariants as take
 use Rattle.stored_rows.specs.declared.sealed.AllSealed.{AllSealed}
 use Rattle.stored_rows.specs.declared.logging.Unlogged.{Unlogged}
 use Rattle.stored_rows.specs.declared.logging.Unlogged.TheVariants as fault
@@ -96,7 +96,7 @@ abbrev pub stored_at : ThreeStreams → KeyRange → Bool → Stored
 stored_at s range b = record { streams = s; range = range; is_loaded = b }
 
 -- a change that is kept fits the rows that are loaded
-pub settled_fits : (r : Result Settled SettleFault) (s t : ThreeStreams) (range : KeyRange) (v : Option (World (List Piece))) (d : Option KeyedAct) → AreLoaded s v d range
+pub settled_fits : (r : Result Settled StoredFault) (s t : ThreeStreams) (range : KeyRange) (v : Option (World (List Piece))) (d : Option KeyedAct) → AreLoaded s v d range
     → t.blobs ≡ s.blobs → t.rows ≡ s.rows → IsLogSettled r s t → IfKept r (IfSome d (λ c. IfSome v (λ w. IsTrue (fits (part_value pieces_len (part_at w c.key)) c.act))))
 settled_fits (Ok settled.Clean) s t range v d old blobs rows h = tt
 settled_fits (Ok (settled.Kept p)) s t range v d old blobs rows h = doubt_rows s t range v d old blobs rows h.0 h.1.0
@@ -104,7 +104,7 @@ settled_fits (Ok settled.Dropped) s t range v d old blobs rows h = tt
 settled_fits (Err f) s t range v d old blobs rows h = tt
 
 -- what is true of all stored rows is true of them after a settle
-pub settled_loaded : (r : Result Settled SettleFault) (s t : ThreeStreams) (range : KeyRange) (v w : Option (World (List Piece))) (d e : Option KeyedAct) → AreLoaded s v d range
+pub settled_loaded : (r : Result Settled StoredFault) (s t : ThreeStreams) (range : KeyRange) (v w : Option (World (List Piece))) (d e : Option KeyedAct) → AreLoaded s v d range
     → t.blobs ≡ s.blobs → t.rows ≡ s.rows → IsLogSettled r s t → IsSettledBeside r v w d e → AreLoaded t w e range
 settled_loaded (Ok settled.Clean) s t range v w d e old blobs rows h f =
     subst (λ o. AreLoaded t w o range) (sym f.1) (subst (λ o. AreLoaded t o d range) (sym f.0) (clean_loaded s t range v d old blobs rows h.1))
@@ -123,7 +123,7 @@ still_loaded s t range v w whole h same =
     (means_same s t h range (is_some v) whole)
 
 -- what a settle does
-pub settled_rows : (r : Result Settled SettleFault) (s t : ThreeStreams) (range : KeyRange) (v w : Option (World (List Piece))) (d e : Option KeyedAct) → AreLoaded s v d range → AreKept s
+pub settled_rows : (r : Result Settled StoredFault) (s t : ThreeStreams) (range : KeyRange) (v w : Option (World (List Piece))) (d e : Option KeyedAct) → AreLoaded s v d range → AreKept s
     → t.blobs ≡ s.blobs → t.rows ≡ s.rows → IsLogSettled r s t → IsSettledBeside r v w d e
     → SettlesRows (ended_by r) (record { streams = s; range = range; is_loaded = is_some v }) (record { streams = t; range = range; is_loaded = is_some w })
 settled_rows (Ok settled.Clean) s t range v w d e old whole blobs rows h f =
@@ -136,19 +136,19 @@ settled_rows (Err x) s t range v w d e old whole blobs rows h f =
     (still_loaded s t range v w whole (same_log_keeps s t h.1 blobs rows) f.0, (h.0, same_log_doubt s t h.1))
 
 -- a settle fails as that of its log did
-pub settled_fails : (r : Result Settled SettleFault) (a b : Calls) → FailsSettle r a b → FailsStored (ended_by r) a b
+pub settled_fails : (r : Result Settled StoredFault) (a b : Calls) → FailsSettle r a b → FailsStored (ended_by r) a b
 settled_fails (Ok settled.Clean) a b h = settle_grows settled.Clean a b h
 settled_fails (Ok (settled.Kept p)) a b h = settle_grows (settled.Kept p) a b h
 settled_fails (Ok settled.Dropped) a b h = settle_grows settled.Dropped a b h
 settled_fails (Err f) a b h = settle_fails Ended f a b h
 
 -- a seal fails as that of its streams did
-pub sealed_fails : (r : Result (Unit {0}) SettleFault) (a b : Calls) → FailsSeals r a b → FailsStored (sealed_by r) a b
+pub sealed_fails : (r : Result (Unit {0}) StoredFault) (a b : Calls) → FailsSeals r a b → FailsStored (sealed_by r) a b
 sealed_fails (Ok u) a b h = seal_grows u a b h
 sealed_fails (Err f) a b h = seal_fails AllSealed f a b h
 
 -- a seal whose answer is Ok
-pub sealed_whole : (r : Result (Unit {0}) SettleFault) (t : ThreeStreams) → OnOk r (AreSealed t) → OnOk (sealed_by r) (AreSealed t)
+pub sealed_whole : (r : Result (Unit {0}) StoredFault) (t : ThreeStreams) → OnOk r (AreSealed t) → OnOk (sealed_by r) (AreSealed t)
 sealed_whole (Ok u) t h = h
 sealed_whole (Err f) t h = tt
 

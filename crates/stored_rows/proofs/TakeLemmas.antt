@@ -18,12 +18,13 @@ use Rattle.partition_stream.specs.Contents.{content_at}
 use Rattle.partition_stream.specs.Meanings.{acts_on, after_acts, held_of, meaning, IsOneMore}
 use Rattle.partition_stream.specs.Logging.{IsSameStream}
 use Rattle.partition_stream.specs.Outcomes.{Logs, IsLogSealed, with_kept}
-use Rattle.stream_manager.specs.declared.faults.SettleFault.{SettleFault}
+use Rattle.stream_manager.specs.declared.faults.StoredFault.{StoredFault}
 use Rattle.partition_stream.specs.Positions.{all_changes}
 use Rattle.partition_stream.specs.Storing.{AreKept}
 use Rattle.partition_stream.specs.Streams.{AreSealed, HaveSameBlocks, ThreeStreams, logged}
 use Rattle.partition_stream.proofs.ContentLemmas.{part_reads}
 use Rattle.partition_stream.proofs.MeaningLemmas.{held_of-shared, held_of-stored, meaning-own, meaning-other, meaning-shared}
+use Rattle.partition_stream.specs.declared.faults.TakeFault.TheVariants as take
 use Rattle.stored_rows.specs.Fitting.{Fits, FitsDoubt}
 use Rattle.stored_rows.specs.Loaded.{AreLoaded, AreRowsOf, IsFollowed, doubted, part_of}
 use Rattle.stored_rows.specs.Logging.{AddsChange, Doubts, IsPutAndLogged, KeepsLog}
@@ -31,7 +32,6 @@ use Rattle.stored_rows.specs.Ranges.{covers}
 use Rattle.stored_rows.specs.States.{IsChanged, IsHalf, IsInDoubt, IsKeptAs, IsTaken, MeansTheSame, Stored}
 use Rattle.stored_rows.specs.declared.key_range.KeyRange.{KeyRange}
 use Rattle.stored_rows.specs.declared.logging.Unlogged.TheVariants as fault
-use Rattle.stored_rows.specs.declared.faults.TakeFault.TheVariants as take
 use Rattle.stored_rows.proofs.CutLemmas.{half_below, half_from}
 use Rattle.stored_rows.proofs.FittingLemmas.{all_fit_more, all_fit_none, all_fit_same, all_more}
 use Rattle.stored_rows.proofs.LoadLemmas.{fits_rows, have_more_covered, none_have}
@@ -259,7 +259,7 @@ none_added s t doubt none h =
     ∙ append-nil (logged s).log
 
 -- a seal without a doubt
-pub seal_keeps : (r : Result (Unit {0}) SettleFault) (s t : ThreeStreams) → IsLogSealed r s t → (logged s).doubt ≡ None → (logged t).rows ≡ (logged s).rows
+pub seal_keeps : (r : Result (Unit {0}) StoredFault) (s t : ThreeStreams) → IsLogSealed r s t → (logged s).doubt ≡ None → (logged t).rows ≡ (logged s).rows
     → KeepsPlaces (laid s.blobs) (laid t.blobs) → KeepsLog s t × ((logged t).doubt ≡ None)
 seal_keeps (Ok u) s t h none rows places = (record { rows = rows; log = none_added s t None none h; places = places }, h.left)
 seal_keeps (Err e) s t h none rows places = elim h [

@@ -5,6 +5,7 @@ use Rattle.stamp_values.specs.declared.key.Key.{Key}
 use Rattle.stamp_types.specs.World.{World, no_part}
 use Rattle.stamp_types.specs.declared.piece.Piece.{Piece}
 use Rattle.stream_manager.specs.Streams.{Streamed, laid}
+use Rattle.stream_manager.specs.declared.faults.StoredFault.{StoredFault}
 use Rattle.partition_stream.specs.Compactions.{AreMovedRecords}
 use Rattle.partition_stream.specs.Positions.{all_changes}
 use Rattle.partition_stream.specs.Streams.{HaveSameLimits, ThreeStreams, logged}
@@ -15,7 +16,6 @@ use Rattle.stored_rows.specs.Faults.{stored_fault_of_compaction}
 use Rattle.stored_rows.specs.Loaded.{AreRowsOf}
 use Rattle.stored_rows.specs.Ranges.{covers}
 use Rattle.stored_rows.specs.States.{Stored, bytes_of}
-use Rattle.stored_rows.specs.declared.faults.StoredFault.{StoredFault}
 
 -- each container of the range is as it was, in bytes, and extents of two or more blocks may have as many bytes as before
 pub record KeepsTheRange (s t : Stored) : Type 0 where

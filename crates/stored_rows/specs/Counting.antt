@@ -3,10 +3,10 @@ use Rattle.std.specs.Prelude.{◌<◌, Result, Ok, Err}
 use Rattle.extent_node.specs.Faults.{Calls}
 use Rattle.extent_seal.specs.Counting.{Grows, all_faults}
 use Rattle.stamp_types.specs.Changes.{KeyedAct}
-use Rattle.stored_rows.specs.declared.faults.StoredFault.{StoredFault}
-use Rattle.stored_rows.specs.declared.faults.StoredFault.TheVariants as stored
-use Rattle.stored_rows.specs.declared.faults.TakeFault.{TakeFault}
-use Rattle.stored_rows.specs.declared.faults.TakeFault.TheVariants as take
+use Rattle.stream_manager.specs.declared.faults.StoredFault.{StoredFault}
+use Rattle.stream_manager.specs.declared.faults.StoredFault.TheVariants as stored
+use Rattle.partition_stream.specs.declared.faults.TakeFault.{TakeFault}
+use Rattle.partition_stream.specs.declared.faults.TakeFault.TheVariants as take
 use Rattle.stored_rows.specs.declared.logging.Unlogged.{Unlogged}
 use Rattle.stored_rows.specs.declared.logging.Unlogged.TheVariants as log
 

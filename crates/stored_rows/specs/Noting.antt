@@ -6,14 +6,13 @@ use Rattle.stamp_types.specs.World.{World}
 use Rattle.extent_seal.specs.declared.sealed.ReadFault.{ReadFault}
 use Rattle.stream_manager.specs.declared.faults.Settled.{Settled}
 use Rattle.stream_manager.specs.declared.faults.Settled.TheVariants as settled
-use Rattle.stream_manager.specs.declared.faults.SettleFault.{SettleFault}
-use Rattle.stored_rows.specs.Faults.{stored_fault_of_read, stored_fault_of_settle}
+use Rattle.stream_manager.specs.declared.faults.StoredFault.{StoredFault}
+use Rattle.partition_stream.specs.declared.faults.TakeFault.{TakeFault}
+use Rattle.partition_stream.specs.declared.faults.TakeFault.TheVariants as take
+use Rattle.stored_rows.specs.Faults.{stored_fault_of_read}
 use Rattle.stored_rows.specs.Loaded.{IsFollowed}
 use Rattle.stored_rows.specs.declared.faults.Ended.{Ended}
 use Rattle.stored_rows.specs.declared.faults.Ended.TheVariants as ended
-use Rattle.stored_rows.specs.declared.faults.StoredFault.{StoredFault}
-use Rattle.stored_rows.specs.declared.faults.TakeFault.{TakeFault}
-use Rattle.stored_rows.specs.declared.faults.TakeFault.TheVariants as take
 use Rattle.stored_rows.specs.declared.sealed.AllSealed.{AllSealed}
 use Rattle.stored_rows.specs.declared.logging.Unlogged.{Unlogged}
 use Rattle.stored_rows.specs.declared.logging.Unlogged.TheVariants as fault
@@ -33,28 +32,28 @@ IsKeptBeside (Err fault.Busy) v w d e = (w ≡ v) × (e ≡ d)
 IsKeptBeside (Err fault.NoMemory) v w d e = (w ≡ v) × (e ≡ d)
 
 -- what a settle of rows answers if that of their log ended so
-abbrev pub ended_by : Result Settled SettleFault → Result Ended StoredFault
+abbrev pub ended_by : Result Settled StoredFault → Result Ended StoredFault
 ended_by (Ok settled.Clean) = Ok ended.Clean
 ended_by (Ok (settled.Kept p)) = Ok ended.Kept
 ended_by (Ok settled.Dropped) = Ok ended.Dropped
-ended_by (Err f) = Err (stored_fault_of_settle f)
+ended_by (Err f) = Err f
 
 -- it holds if the change that was in doubt is kept
-abbrev pub IfKept : Result Settled SettleFault → Type 0 → Type 0
+abbrev pub IfKept : Result Settled StoredFault → Type 0 → Type 0
 IfKept (Ok (settled.Kept p)) holds = holds
 IfKept other holds = ⊤
 
 -- rows that are loaded have the change that was in doubt, if it is kept; a change is kept beside the streams only while it is in doubt
-abbrev pub IsSettledBeside : Result Settled SettleFault → Option (World (List Piece)) → Option (World (List Piece)) → Option KeyedAct → Option KeyedAct → Type 0
+abbrev pub IsSettledBeside : Result Settled StoredFault → Option (World (List Piece)) → Option (World (List Piece)) → Option KeyedAct → Option KeyedAct → Type 0
 IsSettledBeside (Ok settled.Clean) v w d e = (w ≡ v) × (e ≡ d)
 IsSettledBeside (Ok (settled.Kept p)) v w d e = IfSome d (λ c. IsFollowed v c w) × (e ≡ None)
 IsSettledBeside (Ok settled.Dropped) v w d e = (w ≡ v) × (e ≡ None)
 IsSettledBeside (Err f) v w d e = (w ≡ v) × (e ≡ d)
 
 -- what a seal of rows answers if that of their streams ended so
-abbrev pub sealed_by : Result (Unit {0}) SettleFault → Result AllSealed StoredFault
+abbrev pub sealed_by : Result (Unit {0}) StoredFault → Result AllSealed StoredFault
 sealed_by (Ok u) = Ok (record { done = u })
-sealed_by (Err f) = Err (stored_fault_of_settle f)
+sealed_by (Err f) = Err f
 
 -- what a load answers if the rows were made so
 abbrev pub loaded_by : {T : Type 0} → Result T ReadFault → Result (Unit {0}) StoredFault

@@ -10,17 +10,17 @@ use Rattle.block_blobs.specs.declared.found_blocks.FoundBlocks.{FoundBlocks}
 use Rattle.row_trees.specs.Fits.{fits}
 use Rattle.row_trees.specs.ListedBlocks.{AreFoundFor}
 use Rattle.stream_manager.specs.Streams.{laid}
+use Rattle.stream_manager.specs.declared.faults.StoredFault.{StoredFault}
 use Rattle.partition_stream.specs.Changes.{Recorded}
 use Rattle.partition_stream.specs.Contents.{content_at}
 use Rattle.partition_stream.specs.Meanings.{IsOneMore, held_of, meaning}
 use Rattle.partition_stream.specs.Storing.{IsStoredChange}
 use Rattle.partition_stream.specs.Streams.{ThreeStreams, logged}
+use Rattle.partition_stream.specs.declared.faults.TakeFault.{TakeFault}
+use Rattle.partition_stream.specs.declared.faults.TakeFault.TheVariants as fault
 use Rattle.stored_rows.specs.declared.key_range.KeyRange.{KeyRange}
 use Rattle.stored_rows.specs.declared.faults.Ended.{Ended}
 use Rattle.stored_rows.specs.declared.faults.Ended.TheVariants as ended
-use Rattle.stored_rows.specs.declared.faults.StoredFault.{StoredFault}
-use Rattle.stored_rows.specs.declared.faults.TakeFault.{TakeFault}
-use Rattle.stored_rows.specs.declared.faults.TakeFault.TheVariants as fault
 
 -- rows that are kept in streams: the streams, the range of the keys, and whether the rows are in memory
 pub record Stored : Type 0 where

@@ -2,9 +2,10 @@
 ghost use Rattle.std.specs.Prelude.{◌≡◌};
 ghost use Rattle.stored_rows.specs.Compactions.{IsUnloadedBeside, moved_by};
 
-use crate::faults::StoredFault;
+use crate::faults::stored_fault_of_compaction;
 use partition_stream::{CompactionFault, Replaced, Streams};
 use row_trees::Rows;
+use stream_manager::StoredFault;
 
 /// The log and the rows before a compaction, and the streams with the old data. To drop them takes time for each of their blocks, so a
 /// caller may drop them once it holds no lock.
@@ -27,6 +28,6 @@ pub(crate) fn note_moved(
             *rows = None;
             Ok(old)
         }
-        Err(fault) => Err(StoredFault::from(fault)),
+        Err(fault) => Err(stored_fault_of_compaction(fault)),
     }
 }

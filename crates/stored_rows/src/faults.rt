@@ -1,95 +1,28 @@
-//! Why calls of stored rows failed.
+//! Which fault of stored rows a fault of streams is, and what became of a change that was in doubt.
 ghost use Rattle.std.specs.Prelude.{◌≡◌};
+ghost use Rattle.stored_rows.specs.Faults.{stored_fault_of_compaction, stored_fault_of_read};
 
 use extent_seal::ReadFault;
-use partition_stream::{CompactionFault, PutFault};
-use std::alloc::AllocError;
-use stream_manager::SettleFault;
+use partition_stream::CompactionFault;
+use stream_manager::StoredFault;
 
-/// Why a change was not taken.
-#[derive(Clone, Copy, PartialEq, Eq)]
-pub enum TakeFault {
-    /// The change is not counted: no node answered, or a block was tried twice.
-    Busy,
-    /// The change is in doubt until the next settle.
-    Doubt,
-    /// Memory ran out. The change is not counted.
-    NoMemory,
-}
-
-/// Why rows were not loaded, settled, sealed, cut, written as a checkpoint or compacted.
-#[derive(Clone, Copy, PartialEq, Eq)]
-pub enum StoredFault {
-    /// No node that was needed answered.
-    Busy,
-    /// Memory ran out.
-    NoMemory,
-}
-
-impl From<ReadFault> for StoredFault {
-    ghost use Rattle.std.specs.Prelude.{◌≡◌};
-    ghost use Rattle.stored_rows.specs.Faults.{stored_fault_of_read};
-
-    ghost from_gives = { λ f e. e ≡ stored_fault_of_read f };
-
-    fn from(fault: ReadFault) -> Self {
-        match fault {
-            ReadFault::Unreachable => Self::Busy,
-            ReadFault::NoMemory => Self::NoMemory,
-        }
+/// The fault of a load whose read failed.
+pub(crate) fn stored_fault_of_read(fault: ReadFault) -> StoredFault
+    ensures { result ≡ stored_fault_of_read fault }
+{
+    match fault {
+        ReadFault::Unreachable => StoredFault::Busy,
+        ReadFault::NoMemory => StoredFault::NoMemory,
     }
 }
 
-impl From<SettleFault> for StoredFault {
-    ghost use Rattle.std.specs.Prelude.{◌≡◌};
-    ghost use Rattle.stored_rows.specs.Faults.{stored_fault_of_settle};
-
-    ghost from_gives = { λ f e. e ≡ stored_fault_of_settle f };
-
-    fn from(fault: SettleFault) -> Self {
-        match fault {
-            SettleFault::Busy => Self::Busy,
-            SettleFault::NoMemory => Self::NoMemory,
-        }
-    }
-}
-
-impl From<PutFault> for StoredFault {
-    ghost use Rattle.std.specs.Prelude.{◌≡◌};
-    ghost use Rattle.stored_rows.specs.Faults.{stored_fault_of_put};
-
-    ghost from_gives = { λ f e. e ≡ stored_fault_of_put f };
-
-    fn from(fault: PutFault) -> Self {
-        match fault {
-            PutFault::Busy => Self::Busy,
-            PutFault::NoMemory => Self::NoMemory,
-        }
-    }
-}
-
-impl From<CompactionFault> for StoredFault {
-    ghost use Rattle.std.specs.Prelude.{◌≡◌};
-    ghost use Rattle.stored_rows.specs.Faults.{stored_fault_of_compaction};
-
-    ghost from_gives = { λ f e. e ≡ stored_fault_of_compaction f };
-
-    fn from(fault: CompactionFault) -> Self {
-        match fault {
-            CompactionFault::Busy | CompactionFault::Unreachable => Self::Busy,
-            CompactionFault::NoMemory => Self::NoMemory,
-        }
-    }
-}
-
-impl From<AllocError> for StoredFault {
-    ghost use Rattle.std.specs.Prelude.{◌≡◌};
-    ghost use Rattle.stored_rows.specs.declared.faults.StoredFault.TheVariants.{NoMemory};
-
-    ghost from_gives = { λ _ e. e ≡ NoMemory };
-
-    fn from(_error: AllocError) -> Self {
-        Self::NoMemory
+/// The fault of a compaction whose content was not moved.
+pub(crate) fn stored_fault_of_compaction(fault: CompactionFault) -> StoredFault
+    ensures { result ≡ stored_fault_of_compaction fault }
+{
+    match fault {
+        CompactionFault::Busy | CompactionFault::Unreachable => StoredFault::Busy,
+        CompactionFault::NoMemory => StoredFault::NoMemory,
     }
 }
 

@@ -11,12 +11,12 @@ ghost use Rattle.partition_stream.specs.Contents.{content_at};
 ghost use Rattle.partition_stream.specs.Meanings.{acts_on, after_acts, held_of, meaning};
 ghost use Rattle.partition_stream.specs.Positions.{all_changes};
 ghost use Rattle.partition_stream.specs.Streams.{ThreeStreams, logged};
+ghost use Rattle.partition_stream.specs.declared.faults.TakeFault.{TakeFault};
+ghost use Rattle.partition_stream.specs.declared.faults.TakeFault.TheVariants as fault;
 ghost use Rattle.stored_rows.specs.Loaded.{AreLoaded};
 ghost use Rattle.stored_rows.specs.Ranges.{covers};
 ghost use Rattle.stored_rows.specs.States.{AreTaken, IsChanged, IsInDoubt, SettlesRows, IsTaken, MeansTheSame, Stored, bytes_of, doubt_of, pieces_of};
 ghost use Rattle.stored_rows.specs.declared.faults.Ended.{Ended};
-ghost use Rattle.stored_rows.specs.declared.faults.TakeFault.{TakeFault};
-ghost use Rattle.stored_rows.specs.declared.faults.TakeFault.TheVariants as fault;
 ghost use Rattle.stored_rows.specs.declared.key_range.KeyRange.{KeyRange};
 
 /// Rows that are loaded are what the streams mean, and nothing else: each container of the range is what all changes make of it, in

@@ -17,13 +17,15 @@ mod unloaded;
 mod waste;
 
 pub use compacted::Compacted;
-pub use faults::{Ended, StoredFault, TakeFault};
+pub use faults::Ended;
 pub use key_range::KeyRange;
 pub use laws::{
     a_doubt_is_one_change_or_none, a_load_is_what_the_streams_mean, a_refused_take_changes_nothing,
     a_taken_change_is_one_more,
 };
+pub use partition_stream::TakeFault;
 pub use repaired::{NoExtent, Repaired, Unrepaired};
 pub use sealed::AllSealed;
 pub use stored_rows::StoredRows;
+pub use stream_manager::StoredFault;
 pub use unloaded::Unloaded;

@@ -14,8 +14,9 @@ ghost use Rattle.stored_rows.specs.Faults.{unlogged_by, unlogged_of_put};
 ghost use Rattle.stored_rows.specs.Logging.{IsPutAt, IsPutAndLogged, KeepsFound, with_placed};
 
 use extent_node::Wire;
-use partition_stream::{LogFault, PutFault, Streams};
+use partition_stream::{Streams, TakeFault};
 use stamp_types::{Change, Pieces};
+use stream_manager::StoredFault;
 
 /// Why a change was not logged.
 #[derive(Drop)]
@@ -28,31 +29,31 @@ pub(crate) enum Unlogged {
     NoMemory,
 }
 
-impl From<PutFault> for Unlogged {
+impl From<StoredFault> for Unlogged {
     ghost use Rattle.std.specs.Prelude.{◌≡◌};
     ghost use Rattle.stored_rows.specs.Faults.{unlogged_of_put};
 
     ghost from_gives = { λ f e. e ≡ unlogged_of_put f };
 
-    fn from(fault: PutFault) -> Self {
+    fn from(fault: StoredFault) -> Self {
         match fault {
-            PutFault::Busy => Self::Busy,
-            PutFault::NoMemory => Self::NoMemory,
+            StoredFault::Busy => Self::Busy,
+            StoredFault::NoMemory => Self::NoMemory,
         }
     }
 }
 
 // Why a change was not logged, with the change if it is in doubt.
-fn not_logged(fault: LogFault, kept: Change) -> Unlogged
+fn not_logged(fault: TakeFault, kept: Change) -> Unlogged
     ensures { result ≡ unlogged_by fault kept }
 {
     match fault {
-        LogFault::Doubt => Unlogged::Doubt(kept),
-        LogFault::Busy => {
+        TakeFault::Doubt => Unlogged::Doubt(kept),
+        TakeFault::Busy => {
             drop(kept);
             Unlogged::Busy
         }
-        LogFault::NoMemory => {
+        TakeFault::NoMemory => {
             drop(kept);
             Unlogged::NoMemory
         }
@@ -64,7 +65,7 @@ fn put_pieces<W: Wire>(
     streams: &mut Streams,
     change: &Change,
     wire: &mut W,
-) -> Result<Option<Pieces>, PutFault>
+) -> Result<Option<Pieces>, StoredFault>
     requires held { IfSome (content_of change.now.act) (λ ps. IsTrue (is_held ps)) }
     ensures put { IfOk result (λ o. IsPutAt (laid streams.new.blobs) (content_of change.now.act) o) }
     ensures places { KeepsPlaces (laid streams.old.blobs) (laid streams.new.blobs) }

@@ -7,15 +7,16 @@ ghost use Rattle.row_trees.specs.ListedBlocks.{AreFoundFor};
 ghost use Rattle.stored_rows.specs.Loaded.{IsFollowed};
 ghost use Rattle.stored_rows.specs.Noting.{IfKept, IsKeptBeside, IsLoadedBeside, IsSettledBeside, ended_by, loaded_by, taken_by};
 
-use crate::faults::{Ended, StoredFault, TakeFault};
+use crate::faults::{Ended, stored_fault_of_read};
 use crate::loading::{follow, follow_doubt};
 use crate::logging::Unlogged;
 use block_blobs::FoundBlocks;
 use extent_seal::ReadFault;
+use partition_stream::TakeFault;
 use row_trees::Rows;
 use stamp_types::Change;
 use std::alloc::Global;
-use stream_manager::{SettleFault, Settled};
+use stream_manager::{Settled, StoredFault};
 
 // Keeps the change that is in doubt.
 fn keep_doubt(doubt: &mut Option<Change>, kept: Change)
@@ -81,7 +82,7 @@ pub(crate) fn note_settled(
     alloc: Global,
     rows: &mut Option<Rows>,
     doubt: &mut Option<Change>,
-    settled: Result<Settled, SettleFault>,
+    settled: Result<Settled, StoredFault>,
 ) -> Result<Ended, StoredFault>
     requires { IfKept settled (IfSome doubt.old (λ c. IfSome rows.old (λ w. IsTrue (fits (part_value pieces_len (part_at w c.key)) c.act)))) }
     ensures answer { result ≡ ended_by settled }
@@ -97,7 +98,7 @@ pub(crate) fn note_settled(
             keep_none(doubt);
             Ok(Ended::Dropped)
         }
-        Err(fault) => Err(StoredFault::from(fault)),
+        Err(fault) => Err(fault),
     }
 }
 
@@ -114,6 +115,6 @@ pub(crate) fn note_loaded(
             *rows = Some(loaded);
             Ok(())
         }
-        Err(fault) => Err(StoredFault::from(fault)),
+        Err(fault) => Err(stored_fault_of_read(fault)),
     }
 }

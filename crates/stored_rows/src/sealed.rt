@@ -2,8 +2,7 @@
 ghost use Rattle.std.specs.Prelude.{◌≡◌};
 ghost use Rattle.stored_rows.specs.Noting.{sealed_by};
 
-use crate::faults::StoredFault;
-use stream_manager::SettleFault;
+use stream_manager::StoredFault;
 
 /// The log, the data and the rows were sealed. Only [`StoredRows::seal`](crate::StoredRows::seal) makes such a value.
 #[derive(Clone, Copy)]
@@ -12,11 +11,11 @@ pub struct AllSealed {
 }
 
 /// The answer of a seal.
-pub(crate) fn note_sealed(sealed: Result<(), SettleFault>) -> Result<AllSealed, StoredFault>
+pub(crate) fn note_sealed(sealed: Result<(), StoredFault>) -> Result<AllSealed, StoredFault>
     ensures { result ≡ sealed_by sealed }
 {
     match sealed {
         Ok(()) => Ok(AllSealed { done: () }),
-        Err(fault) => Err(StoredFault::from(fault)),
+        Err(fault) => Err(fault),
     }
 }

@@ -7,7 +7,7 @@ mod repair;
 mod wasting;
 
 use crate::cutting::{ends_of, share_upper};
-use crate::faults::{Ended, StoredFault, TakeFault};
+use crate::faults::Ended;
 use crate::key_range::KeyRange;
 use crate::loading::rows_of;
 use crate::logging::put_and_log;
@@ -19,12 +19,13 @@ use block_blobs::FoundBlocks;
 use body_forms::Draft;
 use extent_node::Wire;
 use extent_seal::ReadFault;
-use partition_stream::{Part, Streams};
+use partition_stream::{Part, Streams, TakeFault};
 use range_rows::Span;
 use row_trees::{Found, Rows};
 use stamp_types::{Change, Key, Piece};
 use std::alloc::{AllocError, Global};
 use std::marker::Model;
+use stream_manager::StoredFault;
 use tickets::{Answer, Unreachable, make_answer};
 
 /// The rows of a range of keys. Streams keep them, and they are in memory while they are loaded (SOSP 2011, section 5).
@@ -72,6 +73,7 @@ impl StoredRows {
     ghost use Rattle.stamp_values.specs.declared.key.Key.{Key};
     ghost use Rattle.row_trees.specs.Fits.{commits, fits};
     ghost use Rattle.stream_manager.specs.Streams.{laid};
+    ghost use Rattle.stream_manager.specs.declared.faults.StoredFault.TheVariants as stored_fault;
     ghost use Rattle.partition_stream.specs.Compactions.{HaveLimit};
     ghost use Rattle.partition_stream.specs.Contents.{AreStored, IsStored, bytes_at};
     ghost use Rattle.partition_stream.specs.Parts.{is_piece_in_last};
@@ -82,7 +84,6 @@ impl StoredRows {
     ghost use Rattle.tickets.specs.Answers.{IsAnswerIf, IsSpanStored, are_in_last};
     ghost use Rattle.stored_rows.specs.Counting.{FailsStored, FailsTake};
     ghost use Rattle.stored_rows.specs.Loaded.{AreRowsOf};
-    ghost use Rattle.stored_rows.specs.declared.faults.StoredFault.TheVariants as stored_fault;
     ghost use Rattle.stored_rows.specs.Ranges.{covers};
     ghost use Rattle.stored_rows.specs.States.{AreFoundIn, IsHalf, SettlesRows, IsTaken, MeansTheSame, bytes_of, doubt_of, pieces_of};
 

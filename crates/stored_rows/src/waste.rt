@@ -1,11 +1,11 @@
 //! How many bytes the streams have, and to how many of them something refers. No answer depends on these numbers.
 ghost use Rattle.std.specs.Prelude.{◌≡◌};
 
-use crate::faults::TakeFault;
 use crate::record_len::{
     blob_len, block_len, blocks_len, committed_len, created_len, deleted_len, found_len, head_of,
     metadata_len, policies_len, record_bound, whole_len,
 };
+use partition_stream::TakeFault;
 use row_trees::{Found, FoundBlob, Rows};
 use stamp_types::{Act, Change, Committed, Key, Pieces, PutBlob, Text};
 use std::alloc::{AllocError, Global};

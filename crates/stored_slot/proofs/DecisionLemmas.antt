@@ -243,6 +243,7 @@ module _ (pairs : Pairs) (h : Histories) (s : Stored) (q : Asked) (t : ℕ) (w :
   decides (framed.Allowed a None found) is sent =
       let told = framed_allowed (refusal keys row_sizes q t) (row_answer w part q t s.range.to) a (change_of row_sizes q t) None (blocks_found part q).blocks found is in record {
         reply = read_told a told.1.0 told.0;
+        free = λ names. sym (ap (λ (z : Part ℕ). refusal keys z q t) (own_sizes names)) ∙ told.0;
         unchanged = change_free told.0 ∙ sym told.1.1.0;
         stored = subst (λ (a : FramedAnswer). All (IsSpanStored es) a.spans) (sym told.1.0) (spans_stored q.ask.op);
         sent = sent;

@@ -9,12 +9,12 @@ use Rattle.stamp_values.specs.Trees.{is_below, is_from}
 use Rattle.stamp_values.specs.declared.key.Key.{Key}
 use Rattle.stamp_types.specs.declared.past.Past.{Past}
 use Rattle.stamp_types.specs.World.{no_part}
+use Rattle.stream_manager.specs.declared.faults.StoredFault.{StoredFault}
 use Rattle.stamp_model.specs.Histories.{IsLegal, NoneIsLater, replay}
 use Rattle.stamp_model.specs.SeenContainers.{is_under}
 use Rattle.stamp_model.proofs.HistoryLemmas.{IsLegalFrom-nil}
 use Rattle.stored_rows.specs.Ranges.{covers, is_before_end}
 use Rattle.stored_rows.specs.States.{IsHalf, Stored, bytes_of}
-use Rattle.stored_rows.specs.declared.faults.StoredFault.{StoredFault}
 use Rattle.stored_rows.specs.declared.key_range.KeyRange.{KeyRange}
 use Rattle.slot_state.specs.HistoryMaps.{Histories, history_at}
 use Rattle.slot_state.specs.Pairs.{Pairs, current_at, epoch_of, pairs_at}
@@ -24,7 +24,6 @@ use Rattle.stored_slot.specs.Meanings.{AreOfStreams, AreReplays, slot_with}
 use Rattle.stored_slot.specs.Settled.{Cuts, CutsSettled, SettlesSlot}
 use Rattle.stored_slot.proofs.DecisionLemmas.{and_parts, from_from, same_end}
 use Rattle.stored_slot.proofs.MeaningLemmas.{none_later}
-use Rattle.stored_slot.proofs.ServeLemmas.{settled_none}
 
 -- ---- keys of the halves
 
@@ -132,23 +131,21 @@ upper_slot pairs h g s t middle half is = λ i. record { histories = is i; pairs
 
 -- ---- a cut after a settle
 
-cuts_settled : (r : Result SlotState StoredFault) (s m t : SlotState) (middle : Key) → SettlesSlot s m → Cuts r m middle t → CutsSettled r s middle t
+pub cuts_settled : (r : Result SlotState StoredFault) (s m t : SlotState) (middle : Key) → SettlesSlot s m → Cuts r m middle t → CutsSettled r s middle t
 cuts_settled (Ok upper) s m t middle settled cut = (m, (settled, cut))
 cuts_settled (Err e) s m t middle settled same = inl (subst (λ (x : SlotState). SettlesSlot s x) (sym same) settled)
 
-module _ (pairs : Pairs) (h h' : Histories) (s t : Stored) (d d' : Option Past) (settled : SettlesSlot (slot_with pairs h s d) (slot_with pairs h' t d')) where
-  abbrev none : d' ≡ None
-  none = settled_none d pairs h h' s t d' settled
+-- ---- a cut of the parts of a slot without a doubt
 
-  pub cut_kept : (g : Histories) (u : Stored) → AreOfStreams pairs g u None → AreOfStreams pairs g u d'
-  cut_kept g u are = subst (λ (x : Option Past). AreOfStreams pairs g u x) (sym none) are
+module _ (p p' : Pairs) (d : Option Past) (same : p ≡ p') (none : d ≡ None) where
+  pub cut_kept : (h : Histories) (s : Stored) → AreOfStreams p h s None → AreOfStreams p' h s d
+  cut_kept h s are = subst (λ (x : Option Past). AreOfStreams p' h s x) (sym none) (subst (λ (x : Pairs). AreOfStreams x h s None) same are)
 
-  pub cut_told : (r : Result SlotState StoredFault) (g : Histories) (u : Stored) (middle : Key) → Cuts r (slot_with pairs h' t None) middle (slot_with pairs g u None)
-      → CutsSettled r (slot_with pairs h s d) middle (slot_with pairs g u d')
-  cut_told r g u middle cut =
-      subst (λ (x : Option Past). CutsSettled r (slot_with pairs h s d) middle (slot_with pairs g u x)) (sym none)
-      (cuts_settled r (slot_with pairs h s d) (slot_with pairs h' t None) (slot_with pairs g u None) middle
-      (subst (λ (x : Option Past). SettlesSlot (slot_with pairs h s d) (slot_with pairs h' t x)) none settled) cut)
+  pub cut_seen : (r : Result SlotState StoredFault) (h g : Histories) (s t : Stored) (middle : Key) → Cuts r (slot_with p h s None) middle (slot_with p g t None)
+      → Cuts r (slot_with p' h s d) middle (slot_with p' g t d)
+  cut_seen r h g s t middle cut =
+      subst (λ (x : Option Past). Cuts r (slot_with p' h s x) middle (slot_with p' g t x)) (sym none)
+      (subst (λ (x : Pairs). Cuts r (slot_with x h s None) middle (slot_with x g t None)) same cut)
 
 -- a key that is inside of a slot is in the range of its rows
 pub inside_covered : (range : KeyRange) (key : Key) → (is_below key range.from && is_under range.to key) ≡ true → covers range key ≡ true

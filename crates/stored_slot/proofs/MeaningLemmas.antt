@@ -23,8 +23,12 @@ use Rattle.range_rows.specs.RequestChanges.{act_by, part_after}
 use Rattle.range_rows.specs.SentContent.{sizes}
 use Rattle.range_rows.proofs.ChangeLemmas.{change_fits}
 use Rattle.stream_manager.specs.Streams.{laid}
+use Rattle.stream_manager.specs.declared.faults.StoredFault.{StoredFault}
+use Rattle.stream_manager.specs.declared.faults.StoredFault.TheVariants as stored_fault
 use Rattle.partition_stream.specs.Changes.{Recorded}
 use Rattle.partition_stream.specs.Contents.{content_at}
+use Rattle.partition_stream.specs.declared.faults.TakeFault.{TakeFault}
+use Rattle.partition_stream.specs.declared.faults.TakeFault.TheVariants as fault
 use Rattle.stamp_model.specs.Effects.{unless_refused}
 use Rattle.stamp_model.specs.Histories.{IsAccepted, IsEntryAfter, IsLegal, NoneIsLater, pair_of, replay}
 use Rattle.stamp_model.proofs.HistoryLemmas.{IsLegalFrom-append, IsLegalFrom-nil, last_or_before, replay_from-append}
@@ -36,10 +40,6 @@ use Rattle.stored_rows.specs.Ranges.{covers}
 use Rattle.stored_rows.specs.States.{IsChanged, IsInDoubt, IsKeptAs, IsTaken, MeansTheSame, SettlesRows, Stored, bytes_of, doubt_of, pieces_of}
 use Rattle.stored_rows.specs.declared.faults.Ended.{Ended}
 use Rattle.stored_rows.specs.declared.faults.Ended.TheVariants as ended
-use Rattle.stored_rows.specs.declared.faults.StoredFault.{StoredFault}
-use Rattle.stored_rows.specs.declared.faults.StoredFault.TheVariants as stored_fault
-use Rattle.stored_rows.specs.declared.faults.TakeFault.{TakeFault}
-use Rattle.stored_rows.specs.declared.faults.TakeFault.TheVariants as fault
 use Rattle.slot_state.specs.HistoryMaps.{Histories, NoneIsEmpty, history_at, with_entry, without_last}
 use Rattle.slot_state.specs.Pairs.{AreNumbered, Pairs, current_at, epoch_of, pairs_at}
 use Rattle.slot_state.specs.Slots.{SlotState, replayed_at}

@@ -1,30 +1,31 @@
 -- Repairs of a slot, which settle a doubt first.
-use Rattle.std.proofs.Common.{◌≡◌, ◌≤◌, ◌∙◌, inl, inr, ℕ, IsSome, Option, Result, Ok, Err, length, sym, ap, subst}
+use Rattle.std.proofs.Common.{◌≡◌, ◌≤◌, ◌∙◌, inl, inr, ℕ, IsSome, Result, Ok, Err, length, sym, ap, subst}
+use Rattle.std.specs.Arc.{arc_value}
 use Rattle.std.specs.Prelude.{◌↔◌, OnErr}
 use Rattle.extent_node.specs.Faults.{Calls}
 use Rattle.extent_node.specs.declared.wire.Node.{Node}
 use Rattle.extent_seal.specs.Counting.{Grows}
-use Rattle.stamp_types.specs.declared.past.Past.{Past}
 use Rattle.stream_manager.specs.declared.faults.RepairFault.{RepairFault}
 use Rattle.stream_manager.specs.declared.faults.RepairFault.TheVariants as repair
+use Rattle.stream_manager.specs.declared.faults.StoredFault.{StoredFault}
+use Rattle.stream_manager.specs.declared.faults.StoredFault.TheVariants as stored
 use Rattle.partition_stream.specs.Repairs.{stream_of}
 use Rattle.partition_stream.specs.declared.repair.StreamName.{StreamName}
 use Rattle.stored_rows.specs.Counting.{FailsStored}
 use Rattle.stored_rows.specs.Repairs.{FailsRepair, IsRepairOf, unnamed}
 use Rattle.stored_rows.specs.States.{MeansTheSame, Stored, doubt_of}
-use Rattle.stored_rows.specs.declared.faults.StoredFault.{StoredFault}
-use Rattle.stored_rows.specs.declared.faults.StoredFault.TheVariants as stored
 use Rattle.stored_rows.specs.declared.repaired.Repaired.{Repaired}
 use Rattle.stored_rows.specs.declared.repaired.Unrepaired.{Unrepaired}
 use Rattle.stored_rows.proofs.CountLemmas.{fails_later, grows_twice}
 use Rattle.slot_state.specs.HistoryMaps.{Histories}
-use Rattle.slot_state.specs.Pairs.{Pairs}
 use Rattle.slot_state.specs.Slots.{SlotState}
 use Rattle.stored_slot.specs.Meanings.{AreOfStreams, slot_with}
+use Rattle.stored_slot.specs.Parts.{AreOfSlot, slot_of}
 use Rattle.stored_slot.specs.Settled.{LeavesRepaired, SettlesSlot, repair_fault_of}
+use Rattle.stored_slot.specs.declared.parts.SlotParts.{SlotParts}
 use Rattle.stored_slot.proofs.KeepLemmas.{seal_kept}
 use Rattle.stored_slot.proofs.MeaningLemmas.{slot_same}
-use Rattle.stored_slot.proofs.ServeLemmas.{settled_sure}
+use Rattle.stored_slot.proofs.ServeLemmas.{settled_parts}
 
 abbrev failed : RepairFault → Result (Unit {0}) RepairFault
 failed f = Err f
@@ -63,12 +64,14 @@ left_repaired (Err repair.NoSuchExtent) s m t settled same = subst (λ (x : Slot
 left_repaired (Err repair.Unreachable) s m t settled same = inl (subst (λ (x : SlotState). SettlesSlot s x) (sym same) settled)
 left_repaired (Err repair.NoMemory) s m t settled same = inl (subst (λ (x : SlotState). SettlesSlot s x) (sym same) settled)
 
-module _ (pairs : Pairs) (h h' : Histories) (s t : Stored) (d d' : Option Past) (settled : SettlesSlot (slot_with pairs h s d) (slot_with pairs h' t d')) (are : AreOfStreams pairs h' t d') where
-  pub repair_kept : (u : Stored) → MeansTheSame t u → doubt_of u ≡ doubt_of t → AreOfStreams pairs h' u d'
-  repair_kept u same doubt = seal_kept pairs h h' s t d d' settled are u same (doubt ∙ settled_sure pairs h h' s t d d' settled are)
+module _ {H : Type 0} (held : H → Histories) (p m : SlotParts H) (settled : SettlesSlot (slot_of held p) (slot_of held m)) (are : AreOfSlot held m) where
+  pub repair_kept : (u : Stored) → MeansTheSame m.stored u → doubt_of u ≡ doubt_of m.stored → AreOfStreams (arc_value m.pairs) (held m.histories) u m.doubt
+  repair_kept u same doubt = seal_kept held p m settled are u same (doubt ∙ (settled_parts held p m settled are).sure)
 
-  pub repair_left : (u : Stored) (r : Result (Unit {0}) RepairFault) → MeansTheSame t u → LeavesRepaired r (slot_with pairs h s d) (slot_with pairs h' u d')
-  repair_left u r same = left_repaired r (slot_with pairs h s d) (slot_with pairs h' t d') (slot_with pairs h' u d') settled (slot_same pairs h' t u d' same.range)
+  pub repair_left : (u : Stored) (r : Result (Unit {0}) RepairFault) → MeansTheSame m.stored u → LeavesRepaired r (slot_of held p) (slot_with (arc_value m.pairs) (held m.histories) u m.doubt)
+  repair_left u r same =
+      left_repaired r (slot_of held p) (slot_of held m) (slot_with (arc_value m.pairs) (held m.histories) u m.doubt) settled
+      (slot_same (arc_value m.pairs) (held m.histories) m.stored u m.doubt same.range)
 
 -- the extent does not exist after the repair if it did not exist before it
 pub refused_still : (part : StreamName) (e : ℕ) (s t : Stored) (r : Result Repaired Unrepaired) → ((unnamed r ≡ failed repair.NoSuchExtent) ↔ (length (stream_of part s.streams).sealed ≤ e)) → OnErr r (t ≡ s)

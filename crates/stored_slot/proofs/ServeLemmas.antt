@@ -1,5 +1,6 @@
 -- What a slot answers, from what its parts answered.
 use Rattle.std.proofs.Common.{◌≡◌, ◌∙◌, inl, inr, arith, ℕ, Bool, true, false, cond, List, Option, Some, None, IsSome, is_some, Result, Ok, Err, refl, sym, ap, subst}
+use Rattle.std.specs.Arc.{arc_value}
 use Rattle.extent_node.specs.Faults.{Calls}
 use Rattle.extent_seal.specs.Counting.{Grows}
 use Rattle.stamp_values.specs.declared.key.Key.{Key}
@@ -10,30 +11,34 @@ use Rattle.stamp_types.specs.Changes.{KeyedAct}
 use Rattle.stamp_types.specs.Replies.{denied}
 use Rattle.stamp_types.specs.Requests.{Asked}
 use Rattle.access_rules.specs.declared.keys.Keys.{Keys}
+use Rattle.stream_manager.specs.declared.faults.StoredFault.{StoredFault}
+use Rattle.stream_manager.specs.declared.faults.StoredFault.TheVariants as stored
+use Rattle.partition_stream.specs.declared.faults.TakeFault.{TakeFault}
+use Rattle.partition_stream.specs.declared.faults.TakeFault.TheVariants as fault
 use Rattle.range_rows.specs.RequestChanges.{change_of}
 use Rattle.range_rows.specs.SentContent.{sizes}
 use Rattle.stamp_model.specs.Effects.{unless_refused}
 use Rattle.stamp_model.specs.Histories.{pair_of}
 use Rattle.stamp_model.specs.Refusals.{refusal}
+use Rattle.stamp_model.specs.SeenContainers.{is_between}
+use Rattle.stamp_model.proofs.ReplyLemmas.{denied-names}
 use Rattle.tickets.specs.Answers.{IsAnswer, IsAnswerIf}
 use Rattle.tickets.specs.declared.answer.Answer.{Answer}
 use Rattle.tickets.specs.declared.answer.Answer.TheVariants as answer
 use Rattle.stored_rows.specs.Counting.{FailsStored, FailsTake}
-use Rattle.stored_rows.specs.Ranges.{covers}
 use Rattle.stored_rows.specs.States.{Stored, doubt_of}
 use Rattle.stored_rows.proofs.CountLemmas.{grows_twice}
-use Rattle.stored_rows.specs.declared.faults.StoredFault.{StoredFault}
-use Rattle.stored_rows.specs.declared.faults.StoredFault.TheVariants as stored
-use Rattle.stored_rows.specs.declared.faults.TakeFault.{TakeFault}
-use Rattle.stored_rows.specs.declared.faults.TakeFault.TheVariants as fault
 use Rattle.slot_state.specs.HistoryMaps.{Histories, with_entry}
 use Rattle.slot_state.specs.Pairs.{Pairs, current_at, pairs_at}
+use Rattle.slot_state.specs.Slots as slots
 use Rattle.slot_state.specs.Slots.{IsReplyFor, IsServed, SlotState, change_now, entry_of, replayed_at, slot_after}
 use Rattle.slot_state.proofs.PairLemmas.{pair_of-current}
 use Rattle.stored_slot.specs.Changes.{slot_taken}
-use Rattle.stored_slot.specs.Meanings.{AreOfStreams, AreReplays, HasDoubt, MakesChange, slot_with}
-use Rattle.stored_slot.specs.Served.{FailsAnswer, Faulted, IsFailed, IsTakenAnswer, ReadsAnswer, SlotServes, ServesBy, busy, unknown}
-use Rattle.stored_slot.specs.Settled.{SettlesSlot}
+use Rattle.stored_slot.specs.Meanings.{AreOfStreams, AreReplays, HasDoubt, MakesChange, NothingRefuses, slot_with}
+use Rattle.stored_slot.specs.Parts.{AreOfSlot, AreSettled, slot_of}
+use Rattle.stored_slot.specs.Served.{AnswersUnrefused, FailsAnswer, Faulted, IsFailed, IsTakenAnswer, ReadsAnswer, ServesBy, ServesUnrefused, SlotServes, busy, unknown}
+use Rattle.stored_slot.specs.Settled.{LeavesSettled, SettlesDoubtBy, SettlesSlot}
+use Rattle.stored_slot.specs.declared.parts.SlotParts.{SlotParts}
 
 not_later : true ≡ false → ⊥
 not_later h = cc
@@ -69,6 +74,10 @@ module _ (pairs : Pairs) (h : Histories) (s : Stored) (e : Past) (c : KeyedAct) 
   -- the change is in doubt
   pub change_doubted : (r : Reply) (s' : SlotState) → F → r ≡ unknown → s' ≡ slot_taken (Err fault.Doubt) before e → ServesBy before e.request e.moment F (answer.Done r) s'
   change_doubted r s' faulted is same = inr (inr (faulted, (ap is_some changes, (is, same ∙ ap (λ (x : Past). record before { doubt = Some x }) now))))
+
+  -- nothing refuses the request
+  pub change_unrefused : NothingRefuses pairs h e.request e.moment
+  change_unrefused names = (λ i. refusal (sym current_is i) (sizes (replayed_at pairs h e.request.ask.key)) e.request e.moment) ∙ makes.allowed
 
 -- ---- a request that changes nothing
 
@@ -160,18 +169,33 @@ taken_told pairs h s e c old new are makes now frame a s' (Err fault.Busy) told 
 taken_told pairs h s e c old new are makes now frame a s' (Err fault.NoMemory) told same counted is =
     subst (λ (a : Answer). ServesBy (slot_with pairs h s None) e.request e.moment (Faulted old new) a s') (sym is) same
 
+-- ---- an answer that lets its request in
+
+module _ (s : SlotState) (q : Asked) (t : ℕ) where
+  -- whatever a request is answered that nothing refuses
+  pub answers_free : NothingRefuses s.pairs s.histories q t → (a : Answer) → AnswersUnrefused s q t a
+  answers_free free (answer.Done r) = λ none. free
+  answers_free free (answer.Later r) = free
+  answers_free free answer.NoMemory = tt
+
+  -- a denial lets no request in
+  pub denial_refuses : (a : Answer) (r : Refusal) → IsAnswer a true (denied r) → AnswersUnrefused s q t a
+  denial_refuses (answer.Done r') r is = λ none. let f : Some r.rule ≡ None = sym (denied-names r) ∙ sym (ap (λ (x : Reply). x.rule) is.0) ∙ none in cc
+  denial_refuses (answer.Later r') r is = absurd (not_later is.1)
+  denial_refuses answer.NoMemory r is = tt
+
 -- ---- a slot without a doubt
 
-pub settled_none : (d : Option Past) (pairs : Pairs) (h h' : Histories) (s t : Stored) (d' : Option Past) → SettlesSlot (slot_with pairs h s d) (slot_with pairs h' t d') → d' ≡ None
-settled_none None pairs h h' s t d' same = ap (λ (x : SlotState). x.doubt) same
-settled_none (Some e) pairs h h' s t d' (inl same) = ap (λ (x : SlotState). x.doubt) same
-settled_none (Some e) pairs h h' s t d' (inr same) = ap (λ (x : SlotState). x.doubt) same
-
--- the range stays
-pub settled_ends : (d : Option Past) (pairs : Pairs) (h h' : Histories) (s t : Stored) (d' : Option Past) → SettlesSlot (slot_with pairs h s d) (slot_with pairs h' t d') → t.range ≡ s.range
-settled_ends None pairs h h' s t d' same = λ i. record { from = ap (λ (x : SlotState). x.from) same i; to = ap (λ (x : SlotState). x.to) same i }
-settled_ends (Some e) pairs h h' s t d' (inl same) = λ i. record { from = ap (λ (x : SlotState). x.from) same i; to = ap (λ (x : SlotState). x.to) same i }
-settled_ends (Some e) pairs h h' s t d' (inr same) = λ i. record { from = ap (λ (x : SlotState). x.from) same i; to = ap (λ (x : SlotState). x.to) same i }
+-- a change that was tried on a slot without a doubt is answered
+pub taken_served : (pairs : Pairs) (h : Histories) (s : Stored) (d : Option Past) (e : Past) (c : KeyedAct) (old new : Calls) → d ≡ None → AreReplays pairs h s → MakesChange pairs h s e c
+    → e ≡ entry_of pairs e.request e.moment → (frame : Reply) (a : Answer) (s' : SlotState) (r : Result (Unit {0}) TakeFault)
+    → IsReplyFor pairs h e.request e.moment s.range.to frame → s' ≡ slot_taken r (slot_with pairs h s d) e → FailsTake r old new → IsTakenAnswer r frame a
+    → ServesUnrefused (slot_with pairs h s d) e.request e.moment (Faulted old new) a s'
+taken_served pairs h s d e c old new none are makes now frame a s' r told same counted is = (
+  subst (λ (x : Option Past). ServesBy (slot_with pairs h s x) e.request e.moment (Faulted old new) a s') (sym none)
+      (taken_told pairs h s e c old new are makes now frame a s' r told same counted is),
+  answers_free (slot_with pairs h s d) e.request e.moment (change_unrefused pairs h s e c (Faulted old new) are makes now) a,
+)
 
 -- a slot whose streams have no doubt
 pub none_kept : (pairs : Pairs) (h : Histories) (s : Stored) (d : Option Past) → AreReplays pairs h s → doubt_of s ≡ None → d ≡ None → AreOfStreams pairs h s d
@@ -181,8 +205,9 @@ none_kept pairs h s d are sure none = subst (λ (x : Option Past). AreOfStreams 
 pub none_same : (pairs : Pairs) (h : Histories) (s t : Stored) (d : Option Past) → t ≡ s → AreReplays pairs h s → doubt_of s ≡ None → d ≡ None → AreOfStreams pairs h t d
 none_same pairs h s t d same are sure none = subst (λ (x : Stored). AreOfStreams pairs h x d) (sym same) (none_kept pairs h s d are sure none)
 
-pub slot_none : (pairs : Pairs) (h : Histories) (s t : Stored) (d : Option Past) → t ≡ s → d ≡ None → slot_with pairs h t d ≡ slot_with pairs h s None
-slot_none pairs h s t d same none = λ i. slot_with pairs h (same i) (none i)
+-- the parts of a slot without a doubt are those of a slot
+pub kept_parts : {H : Type 0} (held : H → Histories) (p : SlotParts H) → AreSettled held p → AreOfSlot held p
+kept_parts held p are = none_kept (arc_value p.pairs) (held p.histories) p.stored p.doubt are.replays are.sure are.none
 
 -- ---- content that is read
 
@@ -212,42 +237,49 @@ module _ (pairs : Pairs) (h : Histories) (s t : Stored) (same : t ≡ loaded s) 
   pub loaded_slot : (d : Option Past) → slot_with pairs h t d ≡ slot_with pairs h s d
   loaded_slot d = ap (λ (x : Stored). slot_with pairs h x d) same
 
-  pub loaded_covers : (key : Key) → covers s.range key ≡ true → covers t.range key ≡ true
-  loaded_covers key covered = ap (λ (x : Stored). covers x.range key) same ∙ covered
-
--- a request that is served after the rows are loaded
-pub loaded_told : (pairs : Pairs) (h : Histories) (s t : Stored) (q : Asked) (t' : ℕ) (a : Answer) (s' : SlotState) (old mid new : Calls) → t ≡ loaded s → Grows old mid
-    → ServesBy (slot_with pairs h t None) q t' (Faulted mid new) a s' → ServesBy (slot_with pairs h s None) q t' (Faulted old new) a s'
-loaded_told pairs h s t q t' a s' old mid new same grown serves =
-    subst (λ (x : SlotState). ServesBy x q t' (Faulted old new) a s') (loaded_slot pairs h s t same None)
-    (served_later (slot_with pairs h t None) q t' (Faulted mid new) (Faulted old new) a s' (later_fault old mid new grown) serves)
-
 pub grown_twice : (a b c : Calls) → Grows a b → Grows b c → Grows a c
 grown_twice = grows_twice
 
--- ---- a request after a settle
+-- ---- a settle before a request
 
-module _ (s : SlotState) (q : Asked) (t : ℕ) (a : Answer) (m s' : SlotState) (old mid new : Calls) where
+sure_by : (s m : SlotState) (d : Option Past) → s.doubt ≡ d → SettlesDoubtBy d s m → m.doubt ≡ None
+sure_by s m None none is = ap (λ (x : SlotState). x.doubt) is ∙ none
+sure_by s m (Some e) some (inl is) = ap (λ (x : SlotState). x.doubt) is
+sure_by s m (Some e) some (inr is) = ap (λ (x : SlotState). x.doubt) is
+
+-- after a settle the slot has no doubt
+pub sure_after : (s m : SlotState) → SettlesSlot s m → m.doubt ≡ None
+sure_after s m settled = sure_by s m s.doubt refl settled
+
+ends_by : (s m : SlotState) (d : Option Past) → SettlesDoubtBy d s m → (m.from ≡ s.from) × (m.to ≡ s.to)
+ends_by s m None is = (ap (λ (x : SlotState). x.from) is, ap (λ (x : SlotState). x.to) is)
+ends_by s m (Some e) (inl is) = (ap (λ (x : SlotState). x.from) is, ap (λ (x : SlotState). x.to) is)
+ends_by s m (Some e) (inr is) = (ap (λ (x : SlotState). x.from) is, ap (λ (x : SlotState). x.to) is)
+
+-- a settle leaves the range as it was
+pub covers_after : (s m : SlotState) (key : Key) → SettlesSlot s m → slots.covers s key ≡ true → slots.covers m key ≡ true
+covers_after s m key settled covered = let ends = ends_by s m s.doubt settled in (λ i. is_between (ends.0 i) (ends.1 i) key) ∙ covered
+
+module _ {H : Type 0} (held : H → Histories) (p m : SlotParts H) (settled : SettlesSlot (slot_of held p) (slot_of held m)) where
+  pub range_after : m.stored.range ≡ p.stored.range
+  range_after = let ends = ends_by (slot_of held p) (slot_of held m) p.doubt settled in λ i. record { from = ends.0 i; to = ends.1 i }
+
+  pub settled_parts : AreOfSlot held m → AreSettled held m
+  settled_parts are =
+      let none = sure_after (slot_of held p) (slot_of held m) settled in record {
+        replays = are.replays;
+        sure = subst (λ (x : Option Past). HasDoubt (arc_value m.pairs) (held m.histories) m.stored x) none are.doubted;
+        none = none;
+      }
+
+module _ (s : SlotState) (q : Asked) (t : ℕ) (a : Answer) (m : SlotState) where
   -- the settle is done
-  pub serves_settled : SettlesSlot s m → Grows old mid → ServesBy m q t (Faulted mid new) a s' → SlotServes s q t (Faulted old new) a s'
-  serves_settled settled grown serves = inl (m, (settled, served_later m q t (Faulted mid new) (Faulted old new) a s' (later_fault old mid new grown) serves))
+  pub serves_settled : (s' : SlotState) (old mid new : Calls) → SettlesSlot s m → Grows old mid → ServesUnrefused m q t (Faulted mid new) a s' → SlotServes s q t (Faulted old new) a s'
+  serves_settled s' old mid new settled grown serves =
+      inl (m, (settled, served_later m q t (Faulted mid new) (Faulted old new) a s' (later_fault old mid new grown) serves.0))
 
--- the settle failed
-pub serves_failed : (s : SlotState) (q : Asked) (t : ℕ) (a : Answer) (s' : SlotState) (old new : Calls) (f : StoredFault) → IsSome s.doubt × (s' ≡ s) → FailsStored {T = Unit {0}} (Err f) old new → IsFailed a f
-    → SlotServes s q t (Faulted old new) a s'
-serves_failed s q t a s' old new f same counted is = inr (same.0, (failed_fault f a old new counted is, same.1))
-
--- ---- a settle before a request, from the parts of a slot
-
-module _ (pairs : Pairs) (h h' : Histories) (s t : Stored) (d d' : Option Past) (settled : SettlesSlot (slot_with pairs h s d) (slot_with pairs h' t d')) where
-  pub settled_sure : AreOfStreams pairs h' t d' → doubt_of t ≡ None
-  settled_sure are = subst (λ (x : Option Past). HasDoubt pairs h' t x) (settled_none d pairs h h' s t d' settled) are.doubted
-
-  pub settled_covers : (key : Key) → covers s.range key ≡ true → covers t.range key ≡ true
-  settled_covers key covered = ap (λ r. covers r key) (settled_ends d pairs h h' s t d' settled) ∙ covered
-
-  pub serves_after : (q : Asked) (moment : ℕ) (a : Answer) (s' : SlotState) (old mid new : Calls) → Grows old mid → ServesBy (slot_with pairs h' t None) q moment (Faulted mid new) a s'
-      → SlotServes (slot_with pairs h s d) q moment (Faulted old new) a s'
-  serves_after q moment a s' old mid new grown serves =
-      serves_settled (slot_with pairs h s d) q moment a (slot_with pairs h' t d') s' old mid new settled grown
-      (subst (λ (x : Option Past). ServesBy (slot_with pairs h' t x) q moment (Faulted mid new) a s') (sym (settled_none d pairs h h' s t d' settled)) serves)
+  -- the settle or the load failed
+  pub serves_failed : (old new : Calls) (f : StoredFault) → LeavesSettled {T = Unit {0}} (Err f) s m → FailsStored {T = Unit {0}} (Err f) old new → IsFailed a f
+      → SlotServes s q t (Faulted old new) a m
+  serves_failed old new f (inl settled) counted is = inl (m, (settled, failed_told m q t (Faulted old new) a m (failed_fault f a old new counted is) refl))
+  serves_failed old new f (inr same) counted is = inr (same.0, (failed_fault f a old new counted is, same.1))

@@ -2,10 +2,10 @@
 -- change may be in doubt is the stamp's own).
 use Rattle.std.specs.Prelude.{Option, Some, None, Result, Ok, Err}
 use Rattle.stamp_types.specs.declared.past.Past.{Past}
+use Rattle.stream_manager.specs.declared.faults.StoredFault.{StoredFault}
+use Rattle.partition_stream.specs.declared.faults.TakeFault.{TakeFault}
+use Rattle.partition_stream.specs.declared.faults.TakeFault.TheVariants as fault
 use Rattle.stored_rows.specs.declared.faults.Ended.{Ended}
-use Rattle.stored_rows.specs.declared.faults.StoredFault.{StoredFault}
-use Rattle.stored_rows.specs.declared.faults.TakeFault.{TakeFault}
-use Rattle.stored_rows.specs.declared.faults.TakeFault.TheVariants as fault
 use Rattle.slot_state.specs.HistoryMaps.{Histories, with_entry}
 use Rattle.slot_state.specs.Slots.{SlotState}
 

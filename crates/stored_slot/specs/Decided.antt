@@ -15,11 +15,13 @@ use Rattle.stored_rows.specs.States.{AreFoundIn, Stored}
 use Rattle.slot_state.specs.HistoryMaps.{Histories}
 use Rattle.slot_state.specs.Pairs.{Pairs}
 use Rattle.slot_state.specs.Slots.{IsReplyFor, change_now, entry_of}
-use Rattle.stored_slot.specs.Meanings.{MakesChange}
+use Rattle.stored_slot.specs.Meanings.{MakesChange, NothingRefuses}
 
--- the answer to a request that changes nothing: read in the data it is the model's reply, and its spans are stored there
+-- the answer to a request that nothing refuses and that changes nothing: read in the data it is the model's reply, and its spans are stored
+-- there
 pub record IsReadAnswer (pairs : Pairs) (h : Histories) (s : Stored) (q : Asked) (t : ℕ) (a : FramedAnswer) : Type 0 where
   pub reply : IsReplyFor pairs h q t s.range.to (reply_read (bytes_at (laid s.streams.blobs)) a)
+  pub free : NothingRefuses pairs h q t
   pub unchanged : change_now pairs h q t ≡ None
   pub stored : All (IsSpanStored (laid s.streams.blobs)) a.spans
   pub sent : CanBeSent a

@@ -1,7 +1,9 @@
 pub mod Audits
 pub mod Changes
 pub mod Decided
+pub mod Entries
 pub mod Meanings
+pub mod Parts
 pub mod Served
 pub mod Settled
 pub mod SteadyCounts

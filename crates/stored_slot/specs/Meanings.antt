@@ -1,9 +1,11 @@
 -- What a slot keeps, and what its streams mean (Calder et al., SOSP 2011, section 5: a range partition, its commit log and its data). That
 -- a change may be in doubt is the stamp's own.
-use Rattle.std.specs.Prelude.{◌≡◌, ◌≤◌, true, Option, Some, None}
+use Rattle.std.specs.Prelude.{◌≡◌, ◌≤◌, ℕ, true, Option, Some, None}
+use Rattle.stamp_values.specs.Operations.{names_container}
 use Rattle.stamp_values.specs.declared.key.Key.{Key}
 use Rattle.stamp_types.specs.Changes.{KeyedAct}
 use Rattle.stamp_types.specs.declared.past.Past.{Past}
+use Rattle.stamp_types.specs.Requests.{Asked}
 use Rattle.range_rows.specs.RequestChanges.{change_of}
 use Rattle.range_rows.specs.SentContent.{sizes}
 use Rattle.stamp_model.specs.Histories.{IsLegal, NoneIsLater, pair_of}
@@ -34,6 +36,11 @@ pub record MakesChange (pairs : Pairs) (h : Histories) (s : Stored) (e : Past) (
   pub covered : covers s.range e.request.ask.key ≡ true
   pub known : e.epoch ≤ epoch_of (current_at pairs e.request.ask.key.account)
   pub last : NoneIsLater e.epoch (history_at h e.request.ask.key)
+
+-- nothing refuses a request that names a container, by the pair in force and from the container as its history leaves it
+abbrev pub NothingRefuses : Pairs → Histories → Asked → ℕ → Type 0
+NothingRefuses pairs h q t =
+    names_container q.ask.op ≡ true → refusal (current_at pairs q.ask.key.account) (sizes (replayed_at pairs h q.ask.key)) q t ≡ None
 
 -- an entry is in doubt: its request makes a change, and the streams have this change in doubt
 pub record IsDoubted (pairs : Pairs) (h : Histories) (s : Stored) (e : Past) : Type 0 where

@@ -8,14 +8,15 @@ use Rattle.stamp_types.specs.declared.reply.Reply.{Reply}
 use Rattle.stamp_types.specs.declared.rule.Rule.TheVariants as rule
 use Rattle.stamp_types.specs.Replies.{denied}
 use Rattle.stamp_types.specs.Requests.{Asked}
+use Rattle.stream_manager.specs.declared.faults.StoredFault.{StoredFault}
+use Rattle.stream_manager.specs.declared.faults.StoredFault.TheVariants as stored
+use Rattle.partition_stream.specs.declared.faults.TakeFault.{TakeFault}
+use Rattle.partition_stream.specs.declared.faults.TakeFault.TheVariants as take
 use Rattle.tickets.specs.Answers.{IsAnswer}
 use Rattle.tickets.specs.declared.answer.Answer.{Answer}
 use Rattle.tickets.specs.declared.answer.Answer.TheVariants as answer
-use Rattle.stored_rows.specs.declared.faults.StoredFault.{StoredFault}
-use Rattle.stored_rows.specs.declared.faults.StoredFault.TheVariants as stored
-use Rattle.stored_rows.specs.declared.faults.TakeFault.{TakeFault}
-use Rattle.stored_rows.specs.declared.faults.TakeFault.TheVariants as take
 use Rattle.slot_state.specs.Slots.{IsServed, SlotState, change_now, entry_of}
+use Rattle.stored_slot.specs.Meanings.{NothingRefuses}
 use Rattle.stored_slot.specs.Settled.{SettlesSlot}
 
 -- the reply to a request whose slot needs nodes that are out of reach
@@ -68,6 +69,16 @@ ServesBy s q t faulted (answer.Done r) s' =
     ⊎ (faulted × (IsSome (change_now s.pairs s.histories q t) × ((r ≡ unknown) × (s' ≡ doubting s q t)))))
 ServesBy s q t faulted (answer.Later r) s' = IsServed s q t s.to r s' × (change_now s.pairs s.histories q t ≡ None)
 ServesBy s q t faulted answer.NoMemory s' = s' ≡ s
+
+-- if the answer refuses nothing, or comes by a ticket, then nothing refuses the request
+abbrev pub AnswersUnrefused : SlotState → Asked → ℕ → Answer → Type 0
+AnswersUnrefused s q t (answer.Done r) = r.rule ≡ None → NothingRefuses s.pairs s.histories q t
+AnswersUnrefused s q t (answer.Later r) = NothingRefuses s.pairs s.histories q t
+AnswersUnrefused s q t answer.NoMemory = ⊤
+
+-- a request to a slot without a doubt is served, and if the answer refuses nothing, or comes by a ticket, then nothing refuses the request
+abbrev pub ServesUnrefused : SlotState → Asked → ℕ → Type 0 → Answer → SlotState → Type 0
+ServesUnrefused s q t faulted a s' = ServesBy s q t faulted a s' × AnswersUnrefused s q t a
 
 -- A request is served after the doubt of the slot is settled, if there is one. If the settle fails, the request fails, and the doubt stays
 abbrev pub SlotServes : SlotState → Asked → ℕ → Type 0 → Answer → SlotState → Type 0

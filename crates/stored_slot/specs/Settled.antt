@@ -4,10 +4,10 @@ use Rattle.stamp_values.specs.declared.key.Key.{Key}
 use Rattle.stamp_types.specs.declared.past.Past.{Past}
 use Rattle.stream_manager.specs.declared.faults.RepairFault.{RepairFault}
 use Rattle.stream_manager.specs.declared.faults.RepairFault.TheVariants as repair
+use Rattle.stream_manager.specs.declared.faults.StoredFault.{StoredFault}
+use Rattle.stream_manager.specs.declared.faults.StoredFault.TheVariants as stored
 use Rattle.stored_rows.specs.declared.faults.Ended.{Ended}
 use Rattle.stored_rows.specs.declared.faults.Ended.TheVariants as ended
-use Rattle.stored_rows.specs.declared.faults.StoredFault.{StoredFault}
-use Rattle.stored_rows.specs.declared.faults.StoredFault.TheVariants as stored
 use Rattle.stored_rows.specs.declared.repaired.Unrepaired.{Unrepaired}
 use Rattle.stored_rows.specs.declared.repaired.Unrepaired.TheVariants as unrepaired
 use Rattle.slot_state.specs.HistoryMaps.{Histories, with_entry, without_last}

@@ -1,5 +1,5 @@
 //! Requests that are served with their entries of the audit book.
-ghost use Rattle.std.specs.Prelude.{◌≡◌, IfOk, IfSome, IsSome, None, Some, is_some, true};
+ghost use Rattle.std.specs.Prelude.{◌≡◌, IfOk, IfSome, IsSome, is_some, true};
 ghost use Rattle.std.specs.Arc.{arc_value};
 ghost use Rattle.std.specs.Option.{option_copied, option_map};
 ghost use Rattle.extent_seal.specs.Counting.{Grows};
@@ -14,18 +14,22 @@ ghost use Rattle.stored_rows.specs.States.{pieces_of};
 ghost use Rattle.slot_state.specs.Pairs.{current_at, in_force};
 ghost use Rattle.slot_state.specs.Slots as slots;
 ghost use Rattle.stored_slot.specs.Audits as audits;
-ghost use Rattle.stored_slot.specs.Audits.{AuditsBy, SlotAudits, audit_at, audit_of};
+ghost use Rattle.stored_slot.specs.Audits.{AuditsBy, SlotAudits};
+ghost use Rattle.stored_slot.specs.Entries as entries;
+ghost use Rattle.stored_slot.specs.Entries.{IsEntryBy, seen_at, seen_of};
+ghost use Rattle.stored_slot.specs.Parts.{AreOfSlot, AreSettled, slot_of};
 ghost use Rattle.stored_slot.specs.Served.{Faulted};
 
 use crate::answering::failed;
+use crate::parts::SlotParts;
 use crate::stored_slot::StoredSlot;
-use access_rules::{Keys, Verdict, Way};
+use access_rules::{Keys, Way};
 use extent_node::Wire;
-use policy_book::{Entry, Judged, Revision, signer_by, verdict_by};
+use policy_book::{Entry, Judged, Revision, signer_by};
 use range_rows::Reading;
 use row_trees::Found;
 use slot_state::{AccountPairs, Histories, PairList};
-use stamp_types::{Acl, Moment, Request, Text};
+use stamp_types::{Acl, Credential, Moment, Request, Text};
 use std::alloc::{AllocError, Global};
 use std::sync::Arc;
 use stored_rows::StoredRows;
@@ -37,6 +41,13 @@ pub struct Audited {
     pub answer: Answer,
     /// `None` if the request was not let in, if it names no container, or if memory ran out for the entry.
     pub entry: Option<Entry>,
+}
+
+// What an entry says of the slot before its request: how many changes the container had taken, who could read it, and the pair in force.
+#[derive(Drop)]
+struct Seen {
+    place: u64,
+    revision: Revision,
 }
 
 // A copy of what a container says about who may read it.
@@ -104,71 +115,92 @@ fn revision_of(
     }
 }
 
-// The way by which a revision allows the request, or `None` if a rule of permission refuses it.
-fn way_by(
-    alloc: Global,
-    revision: &Revision,
-    request: &Request,
-    judged: Option<&Judged>,
-    moment: Moment,
-) -> Result<Option<Way>, AllocError>
-    requires judged { IsOfAsk (option_copied judged) request.now.ask }
-    ensures allowed { IfOk result (λ o. IfSome o (λ way.
-        verdict_of revision.now.keys revision.now.acl request.now.ask moment ≡ Allow way)) }
-    ensures own { IfOk result (λ o. IfSome o (λ way. way ≡ way_of request.now.ask.credential)) }
-{
-    match verdict_by(
-        alloc,
-        revision.keys(),
-        revision.acl(),
-        request,
-        moment,
-        judged,
-    )? {
-        Verdict::Deny(_) => Ok(None),
-        Verdict::Allow(way) => Ok(Some(way)),
-    }
-}
-
-// The entry of a request, from what the rows found of its container.
-fn entry_found(
+// What the entry of a request says of the slot, from what the rows found of the request's container.
+fn seen_found(
     alloc: Global,
     found: &Found<'_>,
     pairs: &AccountPairs,
     request: &Request,
-    judged: Option<&Judged>,
-    moment: Moment,
-) -> Result<Option<Entry>, AllocError>
-    requires judged { IsOfAsk (option_copied judged) request.now.ask }
-    ensures { IfOk result (λ o. IfSome o (λ e. e ≡ audit_at pairs.now found.now.count found.now request.now moment)) }
+) -> Result<Seen, AllocError>
+    ensures { IfOk result (λ seen. seen ≡ seen_at pairs.now found.now.count found.now request.now) }
 {
     let revision = revision_of(alloc, found.acl(), pairs, &request.ask().key.account)?;
-    let Some(way) = way_by(alloc, &revision, request, judged, moment)? else {
-        return Ok(None);
-    };
-    let by = signer_by(alloc, revision.keys(), request, judged)?;
-    let entry = Entry::new(request, found.count(), way, by, moment, revision)?;
-    Ok(Some(entry))
+    Ok(Seen {
+        place: found.count(),
+        revision,
+    })
 }
 
-// The entry of a request that names a container, from rows that are loaded.
-fn entry_loaded(
+// What the entry of a request says of the slot, from rows that are loaded. None if memory runs out.
+fn seen_loaded(
     stored: &StoredRows,
     pairs: &AccountPairs,
     alloc: Global,
     request: &Request,
-    judged: Option<&Judged>,
-    moment: Moment,
-) -> Option<Entry>
+) -> Option<Seen>
     requires loaded { stored.now.is_loaded ≡ true }
     requires covered { ranges.covers stored.now.range request.now.ask.key ≡ true }
-    requires judged { IsOfAsk (option_copied judged) request.now.ask }
-    ensures { IfSome result (λ e. e ≡ audit_at pairs.now
-        (pieces_of stored.now request.now.ask.key).count (pieces_of stored.now request.now.ask.key) request.now moment) }
+    ensures { IfSome result (λ seen. seen ≡ seen_at pairs.now
+        (pieces_of stored.now request.now.ask.key).count (pieces_of stored.now request.now.ask.key) request.now) }
 {
     let found = stored.find(&request.ask().key);
-    match entry_found(alloc, &found, pairs, request, judged, moment) {
-        Ok(entry) => entry,
+    match seen_found(alloc, &found, pairs, request) {
+        Ok(seen) => Some(seen),
+        Err(AllocError) => None,
+    }
+}
+
+// The route by which a request asks.
+fn way_of_credential(credential: &Credential) -> Way
+    ensures { result ≡ way_of credential.now }
+{
+    match credential {
+        Credential::Shared(_values) => Way::Shared,
+        Credential::Token => Way::Token,
+        Credential::Anonymous => Way::Anonymous,
+    }
+}
+
+// The entry of a request that was let in, from what the slot was before it.
+fn entry_by(
+    alloc: Global,
+    seen: Seen,
+    request: &Request,
+    judged: Option<&Judged<'_>>,
+    moment: Moment,
+) -> Result<Entry, AllocError>
+    requires judged { IsOfAsk (option_copied judged) request.now.ask }
+    requires allowed { verdict_of seen.revision.keys seen.revision.acl request.now.ask moment ≡ Allow (way_of request.now.ask.credential) }
+    ensures { IfOk result (λ e. e ≡ entries.entry_by seen request.now moment) }
+{
+    let Seen { place, revision } = seen;
+    let way = way_of_credential(&request.ask().credential);
+    let by = signer_by(alloc, revision.keys(), request, judged)?;
+    let entry = Entry::new(request, place, way, by, moment, revision)?;
+    Ok(entry)
+}
+
+// The entry of a request, if something was seen for it and if the request was let in. None if memory runs out.
+fn entry_if(
+    alloc: Global,
+    let_in: bool,
+    seen: Option<Seen>,
+    request: &Request,
+    judged: Option<&Judged<'_>>,
+    moment: Moment,
+) -> Option<Entry>
+    requires judged { IsOfAsk (option_copied judged) request.now.ask }
+    requires allowed { let_in ≡ true → IfSome seen (λ s.
+        verdict_of s.revision.keys s.revision.acl request.now.ask moment ≡ Allow (way_of request.now.ask.credential)) }
+    ensures { IfSome result (λ e. (let_in ≡ true) × IsEntryBy seen request.now moment e) }
+{
+    if !let_in {
+        drop(seen);
+        return None;
+    }
+    let seen = seen?;
+    match entry_by(alloc, seen, request, judged, moment) {
+        Ok(entry) => Some(entry),
         Err(AllocError) => None,
     }
 }
@@ -184,14 +216,7 @@ fn is_let_in(answer: &Answer, has_doubt: bool) -> bool
     }
 }
 
-// The entry, if the request was let in.
-fn entry_if(let_in: bool, entry: Option<Entry>) -> Option<Entry>
-    ensures { IfSome result (λ e. (let_in ≡ true) × (entry ≡ Some e)) }
-{
-    if let_in { entry } else { None }
-}
-
-impl<H: Histories> StoredSlot<H> {
+impl<H: Histories> SlotParts<H> {
     // Whether a change is in doubt.
     fn has_doubt(&self) -> bool
         ensures { result ≡ is_some self.now.doubt }
@@ -199,49 +224,82 @@ impl<H: Histories> StoredSlot<H> {
         self.doubt.is_some()
     }
 
-    // The entry that the request has if it is served now and let in. None if it names no container, if the rows are not loaded, if a rule of
-    // permission refuses it, or if memory runs out.
-    fn entry_now(
-        &self,
-        alloc: Global,
-        request: &Request,
-        judged: Option<&Judged>,
-        moment: Moment,
-    ) -> Option<Entry>
-        requires covered { slots.covers self.now (routed request.now) ≡ true }
-        requires judged { IsOfAsk (option_copied judged) request.now.ask }
+    // What the entry of the request would say of the slot as it is now. None if the request names no container, or if memory runs out.
+    fn see(&self, alloc: Global, request: &Request) -> Option<Seen>
+        requires before { AreSettled H.held self.now }
+        requires loaded { self.now.stored.is_loaded ≡ true }
+        requires covered { slots.covers (slot_of H.held self.now) (routed request.now) ≡ true }
         ensures names { IsSome result → names_container request.now.ask.op ≡ true }
-        ensures value { IfSome result (λ e. e ≡ audit_of self.now.pairs self.now.histories request.now moment) }
+        ensures value { IfSome result (λ seen. seen ≡ seen_of (arc_value self.now.pairs) (H.held self.now.histories) request.now) }
     {
-        if !request.ask().op.names_container() || !self.stored.is_loaded() {
+        if !request.ask().op.names_container() {
             return None;
         }
-        entry_loaded(&self.stored, &self.pairs, alloc, request, judged, moment)
+        seen_loaded(&self.stored, &self.pairs, alloc, request)
     }
 
-    // Serves a request on a slot without a doubt. The entry is made before the request may change its container.
-    fn serve_settled<W: Wire>(
+    // Serves a request on a slot without a doubt, whose rows are loaded, and makes its entry. What the entry says of the slot is taken before
+    // the request may change its container.
+    fn audit_loaded<W: Wire>(
         &mut self,
         alloc: Global,
         request: &Request,
-        judged: Option<&Judged>,
+        judged: Option<&Judged<'_>>,
         reading: Reading,
         moment: Moment,
         wire: &mut W,
     ) -> Audited
+        requires before { AreSettled H.held self.old }
+        requires loaded { self.old.stored.is_loaded ≡ true }
+        requires covered { slots.covers (slot_of H.held self.old) (routed request.now) ≡ true }
         requires judged { IsOfAsk (option_copied judged) request.now.ask }
         requires read { reading ≡ reading_of request.now }
-        requires covered { slots.covers self.old (routed request.now) ≡ true }
-        requires sure { self.old.doubt ≡ None }
-        ensures served { AuditsBy self.old request.now moment (Faulted (W.faults wire.old) (W.faults wire.new)) result.answer result.entry self.new }
+        ensures after { AreOfSlot H.held self.new }
+        ensures served { AuditsBy (slot_of H.held self.old) request.now moment
+            (Faulted (W.faults wire.old) (W.faults wire.new)) result.answer result.entry (slot_of H.held self.new) }
         ensures grown { Grows (W.faults wire.old) (W.faults wire.new) }
     {
-        let entry = self.entry_now(alloc, request, judged, moment);
-        let answer = self.serve_read(alloc, request, judged, reading, moment, wire);
-        let entry = entry_if(is_let_in(&answer, self.has_doubt()), entry);
+        let seen = self.see(alloc, request);
+        let answer = self.serve_loaded(alloc, request, judged, reading, moment, wire);
+        let let_in = is_let_in(&answer, self.has_doubt());
+        let entry = entry_if(alloc, let_in, seen, request, judged, moment);
         Audited { answer, entry }
     }
 
+    // One step of the model, as `serve` makes it, with the entry of the request.
+    fn audit<W: Wire>(
+        &mut self,
+        alloc: Global,
+        request: &Request,
+        judged: Option<&Judged<'_>>,
+        reading: Reading,
+        moment: Moment,
+        wire: &mut W,
+    ) -> Audited
+        requires before { AreOfSlot H.held self.old }
+        requires covered { slots.covers (slot_of H.held self.old) (routed request.now) ≡ true }
+        requires judged { IsOfAsk (option_copied judged) request.now.ask }
+        requires read { reading ≡ reading_of request.now }
+        ensures after { AreOfSlot H.held self.new }
+        ensures served { SlotAudits (slot_of H.held self.old) request.now moment
+            (Faulted (W.faults wire.old) (W.faults wire.new)) result.answer result.entry (slot_of H.held self.new) }
+        ensures grown { Grows (W.faults wire.old) (W.faults wire.new) }
+    {
+        match self.load(alloc, wire) {
+            Ok(()) => self.audit_loaded(alloc, request, judged, reading, moment, wire),
+            Err(fault) => {
+                drop(reading);
+                let answer = failed(alloc, fault);
+                Audited {
+                    answer,
+                    entry: None,
+                }
+            }
+        }
+    }
+}
+
+impl<H: Histories> StoredSlot<H> {
     /// One step of the model, as `serve_read` makes it, with the entry of the request in the audit book. The entry is what the slot was before the
     /// request: its place is the number of the container's accepted changes, and its revision has what the container said about who may read
     /// it, and the pair in force of its account. It is made of what is in memory, and costs a copy of the container's stored policies.
@@ -252,7 +310,7 @@ impl<H: Histories> StoredSlot<H> {
         &mut self,
         alloc: Global,
         request: &Request,
-        judged: Option<&Judged>,
+        judged: Option<&Judged<'_>>,
         reading: Reading,
         moment: Moment,
         wire: &mut W,
@@ -263,16 +321,7 @@ impl<H: Histories> StoredSlot<H> {
         ensures served { SlotAudits self.old request.now moment (Faulted (W.faults wire.old) (W.faults wire.new)) result.answer result.entry self.new }
         ensures grown { Grows (W.faults wire.old) (W.faults wire.new) }
     {
-        match self.load(alloc, wire) {
-            Ok(()) => self.serve_settled(alloc, request, judged, reading, moment, wire),
-            Err(fault) => {
-                drop(reading);
-                let answer = failed(alloc, fault);
-                Audited {
-                    answer,
-                    entry: None,
-                }
-            }
-        }
+        self.parts
+            .audit(alloc, request, judged, reading, moment, wire)
     }
 }

@@ -11,11 +11,12 @@ ghost use Rattle.stored_rows.specs.States.{AreFoundIn, IsTaken, doubt_of, pieces
 ghost use Rattle.slot_state.specs.HistoryMaps.{history_at, without_last};
 ghost use Rattle.stored_slot.specs.Changes as changes;
 ghost use Rattle.stored_slot.specs.Changes.{slot_taken};
-ghost use Rattle.stored_slot.specs.Meanings.{AreOfStreams, AreReplays, MakesChange, slot_with};
+ghost use Rattle.stored_slot.specs.Parts.{AreOfSlot, AreSettled, MakesChangeOf, slot_of};
 
+use crate::parts::SlotParts;
 use block_blobs::FoundBlocks;
 use extent_node::Wire;
-use slot_state::{AccountPairs, Histories};
+use slot_state::Histories;
 use stamp_types::{Change, Past};
 use std::alloc::Global;
 use stored_rows::{StoredRows, TakeFault};
@@ -84,29 +85,6 @@ fn take_entry<H: Histories, W: Wire>(
     }
 }
 
-// Takes a change that its entry's request makes.
-fn take_made<H: Histories, W: Wire>(
-    histories: &mut H,
-    stored: &mut StoredRows,
-    pairs: &AccountPairs,
-    alloc: Global,
-    entry: &Past,
-    made: FoundChange,
-    wire: &mut W,
-) -> Result<(), TakeFault>
-    requires before { AreReplays pairs.now (H.held histories.old) stored.old }
-    requires makes { MakesChange pairs.now (H.held histories.old) stored.old entry.now made.change }
-    requires found { AreFoundIn stored.old made.change made.found }
-    requires sure { doubt_of stored.old ≡ None }
-    ensures taken { IsTaken result stored.old (made.change, entry.now.epoch) stored.new }
-    ensures entered { H.held histories.new ≡ changes.with_taken result (H.held histories.old) entry.now }
-    ensures counted { FailsTake result (W.faults wire.old) (W.faults wire.new) }
-{
-    let _pairs = pairs;
-    stored.kept();
-    take_entry(histories, stored, alloc, entry, made, wire)
-}
-
 // Keeps the entry, if its change is in doubt.
 fn keep_doubt(doubt: &mut Option<Past>, taken: &Result<(), TakeFault>, entry: Past)
     requires { doubt.old ≡ None }
@@ -120,30 +98,34 @@ fn keep_doubt(doubt: &mut Option<Past>, taken: &Result<(), TakeFault>, entry: Pa
     }
 }
 
-/// Makes a change, with its entry. If the change is in doubt, the entry moves into the slot's doubt.
-///
-/// After any other fault nothing is changed.
-pub(crate) fn changing<H: Histories, W: Wire>(
-    histories: &mut H,
-    stored: &mut StoredRows,
-    doubt: &mut Option<Past>,
-    pairs: &AccountPairs,
-    alloc: Global,
-    entry: Past,
-    made: FoundChange,
-    wire: &mut W,
-) -> Result<(), TakeFault>
-    requires before { AreReplays pairs.now (H.held histories.old) stored.old }
-    requires makes { MakesChange pairs.now (H.held histories.old) stored.old entry made.change }
-    requires found { AreFoundIn stored.old made.change made.found }
-    requires sure { doubt_of stored.old ≡ None }
-    requires none { doubt.old ≡ None }
-    ensures after { AreOfStreams pairs.now (H.held histories.new) stored.new doubt.new }
-    ensures taken { slot_with pairs.now (H.held histories.new) stored.new doubt.new
-        ≡ slot_taken result (slot_with pairs.now (H.held histories.old) stored.old None) entry }
-    ensures counted { FailsTake result (W.faults wire.old) (W.faults wire.new) }
-{
-    let taken = take_made(histories, stored, pairs, alloc, &entry, made, wire);
-    keep_doubt(doubt, &taken, entry);
-    taken
+impl<H: Histories> SlotParts<H> {
+    /// Makes a change, with its entry. If the change is in doubt, the entry moves into the slot's doubt.
+    ///
+    /// After any other fault nothing is changed.
+    pub(crate) fn change<W: Wire>(
+        &mut self,
+        alloc: Global,
+        entry: Past,
+        made: FoundChange,
+        wire: &mut W,
+    ) -> Result<(), TakeFault>
+        requires before { AreSettled H.held self.old }
+        requires makes { MakesChangeOf H.held self.old entry made.change }
+        requires found { AreFoundIn self.old.stored made.change made.found }
+        ensures after { AreOfSlot H.held self.new }
+        ensures taken { slot_of H.held self.new ≡ slot_taken result (slot_of H.held self.old) entry }
+        ensures counted { FailsTake result (W.faults wire.old) (W.faults wire.new) }
+    {
+        self.stored.kept();
+        let taken = take_entry(
+            &mut self.histories,
+            &mut self.stored,
+            alloc,
+            &entry,
+            made,
+            wire,
+        );
+        keep_doubt(&mut self.doubt, &taken, entry);
+        taken
+    }
 }

@@ -7,13 +7,14 @@ ghost use Rattle.stored_rows.specs.Counting.{FailsStored};
 ghost use Rattle.stored_rows.specs.Ranges.{covers};
 ghost use Rattle.stored_rows.specs.States.{doubt_of};
 ghost use Rattle.stored_slot.specs.Meanings.{AreOfStreams, AreReplays, slot_with};
+ghost use Rattle.stored_slot.specs.Parts.{AreOfSlot, AreSettled, slot_of};
 ghost use Rattle.stored_slot.specs.Settled.{Cuts, CutsSettled};
 
-use crate::settling::settling;
+use crate::parts::SlotParts;
 use crate::stored_slot::StoredSlot;
 use extent_node::Wire;
 use slot_state::{AccountPairs, Histories};
-use stamp_types::{Key, Past};
+use stamp_types::Key;
 use std::alloc::{AllocError, Global};
 use std::sync::Arc;
 use stored_rows::{StoredFault, StoredRows};
@@ -72,12 +73,13 @@ fn cut_with<H: Histories, W: Wire>(
                 pairs,
             } = halves;
             *histories = below;
-            Ok(StoredSlot {
+            let parts = SlotParts {
                 histories: above,
                 stored: upper,
                 pairs,
                 doubt: None,
-            })
+            };
+            Ok(StoredSlot { parts })
         }
         Err(fault) => {
             drop(halves);
@@ -86,48 +88,42 @@ fn cut_with<H: Histories, W: Wire>(
     }
 }
 
-// Cuts a slot without a doubt.
-fn cut_settled<H: Histories, W: Wire>(
-    histories: &mut H,
-    stored: &mut StoredRows,
-    pairs: &Arc<AccountPairs>,
-    alloc: Global,
-    middle: &Key,
-    wire: &mut W,
-) -> Result<StoredSlot<H>, StoredFault>
-    requires before { AreReplays (arc_value pairs.now) (H.held histories.old) stored.old }
-    requires sure { doubt_of stored.old ≡ None }
-    requires covered { covers stored.old.range middle.now ≡ true }
-    ensures after { AreOfStreams (arc_value pairs.now) (H.held histories.new) stored.new None }
-    ensures cut { Cuts result (slot_with (arc_value pairs.now) (H.held histories.old) stored.old None) middle.now
-        (slot_with (arc_value pairs.now) (H.held histories.new) stored.new None) }
-    ensures counted { FailsStored result (W.faults wire.old) (W.faults wire.new) }
-{
-    match make_halves(histories, pairs, alloc, middle) {
-        Ok(halves) => cut_with(histories, stored, halves, middle, wire),
-        Err(AllocError) => Err(StoredFault::NoMemory),
+impl<H: Histories> SlotParts<H> {
+    // Cuts a slot without a doubt.
+    fn cut_settled<W: Wire>(
+        &mut self,
+        alloc: Global,
+        middle: &Key,
+        wire: &mut W,
+    ) -> Result<StoredSlot<H>, StoredFault>
+        requires before { AreSettled H.held self.old }
+        requires covered { covers self.old.stored.range middle.now ≡ true }
+        ensures after { AreOfSlot H.held self.new }
+        ensures cut { Cuts result (slot_of H.held self.old) middle.now (slot_of H.held self.new) }
+        ensures counted { FailsStored result (W.faults wire.old) (W.faults wire.new) }
+    {
+        match make_halves(&self.histories, &self.pairs, alloc, middle) {
+            Ok(halves) => cut_with(&mut self.histories, &mut self.stored, halves, middle, wire),
+            Err(AllocError) => Err(StoredFault::NoMemory),
+        }
     }
-}
 
-/// Settles a doubt, if there is one, and then cuts the slot at a key of its range: the upper half is answered.
-pub(crate) fn cutting<H: Histories, W: Wire>(
-    histories: &mut H,
-    stored: &mut StoredRows,
-    doubt: &mut Option<Past>,
-    pairs: &Arc<AccountPairs>,
-    alloc: Global,
-    middle: &Key,
-    wire: &mut W,
-) -> Result<StoredSlot<H>, StoredFault>
-    requires before { AreOfStreams (arc_value pairs.now) (H.held histories.old) stored.old doubt.old }
-    requires covered { covers stored.old.range middle.now ≡ true }
-    ensures after { AreOfStreams (arc_value pairs.now) (H.held histories.new) stored.new doubt.new }
-    ensures cut { CutsSettled result (slot_with (arc_value pairs.now) (H.held histories.old) stored.old doubt.old) middle.now
-        (slot_with (arc_value pairs.now) (H.held histories.new) stored.new doubt.new) }
-    ensures counted { FailsStored result (W.faults wire.old) (W.faults wire.new) }
-{
-    match settling(histories, stored, doubt, pairs, alloc, wire) {
-        Ok(()) => cut_settled(histories, stored, pairs, alloc, middle, wire),
-        Err(fault) => Err(fault),
+    /// Settles a doubt, if there is one, and then cuts the slot at a key of its range: the upper half is answered.
+    pub(crate) fn cut<W: Wire>(
+        &mut self,
+        alloc: Global,
+        middle: &Key,
+        wire: &mut W,
+    ) -> Result<StoredSlot<H>, StoredFault>
+        requires before { AreOfSlot H.held self.old }
+        requires covered { covers self.old.stored.range middle.now ≡ true }
+        ensures after { AreOfSlot H.held self.new }
+        ensures cut { CutsSettled result (slot_of H.held self.old) middle.now (slot_of H.held self.new) }
+        ensures counted { FailsStored result (W.faults wire.old) (W.faults wire.new) }
+    {
+        match self.settle(alloc, wire) {
+            Ok(()) => self.cut_settled(alloc, middle, wire),
+            Err(fault) => Err(fault),
+        }
     }
 }

@@ -14,14 +14,14 @@ impl<H: Histories> StoredSlot<H> {
     pub fn pairs(&self, account: &Text) -> &PairList
         ensures { result.now ≡ pairs_at self.now.pairs account.now }
     {
-        self.pairs.of_account(account)
+        self.parts.pairs.of_account(account)
     }
 
     /// The change of which it is not known whether it was made, if there is one. Takes no memory.
     pub fn doubt(&self) -> Option<&Past>
         ensures { option_copied result ≡ self.now.doubt }
     {
-        self.doubt.as_ref()
+        self.parts.doubt.as_ref()
     }
 }
 
@@ -30,7 +30,7 @@ impl StoredSlot<KeptHistories> {
     fn found(&self, key: &Key) -> &[Past]
         ensures { result.now ≡ history_at self.now.histories key.now }
     {
-        match self.histories.history(key) {
+        match self.parts.histories.history(key) {
             Some(history) => history.as_slice(),
             None => &[],
         }
@@ -43,7 +43,7 @@ impl StoredSlot<KeptHistories> {
         ensures legal { IsLegal (pairs_at self.now.pairs key.now.account) key.now result.now }
         ensures latest { NoneIsLater (epoch_of (current_at self.now.pairs key.now.account)) result.now }
     {
-        let _pairs = &self.pairs;
+        let _pairs = &self.parts.pairs;
         self.found(key)
     }
 }

@@ -10,6 +10,7 @@ mod deciding;
 mod keeping;
 mod laws;
 mod lent;
+mod parts;
 mod rotating;
 mod serving;
 mod settling;

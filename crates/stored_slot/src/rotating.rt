@@ -16,7 +16,7 @@ impl<H: Histories> StoredSlot<H> {
     pub fn account_pairs(&self) -> &Arc<AccountPairs>
         ensures { arc_value result.now ≡ self.now.pairs }
     {
-        &self.pairs
+        &self.parts.pairs
     }
 
     /// The slot takes longer key pairs: each account has the pairs that it had, and may have more pairs after them. From now on requests are
@@ -28,7 +28,7 @@ impl<H: Histories> StoredSlot<H> {
         ensures replays { ReplaysBy (arc_value pairs) self.old }
     {
         pairs.numbered();
-        self.pairs = pairs;
+        self.parts.pairs = pairs;
     }
 
     /// One account gets one pair more, whose epoch is the one after the epoch of the account's pair in force. The new pair is then in force,
@@ -46,7 +46,7 @@ impl<H: Histories> StoredSlot<H> {
         ensures replays { OnOk result (ReplaysBy (with_next self.old.pairs account.now (arc_value pair)) self.old) }
         ensures refused { OnErr result (self.new ≡ self.old) }
     {
-        let pairs = self.pairs.with_next(alloc, account, pair)?;
+        let pairs = self.parts.pairs.with_next(alloc, account, pair)?;
         self.catch_up(pairs);
         Ok(())
     }

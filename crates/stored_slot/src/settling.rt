@@ -3,12 +3,13 @@ ghost use Rattle.std.specs.Prelude.{◌≡◌, ◌≢◌, [], IsSome};
 ghost use Rattle.stored_rows.specs.Counting.{FailsStored};
 ghost use Rattle.stored_rows.specs.States.{SettlesRows, doubt_of};
 ghost use Rattle.slot_state.specs.HistoryMaps.{history_at};
-ghost use Rattle.stored_slot.specs.Meanings.{AreOfStreams, slot_with};
+ghost use Rattle.stored_slot.specs.Parts.{AreOfSlot, slot_of};
 ghost use Rattle.stored_slot.specs.Settled as settled;
 ghost use Rattle.stored_slot.specs.Settled.{SettlesOrFails};
 
+use crate::parts::SlotParts;
 use extent_node::Wire;
-use slot_state::{AccountPairs, Histories};
+use slot_state::Histories;
 use stamp_types::Past;
 use std::alloc::Global;
 use stored_rows::{Ended, StoredFault, StoredRows};
@@ -62,36 +63,35 @@ fn settle_entry<H: Histories, W: Wire>(
     }
 }
 
-/// Settles the change of a slot that is in doubt, if there is one: it is kept with the moment and the epoch at which it was served, or it is
-/// dropped.
-///
-/// After a fault nothing is changed, and the doubt is as it was. Busy: nodes that were needed did not answer.
-pub(crate) fn settling<H: Histories, W: Wire>(
-    histories: &mut H,
-    stored: &mut StoredRows,
-    doubt: &mut Option<Past>,
-    pairs: &AccountPairs,
-    alloc: Global,
-    wire: &mut W,
-) -> Result<(), StoredFault>
-    requires before { AreOfStreams pairs.now (H.held histories.old) stored.old doubt.old }
-    ensures after { AreOfStreams pairs.now (H.held histories.new) stored.new doubt.new }
-    ensures settled { SettlesOrFails result (slot_with pairs.now (H.held histories.old) stored.old doubt.old)
-        (slot_with pairs.now (H.held histories.new) stored.new doubt.new) }
-    ensures counted { FailsStored result (W.faults wire.old) (W.faults wire.new) }
-{
-    let _pairs = pairs;
-    match doubt.take() {
-        None => Ok(()),
-        Some(entry) => match settle_entry(histories, stored, alloc, &entry, wire) {
-            Ok(_ended) => {
-                drop(entry);
-                Ok(())
-            }
-            Err(fault) => {
-                *doubt = Some(entry);
-                Err(fault)
-            }
-        },
+impl<H: Histories> SlotParts<H> {
+    /// Settles the change of a slot that is in doubt, if there is one: it is kept with the moment and the epoch at which it was served, or it
+    /// is dropped.
+    ///
+    /// After a fault nothing is changed, and the doubt is as it was. Busy: nodes that were needed did not answer.
+    pub(crate) fn settle<W: Wire>(&mut self, alloc: Global, wire: &mut W) -> Result<(), StoredFault>
+        requires before { AreOfSlot H.held self.old }
+        ensures after { AreOfSlot H.held self.new }
+        ensures settled { SettlesOrFails result (slot_of H.held self.old) (slot_of H.held self.new) }
+        ensures counted { FailsStored result (W.faults wire.old) (W.faults wire.new) }
+    {
+        match self.doubt.take() {
+            None => Ok(()),
+            Some(entry) => match settle_entry(
+                &mut self.histories,
+                &mut self.stored,
+                alloc,
+                &entry,
+                wire,
+            ) {
+                Ok(_ended) => {
+                    drop(entry);
+                    Ok(())
+                }
+                Err(fault) => {
+                    self.doubt = Some(entry);
+                    Err(fault)
+                }
+            },
+        }
     }
 }

@@ -20,16 +20,13 @@ ghost use Rattle.stored_slot.specs.Settled.{CutsSettled, LeavesRepaired, LeavesS
 
 mod compact;
 
-use crate::cutting::cutting;
-use crate::keeping::{checkpointing, loading, repairing, sealing};
-use crate::serving::serving;
-use crate::settling::settling;
+use crate::parts::SlotParts;
 use extent_node::{Node, Wire};
 use partition_stream::{Replaced, StreamName};
 use policy_book::Judged;
 use range_rows::Reading;
 use slot_state::{AccountPairs, Histories};
-use stamp_types::{Key, Moment, Past, Request};
+use stamp_types::{Key, Moment, Request};
 use std::alloc::{AllocError, Global};
 use std::marker::Model;
 use std::sync::Arc;
@@ -45,26 +42,20 @@ pub const EXTENT_BYTES: u32 = 268_435_456;
 /// replays to, always. A change of which it is not known whether it was made is the slot's doubt.
 #[derive(Drop)]
 pub struct StoredSlot<H: Histories> {
-    pub(crate) histories: H,
-    pub(crate) stored: StoredRows,
-    pub(crate) pairs: Arc<AccountPairs>,
-    // The change that is in doubt, with the moment and the epoch at which it was served.
-    pub(crate) doubt: Option<Past>,
+    pub(crate) parts: SlotParts<H>,
 }
 
 impl<H: Histories> Model for StoredSlot<H> {
-    ghost use Rattle.std.specs.Arc.{arc_value};
-    ghost use Rattle.std.specs.FinMap as finite;
     ghost use Rattle.slot_state.specs.Slots.{SlotState, slot_code};
-    ghost use Rattle.stored_slot.specs.Meanings.{AreOfStreams, slot_with};
+    ghost use Rattle.stored_slot.specs.Parts.{AreOfSlot, slot_of};
 
     ghost Value = { SlotState };
 
     ghost coded = { slot_code };
 
-    ghost view = { λ s. slot_with (arc_value s.pairs) (H.held s.histories) s.stored s.doubt };
+    ghost view = { λ s. slot_of H.held s.parts };
 
-    ghost invariant = { λ s. AreOfStreams (arc_value s.pairs) (H.held s.histories) s.stored s.doubt };
+    ghost invariant = { λ s. AreOfSlot H.held s.parts };
 }
 
 impl<H: Histories> StoredSlot<H> {
@@ -76,12 +67,13 @@ impl<H: Histories> StoredSlot<H> {
         ensures { result ≡ slot_with (arc_value pairs) finite.empty rows None }
     {
         pairs.numbered();
-        Self {
+        let parts = SlotParts {
             histories: H::none(alloc),
             stored: rows,
             pairs,
             doubt: None,
-        }
+        };
+        Self { parts }
     }
 
     /// Whether the key is in the range of the slot.
@@ -89,7 +81,7 @@ impl<H: Histories> StoredSlot<H> {
     pub fn covers(&self, key: &Key) -> bool
         ensures { result ≡ slots.covers self.now key.now }
     {
-        self.stored.covers(key)
+        self.parts.stored.covers(key)
     }
 
     /// Whether the key comes after the first key of the slot and before the end of its range, so that the slot can be split at it.
@@ -97,7 +89,7 @@ impl<H: Histories> StoredSlot<H> {
     pub fn is_inside(&self, key: &Key) -> bool
         ensures { result ≡ slots.is_inside self.now key.now }
     {
-        key.cmp(self.stored.first()).is_gt() && self.stored.covers(key)
+        key.cmp(self.parts.stored.first()).is_gt() && self.parts.stored.covers(key)
     }
 
     /// One step of the model, on a request whose body was read before. The caller keeps the request, and may judge its signature before:
@@ -111,7 +103,7 @@ impl<H: Histories> StoredSlot<H> {
         &mut self,
         alloc: Global,
         request: &Request,
-        judged: Option<&Judged>,
+        judged: Option<&Judged<'_>>,
         reading: Reading,
         moment: Moment,
         wire: &mut W,
@@ -122,18 +114,8 @@ impl<H: Histories> StoredSlot<H> {
         ensures served { SlotServes self.old request.now moment (Faulted (W.faults wire.old) (W.faults wire.new)) result self.new }
         ensures grown { Grows (W.faults wire.old) (W.faults wire.new) }
     {
-        serving(
-            &mut self.histories,
-            &mut self.stored,
-            &mut self.doubt,
-            &self.pairs,
-            alloc,
-            request,
-            judged,
-            reading,
-            moment,
-            wire,
-        )
+        self.parts
+            .serve(alloc, request, judged, reading, moment, wire)
     }
 
     /// One step of the model. The answer is NoMemory if memory runs out for the reading of the body.
@@ -141,7 +123,7 @@ impl<H: Histories> StoredSlot<H> {
         &mut self,
         alloc: Global,
         request: &Request,
-        judged: Option<&Judged>,
+        judged: Option<&Judged<'_>>,
         moment: Moment,
         wire: &mut W,
     ) -> Answer
@@ -164,14 +146,7 @@ impl<H: Histories> StoredSlot<H> {
         ensures settled { SettlesOrFails result self.old self.new }
         ensures counted { FailsStored result (W.faults wire.old) (W.faults wire.new) }
     {
-        settling(
-            &mut self.histories,
-            &mut self.stored,
-            &mut self.doubt,
-            &self.pairs,
-            alloc,
-            wire,
-        )
+        self.parts.settle(alloc, wire)
     }
 
     /// Takes the rows out of memory, and gives them, so that a caller may drop them once it holds no lock. A change that is in doubt stays in
@@ -179,7 +154,7 @@ impl<H: Histories> StoredSlot<H> {
     pub fn unload(&mut self) -> Unloaded
         ensures { self.new ≡ self.old }
     {
-        self.stored.unload()
+        self.parts.stored.unload()
     }
 
     /// Settles a doubt, if there is one, and reads the rows from the streams, if they are not loaded.
@@ -190,14 +165,7 @@ impl<H: Histories> StoredSlot<H> {
         ensures left { LeavesSettled result self.old self.new }
         ensures counted { FailsStored result (W.faults wire.old) (W.faults wire.new) }
     {
-        loading(
-            &mut self.histories,
-            &mut self.stored,
-            &mut self.doubt,
-            &self.pairs,
-            alloc,
-            wire,
-        )
+        self.parts.load(alloc, wire)
     }
 
     /// Settles a doubt, if there is one, and seals the streams: what is written later goes to new extents.
@@ -208,14 +176,7 @@ impl<H: Histories> StoredSlot<H> {
         ensures left { LeavesSettled result self.old self.new }
         ensures counted { FailsStored result (W.faults wire.old) (W.faults wire.new) }
     {
-        sealing(
-            &mut self.histories,
-            &mut self.stored,
-            &mut self.doubt,
-            &self.pairs,
-            alloc,
-            wire,
-        )
+        self.parts.seal(alloc, wire)
     }
 
     /// Settles a doubt, if there is one, loads the rows, if they are not loaded, and writes them as a checkpoint: they take the place of the
@@ -231,14 +192,7 @@ impl<H: Histories> StoredSlot<H> {
         ensures left { LeavesSettled result self.old self.new }
         ensures counted { FailsStored result (W.faults wire.old) (W.faults wire.new) }
     {
-        checkpointing(
-            &mut self.histories,
-            &mut self.stored,
-            &mut self.doubt,
-            &self.pairs,
-            alloc,
-            wire,
-        )
+        self.parts.checkpoint(alloc, wire)
     }
 
     /// Settles a doubt, if there is one, seals the streams, and cuts the slot at a key: the containers of `middle` and of the keys after it
@@ -256,15 +210,7 @@ impl<H: Histories> StoredSlot<H> {
         ensures cut { CutsSettled result self.old middle.now self.new }
         ensures counted { FailsStored result (W.faults wire.old) (W.faults wire.new) }
     {
-        cutting(
-            &mut self.histories,
-            &mut self.stored,
-            &mut self.doubt,
-            &self.pairs,
-            alloc,
-            middle,
-            wire,
-        )
+        self.parts.cut(alloc, middle, wire)
     }
 
     /// Another partition server takes the slot: it has none of the rows in memory, and reads them from the streams when they are needed. A
@@ -274,7 +220,7 @@ impl<H: Histories> StoredSlot<H> {
     pub fn move_to(&mut self, _server: u32) -> Unloaded
         ensures { self.new ≡ self.old }
     {
-        self.stored.unload()
+        self.parts.stored.unload()
     }
 
     /// Settles a doubt, if there is one, and gives the node a copy of a whole sealed extent of one stream, if it has no copy. No byte is
@@ -298,16 +244,6 @@ impl<H: Histories> StoredSlot<H> {
         ensures left { LeavesRepaired (unnamed result) self.old self.new }
         ensures counted { FailsRepair (unnamed result) (W.faults wire.old) (W.faults wire.new) }
     {
-        repairing(
-            &mut self.histories,
-            &mut self.stored,
-            &mut self.doubt,
-            &self.pairs,
-            alloc,
-            part,
-            extent,
-            node,
-            wire,
-        )
+        self.parts.repair(alloc, part, extent, node, wire)
     }
 }

@@ -7,14 +7,14 @@ use Rattle.extent_node.specs.Faults.{Calls}
 use Rattle.extent_node.specs.declared.wire.Node.{Node}
 use Rattle.extent_seal.specs.Extents.{Closed, answer_of}
 use Rattle.extent_seal.specs.Repairs.{Copies, FailsToCopy}
-use Rattle.extent_seal.specs.declared.copying.CopyFault.{CopyFault}
-use Rattle.extent_seal.specs.declared.copying.CopyFault.TheVariants as copy_fault
+use Rattle.extent_seal.specs.declared.sealed.ReadFault.{ReadFault}
+use Rattle.extent_seal.specs.declared.sealed.ReadFault.TheVariants as read
 use Rattle.stream_manager.specs.Extents.{closed_blocks}
 use Rattle.stream_manager.specs.Repairs.{CountsRepair, IsUnheard, fault_of}
 use Rattle.stream_manager.specs.declared.faults.RepairFault.TheVariants as fault
 
 -- what the repair of an extent answers
-abbrev copied : Result (Unit {0}) CopyFault → Result (Unit {0}) CopyFault
+abbrev copied : Result (Unit {0}) ReadFault → Result (Unit {0}) ReadFault
 copied r = r
 
 -- an extent with the same blocks in its place
@@ -27,11 +27,11 @@ pub counts_ok : (n : Node) (h e : Closed) (a b c d : Calls) → h ≡ e
 counts_ok n h e a b c d is there lacking = subst (λ x. CountsRepair (Ok tt) n x a b c d) is (record { there = there; lacking = lacking })
 
 -- and if it fails
-pub counts_err : (f : CopyFault) (n : Node) (h e : Closed) (a b c d : Calls) → h ≡ e → answer_of h.kept n ≡ false
-    → (copied (Err f) ≡ Err copy_fault.Unreachable → FailsToCopy n h a b c d) → (copied (Err f) ≡ Err copy_fault.NoMemory → IsUnheard a b c d)
+pub counts_err : (f : ReadFault) (n : Node) (h e : Closed) (a b c d : Calls) → h ≡ e → answer_of h.kept n ≡ false
+    → (copied (Err f) ≡ Err read.Unreachable → FailsToCopy n h a b c d) → (copied (Err f) ≡ Err read.NoMemory → IsUnheard a b c d)
     → CountsRepair (Err (fault_of f)) n e a b c d
-counts_err copy_fault.Unreachable n h e a b c d is lacking silent full = subst (λ x. CountsRepair (Err fault.Unreachable) n x a b c d) is (lacking, silent refl)
-counts_err copy_fault.NoMemory n h e a b c d is lacking silent full = subst (λ x. CountsRepair (Err fault.NoMemory) n x a b c d) is (lacking, full refl)
+counts_err read.Unreachable n h e a b c d is lacking silent full = subst (λ x. CountsRepair (Err fault.Unreachable) n x a b c d) is (lacking, silent refl)
+counts_err read.NoMemory n h e a b c d is lacking silent full = subst (λ x. CountsRepair (Err fault.NoMemory) n x a b c d) is (lacking, full refl)
 
 -- one extent is at a number
 pub same_at : (sealed : List Closed) (i : ℕ) (h e : Closed) → h ≡ get_or sealed i h → slice_get sealed i ≡ Some e → h ≡ e

@@ -13,7 +13,7 @@ use Rattle.stream_manager.specs.declared.faults.AppendFault.{AppendFault}
 use Rattle.stream_manager.specs.declared.faults.AppendFault.TheVariants as fault
 use Rattle.stream_manager.specs.declared.faults.Settled.{Settled}
 use Rattle.stream_manager.specs.declared.faults.Settled.TheVariants as settled
-use Rattle.stream_manager.specs.declared.faults.SettleFault.{SettleFault}
+use Rattle.stream_manager.specs.declared.faults.StoredFault.{StoredFault}
 use Rattle.stream_manager.proofs.PlaceLemmas.{same, onward}
 use Rattle.stream_manager.proofs.ReadLemmas.{count_of_extents}
 
@@ -31,13 +31,13 @@ append_leads (Err fault.Busy) es fs old new block a = elim a [ inl x ↦ (held (
 append_leads (Err fault.NoMemory) es fs old new block a = unchanged es fs a.0
 append_leads (Err fault.TooLarge) es fs old new block a = unchanged es fs a.0
 
-settle_leads : (r : Result Settled SettleFault) (es fs : List (List Block)) (old new : Open) → IsSettled r es old fs new → Leads es fs
+settle_leads : (r : Result Settled StoredFault) (es fs : List (List Block)) (old new : Open) → IsSettled r es old fs new → Leads es fs
 settle_leads (Ok settled.Clean) es fs old new a = unchanged es fs a.1
 settle_leads (Ok (settled.Kept p)) es fs old new a = (a.0.0 ∷ [], a.0.2)
 settle_leads (Ok settled.Dropped) es fs old new a = ([], a.1)
 settle_leads (Err e) es fs old new a = unchanged es fs a.1
 
-seal_leads : (r : Result (Unit {0}) SettleFault) (es fs : List (List Block)) (old new : Open) → IsSealed r es old fs new → Leads es fs
+seal_leads : (r : Result (Unit {0}) StoredFault) (es fs : List (List Block)) (old new : Open) → IsSealed r es old fs new → Leads es fs
 seal_leads (Ok u) es fs old new a = (held (is_kept es old fs) old.tried, a.0)
 seal_leads (Err e) es fs old new a = unchanged es fs a.0
 
@@ -92,7 +92,7 @@ doubt_append (Err fault.Busy) es fs old new block d t a = elim a [ inl x ↦ end
 doubt_append (Err fault.NoMemory) es fs old new block d t a = stays es fs old new d t a.0 a.1
 doubt_append (Err fault.TooLarge) es fs old new block d t a = stays es fs old new d t a.0 a.1
 
-doubt_settle : (r : Result Settled SettleFault) (es fs : List (List Block)) (old new : Open) (d : Block) → old.tried ≡ Some d
+doubt_settle : (r : Result Settled StoredFault) (es fs : List (List Block)) (old new : Open) (d : Block) → old.tried ≡ Some d
     → IsSettled r es old fs new → EndsWhole es fs new d
 doubt_settle (Ok settled.Clean) es fs old new d t a = stays es fs old new d t a.1 a.2
 doubt_settle (Ok (settled.Kept p)) es fs old new d t a =
@@ -100,7 +100,7 @@ doubt_settle (Ok (settled.Kept p)) es fs old new d t a =
 doubt_settle (Ok settled.Dropped) es fs old new d t a = ends_alone es fs old d new false t a.1.order
 doubt_settle (Err e) es fs old new d t a = stays es fs old new d t a.1 a.2
 
-doubt_seal : (r : Result (Unit {0}) SettleFault) (es fs : List (List Block)) (old new : Open) (d : Block) → old.tried ≡ Some d
+doubt_seal : (r : Result (Unit {0}) StoredFault) (es fs : List (List Block)) (old new : Open) (d : Block) → old.tried ≡ Some d
     → IsSealed r es old fs new → EndsWhole es fs new d
 doubt_seal (Ok u) es fs old new d t a = ends_alone es fs old d new (is_kept es old fs) t a.0.order
 doubt_seal (Err e) es fs old new d t a = stays es fs old new d t a.0 a.1

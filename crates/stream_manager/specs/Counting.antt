@@ -12,8 +12,8 @@ use Rattle.stream_manager.specs.declared.faults.AppendFault.{AppendFault}
 use Rattle.stream_manager.specs.declared.faults.AppendFault.TheVariants as fault
 use Rattle.stream_manager.specs.declared.faults.Settled.{Settled}
 use Rattle.stream_manager.specs.declared.faults.Settled.TheVariants as settled
-use Rattle.stream_manager.specs.declared.faults.SettleFault.{SettleFault}
-use Rattle.stream_manager.specs.declared.faults.SettleFault.TheVariants as settle_fault
+use Rattle.stream_manager.specs.declared.faults.StoredFault.{StoredFault}
+use Rattle.stream_manager.specs.declared.faults.StoredFault.TheVariants as stored_fault
 
 -- at most so many puts to each node
 abbrev pub PutsAtMost : ℕ → Counts → Counts → Type 0
@@ -80,32 +80,32 @@ CallsAppend (Err fault.NoMemory) before after old new = new ≡ old
 CallsAppend (Err fault.TooLarge) before after old new = new ≡ old
 
 -- a settle asks each node once and puts nothing; it calls no node if there is no doubt or memory runs out
-abbrev pub CallsSettle : Result Settled SettleFault → Calls → Calls → Type 0
+abbrev pub CallsSettle : Result Settled StoredFault → Calls → Calls → Type 0
 CallsSettle (Ok settled.Clean) old new = new ≡ old
 CallsSettle (Ok (settled.Kept p)) old new = AsksEach old new
 CallsSettle (Ok settled.Dropped) old new = AsksEach old new
-CallsSettle (Err settle_fault.Busy) old new = AsksEach old new
-CallsSettle (Err settle_fault.NoMemory) old new = new ≡ old
+CallsSettle (Err stored_fault.Busy) old new = AsksEach old new
+CallsSettle (Err stored_fault.NoMemory) old new = new ≡ old
 
 -- no put fails by a settle; it is Busy only if an ask of each node fails
-abbrev pub FailsSettle : Result Settled SettleFault → Calls → Calls → Type 0
+abbrev pub FailsSettle : Result Settled StoredFault → Calls → Calls → Type 0
 FailsSettle (Ok settled.Clean) old new = new ≡ old
 FailsSettle (Ok (settled.Kept p)) old new = FailsNoPut old new
 FailsSettle (Ok settled.Dropped) old new = FailsNoPut old new
-FailsSettle (Err settle_fault.Busy) old new = FailsEach old new
-FailsSettle (Err settle_fault.NoMemory) old new = new ≡ old
+FailsSettle (Err stored_fault.Busy) old new = FailsEach old new
+FailsSettle (Err stored_fault.NoMemory) old new = new ≡ old
 
 -- a seal asks each node once if it sealed an extent, and no node if not; if it is Busy, it asked each node once and sealed no extent; it puts nothing, and no node is called if memory runs out
-abbrev pub CallsSeal : Result (Unit {0}) SettleFault → ℕ → ℕ → Calls → Calls → Type 0
+abbrev pub CallsSeal : Result (Unit {0}) StoredFault → ℕ → ℕ → Calls → Calls → Type 0
 CallsSeal (Ok _) before after old new = ((after ≡ before) × (new ≡ old)) ⊎ ((after ≡ before + 1) × AsksEach old new)
-CallsSeal (Err settle_fault.Busy) before after old new = (after ≡ before) × AsksEach old new
-CallsSeal (Err settle_fault.NoMemory) before after old new = (after ≡ before) × (new ≡ old)
+CallsSeal (Err stored_fault.Busy) before after old new = (after ≡ before) × AsksEach old new
+CallsSeal (Err stored_fault.NoMemory) before after old new = (after ≡ before) × (new ≡ old)
 
 -- no put fails by a seal; it is Busy only if an ask of each node fails
-abbrev pub FailsSeal : Result (Unit {0}) SettleFault → Calls → Calls → Type 0
+abbrev pub FailsSeal : Result (Unit {0}) StoredFault → Calls → Calls → Type 0
 FailsSeal (Ok _) old new = FailsNoPut old new
-FailsSeal (Err settle_fault.Busy) old new = FailsEach old new
-FailsSeal (Err settle_fault.NoMemory) old new = new ≡ old
+FailsSeal (Err stored_fault.Busy) old new = FailsEach old new
+FailsSeal (Err stored_fault.NoMemory) old new = new ≡ old
 
 -- the nodes that have a copy of an extent: all three have a copy of the last extent
 abbrev pub kept_in : List Closed → ℕ → Three

@@ -11,7 +11,7 @@ use Rattle.stream_manager.specs.declared.faults.AppendFault.{AppendFault}
 use Rattle.stream_manager.specs.declared.faults.AppendFault.TheVariants as fault
 use Rattle.stream_manager.specs.declared.faults.Settled.{Settled}
 use Rattle.stream_manager.specs.declared.faults.Settled.TheVariants as settled
-use Rattle.stream_manager.specs.declared.faults.SettleFault.{SettleFault}
+use Rattle.stream_manager.specs.declared.faults.StoredFault.{StoredFault}
 
 -- what one try does to a block: from these extents, to these extents and this last one
 abbrev pub IsTried : Tried → List (List Block) → Block → List (List Block) → Open → Type 0
@@ -40,13 +40,13 @@ IsAppend (Err fault.NoMemory) es old block fs new = (fs ≡ es) × (new ≡ old)
 IsAppend (Err fault.TooLarge) es old block fs new = (fs ≡ es) × (new ≡ old)
 
 -- what a settle does
-abbrev pub IsSettled : Result Settled SettleFault → List (List Block) → Open → List (List Block) → Open → Type 0
+abbrev pub IsSettled : Result Settled StoredFault → List (List Block) → Open → List (List Block) → Open → Type 0
 IsSettled (Ok settled.Clean) es old fs new = (old.tried ≡ None) × (fs ≡ es) × (new ≡ old)
 IsSettled (Ok (settled.Kept p)) es old fs new = ((b : Block) × (old.tried ≡ Some b) × Follows es (b ∷ []) fs × IsLastAt fs p b) × (new.tried ≡ None)
 IsSettled (Ok settled.Dropped) es old fs new = IsSome old.tried × Follows es [] fs × (new.tried ≡ None)
 IsSettled (Err e) es old fs new = IsSome old.tried × (fs ≡ es) × (new ≡ old)
 
 -- what a seal does
-abbrev pub IsSealed : Result (Unit {0}) SettleFault → List (List Block) → Open → List (List Block) → Open → Type 0
+abbrev pub IsSealed : Result (Unit {0}) StoredFault → List (List Block) → Open → List (List Block) → Open → Type 0
 IsSealed (Ok _) es old fs new = Follows es (held (is_kept es old fs) old.tried) fs × (new.blocks ≡ []) × (new.tried ≡ None)
 IsSealed (Err e) es old fs new = (fs ≡ es) × (new ≡ old)

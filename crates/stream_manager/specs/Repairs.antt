@@ -6,16 +6,16 @@ use Rattle.extent_node.specs.Faults.{Calls}
 use Rattle.extent_node.specs.declared.wire.Node.{Node}
 use Rattle.extent_seal.specs.Extents.{Closed, answer_of}
 use Rattle.extent_seal.specs.Repairs.{Copies, FailsToCopy, with_copy}
-use Rattle.extent_seal.specs.declared.copying.CopyFault.{CopyFault}
-use Rattle.extent_seal.specs.declared.copying.CopyFault.TheVariants as copy_fault
+use Rattle.extent_seal.specs.declared.sealed.ReadFault.{ReadFault}
+use Rattle.extent_seal.specs.declared.sealed.ReadFault.TheVariants as read
 use Rattle.stream_manager.specs.Streams.{Streamed}
 use Rattle.stream_manager.specs.declared.faults.RepairFault.{RepairFault}
 use Rattle.stream_manager.specs.declared.faults.RepairFault.TheVariants as fault
 
 -- a fault of the copy is the fault of the repair
-abbrev pub fault_of : CopyFault → RepairFault
-fault_of copy_fault.Unreachable = fault.Unreachable
-fault_of copy_fault.NoMemory = fault.NoMemory
+abbrev pub fault_of : ReadFault → RepairFault
+fault_of read.Unreachable = fault.Unreachable
+fault_of read.NoMemory = fault.NoMemory
 
 -- the sealed extents, one of them with a copy on the node
 abbrev pub with_copy_at : Node → ℕ → List Closed → List Closed

@@ -6,7 +6,7 @@ use Rattle.stream_manager.specs.Outcomes.{IsAppend, IsSettled, IsSealed}
 use Rattle.stream_manager.specs.Streams.{Streamed, laid}
 use Rattle.stream_manager.specs.declared.faults.AppendFault.{AppendFault}
 use Rattle.stream_manager.specs.declared.faults.Settled.{Settled}
-use Rattle.stream_manager.specs.declared.faults.SettleFault.{SettleFault}
+use Rattle.stream_manager.specs.declared.faults.StoredFault.{StoredFault}
 
 -- an append, with any answer
 abbrev pub IsAppendStep : Streamed → Streamed → Type 0
@@ -14,11 +14,11 @@ IsAppendStep s t = (r : Result Place AppendFault) × ((block : Block) × IsAppen
 
 -- a settle, with any answer
 abbrev pub IsSettleStep : Streamed → Streamed → Type 0
-IsSettleStep s t = (r : Result Settled SettleFault) × IsSettled r (laid s) s.last (laid t) t.last
+IsSettleStep s t = (r : Result Settled StoredFault) × IsSettled r (laid s) s.last (laid t) t.last
 
 -- a seal, with any answer
 abbrev pub IsSealStep : Streamed → Streamed → Type 0
-IsSealStep s t = (r : Result (Unit {0}) SettleFault) × IsSealed r (laid s) s.last (laid t) t.last
+IsSealStep s t = (r : Result (Unit {0}) StoredFault) × IsSealed r (laid s) s.last (laid t) t.last
 
 -- a repair or a share, with any answer: the blocks of each extent and the doubt are as they were
 pub record KeepsBlocks (s t : Streamed) : Type 0 where

@@ -1,9 +1,9 @@
 //! What appends and settles of a stream answer.
 ghost use Rattle.std.specs.Prelude.{◌≡◌};
 
-use extent_seal::CopyFault;
+use extent_seal::ReadFault;
 use stamp_values::Place;
-use std::alloc::AllocError;
+use std::alloc::{AllocError, AllocFailed};
 
 /// Why a block was not appended.
 #[derive(Clone, Copy)]
@@ -40,22 +40,33 @@ pub enum Settled {
     Dropped,
 }
 
-/// Why a stream was not settled or sealed.
-#[derive(Clone, Copy)]
-pub enum SettleFault {
-    /// No node answered.
+/// Why streams were not settled or sealed, nothing was put into them, or what they keep was not loaded, cut or written anew.
+#[derive(Clone, Copy, Debug, PartialEq, Eq)]
+pub enum StoredFault {
+    /// No node that was needed answered, or a block was tried twice.
     Busy,
-    /// Memory ran out before a node was called.
+    /// Memory ran out.
     NoMemory,
 }
 
-impl From<AllocError> for SettleFault {
+impl From<AllocError> for StoredFault {
     ghost use Rattle.std.specs.Prelude.{◌≡◌};
-    ghost use Rattle.stream_manager.specs.declared.faults.SettleFault.TheVariants.{NoMemory};
+    ghost use Rattle.stream_manager.specs.declared.faults.StoredFault.TheVariants.{NoMemory};
 
     ghost from_gives = { λ _ e. e ≡ NoMemory };
 
     fn from(_error: AllocError) -> Self {
+        Self::NoMemory
+    }
+}
+
+impl<T: Drop> From<AllocFailed<T>> for StoredFault {
+    ghost use Rattle.std.specs.Prelude.{◌≡◌};
+    ghost use Rattle.stream_manager.specs.declared.faults.StoredFault.TheVariants.{NoMemory};
+
+    ghost from_gives = { λ _ e. e ≡ NoMemory };
+
+    fn from(_error: AllocFailed<T>) -> Self {
         Self::NoMemory
     }
 }
@@ -82,16 +93,16 @@ impl From<AllocError> for RepairFault {
     }
 }
 
-impl From<CopyFault> for RepairFault {
+impl From<ReadFault> for RepairFault {
     ghost use Rattle.std.specs.Prelude.{◌≡◌};
     ghost use Rattle.stream_manager.specs.Repairs.{fault_of};
 
     ghost from_gives = { λ f e. e ≡ fault_of f };
 
-    fn from(fault: CopyFault) -> Self {
+    fn from(fault: ReadFault) -> Self {
         match fault {
-            CopyFault::Unreachable => Self::Unreachable,
-            CopyFault::NoMemory => Self::NoMemory,
+            ReadFault::Unreachable => Self::Unreachable,
+            ReadFault::NoMemory => Self::NoMemory,
         }
     }
 }

@@ -3,7 +3,7 @@ ghost use Rattle.std.specs.Prelude.{◌≡◌, ◌<◌, Some, IfOk, length};
 ghost use Rattle.std.specs.List.{slice_get};
 
 use extent_node::{Node, Wire};
-use extent_seal::{CopyFault, ReadFault, Sealed};
+use extent_seal::{ReadFault, Sealed};
 use stamp_values::Share;
 use std::alloc::{AllocError, Global};
 use std::marker::Model;
@@ -45,8 +45,7 @@ impl Handle {
     ghost use Rattle.extent_seal.specs.Counting.{AsksCopies, AsksNoOther, FailsCopies, Grows, SomeAnswers, all_faults};
     ghost use Rattle.extent_seal.specs.Extents.{answer_of};
     ghost use Rattle.extent_seal.specs.Repairs.{Copies, FailsToCopy, with_copy};
-    ghost use Rattle.extent_seal.specs.declared.copying.CopyFault.TheVariants as copy_fault;
-    ghost use Rattle.extent_seal.specs.declared.sealed.ReadFault.TheVariants.{Unreachable};
+    ghost use Rattle.extent_seal.specs.declared.sealed.ReadFault.TheVariants.{NoMemory, Unreachable};
 
     /// A handle of an extent that one stream has. Takes no memory.
     pub(crate) fn new(sealed: Sealed) -> Self
@@ -94,15 +93,15 @@ impl Handle {
         node: Node,
         alloc: Global,
         wire: &mut W,
-    ) -> Result<(), CopyFault>
+    ) -> Result<(), ReadFault>
         ensures repaired { OnOk result (self.new ≡ with_copy node self.old) }
         ensures same { OnErr result (self.new ≡ self.old) }
         ensures lacking { OnErr result (answer_of self.old.kept node ≡ false) }
         ensures unused { answer_of self.old.kept node ≡ true → wire.new ≡ wire.old }
         ensures copied { OnOk result (answer_of self.old.kept node ≡ false → Copies node self.old (W.calls wire.old) (W.calls wire.new) (W.faults wire.old) (W.faults wire.new)) }
-        ensures unreachable { result ≡ Err copy_fault.Unreachable → FailsToCopy node self.old (W.calls wire.old) (W.calls wire.new) (W.faults wire.old) (W.faults wire.new) }
-        ensures faulty { result ≡ Err copy_fault.Unreachable → all_faults (W.faults wire.old) < all_faults (W.faults wire.new) }
-        ensures unheard { result ≡ Err copy_fault.NoMemory → wire.new ≡ wire.old }
+        ensures unreachable { result ≡ Err Unreachable → FailsToCopy node self.old (W.calls wire.old) (W.calls wire.new) (W.faults wire.old) (W.faults wire.new) }
+        ensures faulty { result ≡ Err Unreachable → all_faults (W.faults wire.old) < all_faults (W.faults wire.new) }
+        ensures unheard { result ≡ Err NoMemory → wire.new ≡ wire.old }
         ensures grown { Grows (W.faults wire.old) (W.faults wire.new) }
     {
         let shared = match &mut self.held {

@@ -1,7 +1,7 @@
 //! The extents of a stream, and how blocks are tried on them.
 ghost use Rattle.std.specs.Prelude.{◌≡◌};
 
-use crate::faults::{AppendFault, SettleFault, Settled};
+use crate::faults::{AppendFault, Settled, StoredFault};
 use crate::handle::{Handle, share_all};
 use crate::spares::Spares;
 use extent_node::Wire;
@@ -262,7 +262,7 @@ impl Parts {
     }
 
     /// Settles a doubt, if there is one.
-    pub fn settle<W: Wire>(&mut self, wire: &mut W) -> Result<Settled, SettleFault>
+    pub fn settle<W: Wire>(&mut self, wire: &mut W) -> Result<Settled, StoredFault>
         requires whole { IsWhole self.old }
         ensures settled { IsSettled result (extents_of self.old) self.old.last.extent
             (extents_of self.new) self.new.last.extent }
@@ -281,12 +281,12 @@ impl Parts {
         match self.close_last(wire) {
             Ok(true) => Ok(Settled::Kept(place)),
             Ok(false) => Ok(Settled::Dropped),
-            Err(NoReplica) => Err(SettleFault::Busy),
+            Err(NoReplica) => Err(StoredFault::Busy),
         }
     }
 
     /// Seals the last extent if it holds a block or a doubt.
-    pub fn seal<W: Wire>(&mut self, wire: &mut W) -> Result<(), SettleFault>
+    pub fn seal<W: Wire>(&mut self, wire: &mut W) -> Result<(), StoredFault>
         requires whole { IsWhole self.old }
         ensures sealed { IsSealed result (extents_of self.old) self.old.last.extent
             (extents_of self.new) self.new.last.extent }
@@ -302,7 +302,7 @@ impl Parts {
         self.sealed.reserve(1)?;
         match self.close_last(wire) {
             Ok(_kept) => Ok(()),
-            Err(NoReplica) => Err(SettleFault::Busy),
+            Err(NoReplica) => Err(StoredFault::Busy),
         }
     }
 

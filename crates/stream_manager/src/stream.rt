@@ -1,7 +1,7 @@
 //! Streams.
 ghost use Rattle.std.specs.Prelude.{◌≡◌};
 
-use crate::faults::{AppendFault, RepairFault, SettleFault, Settled};
+use crate::faults::{AppendFault, RepairFault, Settled, StoredFault};
 use crate::handle::{Handle, share_at};
 use crate::parts::Parts;
 use crate::repair::repair_at;
@@ -82,7 +82,7 @@ impl Stream {
     /// Settles a doubt, if there is one: the block that is in doubt is kept or dropped.
     ///
     /// Busy: no node answered. NoMemory: no node was called. After both the stream is as it was, and the doubt stays.
-    pub fn settle<W: Wire>(&mut self, wire: &mut W) -> Result<Settled, SettleFault>
+    pub fn settle<W: Wire>(&mut self, wire: &mut W) -> Result<Settled, StoredFault>
         ensures settled { IsSettled result (laid self.old) self.old.last (laid self.new) self.new.last }
         ensures called { CallsSettle result (W.calls wire.old) (W.calls wire.new) }
         ensures counted { FailsSettle result (W.faults wire.old) (W.faults wire.new) }
@@ -96,7 +96,7 @@ impl Stream {
     /// nothing to seal.
     ///
     /// Busy: no node answered. NoMemory: no node was called. After both the stream is as it was.
-    pub fn seal<W: Wire>(&mut self, wire: &mut W) -> Result<(), SettleFault>
+    pub fn seal<W: Wire>(&mut self, wire: &mut W) -> Result<(), StoredFault>
         ensures sealed { IsSealed result (laid self.old) self.old.last (laid self.new) self.new.last }
         ensures called { CallsSeal result (length self.old.sealed) (length self.new.sealed) (W.calls wire.old) (W.calls wire.new) }
         ensures counted { FailsSeal result (W.faults wire.old) (W.faults wire.new) }

@@ -10,10 +10,11 @@ ghost use Rattle.streams_tests.specs.declared.partition_samples.Told.TheVariants
 use crate::partition_samples::{Told, change, is_next, keeps, log, next, settle, streams};
 use crate::sample_wires::{D, R, YES, script};
 use extent_node::{Delivery, Script};
-use partition_stream::{NewRows, Position, PutFault, Streams};
+use partition_stream::{NewRows, Position, Streams};
 use stamp_types::{Act, Change, ContainerRow};
 use std::alloc::Global;
 use std::process::Abort;
+use stream_manager::StoredFault;
 
 // The row of a container that was deleted by the last of so many changes.
 fn row(rt: &impl Abort, alloc: Global, name: &str, count: u64) -> Change
@@ -43,8 +44,8 @@ fn add(
     drop(row);
     match added {
         Ok(()) => Told::Done,
-        Err(PutFault::Busy) => Told::Busy,
-        Err(PutFault::NoMemory) => Told::NoMemory,
+        Err(StoredFault::Busy) => Told::Busy,
+        Err(StoredFault::NoMemory) => Told::NoMemory,
     }
 }
 

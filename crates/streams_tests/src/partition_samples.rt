@@ -15,11 +15,11 @@ use crate::sample_fields::text;
 use crate::sample_wires::script;
 use extent_node::Script;
 use extent_seal::ReadFault;
-use partition_stream::{LogFault, Part, Position, PutFault, Streams};
+use partition_stream::{Part, Position, Streams, TakeFault};
 use stamp_types::{Act, BlockId, Bytes, Change, Key, Pieces, PutBlock, Share};
 use std::alloc::Global;
 use std::process::Abort;
-use stream_manager::{SettleFault, Settled};
+use stream_manager::{Settled, StoredFault};
 
 /// What a call answered.
 #[derive(Clone, Copy, Debug, PartialEq, Eq)]
@@ -64,12 +64,13 @@ pub(crate) fn change(rt: &impl Abort, alloc: Global, name: &str) -> Change
     Change::new(key, Act::DeleteContainer).expect(rt, "a good change")
 }
 
-fn logged(answer: Result<u64, LogFault>) -> Told {
+/// The answer of a call that takes a change into a log or into rows.
+pub(crate) fn taken(answer: Result<(), TakeFault>) -> Told {
     match answer {
-        Ok(_length) => Told::Done,
-        Err(LogFault::Busy) => Told::Busy,
-        Err(LogFault::Doubt) => Told::Doubt,
-        Err(LogFault::NoMemory) => Told::NoMemory,
+        Ok(()) => Told::Done,
+        Err(TakeFault::Busy) => Told::Busy,
+        Err(TakeFault::Doubt) => Told::Doubt,
+        Err(TakeFault::NoMemory) => Told::NoMemory,
     }
 }
 
@@ -85,7 +86,7 @@ pub(crate) fn log_at(
     let change = change(rt, alloc, name);
     let answer = streams.log_change(&change, epoch, wire);
     drop(change);
-    logged(answer)
+    taken(answer.map(drop))
 }
 
 /// Logs the change that deletes the container of this name, with the epoch 0.
@@ -107,8 +108,8 @@ pub(crate) fn settle(streams: &mut Streams, wire: &mut Script) -> Told
         Ok(Settled::Clean) => Told::Clean,
         Ok(Settled::Kept(_)) => Told::Kept,
         Ok(Settled::Dropped) => Told::Dropped,
-        Err(SettleFault::Busy) => Told::Busy,
-        Err(SettleFault::NoMemory) => Told::NoMemory,
+        Err(StoredFault::Busy) => Told::Busy,
+        Err(StoredFault::NoMemory) => Told::NoMemory,
     }
 }
 
@@ -230,8 +231,8 @@ pub(crate) fn try_put(
     let content = Pieces::cut(alloc, body).expect(rt, "memory");
     match streams.put_data(&content, wire) {
         Ok(_placed) => Told::Done,
-        Err(PutFault::Busy) => Told::Busy,
-        Err(PutFault::NoMemory) => Told::NoMemory,
+        Err(StoredFault::Busy) => Told::Busy,
+        Err(StoredFault::NoMemory) => Told::NoMemory,
     }
 }
 

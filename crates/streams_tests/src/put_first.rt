@@ -6,19 +6,20 @@ ghost use Rattle.stream_manager.specs.Streams.{laid};
 ghost use Rattle.partition_stream.specs.Contents.{AreStored};
 
 use extent_node::Wire;
-use partition_stream::{LogFault, PutFault, Streams};
+use partition_stream::{Streams, TakeFault};
 use stamp_types::{Change, Pieces};
+use stream_manager::StoredFault;
 
 // Puts the content into the data.
-fn put<W: Wire>(streams: &mut Streams, content: &Pieces, wire: &mut W) -> Result<Pieces, LogFault>
+fn put<W: Wire>(streams: &mut Streams, content: &Pieces, wire: &mut W) -> Result<Pieces, TakeFault>
     requires { IsTrue (is_held content.now) }
     ensures stored { IfOk result (λ ps. AreStored (laid streams.new.blobs) ps) }
     ensures lengths { IfOk result (λ ps. map piece_len ps ≡ map piece_len content.now) }
 {
     match streams.put_data(content, wire) {
         Ok(placed) => Ok(placed),
-        Err(PutFault::Busy) => Err(LogFault::Busy),
-        Err(PutFault::NoMemory) => Err(LogFault::NoMemory),
+        Err(StoredFault::Busy) => Err(TakeFault::Busy),
+        Err(StoredFault::NoMemory) => Err(TakeFault::NoMemory),
     }
 }
 
@@ -29,7 +30,7 @@ fn log_placed<W: Wire>(
     change: Change,
     placed: Pieces,
     wire: &mut W,
-) -> Result<u64, LogFault>
+) -> Result<u64, TakeFault>
     requires stored { AreStored (laid streams.old.blobs) placed }
     requires same { IsSomeAnd (content_of change.act) (λ ps. map piece_len ps ≡ map piece_len placed) }
 {
@@ -46,7 +47,7 @@ pub(crate) fn put_and_log<W: Wire>(
     change: Change,
     content: &Pieces,
     wire: &mut W,
-) -> Result<u64, LogFault>
+) -> Result<u64, TakeFault>
     requires held { IsTrue (is_held content.now) }
     requires same { IsSomeAnd (content_of change.act) (λ ps. map piece_len ps ≡ map piece_len content.now) }
 {

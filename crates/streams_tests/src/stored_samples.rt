@@ -11,7 +11,7 @@ ghost use Rattle.partition_stream.specs.Contents.{IsStored};
 ghost use Rattle.stored_rows.specs.Ranges.{covers};
 ghost use Rattle.stored_rows.specs.States.{doubt_of, pieces_of};
 
-use crate::partition_samples::Told;
+use crate::partition_samples::{Told, taken};
 use crate::sample_acts::{create_container, put_hello};
 use crate::sample_fields::text;
 use crate::sample_wires::script;
@@ -21,7 +21,7 @@ use row_trees::Found;
 use stamp_types::{Act, Change, Key, Piece};
 use std::alloc::Global;
 use std::process::Abort;
-use stored_rows::{Ended, KeyRange, StoredFault, StoredRows, TakeFault};
+use stored_rows::{Ended, KeyRange, StoredFault, StoredRows};
 
 /// What rows have of a container. The first number is its count: how many changes it has taken.
 #[derive(Clone, Copy, Debug, PartialEq, Eq)]
@@ -103,15 +103,6 @@ fn test_change(rt: &impl Abort, stored: &StoredRows, change: &Change)
     let fits = stored.fits(change).expect(rt, "memory");
     assert!(rt; fits);
     assert!(rt; !stored.has_doubt());
-}
-
-fn taken(answer: Result<(), TakeFault>) -> Told {
-    match answer {
-        Ok(()) => Told::Done,
-        Err(TakeFault::Busy) => Told::Busy,
-        Err(TakeFault::Doubt) => Told::Doubt,
-        Err(TakeFault::NoMemory) => Told::NoMemory,
-    }
 }
 
 /// Takes a change with the epoch 7.

@@ -7,7 +7,7 @@ use extent_seal::ReadFault;
 use stamp_values::{Place, Share};
 use std::alloc::Global;
 use std::process::Abort;
-use stream_manager::{AppendFault, Handle, SettleFault, Settled, Stream};
+use stream_manager::{AppendFault, Handle, Settled, StoredFault, Stream};
 
 /// What a call answered.
 #[derive(Clone, Copy, Debug, PartialEq, Eq)]
@@ -54,8 +54,8 @@ pub(crate) fn settle(stream: &mut Stream, wire: &mut Script) -> Told {
         Ok(Settled::Clean) => Told::Clean,
         Ok(Settled::Kept(place)) => at(place),
         Ok(Settled::Dropped) => Told::Dropped,
-        Err(SettleFault::Busy) => Told::Busy,
-        Err(SettleFault::NoMemory) => Told::NoMemory,
+        Err(StoredFault::Busy) => Told::Busy,
+        Err(StoredFault::NoMemory) => Told::NoMemory,
     }
 }
 

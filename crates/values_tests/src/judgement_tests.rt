@@ -69,7 +69,7 @@ fn verdict_with(
     alloc: Global,
     keys: &Keys,
     request: &Request,
-    judged: Option<&Judged>,
+    judged: Option<&Judged<'_>>,
 ) -> Verdict
     requires { IsOfAsk (option_copied judged) request.now.ask }
 {

@@ -9,13 +9,12 @@ ghost use Rattle.served_slots.specs.Rotations.{HasLastEpoch, RotatesSlot, Rotate
 ghost use Rattle.served_slots.specs.Slots.{IsLeftBy};
 
 use crate::locked::LockedSlot;
-use crate::next_pairs::longer_in;
+use crate::next_pairs::{KeyChange, longer_in};
 use crate::taking::take_and_enter;
-use access_rules::{Keys, KeysFault, Which};
-use hmac_sign::SigningKey;
+use access_rules::{Keys, KeysFault};
 use served_history::{Account, LogFront, SlotHistory};
 use slot_state::{Longer, ProvedHistories, RotateFault};
-use stamp_types::{Key, Text};
+use stamp_types::Key;
 use std::alloc::Global;
 use std::sync::{Arc, Mutex};
 use stored_slot::StoredSlot;
@@ -30,16 +29,14 @@ fn longer_of<A: Account>(
     to: &Option<Key>,
     known: &LogFront<A>,
     alloc: Global,
-    account: &Text,
-    which: Which,
-    key: &SigningKey,
+    change: &KeyChange<'_>,
     made: Option<&Arc<Keys>>,
 ) -> Result<Option<Longer>, KeysFault>
     requires left { IfSome history.now (λ own. IsLeftBy own to.now slot.now) }
-    ensures made { IfOk result (λ found. IfSome found (λ longer. HasNextPair slot.now.pairs account.now which key.now longer.epoch (arc_value longer.pairs))) }
+    ensures made { IfOk result (λ found. IfSome found (λ longer. HasNextPair slot.now.pairs change.now.account.now change.now.which change.now.key.now longer.epoch (arc_value longer.pairs))) }
     ensures room { IfOk result (λ found. IfSome found (λ longer. IfSome history.now (λ own. count_of own.slot own.log < 2 ^ 62))) }
     ensures passed { IfOk result (λ found. found ≡ None → history.now ≡ None) }
-    ensures last { result ≡ Err Last → HasLastEpoch known.now account.now }
+    ensures last { result ≡ Err Last → HasLastEpoch known.now change.now.account.now }
 {
     let _end = to;
     let Some(own) = history else {
@@ -50,7 +47,7 @@ fn longer_of<A: Account>(
     }
     let mut both = own.front();
     both.learn(known);
-    match longer_in(slot, alloc, account, which, key, made) {
+    match longer_in(slot, alloc, change, made) {
         Ok(longer) => Ok(Some(longer)),
         Err(RotateFault::Last) => Err(KeysFault::Last),
         Err(RotateFault::NoAccount | RotateFault::NoMemory) => Err(KeysFault::NoMemory),
@@ -63,20 +60,18 @@ fn enter_longer<A: Account>(
     history: &mut Option<SlotHistory<A>>,
     to: &Option<Key>,
     known: &mut LogFront<A>,
-    account: &Text,
-    which: Which,
-    key: &SigningKey,
+    change: &KeyChange<'_>,
     longer: Option<Longer>,
     told: Option<u64>,
 ) -> Option<u64>
     requires left { IfSome history.old (λ own. IsLeftBy own to.now slot.old) }
-    requires next { IfSome longer (λ found. HasNextPair slot.old.pairs account.now which key.now found.epoch (arc_value found.pairs)) }
+    requires next { IfSome longer (λ found. HasNextPair slot.old.pairs change.now.account.now change.now.which change.now.key.now found.epoch (arc_value found.pairs)) }
     requires room { IfSome longer (λ found. IfSome history.old (λ own. count_of own.slot own.log < 2 ^ 62)) }
     requires passed { longer ≡ None → history.old ≡ None }
     ensures left { IfSome history.new (λ own. IsLeftBy own to.now slot.new) }
-    ensures slot { RotatesSlot history.old known.old account.now which key.now known.new history.new }
-    ensures slots { (start : List Entry) → RotatesSlots start account.now which key.now told known.old
-        → RotatesSlots start account.now which key.now result known.new }
+    ensures slot { RotatesSlot history.old known.old change.now.account.now change.now.which change.now.key.now known.new history.new }
+    ensures slots { (start : List Entry) → RotatesSlots start change.now.account.now change.now.which change.now.key.now told known.old
+        → RotatesSlots start change.now.account.now change.now.which change.now.key.now result known.new }
 {
     let Some(longer) = longer else {
         return told;
@@ -85,7 +80,7 @@ fn enter_longer<A: Account>(
         drop(longer);
         return told;
     };
-    match take_and_enter(slot, own, to, known, account, which, key, longer) {
+    match take_and_enter(slot, own, to, known, change, longer) {
         Some(epoch) => Some(epoch),
         None => {
             drop(history.take());
@@ -105,15 +100,13 @@ pub(crate) fn rotate_from<A: Account>(
     rest: &mut [Mutex<LockedSlot<A>>],
     alloc: Global,
     known: &mut LogFront<A>,
-    account: &Text,
-    which: Which,
-    key: &SigningKey,
+    change: &KeyChange<'_>,
     made: Option<&Arc<Keys>>,
 ) -> Result<Option<u64>, KeysFault>
-    ensures rotated { IfOk result (λ told. RotatesSlots known.old account.now which key.now told known.new) }
-    ensures slot { OnOk result ((mid : List Entry) × RotatesSlot locked.old mid account.now which key.now known.new locked.new) }
+    ensures rotated { IfOk result (λ told. RotatesSlots known.old change.now.account.now change.now.which change.now.key.now told known.new) }
+    ensures slot { OnOk result ((mid : List Entry) × RotatesSlot locked.old mid change.now.account.now change.now.which change.now.key.now known.new locked.new) }
     ensures refused { OnErr result ((known.new ≡ known.old) × (locked.new ≡ locked.old)) }
-    ensures last { result ≡ Err Last → HasLastEpoch known.old account.now }
+    ensures last { result ≡ Err Last → HasLastEpoch known.old change.now.account.now }
 {
     let longer = longer_of(
         &locked.slot,
@@ -121,9 +114,7 @@ pub(crate) fn rotate_from<A: Account>(
         &locked.to,
         known,
         alloc,
-        account,
-        which,
-        key,
+        change,
         made,
     )?;
     let Some((next, others)) = rest.split_first_mut() else {
@@ -132,31 +123,18 @@ pub(crate) fn rotate_from<A: Account>(
             &mut locked.history,
             &locked.to,
             known,
-            account,
-            which,
-            key,
+            change,
             longer,
             None,
         ));
     };
-    let told = rotate_from(
-        next.get_mut(),
-        others,
-        alloc,
-        known,
-        account,
-        which,
-        key,
-        made,
-    )?;
+    let told = rotate_from(next.get_mut(), others, alloc, known, change, made)?;
     Ok(enter_longer(
         &mut locked.slot,
         &mut locked.history,
         &locked.to,
         known,
-        account,
-        which,
-        key,
+        change,
         longer,
         told,
     ))

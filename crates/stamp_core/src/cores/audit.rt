@@ -12,7 +12,8 @@ ghost use Rattle.stamp_core.specs.CoreAudits.{CoreAudits};
 ghost use Rattle.stamp_core.specs.CoreSteps.{AnswersSteadily, told_answer, has_faults};
 
 use super::Core;
-use crate::auditing::{AuditedReply, audit_one, entry_told};
+use crate::auditing::{AuditedReply, entry_told};
+use crate::serving::{Call, serve_one};
 use crate::telling::tell_now;
 use extent_node::Wire;
 use policy_book::Judged;
@@ -23,6 +24,35 @@ use std::alloc::Global;
 use stored_slot::Audited;
 
 impl<H: Histories> Core<H> {
+    /// One Serve step whose reply is told at once, with the entry of the request in the audit book if one is asked for.
+    pub(crate) fn answer_by<W: Wire>(
+        &mut self,
+        alloc: Global,
+        call: &Call<'_>,
+        reading: Reading,
+        wire: &mut W,
+    ) -> AuditedReply
+        requires judged { IsOfAsk (option_copied call.now.judged) call.now.request.now.ask }
+        requires read { reading ≡ reading_of call.now.request.now }
+        ensures taken { (s : State) → StandsFor self.old s
+            → (s' : State) × (Takes s (Serve call.now.request.now call.now.moment) (has_faults (W.faults wire.old) (W.faults wire.new)) (told_answer result.reply) s' × StandsFor self.new s') }
+        ensures steady { all_faults (W.faults wire.new) ≡ all_faults (W.faults wire.old) → AnswersSteadily self.old call.now.request.now call.now.moment result.reply self.new }
+        ensures audited { CoreAudits self.old call.now.request.now call.now.moment result.reply result.entry }
+        ensures grown { Grows (W.faults wire.old) (W.faults wire.new) }
+    {
+        let Audited { answer, entry } = serve_one(
+            &mut self.slots,
+            &self.spans,
+            alloc,
+            call,
+            reading,
+            wire,
+        );
+        let reply = tell_now(alloc, answer, wire);
+        let entry = entry_told(&reply, entry);
+        AuditedReply { reply, entry }
+    }
+
     /// One Serve step, as `answer` makes it, with the entry of the request in the audit book.
     ///
     /// The entry is what the slot of the request was before it: how many changes its container had taken, who might read the container, and
@@ -32,7 +62,7 @@ impl<H: Histories> Core<H> {
         &mut self,
         alloc: Global,
         request: &Request,
-        judged: Option<&Judged>,
+        judged: Option<&Judged<'_>>,
         reading: Reading,
         moment: Moment,
         wire: &mut W,
@@ -45,18 +75,12 @@ impl<H: Histories> Core<H> {
         ensures audited { CoreAudits self.old request.now moment result.reply result.entry }
         ensures grown { Grows (W.faults wire.old) (W.faults wire.new) }
     {
-        let Audited { answer, entry } = audit_one(
-            &mut self.slots,
-            &self.spans,
-            alloc,
+        let call = Call {
             request,
             judged,
-            reading,
             moment,
-            wire,
-        );
-        let reply = tell_now(alloc, answer, wire);
-        let entry = entry_told(&reply, entry);
-        AuditedReply { reply, entry }
+            is_audited: true,
+        };
+        self.answer_by(alloc, &call, reading, wire)
     }
 }

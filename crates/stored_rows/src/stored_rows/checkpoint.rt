@@ -2,10 +2,10 @@
 ghost use Rattle.std.specs.Prelude.{◌≡◌};
 
 use super::StoredRows;
-use crate::faults::StoredFault;
 use checkpoint_rows::checkpoint_rows;
 use extent_node::Wire;
 use partition_stream::Replaced;
+use stream_manager::StoredFault;
 
 impl StoredRows {
     ghost use Rattle.std.specs.Prelude.{◌≡◌, true, None, IfOk, OnOk, OnErr};
@@ -42,7 +42,7 @@ impl StoredRows {
                 self.waste = self.waste.after_checkpoint();
                 Ok(replaced)
             }
-            Err(fault) => Err(StoredFault::from(fault)),
+            Err(fault) => Err(fault),
         }
     }
 }

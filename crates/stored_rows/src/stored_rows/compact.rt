@@ -3,9 +3,9 @@ ghost use Rattle.std.specs.Prelude.{◌≡◌};
 
 use super::StoredRows;
 use crate::compacted::{Compacted, note_moved};
-use crate::faults::StoredFault;
 use extent_node::Wire;
 use partition_stream::{Replaced, Streams};
+use stream_manager::StoredFault;
 
 impl StoredRows {
     ghost use Rattle.std.specs.Prelude.{◌≡◌, ◌⊎◌, true, None, IfOk, OnOk, OnErr};

@@ -3,7 +3,6 @@ ghost use Rattle.stored_rows.specs.Counting.{FailsStored};
 ghost use Rattle.stored_slot.specs.Settled.{LeavesSettled};
 
 use super::StoredSlot;
-use crate::compacting::compacting;
 use extent_node::Wire;
 use slot_state::Histories;
 use std::alloc::Global;
@@ -24,25 +23,18 @@ impl<H: Histories> StoredSlot<H> {
         ensures left { LeavesSettled result self.old self.new }
         ensures counted { FailsStored result (W.faults wire.old) (W.faults wire.new) }
     {
-        compacting(
-            &mut self.histories,
-            &mut self.stored,
-            &mut self.doubt,
-            &self.pairs,
-            alloc,
-            wire,
-        )
+        self.parts.compact(alloc, wire)
     }
 
     /// Whether the streams have more bytes to which no container refers than bytes that exist and 16 MiB, so that a compaction is worth its
     /// time. No answer depends on it.
     pub fn is_wasteful(&self) -> bool {
-        self.stored.is_wasteful()
+        self.parts.stored.is_wasteful()
     }
 
     /// Whether the streams have more than 1 MiB and a sixteenth of what exists to which no container refers, so that a compaction is worth its
     /// time if memory is short. No answer depends on it.
     pub fn has_garbage(&self) -> bool {
-        self.stored.has_garbage()
+        self.parts.stored.has_garbage()
     }
 }

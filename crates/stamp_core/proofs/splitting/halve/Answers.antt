@@ -1,5 +1,5 @@
 use Rattle.std.proofs.Common.{◌∙◌}
-use Rattle.stored_rows.specs.declared.faults.StoredFault.TheVariants as stored
+use Rattle.stream_manager.specs.declared.faults.StoredFault.TheVariants as stored
 use Rattle.stamp_core.proofs.SplitLemmas.{not_halved}
 use Rattle.stamp_core.proofs.splitting.halve.Goals as goal
 

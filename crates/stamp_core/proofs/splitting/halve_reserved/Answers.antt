@@ -1,7 +1,7 @@
 use Rattle.std.proofs.Common.{◌≡◌, ◌+◌, ℕ, suc, ap, ◌∙◌, arith}
 use Rattle.std.specs.Prelude.{slice_set}
 use Rattle.std.specs.List.{insert}
-use Rattle.stored_rows.specs.declared.faults.StoredFault.{StoredFault}
+use Rattle.stream_manager.specs.declared.faults.StoredFault.{StoredFault}
 use Rattle.stamp_core.proofs.SplitLemmas.{are_halved, half_fails}
 use Rattle.stamp_core.proofs.splitting.halve_reserved.Goals as goal
 

@@ -1,5 +1,5 @@
 use Rattle.std.proofs.Common.{subst, sym}
-use Rattle.stored_rows.specs.declared.faults.StoredFault.{StoredFault}
+use Rattle.stream_manager.specs.declared.faults.StoredFault.{StoredFault}
 use Rattle.stamp_core.specs.Ranges.{HaveSpans}
 use Rattle.stamp_core.proofs.RangeLemmas.{inside, within}
 use Rattle.stamp_core.proofs.SplitLemmas.{one_point_more, spans_back, spans_made, split_failed}

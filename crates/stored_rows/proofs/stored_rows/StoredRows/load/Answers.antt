@@ -1,8 +1,8 @@
 use Rattle.std.proofs.Common.{◌≡◌, OnErr, OnOk, Result, true, sym, subst}
 use Rattle.std.specs.Option.{is_some}
+use Rattle.stream_manager.specs.declared.faults.StoredFault.{StoredFault}
 use Rattle.stored_rows.specs.Counting.{FailsStored}
 use Rattle.stored_rows.specs.States.{Stored}
-use Rattle.stored_rows.specs.declared.faults.StoredFault.{StoredFault}
 use Rattle.stored_rows.proofs.NotedLemmas.{made_fails, made_loaded, made_no_rows, made_rows, stored_at}
 use Rattle.stored_rows.proofs.stored_rows.StoredRows.load.Goals as goal
 

@@ -1,11 +1,11 @@
 use Rattle.std.proofs.Common.{◌≡◌, None, IfOk, OnErr, OnOk, Result, sym, subst}
 use Rattle.std.specs.Option.{is_some}
+use Rattle.stream_manager.specs.declared.faults.StoredFault.{StoredFault}
 use Rattle.partition_stream.specs.Compactions.{AreRows}
 use Rattle.partition_stream.specs.Streams.{ThreeStreams, logged}
 use Rattle.stored_rows.specs.Compactions.{IsMoved}
 use Rattle.stored_rows.specs.Counting.{FailsStored}
 use Rattle.stored_rows.specs.States.{Stored, doubt_of}
-use Rattle.stored_rows.specs.declared.faults.StoredFault.{StoredFault}
 use Rattle.stored_rows.proofs.CompactionLemmas.{moved_fails, moved_loaded, moved_means, moved_old, moved_same}
 use Rattle.stored_rows.proofs.LimitLemmas.{moved_limit}
 use Rattle.stored_rows.proofs.NotedLemmas.{stored_at}

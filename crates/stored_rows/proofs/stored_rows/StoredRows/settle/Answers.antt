@@ -1,9 +1,9 @@
 use Rattle.std.proofs.Common.{Result, sym, subst}
 use Rattle.std.specs.Option.{is_some}
+use Rattle.stream_manager.specs.declared.faults.StoredFault.{StoredFault}
 use Rattle.stored_rows.specs.Counting.{FailsStored}
 use Rattle.stored_rows.specs.States.{SettlesRows, Stored}
 use Rattle.stored_rows.specs.declared.faults.Ended.{Ended}
-use Rattle.stored_rows.specs.declared.faults.StoredFault.{StoredFault}
 use Rattle.stored_rows.proofs.LimitLemmas.{limit_kept, settled_limits}
 use Rattle.stored_rows.proofs.NotedLemmas.{settled_fails, settled_fits, settled_loaded, settled_rows}
 use Rattle.stored_rows.proofs.stored_rows.StoredRows.settle.Goals as goal

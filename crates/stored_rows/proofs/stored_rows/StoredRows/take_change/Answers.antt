@@ -2,12 +2,12 @@ use Rattle.std.proofs.Common.{◌≡◌, true, None, IfSome, Result, sym, subst}
 use Rattle.std.specs.Option.{is_some}
 use Rattle.partition_stream.specs.Meanings.{held_of}
 use Rattle.partition_stream.specs.Streams.{logged}
+use Rattle.partition_stream.specs.declared.faults.TakeFault.{TakeFault}
 use Rattle.row_trees.specs.ListedBlocks.{AreFoundFor}
 use Rattle.stored_rows.specs.Counting.{FailsTake}
 use Rattle.stored_rows.specs.Fitting.{Fits}
 use Rattle.stored_rows.specs.Ranges.{covers}
 use Rattle.stored_rows.specs.States.{AreFoundIn, IsTaken, Stored, doubt_of, pieces_of}
-use Rattle.stored_rows.specs.declared.faults.TakeFault.{TakeFault}
 use Rattle.stored_rows.proofs.LimitLemmas.{limit_kept}
 use Rattle.stored_rows.proofs.NotedLemmas.{logged_fits, logged_found, noted_fails, noted_loaded, noted_taken}
 use Rattle.stored_rows.proofs.stored_rows.StoredRows.take_change.Goals as goal

@@ -1,13 +1,8 @@
 use Rattle.std.proofs.Common.{subst}
-use Rattle.std.specs.Arc.{arc_value}
-use Rattle.slot_state.specs.Pairs.{Pairs}
 use Rattle.slot_state.specs.Slots.{SlotState}
-use Rattle.stored_slot.specs.Meanings.{slot_with}
+use Rattle.stored_slot.specs.Parts.{slot_of}
 use Rattle.stored_slot.specs.Settled.{LeavesSettled}
 use Rattle.stored_slot.proofs.stored_slot.StoredSlot.checkpoint.Goals as goal
 
 pub returns-clause-left : goal.returns-clause-left
-returns-clause-left g c =
-    let held = g.H.Histories.held in
-    subst (λ (s : SlotState). LeavesSettled c.checkpointing.result s (slot_with (arc_value c.self.inside.pairs) (held c.checkpointing.new.histories) c.checkpointing.new.stored c.checkpointing.new.doubt)) c.self.view_is
-    (subst (λ (p : Pairs). LeavesSettled c.checkpointing.result (slot_with p (held c.self.inside.histories) c.self.inside.stored c.self.inside.doubt) (slot_with p (held c.checkpointing.new.histories) c.checkpointing.new.stored c.checkpointing.new.doubt)) c.deref.ensures c.checkpointing.ensures.left)
+returns-clause-left g c = subst (λ (s : SlotState). LeavesSettled c.checkpoint.result s (slot_of g.H.Histories.held c.checkpoint.new.self)) c.self.view_is c.checkpoint.ensures.left

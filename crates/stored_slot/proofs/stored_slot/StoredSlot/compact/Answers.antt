@@ -1,13 +1,8 @@
 use Rattle.std.proofs.Common.{subst}
-use Rattle.std.specs.Arc.{arc_value}
-use Rattle.slot_state.specs.Pairs.{Pairs}
 use Rattle.slot_state.specs.Slots.{SlotState}
-use Rattle.stored_slot.specs.Meanings.{slot_with}
+use Rattle.stored_slot.specs.Parts.{slot_of}
 use Rattle.stored_slot.specs.Settled.{LeavesSettled}
 use Rattle.stored_slot.proofs.stored_slot.StoredSlot.compact.Goals as goal
 
 pub returns-clause-left : goal.returns-clause-left
-returns-clause-left g c =
-    let held = g.H.Histories.held in
-    subst (λ (s : SlotState). LeavesSettled c.compacting.result s (slot_with (arc_value c.self.inside.pairs) (held c.compacting.new.histories) c.compacting.new.stored c.compacting.new.doubt)) c.self.view_is
-    (subst (λ (p : Pairs). LeavesSettled c.compacting.result (slot_with p (held c.self.inside.histories) c.self.inside.stored c.self.inside.doubt) (slot_with p (held c.compacting.new.histories) c.compacting.new.stored c.compacting.new.doubt)) c.deref.ensures c.compacting.ensures.left)
+returns-clause-left g c = subst (λ (s : SlotState). LeavesSettled c.compact.result s (slot_of g.H.Histories.held c.compact.new.self)) c.self.view_is c.compact.ensures.left
