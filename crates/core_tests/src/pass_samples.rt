@@ -6,7 +6,7 @@ use crate::stored_samples::{has_container, reply_of, rows};
 use access_rules::Keys;
 use extent_node::{Delivery, Script};
 use http_front::Service;
-use slot_pass::{AfterFault, Pass, serve_after};
+use slot_pass::{AfterCall, AfterFault, Pass, serve_after};
 use slot_state::{AccountPairs, KeptHistories};
 use stamp_types::{Moment, Reply, Request};
 use std::alloc::{AllocError, Global};
@@ -42,16 +42,13 @@ impl Service for Passing {
         if !has_container(&self.slot, &request) || !request.ask().key.same(self.pass.key()) {
             return Err(AllocError);
         }
-        match serve_after(
-            &mut self.slot,
-            alloc,
-            &mut self.pass,
-            &request,
-            None,
+        let call = AfterCall {
+            request: &request,
+            judged: None,
             moment,
-            &mut self.wire,
-            false,
-        ) {
+            is_audited: false,
+        };
+        match serve_after(&mut self.slot, alloc, &mut self.pass, &call, &mut self.wire) {
             Ok(audited) => reply_of(audited.answer, &mut self.wire),
             Err(fault) => {
                 self.fault = Some(fault);

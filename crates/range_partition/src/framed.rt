@@ -36,6 +36,14 @@ pub enum FramedDecision {
     Allowed(FramedAnswer, Option<Change>, FoundBlocks),
 }
 
+/// A request that is decided at a moment. Its signature may have been judged before.
+#[derive(Drop)]
+pub struct JudgedRequest<'a> {
+    pub request: &'a Request,
+    pub judged: Option<&'a Judged<'a>>,
+    pub moment: Moment,
+}
+
 // The refusal by a rule of permission.
 fn access_refusal(rule: Rule) -> Refusal
     ensures { result ≡ refusals.access_refusal rule }
@@ -53,17 +61,22 @@ fn access_refusal(rule: Rule) -> Refusal
 fn permission(
     alloc: Global,
     keys: Option<&Keys>,
-    judged: Option<&Judged<'_>>,
+    asked: &JudgedRequest<'_>,
     target: &Target<'_>,
-    request: &Request,
-    moment: Moment,
 ) -> Result<Verdict, AllocError>
-    requires { IsOfAsk (option_copied judged) request.now.ask }
+    requires { IsOfAsk (option_copied asked.now.judged) asked.now.request.now.ask }
     ensures { IfOk result (λ verdict. verdict
-        ≡ verdict_of (option_copied keys.entry) (acl_of target.now.container) request.now.ask
-        moment) }
+        ≡ verdict_of (option_copied keys.entry) (acl_of target.now.container) asked.now.request.now.ask
+        asked.now.moment) }
 {
-    let permission = verdict_by(alloc, keys, target.container.acl(), request, moment, judged)?;
+    let permission = verdict_by(
+        alloc,
+        keys,
+        target.container.acl(),
+        asked.request,
+        asked.moment,
+        asked.judged,
+    )?;
     Ok(permission)
 }
 
@@ -72,19 +85,17 @@ fn permission(
 fn answer_found(
     alloc: Global,
     allowed: &Allowed<'_>,
-    request: &Request,
-    judged: Option<&Judged<'_>>,
-    moment: Moment,
+    asked: &JudgedRequest<'_>,
 ) -> Result<FramedAnswer, AllocError>
-    requires judged { IsOfAsk (option_copied judged) request.now.ask }
-    requires allowed { IsAllowed allowed.now request.now }
-    requires names { lists_names request.now.ask.op ≡ false }
+    requires judged { IsOfAsk (option_copied asked.now.judged) asked.now.request.now.ask }
+    requires allowed { IsAllowed allowed.now asked.now.request.now }
+    requires names { lists_names asked.now.request.now.ask.op ≡ false }
     ensures found { IfOk result (λ answer.
-        answer ≡ found_answer allowed.now.target.container request.now moment) }
+        answer ≡ found_answer allowed.now.target.container asked.now.request.now asked.now.moment) }
     ensures sent { IfOk result (λ answer. CanBeSent answer) }
 {
-    let replaced = replacements(request.ask(), judged);
-    let answer = allowed.reply(alloc, request, moment, &replaced)?;
+    let replaced = replacements(asked.request.ask(), asked.judged);
+    let answer = allowed.reply(alloc, asked.request, asked.moment, &replaced)?;
     Ok(answer)
 }
 
@@ -112,26 +123,24 @@ fn answer(
     alloc: Global,
     listed: &Listed<'_>,
     allowed: &Allowed<'_>,
-    request: &Request,
-    judged: Option<&Judged<'_>>,
-    moment: Moment,
+    asked: &JudgedRequest<'_>,
 ) -> Result<FramedAnswer, AllocError>
-    requires judged { IsOfAsk (option_copied judged) request.now.ask }
-    requires allowed { IsAllowed allowed.now request.now }
+    requires judged { IsOfAsk (option_copied asked.now.judged) asked.now.request.now.ask }
+    requires allowed { IsAllowed allowed.now asked.now.request.now }
     ensures answered { IfOk result (λ answer. answer ≡ row_answer listed.now.rows.now
-        allowed.now.target.container request.now moment (option_copied listed.now.bound)) }
+        allowed.now.target.container asked.now.request.now asked.now.moment (option_copied listed.now.bound)) }
     ensures sent { IfOk result (λ answer. CanBeSent answer) }
 {
-    match request.ask().op {
+    match asked.request.ask().op {
         Op::ListContainers => {
-            let frame = container_list_reply(alloc, listed.rows, request, listed.bound)?;
+            let frame = container_list_reply(alloc, listed.rows, asked.request, listed.bound)?;
             Ok(whole(alloc, frame))
         }
         Op::ListBlobs => {
-            let frame = blob_list_reply(alloc, &allowed.target.container, request)?;
+            let frame = blob_list_reply(alloc, &allowed.target.container, asked.request)?;
             Ok(whole(alloc, frame))
         }
-        _ => answer_found(alloc, allowed, request, judged, moment),
+        _ => answer_found(alloc, allowed, asked),
     }
 }
 
@@ -161,29 +170,27 @@ fn answered(
     alloc: Global,
     listed: &Listed<'_>,
     allowed: Allowed<'_>,
-    request: &Request,
-    judged: Option<&Judged<'_>>,
+    asked: &JudgedRequest<'_>,
     reading: Reading,
-    moment: Moment,
 ) -> Result<FramedDecision, AllocError>
-    requires judged { IsOfAsk (option_copied judged) request.now.ask }
-    requires allowed { IsAllowed allowed request.now }
-    requires read { reading ≡ reading_of request.now }
+    requires judged { IsOfAsk (option_copied asked.now.judged) asked.now.request.now.ask }
+    requires allowed { IsAllowed allowed asked.now.request.now }
+    requires read { reading ≡ reading_of asked.now.request.now }
     ensures given { IfOk result (λ given. given
-        ≡ framed.Allowed (row_answer listed.now.rows.now allowed.entry.target.container request.now
-        moment (option_copied listed.now.bound))
-        (change_of (sizes_found allowed.entry.target.container) request.now moment)
+        ≡ framed.Allowed (row_answer listed.now.rows.now allowed.entry.target.container asked.now.request.now
+        asked.now.moment (option_copied listed.now.bound))
+        (change_of (sizes_found allowed.entry.target.container) asked.now.request.now asked.now.moment)
         allowed.entry.found.blocks) }
     ensures sent { IfOk result (λ given. AnswerCanBeSent given) }
 {
-    let answer = match answer(alloc, listed, &allowed, request, judged, moment) {
+    let answer = match answer(alloc, listed, &allowed, asked) {
         Ok(answer) => answer,
         Err(fault) => {
             drop(reading);
             return Err(fault);
         }
     };
-    match change(alloc, &allowed, request, reading, moment) {
+    match change(alloc, &allowed, asked.request, reading, asked.moment) {
         Ok(change) => Ok(FramedDecision::Allowed(answer, change, allowed.found.blocks)),
         Err(fault) => {
             drop(answer);
@@ -198,57 +205,51 @@ fn permitted(
     alloc: Global,
     listed: &Listed<'_>,
     target: Target<'_>,
-    request: &Request,
-    judged: Option<&Judged<'_>>,
+    asked: &JudgedRequest<'_>,
     reading: Reading,
-    moment: Moment,
 ) -> Result<FramedDecision, AllocError>
-    requires judged { IsOfAsk (option_copied judged) request.now.ask }
-    requires target { IsTarget target request.now.ask }
-    requires read { reading ≡ reading_of request.now }
+    requires judged { IsOfAsk (option_copied asked.now.judged) asked.now.request.now.ask }
+    requires target { IsTarget target asked.now.request.now.ask }
+    requires read { reading ≡ reading_of asked.now.request.now }
     ensures decided { IfOk result (λ decision. decision
-        ≡ framed_by (object_refusal (sizes_found target.entry.container) request.now)
-        (row_answer listed.now.rows.now target.entry.container request.now moment
+        ≡ framed_by (object_refusal (sizes_found target.entry.container) asked.now.request.now)
+        (row_answer listed.now.rows.now target.entry.container asked.now.request.now asked.now.moment
         (option_copied listed.now.bound))
-        (change_of (sizes_found target.entry.container) request.now moment)
-        (blocks_found target.entry.container request.now).blocks) }
+        (change_of (sizes_found target.entry.container) asked.now.request.now asked.now.moment)
+        (blocks_found target.entry.container asked.now.request.now).blocks) }
     ensures sent { IfOk result (λ decision. AnswerCanBeSent decision) }
 {
-    match target.judge(alloc, request, &reading)? {
+    match target.judge(alloc, asked.request, &reading)? {
         ObjectVerdict::Refused(refusal) => Ok(FramedDecision::Refused(refusal)),
-        ObjectVerdict::Allowed(allowed) => answered(
-            alloc, listed, allowed, request, judged, reading, moment,
-        ),
+        ObjectVerdict::Allowed(allowed) => answered(alloc, listed, allowed, asked, reading),
     }
 }
 
-/// Decides on a request as `decide` does, and reads no content: the spans of the answer say which bytes go out after the body of the
+/// Decides on a request, and reads no content: the spans of the answer say which bytes go out after the body of the
 /// frame. So the content of the rows may be anywhere, also at places in streams.
 ///
 /// `AllocError` if memory runs out.
 pub fn decide_frame<'a>(
     alloc: Global,
     keys: Option<&Keys>,
-    judged: Option<&Judged<'_>>,
+    asked: &JudgedRequest<'_>,
     rows: &'a Rows,
     target: Target<'_>,
-    request: &Request,
     reading: Reading,
-    moment: Moment,
     bound: Option<&'a Key>,
 ) -> Result<FramedDecision, AllocError>
-    requires judged { IsOfAsk (option_copied judged) request.now.ask }
-    requires target { IsTarget target request.now.ask }
-    requires read { reading ≡ reading_of request.now }
+    requires judged { IsOfAsk (option_copied asked.now.judged) asked.now.request.now.ask }
+    requires target { IsTarget target asked.now.request.now.ask }
+    requires read { reading ≡ reading_of asked.now.request.now }
     ensures decided { IfOk result (λ decision. decision ≡ framed_of (option_copied keys.entry) rows.now
-        target.entry.container request.now moment (option_copied bound.entry)) }
+        target.entry.container asked.now.request.now asked.now.moment (option_copied bound.entry)) }
     ensures sent { IfOk result (λ decision. AnswerCanBeSent decision) }
 {
-    match permission(alloc, keys, judged, &target, request, moment)? {
+    match permission(alloc, keys, asked, &target)? {
         Verdict::Deny(rule) => Ok(FramedDecision::Refused(access_refusal(rule))),
         Verdict::Allow(_way) => {
             let listed = Listed { rows, bound };
-            permitted(alloc, &listed, target, request, judged, reading, moment)
+            permitted(alloc, &listed, target, asked, reading)
         }
     }
 }

@@ -4,4 +4,4 @@
 mod framed;
 mod overrides;
 
-pub use framed::{FramedDecision, decide_frame};
+pub use framed::{FramedDecision, JudgedRequest, decide_frame};

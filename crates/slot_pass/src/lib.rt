@@ -17,4 +17,4 @@ pub use laws::{
 };
 pub use meeting::{MeetFault, Order, meet};
 pub use pass::Pass;
-pub use serving::serve_after;
+pub use serving::{AfterCall, serve_after};

@@ -28,14 +28,14 @@ use std::alloc::{AllocError, Global};
 use stored_slot::{Audited, StoredSlot};
 use tickets::Answer;
 
-// A request that a slot is asked to serve at a moment. Its signature may have been judged before.
+/// A request that a slot is asked to serve at a moment after a pass. Its signature may have been judged before.
 #[derive(Drop)]
-struct Call<'a> {
-    request: &'a Request,
-    judged: Option<&'a Judged<'a>>,
-    moment: Moment,
-    // Whether an entry of the audit book is made, if the request is let in.
-    is_audited: bool,
+pub struct AfterCall<'a> {
+    pub request: &'a Request,
+    pub judged: Option<&'a Judged<'a>>,
+    pub moment: Moment,
+    /// Whether an entry of the audit book is made, if the request is let in.
+    pub is_audited: bool,
 }
 
 // Whether what these parts of a pass show is a beginning of what the slot has. The pairs come first.
@@ -153,7 +153,7 @@ fn follow(slot: &StoredSlot<KeptHistories>, key: &Key, front: &mut Front, known:
 fn serve<W: Wire>(
     slot: &mut StoredSlot<KeptHistories>,
     alloc: Global,
-    call: &Call<'_>,
+    call: &AfterCall<'_>,
     wire: &mut W,
 ) -> Audited
     requires judged { IsOfAsk (option_copied call.now.judged) call.now.request.now.ask }
@@ -187,7 +187,7 @@ fn serve_ready<W: Wire>(
     key: &Key,
     front: &mut Front,
     alloc: Global,
-    call: &Call<'_>,
+    call: &AfterCall<'_>,
     wire: &mut W,
 ) -> Audited
     requires names { call.now.request.now.ask.key ≡ key.now }
@@ -216,7 +216,7 @@ fn after<W: Wire>(
     front: &mut Front,
     pairs: &mut PairList,
     alloc: Global,
-    call: &Call<'_>,
+    call: &AfterCall<'_>,
     wire: &mut W,
 ) -> Result<Audited, AfterFault>
     requires shown { IsShown pairs.old key.now front.old }
@@ -254,18 +254,15 @@ pub fn serve_after<W: Wire>(
     slot: &mut StoredSlot<KeptHistories>,
     alloc: Global,
     pass: &mut Pass,
-    request: &Request,
-    judged: Option<&Judged<'_>>,
-    moment: Moment,
+    call: &AfterCall<'_>,
     wire: &mut W,
-    is_audited: bool,
 ) -> Result<Audited, AfterFault>
-    requires names { request.now.ask.key ≡ pass.old.key }
-    requires judged { IsOfAsk (option_copied judged) request.now.ask }
-    requires covered { slots.covers slot.old (routed request.now) ≡ true }
-    ensures answered { IfOk result (λ a. ServesOrNot slot.old request.now moment (Faulted (W.faults wire.old) (W.faults wire.new)) a.answer slot.new) }
-    ensures audited { IfOk result (λ a. AuditsSettled slot.old request.now moment a.answer a.entry) }
-    ensures unasked { IfOk result (λ a. is_audited ≡ false → a.entry ≡ None) }
+    requires names { call.now.request.now.ask.key ≡ pass.old.key }
+    requires judged { IsOfAsk (option_copied call.now.judged) call.now.request.now.ask }
+    requires covered { slots.covers slot.old (routed call.now.request.now) ≡ true }
+    ensures answered { IfOk result (λ a. ServesOrNot slot.old call.now.request.now call.now.moment (Faulted (W.faults wire.old) (W.faults wire.new)) a.answer slot.new) }
+    ensures audited { IfOk result (λ a. AuditsSettled slot.old call.now.request.now call.now.moment a.answer a.entry) }
+    ensures unasked { IfOk result (λ a. call.now.is_audited ≡ false → a.entry ≡ None) }
     ensures begins { OnOk result (Begins pass.old slot.old) }
     ensures holds { OnOk result (pass.new ≡ pass_with pass.old slot.new) }
     ensures fault { IfErr result (λ fault. IsAfterFault pass.old slot.old fault) }
@@ -273,19 +270,13 @@ pub fn serve_after<W: Wire>(
     ensures untried { OnErr result (wire.new ≡ wire.old) }
     ensures grown { Grows (W.faults wire.old) (W.faults wire.new) }
 {
-    let call = Call {
-        request,
-        judged,
-        moment,
-        is_audited,
-    };
     after(
         slot,
         &pass.key,
         &mut pass.front,
         &mut pass.pairs,
         alloc,
-        &call,
+        call,
         wire,
     )
 }

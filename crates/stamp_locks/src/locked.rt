@@ -23,7 +23,7 @@ use crate::rotating::bring_up;
 use extent_node::Wire;
 use partition_map::{MapFault, Spans};
 use range_rows::Reading;
-use slot_pass::{AfterFault, Pass, serve_after};
+use slot_pass::{AfterCall, AfterFault, Pass, serve_after};
 use slot_state::{AccountPairs, KeptHistories, Ready};
 use stamp_types::Key;
 use std::alloc::{AllocError, Global};
@@ -173,16 +173,13 @@ impl<W: Wire + Drop> Locked<W> {
     {
         let Self { slot, wire } = self;
         let mut pass = pass;
-        match serve_after(
-            slot,
-            alloc,
-            &mut pass,
-            ready.request,
-            ready.judged.as_ref(),
-            ready.moment,
-            wire,
-            ready.is_audited,
-        ) {
+        let call = AfterCall {
+            request: ready.request,
+            judged: ready.judged.as_ref(),
+            moment: ready.moment,
+            is_audited: ready.is_audited,
+        };
+        match serve_after(slot, alloc, &mut pass, &call, wire) {
             Ok(audited) => Ok((audited, pass)),
             Err(fault) => Err((pass, fault)),
         }

@@ -14,7 +14,7 @@ ghost use Rattle.stored_slot.specs.Parts.{AreSettled, DecidesOn, slot_of};
 
 use crate::parts::SlotParts;
 use policy_book::Judged;
-use range_partition::{FramedDecision, decide_frame};
+use range_partition::{FramedDecision, JudgedRequest, decide_frame};
 use range_rows::{Reading, Target};
 use row_trees::Rows;
 use slot_state::Histories;
@@ -44,9 +44,12 @@ impl<H: Histories> SlotParts<H> {
         let target = Target::of(rows.find(&ask.key), ask);
         let pair = self.pairs.current(&ask.key.account);
         let bound = self.stored.end();
-        decide_frame(
-            alloc, pair, judged, rows, target, request, reading, moment, bound,
-        )
+        let asked = JudgedRequest {
+            request,
+            judged,
+            moment,
+        };
+        decide_frame(alloc, pair, &asked, rows, target, reading, bound)
     }
 
     /// What is decided on a request, from the rows of a slot that are loaded, as the histories have it.

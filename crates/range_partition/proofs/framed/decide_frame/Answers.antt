@@ -12,15 +12,15 @@ use Rattle.range_partition.proofs.framed.decide_frame.Goals as goal
 pub returns-in-Deny-clause-decided : goal.returns-in-Deny-clause-decided
 returns-in-Deny-clause-decided c =
     let p = c.args.target.container in
-    let q = c.args.request.now in
-    let t = c.args.moment in
+    let q = c.args.asked.now.request.now in
+    let t = c.args.asked.now.moment in
     let denied = refusal_denied (option_copied c.args.keys) p q t c.in-Deny.rule (search rules) in
     search rules ∙ ap (λ o. framed_by o (row_answer c.args.rows.now p q t (option_copied c.args.bound)) (change_of (sizes_found p) q t) (blocks_found p q).blocks) denied
 
 pub returns-in-Allow-clause-decided : goal.returns-in-Allow-clause-decided
 returns-in-Allow-clause-decided c =
     let p = c.args.target.container in
-    let q = c.args.request.now in
-    let t = c.args.moment in
+    let q = c.args.asked.now.request.now in
+    let t = c.args.asked.now.moment in
     let allowed = refusal_allowed (option_copied c.args.keys) p q t c.in-Allow._way (search rules) in
     subst (λ (o : Option Refusal). IfOk c.permitted.result (λ given. given ≡ framed_by o (row_answer c.args.rows.now p q t (option_copied c.args.bound)) (change_of (sizes_found p) q t) (blocks_found p q).blocks)) allowed c.permitted.ensures.decided

@@ -7,4 +7,4 @@ use Rattle.range_partition.proofs.framed.permission.Goals as goal
 pub returns : goal.returns
 returns c =
     c.in_ok-permission.ensures.value
-    ∙ ap (λ (acl : Option Acl). verdict_of (option_copied c.args.keys) acl c.args.request.now.ask c.args.moment) c.acl.ensures
+    ∙ ap (λ (acl : Option Acl). verdict_of (option_copied c.args.keys) acl c.args.asked.now.request.now.ask c.args.asked.now.moment) c.acl.ensures
