@@ -50,6 +50,14 @@ fn kept_replacements<'a>(judged: &Judged<'a>) -> Replacements<'a>
     }
 }
 
+// What the token that a query is replaces.
+fn query_replacements(ask: &Ask) -> Replacements<'_>
+    ensures { result ≡ overrides.replaced_by (replaced_headers ask.now.signing.query) }
+{
+    let texts = replaced_headers(&ask.signing.query);
+    replacing(&texts)
+}
+
 /// What the request replaces in its reply. The query is looked at only if the request is on the signature route and reads a blob or its
 /// properties, and if no judgement keeps its token.
 pub(crate) fn replacements<'a>(ask: &'a Ask, judged: Option<&'a Judged<'_>>) -> Replacements<'a>
@@ -59,11 +67,8 @@ pub(crate) fn replacements<'a>(ask: &'a Ask, judged: Option<&'a Judged<'_>>) -> 
     if !tells_kept(ask.op) || !has_token(ask) {
         return Replacements::none();
     }
-    match judged {
-        Some(judged) => kept_replacements(judged),
-        None => {
-            let texts = replaced_headers(&ask.signing.query);
-            replacing(&texts)
-        }
+    if let Some(judged) = judged {
+        return kept_replacements(judged);
     }
+    query_replacements(ask)
 }
