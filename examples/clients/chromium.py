@@ -139,10 +139,11 @@ class Chromium:
         self.session = session
 
     def show_as(self, width, height, scheme):
-        """Gives the page the size of a screen, in pixels, and a scheme of colours."""
-        self.call("Emulation.setDeviceMetricsOverride", width=width, height=height, deviceScaleFactor=1, mobile=False)
+        """Gives the page the size of a screen, in pixels, and a scheme of colours. A screen that is higher than wide is that of a phone."""
+        self.call("Emulation.setDeviceMetricsOverride", width=width, height=height, deviceScaleFactor=1, mobile=height > width)
         self.call("Emulation.setEmulatedMedia", features=[{"name": "prefers-color-scheme", "value": scheme}])
 
     def picture(self):
-        """What the page shows, as a PNG."""
-        return base64.b64decode(self.call("Page.captureScreenshot", format="png")["data"])
+        """The whole page, also what is below the screen, as a PNG."""
+        size = self.call("Page.getLayoutMetrics")["cssContentSize"]
+        return base64.b64decode(self.call("Page.captureScreenshot", format="png", captureBeyondViewport=True, clip={**size, "scale": 1})["data"])

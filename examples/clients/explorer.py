@@ -92,7 +92,8 @@ class Session:
         """Goes to a folder by its address, and waits for its names."""
         place = "&".join(f"{name}={quote(value, safe='')}" for name, value in (("container", container), ("prefix", prefix), ("delimiter", delimiter)))
         self.browser.value("at('told').textContent = ''")
-        self.browser.value(f"location.hash = {text('#' + place)}")
+        # A hash that stays tells the page nothing, so the names are asked for anew.
+        self.browser.value(f"location.hash === {text('#' + place)} ? visit() : location.hash = {text('#' + place)}")
         self.browser.until(f"place.prefix === {text(prefix)} && /entr|refused/.test(at('told').textContent)")
 
     def focus(self, name):
@@ -357,7 +358,8 @@ class Session:
                 self.browser.show_as(width, height, scheme)
                 if self.pictures:
                     (Path(self.pictures) / f"explorer-{width}-{scheme}.png").write_bytes(self.browser.picture())
-            yield f"at {width} pixels nothing runs out of the page", self.browser.value("document.documentElement.scrollWidth"), width
+            runs_out = self.browser.value("document.documentElement.scrollWidth > document.documentElement.clientWidth")
+            yield f"at {width} pixels nothing runs out of the page", runs_out, False
             room = self.browser.value("at('rows').rows[0].cells[0].getBoundingClientRect().width")
             yield f"at {width} pixels a name has room", room >= 130, True
         yield "no script failed", [it["exceptionDetails"]["text"] for it in self.browser.told("Runtime.exceptionThrown")], []
