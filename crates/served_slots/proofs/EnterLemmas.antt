@@ -44,6 +44,11 @@ pub served_told : (known copy known' : List Entry) (q : Asked) (t : ℕ) (r repl
 served_told known copy known' q t r reply same told served =
     subst (λ (l : List Entry). IsServed l q t reply known') same (subst (λ (x : Reply). IsServed copy q t x known') (sym told) served)
 
+-- a request and a moment that were kept for the lock are those that were asked
+pub served_asked : (known known' : List Entry) (kept asked : Asked) (at t : ℕ) (reply : Reply) → kept ≡ asked → at ≡ t → IsServed known kept at reply known' → IsServed known asked t reply known'
+served_asked known known' kept asked at t reply same on served =
+    subst (λ (q : Asked). IsServed known q t reply known') same (subst (λ (n : ℕ). IsServed known kept n reply known') on served)
+
 -- a split that was entered
 pub parted_if : (front lower : SlotFront) (middle : Key) (number : ℕ) (r : Option SlotFront) → OnSome r (IsEntered front.slot front.log front.log (Split front.slot middle number) lower.log)
     → IfSome r (λ upper. GoesOnWithout number lower.log upper.log) → IfSome r (λ upper. (upper.slot ≡ number) × (lower.slot ≡ front.slot)) → IfSome r (λ upper. IsParted front middle lower upper)
