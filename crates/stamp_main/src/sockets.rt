@@ -56,6 +56,7 @@ pub(crate) struct Intake<'a> {
 /// What the operator and the connections share, with what their history begins with.
 #[derive(Drop)]
 pub(crate) struct Common<'a, A: Account> {
+    pub(crate) alloc: Global,
     pub(crate) slots: &'a Slots<A>,
     pub(crate) reserve: &'a Reserve,
     pub(crate) first: LogFront<A>,
@@ -106,14 +107,17 @@ pub(crate) fn serve_on<
     };
     let reserve = Reserve::new(alloc);
     let common = Common {
+        alloc,
         slots: &slots,
         reserve: &reserve,
         first,
         account,
     };
     match audit {
-        Some(audit) => serve_and_write(rt, clock, alloc, common, intake, console, audit),
-        None => serve_by(rt, clock, alloc, common, intake, console),
+        Some(Audit { books, writer }) => {
+            serve_and_write(rt, clock, common, books, writer, intake, console)
+        }
+        None => serve_by(rt, clock, common, intake, console),
     }
 }
 
@@ -128,12 +132,12 @@ fn serve_by<
 >(
     rt: &'a R,
     clock: &'a C,
-    alloc: Global,
     common: Common<'a, A>,
     intake: &Intake<'_>,
     console: &mut Console<L, O>,
 ) -> io::Result<()> {
     let Common {
+        alloc,
         slots,
         reserve,
         first,
@@ -160,20 +164,19 @@ fn serve_and_write<
 >(
     rt: &'a R,
     clock: &'a C,
-    alloc: Global,
     common: Common<'a, A>,
+    books: &'a Books,
+    writer: &mut W,
     intake: &Intake<'_>,
     console: &mut Console<L, O>,
-    audit: &'a mut Audit<W>,
 ) -> io::Result<()> {
     let Common {
+        alloc,
         slots,
         reserve,
         first,
         account,
     } = common;
-    let Audit { books, writer } = audit;
-    let books = &*books;
     let mut operator = Operator::new(rt, slots, account, first.again());
     let left = intake.connections;
     let services = SlotServices::new(rt, clock, slots, Some(books), reserve, first, left);
