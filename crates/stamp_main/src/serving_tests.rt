@@ -209,12 +209,13 @@ fn both_ends<
         return Err(io::Error::from(io::ErrorKind::OutOfMemory));
     };
     let common = Common {
+        alloc,
         slots: &slots,
         reserve: &Reserve::new(alloc),
         first,
         account,
     };
-    both_ends_of(rt, &Noon(rt), alloc, common, scene)
+    both_ends_of(rt, &Noon(rt), common, scene)
 }
 
 // The same of these slots. What is borrowed has one lifetime, since operator and services hold it.
@@ -225,11 +226,11 @@ fn both_ends_of<
 >(
     rt: &'a R,
     clock: &'a Noon<'a, R>,
-    alloc: Global,
     common: Common<'a, A>,
     scene: &Scene<'_>,
 ) -> io::Result<(bool, Option<usize>)> {
     let Common {
+        alloc,
         slots,
         reserve,
         first,
