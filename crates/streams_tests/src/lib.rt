@@ -14,6 +14,8 @@ mod every_delivery_tests;
 #[cfg(test)]
 mod extent_tests;
 #[cfg(test)]
+mod give_up_tests;
+#[cfg(test)]
 mod handle_tests;
 #[cfg(test)]
 mod log_tests;
