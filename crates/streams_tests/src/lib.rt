@@ -67,4 +67,6 @@ mod stream_samples;
 #[cfg(test)]
 mod stream_share_tests;
 #[cfg(test)]
+mod sweep_tests;
+#[cfg(test)]
 mod ticket_tests;
