@@ -17,4 +17,3 @@ pub mod PositionLemmas
 pub mod RepairLemmas
 pub mod RowWalkLemmas
 pub mod StreamLemmas
-pub mod SweepingLemmas

@@ -11,5 +11,4 @@ pub mod Positions
 pub mod Repairs
 pub mod Storing
 pub mod Streams
-pub mod Sweeping
 pub mod Written

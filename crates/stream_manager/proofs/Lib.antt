@@ -1,6 +1,5 @@
 pub mod AppendLemmas
 pub mod CountLemmas
-pub mod GivenUpLemmas
 pub mod PartLemmas
 pub mod PlaceLemmas
 pub mod ReadLemmas

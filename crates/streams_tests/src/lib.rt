@@ -14,8 +14,6 @@ mod every_delivery_tests;
 #[cfg(test)]
 mod extent_tests;
 #[cfg(test)]
-mod give_up_tests;
-#[cfg(test)]
 mod handle_tests;
 #[cfg(test)]
 mod log_tests;
@@ -66,7 +64,5 @@ mod stored_waste_tests;
 mod stream_samples;
 #[cfg(test)]
 mod stream_share_tests;
-#[cfg(test)]
-mod sweep_tests;
 #[cfg(test)]
 mod ticket_tests;
