@@ -41,7 +41,7 @@ pub fn signature_by(
     signature_with(alloc, keys, ask, token.as_ref())
 }
 
-/// What `signature_by` answers, if the token was read before: `token` is what `token_asked` answers.
+/// The answer of `signature_by`, if the token was read before: `token` is the answer of `token_asked`.
 ///
 /// `AllocError` if memory runs out for the string to sign or for a signature.
 #[tactic(auto, using(crate::proofs::SignerLemmas::named_signer, crate::proofs::TokenLemmas::asked_by_token))]

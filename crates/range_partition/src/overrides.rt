@@ -38,7 +38,7 @@ fn replacing<'a>(texts: &Overrides<'a>) -> Replacements<'a>
     )
 }
 
-// What the token that a judgement keeps replaces.
+// The headers that the token of a judgement replaces.
 #[tactic(auto, using(crate::proofs::OverrideLemmas::is_visible_one, crate::proofs::OverrideLemmas::by_none, crate::proofs::OverrideLemmas::by_some))]
 fn kept_replacements<'a>(judged: &Judged<'a>) -> Replacements<'a>
     requires { on_token judged.now.ask.credential ≡ true }
@@ -50,7 +50,7 @@ fn kept_replacements<'a>(judged: &Judged<'a>) -> Replacements<'a>
     }
 }
 
-// What the token that a query is replaces.
+// The headers that the token of a query replaces.
 fn query_replacements(ask: &Ask) -> Replacements<'_>
     ensures { result ≡ overrides.replaced_by (replaced_headers ask.now.signing.query) }
 {
@@ -58,7 +58,7 @@ fn query_replacements(ask: &Ask) -> Replacements<'_>
     replacing(&texts)
 }
 
-/// What the request replaces in its reply. The query is looked at only if the request is on the signature route and reads a blob or its
+/// The replacements of a request's reply. The query is looked at only if the request is on the signature route and reads a blob or its
 /// properties, and if no judgement keeps its token.
 pub(crate) fn replacements<'a>(ask: &'a Ask, judged: Option<&'a Judged<'_>>) -> Replacements<'a>
     requires { IsOfAsk (option_copied judged) ask.now }

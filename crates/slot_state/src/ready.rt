@@ -1,4 +1,4 @@
-//! What a request needs before the lock of a slot is taken.
+//! A request is made ready before the lock of a slot is taken.
 ghost use Rattle.std.specs.Prelude.{◌≡◌, IfOk};
 ghost use Rattle.policy_book.specs.Judgements.{IsOfAsk};
 ghost use Rattle.stamp_model.specs.SeenContainers.{routed};

@@ -124,7 +124,7 @@ pub(crate) fn serve_one<H: Histories, W: Wire>(
     }
 }
 
-/// What the same answers, without its entry.
+/// The answer of the same call, without its entry.
 pub(crate) fn answer_one<H: Histories, W: Wire>(
     slots: &mut Vec<StoredSlot<H>>,
     spans: &Spans,

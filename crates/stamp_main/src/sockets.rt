@@ -36,7 +36,7 @@ pub(crate) struct SlotServices<'a, A: Account, R: Wait, C: Clock> {
     left: Mutex<u64>,
 }
 
-/// What is served: a new history, the first key pairs of its accounts, and the account whose keys an operator replaces.
+/// The start of a server: a new history, the first key pairs of its accounts, and the account whose keys an operator replaces.
 #[derive(Drop)]
 pub(crate) struct Opening {
     pub(crate) history: NewHistory,

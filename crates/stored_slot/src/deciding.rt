@@ -22,7 +22,7 @@ use stamp_types::{Moment, Request};
 use std::alloc::{AllocError, Global};
 
 impl<H: Histories> SlotParts<H> {
-    // What is decided on a request, from the rows and from the pair in force of the request's account.
+    // The decision on a request, from the rows and from the pair in force of the request's account.
     fn decide_on_rows(
         &self,
         rows: &Rows,
@@ -52,7 +52,7 @@ impl<H: Histories> SlotParts<H> {
         decide_frame(alloc, pair, &asked, rows, target, reading, bound)
     }
 
-    /// What is decided on a request, from the rows of a slot that are loaded, as the histories have it.
+    /// The decision on a request, from the rows of a slot that are loaded, as the histories have it.
     ///
     /// `AllocError` if memory runs out.
     pub(crate) fn decide(

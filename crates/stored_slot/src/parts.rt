@@ -1,11 +1,11 @@
-//! What a slot keeps.
+//! The parts of a slot.
 
 use slot_state::{AccountPairs, Histories};
 use stamp_types::Past;
 use std::sync::Arc;
 use stored_rows::StoredRows;
 
-/// What a slot keeps, in parts. A step of a slot is a call of its parts: between two parts of a step, what is true of every slot may not
+/// The parts of a slot. A step of a slot is a call of its parts: between two parts of a step, what is true of every slot may not
 /// be true yet.
 #[derive(Drop)]
 pub(crate) struct SlotParts<H: Histories> {
