@@ -1,6 +1,7 @@
 """The pages of this repository: their links, their words, their sentences, and the lists in them that are generated."""
 import itertools
 import re
+import textwrap
 from collections import Counter
 
 import tree
@@ -12,6 +13,8 @@ LINK = re.compile(r"\]\((?!https?:)([^)#\s]*)(#[^)\s]*)?\)")
 # A block of code that a page takes from functions: the line before it links them.
 CALL = re.compile(r"^From the ([^\n]*):\n\n```rust\n(.*?)^```", re.S | re.M)
 FUNCTION = re.compile(r"\[`(\w+)`\]\(([^)]+)\)")
+# How the line before a block begins if the block is the whole body of one function.
+EXAMPLE = "example "
 FENCED = re.compile(r"^```.*?^```", re.S | re.M)
 
 # The pages that people read first, which have no sentence of more words than SENTENCE.
@@ -91,6 +94,38 @@ def changed_calls():
             yield from (f"{name_of(file)}: no such line in {' and '.join(texts)}: {line}" for line in lines_of(code) if line not in found)
 
 
+def body_of(name, text):
+    """The body of a function of a file, without its indent. `None` if the file does not have one function of this name."""
+    lines = text.splitlines()
+    starts = [at for at, line in enumerate(lines) if re.match(rf"(?:pub(?:\(crate\))? )?fn {name}\b", line)]
+    if len(starts) != 1:
+        return None
+    start = starts[0]
+    # A body begins after a line that ends the parameters, or after a line of its own if contracts come before.
+    opened = next(at for at in range(start, len(lines)) if lines[at] == "{" or (lines[at].endswith(" {") and (at == start or lines[at].startswith(")"))))
+    return textwrap.dedent("".join(f"{line}\n" for line in lines[opened + 1 : lines.index("}", opened)]))
+
+
+def changed_examples():
+    """Blocks of code that a page calls an example, and that are not the whole body of the one function that the line before them links."""
+    for file in all_pages():
+        for source, code in CALL.findall(text_of(file)):
+            if not source.startswith(EXAMPLE):
+                continue
+            linked = [(name, file.parent / path) for name, path in FUNCTION.findall(source)]
+            if len(linked) != 1 or not linked[0][1].is_file():
+                yield f"{name_of(file)}: an example is one function, which the line before it links: {source[:90]}"
+                continue
+            name, path = linked[0]
+            body = body_of(name, text_of(path))
+            if body is None:
+                yield f"{name_of(file)}: not one function of {name_of(path.resolve())}: {name}"
+            elif body != code:
+                pairs = itertools.zip_longest(code.splitlines(), body.splitlines(), fillvalue="(the end)")
+                shown, wanted = next(pair for pair in pairs if pair[0] != pair[1])
+                yield f"{name_of(file)}: the example is not the body of {name}: {shown.strip()} for {wanted.strip()}"
+
+
 def halves_of_calls():
     """Blocks of code that a page takes from functions, and that close what they did not open, or do not close what they open."""
     for file in all_pages():
@@ -149,5 +184,5 @@ def doubled_terms():
 
 
 def faults():
-    for found in (broken_links, changed_calls, halves_of_calls, doubled_terms, headless_sentences, long_sentences, long_pages):
+    for found in (broken_links, changed_calls, changed_examples, halves_of_calls, doubled_terms, headless_sentences, long_sentences, long_pages):
         yield from found()

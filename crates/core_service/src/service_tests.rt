@@ -91,10 +91,12 @@ fn keys(rt: &impl Abort, alloc: Global) -> Keys
 
 #[test]
 fn a_service_over_a_core_keeps_what_it_creates(rt: HostRuntime) {
-    let keys = keys(&rt, rt.alloc());
+    let keys = keys(&rt, rt.alloc()); // `key1` and `key2` of `devstoreaccount1`, of the epoch 0
     let mut service = CoreService::new(rt.alloc(), &keys).expect(&rt, "memory");
+    // `sent` serves a new connection by `run`, and returns all that is written to it.
     assert!(rt; sent(&rt, rt.alloc(), &mut service, CREATE).starts_with(CREATED));
     assert!(rt; sent(&rt, rt.alloc(), &mut service, CREATE).starts_with(CONFLICT));
+    // A Put Blob of `hello`, and a Get Blob of it.
     assert!(rt; sent(&rt, rt.alloc(), &mut service, PUT).starts_with(CREATED));
     assert!(rt; sent(&rt, rt.alloc(), &mut service, GET).ends_with(b"\r\n\r\nhello"));
 }

@@ -42,12 +42,14 @@ fn with_zeros(rt: &impl Abort, alloc: Global, file: &[u8], zeros: usize) -> Vec<
 #[test]
 fn frames_are_written_and_read(rt: HostRuntime) {
     let alloc = rt.alloc();
-    let digest = digest();
+    let digest = digest(); // of the key 0x0123_4567_89ab_cdef
     let mut file = Vec::new(alloc);
+    // Three entries of at least 16 bytes, in segment 3, at the indices 0, 1 and 2.
     write_frame(&mut file, &digest, 3, 0, FIRST).expect(&rt, "memory");
     write_frame(&mut file, &digest, 3, 1, SECOND).expect(&rt, "memory");
     write_frame(&mut file, &digest, 3, 2, THIRD).expect(&rt, "memory");
     assert!(rt; file.as_slice() == FRAMES);
+    // The entries are lent from the file.
     let entries = read_frames(alloc, &digest, 3, &file).expect(&rt, "memory");
     assert_eq!(rt; entries.len(), 3);
     assert!(rt; entries[0] == FIRST && entries[1] == SECOND && entries[2] == THIRD);

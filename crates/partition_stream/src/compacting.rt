@@ -46,12 +46,19 @@ fn add_next<W: Wire>(
     ensures limits { HaveLimitsOf new.old new.new }
     ensures counted { FailsCompaction result (W.faults wire.old) (W.faults wire.new) }
 {
-    let Some(change) = next_row(old, position, wire)? else {
-        return Ok(false);
-    };
-    old.kept();
-    new.add(old, &change, wire)?;
-    Ok(true)
+    match next_row(old, position, wire) {
+        Ok(Some(change)) => {
+            old.kept();
+            let added = new.add(old, &change, wire);
+            drop(change);
+            match added {
+                Ok(()) => Ok(true),
+                Err(fault) => Err(fault),
+            }
+        }
+        Ok(None) => Ok(false),
+        Err(fault) => Err(fault),
+    }
 }
 
 // Adds all rows of the old streams to the new ones, one after the other.
@@ -107,7 +114,12 @@ impl Streams {
         ensures counted { FailsCompaction result (W.faults wire.old) (W.faults wire.new) }
     {
         let mut new = self.begin_compaction(extent_bytes);
-        add_all(self, &mut new, wire)?;
-        Ok(self.put_all_in_place(new))
+        match add_all(self, &mut new, wire) {
+            Ok(()) => Ok(self.put_all_in_place(new)),
+            Err(fault) => {
+                drop(new);
+                Err(fault)
+            }
+        }
     }
 }

@@ -107,8 +107,14 @@ impl NewStreams {
         ensures limits { HaveLimitsOf self.old self.new }
         ensures counted { FailsCompaction result (W.faults wire.old) (W.faults wire.new) }
     {
-        let moved = moved_blob(self.alloc, old, &mut self.blobs, key, row, wire)?;
-        add_row(&mut self.rows, &moved, wire)
+        match moved_blob(self.alloc, old, &mut self.blobs, key, row, wire) {
+            Ok(moved) => {
+                let added = add_row(&mut self.rows, &moved, wire);
+                drop(moved);
+                added
+            }
+            Err(fault) => Err(fault),
+        }
     }
 
     /// Adds a row of the old streams after all others. Each content of the row is read in the old data and put into the new data, and

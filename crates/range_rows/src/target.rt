@@ -21,6 +21,23 @@ pub struct Target<'a> {
 }
 
 impl<'a> Target<'a> {
+    /// The same once more: what was found is lent twice, and no row is looked up again.
+    pub fn again(&self) -> Self
+        ensures { result ≡ self.now }
+    {
+        Self {
+            container: self.container.again(),
+            blob: self.blob.again(),
+        }
+    }
+
+    /// The blob that was found.
+    pub fn blob(&self) -> &FoundBlob<'a>
+        ensures { result.now ≡ self.now.blob }
+    {
+        &self.blob
+    }
+
     /// What was found of the container that the request names, with the blob that it names.
     pub fn of(container: Found<'a>, ask: &Ask) -> Self
         ensures container { result.container ≡ container.entry }

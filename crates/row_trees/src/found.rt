@@ -38,6 +38,15 @@ impl<'a> Model for Found<'a> {
 }
 
 impl<'a> Found<'a> {
+    /// The same once more: what was found is lent twice, and no row is looked up again.
+    pub fn again(&self) -> Self
+        ensures { result ≡ self.now }
+    {
+        Found {
+            container: self.container,
+        }
+    }
+
     /// How many changes the container has seen: 0 if the container never was.
     pub fn count(&self) -> u64
         ensures { result ≡ self.now.count }

@@ -51,6 +51,13 @@ impl<'a> FoundBlob<'a> {
         FoundBlob { row: None }
     }
 
+    /// The same once more: what was found is lent twice, and no row is looked up again.
+    pub fn again(&self) -> Self
+        ensures { result ≡ self.now }
+    {
+        FoundBlob { row: self.row }
+    }
+
     /// The blob of this row.
     pub(crate) fn of(row: &'a BlobRow) -> Self
         ensures { result ≡ row.now }

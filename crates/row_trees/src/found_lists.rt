@@ -35,11 +35,7 @@ impl Rows {
     /// `AllocError` if memory runs out for the look-ups, or if the content of a block can have no further
     /// owner.
     #[tactic(auto, using(crate::proofs::BlockFits::list_of_change, crate::proofs::BlockFits::found_for_list))]
-    pub(crate) fn found_for(
-        &self,
-        alloc: Global,
-        change: &Change,
-    ) -> Result<FoundBlocks, AllocError>
+    pub fn found_for(&self, alloc: Global, change: &Change) -> Result<FoundBlocks, AllocError>
         requires { IsTrue
             (fits (part_value pieces_len (part_at self.now change.now.key)) change.now.act) }
         ensures found { IfOk result (λ found.

@@ -8,11 +8,11 @@ use std::alloc::Global;
 use std::process::Abort;
 
 // The ids whose Base64 is `AAAA` and `BBBB`.
-const A: &[u8] = &[0, 0, 0];
+pub(crate) const A: &[u8] = &[0, 0, 0];
 
-const B: &[u8] = &[4, 16, 65];
+pub(crate) const B: &[u8] = &[4, 16, 65];
 
-type Entry = (Lookup, &'static [u8]);
+pub(crate) type Entry = (Lookup, &'static [u8]);
 
 fn put(
     rt: &impl Abort,
@@ -24,7 +24,7 @@ fn put(
     row.put_block(&id(rt, alloc, bytes), content(rt, alloc, text))
 }
 
-fn wanted(rt: &impl Abort, alloc: Global, entries: &[Entry]) -> Vec<Wanted> {
+pub(crate) fn wanted(rt: &impl Abort, alloc: Global, entries: &[Entry]) -> Vec<Wanted> {
     let mut wanted = Vec::new(alloc);
     for wants in entries {
         let (lookup, bytes) = *wants;

@@ -10,6 +10,8 @@ mod block_tests;
 #[cfg(test)]
 mod change_tests;
 #[cfg(test)]
+mod examples;
+#[cfg(test)]
 mod list_reply_tests;
 #[cfg(test)]
 mod object_rule_tests;

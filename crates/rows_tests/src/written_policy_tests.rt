@@ -17,7 +17,7 @@ const TWO: &str =
 const BRACKETS: &str =
     "<?xml version=\"1.0\" encoding=\"utf-8\"?><SignedIdentifiers><SignedIdentifier><Id>&lt;\"'&gt;&amp;amp;</Id><AccessPolicy></AccessPolicy></SignedIdentifier></SignedIdentifiers>";
 
-fn policy(
+pub(crate) fn policy(
     rt: &impl Abort,
     alloc: Global,
     id: &str,

@@ -29,3 +29,4 @@ pub use sealed::AllSealed;
 pub use stored_rows::StoredRows;
 pub use stream_manager::StoredFault;
 pub use unloaded::Unloaded;
+pub use waste::{ChangeWeight, FoundForChange};

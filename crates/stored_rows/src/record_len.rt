@@ -114,12 +114,14 @@ fn committed_block_len(block: &Block<Pieces>) -> u64 {
 /// Committed blocks. Each is taken to be as long as the first, since a list may have 50,000: so it is exact if their ids have one length.
 pub(crate) fn blocks_len(blocks: &[Block<Pieces>]) -> u64 {
     match blocks.first() {
-        Some(first) => {
-            let each = committed_block_len(first);
-            COUNT_BYTES.saturating_add(each.saturating_mul(blocks.len() as u64))
-        }
-        None => COUNT_BYTES,
+        Some(first) => all_blocks_len(committed_block_len(first), blocks.len() as u64),
+        None => all_blocks_len(0, 0),
     }
+}
+
+/// So many committed blocks, each of which has `each` bytes.
+pub(crate) const fn all_blocks_len(each: u64, count: u64) -> u64 {
+    COUNT_BYTES.saturating_add(each.saturating_mul(count))
 }
 
 /// The one block of content that Put Blob brings.

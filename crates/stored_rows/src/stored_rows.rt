@@ -14,7 +14,7 @@ use crate::logging::put_and_log;
 use crate::noting::{note, note_loaded, note_settled};
 use crate::sealed::{AllSealed, note_sealed};
 use crate::unloaded::Unloaded;
-use crate::waste::{Waste, bound_of, list_of, list_size, recounted, weigh};
+use crate::waste::{ChangeWeight, FoundForChange, Waste, bound_of, named_by, recounted};
 use block_blobs::FoundBlocks;
 use body_forms::Draft;
 use extent_node::Wire;
@@ -281,15 +281,29 @@ impl StoredRows {
         note(self.alloc, &mut self.rows, &mut self.doubt, logged, found)
     }
 
-    /// Puts the content of a change into the data, logs the change with its epoch, and then makes it in the rows that are loaded. No byte is
-    /// copied. If the change commits a list, its blocks may have been found in these rows before: with `found` no block is looked up again.
-    ///
-    /// If the rows find no memory they are dropped, and the change is counted. Busy and NoMemory: the change is not counted. Doubt: it is
-    /// not known whether it is counted until the next settle. After a fault blocks may be left in the data to which nothing refers.
-    pub fn take<W: Wire>(
+    // What is found for a change in the rows, if they are loaded and memory is left.
+    fn found_for(&self, change: &Change) -> Option<FoundForChange>
+        requires covered { covers self.now.range change.now.key ≡ true }
+        requires fits { IsTrue (fits (part_value pieces_len (pieces_of self.now change.now.key)) change.now.act) }
+        ensures { IfSome result (λ found. AreFoundIn self.now change.now found.blocks) }
+    {
+        let Some(rows) = &self.rows else {
+            return None;
+        };
+        let Ok(blocks) = rows.found_for(self.alloc, change) else {
+            return None;
+        };
+        let container = rows.find(change.key());
+        let blob = named_by(&container, change.act());
+        let weight = ChangeWeight::of(self.alloc, &container, &blob, &blocks, change);
+        Some(FoundForChange { blocks, weight })
+    }
+
+    // Takes a change for which this was found, as `take` says it.
+    fn take_found<W: Wire>(
         &mut self,
         change: Change,
-        found: Option<FoundBlocks>,
+        found: Option<FoundForChange>,
         epoch: u64,
         wire: &mut W,
     ) -> Result<(), TakeFault>
@@ -297,19 +311,50 @@ impl StoredRows {
         requires plain { is_row change.act ≡ false }
         requires held { IfSome (content_of change.act) (λ ps. IsTrue (is_held ps)) }
         requires fits { IsTrue (fits (part_value pieces_len (pieces_of self.old change.key)) change.act) }
-        requires found { IfSome found (AreFoundIn self.old change) }
+        requires found { IfSome found (λ f. AreFoundIn self.old change f.blocks) }
         requires sure { doubt_of self.old ≡ None }
         ensures taken { IsTaken result self.old (change, epoch) self.new }
         ensures limits { HaveSameLimits self.old.streams self.new.streams }
         ensures counted { FailsTake result (W.faults wire.old) (W.faults wire.new) }
     {
-        let weighed = weigh(self.alloc, &self.rows, &change);
-        let list = list_of(&change);
+        let (blocks, weight) = match found {
+            Some(FoundForChange { blocks, weight }) => (Some(blocks), weight),
+            None => (None, ChangeWeight::of_content(&change)),
+        };
         let mut written = bound_of(&change);
-        let taken = self.take_change(change, found, epoch, &mut written, wire);
-        let listed = list_size(&self.rows, &list);
-        self.waste = self.waste.after(weighed, written, listed, taken);
+        let taken = self.take_change(change, blocks, epoch, &mut written, wire);
+        self.waste = self.waste.after(weight, written, taken);
         taken
+    }
+
+    /// Puts the content of a change into the data, logs the change with its epoch, and then makes it in the rows that are loaded. No byte is
+    /// copied. With what a decision `found` for the change in these rows, neither a block of a list nor the weight of the change is looked up
+    /// again.
+    ///
+    /// If the rows find no memory they are dropped, and the change is counted. Busy and NoMemory: the change is not counted. Doubt: it is
+    /// not known whether it is counted until the next settle. After a fault blocks may be left in the data to which nothing refers.
+    pub fn take<W: Wire>(
+        &mut self,
+        change: Change,
+        found: Option<FoundForChange>,
+        epoch: u64,
+        wire: &mut W,
+    ) -> Result<(), TakeFault>
+        requires covered { covers self.old.range change.key ≡ true }
+        requires plain { is_row change.act ≡ false }
+        requires held { IfSome (content_of change.act) (λ ps. IsTrue (is_held ps)) }
+        requires fits { IsTrue (fits (part_value pieces_len (pieces_of self.old change.key)) change.act) }
+        requires found { IfSome found (λ f. AreFoundIn self.old change f.blocks) }
+        requires sure { doubt_of self.old ≡ None }
+        ensures taken { IsTaken result self.old (change, epoch) self.new }
+        ensures limits { HaveSameLimits self.old.streams self.new.streams }
+        ensures counted { FailsTake result (W.faults wire.old) (W.faults wire.new) }
+    {
+        let found = match found {
+            Some(found) => Some(found),
+            None => self.found_for(&change),
+        };
+        self.take_found(change, found, epoch, wire)
     }
 
     /// Makes the rows of the changes that the streams keep, if they are not loaded.

@@ -2,13 +2,14 @@
 ghost use Rattle.std.specs.Prelude.{◌≡◌};
 
 use crate::record_len::{
-    blob_len, block_len, blocks_len, committed_len, created_len, deleted_len, found_len, head_of,
-    metadata_len, policies_len, record_bound, whole_len,
+    all_blocks_len, blob_len, block_len, blocks_len, committed_len, created_len, deleted_len,
+    found_len, head_of, metadata_len, policies_len, record_bound, whole_len,
 };
+use block_blobs::{FoundBlocks, ListContent};
 use partition_stream::TakeFault;
 use row_trees::{Found, FoundBlob, Rows};
-use stamp_types::{Act, Change, Committed, Key, Pieces, PutBlob, Text};
-use std::alloc::{AllocError, Global};
+use stamp_types::{Act, Change, Committed, Key, Pieces, PutBlob, PutBlockList, Text};
+use std::alloc::Global;
 
 /// How many bytes of memory a record takes beside its own, with those that its content takes beside its bytes: three replicas list a block,
 /// and its owners are counted. So many short records are not kept for long either.
@@ -75,14 +76,14 @@ impl Size {
     }
 }
 
-/// What a change brings, and what it does to what exists, as the rows are before it.
+/// What a change brings, and what it does to what exists, as the rows are before it. No answer depends on it.
 #[derive(Clone, Copy)]
-pub(crate) struct Weighed {
+pub struct ChangeWeight {
     // the content that it brings
     content: u64,
     // what it takes away
     freed: Size,
-    // what it adds, without the content of a list
+    // what it adds
     added: Size,
 }
 
@@ -131,25 +132,23 @@ impl Waste {
         written.saturating_sub(existing) > (existing / 16).saturating_add(LITTLE_BYTES)
     }
 
-    /// After a change was taken, was not taken, or is in doubt. Its record has `written` bytes, and `list` is what exists of the blob
-    /// whose list it committed.
+    /// After a change was taken, was not taken, or is in doubt. Its record has `written` bytes.
     pub(crate) fn after(
         self,
-        weighed: Weighed,
+        weight: ChangeWeight,
         written: u64,
-        list: Size,
         taken: Result<(), TakeFault>,
     ) -> Self {
         let added = match taken {
-            Ok(()) => weighed.added.and(list),
+            Ok(()) => weight.added,
             Err(_) => Size::none(),
         };
         let freed = match taken {
-            Ok(()) | Err(TakeFault::Doubt) => weighed.freed,
+            Ok(()) | Err(TakeFault::Doubt) => weight.freed,
             Err(_) => Size::none(),
         };
         Self {
-            content: self.content.saturating_add(weighed.content),
+            content: self.content.saturating_add(weight.content),
             records: self
                 .records
                 .saturating_add(written)
@@ -234,11 +233,6 @@ fn blob_size(head: u64, name_len: usize, blob: &FoundBlob<'_>) -> Size {
     content_size(blob).and(Size::of_rows(row))
 }
 
-// What exists of a blob of a container.
-fn named_size(head: u64, found: &Found<'_>, name: &Text) -> Size {
-    blob_size(head, name.as_str().len(), &found.seen(name))
-}
-
 // What exists of a container with all its blobs.
 fn container_size(alloc: Global, head: u64, found: &Found<'_>) -> Size {
     let mut size = Size::of_rows(found_len(head, found));
@@ -291,24 +285,35 @@ fn container_policies(found: &Found<'_>) -> u64 {
 }
 
 // How many bytes the metadata of a blob has, if the blob has a committed part.
-fn blob_metadata(found: &Found<'_>, name: &Text) -> u64 {
-    match found.committed(name) {
+fn blob_metadata(blob: &FoundBlob<'_>) -> u64 {
+    match blob.committed() {
         Some(committed) => metadata_len(&committed.metadata),
         None => 0,
     }
 }
 
-// What an act takes away of a container, or replaces.
-fn freed_by(alloc: Global, head: u64, found: &Found<'_>, act: &Act) -> Size {
+// What exists of a blob of this name.
+fn named_size(head: u64, name: &Text, blob: &FoundBlob<'_>) -> Size {
+    blob_size(head, name.as_str().len(), blob)
+}
+
+// What an act takes away of a container and of the blob that it names, or replaces.
+fn freed_by(
+    alloc: Global,
+    head: u64,
+    container: &Found<'_>,
+    blob: &FoundBlob<'_>,
+    act: &Act,
+) -> Size {
     match act {
-        Act::CreateContainer(_) => Size::of_rows(found_len(head, found)),
-        Act::SetContainerMetadata(_) => Size::of_rows(container_metadata(found)),
-        Act::SetAcl(_) => Size::of_rows(container_policies(found)),
-        Act::DeleteContainer => container_size(alloc, head, found),
-        Act::PutBlob(put) => named_size(head, found, &put.blob),
-        Act::SetMetadata(set) => Size::of_rows(blob_metadata(found, &set.blob)),
-        Act::DeleteBlob(delete) => named_size(head, found, &delete.blob),
-        Act::PutBlockList(list) => named_size(head, found, &list.blob),
+        Act::CreateContainer(_) => Size::of_rows(found_len(head, container)),
+        Act::SetContainerMetadata(_) => Size::of_rows(container_metadata(container)),
+        Act::SetAcl(_) => Size::of_rows(container_policies(container)),
+        Act::DeleteContainer => container_size(alloc, head, container),
+        Act::PutBlob(put) => named_size(head, &put.blob, blob),
+        Act::SetMetadata(_) => Size::of_rows(blob_metadata(blob)),
+        Act::DeleteBlob(delete) => named_size(head, &delete.blob, blob),
+        Act::PutBlockList(list) => named_size(head, &list.blob, blob),
         _ => Size::none(),
     }
 }
@@ -323,15 +328,60 @@ fn put_size(head: u64, put: &PutBlob) -> Size {
 }
 
 // The row that the first block of a blob makes, without the block.
-fn first_block(head: u64, found: &Found<'_>, name: &Text) -> Size {
-    if found.seen(name).row().is_some() {
+fn first_block(head: u64, name: &Text, blob: &FoundBlob<'_>) -> Size {
+    if blob.row().is_some() {
         return Size::none();
     }
     Size::of_rows(blob_len(head, name.as_str().len(), 0))
 }
 
-// What exists more after an act, without the blob whose list it commits and without an uncommitted block.
-fn added_by(head: u64, found: &Found<'_>, act: &Act) -> Size {
+// How many bytes the first uncommitted block of a blob has, once it is committed under an id of so many bytes.
+fn first_uncommitted_len(id_len: usize, blob: &FoundBlob<'_>) -> u64 {
+    let Some(row) = blob.row() else {
+        return 0;
+    };
+    let mut blocks = row.uncommitted();
+    match blocks.next() {
+        Some((_id, content)) => block_len(id_len, content),
+        None => 0,
+    }
+}
+
+// How many bytes the first block of a list has, once it is committed under an id of so many bytes.
+fn first_listed_len(id_len: usize, blob: &FoundBlob<'_>, found: &FoundBlocks) -> u64 {
+    match &found.content {
+        ListContent::AllUncommitted(_) => first_uncommitted_len(id_len, blob),
+        ListContent::Blocks(blocks) => match blocks.as_slice().first() {
+            Some(block) => block_len(id_len, &block.content),
+            None => 0,
+        },
+    }
+}
+
+// How many bytes the blocks of a list have, once it is committed. Each is taken to be as long as the first.
+fn listed_len(list: &PutBlockList, blob: &FoundBlob<'_>, found: &FoundBlocks) -> u64 {
+    let entries = list.entries.as_slice();
+    match entries.first() {
+        Some(entry) => {
+            let each = first_listed_len(entry.id.as_slice().len(), blob, found);
+            all_blocks_len(each, entries.len() as u64)
+        }
+        None => all_blocks_len(0, 0),
+    }
+}
+
+// What exists of a blob after these blocks are its list.
+fn list_size(head: u64, list: &PutBlockList, blob: &FoundBlob<'_>, found: &FoundBlocks) -> Size {
+    let blocks = listed_len(list, blob, found);
+    let committed = committed_len(&list.props, &list.metadata, blocks);
+    Size {
+        committed: found.len,
+        ..Size::of_rows(blob_len(head, list.blob.as_str().len(), committed))
+    }
+}
+
+// What exists more after an act, with the blocks that were found for its list, but without an uncommitted block.
+fn added_by(head: u64, blob: &FoundBlob<'_>, found: &FoundBlocks, act: &Act) -> Size {
     match act {
         Act::CreateContainer(create) => {
             Size::of_rows(created_len(head, metadata_len(&create.metadata)))
@@ -341,7 +391,8 @@ fn added_by(head: u64, found: &Found<'_>, act: &Act) -> Size {
         Act::DeleteContainer => Size::of_rows(deleted_len(head)),
         Act::PutBlob(put) => put_size(head, put),
         Act::SetMetadata(set) => Size::of_rows(metadata_len(&set.metadata)),
-        Act::PutBlock(put) => first_block(head, found, &put.blob),
+        Act::PutBlock(put) => first_block(head, &put.blob, blob),
+        Act::PutBlockList(list) => list_size(head, list, blob, found),
         _ => Size::none(),
     }
 }
@@ -359,59 +410,58 @@ pub(crate) fn bound_of(change: &Change) -> u64 {
     record_bound(head_of(change.key()), change.act())
 }
 
-/// What a change brings, and what it does to what exists. If the rows are not in memory, nothing is known of what exists.
-pub(crate) fn weigh(alloc: Global, rows: &Option<Rows>, change: &Change) -> Weighed {
-    let act = change.act();
-    let head = row_head(change.key());
-    let (freed, added) = match rows {
-        Some(rows) => {
-            let found = rows.find(change.key());
-            (
-                freed_by(alloc, head, &found, act),
-                added_by(head, &found, act),
-            )
+impl ChangeWeight {
+    /// The weight of no change.
+    pub const fn none() -> Self {
+        Self {
+            content: 0,
+            freed: Size::none(),
+            added: Size::none(),
         }
-        None => (Size::none(), Size::none()),
-    };
-    Weighed {
-        content: content_len(act),
-        freed,
-        added,
+    }
+
+    /// The weight of a change for which nothing was found: only the content that it brings is known.
+    pub fn of_content(change: &Change) -> Self {
+        Self {
+            content: content_len(change.act()),
+            ..Self::none()
+        }
+    }
+
+    /// The weight of a change by what was found for it: its container, the blob that it names, and the blocks of its list. No row is looked up
+    /// again. The weight of a Delete Container takes time with the blobs of the container.
+    pub fn of(
+        alloc: Global,
+        container: &Found<'_>,
+        blob: &FoundBlob<'_>,
+        found: &FoundBlocks,
+        change: &Change,
+    ) -> Self {
+        let act = change.act();
+        let head = row_head(change.key());
+        Self {
+            freed: freed_by(alloc, head, container, blob, act),
+            added: added_by(head, blob, found, act),
+            ..Self::of_content(change)
+        }
     }
 }
 
-/// A blob by the key of its container and by its name.
+/// What a decision found in the rows for a change: the blocks that it takes, if it commits a list, and what it does to what exists.
 #[derive(Drop)]
-pub(crate) struct BlobName {
-    key: Key,
-    blob: Text,
+pub struct FoundForChange {
+    pub blocks: FoundBlocks,
+    pub weight: ChangeWeight,
 }
 
-// Copies of the key and of the name.
-fn name_of(key: &Key, blob: &Text) -> Result<BlobName, AllocError> {
-    let key = key.clone()?;
-    let blob = blob.clone()?;
-    Ok(BlobName { key, blob })
-}
-
-/// The blob whose list a change commits, if memory is left for its name.
-pub(crate) fn list_of(change: &Change) -> Option<BlobName> {
-    match change.act() {
-        Act::PutBlockList(list) => match name_of(change.key(), &list.blob) {
-            Ok(name) => Some(name),
-            Err(AllocError) => None,
-        },
-        _ => None,
-    }
-}
-
-/// What exists of a blob whose list was committed.
-pub(crate) fn list_size(rows: &Option<Rows>, list: &Option<BlobName>) -> Size {
-    let Some(rows) = rows else {
-        return Size::none();
-    };
-    match list {
-        Some(name) => named_size(row_head(&name.key), &rows.find(&name.key), &name.blob),
-        None => Size::none(),
+/// The blob that an act names, as it was found in its container.
+pub(crate) fn named_by<'a>(container: &Found<'a>, act: &Act) -> FoundBlob<'a> {
+    match act {
+        Act::PutBlob(put) => container.seen(&put.blob),
+        Act::SetMetadata(set) => container.seen(&set.blob),
+        Act::DeleteBlob(delete) => container.seen(&delete.blob),
+        Act::PutBlock(put) => container.seen(&put.blob),
+        Act::PutBlockList(list) => container.seen(&list.blob),
+        _ => FoundBlob::nothing(),
     }
 }

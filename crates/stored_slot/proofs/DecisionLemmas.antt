@@ -254,7 +254,7 @@ module _ (pairs : Pairs) (h : Histories) (s : Stored) (q : Asked) (t : ℕ) (w :
       (frame_told a c told.1.0 told.0 (sym told.1.1.0), (makes, found_told c found told.1.1.1 (sym told.1.1.0) makes.covered))
 
   -- the same of a decision that was made up to the end of the range, or of none
-  pub decided_if : (bound : Option Key) → bound ≡ s.range.to → (r : Result FramedDecision AllocError) → IfOk r (λ d. d ≡ framed_of keys w part q t bound) → IfOk r (λ d. AnswerCanBeSent d)
-      → IfOk r (λ d. DecidesFor pairs h s q t d)
-  decided_if bound ends (Ok d) is sent = decides d (is ∙ ap (λ (o : Option Key). framed_of keys w part q t o) ends) sent
-  decided_if bound ends (Err e) is sent = tt
+  pub decided_if : {D : Type 0} (decision : D → FramedDecision) (bound : Option Key) → bound ≡ s.range.to → (r : Result D AllocError)
+      → IfOk r (λ d. decision d ≡ framed_of keys w part q t bound) → IfOk r (λ d. AnswerCanBeSent (decision d)) → IfOk r (λ d. DecidesFor pairs h s q t (decision d))
+  decided_if decision bound ends (Ok d) is sent = decides (decision d) (is ∙ ap (λ (o : Option Key). framed_of keys w part q t o) ends) sent
+  decided_if decision bound ends (Err e) is sent = tt

@@ -14,18 +14,17 @@ ghost use Rattle.stored_slot.specs.Changes.{slot_taken};
 ghost use Rattle.stored_slot.specs.Parts.{AreOfSlot, AreSettled, MakesChangeOf, slot_of};
 
 use crate::parts::SlotParts;
-use block_blobs::FoundBlocks;
 use extent_node::Wire;
 use slot_state::Histories;
 use stamp_types::{Change, Past};
 use std::alloc::Global;
-use stored_rows::{StoredRows, TakeFault};
+use stored_rows::{FoundForChange, StoredRows, TakeFault};
 
-/// A change with the blocks that it takes, if it commits a list. They were found when the request was judged.
+/// A change with what was found for it when the request was judged.
 #[derive(Drop)]
 pub(crate) struct FoundChange {
     pub(crate) change: Change,
-    pub(crate) found: FoundBlocks,
+    pub(crate) found: FoundForChange,
 }
 
 // Takes the change, or takes the last entry of its container back.
@@ -41,7 +40,7 @@ fn take_or_take_back<H: Histories, W: Wire>(
     requires plain { is_row made.change.act ≡ false }
     requires held { IfSome (content_of made.change.act) (λ ps. IsTrue (is_held ps)) }
     requires fits { IsTrue (fits (part_value pieces_len (pieces_of stored.old made.change.key)) made.change.act) }
-    requires found { AreFoundIn stored.old made.change made.found }
+    requires found { AreFoundIn stored.old made.change made.found.blocks }
     requires sure { doubt_of stored.old ≡ None }
     ensures taken { IsTaken result stored.old (made.change, entry.now.epoch) stored.new }
     ensures stays { OnOk result (H.held histories.new ≡ H.held histories.old) }
@@ -70,7 +69,7 @@ fn take_entry<H: Histories, W: Wire>(
     requires plain { is_row made.change.act ≡ false }
     requires held { IfSome (content_of made.change.act) (λ ps. IsTrue (is_held ps)) }
     requires fits { IsTrue (fits (part_value pieces_len (pieces_of stored.old made.change.key)) made.change.act) }
-    requires found { AreFoundIn stored.old made.change made.found }
+    requires found { AreFoundIn stored.old made.change made.found.blocks }
     requires sure { doubt_of stored.old ≡ None }
     ensures taken { IsTaken result stored.old (made.change, entry.now.epoch) stored.new }
     ensures entered { H.held histories.new ≡ changes.with_taken result (H.held histories.old) entry.now }
@@ -111,7 +110,7 @@ impl<H: Histories> SlotParts<H> {
     ) -> Result<(), TakeFault>
         requires before { AreSettled H.held self.old }
         requires makes { MakesChangeOf H.held self.old entry made.change }
-        requires found { AreFoundIn self.old.stored made.change made.found }
+        requires found { AreFoundIn self.old.stored made.change made.found.blocks }
         ensures after { AreOfSlot H.held self.new }
         ensures taken { slot_of H.held self.new ≡ slot_taken result (slot_of H.held self.old) entry }
         ensures counted { FailsTake result (W.faults wire.old) (W.faults wire.new) }

@@ -20,6 +20,24 @@ use row_trees::Rows;
 use slot_state::Histories;
 use stamp_types::{Moment, Request};
 use std::alloc::{AllocError, Global};
+use stored_rows::ChangeWeight;
+
+/// A decision with the weight of its change. Both are made of what was found once in the rows.
+#[derive(Drop)]
+pub(crate) struct WeighedDecision {
+    pub(crate) decision: FramedDecision,
+    pub(crate) weight: ChangeWeight,
+}
+
+// The weight of the change of a decision, by what the decision was made of.
+fn weight_of(alloc: Global, found: &Target<'_>, decision: &FramedDecision) -> ChangeWeight {
+    match decision {
+        FramedDecision::Allowed(_answer, Some(change), blocks) => {
+            ChangeWeight::of(alloc, &found.container, found.blob(), blocks, change)
+        }
+        _ => ChangeWeight::none(),
+    }
+}
 
 impl<H: Histories> SlotParts<H> {
     // The decision on a request, from the rows and from the pair in force of the request's account.
@@ -31,17 +49,18 @@ impl<H: Histories> SlotParts<H> {
         judged: Option<&Judged<'_>>,
         reading: Reading,
         moment: Moment,
-    ) -> Result<FramedDecision, AllocError>
+    ) -> Result<WeighedDecision, AllocError>
         requires judged { IsOfAsk (option_copied judged) request.now.ask }
         requires read { reading ≡ reading_of request.now }
-        ensures decided { IfOk result (λ decision. decision
+        ensures decided { IfOk result (λ decided. decided.decision
             ≡ framed_of (current_at (arc_value self.now.pairs) request.now.ask.key.account) rows.now
             (part_at rows.now request.now.ask.key) request.now moment self.now.stored.range.to) }
-        ensures sent { IfOk result (λ decision. AnswerCanBeSent decision) }
+        ensures sent { IfOk result (λ decided. AnswerCanBeSent decided.decision) }
         ensures fits { IsRequest request.now }
     {
         let ask = request.ask();
         let target = Target::of(rows.find(&ask.key), ask);
+        let found = target.again();
         let pair = self.pairs.current(&ask.key.account);
         let bound = self.stored.end();
         let asked = JudgedRequest {
@@ -49,7 +68,9 @@ impl<H: Histories> SlotParts<H> {
             judged,
             moment,
         };
-        decide_frame(alloc, pair, &asked, rows, target, reading, bound)
+        let decision = decide_frame(alloc, pair, &asked, rows, target, reading, bound)?;
+        let weight = weight_of(alloc, &found, &decision);
+        Ok(WeighedDecision { decision, weight })
     }
 
     /// The decision on a request, from the rows of a slot that are loaded, as the histories have it.
@@ -62,13 +83,13 @@ impl<H: Histories> SlotParts<H> {
         judged: Option<&Judged<'_>>,
         reading: Reading,
         moment: Moment,
-    ) -> Result<FramedDecision, AllocError>
+    ) -> Result<WeighedDecision, AllocError>
         requires before { AreSettled H.held self.now }
         requires loaded { self.now.stored.is_loaded ≡ true }
         requires covered { slots.covers (slot_of H.held self.now) (routed request.now) ≡ true }
         requires judged { IsOfAsk (option_copied judged) request.now.ask }
         requires read { reading ≡ reading_of request.now }
-        ensures { IfOk result (λ decision. DecidesOn H.held self.now request.now moment decision) }
+        ensures { IfOk result (λ decided. DecidesOn H.held self.now request.now moment decided.decision) }
     {
         self.stored.kept();
         match self.stored.rows() {

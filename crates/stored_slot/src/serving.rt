@@ -15,6 +15,7 @@ ghost use Rattle.stored_slot.specs.Served.{Faulted, IsTakenAnswer, ServesUnrefus
 
 use crate::answering::{busy, denial, failed, reading, unknown};
 use crate::changing::FoundChange;
+use crate::deciding::WeighedDecision;
 use crate::parts::SlotParts;
 use extent_node::Wire;
 use policy_book::Judged;
@@ -23,7 +24,7 @@ use range_rows::{FramedAnswer, Reading};
 use slot_state::Histories;
 use stamp_types::{Moment, Past, Reply, Request};
 use std::alloc::{AllocError, Global};
-use stored_rows::TakeFault;
+use stored_rows::{ChangeWeight, FoundForChange, TakeFault};
 use tickets::Answer;
 
 // What is made for a change before anything is put: the entry, and the reply if the outcome is unknown. After the first put, lack of memory
@@ -96,7 +97,7 @@ impl<H: Histories> SlotParts<H> {
     ) -> Answer
         requires before { AreSettled H.held self.old }
         requires makes { MakesChangeOf H.held self.old ready.entry made.change }
-        requires found { AreFoundIn self.old.stored made.change made.found }
+        requires found { AreFoundIn self.old.stored made.change made.found.blocks }
         requires entry { ready.entry ≡ entry_of (arc_value self.old.pairs) ready.entry.request ready.entry.moment }
         requires reply { IsReplyOf H.held self.old ready.entry.request ready.entry.moment frame }
         requires unknown { ready.unknown ≡ served.unknown }
@@ -122,7 +123,7 @@ impl<H: Histories> SlotParts<H> {
     ) -> Answer
         requires before { AreSettled H.held self.old }
         requires makes { MakesChangeOf H.held self.old (entry_of (arc_value self.old.pairs) request.now moment) made.change }
-        requires found { AreFoundIn self.old.stored made.change made.found }
+        requires found { AreFoundIn self.old.stored made.change made.found.blocks }
         requires reply { IsReplyOf H.held self.old request.now moment frame }
         ensures after { AreOfSlot H.held self.new }
         ensures served { ServesUnrefused (slot_of H.held self.old) request.now moment
@@ -151,7 +152,7 @@ impl<H: Histories> SlotParts<H> {
     ) -> Answer
         requires before { AreSettled H.held self.old }
         requires makes { MakesChangeOf H.held self.old (entry_of (arc_value self.old.pairs) request.now moment) made.change }
-        requires found { AreFoundIn self.old.stored made.change made.found }
+        requires found { AreFoundIn self.old.stored made.change made.found.blocks }
         requires reply { IsReplyOf H.held self.old request.now moment answer.frame }
         ensures after { AreOfSlot H.held self.new }
         ensures served { ServesUnrefused (slot_of H.held self.old) request.now moment
@@ -169,13 +170,14 @@ impl<H: Histories> SlotParts<H> {
         }
     }
 
-    // Serves a request on which this was decided.
+    // Serves a request on which this was decided. The weight is that of its change.
     fn serve_decided<W: Wire>(
         &mut self,
         alloc: Global,
         request: &Request,
         moment: Moment,
         decision: FramedDecision,
+        weight: ChangeWeight,
         wire: &mut W,
     ) -> Answer
         requires before { AreSettled H.held self.old }
@@ -187,12 +189,13 @@ impl<H: Histories> SlotParts<H> {
     {
         match decision {
             FramedDecision::Refused(refusal) => denial(alloc, refusal),
-            FramedDecision::Allowed(answer, change, found) => match change {
+            FramedDecision::Allowed(answer, change, blocks) => match change {
                 None => {
-                    drop(found);
+                    drop(blocks);
                     reading(&mut self.stored, alloc, answer, wire)
                 }
                 Some(change) => {
+                    let found = FoundForChange { blocks, weight };
                     let made = FoundChange { change, found };
                     self.serve_written(alloc, request, moment, answer, made, wire)
                 }
@@ -224,7 +227,9 @@ impl<H: Histories> SlotParts<H> {
         ensures grown { Grows (W.faults wire.old) (W.faults wire.new) }
     {
         match self.decide(alloc, request, judged, reading, moment) {
-            Ok(decision) => self.serve_decided(alloc, request, moment, decision, wire),
+            Ok(WeighedDecision { decision, weight }) => {
+                self.serve_decided(alloc, request, moment, decision, weight, wire)
+            }
             Err(AllocError) => Answer::NoMemory,
         }
     }

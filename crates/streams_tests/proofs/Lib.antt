@@ -1,1 +1,2 @@
+pub mod CreatedLemmas
 pub mod FirstLemmas

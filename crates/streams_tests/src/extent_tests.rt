@@ -8,11 +8,12 @@ use extent_seal::{Appended, BlockOwners, OpenExtent};
 fn an_extent_is_read_before_and_after_its_seal(rt: HostRuntime) {
     let alloc = rt.alloc();
     let mut extent = OpenExtent::new(alloc);
-    let mut wire = script(&rt, alloc, &[], &[]);
-    let one = block(&rt, alloc, 7, 3);
+    let mut wire = script(&rt, alloc, &[], &[]); // three nodes that do all that they are told
+    let one = block(&rt, alloc, 7, 3); // three bytes 7
     let appended = extent.append(&one, &mut wire).expect(&rt, "memory");
-    assert!(rt; matches!(appended, Appended::All));
+    assert!(rt; matches!(appended, Appended::All)); // or `Short`: a node did not take it
     assert_eq!(rt; extent.len(), 1);
+    // After a short append the caller seals, and appends no more.
     assert!(rt; !extent.is_short());
     let read = extent.read(0, &mut wire).ok().expect(&rt, "a block");
     assert!(rt; read == one);
@@ -20,6 +21,7 @@ fn an_extent_is_read_before_and_after_its_seal(rt: HostRuntime) {
     assert_eq!(rt; sealed.commit_len(), 1);
     let read = sealed.read(0, &mut wire).ok().expect(&rt, "a block");
     assert!(rt; read == one);
+    // Three puts, three asks of the seal, and one ask of each read.
     assert_eq!(rt; wire.called().len(), 8);
 }
 

@@ -12,6 +12,8 @@ mod data_tests;
 #[cfg(test)]
 mod every_delivery_tests;
 #[cfg(test)]
+mod examples;
+#[cfg(test)]
 mod extent_tests;
 #[cfg(test)]
 mod handle_tests;
@@ -46,6 +48,8 @@ mod sample_fields;
 mod sample_places;
 #[cfg(test)]
 mod sample_records;
+#[cfg(test)]
+mod sample_rows;
 #[cfg(test)]
 mod sample_wires;
 #[cfg(test)]

@@ -88,8 +88,8 @@ fn is_held(change: &Change) -> bool
     }
 }
 
-// Tests what a take requires.
-fn test_change(rt: &impl Abort, stored: &StoredRows, change: &Change)
+/// Tests what a take requires.
+pub(crate) fn test_change(rt: &impl Abort, stored: &StoredRows, change: &Change)
     ensures covered { covers stored.now.range change.now.key ≡ true }
     ensures plain { kinds.is_row change.now.act ≡ false }
     ensures held { IfSome (content_of change.now.act) (λ ps. IsTrue (pieces.is_held ps)) }

@@ -45,7 +45,7 @@ fn rows() -> [Row; 4] {
 }
 
 // A Put Blob of `a.txt` in `pics` with this credential.
-fn put(rt: &impl Abort, alloc: Global, sent: Sent) -> Request {
+pub(crate) fn put(rt: &impl Abort, alloc: Global, sent: Sent) -> Request {
     let case = Case {
         op: Op::PutBlob,
         kinds: None,
@@ -58,7 +58,7 @@ fn put(rt: &impl Abort, alloc: Global, sent: Sent) -> Request {
     request(rt, alloc, &case)
 }
 
-fn shared(rt: &impl Abort, alloc: Global, epoch: u64) -> Arc<Keys> {
+pub(crate) fn shared(rt: &impl Abort, alloc: Global, epoch: u64) -> Arc<Keys> {
     let mut pair = keys(rt, alloc, ACCOUNT);
     pair.epoch = epoch;
     Arc::new(alloc, pair).expect(rt, "memory")

@@ -14,6 +14,8 @@ mod books_tests;
 #[cfg(test)]
 mod change_tests;
 #[cfg(test)]
+mod examples;
+#[cfg(test)]
 mod field_tests;
 #[cfg(test)]
 mod judgement_tests;

@@ -191,13 +191,16 @@ fn post<R: Wait + Abort>(rt: &R, alloc: Global, book: &Book, request: &Request, 
 fn a_book_is_written_line_by_line(rt: HostRuntime) {
     let alloc = rt.alloc();
     let book = Book::new(alloc, 2).expect(&rt, "memory");
+    // The entries of two Put Blobs, by the first key and by the second. 7 and 8 are their places.
     post(&rt, alloc, &book, &put_by(&rt, alloc, &[FIRST]), 7);
     post(&rt, alloc, &book, &put_by(&rt, alloc, &[SECOND]), 8);
     let mut out = Vec::new(alloc);
     assert!(rt; append_line_at(alloc, &mut out, &book, 0) == Ok(true));
+    // BY_FIRST: 2012-10-01T12:00:00.0000000Z shared key1 PutBlob /devstoreaccount1/pics/a.txt 7
     assert!(rt; out.as_slice() == BY_FIRST.as_bytes());
     assert!(rt; append_line_at(alloc, &mut out, &book, 1) == Ok(true));
     assert!(rt; out.as_slice().ends_with(BY_SECOND.as_bytes()));
+    // No entry is at this index.
     assert!(rt; append_line_at(alloc, &mut out, &book, 2) == Ok(false));
     assert!(rt; out.len() == BY_FIRST.len() + BY_SECOND.len());
 }

@@ -7,12 +7,17 @@ use stamp_types::{Acl, Items, Letters, Level, Moment, Policies, Policy};
 use std::alloc::Global;
 use std::process::Abort;
 
-fn moment(text: &str) -> Option<Moment> {
+pub(crate) fn moment(text: &str) -> Option<Moment> {
     read_iso(text.as_bytes()).ok()
 }
 
 // A token that gives what is not empty.
-fn token<'a>(id: &'a str, start: &'a str, expiry: &'a str, letters: &'a str) -> Token<'a> {
+pub(crate) fn token<'a>(
+    id: &'a str,
+    start: &'a str,
+    expiry: &'a str,
+    letters: &'a str,
+) -> Token<'a> {
     Token {
         version: b"2012-02-12",
         resource: Resource::Container,
@@ -35,7 +40,7 @@ fn token<'a>(id: &'a str, start: &'a str, expiry: &'a str, letters: &'a str) -> 
 }
 
 // A container with one policy, `read-only`, that gives what is not empty.
-fn acl(rt: &impl Abort, alloc: Global, start: &str, expiry: &str, letters: &str) -> Acl {
+pub(crate) fn acl(rt: &impl Abort, alloc: Global, start: &str, expiry: &str, letters: &str) -> Acl {
     let mut policies = Vec::new(alloc);
     policies
         .push(Policy {

@@ -22,7 +22,7 @@ fn unsigned(alloc: Global) -> Signing {
 }
 
 // A Put Blob into this container.
-fn put_blob(rt: &impl Abort, alloc: Global, container: &str) -> Ask {
+pub(crate) fn put_blob(rt: &impl Abort, alloc: Global, container: &str) -> Ask {
     let mut args = Args::none();
     args.kept = Some(kept(alloc));
     Ask {

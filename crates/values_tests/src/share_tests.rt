@@ -81,9 +81,11 @@ fn bytes_are_read_and_hashed(rt: HostRuntime) {
     let alloc = rt.alloc();
     let mut reader = b"hello".as_slice();
     let mut gathering = Gathering::new(alloc);
+    // At most 3 bytes, and then at most 8 bytes.
     assert!(rt; gathering.read_from(&mut reader, 3) == Ok(3));
     assert!(rt; gathering.read_from(&mut reader, 8) == Ok(2));
-    assert!(rt; gathering.read_from(&mut reader, 8) == Ok(0));
+    assert!(rt; gathering.read_from(&mut reader, 8) == Ok(0)); // the end of the reader
+    // As `printf hello | openssl md5` prints it.
     assert!(rt; gathering.finish(alloc).expect(&rt, "memory").sum() == SUM_OF_HELLO);
 }
 

@@ -8,7 +8,7 @@ use std::process::Abort;
 
 type Pairs = &'static [(&'static str, &'static str)];
 
-fn fields(rt: &impl Abort, alloc: Global, pairs: Pairs) -> FieldList {
+pub(crate) fn fields(rt: &impl Abort, alloc: Global, pairs: &[(&str, &str)]) -> FieldList {
     let mut fields = FieldList::new(alloc);
     for (name, value) in pairs {
         fields
@@ -21,9 +21,9 @@ fn fields(rt: &impl Abort, alloc: Global, pairs: Pairs) -> FieldList {
 // What a request of the development account signs: its verb, its headers, its path and its parameters. Then the string.
 type Row = (Verb, Pairs, &'static str, Pairs, &'static str);
 
-const DATE: (&str, &str) = ("x-ms-date", "Mon, 01 Oct 2012 12:00:00 GMT");
+pub(crate) const DATE: (&str, &str) = ("x-ms-date", "Mon, 01 Oct 2012 12:00:00 GMT");
 
-const VERSION: (&str, &str) = ("x-ms-version", "2012-02-12");
+pub(crate) const VERSION: (&str, &str) = ("x-ms-version", "2012-02-12");
 
 fn rows() -> [Row; 7] {
     [

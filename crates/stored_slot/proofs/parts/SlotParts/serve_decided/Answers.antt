@@ -25,12 +25,12 @@ returns-in-Refused-clause-served g c =
 
 pub reading-requires-clause-stored : goal.reading-requires-clause-stored
 reading-requires-clause-stored g c =
-    let is = c.in-Allowed.is ∙ ap (λ o. framed.Allowed c.in-Allowed.answer o c.in-Allowed.found) c.in-None.is in
+    let is = c.in-Allowed.is ∙ ap (λ o. framed.Allowed c.in-Allowed.answer o c.in-Allowed.blocks) c.in-None.is in
     (subst (λ (d : FramedDecision). DecidesOn g.H.Histories.held c.args.self.now c.args.request.now c.args.moment d) is c.requires.decided).stored
 
 pub reading-requires-clause-sent : goal.reading-requires-clause-sent
 reading-requires-clause-sent g c =
-    let is = c.in-Allowed.is ∙ ap (λ o. framed.Allowed c.in-Allowed.answer o c.in-Allowed.found) c.in-None.is in
+    let is = c.in-Allowed.is ∙ ap (λ o. framed.Allowed c.in-Allowed.answer o c.in-Allowed.blocks) c.in-None.is in
     (subst (λ (d : FramedDecision). DecidesOn g.H.Histories.held c.args.self.now c.args.request.now c.args.moment d) is c.requires.decided).sent
 
 pub returns-in-None-clause-after : goal.returns-in-None-clause-after
@@ -42,7 +42,7 @@ pub returns-in-None-clause-served : goal.returns-in-None-clause-served
 returns-in-None-clause-served g c =
     let held = g.H.Histories.held in
     let p = c.args.self.now in
-    let is = c.in-Allowed.is ∙ ap (λ o. framed.Allowed c.in-Allowed.answer o c.in-Allowed.found) c.in-None.is in
+    let is = c.in-Allowed.is ∙ ap (λ o. framed.Allowed c.in-Allowed.answer o c.in-Allowed.blocks) c.in-None.is in
     let a = subst (λ (d : FramedDecision). DecidesOn held p c.args.request.now c.args.moment d) is c.requires.decided in (
       read_told (slot_of held p) c.args.request.now c.args.moment _ c.reading.result (reply_read (bytes_at (laid p.stored.streams.blobs)) c.in-Allowed.answer) _ c.reading.ensures.read a.reply a.unchanged
           (ap (λ (s : Stored). slot_with (arc_value p.pairs) (held p.histories) s p.doubt) c.reading.ensures.same),
@@ -51,15 +51,15 @@ returns-in-None-clause-served g c =
 
 pub serve_written-requires-clause-makes : goal.serve_written-requires-clause-makes
 serve_written-requires-clause-makes g c =
-    let is = c.in-Allowed.is ∙ ap (λ o. framed.Allowed c.in-Allowed.answer o c.in-Allowed.found) c.in-Some.is in
+    let is = c.in-Allowed.is ∙ ap (λ o. framed.Allowed c.in-Allowed.answer o c.in-Allowed.blocks) c.in-Some.is in
     (subst (λ (d : FramedDecision). DecidesOn g.H.Histories.held c.args.self.now c.args.request.now c.args.moment d) is c.requires.decided).1.0
 
 pub serve_written-requires-clause-found : goal.serve_written-requires-clause-found
 serve_written-requires-clause-found g c =
-    let is = c.in-Allowed.is ∙ ap (λ o. framed.Allowed c.in-Allowed.answer o c.in-Allowed.found) c.in-Some.is in
+    let is = c.in-Allowed.is ∙ ap (λ o. framed.Allowed c.in-Allowed.answer o c.in-Allowed.blocks) c.in-Some.is in
     (subst (λ (d : FramedDecision). DecidesOn g.H.Histories.held c.args.self.now c.args.request.now c.args.moment d) is c.requires.decided).1.1
 
 pub serve_written-requires-clause-reply : goal.serve_written-requires-clause-reply
 serve_written-requires-clause-reply g c =
-    let is = c.in-Allowed.is ∙ ap (λ o. framed.Allowed c.in-Allowed.answer o c.in-Allowed.found) c.in-Some.is in
+    let is = c.in-Allowed.is ∙ ap (λ o. framed.Allowed c.in-Allowed.answer o c.in-Allowed.blocks) c.in-Some.is in
     (subst (λ (d : FramedDecision). DecidesOn g.H.Histories.held c.args.self.now c.args.request.now c.args.moment d) is c.requires.decided).0
