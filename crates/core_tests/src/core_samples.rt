@@ -1,7 +1,7 @@
 //! A core that connections are served by, and what is sent to it beside what is sent to slots.
 ghost use Rattle.std.specs.Prelude.{⊤};
 
-use crate::samples::{key, pair};
+use crate::samples::{key, noon, pair, request};
 use core_run::{Outcome, Step, StepFault};
 use extent_node::{Delivery, Script};
 use http_front::Service;
@@ -103,6 +103,14 @@ pub(crate) fn empty_core(rt: &impl Abort, alloc: Global) -> Box<Driven> {
         kept: None,
     };
     Box::new(alloc, driven).expect(rt, "memory")
+}
+
+/// The step that serves this request at noon.
+pub(crate) fn serve(rt: &impl Abort, alloc: Global, head: &[u8], body: &[u8]) -> Step {
+    Step::Serve {
+        request: request(rt, alloc, head, body),
+        moment: noon(rt),
+    }
 }
 
 /// Why the slot is not split at the key of this container; `None` if it is split.

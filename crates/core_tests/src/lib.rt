@@ -10,6 +10,8 @@ mod core_samples;
 #[cfg(test)]
 mod core_step_tests;
 #[cfg(test)]
+mod examples;
+#[cfg(test)]
 mod history_tests;
 #[cfg(test)]
 mod judgement_tests;

@@ -12,6 +12,10 @@ pub(crate) const DELETE_CONTAINER: &[u8] =
 pub(crate) const PUT: &[u8] =
     b"PUT /devstoreaccount1/pics/a.txt HTTP/1.1\r\nx-ms-date: Mon, 01 Oct 2012 12:00:00 GMT\r\nx-ms-version: 2012-02-12\r\nContent-Length: 5\r\nx-ms-blob-type: BlockBlob\r\nAuthorization: SharedKey devstoreaccount1:d6Z+te/s0/4E59HxWmnrHiDmMywuU/tdYZOanDvfbmU=\r\n\r\nhello";
 
+/// The head of this Put Blob.
+pub(crate) const PUT_HEAD: &[u8] =
+    b"PUT /devstoreaccount1/pics/a.txt HTTP/1.1\r\nx-ms-date: Mon, 01 Oct 2012 12:00:00 GMT\r\nx-ms-version: 2012-02-12\r\nContent-Length: 5\r\nx-ms-blob-type: BlockBlob\r\nAuthorization: SharedKey devstoreaccount1:d6Z+te/s0/4E59HxWmnrHiDmMywuU/tdYZOanDvfbmU=\r\n\r\n";
+
 /// A Get Blob of `a.txt`.
 pub(crate) const GET: &[u8] =
     b"GET /devstoreaccount1/pics/a.txt HTTP/1.1\r\nx-ms-date: Mon, 01 Oct 2012 12:00:00 GMT\r\nx-ms-version: 2012-02-12\r\nAuthorization: SharedKey devstoreaccount1:1faO58/enDoA9unDNvD2pMLw3jmfkbnVyTRBzimElkI=\r\n\r\n";

@@ -5,12 +5,18 @@ use crate::sample_pairs::pair_of;
 use access_rules::Keys;
 use hmac_sign::SigningKey;
 use http_front::{Clock, Connection, End, Service, run};
-use stamp_types::{AccountName, Key, Moment, Text};
+use request_form::read_head;
+use stamp_types::{AccountName, Body, Key, Moment, Request, Share, Text};
 use std::alloc::Global;
 use std::process::Abort;
 
 // 2012-10-01T12:00:00Z, in steps of 100 ns since 1970.
 const NOON: i64 = 13_490_928_000_000_000;
+
+/// 2012-10-01T12:00:00Z.
+pub(crate) fn noon(rt: &impl Abort) -> Moment {
+    Moment::new(NOON).expect(rt, "a moment")
+}
 
 /// A clock that always gives the same moment.
 #[derive(Drop)]
@@ -47,6 +53,15 @@ pub(crate) fn sent_if<S: Service>(rt: &impl Abort, alloc: Global, service: &mut 
     let mut http = Connection::new(alloc, input, Vec::new(alloc), 100);
     let end = run(alloc, &mut http, &mut Still { moment }, service);
     assert!(rt; end.is_err());
+}
+
+/// The request of this head and this body.
+pub(crate) fn request(rt: &impl Abort, alloc: Global, head: &[u8], body: &[u8]) -> Request {
+    let head = read_head(alloc, head).expect(rt, "a head");
+    assert!(rt; head.body_len() == body.len() as u64);
+    let bytes = body.to_vec(alloc).expect(rt, "memory");
+    let share = Share::new(alloc, bytes).expect(rt, "memory");
+    head.with_body(alloc, Body::of(share)).expect(rt, "memory")
 }
 
 /// The text.

@@ -126,7 +126,7 @@ impl Write for Passing<'_> {
 
 /// A clock that always gives the first moment.
 #[derive(Drop)]
-struct Start;
+pub(crate) struct Start;
 
 impl Clock for Start {
     ghost gives = { λ old moment new. ⊤ };
@@ -138,8 +138,8 @@ impl Clock for Start {
 
 /// Refuses each request by P2, or fails as if memory ran out.
 #[derive(Drop)]
-struct Closed {
-    starved: bool,
+pub(crate) struct Closed {
+    pub(crate) starved: bool,
 }
 
 impl Service for Closed {

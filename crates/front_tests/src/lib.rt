@@ -8,6 +8,8 @@ mod condition_tests;
 #[cfg(test)]
 mod connection_tests;
 #[cfg(test)]
+mod examples;
+#[cfg(test)]
 mod head_tests;
 #[cfg(test)]
 mod link_tests;

@@ -64,6 +64,7 @@ fn a_block_list_is_read_and_policies_are_written(rt: HostRuntime) {
 
 // block_blobs
 #[test]
+#[tactic(auto, using(block_blobs::proofs::FoundLemmas::resolved_fits, block_blobs::proofs::FoundLemmas::resolved_found))]
 fn a_list_commits_a_block_twice(rt: HostRuntime) {
     let alloc = rt.alloc();
     let mut row = BlobRow::new(alloc);

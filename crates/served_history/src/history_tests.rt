@@ -1,10 +1,9 @@
 //! A slot enters a request, and a slot is split. Both are of a stamp without accounts, whose history has no other entries.
-ghost use Rattle.std.specs.Prelude.{◌≡◌, ◌<◌, ◌^◌, ◌∷◌, [], None};
-ghost use Rattle.served_history.specs.declared.entry.Entry.TheVariants.{Opened, Served};
-ghost use Rattle.served_history.specs.Histories.{count_of, IsOwn};
+ghost use Rattle.std.specs.Prelude.{◌≡◌, ◌∷◌, []};
+ghost use Rattle.served_history.specs.declared.entry.Entry.TheVariants.{Opened};
 
 use crate::entry::TimedCall;
-use crate::history::{Account, LogFront, NewHistory};
+use crate::history::{Account, NewHistory};
 use crate::laws::two_connections_agree;
 use crate::slot_history::SlotHistory;
 use request_form::read_head;
@@ -31,37 +30,26 @@ fn key(rt: &impl Abort, alloc: Global, name: &str) -> Key {
     }
 }
 
-// Enters a request that the slot serves by no key pair and up to no bound.
-fn serve<A: Account>(
-    rt: &impl Abort,
-    slot: &mut SlotHistory<A>,
-    known: &mut LogFront<A>,
-    request: &Request,
-    moment: Moment,
-)
-    requires room { count_of slot.old.slot slot.old.log < 2 ^ 62 }
-    requires own { IsOwn slot.old.log (Served slot.old.slot (record { request = request.now; moment = moment; keys = None; bound = None })) }
-{
-    let call = TimedCall {
-        request,
-        moment,
-        keys: None,
-        bound: None,
-    };
-    assert!(rt; slot.enter(known, &call));
-}
-
 // A slot of all keys enters a request. Then the slot and a connection know beginnings of one history.
-fn enter_first<A: Account>(rt: &impl Abort, history: NewHistory, request: &Request, moment: Moment)
+fn enters_a_request<A: Account>(rt: &impl Abort, alloc: Global, history: NewHistory)
     requires book { history.book ≡ A.history }
     requires fresh { history.next ≡ 0 }
     requires log { history.log ≡ Opened [] ∷ [] }
 {
     let mut history = history;
-    let mut known = history.front::<A>();
+    let mut known = history.front::<A>(); // a connection knows this
+    // The lock of slot 0 keeps this value. The slot has all keys.
     let mut slot = SlotHistory::new(history.word::<A>(0), known.again());
-    serve(rt, &mut slot, &mut known, request, moment);
-    two_connections_agree(&known, &slot.front());
+    let request = request(rt, alloc); // a Get Blob of /acct/box/a
+    // Under the lock the slot serves the request. The account has no key pair, and no slot comes after.
+    let call = TimedCall {
+        request: &request,
+        moment: Moment::first(),
+        keys: None,
+        bound: None,
+    };
+    assert!(rt; slot.enter(&mut known, &call)); // otherwise the slot is poisoned
+    two_connections_agree(&known, &slot.front()); // a law: both know beginnings of one history
 }
 
 // A slot of all keys is split. Then both slots know beginnings of one history.
@@ -81,8 +69,7 @@ fn split_first<A: Account>(rt: &impl Abort, history: NewHistory, middle: &Key)
 #[test]
 fn a_slot_enters_a_request(rt: HostRuntime) {
     let history = NewHistory::new(&[]);
-    let request = request(&rt, rt.alloc());
-    enter_first::<Brand>(&rt, history, &request, Moment::first());
+    enters_a_request::<Brand>(&rt, rt.alloc(), history);
 }
 
 #[test]

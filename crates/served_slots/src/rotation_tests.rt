@@ -2,7 +2,7 @@
 ghost use Rattle.std.specs.Prelude.{◌≡◌, ◌∷◌, []};
 ghost use Rattle.served_history.specs.declared.entry.Entry.TheVariants.{Opened};
 
-use crate::connection::SlotsService;
+use crate::connection::{SlotsService, two_connections_agree};
 use crate::operator::Operator;
 use crate::slots::Slots;
 use crate::slots_tests::{
@@ -119,6 +119,40 @@ fn rotates<A: Account, R: Wait + Abort>(
     assert!(rt; operator.split(alloc, &middle) == Err(SplitFault::FirstKey));
     assert!(rt; operator.rotate(alloc, Which::First, &new) == Ok(2));
     opens_by_new(rt, alloc, &mut client);
+}
+
+// Two connections are served over two slots, and then a key is replaced.
+fn serves_two_slots<A: Account, R: Wait + Abort>(
+    rt: &R,
+    alloc: Global,
+    pairs: Vec<Keys>,
+    history: NewHistory,
+)
+    requires book { history.book ≡ A.history }
+    requires fresh { history.next ≡ 0 }
+    requires log { history.log ≡ Opened pairs.items ∷ [] }
+{
+    // The first key pairs of the accounts, and the history that begins with them.
+    let (slots, front) = Slots::<A>::new(alloc, pairs, history).expect(rt, "memory");
+    // Slot 0 keeps the keys before `q`, and slot 1 gets the others.
+    assert!(rt; slots.split(rt, alloc, &key(rt, alloc, "q")).is_ok());
+    // The services of two connections, each on any thread. `sent` calls `run` with one of them.
+    let mut first = SlotsService::new(rt, &slots, front.again());
+    let mut second = SlotsService::new(rt, &slots, front.again());
+    assert!(rt; sent(rt, alloc, &mut first, CREATE_PICS).starts_with(CREATED));
+    assert!(rt; sent(rt, alloc, &mut second, CREATE_ZOO).starts_with(CREATED));
+    two_connections_agree(&first, &second); // a law: both know beginnings of one history
+    let mut operator = Operator::new(rt, &slots, account(rt, alloc), front);
+    let new = signing(rt, alloc, b"new1"); // in the place of `key1`
+    assert!(rt; operator.rotate(alloc, Which::First, &new) == Ok(1)); // the epoch of the new pair
+    assert!(rt; sent(rt, alloc, &mut first, GET_PICS).starts_with(FORBIDDEN)); // signed by `key1`
+}
+
+#[test]
+fn two_connections_are_served_and_a_key_is_replaced(rt: HostRuntime) {
+    let pairs = pairs(&rt, rt.alloc());
+    let history = NewHistory::new(&pairs);
+    serves_two_slots::<Brand, _>(&rt, rt.alloc(), pairs, history);
 }
 
 #[test]

@@ -10,7 +10,7 @@ use Rattle.stamp_values.specs.Order.{key_cmp, keys_exact, keys_total}
 use Rattle.stamp_values.specs.declared.key.Key.{Key}
 use Rattle.stamp_types.specs.Changes.{KeyedAct, is_act, is_change}
 use Rattle.stamp_types.specs.Contents.{EachActContent, EachWorldContent}
-use Rattle.stamp_types.specs.World.{Part, changed, changed_in, no_part, part_at, same_pieces}
+use Rattle.stamp_types.specs.World.{Part, World, changed, changed_in, no_part, part_at, same_pieces}
 use Rattle.stamp_types.specs.declared.act.Act.{Act}
 use Rattle.stamp_types.specs.declared.act.Act.TheVariants as act
 use Rattle.stamp_types.specs.declared.act.CreateContainer.{CreateContainer}
@@ -41,8 +41,11 @@ created_writable c a good created = λ key.
     subst (λ (o : Option (Part (List Piece))). IsWritable key (unwrap_or o no_part))
     (sym (finite.get-insert keys_total finite.empty c.key made key)) (by key (eq_by_cmp key_cmp key c.key) refl)
   where
+    nothing : World (List Piece)
+    nothing = finite.empty
+
     before : Part (List Piece)
-    before = part_at finite.empty c.key
+    before = part_at nothing c.key
 
     made : Part (List Piece)
     made = changed same_pieces c.act before
@@ -53,7 +56,7 @@ created_writable c a good created = λ key.
     first : IsWritable c.key made
     first = subst (λ act. IsWritable c.key (changed same_pieces act before)) (sym created) (own c.key a before none (named c good))
 
-    by : (key : Key) (t : Bool) → eq_by_cmp key_cmp key c.key ≡ t → IsWritable key (unwrap_or (cond t (Some made) (finite.get finite.empty key)) no_part)
+    by : (key : Key) (t : Bool) → eq_by_cmp key_cmp key c.key ≡ t → IsWritable key (unwrap_or (cond t (Some made) (finite.get nothing key)) no_part)
     by key true same = subst (λ key. IsWritable key made) (sym (tells_apart keys_exact key c.key same)) first
     by key false off = subst (λ (o : Option (Part (List Piece))). IsWritable key (unwrap_or o no_part)) (sym (finite.get-empty key_cmp key)) (none_writable key)
 
