@@ -281,7 +281,7 @@ impl StoredRows {
         note(self.alloc, &mut self.rows, &mut self.doubt, logged, found)
     }
 
-    // What is found for a change in the rows, if they are loaded and memory is left.
+    // The finding for a change in the rows, if they are loaded and memory is left.
     fn found_for(&self, change: &Change) -> Option<FoundForChange>
         requires covered { covers self.now.range change.now.key ≡ true }
         requires fits { IsTrue (fits (part_value pieces_len (pieces_of self.now change.now.key)) change.now.act) }

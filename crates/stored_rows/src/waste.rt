@@ -76,7 +76,7 @@ impl Size {
     }
 }
 
-/// What a change brings, and what it does to what exists, as the rows are before it. No answer depends on it.
+/// How many bytes a change brings, frees and adds, as the rows are before it. No answer depends on these numbers.
 #[derive(Clone, Copy)]
 pub struct ChangeWeight {
     // the content that it brings
@@ -292,12 +292,12 @@ fn blob_metadata(blob: &FoundBlob<'_>) -> u64 {
     }
 }
 
-// What exists of a blob of this name.
+// The size of a blob of this name.
 fn named_size(head: u64, name: &Text, blob: &FoundBlob<'_>) -> Size {
     blob_size(head, name.as_str().len(), blob)
 }
 
-// What an act takes away of a container and of the blob that it names, or replaces.
+// The part of a container and of its named blob that an act takes away or replaces.
 fn freed_by(
     alloc: Global,
     head: u64,
@@ -370,7 +370,7 @@ fn listed_len(list: &PutBlockList, blob: &FoundBlob<'_>, found: &FoundBlocks) ->
     }
 }
 
-// What exists of a blob after these blocks are its list.
+// The size of a blob after these blocks are its list.
 fn list_size(head: u64, list: &PutBlockList, blob: &FoundBlob<'_>, found: &FoundBlocks) -> Size {
     let blocks = listed_len(list, blob, found);
     let committed = committed_len(&list.props, &list.metadata, blocks);
@@ -380,7 +380,7 @@ fn list_size(head: u64, list: &PutBlockList, blob: &FoundBlob<'_>, found: &Found
     }
 }
 
-// What exists more after an act, with the blocks that were found for its list, but without an uncommitted block.
+// The size that an act adds, with the blocks that were found for its list, but without an uncommitted block.
 fn added_by(head: u64, blob: &FoundBlob<'_>, found: &FoundBlocks, act: &Act) -> Size {
     match act {
         Act::CreateContainer(create) => {
@@ -447,7 +447,7 @@ impl ChangeWeight {
     }
 }
 
-/// What a decision found in the rows for a change: the blocks that it takes, if it commits a list, and what it does to what exists.
+/// The finding of a decision for a change: the blocks that the change takes, if it commits a list, and the weight of the change.
 #[derive(Drop)]
 pub struct FoundForChange {
     pub blocks: FoundBlocks,
