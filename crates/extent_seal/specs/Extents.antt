@@ -55,3 +55,7 @@ first_kept (Some r) one two = r.blocks
 first_kept None (Some r) two = r.blocks
 first_kept None None (Some r) = r.blocks
 first_kept None None None = []
+
+-- an extent without blocks, of which each node has a copy
+abbrev pub no_blocks : Closed
+no_blocks = record { blocks = []; kept = all_three }

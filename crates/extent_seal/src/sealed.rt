@@ -8,7 +8,7 @@ ghost use Rattle.extent_seal.specs.declared.sealed.ReadFault.TheVariants.{Unreac
 
 use extent_node::{Node, Replica, Wire};
 use stamp_values::Share;
-use std::alloc::AllocError;
+use std::alloc::{AllocError, Global};
 use std::marker::Model;
 
 /// Why a block was not read, or a node did not get a copy of an extent.
@@ -91,6 +91,21 @@ pub(crate) fn shared(block: &Share) -> Result<Share, ReadFault>
     ensures reached { result ≢ Err Unreachable }
 {
     block.share().map_err(|_| ReadFault::NoMemory)
+}
+
+impl Sealed {
+    ghost use Rattle.extent_seal.specs.Extents.{no_blocks};
+
+    /// An extent without blocks, of which each node has a copy. Takes no memory, and calls no node.
+    pub fn none(alloc: Global) -> Self
+        ensures { result ≡ no_blocks }
+    {
+        Self {
+            zero: Some(Replica::new(alloc)),
+            one: Some(Replica::new(alloc)),
+            two: Some(Replica::new(alloc)),
+        }
+    }
 }
 
 impl Sealed {

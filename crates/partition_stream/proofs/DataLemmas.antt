@@ -7,14 +7,36 @@ use Rattle.std.proofs.lemmas.List.Elements.{All-nil, All-push}
 use Rattle.extent_node.specs.Copies.{Block}
 use Rattle.stamp_types.specs.Pieces.{cut, cut_at_most, piece_len, piece_bytes, held, is_held, is_held_piece, is_piece, is_pieces}
 use Rattle.stamp_types.specs.declared.piece.Piece.{Piece}
+use Rattle.stamp_types.specs.declared.piece.Piece.TheVariants.{Bytes, At}
 use Rattle.stamp_values.specs.declared.place.Place.{Place}
-use Rattle.stream_manager.specs.Places.{IsLastAt, KeepsPlaces}
+use Rattle.stream_manager.specs.Places.{GoesOn, IsLastAt, KeepsPlaces}
+use Rattle.stream_manager.specs.Streams.{Streamed, laid}
+use Rattle.stream_manager.proofs.PlaceLemmas.{onward}
+use Rattle.stream_manager.proofs.ReadLemmas.{count_of_extents}
 use Rattle.partition_stream.specs.Contents.{ArePlaced, EndsWithBlock, IsPlaced, IsStored, bytes_at}
+use Rattle.partition_stream.specs.Sweeping.{AreFrom, IsFrom}
 use Rattle.partition_stream.proofs.ContentLemmas.{content_stays, content_reads}
 
 -- a block that was appended is in one of the last two extents
 pub ends_here : (es : List (List Block)) (p : Place) (b : Block) → IsLastAt es p b → EndsWithBlock es
 ends_here es p b last = record { place = p; block = b; here = last.here; near = last.near }
+
+-- extents that go on twice go on
+pub twice_on : (es fs gs : List (List Block)) → GoesOn es fs → GoesOn fs gs → GoesOn es gs
+twice_on es fs gs a b = (a.0 ++ b.0, onward es fs gs a.0 b.0 a.1 b.1)
+
+-- one more piece is in an extent from those on that were sealed before all of them
+pub pieces_after : (s t : Streamed) (ps all : List Piece) (p : Piece) → GoesOn (laid s) (laid t) → AreFrom (length s.sealed) ps → IsFrom (length t.sealed) p → all ≡ ps ++ p ∷ []
+    → AreFrom (length s.sealed) all
+pieces_after s t ps all p on old new more = rw more (All-push (IsFrom (length s.sealed)) ps p old (earlier p new))
+  where
+    earlier : (q : Piece) → IsFrom (length t.sealed) q → IsFrom (length s.sealed) q
+    earlier (Bytes bs) from = absurd from
+    earlier (At place n) from =
+        let a = count_of_extents s.sealed s.last in
+        let b = count_of_extents t.sealed t.last in
+        let l = on.1.sealed.longer in
+        omega (arith, a, b, l, from)
 
 -- no piece is placed yet
 pub none_placed : (es : List (List Block)) → ArePlaced es [] []

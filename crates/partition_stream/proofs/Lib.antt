@@ -17,3 +17,4 @@ pub mod PositionLemmas
 pub mod RepairLemmas
 pub mod RowWalkLemmas
 pub mod StreamLemmas
+pub mod SweepingLemmas

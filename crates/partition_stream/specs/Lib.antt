@@ -11,4 +11,5 @@ pub mod Positions
 pub mod Repairs
 pub mod Storing
 pub mod Streams
+pub mod Sweeping
 pub mod Written

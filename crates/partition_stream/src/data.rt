@@ -1,11 +1,12 @@
 //! Content that is put into a stream of data, piece by piece.
 ghost use Rattle.std.specs.Prelude.{◌≡◌, ◌≤◌, ◌⊎◌, Err, IfOk, IsTrue, Some, length};
 ghost use Rattle.stamp_types.specs.Pieces.{is_held, is_held_piece, is_pieces, piece_len};
-ghost use Rattle.stream_manager.specs.Places.{KeepsPlaces, block_at};
+ghost use Rattle.stream_manager.specs.Places.{GoesOn, KeepsPlaces, block_at};
 ghost use Rattle.stream_manager.specs.Streams.{laid};
 ghost use Rattle.stream_manager.specs.declared.faults.StoredFault.TheVariants.{NoMemory};
 ghost use Rattle.partition_stream.specs.Contents.{ArePlaced, EndsWithBlock, IsPlaced};
 ghost use Rattle.partition_stream.specs.Counting.{CallsPut, FailsPut};
+ghost use Rattle.partition_stream.specs.Sweeping.{AreFrom, IsFrom};
 
 use extent_node::Wire;
 use stamp_types::{Piece, Pieces};
@@ -18,7 +19,9 @@ use stream_manager::{AppendFault, StoredFault, Stream};
 fn put_bytes<W: Wire>(blobs: &mut Stream, bytes: &Share, wire: &mut W) -> Result<Place, StoredFault>
     requires { length bytes.now ≤ 4_194_304 }
     ensures placed { IfOk result (λ p. block_at (laid blobs.new) p ≡ Some bytes.now) }
+    ensures after { IfOk result (λ p. length blobs.old.sealed ≤ p.extent) }
     ensures kept { KeepsPlaces (laid blobs.old) (laid blobs.new) }
+    ensures follows { GoesOn (laid blobs.old) (laid blobs.new) }
     ensures limit { blobs.new.limit ≡ blobs.old.limit }
     ensures called { CallsPut result 1 (length blobs.old.sealed) (length blobs.new.sealed) (W.calls wire.old) (W.calls wire.new) }
     ensures counted { FailsPut result (W.faults wire.old) (W.faults wire.new) }
@@ -40,7 +43,9 @@ fn put_piece<W: Wire>(blobs: &mut Stream, piece: &Piece, wire: &mut W) -> Result
     requires held { IsTrue (is_held_piece piece.now) }
     requires short { piece_len piece.now ≤ 4_194_304 }
     ensures placed { IfOk result (λ p. IsPlaced (laid blobs.new) piece.now p) }
+    ensures after { IfOk result (λ p. IsFrom (length blobs.old.sealed) p) }
     ensures kept { KeepsPlaces (laid blobs.old) (laid blobs.new) }
+    ensures follows { GoesOn (laid blobs.old) (laid blobs.new) }
     ensures limit { blobs.new.limit ≡ blobs.old.limit }
     ensures called { CallsPut result 1 (length blobs.old.sealed) (length blobs.new.sealed) (W.calls wire.old) (W.calls wire.new) }
     ensures counted { FailsPut result (W.faults wire.old) (W.faults wire.new) }
@@ -61,6 +66,7 @@ fn put_piece<W: Wire>(blobs: &mut Stream, piece: &Piece, wire: &mut W) -> Result
 }
 
 // Puts pieces into the data, one after the other.
+#[tactic(auto, using(stream_manager::proofs::RunLemmas::stays_on, crate::proofs::DataLemmas::twice_on))]
 fn put_pieces<W: Wire>(
     alloc: Global,
     blobs: &mut Stream,
@@ -70,7 +76,9 @@ fn put_pieces<W: Wire>(
     requires held { IsTrue (is_held pieces.now) }
     requires short { IsTrue (is_pieces pieces.now) }
     ensures placed { IfOk result (λ ps. ArePlaced (laid blobs.new) pieces.now ps.items) }
+    ensures after { IfOk result (λ ps. AreFrom (length blobs.old.sealed) ps.items) }
     ensures kept { KeepsPlaces (laid blobs.old) (laid blobs.new) }
+    ensures follows { GoesOn (laid blobs.old) (laid blobs.new) }
     ensures limit { blobs.new.limit ≡ blobs.old.limit }
     ensures called { CallsPut result (length pieces.now) (length blobs.old.sealed) (length blobs.new.sealed) (W.calls wire.old) (W.calls wire.new) }
     ensures counted { FailsPut result (W.faults wire.old) (W.faults wire.new) }
@@ -93,7 +101,9 @@ pub(crate) fn put_content<W: Wire>(
 ) -> Result<Pieces, StoredFault>
     requires { IsTrue (is_held content.now) }
     ensures placed { IfOk result (λ ps. ArePlaced (laid blobs.new) content.now ps) }
+    ensures after { IfOk result (λ ps. AreFrom (length blobs.old.sealed) ps) }
     ensures kept { KeepsPlaces (laid blobs.old) (laid blobs.new) }
+    ensures follows { GoesOn (laid blobs.old) (laid blobs.new) }
     ensures limit { blobs.new.limit ≡ blobs.old.limit }
     ensures called { CallsPut result (length content.now) (length blobs.old.sealed) (length blobs.new.sealed) (W.calls wire.old) (W.calls wire.new) }
     ensures counted { FailsPut result (W.faults wire.old) (W.faults wire.new) }

@@ -11,12 +11,15 @@ mod data;
 mod faults;
 mod laws;
 mod logging;
+mod mark;
 mod moving;
 mod moving_rows;
 mod part;
 mod position;
 mod repair;
 mod streams;
+mod sweep_laws;
+mod sweeping;
 
 pub use checkpoint::{NewRows, Replaced};
 pub use checkpoint_laws::{a_checkpoint_means_its_rows, a_checkpoint_means_what_it_meant};
@@ -32,7 +35,12 @@ pub use laws::{
     an_acknowledged_change_is_one_more, an_empty_log_means_no_container, another_container_is_left,
     each_record_is_its_change, reading_first_or_last_is_the_same, stored_content_stays,
 };
+pub use mark::Mark;
 pub use part::Part;
 pub use position::Position;
 pub use repair::StreamName;
 pub use streams::Streams;
+pub use sweep_laws::{
+    a_change_after_the_mark_is_one_more_since_it, what_is_given_up_means_the_same,
+};
+pub use sweeping::GivenUp;

@@ -4,6 +4,7 @@ ghost use Rattle.std.specs.Result.{IsOkUnless};
 ghost use Rattle.log_record.specs.Fits.{IsRecorded};
 ghost use Rattle.log_record.specs.Records.{record_bytes};
 ghost use Rattle.log_record.specs.Sizes.{IsPlacedChange};
+ghost use Rattle.stream_manager.specs.Places.{GoesOn};
 ghost use Rattle.stream_manager.specs.Streams.{laid};
 ghost use Rattle.partition_stream.specs.Counting.{CallsLog, FailsLog};
 ghost use Rattle.partition_stream.specs.Logging.{IsRecordAppended};
@@ -39,6 +40,7 @@ pub(crate) fn append_record<W: Wire>(
     requires { length block.now ≤ 16_777_216 }
     ensures length { IfOk result (λ n. n ≡ length block.now) }
     ensures appended { IsRecordAppended result log.old block.now log.new }
+    ensures follows { GoesOn (laid log.old) (laid log.new) }
     ensures limit { log.new.limit ≡ log.old.limit }
     ensures called { CallsLog result (length log.old.sealed) (length log.new.sealed) (W.calls wire.old) (W.calls wire.new) }
     ensures counted { FailsLog result (length log.old.sealed) (length log.new.sealed) (W.faults wire.old) (W.faults wire.new) }

@@ -43,7 +43,7 @@ impl Streams {
     ghost use Rattle.extent_seal.specs.declared.sealed.ReadFault.TheVariants.{Unreachable};
     ghost use Rattle.stamp_types.specs.Pieces.{is_held, piece_len};
     ghost use Rattle.stream_manager.specs.Counting.{CallsSettle, FailsSettle, kept_in};
-    ghost use Rattle.stream_manager.specs.Places.{KeepsPlaces};
+    ghost use Rattle.stream_manager.specs.Places.{GoesOn, KeepsPlaces};
     ghost use Rattle.stream_manager.specs.Streams.{laid};
     ghost use Rattle.stream_manager.specs.declared.faults.StoredFault.TheVariants as stored_fault;
     ghost use Rattle.partition_stream.specs.Contents.{ArePlaced, EndsWithBlock, IsStored, bytes_at, extent_of};
@@ -53,6 +53,7 @@ impl Streams {
     ghost use Rattle.partition_stream.specs.Positions.{all_changes, changes_before};
     ghost use Rattle.partition_stream.specs.Storing.{AreKept, IsStoredChange};
     ghost use Rattle.partition_stream.specs.Streams.{AreSealed, HaveSameBlocks, HaveSameLimits, IsEmptyLast, logged};
+    ghost use Rattle.partition_stream.specs.Sweeping.{AreFrom};
     ghost use Rattle.partition_stream.specs.Written.{written_len};
     ghost use Rattle.partition_stream.specs.declared.faults.TakeFault.TheVariants.{NoMemory};
 
@@ -93,7 +94,9 @@ impl Streams {
     ) -> Result<Pieces, StoredFault>
         requires { IsTrue (is_held content.now) }
         ensures placed { IfOk result (λ ps. ArePlaced (laid self.new.blobs) content.now ps) }
+        ensures after { IfOk result (λ ps. AreFrom (length self.old.blobs.sealed) ps) }
         ensures kept { KeepsPlaces (laid self.old.blobs) (laid self.new.blobs) }
+        ensures follows { GoesOn (laid self.old.blobs) (laid self.new.blobs) }
         ensures log { self.new.log ≡ self.old.log }
         ensures rows { self.new.rows ≡ self.old.rows }
         ensures limit { self.new.blobs.limit ≡ self.old.blobs.limit }
@@ -118,6 +121,7 @@ impl Streams {
         requires stored { IsStoredChange (laid self.old.blobs) change.now }
         ensures length { IfOk result (λ n. n ≡ written_len (change.now, epoch)) }
         ensures logged { IsLogged result self.old (change.now, epoch) self.new }
+        ensures follows { GoesOn (laid self.old.log) (laid self.new.log) }
         ensures blobs { self.new.blobs ≡ self.old.blobs }
         ensures rows { self.new.rows ≡ self.old.rows }
         ensures limit { self.new.log.limit ≡ self.old.log.limit }
@@ -136,6 +140,7 @@ impl Streams {
     pub fn settle<W: Wire>(&mut self, wire: &mut W) -> Result<Settled, StoredFault>
         ensures settled { IsLogSettled result self.old self.new }
         ensures at { IsKeptAt result self.old.log self.new.log }
+        ensures follows { GoesOn (laid self.old.log) (laid self.new.log) }
         ensures blobs { self.new.blobs ≡ self.old.blobs }
         ensures rows { self.new.rows ≡ self.old.rows }
         ensures limit { self.new.log.limit ≡ self.old.log.limit }
@@ -149,6 +154,7 @@ impl Streams {
     #[tactic(auto, using(crate::proofs::CallLemmas::seal_calls))]
     fn seal_log<W: Wire>(&mut self, wire: &mut W) -> Result<(), StoredFault>
         ensures log { IsLogSealed result self.old self.new }
+        ensures follows { GoesOn (laid self.old.log) (laid self.new.log) }
         ensures sealed { OnOk result (IsEmptyLast self.new.log) }
         ensures blobs { self.new.blobs ≡ self.old.blobs }
         ensures rows { self.new.rows ≡ self.old.rows }
@@ -164,6 +170,7 @@ impl Streams {
     #[tactic(auto, using(crate::proofs::CallLemmas::seal_calls))]
     fn seal_blobs<W: Wire>(&mut self, wire: &mut W) -> Result<(), StoredFault>
         ensures kept { KeepsPlaces (laid self.old.blobs) (laid self.new.blobs) }
+        ensures follows { GoesOn (laid self.old.blobs) (laid self.new.blobs) }
         ensures sealed { OnOk result (IsEmptyLast self.new.blobs) }
         ensures log { self.new.log ≡ self.old.log }
         ensures rows { self.new.rows ≡ self.old.rows }
@@ -199,6 +206,8 @@ impl Streams {
         ensures log { IsLogSealed result self.old self.new }
         ensures rows { (logged self.new).rows ≡ (logged self.old).rows }
         ensures kept { KeepsPlaces (laid self.old.blobs) (laid self.new.blobs) }
+        ensures log_follows { GoesOn (laid self.old.log) (laid self.new.log) }
+        ensures blobs_follow { GoesOn (laid self.old.blobs) (laid self.new.blobs) }
         ensures limits { HaveSameLimits self.old self.new }
         ensures called { CallsSeals result (sealed_extents self.old) (sealed_extents self.new) (W.calls wire.old) (W.calls wire.new) }
         ensures once { sealed_extents self.new ≤ sealed_extents self.old + 3 }

@@ -1,5 +1,6 @@
 pub mod AppendLemmas
 pub mod CountLemmas
+pub mod GivenUpLemmas
 pub mod PartLemmas
 pub mod PlaceLemmas
 pub mod ReadLemmas

@@ -75,6 +75,14 @@ get_below [] i x h = absurd (grind arith)
 get_below (y ∷ xs) zero x h = omega arith
 get_below (y ∷ xs) (suc i) x h = let l = get_below xs i x h in omega arith
 
+-- a place that has a block is in an extent that exists
+pub place_within : (es : List (List Block)) (p : Place) (b : Block) → block_at es p ≡ Some b → p.extent < length es
+place_within es p b h = extent_within es p.extent (slice_get es p.extent) refl h
+  where
+    extent_within : (fs : List (List Block)) (e : ℕ) (o : Option (List Block)) → slice_get fs e ≡ o → option_and_then (λ blocks. slice_get blocks p.index) o ≡ Some b → e < length fs
+    extent_within fs e None at got = absurd cc
+    extent_within fs e (Some blocks) at got = get_below fs e blocks at
+
 -- the extents after an extent have no block
 none_in : (rest : List (List Block)) → (rest ≡ []) ⊎ (rest ≡ [] ∷ []) → (e i : ℕ) (c : Block)
     → option_and_then (λ blocks. slice_get blocks i) (slice_get rest e) ≡ Some c → ⊥

@@ -1,12 +1,15 @@
 -- Extents stay within their bytes.
-use Rattle.std.proofs.Common.{◌≡◌, ◌≤◌, ◌<◌, inl, inr, ◌∙◌, ℕ, ◌+◌, min, Bool, true, false, Option, Some, None, Result, Ok, Err, IfOk, OnErr, List, [], ◌∷◌, ◌++◌, length, map, ap, refl, arith, append-nil, length-append}
+use Rattle.std.proofs.Common.{◌≡◌, ◌≤◌, ◌<◌, inl, inr, ◌∙◌, ℕ, zero, suc, ◌+◌, min, Bool, true, false, Option, Some, None, Result, Ok, Err, IfOk, OnErr, List, [], ◌∷◌, ◌++◌, length, map, ap, refl, arith, append-nil, length-append}
 use Rattle.std.specs.Option.{option_to_list}
 use Rattle.std.proofs.lemmas.List.Sums.{sum_by-append, sum_by-cons}
-use Rattle.std.proofs.lemmas.List.Elements.{All-push}
+use Rattle.std.proofs.lemmas.List.{map-set}
+use Rattle.std.proofs.lemmas.List.Elements.{All-cons, All-push, All-set, All-tail}
 use Rattle.extent_node.specs.Copies.{Block}
 use Rattle.extent_node.specs.Faults.{held}
-use Rattle.extent_seal.specs.Extents.{Open, Closed}
+use Rattle.std.specs.Prelude.{All, slice_set}
+use Rattle.extent_seal.specs.Extents.{Open, Closed, no_blocks}
 use Rattle.stream_manager.specs.Extents.{closed_blocks}
+use Rattle.stream_manager.specs.GivenUp.{without, without_front}
 use Rattle.stream_manager.specs.Sizes.{IsWithin, AreSized, AreCounted, bytes_of}
 
 within_part : (limit : ℕ) (xs ys : List Block) → IsWithin limit (xs ++ ys) → IsWithin limit (xs ++ [])
@@ -71,3 +74,20 @@ first_within limit last b e = rw e (inl (omega arith))
 -- the sealed extents with another last one, which has no blocks
 pub none_sized : (limit : ℕ) (sealed : List Closed) (last next : Open) → next.blocks ≡ [] → next.tried ≡ None → AreSized limit sealed last → AreSized limit sealed next
 none_sized limit sealed last next b t s = record { each = s.each; whole = rw (b, t) (inl (omega arith)) }
+
+-- an extent that was given up is within each limit
+pub given_up_sized : (limit : ℕ) (old new : List Closed) (e : ℕ) (last : Open) → new ≡ without e old → AreSized limit old last → AreSized limit new last
+given_up_sized limit old new e last is s = rw is (record {
+  each = rw (map-set closed_blocks old e no_blocks) (All-set (IsWithin limit) (map closed_blocks old) e [] (inl (omega arith)) s.each);
+  whole = s.whole;
+})
+
+each_front : (limit n : ℕ) (xs : List Closed) → All (IsWithin limit) (map closed_blocks xs) → All (IsWithin limit) (map closed_blocks (without_front n xs))
+each_front limit zero xs all = all
+each_front limit (suc n) [] all = all
+each_front limit (suc n) (x ∷ xs) all =
+    All-cons (IsWithin limit) [] (map closed_blocks (without_front n xs)) (inl (omega arith)) (each_front limit n xs (All-tail (IsWithin limit) x.blocks (map closed_blocks xs) all))
+
+-- so are the first extents
+pub front_sized : (limit : ℕ) (old new : List Closed) (n : ℕ) (last : Open) → new ≡ without_front n old → AreSized limit old last → AreSized limit new last
+front_sized limit old new n last is s = rw is (record { each = each_front limit n old s.each; whole = s.whole })

@@ -1,11 +1,13 @@
 pub mod Counting
 pub mod Extents
+pub mod GivenUp
 pub mod Handles
 pub mod Outcomes
 pub mod Parts
 pub mod Places
 pub mod Repairs
 pub mod Runs
+pub mod SealedExtents
 pub mod Sizes
 pub mod Spares
 pub mod Streams

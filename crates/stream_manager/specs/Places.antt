@@ -48,6 +48,10 @@ pub record Follows (es : List (List Block)) (added : List Block) (fs : List (Lis
   pub kept : KeepsPlaces es fs
   pub sealed : KeepsSealed es fs
 
+-- blocks may have come after those that were there, each block that was there stays at its place, and each sealed extent is as it was
+abbrev pub GoesOn : List (List Block) → List (List Block) → Type 0
+GoesOn es fs = (added : List Block) × Follows es added fs
+
 -- a doubt has ended: extent n, which had it, is sealed with its block if that was kept, and without its block if not
 pub record Decides (kept : Bool) (n : ℕ) (old : Open) (fs : List (List Block)) : Type 0 where
   pub whole : slice_get fs n ≡ Some (old.blocks ++ held kept old.tried)

@@ -2,7 +2,9 @@
 ghost use Rattle.std.specs.Prelude.{◌≡◌};
 
 use crate::faults::{AppendFault, Settled, StoredFault};
-use crate::handle::{Handle, share_all};
+use crate::handle::Handle;
+use crate::handle_room::HandleRoom;
+use crate::sealed_extents::SealedExtents;
 use crate::spares::Spares;
 use extent_node::Wire;
 use extent_seal::{Appended, BlockOwners, NoReplica, OpenExtent, ReadFault};
@@ -27,7 +29,7 @@ pub(crate) struct Parts {
     pub alloc: Global,
     // The bytes that an extent of two or more blocks may hold.
     pub limit: u32,
-    pub sealed: Vec<Handle>,
+    pub sealed: SealedExtents,
     pub last: OpenExtent,
     // The bytes of the acknowledged blocks of the last extent.
     pub bytes: u64,
@@ -36,10 +38,9 @@ pub(crate) struct Parts {
 }
 
 impl Parts {
-    ghost use Rattle.std.specs.Prelude.{◌≡◌, ◌≢◌, ◌↔◌, ◌⊎◌, Ok, ◌<◌, ◌≤◌, ◌+◌, ◌++◌, ◌∷◌, [], true, false, None, Some, Err, map, length, IfOk, IsSome, IsSomeAnd, OnOk, OnErr};
+    ghost use Rattle.std.specs.Prelude.{◌≡◌, ◌≢◌, ◌↔◌, ◌⊎◌, Ok, ◌<◌, ◌≤◌, ◌+◌, ◌++◌, ◌∷◌, [], true, false, None, Some, Err, map, take, length, IfOk, IsSome, IsSomeAnd, OnOk, OnErr};
     ghost use Rattle.std.specs.List.{slice_get};
     ghost use Rattle.std.specs.Option.{is_some};
-    ghost use Rattle.std.specs.Vec.{vec_len, vec_capacity};
     ghost use Rattle.extent_node.specs.Faults.{held};
     ghost use Rattle.extent_node.specs.Copies.{Block};
     ghost use Rattle.extent_node.specs.Faults.{CountsNone};
@@ -48,19 +49,20 @@ impl Parts {
     ghost use Rattle.stamp_values.specs.declared.place.Place.{Place};
     ghost use Rattle.stream_manager.specs.Counting.{AsksAtMost, CallsTry, FailsTry, CallsAppend, FailsAppend, CallsSettle, FailsSettle, CallsSeal, FailsSeal, kept_in};
     ghost use Rattle.stream_manager.specs.Extents.{closed_blocks};
+    ghost use Rattle.stream_manager.specs.GivenUp.{with_blocks, without, without_front};
     ghost use Rattle.stream_manager.specs.Outcomes.{IsTried, IsPut, IsAppend, IsRefused, IsSettled, IsSealed};
     ghost use Rattle.stream_manager.specs.Parts.{EndsDoubt, IsReadyFor, IsSame, IsUnanswered, IsWhole, SealsAtMostOne, SealsLast, StaysWhole, extents_of};
     ghost use Rattle.stream_manager.specs.Places.{IsLastAt, block_at, next_place};
     ghost use Rattle.stream_manager.specs.Sizes.{IsWithin, AreSized, AreCounted};
     ghost use Rattle.stream_manager.specs.declared.faults.AppendFault.TheVariants.{TooLarge, Busy};
-    ghost use Rattle.stream_manager.specs.declared.parts.Tried.TheVariants.{Excluded};
+    ghost use Rattle.stream_manager.specs.declared.parts.Tried.TheVariants.{Excluded, Placed};
 
     /// Seals the last extent, and answers whether the block that was tried on it lies in it.
     pub fn close<W: Wire>(&mut self, wire: &mut W) -> Result<bool, NoReplica>
-        requires room { vec_len self.old.sealed < vec_capacity self.old.sealed }
+        requires room { 0 < self.old.sealed.room }
         ensures limit { self.new.limit ≡ self.old.limit }
-        ensures moved { IfOk result (λ kept. map closed_blocks self.new.sealed.items
-            ≡ map closed_blocks self.old.sealed.items ++ (self.old.last.extent.blocks ++ held kept self.old.last.extent.tried) ∷ []) }
+        ensures moved { IfOk result (λ kept. map closed_blocks self.new.sealed.extents
+            ≡ map closed_blocks self.old.sealed.extents ++ (self.old.last.extent.blocks ++ held kept self.old.last.extent.tried) ∷ []) }
         ensures sealed { IfOk result (λ kept. SealsLast self.old self.new (W.faults wire.old) (W.faults wire.new)) }
         ensures same { OnErr result (IsUnanswered self.old self.new (W.faults wire.old) (W.faults wire.new)) }
         ensures called { AsksEach (W.calls wire.old) (W.calls wire.new) }
@@ -74,7 +76,7 @@ impl Parts {
         match last.seal(wire) {
             Ok(sealed) => {
                 let kept = len < sealed.commit_len();
-                self.sealed.push_reserved(Handle::new(sealed));
+                self.sealed.push_reserved(sealed);
                 self.bytes = 0;
                 Ok(kept)
             }
@@ -88,10 +90,10 @@ impl Parts {
     // The extents after a seal follow those before it.
     fn close_last<W: Wire>(&mut self, wire: &mut W) -> Result<bool, NoReplica>
         requires whole { IsWhole self.old }
-        requires room { vec_len self.old.sealed < vec_capacity self.old.sealed }
+        requires room { 0 < self.old.sealed.room }
         ensures ended { IfOk result (λ kept. EndsDoubt kept self.old self.new) }
         ensures at { IfOk result (λ kept. (b : Block) → (p : Place) → held kept self.old.last.extent.tried ≡ b ∷ []
-            → p.extent ≡ length self.old.sealed.items → p.index ≡ length self.old.last.extent.blocks
+            → p.extent ≡ length self.old.sealed.extents → p.index ≡ length self.old.last.extent.blocks
             → IsLastAt (extents_of self.new) p b) }
         ensures sealed { IfOk result (λ kept. SealsLast self.old self.new (W.faults wire.old) (W.faults wire.new)) }
         ensures same { OnErr result (IsUnanswered self.old self.new (W.faults wire.old) (W.faults wire.new)) }
@@ -107,15 +109,16 @@ impl Parts {
     fn try_once<W: Wire>(&mut self, block: BlockOwners, wire: &mut W) -> Tried
         requires whole { IsWhole self.old }
         requires ready { IsReadyFor self.old block }
-        requires room { vec_len self.old.sealed < vec_capacity self.old.sealed }
+        requires room { 0 < self.old.sealed.room }
         ensures tried { IsTried result (extents_of self.old) block
             (extents_of self.new) self.new.last.extent }
-        ensures called { CallsTry result (vec_len self.old.sealed) (vec_len self.new.sealed) (W.calls wire.old) (W.calls wire.new) }
+        ensures called { CallsTry result (length self.old.sealed.extents) (length self.new.sealed.extents) (W.calls wire.old) (W.calls wire.new) }
         ensures counted { FailsTry result (W.faults wire.old) (W.faults wire.new) }
         ensures room { SealsAtMostOne self.old self.new }
         ensures whole { StaysWhole self.old self.new }
-        ensures longer { vec_len self.old.sealed ≤ vec_len self.new.sealed }
-        ensures once { (result ≡ Excluded) → vec_len self.new.sealed ≡ vec_len self.old.sealed + 1 }
+        ensures longer { length self.old.sealed.extents ≤ length self.new.sealed.extents }
+        ensures after { (p : Place) → (result ≡ Placed p) → length self.old.sealed.extents ≤ p.extent }
+        ensures once { (result ≡ Excluded) → length self.new.sealed.extents ≡ length self.old.sealed.extents + 1 }
         ensures last_room { (result ≡ Excluded) → self.new.last.room ≡ self.old.spares.next }
     {
         let place = Place {
@@ -146,15 +149,16 @@ impl Parts {
     ) -> Result<Place, AppendFault>
         requires whole { IsWhole self.old }
         requires ready { IsReadyFor self.old block }
-        requires room { vec_len self.old.sealed + 1 < vec_capacity self.old.sealed }
+        requires room { 1 < self.old.sealed.room }
         requires next_room { 0 < self.old.spares.next }
         requires again { again ≡ block }
         ensures put { IsPut result (extents_of self.old) block
             (extents_of self.new) self.new.last.extent }
-        ensures called { CallsAppend result (vec_len self.old.sealed) (vec_len self.new.sealed) (W.calls wire.old) (W.calls wire.new) }
-        ensures counted { FailsAppend result (vec_len self.old.sealed) (vec_len self.new.sealed) (W.faults wire.old) (W.faults wire.new) }
+        ensures called { CallsAppend result (length self.old.sealed.extents) (length self.new.sealed.extents) (W.calls wire.old) (W.calls wire.new) }
+        ensures counted { FailsAppend result (length self.old.sealed.extents) (length self.new.sealed.extents) (W.faults wire.old) (W.faults wire.new) }
         ensures whole { StaysWhole self.old self.new }
-        ensures twice { (result ≡ Err Busy) → vec_len self.new.sealed ≡ vec_len self.old.sealed + 2 }
+        ensures after { IfOk result (λ p. length self.old.sealed.extents ≤ p.extent) }
+        ensures twice { (result ≡ Err Busy) → length self.new.sealed.extents ≡ length self.old.sealed.extents + 2 }
     {
         match self.try_once(block, wire) {
             Tried::Placed(place) => return Ok(place),
@@ -184,7 +188,7 @@ impl Parts {
     // Makes all room that an append may need: for three seals, in two extents that follow, and in the last one if it is not sealed first.
     fn make_room(&mut self, seals: bool) -> Result<(), AllocError>
         ensures same { IsSame self.old self.new }
-        ensures room { OnOk result (vec_len self.new.sealed + 2 < vec_capacity self.new.sealed) }
+        ensures room { OnOk result (2 < self.new.sealed.room) }
         ensures last_room { OnOk result ((seals ≡ false) → 0 < self.new.last.room) }
         ensures next_room { OnOk result (0 < self.new.spares.next) }
         ensures after_room { OnOk result (0 < self.new.spares.after) }
@@ -201,7 +205,7 @@ impl Parts {
     #[tactic(auto, using(crate::proofs::SizeLemmas::first_within, crate::proofs::CountLemmas::one_more_bound))]
     fn make_ready<W: Wire>(&mut self, seals: bool, wire: &mut W) -> Result<bool, NoReplica>
         requires whole { IsWhole self.old }
-        requires room { vec_len self.old.sealed < vec_capacity self.old.sealed }
+        requires room { 0 < self.old.sealed.room }
         requires clear { (seals ≡ false) → self.old.last.extent.tried ≡ None }
         requires last_room { (seals ≡ false) → 0 < self.old.last.room }
         requires next_room { 0 < self.old.spares.next }
@@ -209,7 +213,7 @@ impl Parts {
         ensures ended { IfOk result (λ kept. EndsDoubt kept self.old self.new) }
         ensures tried { IfOk result (λ kept. self.new.last.extent.tried ≡ None) }
         ensures same { OnErr result (IsUnanswered self.old self.new (W.faults wire.old) (W.faults wire.new)) }
-        ensures called { IfOk result (λ kept. AsksAtMost 0 (vec_len self.old.sealed) (vec_len self.new.sealed) (W.calls wire.old).asks (W.calls wire.new).asks) }
+        ensures called { IfOk result (λ kept. AsksAtMost 0 (length self.old.sealed.extents) (length self.new.sealed.extents) (W.calls wire.old).asks (W.calls wire.new).asks) }
         ensures unput { IfOk result (λ kept. CountsNone (W.calls wire.old).puts (W.calls wire.new).puts) }
         ensures unanswered_calls { OnErr result (AsksEach (W.calls wire.old) (W.calls wire.new)) }
         ensures counted { IfOk result (λ kept. Grows (W.faults wire.old) (W.faults wire.new)) }
@@ -218,7 +222,7 @@ impl Parts {
         ensures fits { IfOk result (λ kept. (b : Block)
             → ((seals ≡ false) → IsWithin self.old.limit (self.old.last.extent.blocks ++ b ∷ []))
             → IsWithin self.new.limit (self.new.last.extent.blocks ++ b ∷ [])) }
-        ensures longer { IfOk result (λ kept. vec_len self.old.sealed ≤ vec_len self.new.sealed) }
+        ensures longer { IfOk result (λ kept. length self.old.sealed.extents ≤ length self.new.sealed.extents) }
         ensures last_room { IfOk result (λ kept. 0 < self.new.last.room) }
         ensures next_room { IfOk result (λ kept. 0 < self.new.spares.next) }
     {
@@ -234,15 +238,16 @@ impl Parts {
         requires whole { IsWhole self.old }
         ensures appended { IsAppend result (extents_of self.old) self.old.last.extent block.now
             (extents_of self.new) self.new.last.extent }
-        ensures called { CallsAppend result (vec_len self.old.sealed) (vec_len self.new.sealed) (W.calls wire.old) (W.calls wire.new) }
-        ensures counted { FailsAppend result (vec_len self.old.sealed) (vec_len self.new.sealed) (W.faults wire.old) (W.faults wire.new) }
+        ensures called { CallsAppend result (length self.old.sealed.extents) (length self.new.sealed.extents) (W.calls wire.old) (W.calls wire.new) }
+        ensures counted { FailsAppend result (length self.old.sealed.extents) (length self.new.sealed.extents) (W.faults wire.old) (W.faults wire.new) }
+        ensures after { IfOk result (λ p. length self.old.sealed.extents ≤ p.extent) }
         ensures large { (result ≡ Err TooLarge) ↔ (16_777_216 < length block.now) }
         ensures unheard { IsRefused result → wire.new ≡ wire.old }
-        ensures same_sealed { IsRefused result → self.new.sealed.items ≡ self.old.sealed.items }
+        ensures same_sealed { IsRefused result → self.new.sealed.extents ≡ self.old.sealed.extents }
         ensures same_last { IsRefused result → self.new.last.extent ≡ self.old.last.extent }
         ensures whole { StaysWhole self.old self.new }
-        ensures busy { (result ≡ Err Busy) → ((self.new.sealed.items ≡ self.old.sealed.items) × FailsEach (W.faults wire.old) (W.faults wire.new))
-            ⊎ (length self.old.sealed.items + 2 ≤ length self.new.sealed.items) }
+        ensures busy { (result ≡ Err Busy) → ((self.new.sealed.extents ≡ self.old.sealed.extents) × FailsEach (W.faults wire.old) (W.faults wire.new))
+            ⊎ (length self.old.sealed.extents + 2 ≤ length self.new.sealed.extents) }
     {
         if block.len() > BLOCK_LIMIT {
             return Err(AppendFault::TooLarge);
@@ -259,6 +264,32 @@ impl Parts {
                 Err(AppendFault::Busy)
             }
         }
+    }
+
+    /// Takes the blocks of a sealed extent, which keeps its number. Takes no memory.
+    pub fn give_up(&mut self, extent: usize) -> Handle
+        requires whole { IsWhole self.old }
+        requires there { extent < length self.old.sealed.extents }
+        ensures given { slice_get self.old.sealed.extents extent ≡ Some result }
+        ensures left { self.new.sealed.extents ≡ without extent self.old.sealed.extents }
+        ensures last { self.new.last.extent ≡ self.old.last.extent }
+        ensures whole { StaysWhole self.old self.new }
+    {
+        self.sealed.give_up(extent, self.alloc)
+    }
+
+    /// Takes the blocks of the first sealed extents, which keep their numbers. Takes no memory.
+    pub fn give_up_front(&mut self, count: usize, room: &mut HandleRoom)
+        requires whole { IsWhole self.old }
+        requires there { count ≤ length self.old.sealed.extents }
+        requires room { length (with_blocks (take count self.old.sealed.extents)) ≤ room.old.room }
+        ensures left { self.new.sealed.extents ≡ without_front count self.old.sealed.extents }
+        ensures last { self.new.last.extent ≡ self.old.last.extent }
+        ensures whole { StaysWhole self.old self.new }
+        ensures given { room.new.extents ≡ room.old.extents ++ with_blocks (take count self.old.sealed.extents) }
+        ensures room { room.new.room + length (with_blocks (take count self.old.sealed.extents)) ≡ room.old.room }
+    {
+        self.sealed.give_up_front(count, room, self.alloc);
     }
 
     /// Settles a doubt, if there is one.
@@ -290,10 +321,10 @@ impl Parts {
         requires whole { IsWhole self.old }
         ensures sealed { IsSealed result (extents_of self.old) self.old.last.extent
             (extents_of self.new) self.new.last.extent }
-        ensures called { CallsSeal result (vec_len self.old.sealed) (vec_len self.new.sealed) (W.calls wire.old) (W.calls wire.new) }
+        ensures called { CallsSeal result (length self.old.sealed.extents) (length self.new.sealed.extents) (W.calls wire.old) (W.calls wire.new) }
         ensures counted { FailsSeal result (W.faults wire.old) (W.faults wire.new) }
         ensures unused { self.old.last.extent.blocks ≡ [] → self.old.last.extent.tried ≡ None → wire.new ≡ wire.old }
-        ensures same_sealed { self.old.last.extent.blocks ≡ [] → self.old.last.extent.tried ≡ None → self.new.sealed.items ≡ self.old.sealed.items }
+        ensures same_sealed { self.old.last.extent.blocks ≡ [] → self.old.last.extent.tried ≡ None → self.new.sealed.extents ≡ self.old.sealed.extents }
         ensures whole { StaysWhole self.old self.new }
     {
         if !self.last.is_short() && self.last.len() == 0 {
@@ -310,14 +341,14 @@ impl Parts {
     pub fn new(alloc: Global, limit: u32) -> Self
         ensures limit { result.limit ≡ limit }
         ensures whole { IsWhole result }
-        ensures sealed { result.sealed.items ≡ [] }
+        ensures sealed { result.sealed.extents ≡ [] }
         ensures blocks { result.last.extent.blocks ≡ [] }
         ensures tried { result.last.extent.tried ≡ None }
     {
         Self {
             alloc,
             limit,
-            sealed: Vec::new(alloc),
+            sealed: SealedExtents::new(alloc),
             last: OpenExtent::new(alloc),
             bytes: 0,
             spares: Spares::new(alloc),
@@ -329,16 +360,16 @@ impl Parts {
     pub fn read<W: Wire>(&self, place: Place, wire: &mut W) -> Result<Share, ReadFault>
         requires { IsSome (block_at (extents_of self.now) place) }
         ensures read { IfOk result (λ b. block_at (extents_of self.now) place ≡ Some b) }
-        ensures called { result ≡ Err Unreachable → AsksCopies (kept_in self.now.sealed.items place.extent) (W.calls wire.old) (W.calls wire.new) }
-        ensures unreachable { result ≡ Err Unreachable → FailsCopies (kept_in self.now.sealed.items place.extent) (W.faults wire.old) (W.faults wire.new) }
+        ensures called { result ≡ Err Unreachable → AsksCopies (kept_in self.now.sealed.extents place.extent) (W.calls wire.old) (W.calls wire.new) }
+        ensures unreachable { result ≡ Err Unreachable → FailsCopies (kept_in self.now.sealed.extents place.extent) (W.faults wire.old) (W.faults wire.new) }
         ensures faulty { result ≡ Err Unreachable → all_faults (W.faults wire.old) < all_faults (W.faults wire.new) }
-        ensures answered { result ≢ Err Unreachable → SomeAnswers (kept_in self.now.sealed.items place.extent) (W.calls wire.old) (W.calls wire.new) (W.faults wire.old) (W.faults wire.new) }
-        ensures discarded { AsksNoOther (kept_in self.now.sealed.items place.extent) (W.calls wire.old) (W.calls wire.new) }
+        ensures answered { result ≢ Err Unreachable → SomeAnswers (kept_in self.now.sealed.extents place.extent) (W.calls wire.old) (W.calls wire.new) (W.faults wire.old) (W.faults wire.new) }
+        ensures discarded { AsksNoOther (kept_in self.now.sealed.extents place.extent) (W.calls wire.old) (W.calls wire.new) }
         ensures grown { Grows (W.faults wire.old) (W.faults wire.new) }
     {
         let index = place.index as usize;
         match self.sealed.get(place.extent as usize) {
-            Some(handle) => handle.extent().read(index, wire),
+            Some(sealed) => sealed.read(index, wire),
             None => self.last.read(index, wire),
         }
     }
@@ -351,7 +382,7 @@ impl Parts {
         let extent = place.extent as usize;
         let index = place.index as usize;
         match self.sealed.get(extent) {
-            Some(handle) => index < handle.extent().commit_len(),
+            Some(sealed) => index < sealed.commit_len(),
             None => extent == self.sealed.len() && index < self.last.len(),
         }
     }
@@ -382,7 +413,7 @@ impl Parts {
         ensures { IsSomeAnd (slice_get (extents_of self.now) extent) (λ blocks. result ≡ length blocks) }
     {
         match self.sealed.get(extent) {
-            Some(handle) => handle.extent().commit_len(),
+            Some(sealed) => sealed.commit_len(),
             None => self.last.len(),
         }
     }
@@ -390,14 +421,14 @@ impl Parts {
     /// The same sealed extents, each of them shared, with a last extent of its own.
     #[tactic(auto, using(crate::proofs::SizeLemmas::none_sized))]
     pub fn share(&mut self) -> Result<Self, AllocError>
-        requires sized { AreSized self.old.limit self.old.sealed.items self.old.last.extent }
+        requires sized { AreSized self.old.limit self.old.sealed.extents self.old.last.extent }
         ensures same { IsSame self.old self.new }
-        ensures sealed { IfOk result (λ s. s.sealed.items ≡ self.old.sealed.items) }
+        ensures sealed { IfOk result (λ s. s.sealed.extents ≡ self.old.sealed.extents) }
         ensures blocks { IfOk result (λ s. s.last.extent.blocks ≡ []) }
         ensures tried { IfOk result (λ s. s.last.extent.tried ≡ None) }
         ensures whole { IfOk result (λ s. StaysWhole self.old s) }
     {
-        let sealed = share_all(&mut self.sealed, self.alloc)?;
+        let sealed = self.sealed.share(self.alloc)?;
         Ok(Self {
             alloc: self.alloc,
             limit: self.limit,

@@ -2,14 +2,15 @@
 ghost use Rattle.std.specs.Prelude.{◌≡◌};
 
 use crate::faults::{AppendFault, RepairFault, Settled, StoredFault};
-use crate::handle::{Handle, share_at};
+use crate::handle::Handle;
+use crate::handle_room::HandleRoom;
 use crate::parts::Parts;
-use crate::repair::repair_at;
 use extent_node::{Node, Wire};
 use extent_seal::ReadFault;
 use stamp_values::{Place, Share};
 use std::alloc::{AllocError, Global};
 use std::marker::Model;
+use std::mem;
 
 /// A list of extents of blocks, whose last extent takes blocks (SOSP 2011, section 4.1).
 #[derive(Drop)]
@@ -23,19 +24,20 @@ impl Model for Stream {
 
     ghost Value = { Streamed };
 
-    ghost view = { λ s. record { limit = s.parts.limit; sealed = s.parts.sealed.items; last = s.parts.last.extent } };
+    ghost view = { λ s. record { limit = s.parts.limit; sealed = s.parts.sealed.extents; last = s.parts.last.extent } };
 
     ghost invariant = { λ s. IsWhole s.parts };
 }
 
 impl Stream {
-    ghost use Rattle.std.specs.Prelude.{◌≡◌, ◌≢◌, ◌↔◌, ◌⊎◌, ◌≤◌, ◌<◌, ◌+◌, [], None, Some, Ok, Err, length, IfOk, IsSome, IsSomeAnd, OnOk, OnErr};
+    ghost use Rattle.std.specs.Prelude.{◌≡◌, ◌≢◌, ◌↔◌, ◌⊎◌, ◌≤◌, ◌<◌, ◌+◌, ◌++◌, [], None, Some, Ok, Err, length, take, IfOk, IsSome, IsSomeAnd, OnOk, OnErr};
     ghost use Rattle.std.specs.List.{slice_get};
     ghost use Rattle.std.specs.Option.{is_some};
     ghost use Rattle.extent_seal.specs.Extents.{Closed};
     ghost use Rattle.extent_seal.specs.Counting.{AsksCopies, AsksNoOther, FailsCopies, FailsEach, Grows, SomeAnswers, all_faults};
     ghost use Rattle.extent_seal.specs.declared.sealed.ReadFault.TheVariants.{Unreachable};
     ghost use Rattle.stream_manager.specs.Counting.{CallsAppend, FailsAppend, CallsSettle, FailsSettle, CallsSeal, FailsSeal, kept_in};
+    ghost use Rattle.stream_manager.specs.GivenUp.{GivesUp, GivesUpFront, with_blocks};
     ghost use Rattle.stream_manager.specs.Outcomes.{IsAppend, IsRefused, IsSettled, IsSealed};
     ghost use Rattle.stream_manager.specs.Places.{block_at, next_place};
     ghost use Rattle.stream_manager.specs.Repairs.{CountsRepair, IsUnheardFault, repaired};
@@ -67,6 +69,7 @@ impl Stream {
     /// next settle, append or seal.
     pub fn append<W: Wire>(&mut self, block: &Share, wire: &mut W) -> Result<Place, AppendFault>
         ensures appended { IsAppend result (laid self.old) self.old.last block.now (laid self.new) self.new.last }
+        ensures after { IfOk result (λ p. length self.old.sealed ≤ p.extent) }
         ensures called { CallsAppend result (length self.old.sealed) (length self.new.sealed) (W.calls wire.old) (W.calls wire.new) }
         ensures counted { FailsAppend result (length self.old.sealed) (length self.new.sealed) (W.faults wire.old) (W.faults wire.new) }
         ensures large { (result ≡ Err TooLarge) ↔ (16_777_216 < length block.now) }
@@ -156,7 +159,14 @@ impl Stream {
         self.parts.extent_len(extent)
     }
 
-    /// How many sealed extents there are. Their numbers come before the number of the last extent.
+    /// How many sealed extents have a block.
+    pub fn filled_count(&self) -> usize
+        ensures { result ≡ length (with_blocks self.now.sealed) }
+    {
+        self.parts.sealed.filled()
+    }
+
+    /// How many sealed extents there are, with those that were given up. Their numbers come before the number of the last extent.
     pub fn sealed_count(&self) -> usize
         ensures { result ≡ length self.now.sealed }
     {
@@ -171,7 +181,7 @@ impl Stream {
         ensures same { self.new ≡ self.old }
         ensures shared { IfOk result (λ h. slice_get self.old.sealed extent ≡ Some h) }
     {
-        share_at(&mut self.parts.sealed, extent, self.parts.alloc)
+        self.parts.sealed.share_at(extent, self.parts.alloc)
     }
 
     /// Gives the node a copy of a whole sealed extent, if it has no copy. No byte is copied, and no block changes.
@@ -199,7 +209,47 @@ impl Stream {
         ensures unheard { IsUnheardFault result → wire.new ≡ wire.old }
         ensures grown { Grows (W.faults wire.old) (W.faults wire.new) }
     {
-        repair_at(&mut self.parts.sealed, extent, node, self.parts.alloc, wire)
+        self.parts
+            .sealed
+            .repair(extent, node, self.parts.alloc, wire)
+    }
+
+    /// Gives up the blocks of a sealed extent, to which nothing refers any more, and answers its handle. The extent keeps its number, and
+    /// each other block stays at its place. Takes no memory, and calls no node.
+    pub fn give_up(&mut self, extent: usize) -> Handle
+        requires { extent < length self.old.sealed }
+        ensures given { slice_get self.old.sealed extent ≡ Some result }
+        ensures left { GivesUp extent self.old self.new }
+    {
+        self.parts.give_up(extent)
+    }
+
+    /// Gives up the blocks of the first `count` sealed extents, to which nothing refers any more, and moves a handle of each of these
+    /// extents that has a block into the room. The extents keep their numbers, and each block after them stays at its place. Takes no
+    /// memory, and calls no node.
+    #[tactic(auto, using(crate::proofs::GivenUpLemmas::laid_front))]
+    pub fn give_up_front(&mut self, count: usize, room: &mut HandleRoom)
+        requires there { count ≤ length self.old.sealed }
+        requires room { length (with_blocks (take count self.old.sealed)) ≤ room.old.room }
+        ensures left { GivesUpFront count self.old self.new }
+        ensures given { room.new.extents ≡ room.old.extents ++ with_blocks (take count self.old.sealed) }
+        ensures room { room.new.room + length (with_blocks (take count self.old.sealed)) ≡ room.old.room }
+    {
+        self.parts.give_up_front(count, room);
+    }
+
+    /// Puts a stream without blocks in the place of this one, with the same limit of bytes, and answers what was there. Takes no memory,
+    /// and calls no node.
+    pub fn take(&mut self) -> Self
+        ensures taken { result ≡ self.old }
+        ensures sealed { self.new.sealed ≡ [] }
+        ensures blocks { self.new.last.blocks ≡ [] }
+        ensures tried { self.new.last.tried ≡ None }
+        ensures limit { self.new.limit ≡ self.old.limit }
+    {
+        let empty = Parts::new(self.parts.alloc, self.parts.limit);
+        let parts = mem::replace(&mut self.parts, empty);
+        Self { parts }
     }
 
     /// A stream with the same sealed extents under the same numbers, and without a block after them. No block is copied.

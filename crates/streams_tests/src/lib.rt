@@ -16,6 +16,8 @@ mod examples;
 #[cfg(test)]
 mod extent_tests;
 #[cfg(test)]
+mod give_up_tests;
+#[cfg(test)]
 mod handle_tests;
 #[cfg(test)]
 mod log_tests;
@@ -68,5 +70,7 @@ mod stored_waste_tests;
 mod stream_samples;
 #[cfg(test)]
 mod stream_share_tests;
+#[cfg(test)]
+mod sweep_tests;
 #[cfg(test)]
 mod ticket_tests;

@@ -1,5 +1,7 @@
 use Rattle.std.proofs.Common.{refl, sym, subst, arith}
+use Rattle.stream_manager.specs.Places.{GoesOn}
 use Rattle.stream_manager.specs.Streams.{laid}
+use Rattle.stream_manager.proofs.RunLemmas.{stays_on}
 use Rattle.partition_stream.specs.Outcomes.{IsLogged}
 use Rattle.partition_stream.specs.Storing.{IsStoredChange}
 use Rattle.partition_stream.specs.Streams.{ThreeStreams}
@@ -27,3 +29,10 @@ returns-clause-logged g c =
     let read = change_in-written c.in_ok-block.block c.args.change.now c.args.epoch c.in_ok-block.ensures.fits (omega (arith, c.ranges.epoch)) c.in_ok-block.ensures.written in
     subst (λ s. IsLogged c.append_record.result s (c.args.change.now, c.args.epoch) new) c.self.view_is
     (is_logged c.append_record.result old new c.in_ok-block.block (c.args.change.now, c.args.epoch) read c.append_record.ensures.appended refl refl)
+
+pub returns-in_err-block-clause-follows : goal.returns-in_err-block-clause-follows
+returns-in_err-block-clause-follows g c = stays_on (laid c.args.self.now.log)
+
+pub returns-clause-follows : goal.returns-clause-follows
+returns-clause-follows g c =
+    subst (λ (s : ThreeStreams). GoesOn (laid s.log) (laid c.append_record.new.log)) c.self.view_is c.append_record.ensures.follows

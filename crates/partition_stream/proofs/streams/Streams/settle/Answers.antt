@@ -1,5 +1,7 @@
 use Rattle.std.proofs.Common.{subst}
+use Rattle.stream_manager.specs.Places.{GoesOn}
 use Rattle.stream_manager.specs.Streams.{laid}
+use Rattle.stream_manager.proofs.RunLemmas.{settle_goes_on}
 use Rattle.partition_stream.specs.Outcomes.{IsKeptAt, IsLogSettled}
 use Rattle.partition_stream.specs.Streams.{ThreeStreams}
 use Rattle.partition_stream.proofs.KeptLemmas.{kept_settled, is_doubt_record}
@@ -22,3 +24,8 @@ pub returns-clause-at : goal.returns-clause-at
 returns-clause-at g c =
     subst (λ s. IsKeptAt c.settle.result s.log c.settle.new.self) c.self.view_is
     (is_kept_at c.settle.result c.self.inside.log c.settle.new.self c.settle.ensures.settled)
+
+pub returns-clause-follows : goal.returns-clause-follows
+returns-clause-follows g c =
+    subst (λ (s : ThreeStreams). GoesOn (laid s.log) (laid c.settle.new.self)) c.self.view_is
+    (settle_goes_on c.settle.result (laid c.self.inside.log) (laid c.settle.new.self) c.self.inside.log.last c.settle.new.self.last c.settle.ensures.settled)

@@ -11,7 +11,7 @@ returns-clause-ended g c =
 
 pub returns-clause-at : goal.returns-clause-at
 returns-clause-at g c =
-    close_at c.close.result c.args.self.now.sealed.items (map closed_blocks c.close.new.self.sealed.items)
+    close_at c.close.result c.args.self.now.sealed.extents (map closed_blocks c.close.new.self.sealed.extents)
     c.args.self.now.last.extent c.close.new.self.last.extent c.close.ensures.moved
     (last_blocks c.close.result c.args.self.now c.close.new.self (g.W.Wire.faults c.args.wire.now) (g.W.Wire.faults c.close.new.wire) c.close.ensures.sealed)
 
