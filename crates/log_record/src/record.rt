@@ -36,11 +36,9 @@ fn append_record(change: &Change, epoch: u64, out: &mut Vec<u8>) -> Result<(), A
     append_act(change.act(), out)
 }
 
-// For how many bytes a record has room before it is written. Most records are shorter, so their room never grows.
-const ROOM: usize = 256;
-
-/// The record of the change and of its epoch, in version 2. If the content of the change is at
-/// places, the record has at most 16,777,216 bytes, as many as a block of a stream.
+/// The record of the change and of its epoch, in version 2, in as much room as it has bytes. If the
+/// content of the change is at places, the record has at most 16,777,216 bytes, as many as a block
+/// of a stream.
 ///
 /// `AllocError` if memory runs out.
 #[tactic(auto, using(crate::proofs::SizeLemmas::written_within))]
@@ -50,7 +48,7 @@ pub fn write_change(alloc: Global, change: &Change, epoch: u64) -> Result<Vec<u8
     ensures short { IfOk result (λ bytes.
         IsPlacedChange change.now → length bytes.items ≤ 16_777_216) }
 {
-    let mut out = Vec::with_capacity(alloc, ROOM)?;
+    let mut out = Vec::new(alloc);
     append_record(change, epoch, &mut out)?;
     Vec::from_slice(alloc, &out)
 }

@@ -17,5 +17,4 @@ pub mod PositionLemmas
 pub mod RepairLemmas
 pub mod RowWalkLemmas
 pub mod StreamLemmas
-pub mod RewritingLemmas
 pub mod SweepingLemmas

@@ -17,7 +17,6 @@ mod moving_rows;
 mod part;
 mod position;
 mod repair;
-mod rewriting;
 mod streams;
 mod sweep_laws;
 mod sweeping;

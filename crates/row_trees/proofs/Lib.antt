@@ -1,8 +1,6 @@
 pub mod BlockActs
 pub mod BlockFits
 pub mod FitLemmas
-pub mod HalfwayLemmas
 pub mod NewRows
 pub mod Parts
 pub mod CheckpointLemmas
-pub mod RowSwaps

@@ -3,5 +3,4 @@ pub mod CoreAudits
 pub mod CoreSteps
 pub mod Ranges
 pub mod Rotations
-pub mod Tending
 pub mod Tickets

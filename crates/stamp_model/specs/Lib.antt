@@ -17,4 +17,3 @@ pub mod SeenContainers
 pub mod ShownAcls
 pub mod Statuses
 pub mod Withdrawals
-pub mod Words

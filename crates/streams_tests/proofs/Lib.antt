@@ -1,3 +1,2 @@
 pub mod CreatedLemmas
 pub mod FirstLemmas
-pub mod StoredRowLemmas
