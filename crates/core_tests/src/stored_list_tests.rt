@@ -1,7 +1,7 @@
 //! Lists of slots over streams, whose text is written while they are served or when their tickets are fetched.
-use crate::requests::{CREATE, CREATE_EARLIER, CREATED, LIST};
+use crate::requests::{CREATE, CREATE_EARLIER, CREATED, LIST, LIST_FROM_M};
 use crate::samples::{begins, sent};
-use crate::stored_samples::{Streamed, make_of_rows, make_streamed, rows};
+use crate::stored_samples::{Streamed, make_of_rows, make_streamed, rows, split};
 use std::alloc::Global;
 use std::process::Abort;
 
@@ -27,4 +27,37 @@ fn a_gathered_list_is_the_same_by_its_ticket(rt: HostRuntime) {
     let gathered = listed(&rt, rt.alloc(), &mut *gathering);
     assert_eq!(rt; gathering.tickets, 1);
     assert!(rt; written == gathered && written.ends_with(b"</EnumerationResults>"));
+}
+
+// How many tickets the slot has given once it lists its containers again.
+fn tickets_after_list(rt: &impl Abort, alloc: Global, slot: &mut Streamed) -> u64 {
+    drop(sent(rt, alloc, slot, LIST));
+    slot.tickets
+}
+
+// Seals the slot, writes a checkpoint, compacts it, and takes its rows out of memory. After each of these the slot lists its containers again.
+fn care_for(rt: &impl Abort, alloc: Global, slot: &mut Streamed) {
+    assert!(rt; slot.slot.settle(alloc, &mut slot.wire).is_ok());
+    assert!(rt; slot.slot.seal(alloc, &mut slot.wire).is_ok());
+    assert_eq!(rt; tickets_after_list(rt, alloc, slot), 2);
+    assert!(rt; slot.slot.checkpoint(alloc, &mut slot.wire).is_ok());
+    assert_eq!(rt; tickets_after_list(rt, alloc, slot), 3);
+    assert!(rt; slot.slot.compact(alloc, &mut slot.wire).is_ok());
+    assert_eq!(rt; tickets_after_list(rt, alloc, slot), 4);
+    drop(slot.slot.unload());
+    assert!(rt; slot.slot.load(alloc, &mut slot.wire).is_ok());
+    assert_eq!(rt; tickets_after_list(rt, alloc, slot), 5);
+}
+
+#[test]
+fn lists_stay_gathered_in_both_halves_of_a_slot(rt: HostRuntime) {
+    let alloc = rt.alloc();
+    let mut lower = make_of_rows(&rt, alloc, rows(alloc).gathering_lists(), &[], &[]);
+    drop(listed(&rt, alloc, &mut *lower));
+    assert_eq!(rt; lower.tickets, 1);
+    care_for(&rt, alloc, &mut *lower);
+    let mut upper = split(&rt, alloc, &mut *lower, "m").expect(&rt, "the nodes answer");
+    assert_eq!(rt; tickets_after_list(&rt, alloc, &mut *lower), 6);
+    drop(sent(&rt, alloc, &mut *upper, LIST_FROM_M));
+    assert_eq!(rt; upper.tickets, 1);
 }
