@@ -31,7 +31,7 @@ abbrev pub IsFrom : ℕ → Piece → Type 0
 IsFrom n (Bytes bs) = ⊥
 IsFrom n (At place len) = n ≤ place.extent
 
--- each piece of the content is
+-- each piece of the content is a place in an extent from this number on
 abbrev pub AreFrom : ℕ → List Piece → Type 0
 AreFrom n ps = All (IsFrom n) ps
 
