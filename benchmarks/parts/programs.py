@@ -10,6 +10,12 @@ sys.path[:0] = [str(HERE.parents[1] / "checks" / it) for it in ("programs", "mod
 import placed  # noqa: E402
 import tree  # noqa: E402
 
+# valgrind counts an instruction for each byte that `rep` fills or copies. So the C library fills and copies in another way.
+CALLGRIND = (
+    "env", "GLIBC_TUNABLES=glibc.cpu.x86_rep_stosb_threshold=1000000000:glibc.cpu.x86_rep_movsb_threshold=1000000000",
+    "valgrind", "--tool=callgrind",
+)
+
 
 def build(copy, name, below):
     """The program in NAME.rt.txt of this folder, proved and built in a copy of the tree that has the crates below it."""
@@ -23,7 +29,7 @@ def build(copy, name, below):
 
 def instructions(program, words, room):
     """The instructions before each look at the clock, since the look before. The files of the count are in the folder `room`."""
-    command = ["valgrind", "--tool=callgrind", "--dump-before=clock_gettime*", f"--callgrind-out-file={room}/calls", program, *words]
+    command = [*CALLGRIND, "--dump-before=clock_gettime*", f"--callgrind-out-file={room}/calls", program, *words]
     subprocess.run(command, stdout=subprocess.DEVNULL, stderr=subprocess.DEVNULL, check=True)
     files = sorted(Path(room).glob("calls.*"), key=lambda it: int(it.suffix[1:]))
     return [int(re.search(r"^totals: (\d+)", it.read_text(), re.M)[1]) for it in files]

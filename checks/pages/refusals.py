@@ -39,7 +39,7 @@ CAUSES = {
     "ReadFault": ("unreachable",), "RecordFault": ("exact",), "RepairFault.NoSuchExtent": ("refused",),
     "RepairFault": ("faulty", "counted"), "RotateFault": ("refused",), "SecretFault": ("refused",),
     "SplitError": ("fault",), "SplitFault": ("fault",), "StepFault.NoSuchExtent": (), "StepFault": ("taken", "ran"), "StoredFault": ("counted",), "TakeFault": ("counted",),
-    "TendFault.Repair(NoSuchExtent)": (), "TendFault": (ONLY,), "TimeFault.Form": ("form",), "TimeFault.Range": ("range",),
+    "TendFault.Repair(NoSuchExtent)": (), "TendFault": (ONLY,), "Untended.Repair(NoSuchExtent)": (), "Untended": ("taken",), "TimeFault.Form": ("form",), "TimeFault.Range": ("range",),
     "TokenFault": ("refused",), "Unreachable": ("unreachable",), "Unrepaired.NoSuchExtent": ("refused",), "Unrepaired": ("counted",),
 }
 # The clauses that say that a refusal never comes, in the same way.
@@ -55,7 +55,7 @@ MEMORY = ("AllocError", "AllocFailed", NO_MEMORY)
 # comes.
 STEPS = {
     "Core::serve": (), "Core::fetch": ("NoSuchTicket", "Unreachable"), "Core::split": ("Map", "Busy"),
-    "Core::tend": ("NoSuchSlot", "NoSuchExtent", "Busy", "Unreachable"), "Core::rotate": ("NoAccount", "Last"),
+    "Core::rotate": ("NoAccount", "Last"),
 }
 # The calls whose answer does not show by its type that it may be a refusal: what they answer then.
 OTHERWISE = {"Core::compact_wasteful": "None", "SlotHistory::enter": "false", "SlotHistory::split": "None"}

@@ -25,7 +25,10 @@ pub use laws::{
     no_rule_holds_if_and_only_if_the_own_route_admits, nobody_writes_by_public_access,
 };
 pub use needs::{Letter, Need, need_of};
-pub use order_laws::the_refusal_names_the_first_rule_that_holds;
+pub use order_laws::{
+    the_refusal_names_the_first_rule_that_holds,
+    the_rules_of_permission_have_the_order_of_their_labels,
+};
 pub use rotation::{KeysFault, Which};
 pub use rotation_laws::each_pair_has_its_place_as_epoch;
 pub use signatures::{

@@ -75,38 +75,25 @@ fn same_bytes(one: &[u8], other: &[u8]) -> bool
 }
 
 // Whether the key gives the signature. Signatures are compared as texts, so a text that is not Base64 is only a wrong signature.
-fn gives(
-    alloc: Global,
-    key: &SigningKey,
-    string: &[u8],
-    signature: &[u8],
-) -> Result<bool, AllocError>
-    ensures { IfOk result (λ same.
-        same ≡ bytes_eq signature.now (signature_of key.now string.now)) }
+fn gives(key: &SigningKey, string: &[u8], signature: &[u8]) -> bool
+    ensures { result ≡ bytes_eq signature.now (signature_of key.now string.now) }
 {
-    let text = key.sign(alloc, string)?;
-    Ok(same_bytes(signature, text.as_bytes()))
+    same_bytes(signature, &key.signature(string))
 }
 
 /// The key of the two that gives this signature for the string.
-pub(crate) fn signer(
-    alloc: Global,
-    keys: &Keys,
-    string: &[u8],
-    signature: &[u8],
-) -> Result<SignedBy, AllocError>
-    ensures either { IfOk result (λ by.
-        is_by_either by ≡ is_signed keys.now string.now signature.now) }
-    ensures first { IfOk result (λ by.
-        is_by_first by ≡ is_signed (first_alone keys.now) string.now signature.now) }
+pub(crate) fn signer(keys: &Keys, string: &[u8], signature: &[u8]) -> SignedBy
+    ensures either { is_by_either result ≡ is_signed keys.now string.now signature.now }
+    ensures first { is_by_first result
+        ≡ is_signed (first_alone keys.now) string.now signature.now }
 {
-    if gives(alloc, &keys.first, string, signature)? {
-        return Ok(SignedBy::First);
+    if gives(&keys.first, string, signature) {
+        return SignedBy::First;
     }
-    if gives(alloc, &keys.second, string, signature)? {
-        return Ok(SignedBy::Second);
+    if gives(&keys.second, string, signature) {
+        return SignedBy::Second;
     }
-    Ok(SignedBy::Neither)
+    SignedBy::Neither
 }
 
 /// The key of the two that gives this signature for the string to sign of the request.
@@ -122,7 +109,7 @@ pub(crate) fn key_signer(
         is_by_first by ≡ is_signed (first_alone keys.now) (string_of ask.now) signature.now) }
 {
     let string = key_string(alloc, &ask.signing, ask.key.account.as_str().as_bytes())?;
-    signer(alloc, keys, &string, signature)
+    Ok(signer(keys, &string, signature))
 }
 
 /// Whether neither of the two keys gives the signature.

@@ -67,7 +67,7 @@ pub(crate) fn token_signer(
         ≡ is_signed (first_alone keys.now) (parts.text_of ask.now token.now) token.now.signature) }
 {
     let string = token_string(alloc, token, &ask.key, ask.blob.as_ref())?;
-    signer(alloc, keys, &string, token.signature)
+    Ok(signer(keys, &string, token.signature))
 }
 
 /// Whether the permissions have the letter.

@@ -3,4 +3,6 @@
 
 mod reading;
 
-pub use reading::{append_base64, decoded_base64, is_base64_within, write_base64};
+pub use reading::{
+    append_base64, base64_of_16, base64_of_32, decoded_base64, is_base64_within, write_base64,
+};

@@ -44,6 +44,24 @@ pub fn append_base64(out: &mut String, bytes: &[u8]) -> Result<(), AllocError>
     STANDARD.encode_string(bytes, out)
 }
 
+/// The Base64 of 16 bytes, as many as an MD5 has: 24 characters with the padding (RFC 4648, section 4). The call takes no memory.
+pub fn base64_of_16(bytes: &[u8; 16]) -> [u8; 24]
+    ensures { result ≡ base64_of bytes.now }
+{
+    let mut text = [0; 24];
+    let _written = STANDARD.encode_slice(bytes, &mut text);
+    text
+}
+
+/// The Base64 of 32 bytes, as many as a SHA-256 has: 44 characters with the padding (RFC 4648, section 4). The call takes no memory.
+pub fn base64_of_32(bytes: &[u8; 32]) -> [u8; 44]
+    ensures { result ≡ base64_of bytes.now }
+{
+    let mut text = [0; 44];
+    let _written = STANDARD.encode_slice(bytes, &mut text);
+    text
+}
+
 /// Whether the text is the strict Base64 of so many bytes. Both ends are in the range.
 ///
 /// `AllocError` if memory runs out.

@@ -39,7 +39,7 @@ fn name_of(alloc: Global, name: &[u8]) -> Result<Text, AllocError>
 
 /// The row of a container without its blobs.
 #[tactic(auto, using(crate::proofs::RowLemmas::container_good))]
-pub(crate) fn container_row(key: &Key, found: &Found<'_>) -> Result<Change, AllocError>
+pub fn container_row(key: &Key, found: &Found<'_>) -> Result<Change, AllocError>
     requires named { HasGoodNames key.now }
     requires counted { 1 ≤ found.now.count }
     ensures { IfOk result (λ c. c ≡ record { key = key.now; act = act.ContainerRow (container_row_of found.now) }) }
@@ -51,7 +51,7 @@ pub(crate) fn container_row(key: &Key, found: &Found<'_>) -> Result<Change, Allo
 
 /// The row of a blob of which something is left.
 #[tactic(auto, using(crate::proofs::RowLemmas::blob_good))]
-pub(crate) fn blob_row(
+pub fn blob_row(
     alloc: Global,
     key: &Key,
     name: &[u8],

@@ -129,7 +129,7 @@ step_goes x s s' f r takes =
     (λ s m s' i on is goes sound all. goes (settled_sound (slot_doubt s i) s m i is sound) (by_settle (slot_doubt s i) s m i refl is sound all))
     (λ s q t is calm a sound all j e at. stays s (served s q t) e refl (by_serve s q t calm sound j e at) (all j e at))
     (λ s q t is calm a sound all j e at. stays s (with_ticket (served s q t) _) e refl (by_serve s q t calm sound j e at) (all j e at))
-    (λ s q t is calm some a. by_doubt s q t some)
+    (λ s q t is calm some o a. by_doubt s q t some)
     (λ s n o is there a sound all j e at. stays s (without_ticket s n) e refl refl (all j e at))
     (λ s i middle calm allowed a. by_split s i middle allowed)
     (λ s account which key old is there a sound all. by_rotate s account which key old there sound all) s s' f takes

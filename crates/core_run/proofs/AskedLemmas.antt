@@ -69,7 +69,7 @@ module _ (test : Asked → ℕ → Bool) where
       (on s m s' first.0 then.0, then.1))
       (λ s q t is calm r sound pass. (one s (served s q t) (record { served = timed_in s q t; reply = Some (reply_in s q t) }) refl (subst (PassesStep test) is asks), pass))
       (λ s q t is calm r sound pass. (one s (with_ticket (served s q t) (reply_in s q t)) (record { served = timed_in s q t; reply = Some (reply_in s q t) }) refl (subst (PassesStep test) is asks), pass))
-      (λ s q t is calm some r sound pass. (nothing s (with_doubt s (slot_for s q) (entry_of s.pairs q t)) refl, by_doubt s q t (subst (PassesStep test) is asks) pass))
+      (λ s q t is calm some o r sound pass. (nothing s (with_doubt s (slot_for s q) (entry_of s.pairs q t)) refl, by_doubt s q t (subst (PassesStep test) is asks) pass))
       (λ s n o is held r sound pass. (nothing s (without_ticket s n) refl, pass))
       (λ s i middle calm allowed r sound pass. (nothing s (split s i middle) refl, by_split s i middle allowed sound pass))
       (λ s account which key old is current r sound pass. (nothing s (with_pair s account (rotated old which key (epoch_after old.epoch))) refl, pass)) s s' f takes

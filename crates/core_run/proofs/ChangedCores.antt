@@ -8,7 +8,6 @@ use Rattle.stamp_values.specs.Operations.{names_container}
 use Rattle.stamp_values.specs.Order.{key_cmp}
 use Rattle.stamp_values.specs.declared.key.Key.{Key}
 use Rattle.stamp_types.specs.declared.past.Past.{Past}
-use Rattle.stamp_types.specs.Changes.{KeyedAct}
 use Rattle.stamp_types.specs.Pieces.{held}
 use Rattle.stamp_types.specs.Requests.{Asked}
 use Rattle.stamp_types.specs.World.{Part, World, no_part, part_at}
@@ -21,7 +20,7 @@ use Rattle.stamp_model.specs.SeenContainers.{routed}
 use Rattle.stamp_model.proofs.EffectLemmas.{part_at-effect, part_at-effect_others}
 use Rattle.stamp_model.proofs.HistoryLemmas.{replay_from-append}
 use Rattle.partition_map.specs.Spans.{slot_of}
-use Rattle.slot_state.specs.HistoryMaps.{Histories, history_at, with_entry}
+use Rattle.slot_state.specs.HistoryMaps.{history_at, with_entry}
 use Rattle.slot_state.specs.Pairs.{Pairs, current_at, pairs_at}
 use Rattle.slot_state.specs.Slots.{SlotState, change_now, entry_of, replayed_at}
 use Rattle.stored_slot.specs.Served.{doubting}

@@ -1,7 +1,8 @@
 -- Answers that tell of faults, and steps that fail.
-use Rattle.std.proofs.Common.{◌≡◌, ◌⊎◌, inl, inr, ℕ, Bool, true, false, cond, List, [], ◌∷◌, Option, Some, None, find, refl, sym, ap, ◌∙◌, subst, Ok, Err}
+use Rattle.std.proofs.Common.{◌≡◌, ◌⊎◌, ◌↔◌, inl, inr, ℕ, Bool, true, false, cond, List, [], ◌∷◌, Option, Some, None, find, refl, sym, ap, ◌∙◌, subst, Ok, Err}
 use Rattle.stamp_types.specs.declared.reply.Reply as replies
 use Rattle.stamp_types.specs.declared.rule.Rule.{Rule}
+use Rattle.stamp_types.specs.declared.rule.Rule.TheVariants as rule
 use Rattle.stamp_types.specs.Requests.{Asked}
 use Rattle.stamp_types.specs.World.{World, part_at}
 use Rattle.access_rules.specs.declared.keys.Keys.{Keys}
@@ -25,6 +26,33 @@ use Rattle.core_run.specs.Machine.{Answer, Fails, FetchesBy, SettlesDoubt, MadeO
 use Rattle.core_run.specs.Places.{is_fault_rule, tells_fault}
 use Rattle.core_run.specs.States.{State, has_slot, held_by, reply_in, slot_for, timed_in}
 use Rattle.core_run.proofs.StepLemmas.{by_changes}
+
+-- ---- the words
+
+-- the rule is N1 or N2
+pub fault_rule_if : (r : Option Rule) → (is_fault_rule r ≡ true) ↔ ((r ≡ Some rule.N1) ⊎ (r ≡ Some rule.N2))
+fault_rule_if (Some rule.N1) = (λ h. inl refl, λ h. refl)
+fault_rule_if (Some rule.N2) = (λ h. inr refl, λ h. refl)
+fault_rule_if other = (λ h. cc, λ h. elim h [ inl e ↦ cc | inr e ↦ cc ])
+
+-- the answer is one of these two replies, or Busy, or Unreachable
+abbrev TellsIt : Answer → Type 0
+TellsIt a = ((o : replies.Reply) × ((a ≡ Ok (Reply o)) × (is_fault_rule o.rule ≡ true))) ⊎ ((a ≡ Err fault.Busy) ⊎ (a ≡ Err fault.Unreachable))
+
+tells_then : (a : Answer) → tells_fault a ≡ true → TellsIt a
+tells_then (Ok (Reply o)) h = inl (o, (refl, h))
+tells_then (Err fault.Busy) h = inr (inl refl)
+tells_then (Err fault.Unreachable) h = inr (inr refl)
+tells_then other h = cc
+
+pub tells_if : (a : Answer) → (tells_fault a ≡ true) ↔ (((o : replies.Reply) × ((a ≡ Ok (Reply o)) × (is_fault_rule o.rule ≡ true))) ⊎ ((a ≡ Err fault.Busy) ⊎ (a ≡ Err fault.Unreachable)))
+tells_if a = (
+  tells_then a,
+  λ h. elim h [
+    | inl p ↦ ap tells_fault p.1.0 ∙ p.1.1
+    | inr p ↦ elim p [ inl e ↦ ap tells_fault e | inr e ↦ ap tells_fault e ]
+  ],
+)
 
 -- ---- the model's replies tell of no fault
 
@@ -68,7 +96,7 @@ not_made e o is = cc
 pub fails : (x : Step) (s s' : State) (f : Bool) (e : StepFault) → Takes s x f (Err e) s' → Unchanged s s'
 fails x s s' f e takes =
     by_changes x (Err e) (λ s s'. s' ≡ s) Unchanged (λ s. refl) (λ s s' is. inl is) (λ s m s' i on is same. inr (i, subst (SettlesDoubt s i) (sym same) is))
-    (λ s q t is calm r. absurd (not_made e _ r)) (λ s q t is calm r. absurd (not_made e _ r)) (λ s q t is calm some r. absurd (not_made e _ r))
+    (λ s q t is calm r. absurd (not_made e _ r)) (λ s q t is calm r. absurd (not_made e _ r)) (λ s q t is calm some o r. absurd (not_made e _ r))
     (λ s n o is there r. absurd (not_made e _ r)) (λ s i middle calm allowed r. absurd (not_made e _ r)) (λ s account which key old is there r. absurd (not_made e _ r)) s s' f takes
 
 -- ---- a step during which no call failed

@@ -74,7 +74,7 @@ pub step_leads : (x : Step) (s s' : State) (f : Bool) (r : Answer) → Takes s x
 step_leads x s s' f r takes =
     by_changes x r LedTo LedTo (λ s. ([], leads_same s)) (λ s s' led. led) (λ s m s' i on is led. led_on s m s' (settle_leads (slot_doubt s i) s m i is) led)
     (λ s q t is calm r. (record { served = timed_in s q t; reply = Some (reply_in s q t) } ∷ [], one s _ _ refl refl refl))
-    (λ s q t is calm r. (record { served = timed_in s q t; reply = Some (reply_in s q t) } ∷ [], one s _ _ refl refl refl)) (λ s q t is calm some r. ([], silent s _ refl refl))
+    (λ s q t is calm r. (record { served = timed_in s q t; reply = Some (reply_in s q t) } ∷ [], one s _ _ refl refl refl)) (λ s q t is calm some o r. ([], silent s _ refl refl))
     (λ s n o is there answers. ([], silent s _ refl refl)) (λ s i middle calm allowed r. ([], silent s _ refl refl)) (λ s account which key old is there r. ([], silent s _ refl refl)) s s' f takes
 
 pub run_leads : (steps : List Step) (answers : List Answer) (s s' : State) (before after : ℕ) → IsRun s before steps answers s' after → (us : List Turn) × Leads s us s'

@@ -4,6 +4,7 @@ pub mod AskedLemmas
 pub mod ChangedCores
 pub mod CoreLemmas
 pub mod DoubtLemmas
+pub mod EndedLemmas
 pub mod EndLemmas
 pub mod FaultLemmas
 pub mod HeadlineLemmas

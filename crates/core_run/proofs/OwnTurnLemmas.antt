@@ -12,7 +12,7 @@ use Rattle.partition_map.specs.Spans.{split_refusal}
 use Rattle.stamp_values.specs.declared.key.Key.{Key}
 use Rattle.stamp_model.specs.SeenContainers.{routed}
 use Rattle.slot_state.specs.Slots.{entry_of}
-use Rattle.stored_slot.specs.Served.{busy, unknown}
+use Rattle.stored_slot.specs.Served.{busy}
 use Rattle.core_run.specs.declared.step.Outcome.TheVariants.{Reply, Made}
 use Rattle.core_run.specs.declared.step.Step.{Step}
 use Rattle.core_run.specs.declared.step.Step.TheVariants as step
@@ -36,7 +36,7 @@ Adds x r s s' = (m : State) × (SettlesOneAtMost s m × AddsOwnTurn x r m s')
 pub adds_own : (x : Step) (s s' : State) (f : Bool) (r : Answer) → Takes s x f r s' → (m : State) × (SettlesOneAtMost s m × AddsOwnTurn x r m s')
 adds_own x s s' f r takes =
     by_changes x r (AddsOwnTurn x r) (Adds x r) (λ s. inr (refl, refl)) (λ s s' adds. (s, (inl refl, adds))) (λ s m s' i on is adds. (m, (inr (i, is), adds)))
-    (λ s q t is calm a. inl (q, (t, (is, (inl a, refl))))) (λ s q t is calm a. inl (q, (t, (is, (inr a, refl))))) (λ s q t is calm some a. inr (refl, refl))
+    (λ s q t is calm a. inl (q, (t, (is, (inl a, refl))))) (λ s q t is calm a. inl (q, (t, (is, (inr a, refl))))) (λ s q t is calm some o a. inr (refl, refl))
     (λ s n o is there a. inr (refl, refl)) (λ s i middle calm allowed a. inr (refl, refl)) (λ s account which key old is there a. inr (refl, refl)) s s' f takes
 
 -- ---- a Serve that tells of a fault
@@ -63,7 +63,7 @@ after_busy s s' q t f o (inl p) n1 = elim p.1.1 [
     | inl made ↦ not_model p.0 q t o rule.N1 refl n1 made.0
     | inr rest ↦ elim rest [
       | inl made ↦ later_reply (given o) (length p.0.tickets) o made.0 refl
-      | inr made ↦ n1_n2 o n1 (ap (λ (r : replies.Reply). r.rule) (reply_is (given o) o unknown refl made.1.1.0))
+      | inr made ↦ n1_n2 o n1 (ap (λ (r : replies.Reply). r.rule) (reply_is (given o) o _ refl made.1.1.0))
     ]
   ])
 ]

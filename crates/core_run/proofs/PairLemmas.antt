@@ -57,7 +57,7 @@ module _ (account : List ℕ) (epoch : ℕ) where
       (λ s m s' i on is stays some.
       let same = settled_pairs (slot_doubt s i) s m i is in
       subst (λ (ps : Pairs). Stays ps s'.pairs) same stays some)
-      (λ s q t is calm r some. refl) (λ s q t is calm r some. refl) (λ s q t is calm change r some. refl) (λ s n o is held r some. refl) (λ s i middle calm allowed r some. refl)
+      (λ s q t is calm r some. refl) (λ s q t is calm r some. refl) (λ s q t is calm change o r some. refl) (λ s n o is held r some. refl) (λ s i middle calm allowed r some. refl)
       (λ s name which key old is current r some.
       ap (λ (ks : List Keys). pair_of ks epoch) (pairs_at-insert s.pairs name (pairs_at s.pairs name ++ rotated old which key (epoch_after old.epoch) ∷ []) account)
       ∙ by_name (eq_by_cmp name_cmp account name) s.pairs name (rotated old which key (epoch_after old.epoch)) refl some) s s' f takes

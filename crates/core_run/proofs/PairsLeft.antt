@@ -1,5 +1,5 @@
 -- Steps and runs that leave key pairs.
-use Rattle.std.proofs.Common.{◌≡◌, ◌≢◌, inl, inr, ℕ, Bool, true, false, cond, nat_lt, All, List, [], ◌∷◌, ◌++◌, Option, Some, None, refl, sym, ap, ◌∙◌, Ok}
+use Rattle.std.proofs.Common.{◌≡◌, ◌≢◌, ◌↔◌, inl, inr, ℕ, Bool, true, false, cond, nat_lt, All, List, [], ◌∷◌, ◌++◌, Option, Some, None, refl, sym, ap, ◌∙◌, Ok}
 use Rattle.std.specs.Ordering.{eq_by_cmp}
 use Rattle.std.proofs.lemmas.List.Elements.{All-head, All-tail}
 use Rattle.stamp_values.specs.Order.{name_cmp, names_exact}
@@ -9,6 +9,7 @@ use Rattle.access_rules.specs.declared.rotation.Which.{Which}
 use Rattle.access_rules.specs.Rotation.{epoch_after, rotated}
 use Rattle.slot_state.specs.Pairs.{pairs_at}
 use Rattle.core_run.specs.declared.step.Step.{Step}
+use Rattle.core_run.specs.declared.step.Step.TheVariants as step
 use Rattle.core_run.specs.declared.step.Outcome.TheVariants.{Epoch}
 use Rattle.core_run.specs.Machine.{Answer, IsRun, RotatesBy, Takes}
 use Rattle.core_run.specs.Places.{is_rotate}
@@ -17,12 +18,20 @@ use Rattle.core_run.proofs.SoundLemmas.{pairs_at-insert}
 use Rattle.core_run.proofs.StepLemmas.{by_changes, settled_pairs}
 use Rattle.core_run.proofs.Values.{true_false}
 
+rotate_then : (x : Step) → is_rotate x ≡ true → (account : List ℕ) × ((which : Which) × ((key : List ℕ) × (x ≡ step.Rotate account which key)))
+rotate_then (step.Rotate account which key) h = (account, (which, (key, refl)))
+rotate_then other h = cc
+
+-- the step is a Rotate
+pub rotate_if : (x : Step) → (is_rotate x ≡ true) ↔ ((account : List ℕ) × ((which : Which) × ((key : List ℕ) × (x ≡ step.Rotate account which key))))
+rotate_if x = (rotate_then x, λ p. ap is_rotate p.1.1.1)
+
 -- a step that answers no epoch leaves the pairs
 pub no_epoch : (x : Step) (s s' : State) (f : Bool) (r : Answer) → Takes s x f r s' → ((n : ℕ) → r ≢ Ok (Epoch n)) → s'.pairs ≡ s.pairs
 no_epoch x s s' f r takes =
     by_changes x r (λ s s'. ((n : ℕ) → r ≢ Ok (Epoch n)) → s'.pairs ≡ s.pairs) (λ s s'. ((n : ℕ) → r ≢ Ok (Epoch n)) → s'.pairs ≡ s.pairs)
     (λ s none. refl) (λ s s' stays. stays) (λ s m s' i on is stays none. stays none ∙ settled_pairs (slot_doubt s i) s m i is)
-    (λ s q t is calm a none. refl) (λ s q t is calm a none. refl) (λ s q t is calm some a none. refl) (λ s n o is there a none. refl)
+    (λ s q t is calm a none. refl) (λ s q t is calm a none. refl) (λ s q t is calm some o a none. refl) (λ s n o is there a none. refl)
     (λ s i middle calm allowed a none. refl) (λ s account which key old is there a none. absurd (none (epoch_after old.epoch) a)) s s' f takes
 
 -- a step that is no Rotate leaves the pairs
@@ -30,7 +39,7 @@ pub no_rotate : (x : Step) (s s' : State) (f : Bool) (r : Answer) → Takes s x 
 no_rotate x s s' f r takes =
     by_changes x r (λ s s'. is_rotate x ≡ false → s'.pairs ≡ s.pairs) (λ s s'. is_rotate x ≡ false → s'.pairs ≡ s.pairs)
     (λ s none. refl) (λ s s' stays. stays) (λ s m s' i on is stays none. stays none ∙ settled_pairs (slot_doubt s i) s m i is)
-    (λ s q t is calm a none. refl) (λ s q t is calm a none. refl) (λ s q t is calm some a none. refl) (λ s n o is there a none. refl)
+    (λ s q t is calm a none. refl) (λ s q t is calm a none. refl) (λ s q t is calm some o a none. refl) (λ s n o is there a none. refl)
     (λ s i middle calm allowed a none. refl) (λ s account which key old is there a none. absurd (true_false (sym (ap is_rotate is) ∙ none))) s s' f takes
 
 -- a run without a Rotate leaves the pairs

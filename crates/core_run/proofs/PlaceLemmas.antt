@@ -23,7 +23,7 @@ use Rattle.core_run.proofs.Values.{some_is, true_false}
 -- ---- one Serve
 
 -- the request is served in the same way after a settle
-same_timed : (s m : State) (i : ℕ) (q : Asked) (t : ℕ) → SettlesDoubt s i m → timed_in m q t ≡ timed_in s q t
+pub same_timed : (s m : State) (i : ℕ) (q : Asked) (t : ℕ) → SettlesDoubt s i m → timed_in m q t ≡ timed_in s q t
 same_timed s m i q t is =
     λ j. record { request = q; moment = t; keys = current_at (settled_pairs (slot_doubt s i) s m i is j) q.ask.key.account; bound = bound_at (settled_points (slot_doubt s i) s m i is j) (routed q) }
 
@@ -115,7 +115,7 @@ regroup h us vs ws u =
     ∙ ap (λ (xs : List Turn). h ++ xs) (sym (append_assoc us vs (u ∷ ws)))
 
 -- a run and then a Serve that gives a reply: the Serve's turn is the last one of the history
-turn_at : (xs : List Step) (rs : List Answer) (s m m' : State) (before n k : ℕ) (q : Asked) (t : ℕ) (a : Answer) (o : replies.Reply)
+pub turn_at : (xs : List Step) (rs : List Answer) (s m m' : State) (before n k : ℕ) (q : Asked) (t : ℕ) (a : Answer) (o : replies.Reply)
     → IsRun s before xs rs m n → IsRun m n (step.Serve q t ∷ []) (a ∷ []) m' k → GivesReply a m' o
     → (us : List Turn) × (m'.history ≡ s.history ++ (us ++ record { served = timed_in m q t; reply = Some o } ∷ []))
 turn_at xs rs s m m' before n k q t a o first serve gives =

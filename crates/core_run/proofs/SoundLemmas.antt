@@ -226,7 +226,7 @@ same_but s s' points doubts pairs sound = record {
 pub step_sound : (x : Step) (s s' : State) (f : Bool) (r : Answer) → Takes s x f r s' → IsSound s → IsSound s'
 step_sound x s s' f r takes =
     by_changes x r Stays Stays (λ s sound. sound) (λ s s' stays. stays) (λ s m s' i on is stays sound. stays (settled_sound (slot_doubt s i) s m i is sound))
-    (λ s q t is calm r. same_but s _ refl refl refl) (λ s q t is calm r. same_but s _ refl refl refl) (λ s q t is calm some r. doubted_sound s q t some)
+    (λ s q t is calm r. same_but s _ refl refl refl) (λ s q t is calm r. same_but s _ refl refl refl) (λ s q t is calm some o r. doubted_sound s q t some)
     (λ s n o is there r. same_but s _ refl refl refl) (λ s i middle calm allowed r. split_sound s i middle allowed) (λ s account which key old is there r. rotated_sound s account which key old there) s s' f takes
 
 pub run_sound : (steps : List Step) (answers : List Answer) (s s' : State) (before after : ℕ) → IsRun s before steps answers s' after → IsSound s → IsSound s'

@@ -15,7 +15,6 @@ use Rattle.partition_map.specs.Spans.{slot_of, split_refusal}
 use Rattle.stamp_model.specs.SeenContainers.{routed}
 use Rattle.slot_state.specs.Pairs.{current_at}
 use Rattle.slot_state.specs.Slots.{entry_of}
-use Rattle.stored_slot.specs.Served.{unknown}
 use Rattle.core_run.specs.declared.step.Step.{Step}
 use Rattle.core_run.specs.declared.step.Step.TheVariants as step
 use Rattle.core_run.specs.declared.step.Outcome.TheVariants.{Reply, Later, Made, Epoch}
@@ -76,7 +75,7 @@ module _ (x : Step) (r : Answer) (Q P : State → State → Type 0)
     (joined : (s m s' : State) (i : ℕ) → works_on s x ≡ Some i → SettlesDoubt s i m → Q m s' → P s s')
     (serves : (s : State) (q : Asked) (t : ℕ) → x ≡ step.Serve q t → slot_doubt s (slot_for s q) ≡ None → r ≡ Ok (Reply (reply_in s q t)) → Q s (served s q t))
     (promises : (s : State) (q : Asked) (t : ℕ) → x ≡ step.Serve q t → slot_doubt s (slot_for s q) ≡ None → r ≡ Ok (Later (length s.tickets)) → Q s (with_ticket (served s q t) (reply_in s q t)))
-    (doubts : (s : State) (q : Asked) (t : ℕ) → x ≡ step.Serve q t → slot_doubt s (slot_for s q) ≡ None → IsSome (change_in s q t) → r ≡ Ok (Reply unknown) → Q s (with_doubt s (slot_for s q) (entry_of s.pairs q t)))
+    (doubts : (s : State) (q : Asked) (t : ℕ) → x ≡ step.Serve q t → slot_doubt s (slot_for s q) ≡ None → IsSome (change_in s q t) → (o : replies.Reply) → r ≡ Ok (Reply o) → Q s (with_doubt s (slot_for s q) (entry_of s.pairs q t)))
     (fetches : (s : State) (n : ℕ) (o : replies.Reply) → x ≡ step.Fetch n → held_by s n ≡ Some o → r ≡ Ok (Reply o) → Q s (without_ticket s n))
     (splits : (s : State) (i : ℕ) (middle : Key) → slot_doubt s i ≡ None → split_refusal s.points i middle ≡ None → r ≡ Ok Made → Q s (split s i middle))
     (rotates : (s : State) (account : List ℕ) (which : Which) (key : List ℕ) (old : Keys) → x ≡ step.Rotate account which key → current_at s.pairs account ≡ Some old → r ≡ Ok (Epoch (epoch_after old.epoch)) → Q s (with_pair s account (rotated old which key (epoch_after old.epoch)))) where
@@ -104,7 +103,7 @@ module _ (x : Step) (r : Answer) (Q P : State → State → Type 0)
   serving : (s s' : State) (q : Asked) (t : ℕ) (f : Bool) → x ≡ step.Serve q t → slot_doubt s (slot_for s q) ≡ None → Serves s q t f r s' → Q s s'
   serving s s' q t f is calm (inl p) = subst (Q s) (sym p.1) (serves s q t is calm p.0)
   serving s s' q t f is calm (inr (inl p)) = subst (Q s) (sym p.1) (promises s q t is calm p.0)
-  serving s s' q t f is calm (inr (inr p)) = subst (Q s) (sym p.1.1.1) (doubts s q t is calm p.1.0 p.1.1.0)
+  serving s s' q t f is calm (inr (inr p)) = subst (Q s) (sym p.1.1.1) (doubts s q t is calm p.1.0 _ p.1.1.0)
 
   fetching : (o : Option replies.Reply) (s s' : State) (n : ℕ) (f : Bool) → x ≡ step.Fetch n → held_by s n ≡ o → FetchesBy o s n f r s' → Q s s'
   fetching None s s' n f is there p = unchanged s s' p.1

@@ -6,7 +6,7 @@ use Rattle.std.proofs.lemmas.Bool.{cases_order}
 use Rattle.std.proofs.lemmas.List.Elements.{All-head, All-tail}
 use Rattle.stamp_types.specs.declared.reply.Reply as replies
 use Rattle.stamp_types.specs.Requests.{Asked}
-use Rattle.stored_slot.specs.Served.{busy, unknown}
+use Rattle.stored_slot.specs.Served.{busy}
 use Rattle.core_run.specs.declared.step.Step.{Step}
 use Rattle.core_run.specs.declared.step.Step.TheVariants as step
 use Rattle.core_run.specs.declared.step.Outcome.TheVariants.{Reply, Later}
@@ -59,7 +59,7 @@ module _ (x : Step) (r : Answer) (n : ℕ) (o : replies.Reply) where
   stays_or_fetched s s' f takes =
       by_changes x r Kept Kept (λ s holds. inr holds) (λ s s' kept. kept)
       (λ s m s' i on is kept holds. kept (ap (λ (ts : List (Option replies.Reply)). option_and_then (λ y. y) (slice_get ts n)) (settled_tickets (slot_doubt s i) s m i is) ∙ holds))
-      (λ s q t is calm r holds. inr holds) (λ s q t is calm r holds. inr (more s.tickets _ n o holds)) (λ s q t is calm some r holds. inr holds)
+      (λ s q t is calm r holds. inr holds) (λ s q t is calm r holds. inr (more s.tickets _ n o holds)) (λ s q t is calm some o r holds. inr holds)
       fetched (λ s i middle calm allowed r holds. inr holds) (λ s account which key old is there r holds. inr holds) s s' f takes
 
 -- in a run without a Fetch of the ticket it holds what it held
@@ -121,7 +121,7 @@ given s s' q t f n takes = elim (served_first s s' q t f (Ok (Later n)) takes) [
           (λ i. held_by (made.1 i) (later_is (Ok (Later n)) n (length p.0.tickets) refl made.0 i)) ∙ the_last p.0.tickets (reply_in p.0 q t),
         ),
       )
-      | inr made ↦ absurd (later_reply (Ok (Later n)) n unknown refl made.1.1.0)
+      | inr made ↦ absurd (later_reply (Ok (Later n)) n _ refl made.1.1.0)
     ]
   ]
 ]

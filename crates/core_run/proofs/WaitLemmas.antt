@@ -68,5 +68,5 @@ module _ (key : Key) where
       let then = waits (settled_sound (slot_doubt s i) s m i is sound) e first.0 in
       (then.0, then.1 ∙ first.1))
       (λ s q t is calm r sound e there. (there, unserved s q t e calm there)) (λ s q t is calm r sound e there. (there, unserved s q t e calm there))
-      (λ s q t is calm some r sound e there. (apart_set s.doubts _ (slot_for s q) (slot_of s.points key) (λ here. some_none (doubt_at s key) e there (ap (slot_doubt s) here ∙ calm)) ∙ there, refl))
+      (λ s q t is calm some o r sound e there. (apart_set s.doubts _ (slot_for s q) (slot_of s.points key) (λ here. some_none (doubt_at s key) e there (ap (slot_doubt s) here ∙ calm)) ∙ there, refl))
       (λ s n o is held r sound e there. (there, refl)) (λ s i middle calm allowed r. by_split s i middle calm allowed) (λ s account which key old is current r sound e there. (there, refl)) s s' f takes

@@ -18,7 +18,7 @@ use Rattle.core_run.specs.declared.step.Step.TheVariants as step
 use Rattle.core_run.specs.declared.step.Outcome.TheVariants.{Reply, Later}
 use Rattle.core_run.specs.declared.step.StepFault.TheVariants as fault
 use Rattle.core_run.specs.Machine.{Answer, SettlesDoubt}
-use Rattle.core_run.specs.States.{State, Turn, slot_doubt, doubted, held_by, reply_in, requests, slot_for, timed_in}
+use Rattle.core_run.specs.States.{State, Turn, slot_doubt, doubted, dropped, held_by, kept, reply_in, requests, slot_for, timed_in}
 
 -- ---- slots
 
@@ -93,6 +93,21 @@ AddsOwnTurn x answer m s' =
     × (((answer ≡ Ok (Reply (reply_in m q t))) ⊎ (answer ≡ Ok (Later (length m.tickets))))
     × (s'.history ≡ m.history ++ own_turn m q t ∷ [])))))
     ⊎ ((s'.history ≡ m.history) × (s'.world ≡ m.world))
+
+-- The change that was in doubt for the key has ended before this turn, which is the last one of the history. In a state before that, the
+-- slot of the key still had the doubt, and the container of the key was as at first. There the doubt was settled: the change was kept, and
+-- is a turn of the history, or it was dropped. Now the slot of the key has no doubt
+pub record HasEnded (s : State) (key : Key) (e : Past) (now : Turn) (s' : State) : Type 0 where
+  pub waiting : State
+  pub settled : State
+  pub front : List Turn
+  pub rest : List Turn
+  pub doubt : doubt_at waiting key ≡ Some e
+  pub container : part_at waiting.world key ≡ part_at s.world key
+  pub before : waiting.history ≡ s.history ++ front
+  pub ends : (settled ≡ kept waiting (slot_of waiting.points key) e) ⊎ (settled ≡ dropped waiting (slot_of waiting.points key))
+  pub after : s'.history ≡ settled.history ++ (rest ++ now ∷ [])
+  pub none : doubt_at s' key ≡ None
 
 -- the step is a Rotate
 abbrev pub is_rotate : Step → Bool

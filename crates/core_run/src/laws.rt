@@ -1,5 +1,5 @@
 //! Laws of runs. Each law is the contract of a function that does nothing.
-ghost use Rattle.std.specs.Prelude.{◌≡◌, ◌≢◌, ◌⊎◌, ℕ, ◌+◌, Bool, true, false, All, IfSome, IsSome, IsTrue, List, [], ◌∷◌, ◌++◌, length, slice_set, Option, Some, None, Ok, Err};
+ghost use Rattle.std.specs.Prelude.{◌≡◌, ◌≢◌, ◌⊎◌, ◌↔◌, ℕ, ◌+◌, Bool, true, false, All, IfSome, IsSome, IsTrue, List, [], ◌∷◌, ◌++◌, length, slice_set, Option, Some, None, Ok, Err};
 ghost use Rattle.stamp_values.specs.declared.acl.Acl.{Acl};
 ghost use Rattle.stamp_values.specs.declared.key.Key.{Key};
 ghost use Rattle.stamp_values.specs.declared.condition.Condition.TheVariants as condition;
@@ -38,7 +38,7 @@ ghost use Rattle.core_run.specs.declared.step.StepFault.{StepFault};
 ghost use Rattle.core_run.specs.declared.step.StepFault.TheVariants as faults;
 ghost use Rattle.core_run.specs.Cores.{CoreState, StandsFor, first_core, slot_at, with_halves};
 ghost use Rattle.core_run.specs.Machine.{Answer, Fails, IsRun, SettlesDoubt, Serves, Takes};
-ghost use Rattle.core_run.specs.Places.{AddsOwnTurn, DoubtsAreAcceptable, DoubtsPass, GivesReply, HasPlace, IsSound, PassesStep, SettlesOneAtMost, doubt_at, is_fault_rule, is_rotate, tells_fault, works_on};
+ghost use Rattle.core_run.specs.Places.{AddsOwnTurn, DoubtsAreAcceptable, DoubtsPass, GivesReply, HasEnded, HasPlace, IsSound, PassesStep, SettlesOneAtMost, doubt_at, is_fault_rule, is_rotate, tells_fault, works_on};
 ghost use Rattle.core_run.specs.Services.{IsServedWhole, SameButTickets};
 ghost use Rattle.core_run.specs.States.{State, Turn, slot_doubt, doubted, has_slot, held_by, opening, reply_in, requests, served, slot_for, split, timed_in};
 
@@ -52,6 +52,10 @@ ghost use Rattle.core_run.specs.States.{State, Turn, slot_doubt, doubted, has_sl
 /// it all other replies and the containers in the end are the same. What is written is read. A policy
 /// that was withdrawn opens nothing until it is given again. A conditional write changes what its caller
 /// saw. An ETag names one state.
+///
+/// Premises: for the requests of the history (`asked`) the run begins from a sound state. For `conditional`
+/// and `etag` no ETag is over the count of its container at first. In `read` and `conditional` the request
+/// that writes fits its operation, and the Get Blob asks for the whole blob.
 pub fn the_headline()
     ensures reply { (s m m' s' : State) (before n k after : ℕ) (xs ys : List Step)
         (rs ss : List Answer) (q : Asked) (t : ℕ) (a : Answer) (o : Reply)
@@ -194,7 +198,7 @@ pub fn a_step_that_fails_changes_nothing()
 /// A step settles one doubt at most. Then it adds its own turn to the history, if it is a Serve that is answered with the model's
 /// reply, at once or by the next ticket; or it leaves the history and the containers. So a Serve has one turn at most. A Serve that
 /// answers N1 leaves nothing but a settle, so its request may be sent again. A Serve that answers N2 leaves the containers and the
-/// history after a settle, and its change is then in doubt.
+/// history after a settle, and its change is then in doubt, if the state before it was sound.
 pub fn a_step_adds_its_own_turn_alone()
     ensures turn { (s s' : State) (x : Step) (faulted : Bool) (answer : Answer)
         → Takes s x faulted answer s'
@@ -219,13 +223,20 @@ pub fn a_split_that_is_made_is_one()
 {}
 
 /// No reply of the model names N1 or N2. A step during which no call of the wire failed answers neither
-/// of them, nor Busy, nor Unreachable, if no ticket holds such a reply.
+/// of them, nor Busy, nor Unreachable, if no ticket holds such a reply. These two replies and these two
+/// faults are the answers that tell of a fault.
 pub fn a_fault_is_told_only_if_a_call_failed()
     ensures model { (w : World (List ℕ)) (now : Timed)
         → is_fault_rule (reply_to_one w now).rule ≡ false }
     ensures step { (s s' : State) (x : Step) (answer : Answer)
         → ((n : ℕ) (o : Reply) → held_by s n ≡ Some o → is_fault_rule o.rule ≡ false)
         → Takes s x false answer s' → tells_fault answer ≡ false }
+    ensures rule { (r : Option Rule)
+        → IsTrue (is_fault_rule r) ↔ ((r ≡ Some N1) ⊎ (r ≡ Some N2)) }
+    ensures answer { (a : Answer)
+        → IsTrue (tells_fault a)
+        ↔ (((o : Reply) × ((a ≡ Ok (outcome.Reply o)) × IsTrue (is_fault_rule o.rule)))
+        ⊎ ((a ≡ Err faults.Busy) ⊎ (a ≡ Err faults.Unreachable))) }
 {}
 
 /// A step on a slot is a settle of the slot's doubt, and then the step from that state. Or nothing
@@ -263,7 +274,28 @@ pub fn a_doubt_ends_at_the_next_step_without_a_fault()
         → (slot_doubt s' i ≡ None) ⊎ (answer ≡ Err faults.NoMemory) }
 {}
 
-/// Until a step on its slot, a doubt waits, and the container of each key in the span of the slot is as it
+/// A doubt has ended before its container answers. Let a run begin from a sound state in which the slot of a request has a change in
+/// doubt, for example after a Serve on this container that was answered N2. If the last step of the run serves the request, and gives its
+/// reply, at once or by a ticket, then the doubt was settled before the request had its turn. So the reply tells that the change is
+/// decided: it is in the history by now, or it was dropped. Then the slot has no doubt. If a sound state has no doubt in the slot of a
+/// container, then a run from it adds to the history only those requests on this container that its Serves asked: whatever test these
+/// pass, they pass. So a change that was dropped never comes back.
+pub fn a_doubt_has_ended_before_its_container_answers()
+    ensures reply { (s m s' : State) (before n after : ℕ) (xs : List Step) (rs : List Answer)
+        (q : Asked) (t : ℕ) (a : Answer) (o : Reply) (e : Past)
+        → IsSound s → doubt_at s (routed q) ≡ Some e
+        → IsRun s before xs rs m n → IsRun m n (step.Serve q t ∷ []) (a ∷ []) s' after
+        → GivesReply a s' o
+        → HasEnded s (routed q) e (record { served = timed_in m q t; reply = Some o }) s' }
+    ensures asked { (s s' : State) (before after : ℕ) (steps : List Step) (answers : List Answer)
+        (us : List Turn) (key : Key) (test : Asked → ℕ → Bool)
+        → IsRun s before steps answers s' after → IsSound s → doubt_at s key ≡ None
+        → s'.history ≡ s.history ++ us → All (λ x. PassesStep test x) steps
+        → All (λ u. u.served.request.ask.key ≡ key
+        → IsTrue (test u.served.request u.served.moment)) us }
+{}
+
+/// From a sound state and until a step on its slot, a doubt waits, and the container of each key in the span of the slot is as it
 /// was: whatever other slots do, and however they are split. So nothing of the slot is served between a
 /// Serve whose change is in doubt and its settle, and a change that is kept may be read as of its Serve.
 pub fn a_doubt_waits_until_its_slot_settles()
@@ -353,6 +385,10 @@ pub fn a_step_that_answers_no_epoch_leaves_the_pairs()
         (answers : List Answer) (q : Asked) (t : ℕ)
         → IsRun s before steps answers s' after → All (λ x. is_rotate x ≡ false) steps
         → (timed_in s' q t).keys ≡ current_at s.pairs q.ask.key.account }
+    ensures rotate { (x : Step)
+        → IsTrue (is_rotate x)
+        ↔ ((account : List ℕ) × ((which : Which) × ((key : List ℕ)
+        × (x ≡ step.Rotate account which key)))) }
 {}
 
 /// A service that makes a Serve and then the Fetch of its ticket answers as the model. If no call failed
@@ -386,12 +422,13 @@ pub fn keys_of_another_account_count_as_none()
         × ((served s q t).world ≡ world_after_one s.world (timed pair q t)) }
 {}
 
-/// A core of one slot without containers stands for the first state. If a core stands for a state, and
-/// the slot of a request serves it up to the bound of its span, the reply is the machine's, and the core
-/// with the slot as it is then stands for the state after the request; the first key of the request comes
-/// before that bound. If the spans allow the split of a slot without a doubt, the core with its two
-/// halves stands for the state after the split. A policy that was withdrawn in the history of a container, and
-/// that no later entry gives again, opens nothing in any state that the core stands for.
+/// A core of one slot without containers stands for the first state, if the key pairs are numbered by their
+/// epochs. If a core stands for a state, and the slot of a request serves it up to the bound of its span, the
+/// reply is the machine's, and the core with the slot as it is then stands for the state after the request;
+/// the first key of the request comes before that bound. If the spans allow the split of a slot without a
+/// doubt, the core with its two halves stands for the state after the split. A policy that was withdrawn in
+/// the history of a container, and that no later entry gives again, opens nothing in any state that the core
+/// stands for, if the history is legal.
 pub fn a_core_stands_for_its_state()
     ensures opening { (pairs : Pairs) → AreNumbered pairs → StandsFor (first_core pairs) (opening pairs) }
     ensures under { (points : List Key) (q : Asked)

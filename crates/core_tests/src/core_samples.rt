@@ -6,10 +6,11 @@ use core_run::{Outcome, Step, StepFault};
 use extent_node::{Delivery, Script};
 use http_front::Service;
 use slot_state::KeptHistories;
-use stamp_core::{Core, CoreCare};
+use stamp_core::{Core, CoreCare, Untended};
 use stamp_types::{Moment, Reply, Request};
 use std::alloc::{AllocError, Global};
 use std::process::Abort;
+use stored_rows::{StoredFault, Unrepaired};
 
 /// A Delete Blob of `a.txt`.
 pub(crate) const DELETE: &[u8] =
@@ -133,8 +134,26 @@ pub(crate) fn tended(
     slot: usize,
     care: CoreCare,
 ) -> Option<StepFault> {
-    let tended = driven.core.tend(alloc, slot, care, &mut driven.wire);
-    tended.map(drop).err()
+    match driven.core.tend(alloc, slot, care, &mut driven.wire) {
+        Ok(given) => {
+            drop(given);
+            None
+        }
+        Err(untended) => Some(fault_of(untended)),
+    }
+}
+
+// The fault of the step that takes the care.
+fn fault_of(untended: Untended) -> StepFault {
+    match untended {
+        Untended::NoSuchSlot => StepFault::NoSuchSlot,
+        Untended::Slot(StoredFault::Busy) => StepFault::Busy,
+        Untended::Repair(Unrepaired::NoSuchExtent(_none)) => StepFault::NoSuchExtent,
+        Untended::Repair(Unrepaired::Unreachable) => StepFault::Unreachable,
+        Untended::Slot(StoredFault::NoMemory) | Untended::Repair(Unrepaired::NoMemory) => {
+            StepFault::NoMemory
+        }
+    }
 }
 
 /// Why the ticket does not give its reply; `None` if it does.

@@ -61,7 +61,7 @@ pub(crate) fn request(rt: &impl Abort, alloc: Global, head: &[u8], body: &[u8]) 
     assert!(rt; head.body_len() == body.len() as u64);
     let bytes = body.to_vec(alloc).expect(rt, "memory");
     let share = Share::new(alloc, bytes).expect(rt, "memory");
-    head.with_body(alloc, Body::of(share)).expect(rt, "memory")
+    head.with_body(Body::of(share))
 }
 
 /// The text.

@@ -18,7 +18,7 @@ fn a_head_is_read_and_gets_its_body(rt: HostRuntime) {
     let hello = b"hello".to_vec(alloc).expect(&rt, "memory");
     let body = Body::of(Share::new(alloc, hello).expect(&rt, "memory"));
     assert!(rt; head.body_len() == body.len() as u64); // `with_body` requires it
-    let request = head.with_body(alloc, body).expect(&rt, "memory");
+    let request = head.with_body(body);
     let ask = request.ask();
     assert!(rt; ask.op == Op::PutBlob && ask.key.container.as_str() == "box");
     assert!(rt; ask.blob.as_ref().is_some_and(|blob| blob.as_str() == "a/b"));

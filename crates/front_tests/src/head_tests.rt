@@ -21,7 +21,7 @@ fn with_bytes(rt: &impl Abort, alloc: Global, head: Head, bytes: &[u8]) -> Reque
     assert!(rt; head.body_len() == bytes.len() as u64);
     let bytes = bytes.to_vec(alloc).expect(rt, "memory");
     let share = Share::new(alloc, bytes).expect(rt, "memory");
-    head.with_body(alloc, Body::of(share)).expect(rt, "memory")
+    head.with_body(Body::of(share))
 }
 
 const QUERY: &[(&str, &str)] = &[

@@ -9,7 +9,7 @@ use std::process::Abort;
 fn op(rt: &impl Abort, alloc: Global, text: &str) -> Option<Op> {
     let head = read_head(alloc, text.as_bytes()).ok()?;
     assert!(rt; head.body_len() == 0);
-    let request = head.with_body(alloc, Body::empty()).expect(rt, "memory");
+    let request = head.with_body(Body::empty());
     Some(request.ask().op)
 }
 

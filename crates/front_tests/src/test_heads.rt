@@ -28,5 +28,5 @@ pub(crate) fn request(
         Err(HeadFault::NoMemory) => panic!(rt; "memory"),
     };
     assert!(rt; head.body_len() == 0);
-    Ok(head.with_body(alloc, Body::empty()).expect(rt, "memory"))
+    Ok(head.with_body(Body::empty()))
 }

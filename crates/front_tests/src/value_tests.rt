@@ -8,7 +8,7 @@ use std::process::Abort;
 fn request(rt: &impl Abort, alloc: Global, text: &str) -> Request {
     let head = read_head(alloc, text.as_bytes()).expect(rt, "a head");
     assert!(rt; head.body_len() == 0);
-    head.with_body(alloc, Body::empty()).expect(rt, "memory")
+    head.with_body(Body::empty())
 }
 
 // Whether these are the metadata, in this order.

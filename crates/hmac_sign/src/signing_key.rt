@@ -6,7 +6,7 @@ ghost use Rattle.hmac_sign.specs.Hmac.{hmac_of};
 ghost use Rattle.hmac_sign.specs.Signature.{signature_of};
 
 use crate::code::{code_of, padded_hashers};
-use base64_text::write_base64;
+use base64_text::{base64_of_32, write_base64};
 use sha2::Sha256;
 use std::alloc::{AllocError, Global};
 use std::fmt;
@@ -59,7 +59,16 @@ impl SigningKey {
         code_of(inner, outer, message)
     }
 
-    /// The signature of `message` under this key: its HMAC in Base64, 44 characters.
+    /// The signature of `message` under this key: its HMAC in Base64. The call takes no memory.
+    ///
+    /// RFC 2104, section 2; RFC 4648, section 4.
+    pub fn signature(&self, message: &[u8]) -> [u8; 44]
+        ensures { result ≡ signature_of self.now message.now }
+    {
+        base64_of_32(&self.hmac(message))
+    }
+
+    /// The signature of `message` under this key as a text: its HMAC in Base64, 44 characters.
     ///
     /// `AllocError` if memory runs out for the text. RFC 2104, section 2; RFC 4648, section 4.
     pub fn sign(&self, alloc: Global, message: &[u8]) -> Result<String, AllocError>

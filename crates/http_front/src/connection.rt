@@ -69,9 +69,7 @@ fn request_of(alloc: Global, head: Head, body: Gathering) -> Result<Request, Fro
     ensures fault { IsOkUnless result FrontFault.NoMemory }
 {
     match body.finish(alloc) {
-        Ok(body) => head
-            .with_body(alloc, body)
-            .map_err(|_| FrontFault::NoMemory),
+        Ok(body) => Ok(head.with_body(body)),
         Err(_) => {
             drop(head);
             Err(FrontFault::NoMemory)

@@ -9,7 +9,7 @@ ghost use Rattle.log_record.specs.ReadFields as reading;
 use crate::field::{Recorded, append_string};
 use crate::left::Left;
 use crate::record_fault::RecordFault;
-use base64_text::{append_base64, decoded_base64};
+use base64_text::{base64_of_16, decoded_base64};
 use stamp_types::Props;
 use stamp_values::Visible;
 use std::alloc::{AllocError, Global};
@@ -20,9 +20,7 @@ fn append_sum(out: &mut Vec<u8>, md5: &[u8; 16]) -> Result<(), AllocError>
         (out.new.items ≡ out.old.items ++ string_bytes (records.md5_text (Some md5.now))) }
     ensures fits { IsOk result → fits.FitsMd5 (Some md5.now) }
 {
-    let mut text = String::new(*out.allocator());
-    append_base64(&mut text, md5)?;
-    append_string(out, text.as_bytes())
+    append_string(out, &base64_of_16(md5))
 }
 
 // Appends the Base64 of the MD5 as a string, or the empty string if there is no MD5.

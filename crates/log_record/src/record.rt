@@ -36,9 +36,11 @@ fn append_record(change: &Change, epoch: u64, out: &mut Vec<u8>) -> Result<(), A
     append_act(change.act(), out)
 }
 
-/// The record of the change and of its epoch, in version 2, in as much room as it has bytes. If the
-/// content of the change is at places, the record has at most 16,777,216 bytes, as many as a block
-/// of a stream.
+// For how many bytes a record has room before it is written. Most records are shorter, so their room never grows.
+const ROOM: usize = 256;
+
+/// The record of the change and of its epoch, in version 2. If the content of the change is at
+/// places, the record has at most 16,777,216 bytes, as many as a block of a stream.
 ///
 /// `AllocError` if memory runs out.
 #[tactic(auto, using(crate::proofs::SizeLemmas::written_within))]
@@ -48,7 +50,7 @@ pub fn write_change(alloc: Global, change: &Change, epoch: u64) -> Result<Vec<u8
     ensures short { IfOk result (λ bytes.
         IsPlacedChange change.now → length bytes.items ≤ 16_777_216) }
 {
-    let mut out = Vec::new(alloc);
+    let mut out = Vec::with_capacity(alloc, ROOM)?;
     append_record(change, epoch, &mut out)?;
     Vec::from_slice(alloc, &out)
 }

@@ -17,4 +17,5 @@ pub mod PositionLemmas
 pub mod RepairLemmas
 pub mod RowWalkLemmas
 pub mod StreamLemmas
+pub mod RewritingLemmas
 pub mod SweepingLemmas

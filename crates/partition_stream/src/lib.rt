@@ -17,6 +17,7 @@ mod moving_rows;
 mod part;
 mod position;
 mod repair;
+mod rewriting;
 mod streams;
 mod sweep_laws;
 mod sweeping;

@@ -1,11 +1,12 @@
 //! Content that is moved to a new stream of data. No byte is copied: a block that is read is put as a block of the new data.
-ghost use Rattle.std.specs.Prelude.{◌≡◌, All, IfOk, IsTrue, map};
+ghost use Rattle.std.specs.Prelude.{◌≡◌, All, IfOk, IsTrue, length, map};
 ghost use Rattle.stamp_types.specs.Pieces.{is_held};
-ghost use Rattle.stream_manager.specs.Places.{KeepsPlaces};
+ghost use Rattle.stream_manager.specs.Places.{GoesOn, KeepsPlaces};
 ghost use Rattle.stream_manager.specs.Streams.{laid};
 ghost use Rattle.partition_stream.specs.Compactions.{AreMoved, AreMovedBlocks, AreMovedUncommitted, IsMovedBlock, IsMovedUncommitted, read_piece};
 ghost use Rattle.partition_stream.specs.Contents.{ArePlaced, AreStored, IsStored};
 ghost use Rattle.partition_stream.specs.Counting.{FailsCompaction};
+ghost use Rattle.partition_stream.specs.Sweeping.{AreFrom};
 
 use crate::data::put_content;
 use crate::faults::CompactionFault;
@@ -50,8 +51,8 @@ fn read_pieces<W: Wire>(
     Ok(read)
 }
 
-// The content with its bytes.
-fn read_content<W: Wire>(
+/// The content with its bytes.
+pub(crate) fn read_content<W: Wire>(
     alloc: Global,
     old: &Stream,
     content: &Pieces,
@@ -68,8 +69,8 @@ fn read_content<W: Wire>(
     }
 }
 
-// Puts content that was read into the new data.
-fn put_read<W: Wire>(
+/// Puts content that was read into the new data.
+pub(crate) fn put_read<W: Wire>(
     alloc: Global,
     new: &mut Stream,
     read: &Pieces,
@@ -77,7 +78,9 @@ fn put_read<W: Wire>(
 ) -> Result<Pieces, CompactionFault>
     requires { IsTrue (is_held read.now) }
     ensures placed { IfOk result (λ ps. ArePlaced (laid new.new) read.now ps) }
+    ensures after { IfOk result (λ ps. AreFrom (length new.old.sealed) ps) }
     ensures kept { KeepsPlaces (laid new.old) (laid new.new) }
+    ensures follows { GoesOn (laid new.old) (laid new.new) }
     ensures limit { new.new.limit ≡ new.old.limit }
     ensures counted { FailsCompaction result (W.faults wire.old) (W.faults wire.new) }
 {

@@ -32,8 +32,8 @@ fn beside_blocks(committed: &Committed<Pieces>) -> Result<(Props, Metadata), All
     }
 }
 
-// The same committed part with these blocks.
-fn with_blocks(
+/// The same committed part with these blocks.
+pub(crate) fn with_blocks(
     committed: &Committed<Pieces>,
     blocks: Vec<Block<Pieces>>,
 ) -> Result<Committed<Pieces>, AllocError>

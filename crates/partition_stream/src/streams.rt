@@ -197,10 +197,10 @@ impl Streams {
         self.rows.seal(wire)
     }
 
-    /// Seals the log, then the data, and then the rows, and settles their doubts. A stream whose last extent is empty is left as it is.
+    /// Seals the log, the data and the rows, and settles their doubts. A stream whose last extent is empty is left as it is.
     ///
-    /// Busy: no node answered the seal of a stream. NoMemory: no node was called for a stream. After both the streams before this one are
-    /// sealed.
+    /// Busy: no node answered the seal of a stream. NoMemory: no node was called for a stream. After both some of the streams may be
+    /// sealed: the log is sealed first, and the rows last, but no clause says so.
     pub fn seal<W: Wire>(&mut self, wire: &mut W) -> Result<(), StoredFault>
         ensures sealed { OnOk result (AreSealed self.new) }
         ensures log { IsLogSealed result self.old self.new }

@@ -3,7 +3,7 @@ ghost use Rattle.std.specs.Prelude.{◌≡◌, ◌++◌, OnOk, codes, decimal, f
 ghost use Rattle.base64_text.specs.Base64.{base64_of};
 ghost use Rattle.reply_form.specs.HeaderLines.{line, level_line, sent_range_text, reply_line};
 
-use base64_text::write_base64;
+use base64_text::base64_of_16;
 use itoa::Buffer;
 use moment_text::write_http;
 use stamp_types::header_names::printed::{
@@ -12,7 +12,7 @@ use stamp_types::header_names::printed::{
 };
 use stamp_types::header_names::{BLOB_LENGTH, BLOB_PUBLIC_ACCESS, BLOB_TYPE, META_PREFIX};
 use stamp_types::{Header, Level, Meta, SentRange, write_etag};
-use std::alloc::{AllocError, Global};
+use std::alloc::AllocError;
 
 /// Appends a line to `out`: the name, a colon and a space, the value, CR LF (RFC 9112, section 5).
 ///
@@ -85,22 +85,17 @@ fn append_level(out: &mut Vec<u8>, level: Level) -> Result<(), AllocError>
 }
 
 // The line of an MD5 (RFC 1864).
-fn append_md5(alloc: Global, out: &mut Vec<u8>, md5: &[u8; 16]) -> Result<(), AllocError>
+fn append_md5(out: &mut Vec<u8>, md5: &[u8; 16]) -> Result<(), AllocError>
     ensures { OnOk result
         (out.new.items ≡ out.old.items ++ line (codes "Content-MD5") (base64_of md5.now)) }
 {
-    let text = write_base64(alloc, md5)?;
-    append_line(out, CONTENT_MD5, text.as_bytes())
+    append_line(out, CONTENT_MD5, &base64_of_16(md5))
 }
 
 /// Appends a header's line to `out`. The level of a closed container has no line.
 ///
 /// `AllocError` if memory runs out.
-pub(crate) fn append_header(
-    alloc: Global,
-    out: &mut Vec<u8>,
-    header: &Header,
-) -> Result<(), AllocError>
+pub(crate) fn append_header(out: &mut Vec<u8>, header: &Header) -> Result<(), AllocError>
     ensures { OnOk result (out.new.items ≡ out.old.items ++ reply_line header.now) }
 {
     match header {
@@ -111,7 +106,7 @@ pub(crate) fn append_header(
         Header::ContentLanguage(value) => {
             append_line(out, CONTENT_LANGUAGE, value.as_str().as_bytes())
         }
-        Header::ContentMd5(md5) => append_md5(alloc, out, md5),
+        Header::ContentMd5(md5) => append_md5(out, md5),
         Header::CacheControl(value) => append_line(out, CACHE_CONTROL, value.as_str().as_bytes()),
         Header::ContentDisposition(value) => {
             append_line(out, CONTENT_DISPOSITION, value.as_str().as_bytes())
@@ -130,15 +125,11 @@ pub(crate) fn append_header(
 /// Appends the lines of the headers to `out`, in the order of the headers.
 ///
 /// `AllocError` if memory runs out.
-pub(crate) fn append_headers(
-    alloc: Global,
-    out: &mut Vec<u8>,
-    headers: &[Header],
-) -> Result<(), AllocError>
+pub(crate) fn append_headers(out: &mut Vec<u8>, headers: &[Header]) -> Result<(), AllocError>
     ensures { OnOk result (out.new.items ≡ out.old.items ++ flat_map reply_line headers.now) }
 {
     for header in headers {
-        append_header(alloc, out, header)?;
+        append_header(out, header)?;
     }
     Ok(())
 }

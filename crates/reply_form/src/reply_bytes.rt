@@ -100,7 +100,6 @@ fn append_opening(out: &mut Vec<u8>, status: Status, moment: Moment) -> Result<(
 
 #[tactic(auto, unfolding(crate::specs::ReplyBytes::head_bytes))]
 fn append_head(
-    alloc: Global,
     out: &mut Vec<u8>,
     reply: &Reply,
     moment: Moment,
@@ -110,7 +109,7 @@ fn append_head(
 {
     append_opening(out, reply.status, moment)?;
     append_rule(out, reply.rule)?;
-    append_headers(alloc, out, reply.headers.as_slice())?;
+    append_headers(out, reply.headers.as_slice())?;
     append_connection(out, close)?;
     append_length(out, reply.status, reply.length)?;
     out.extend_from_slice(b"\r\n")?;
@@ -162,7 +161,7 @@ pub fn write_head(
     ensures { IfOk result (λ bytes. bytes.items ≡ head_bytes reply.now moment close) }
 {
     let mut out = Vec::with_capacity(alloc, HEAD_ROOM)?;
-    append_head(alloc, &mut out, reply, moment, close)?;
+    append_head(&mut out, reply, moment, close)?;
     Ok(out)
 }
 

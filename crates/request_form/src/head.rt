@@ -1,5 +1,6 @@
 //! Reading a request's head.
 ghost use Rattle.std.specs.Prelude.{◌≡◌, ◌≤◌, Err, IfOk, MatchResult, None, Some, length};
+ghost use Rattle.std.specs.Arc.{arc_value};
 ghost use Rattle.std.specs.Str.{IsUtf8};
 ghost use Rattle.stamp_values.specs.Fields.{fields_len};
 ghost use Rattle.request_form.specs.HeadForms.{ask_of, form_of, header_args_of};
@@ -22,11 +23,12 @@ use crate::rules::request_line::{Line, read_line};
 use stamp_types::{Args, Ask, Body, Request, Signing, Verb};
 use std::alloc::{AllocError, Global};
 use std::marker::Model;
+use std::sync::Arc;
 
 /// A head that no rule refuses: a request without its body.
 #[derive(Drop)]
 pub struct Head {
-    ask: Ask,
+    ask: Arc<Ask>,
     body_len: u64,
     expects: bool,
     closes: bool,
@@ -34,6 +36,7 @@ pub struct Head {
 
 impl Model for Head {
     ghost use Rattle.std.specs.Prelude.{◌≤◌};
+    ghost use Rattle.std.specs.Arc.{arc_value};
     ghost use Rattle.stamp_types.specs.Requests.{IsAsk};
     ghost use Rattle.stamp_values.specs.Operations.{body_limit};
     ghost use Rattle.request_form.specs.HeadForms.{Form};
@@ -41,9 +44,9 @@ impl Model for Head {
     ghost Value = { Form };
 
     ghost view = { λ h.
-        record { ask = h.ask; body_len = h.body_len; expects = h.expects; closes = h.closes } };
+        record { ask = arc_value h.ask; body_len = h.body_len; expects = h.expects; closes = h.closes } };
 
-    ghost invariant = { λ h. IsAsk h.ask × (h.body_len ≤ body_limit h.ask.op) };
+    ghost invariant = { λ h. IsAsk (arc_value h.ask) × (h.body_len ≤ body_limit (arc_value h.ask).op) };
 }
 
 impl Head {
@@ -82,15 +85,13 @@ impl Head {
         self.closes
     }
 
-    /// The request of this head and its body, which has `body_len` bytes. The body of a method other than PUT is dropped.
-    ///
-    /// `AllocError` if memory runs out.
-    pub fn with_body(self, alloc: Global, body: Body) -> Result<Request, AllocError>
+    /// The request of this head and its body, which has `body_len` bytes. The body of a method other than PUT is dropped. The call takes no memory.
+    pub fn with_body(self, body: Body) -> Request
         requires { length body ≡ self.body_len }
-        ensures { IfOk result (λ q. q ≡ head_forms.with_body self body) }
+        ensures { result ≡ head_forms.with_body self body }
     {
         let body = body_by(self.ask.signing.verb, body);
-        Request::fitting(alloc, self.ask, body)
+        Request::fitting(self.ask, body)
     }
 }
 
@@ -132,6 +133,14 @@ fn ask(head: ParsedHead<'_>, line: Line, names: Names, mut args: Args) -> Ask
     }
 }
 
+// Moves what is asked into memory that can be shared. The head is then small, and its request takes the share over.
+fn shared(alloc: Global, ask: Ask) -> Result<Arc<Ask>, AllocError>
+    ensures { IfOk result (λ shared. arc_value shared ≡ ask) }
+{
+    let ask = Arc::new(alloc, ask)?;
+    Ok(ask)
+}
+
 // The form of a head that no rule refuses.
 fn form(alloc: Global, head: ParsedHead<'_>) -> Result<Head, HeadFault>
     requires target { (length head.target ≤ head_limit) × IsUtf8 head.target }
@@ -144,7 +153,7 @@ fn form(alloc: Global, head: ParsedHead<'_>) -> Result<Head, HeadFault>
     let fields = read_fields(alloc, &head, &line)?;
     let expects = expects(&head);
     let closes = closes(&head);
-    let ask = ask(head, line, fields.names, fields.args);
+    let ask = shared(alloc, ask(head, line, fields.names, fields.args))?;
     Ok(Head {
         ask,
         body_len: fields.body_len,

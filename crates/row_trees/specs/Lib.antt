@@ -2,6 +2,8 @@ pub mod Access
 pub mod BlobRows
 pub mod Fits
 pub mod FoundParts
+pub mod Halfway
 pub mod ListedBlocks
 pub mod RowRecords
+pub mod RowSwaps
 pub mod Walks

@@ -1,9 +1,11 @@
 //! What each change does to a container.
-ghost use Rattle.std.specs.Prelude.{◌≡◌, ◌<◌, IsOk, IsTrue, OnOk, OnErr};
+ghost use Rattle.std.specs.Prelude.{◌≡◌, ◌<◌, IsOk, IsSome, IsTrue, OnOk, OnErr};
+ghost use Rattle.std.specs.FinMap as finite;
 ghost use Rattle.stamp_types.specs.declared.act.Act.TheVariants as act;
 ghost use Rattle.stamp_types.specs.Changes.{is_act, is_stored_blob};
 ghost use Rattle.stamp_types.specs.Pieces.{pieces_len};
 ghost use Rattle.stamp_types.specs.World.{changed, part_value, same_pieces};
+ghost use Rattle.block_blobs.specs.StoredRows.{blob_of_row};
 ghost use Rattle.row_trees.specs.Fits.{count_limit, deletes, fits};
 ghost use Rattle.row_trees.specs.ListedBlocks.{AreFoundFor};
 
@@ -16,6 +18,7 @@ use stamp_types::{
 };
 use stamp_values::Named;
 use std::alloc::{AllocError, Global};
+use std::mem;
 
 /// The bytes of a name, which are not copied.
 pub(crate) fn bytes_of(name: Text) -> Bytes
@@ -145,6 +148,19 @@ impl Container {
         let row = BlobRow::stored(alloc, committed, uncommitted)?;
         self.blobs.insert(bytes_of(blob), Row::new(alloc, row)?)?;
         Ok(())
+    }
+
+    /// Puts a row in the place of the row that its name has, which is dropped. Takes no memory.
+    #[tactic(auto, using(crate::proofs::RowSwaps::stored_blob_is))]
+    pub(crate) fn replace_row(&mut self, row: &StoredBlob, new: Row)
+        requires there { IsSome (finite.get self.old.blobs row.now.blob) }
+        requires made { new ≡ blob_of_row row.now }
+        ensures { self.new ≡ changed same_pieces (act.StoredBlob row.now) self.old }
+    {
+        match self.blobs.get_mut(row.blob.as_str().as_bytes()) {
+            Some(old) => drop(mem::replace(old, new)),
+            None => unreachable!("the caller has seen that the blob has a row"),
+        }
     }
 
     /// Makes a change that fits. What the change holds moves into the container, and so do the blocks

@@ -1,11 +1,12 @@
 //! The rows of a partition.
-ghost use Rattle.std.specs.Prelude.{◌≡◌, IsOk, IsTrue, IfOk, None, OnOk, OnErr};
+ghost use Rattle.std.specs.Prelude.{◌≡◌, IsOk, IsSome, IsTrue, IfOk, None, OnOk, OnErr};
 ghost use Rattle.std.specs.Option.{option_copied};
 
 use crate::container::Container;
 use crate::found::Found;
+use crate::new_row::NewRow;
 use block_blobs::FoundBlocks;
-use stamp_types::{Acl, Act, Change, Committed, Key, Pieces, Standing, Text};
+use stamp_types::{Acl, Act, Change, Committed, Key, Pieces, Standing, StoredBlob, Text};
 use stamp_values::Keyed;
 use std::alloc::{AllocError, Global};
 use std::marker::Model;
@@ -45,6 +46,8 @@ impl Rows {
     ghost use Rattle.stamp_types.specs.Changes.{is_act, is_committed};
     ghost use Rattle.stamp_types.specs.Pieces.{pieces_len};
     ghost use Rattle.stamp_types.specs.World.{part_at, part_value, no_part, blob_in, changed, changed_in, same_pieces};
+    ghost use Rattle.stamp_types.specs.declared.act.Act.TheVariants as act;
+    ghost use Rattle.block_blobs.specs.StoredRows.{blob_of_row};
     ghost use Rattle.row_trees.specs.Access.{acl_of};
     ghost use Rattle.row_trees.specs.Fits.{deletes, fits};
     ghost use Rattle.row_trees.specs.ListedBlocks.{AreFoundFor};
@@ -177,6 +180,22 @@ impl Rows {
     {
         let found = self.found_for(alloc, &change)?;
         self.take_found(alloc, change, found)
+    }
+
+    /// Puts the row of a blob in the place of the row that the blob has, which is dropped. The row was made before, so that this takes no
+    /// memory: the rows then are as a record of the row says it.
+    pub fn replace_row(&mut self, key: &Key, row: &StoredBlob, new: NewRow)
+        requires there { IsSome (finite.get (part_at self.old key.now).blobs row.now.blob) }
+        requires made { new ≡ blob_of_row row.now }
+        ensures changed { self.new ≡ changed_in same_pieces self.old (record {
+          key = key.now;
+          act = act.StoredBlob row.now;
+        }) }
+    {
+        match self.containers.get_mut(key) {
+            Some(container) => container.replace_row(row, new.row),
+            None => unreachable!("the caller has seen that the blob has a row"),
+        }
     }
 
     /// Takes the containers of `middle` and of each key after it out of the rows, and gives them. The

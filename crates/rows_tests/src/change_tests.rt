@@ -183,7 +183,7 @@ fn has_container(
 
 // The ETag, the tick of the moment, the word in the metadata and the content of a blob, if it
 // exists.
-type Written = Option<(u64, u8, &'static str, &'static str)>;
+pub(crate) type Written = Option<(u64, u8, &'static str, &'static str)>;
 
 fn blobs() -> [((&'static str, &'static str), &'static str, Written); 9] {
     [
@@ -221,7 +221,8 @@ fn is_written(
         && blob.props.content_type().as_str() == "text/plain"
 }
 
-fn has_blob(
+/// Whether the rows have the blob with this ETag, moment, word and content, or have no such blob.
+pub(crate) fn has_blob(
     rt: &impl Abort,
     alloc: Global,
     rows: &Rows,
@@ -269,17 +270,18 @@ fn uncommitted(rt: &impl Abort, alloc: Global, id: u8, word: &str) -> Uncommitte
     }
 }
 
-fn stored(rt: &impl Abort, alloc: Global) -> Act {
+/// The act that stores the blob of this name, with this content and two uncommitted blocks.
+pub(crate) fn stored_as(rt: &impl Abort, alloc: Global, blob: &str, word: &str) -> Act {
     let block = Block {
         id: None,
-        content: content(rt, alloc, "six"),
+        content: content(rt, alloc, word),
     };
     let blocks = [
         uncommitted(rt, alloc, 1, "seven"),
         uncommitted(rt, alloc, 2, "eight"),
     ];
     Act::StoredBlob(StoredBlob {
-        blob: name(rt, alloc, "a"),
+        blob: name(rt, alloc, blob),
         committed: Some(Committed {
             etag: 3,
             made: moment_after(rt, 5),
@@ -295,7 +297,10 @@ fn stored(rt: &impl Abort, alloc: Global) -> Act {
 fn the_row_of_a_checkpoint_is_a_blob(rt: HostRuntime) {
     let alloc = rt.alloc();
     let mut rows = Rows::new(alloc);
-    let change = Change::new(key(&rt, alloc, PICS.0, PICS.1), stored(&rt, alloc));
+    let change = Change::new(
+        key(&rt, alloc, PICS.0, PICS.1),
+        stored_as(&rt, alloc, "a", "six"),
+    );
     make(&rt, alloc, &mut rows, change.expect(&rt, "a good change"));
     let written = Some((3, 5, "five", "six"));
     assert!(rt; has_blob(&rt, alloc, &rows, PICS, "a", written));

@@ -14,6 +14,8 @@ mod examples;
 #[cfg(test)]
 mod list_reply_tests;
 #[cfg(test)]
+mod new_row_tests;
+#[cfg(test)]
 mod object_rule_tests;
 #[cfg(test)]
 mod operation_tests;

@@ -1,12 +1,12 @@
 -- One string to sign has one meaning.
-use Rattle.std.proofs.Common.{◌≡◌, ℕ, Bool, true, false, cond, IsTrue, List, [], ◌∷◌, ◌++◌, drop, Option, Some, None, IsSomeAnd, refl, sym, ap, ◌∙◌, append_assoc}
+use Rattle.std.proofs.Common.{◌≡◌, ℕ, Bool, true, false, cond, IsTrue, List, [], ◌∷◌, ◌++◌, drop, Option, Some, None, IsSomeAnd, refl, sym, ap, ◌∙◌, subst, append_assoc}
 use Rattle.std.proofs.lemmas.List.{append-nil, append_cancel_right}
 use Rattle.stamp_values.specs.Names.{is_blob}
 use Rattle.stamp_values.specs.declared.key.Key.{Key}
 use Rattle.stamp_values.specs.declared.signing.Field.{Field}
 use Rattle.sas_token.specs.declared.token.Resource.{Resource}
 use Rattle.sas_token.specs.declared.token.Resource.TheVariants.{Container, Blob}
-use Rattle.sas_token.specs.Tokens.{Sent, IsToken, Overridden, are_visible, blob_text, front_string, has_overrides, no_overrides, overrides_in, overrides_text, resource_text, token_string, HasGoodNames, MeanTheSame}
+use Rattle.sas_token.specs.Tokens.{Sent, IsToken, Overridden, are_visible, blob_text, front_string, has_overrides, newer_version, no_overrides, overrides_in, overrides_text, resource_text, served_version, token_string, HasGoodNames, MeanTheSame}
 use Rattle.sas_token.proofs.StringLemmas.{are_visible-each, cut_back, Lacks, Lacks-nil, Lacks-cons, Lacks-append, cut, never, time_lacks, permissions_lack, account_lacks, container_lacks, blob_lacks}
 use Rattle.sas_token.proofs.TokenLemmas.{same_letters, same_time}
 
@@ -126,3 +126,42 @@ one_meaning q r t u k l a b h j version g o e =
       blob = same.place.blob;
       overrides = ends.these;
     }
+
+-- ---- two versions
+
+-- what comes after four lines and their line feeds
+after_four : (p s e r x y : List ℕ) → (p ++ 10 ∷ (s ++ 10 ∷ (e ++ 10 ∷ (r ++ 10 ∷ x)))) ++ y ≡ p ++ 10 ∷ (s ++ 10 ∷ (e ++ 10 ∷ (r ++ 10 ∷ (x ++ y))))
+after_four p s e r x y =
+    append_assoc p (10 ∷ (s ++ 10 ∷ (e ++ 10 ∷ (r ++ 10 ∷ x)))) y
+    ∙ ap (λ (z : List ℕ). p ++ 10 ∷ z) (append_assoc s (10 ∷ (e ++ 10 ∷ (r ++ 10 ∷ x))) y
+    ∙ ap (λ (z : List ℕ). s ++ 10 ∷ z) (append_assoc e (10 ∷ (r ++ 10 ∷ x)) y
+    ∙ ap (λ (z : List ℕ). e ++ 10 ∷ z) (append_assoc r (10 ∷ x) y)))
+
+-- the first version has no line feed
+first_lacks : (version : List ℕ) → version ≡ served_version → Lacks 10 version
+first_lacks version is = subst (Lacks 10) (sym is) (record { none = refl })
+
+-- what follows the line of the resource, in the first version and in the newer one
+longer_id : (i j v w : List ℕ) (o : Overridden) → v ≡ served_version → are_visible o ≡ true → (i ++ 10 ∷ v) ++ [] ≡ (j ++ 10 ∷ w) ++ overrides_text o → (rest : List ℕ) × (i ≡ j ++ 10 ∷ rest)
+unfolding overrides_text
+longer_id i j v w o first h e =
+    let four = 10 ∷ o.cache_control ++ 10 ∷ o.disposition ++ 10 ∷ o.encoding ++ 10 ∷ o.language in
+    let ends = cut_back 10 i ((j ++ 10 ∷ w) ++ four) v o.content_type (first_lacks v first) (are_visible-each o h).content_type
+    (sym (append-nil (i ++ 10 ∷ v)) ∙ e ∙ sym (append_assoc (j ++ 10 ∷ w) four (10 ∷ o.content_type))) in
+    (w ++ four, ends.0 ∙ append_assoc j (10 ∷ w) four)
+
+-- if a token of the first version has the string of a token of the newer version, its id goes on with a line feed after the other id
+pub two_versions : (q r : List Field) (t u : Sent) (k l : Key) (a b : Option (List ℕ)) → IsToken q t → IsToken r u → t.version ≡ served_version → u.version ≡ newer_version → HasGoodNames t k a → HasGoodNames u l b
+    → token_string t k a ≡ token_string u l b → (rest : List ℕ) × (t.id ≡ u.id ++ 10 ∷ rest)
+unfolding token_string front_string
+two_versions q r t u k l a b h j first newer g o e =
+    let without : (xs : List ℕ) → xs ++ cond (has_overrides t.version) (overrides_text t.overrides) [] ≡ xs ++ [] = λ xs. ap (λ (v : List ℕ). xs ++ cond (has_overrides v) (overrides_text t.overrides) []) first in
+    let with : (xs : List ℕ) → xs ++ cond (has_overrides u.version) (overrides_text u.overrides) [] ≡ xs ++ overrides_text u.overrides = λ xs. ap (λ (v : List ℕ). xs ++ cond (has_overrides v) (overrides_text u.overrides) []) newer in
+    let lines =
+    sym (after_four t.permissions t.start_text t.expiry_text (resource_text t.resource k a) (t.id ++ 10 ∷ t.version) []) ∙ sym (without _) ∙ e ∙ with _
+    ∙ after_four u.permissions u.start_text u.expiry_text (resource_text u.resource l b) (u.id ++ 10 ∷ u.version) (overrides_text u.overrides) in
+    let (permissions, e₁) = cut 10 t.permissions u.permissions _ _ (permissions_lack t.permissions t.letters h.letters) (permissions_lack u.permissions u.letters j.letters) lines in
+    let (start, e₂) = cut 10 t.start_text u.start_text _ _ (time_lacks t.start_text t.start h.start) (time_lacks u.start_text u.start j.start) e₁ in
+    let (expiry, e₃) = cut 10 t.expiry_text u.expiry_text _ _ (time_lacks t.expiry_text t.expiry h.expiry) (time_lacks u.expiry_text u.expiry j.expiry) e₂ in
+    let (resource, e₄) = cut 10 (resource_text t.resource k a) (resource_text u.resource l b) _ _ (resource_lacks t k a g) (resource_lacks u l b o) e₃ in
+    longer_id t.id u.id t.version u.version u.overrides first j.visible e₄

@@ -18,7 +18,7 @@ const GET: &[u8] = b"GET /acct/box/a HTTP/1.1\r\nHost: h\r\nx-ms-version: 2012-0
 fn request(rt: &impl Abort, alloc: Global) -> Request {
     let head = read_head(alloc, GET).expect(rt, "a head");
     assert!(rt; head.body_len() == 0);
-    head.with_body(alloc, Body::empty()).expect(rt, "memory")
+    head.with_body(Body::empty())
 }
 
 fn key(rt: &impl Abort, alloc: Global, name: &str) -> Key {

@@ -1,6 +1,7 @@
 //! Sockets for many connections and few workers: a connection that waits holds no worker.
 #![tactic(auto)]
 
+mod at_once;
 mod gate;
 mod limits;
 mod lingering;
@@ -13,6 +14,8 @@ mod room;
 mod serve;
 mod services;
 mod socket;
+#[cfg(test)]
+mod socket_tests;
 mod source;
 mod stay;
 mod turned_away;

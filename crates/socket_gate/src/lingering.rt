@@ -1,8 +1,8 @@
 //! Peers that were told that their connection ends, and may still send.
 
+use crate::at_once::receive_at_once;
 use crate::socket::Socket;
-use std::io::{ErrorKind, Read};
-use std::net::TcpStream;
+use std::io::ErrorKind;
 use std::sync::Arc;
 use std::time::Duration;
 
@@ -43,10 +43,9 @@ impl Lingering {
 
     /// Reads what is here. Returns whether more may come.
     pub(crate) fn read_on(&mut self, now: Duration) -> bool {
-        let mut stream: &TcpStream = &self.socket.stream;
         let mut room = [0; READ_SIZE];
         for _ in 0..READS {
-            match stream.read(&mut room) {
+            match receive_at_once(&self.socket.stream, &mut room) {
                 Ok(0) => return false,
                 Ok(count) => {
                     self.last_read = now;

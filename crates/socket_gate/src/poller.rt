@@ -4,7 +4,7 @@ use crate::gate::{Gate, IdleLink, LinkPlace, SocketLink, counts};
 use crate::lingering::Lingering;
 use crate::place::{Content, Phase, SPAN, Timer};
 use crate::services::Services;
-use crate::socket::{Half, Socket, comes_within};
+use crate::socket::{Half, Socket, comes_within, prepare};
 use crate::turned_away::turn_away;
 use http_front as front;
 use http_front::{Link, Service};
@@ -274,9 +274,9 @@ impl<'a, R: Wait + Drop, C: Clock + Drop, K: front::Clock + Drop, S: Service + D
         }
     }
 
-    // The socket of a new connection. Small replies are sent at once. If there is no memory for it, its peer is told so.
+    // The socket of a new connection. If there is no memory for it, its peer is told so.
     fn socket(&self, stream: TcpStream, index: usize, token: usize) -> Option<Arc<Socket>> {
-        if stream.set_nodelay(true).is_err() || stream.set_nonblocking(true).is_err() {
+        if !prepare(&stream) {
             turn_away(self.alloc, &stream);
             return None;
         }
@@ -323,12 +323,32 @@ impl<'a, R: Wait + Drop, C: Clock + Drop, K: front::Clock + Drop, S: Service + D
 
     // Ends the connections that were waited for too long.
     fn end_slow(&self, now: Duration) {
+        if self.connections.load(Ordering::SeqCst) == 0 {
+            return;
+        }
         for index in 0..self.places.len() {
-            match self.slow(index, now) {
-                Some(Slow::Link(link)) => self.give_up(link),
-                Some(Slow::Lingering(lingering)) => self.close(lingering.socket.index, lingering),
-                None => {}
+            if self.has_slow(index, now) {
+                self.end_slow_at(index, now);
             }
+        }
+    }
+
+    // Whether the connection of a place was waited for too long. Few connections are, so this test of all places has no room for one.
+    fn has_slow(&self, index: usize, now: Duration) -> bool {
+        let Some(place) = self.places.get(index) else {
+            return false;
+        };
+        let mut place = place.lock(&self.rt);
+        let place = &mut *place;
+        !place.is_queued && self.is_slow(place, now)
+    }
+
+    // Ends the connection of a place that was waited for too long.
+    fn end_slow_at(&self, index: usize, now: Duration) {
+        match self.slow(index, now) {
+            Some(Slow::Link(link)) => self.give_up(link),
+            Some(Slow::Lingering(lingering)) => self.close(lingering.socket.index, lingering),
+            None => {}
         }
     }
 

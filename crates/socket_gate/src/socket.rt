@@ -1,5 +1,8 @@
 //! The socket of one connection, as its reader and its writer.
+ghost use Rattle.std.specs.Prelude.{◌≤◌, IfOk, length};
+ghost use Rattle.std.specs.Io.{ReadsAtMost};
 
+use crate::at_once::{receive_at_once, send_at_once};
 use crate::ready::ReadyQueue;
 use crate::stay::{Stay, nanoseconds};
 use libc::net::{POLLIN, poll};
@@ -7,13 +10,14 @@ use libc::types::pollfd;
 use std::io;
 use std::io::{ErrorKind, Read, Write};
 use std::net::TcpStream;
-use std::os::fd::{AsRawFd, RawFd};
+use std::os::fd::RawFd;
 use std::sync::Arc;
 use std::sync::atomic::{AtomicBool, Ordering};
+use std::time::Duration;
 
-/// For how many milliseconds a worker waits for its connection before it takes another one. A shorter wait costs more: it ends before the
-/// kernel's next tick, so a timer has to be set for each request.
-const LINGER: i32 = 4;
+/// For how many milliseconds a worker waits for its connection before it takes another one. The kernel rounds this up to its ticks: with 250
+/// ticks a second, a read waits some 8 milliseconds.
+const LINGER: u64 = 4;
 
 /// A socket, and the place that its connection has.
 #[derive(Drop)]
@@ -25,7 +29,7 @@ pub(crate) struct Socket {
     late: AtomicBool,
 }
 
-/// The reader or the writer of a connection. Both share one socket, which is not blocking.
+/// The reader or the writer of a connection. Both share one socket. A read by the stream waits a little, and nothing else waits.
 #[derive(Drop)]
 pub(crate) struct Half<'a> {
     pub(crate) socket: Arc<Socket>,
@@ -34,6 +38,12 @@ pub(crate) struct Half<'a> {
     pub(crate) count: u64,
     /// Whether the last read took all that was here.
     is_drained: bool,
+}
+
+// Has reads of a socket wait a little for bytes, and has small replies sent at once. Returns whether the system does so.
+pub(crate) fn prepare(stream: &TcpStream) -> bool {
+    let linger = Some(Duration::from_millis(LINGER));
+    stream.set_nodelay(true).is_ok() && stream.set_read_timeout(linger).is_ok()
 }
 
 impl Socket {
@@ -59,7 +69,7 @@ impl Socket {
 }
 
 /// A write of so many bytes at most is made even if the stay is over: the bytes that say that memory ran out are written only once.
-const SMALL: usize = 1024;
+pub(crate) const SMALL: usize = 1024;
 
 /// Whether something comes to a socket within so many milliseconds: bytes, their end, or, to a listener, a connection.
 pub(crate) fn comes_within(descriptor: RawFd, milliseconds: i32) -> bool {
@@ -87,12 +97,15 @@ impl<'a> Half<'a> {
         }
     }
 
-    // Whether something comes, if the worker waits a little.
-    fn comes_soon(&self) -> bool {
+    // Receives bytes, and waits a little if none are here. The wait and the read are one call of the system.
+    fn receive_soon(&self, buf: &mut [u8]) -> io::Result<usize>
+        ensures { ReadsAtMost result buf.new }
+    {
         let began = nanoseconds();
-        let comes = comes_within(self.socket.stream.as_raw_fd(), LINGER);
+        let mut stream: &TcpStream = &self.socket.stream;
+        let received = stream.read(buf);
         self.socket.stay.waited_since(began);
-        comes
+        received
     }
 
     // Whether a connection waits for the room that this stay has.
@@ -100,10 +113,22 @@ impl<'a> Half<'a> {
         self.socket.stay.has_room() && self.ready.is_room_awaited()
     }
 
-    // Whether a read would most likely find nothing, also if it waits a little. It does not wait if somebody else has something to do.
-    fn stays_empty(&self) -> bool {
-        let may_wait = self.ready.is_calm() && !self.keeps_room();
-        self.is_drained && !(may_wait && self.comes_soon())
+    // Whether the worker may wait a little for its connection: nobody else has something to do.
+    fn may_wait(&self) -> bool {
+        self.ready.is_calm() && !self.keeps_room()
+    }
+
+    // Receives bytes. If the last read took all that was here, a read would most likely find nothing, so it waits a little, or is not made.
+    fn receive(&self, buf: &mut [u8]) -> io::Result<usize>
+        ensures { ReadsAtMost result buf.new }
+    {
+        if !self.is_drained {
+            return receive_at_once(&self.socket.stream, buf);
+        }
+        if self.may_wait() {
+            return self.receive_soon(buf);
+        }
+        Err(io::Error::from(ErrorKind::WouldBlock))
     }
 
     // Whether the connection has to let another one have the worker. Counts a read or a write.
@@ -118,13 +143,14 @@ impl Read for Half<'_> {
         if self.socket.is_late() {
             return Err(io::Error::from(ErrorKind::TimedOut));
         }
-        if self.is_over() || self.stays_empty() {
-            // What is here, or comes from now on, is reported, since the connection is polled anew when it waits.
-            self.is_drained = false;
-            return Err(io::Error::from(ErrorKind::WouldBlock));
-        }
-        let mut stream: &TcpStream = &self.socket.stream;
-        let count = stream.read(buf)?;
+        let received = if self.is_over() {
+            Err(io::Error::from(ErrorKind::WouldBlock))
+        } else {
+            self.receive(buf)
+        };
+        // After an error the connection waits and is polled anew, so bytes that are here, or come from now on, are reported.
+        self.is_drained = false;
+        let count = received?;
         self.is_drained = count < buf.len();
         // A peer that speaks another protocol, as TLS, is told so at once.
         if self.count == 0
@@ -148,8 +174,7 @@ impl Write for Half<'_> {
         if self.is_over() && buf.len() > SMALL {
             return Err(io::Error::from(ErrorKind::WouldBlock));
         }
-        let mut stream: &TcpStream = &self.socket.stream;
-        let count = stream.write(buf)?;
+        let count = send_at_once(&self.socket.stream, buf)?;
         self.count = self.count.wrapping_add(count as u64);
         Ok(count)
     }

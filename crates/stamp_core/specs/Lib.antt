@@ -3,4 +3,5 @@ pub mod CoreAudits
 pub mod CoreSteps
 pub mod Ranges
 pub mod Rotations
+pub mod Tending
 pub mod Tickets

@@ -17,6 +17,7 @@ ghost use Rattle.core_run.specs.Cores.{StandsFor, first_core};
 ghost use Rattle.core_run.specs.States.{State, opening};
 ghost use Rattle.core_run.specs.Machine.{IsRun, Takes};
 ghost use Rattle.stamp_core.specs.CoreSteps.{AnswersSteadily, told_answer, has_faults, step_of};
+ghost use Rattle.stamp_core.specs.Tending.{IsOf, care_answer};
 
 mod audit;
 mod compact;
@@ -28,7 +29,8 @@ use crate::rotating::rotate;
 use crate::serving::{Call, answer_one, serve_unread};
 use crate::splitting::split;
 use crate::telling::{answered, tell};
-use crate::tending::tend;
+use crate::tended::{Tended, Untended};
+use crate::tending::{made, tend};
 use access_rules::{Keys, Which};
 use core_run::{Outcome, Step, StepFault};
 use extent_node::Wire;
@@ -260,13 +262,30 @@ impl<H: Histories> Core<H> {
     }
 
     /// One Settle, Seal, Load, Checkpoint, Compact, Unload, Move or Repair step, on the slot with this number. All but Unload and Move settle
-    /// the doubt of the slot first. What a checkpoint or a compaction replaces is dropped. The clause says of `Made` that the doubt was settled: the
-    /// machine has no extents and no logs, so what was sealed, written or copied is told by `StoredSlot` alone.
+    /// the doubt of the slot first. The machine has no extents and no logs, so its answer `Made` says that the doubt was settled, and no more.
+    /// But what the slot gave is handed on, and only its call makes such a value: so a step that says `Sealed` has sealed the streams, and so
+    /// on. To drop what a checkpoint or a compaction replaced takes time for each block.
     ///
-    /// `NoSuchSlot` if no slot has the number, and `NoSuchExtent` if the stream of a repair has no sealed extent of the number. `Busy`, or
-    /// `Unreachable` of a repair, if nodes that were needed did not answer, and `NoMemory` if memory runs out. After a fault nothing is changed,
-    /// except that a doubt may have ended.
+    /// `NoSuchSlot` if no slot has the number. `Repair` with `NoSuchExtent` if the stream of a repair has no sealed extent of the number. `Busy`
+    /// of the slot, or `Unreachable` of a repair, if nodes that were needed did not answer, and `NoMemory` if memory runs out. After a fault
+    /// nothing is changed, except that a doubt may have ended.
     pub fn tend<W: Wire>(
+        &mut self,
+        alloc: Global,
+        slot: usize,
+        care: CoreCare,
+        wire: &mut W,
+    ) -> Result<Tended, Untended>
+        ensures taken { (s : State) → StandsFor self.old s
+            → (s' : State) × (Takes s (step_of slot care) (has_faults (W.faults wire.old) (W.faults wire.new)) (care_answer result) s' × StandsFor self.new s') }
+        ensures given { IfOk result (IsOf care) }
+        ensures grown { Grows (W.faults wire.old) (W.faults wire.new) }
+    {
+        tend(&mut self.slots, &self.spans, slot, care, alloc, wire)
+    }
+
+    // The same as a step of the machine. The value that the slot gave is dropped.
+    fn tend_now<W: Wire>(
         &mut self,
         alloc: Global,
         slot: usize,
@@ -277,7 +296,7 @@ impl<H: Histories> Core<H> {
             → (s' : State) × (Takes s (step_of slot care) (has_faults (W.faults wire.old) (W.faults wire.new)) result s' × StandsFor self.new s') }
         ensures grown { Grows (W.faults wire.old) (W.faults wire.new) }
     {
-        tend(&mut self.slots, &self.spans, slot, care, alloc, wire)
+        made(self.tend(alloc, slot, care, wire))
     }
 
     /// One Rotate step: a key of the account's pair in force is replaced, for all slots at once. Answers the epoch of the new pair. From now on
@@ -339,13 +358,18 @@ impl<H: Histories> Core<H> {
                 key,
             } => self.rotate(alloc, &account, which, key),
             Step::Split { slot, middle } => self.split(alloc, slot, &middle, wire),
-            Step::Settle { slot } => self.tend(alloc, slot, CoreCare::Settle, wire),
-            Step::Seal { slot } => self.tend(alloc, slot, CoreCare::Seal, wire),
-            Step::Load { slot } => self.tend(alloc, slot, CoreCare::Load, wire),
-            Step::Checkpoint { slot } => self.tend(alloc, slot, CoreCare::Checkpoint, wire),
-            Step::Compact { slot } => self.tend(alloc, slot, CoreCare::Compact, wire),
-            Step::Unload { slot } => self.tend(alloc, slot, CoreCare::Unload, wire),
-            Step::Move { slot, server } => self.tend(alloc, slot, CoreCare::Move { server }, wire),
+            Step::Settle { slot } => self.tend_now(alloc, slot, CoreCare::Settle, wire),
+            Step::Seal { slot } => self.tend_now(alloc, slot, CoreCare::Seal, wire),
+            Step::Load { slot } => self.tend_now(alloc, slot, CoreCare::Load, wire),
+            Step::Checkpoint { slot } => self.tend_now(alloc, slot, CoreCare::Checkpoint, wire),
+            Step::Compact { slot } => self.tend_now(alloc, slot, CoreCare::Compact, wire),
+            Step::Unload { slot } => self.tend_now(alloc, slot, CoreCare::Unload, wire),
+            Step::Move { slot, server } => self.tend_now(
+                alloc,
+                slot,
+                CoreCare::Move { server },
+                wire,
+            ),
             Step::Repair {
                 slot,
                 stream,
@@ -357,7 +381,7 @@ impl<H: Histories> Core<H> {
                     extent,
                     node,
                 };
-                self.tend(alloc, slot, care, wire)
+                self.tend_now(alloc, slot, care, wire)
             }
         }
     }

@@ -10,8 +10,10 @@ mod rotating;
 mod serving;
 mod splitting;
 mod telling;
+mod tended;
 mod tending;
 
 pub use auditing::AuditedReply;
 pub use care::CoreCare;
 pub use cores::Core;
+pub use tended::{Tended, Untended};

@@ -1,17 +1,20 @@
 //! What is done to one slot, beside serving requests and splitting it.
-ghost use Rattle.std.specs.Prelude.{◌≡◌};
+ghost use Rattle.std.specs.Prelude.{◌≡◌, IfOk};
 ghost use Rattle.extent_seal.specs.Counting.{Grows};
-ghost use Rattle.stored_rows.specs.Repairs.{fault_of, unnamed};
+ghost use Rattle.stored_rows.specs.Repairs.{IsRepairOf, fault_of, unnamed};
 ghost use Rattle.stored_slot.specs.Served.{Faulted};
 ghost use Rattle.stamp_core.specs.CoreSteps as steps;
-ghost use Rattle.stamp_core.specs.CoreSteps.{IsTended, IsTendedAt};
+ghost use Rattle.stamp_core.specs.CoreSteps.{IsTended, IsTendedAt, repair_answer, slot_answer};
+ghost use Rattle.stamp_core.specs.declared.care.CoreCare.TheVariants as care;
 ghost use Rattle.stamp_core.specs.Ranges.{HaveSpans};
+ghost use Rattle.stamp_core.specs.Tending.{IsOf, care_answer};
 
 use crate::care::CoreCare;
+use crate::tended::{Tended, Untended};
 use core_run::{Outcome, StepFault};
-use extent_node::Wire;
+use extent_node::{Node, Wire};
 use partition_map::Spans;
-use partition_stream::Replaced;
+use partition_stream::{Replaced, StreamName};
 use slot_state::Histories;
 use std::alloc::Global;
 use stored_rows::{AllSealed, Compacted, Repaired, StoredFault, Unrepaired};
@@ -38,59 +41,91 @@ fn fault_of_repair(fault: Unrepaired) -> StepFault
     }
 }
 
-// What a step answers whose call of the slot ended so.
-fn slot_answer(called: Result<(), StoredFault>) -> Result<Outcome, StepFault>
-    ensures { result ≡ steps.slot_answer called }
+// A settle that ended so.
+fn settled(called: Result<(), StoredFault>) -> Result<Tended, Untended>
+    ensures answer { care_answer result ≡ slot_answer called }
+    ensures given { IfOk result (IsOf care.Settle) }
 {
     match called {
-        Ok(()) => Ok(Outcome::Made),
-        Err(fault) => Err(fault_of_slot(fault)),
+        Ok(()) => Ok(Tended::Settled),
+        Err(fault) => Err(Untended::Slot(fault)),
     }
 }
 
-// What a seal answers that ended so.
-fn seal_answer(called: Result<AllSealed, StoredFault>) -> Result<Outcome, StepFault>
-    ensures { result ≡ steps.slot_answer called }
+// A seal that ended so.
+fn sealed(called: Result<AllSealed, StoredFault>) -> Result<Tended, Untended>
+    ensures answer { care_answer result ≡ slot_answer called }
+    ensures given { IfOk result (IsOf care.Seal) }
 {
     match called {
-        Ok(_sealed) => Ok(Outcome::Made),
-        Err(fault) => Err(fault_of_slot(fault)),
+        Ok(sealed) => Ok(Tended::Sealed(sealed)),
+        Err(fault) => Err(Untended::Slot(fault)),
     }
 }
 
-// What a checkpoint answers that ended so. What it replaced is dropped.
-fn checkpoint_answer(called: Result<Replaced, StoredFault>) -> Result<Outcome, StepFault>
-    ensures { result ≡ steps.slot_answer called }
+// A load that ended so.
+fn loaded(called: Result<(), StoredFault>) -> Result<Tended, Untended>
+    ensures answer { care_answer result ≡ slot_answer called }
+    ensures given { IfOk result (IsOf care.Load) }
 {
     match called {
-        Ok(replaced) => {
-            drop(replaced);
+        Ok(()) => Ok(Tended::Loaded),
+        Err(fault) => Err(Untended::Slot(fault)),
+    }
+}
+
+// A checkpoint that ended so.
+fn checkpointed(called: Result<Replaced, StoredFault>) -> Result<Tended, Untended>
+    ensures answer { care_answer result ≡ slot_answer called }
+    ensures given { IfOk result (IsOf care.Checkpoint) }
+{
+    match called {
+        Ok(replaced) => Ok(Tended::Checkpointed(replaced)),
+        Err(fault) => Err(Untended::Slot(fault)),
+    }
+}
+
+// A compaction that ended so.
+fn compacted(called: Result<Compacted, StoredFault>) -> Result<Tended, Untended>
+    ensures answer { care_answer result ≡ slot_answer called }
+    ensures given { IfOk result (IsOf care.Compact) }
+{
+    match called {
+        Ok(compacted) => Ok(Tended::Compacted(compacted)),
+        Err(fault) => Err(Untended::Slot(fault)),
+    }
+}
+
+// A repair that ended so.
+fn repaired(
+    called: Result<Repaired, Unrepaired>,
+    stream: StreamName,
+    extent: u64,
+    node: Node,
+) -> Result<Tended, Untended>
+    requires own { IsRepairOf stream extent node called }
+    ensures answer { care_answer result ≡ repair_answer (unnamed called) }
+    ensures given { IfOk result (IsOf (care.Repair stream extent node)) }
+{
+    let (_stream, _extent, _node) = (stream, extent, node);
+    match called {
+        Ok(repaired) => Ok(Tended::Repaired(repaired)),
+        Err(fault) => Err(Untended::Repair(fault)),
+    }
+}
+
+/// The answer of a step of the machine that took a care. The value that the slot gave is dropped.
+pub(crate) fn made(tended: Result<Tended, Untended>) -> Result<Outcome, StepFault>
+    ensures { result ≡ care_answer tended }
+{
+    match tended {
+        Ok(given) => {
+            drop(given);
             Ok(Outcome::Made)
         }
-        Err(fault) => Err(fault_of_slot(fault)),
-    }
-}
-
-// What a compaction answers that ended so. What it replaced is dropped.
-fn compact_answer(called: Result<Compacted, StoredFault>) -> Result<Outcome, StepFault>
-    ensures { result ≡ steps.slot_answer called }
-{
-    match called {
-        Ok(compacted) => {
-            drop(compacted);
-            Ok(Outcome::Made)
-        }
-        Err(fault) => Err(fault_of_slot(fault)),
-    }
-}
-
-// What a repair answers that ended so.
-fn repair_answer(called: Result<Repaired, Unrepaired>) -> Result<Outcome, StepFault>
-    ensures { result ≡ steps.repair_answer (unnamed called) }
-{
-    match called {
-        Ok(_repaired) => Ok(Outcome::Made),
-        Err(fault) => Err(fault_of_repair(fault)),
+        Err(Untended::NoSuchSlot) => Err(StepFault::NoSuchSlot),
+        Err(Untended::Slot(fault)) => Err(fault_of_slot(fault)),
+        Err(Untended::Repair(fault)) => Err(fault_of_repair(fault)),
     }
 }
 
@@ -101,29 +136,29 @@ fn tend_slot<H: Histories, W: Wire>(
     care: CoreCare,
     alloc: Global,
     wire: &mut W,
-) -> Result<Outcome, StepFault>
-    ensures tended { IsTended care slot.old (Faulted (W.faults wire.old) (W.faults wire.new)) result slot.new }
+) -> Result<Tended, Untended>
+    ensures tended { IsTended care slot.old (Faulted (W.faults wire.old) (W.faults wire.new)) (care_answer result) slot.new }
+    ensures given { IfOk result (IsOf care) }
     ensures grown { Grows (W.faults wire.old) (W.faults wire.new) }
 {
     match care {
-        CoreCare::Settle => slot_answer(slot.settle(alloc, wire)),
-        CoreCare::Seal => seal_answer(slot.seal(alloc, wire)),
-        CoreCare::Load => slot_answer(slot.load(alloc, wire)),
-        CoreCare::Checkpoint => checkpoint_answer(slot.checkpoint(alloc, wire)),
-        CoreCare::Compact => compact_answer(slot.compact(alloc, wire)),
-        CoreCare::Unload => {
-            drop(slot.unload());
-            Ok(Outcome::Made)
-        }
-        CoreCare::Move { server } => {
-            drop(slot.move_to(server));
-            Ok(Outcome::Made)
-        }
+        CoreCare::Settle => settled(slot.settle(alloc, wire)),
+        CoreCare::Seal => sealed(slot.seal(alloc, wire)),
+        CoreCare::Load => loaded(slot.load(alloc, wire)),
+        CoreCare::Checkpoint => checkpointed(slot.checkpoint(alloc, wire)),
+        CoreCare::Compact => compacted(slot.compact(alloc, wire)),
+        CoreCare::Unload => Ok(Tended::Unloaded(slot.unload())),
+        CoreCare::Move { server } => Ok(Tended::Moved(slot.move_to(server))),
         CoreCare::Repair {
             stream,
             extent,
             node,
-        } => repair_answer(slot.repair(alloc, stream, extent, node, wire)),
+        } => repaired(
+            slot.repair(alloc, stream, extent, node, wire),
+            stream,
+            extent,
+            node,
+        ),
     }
 }
 
@@ -138,15 +173,16 @@ pub(crate) fn tend<H: Histories, W: Wire>(
     care: CoreCare,
     alloc: Global,
     wire: &mut W,
-) -> Result<Outcome, StepFault>
+) -> Result<Tended, Untended>
     requires before { HaveSpans slots.old.items spans.now }
     ensures after { HaveSpans slots.new.items spans.now }
-    ensures tended { IsTendedAt slots.old.items at care (Faulted (W.faults wire.old) (W.faults wire.new)) result slots.new.items }
+    ensures tended { IsTendedAt slots.old.items at care (Faulted (W.faults wire.old) (W.faults wire.new)) (care_answer result) slots.new.items }
+    ensures given { IfOk result (IsOf care) }
     ensures grown { Grows (W.faults wire.old) (W.faults wire.new) }
 {
     let _spans = spans;
     if at >= slots.len() {
-        return Err(StepFault::NoSuchSlot);
+        return Err(Untended::NoSuchSlot);
     }
     tend_slot(&mut slots[at], care, alloc, wire)
 }

@@ -17,3 +17,4 @@ pub mod SeenContainers
 pub mod ShownAcls
 pub mod Statuses
 pub mod Withdrawals
+pub mod Words

@@ -18,6 +18,7 @@ mod override_laws;
 mod policy_laws;
 mod run_laws;
 mod success_laws;
+mod word_laws;
 
 pub use accepted_laws::a_run_is_the_replay_of_its_accepted_requests;
 pub use acl_laws::an_acl_reaches_no_content;
@@ -68,4 +69,7 @@ pub use success_laws::{
     a_part_has_the_other_headers_of_the_whole, a_put_block_is_answered_with_its_md5,
     a_range_is_refused_only_past_the_end, a_success_has_the_status_of_its_operation,
     only_a_blob_that_is_seen_is_deleted, properties_are_what_get_blob_tells,
+};
+pub use word_laws::{
+    all_rules_have_the_order_of_their_labels, each_word_of_the_laws_names_its_operations,
 };

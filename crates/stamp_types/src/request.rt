@@ -1,5 +1,6 @@
 //! Requests that fit their operation.
 ghost use Rattle.std.specs.Prelude.{◌≡◌, ◌↔◌, ◌≤◌, [], IfOk, IsErr, IsSome, IfSome, IsTrue, length};
+ghost use Rattle.std.specs.Arc.{arc_value};
 ghost use Rattle.std.specs.Cmp.{partial_equiv_from_equiv, and_equiv, on_equiv};
 ghost use Rattle.std.specs.Cmp.Lexicographic.{nat_list_eq_equiv};
 ghost use Rattle.stamp_values.specs.Operations.{body_limit};
@@ -60,16 +61,12 @@ impl Request {
         Ok(Some(Self { ask, body }))
     }
 
-    /// The request of parts that are known to fit its operation.
-    ///
-    /// `AllocError` if memory runs out for the allocation that shares `ask`. Then `ask` and `body`
-    /// are dropped.
-    pub fn fitting(alloc: Global, ask: Ask, body: Body) -> Result<Self, AllocError>
-        requires { IsRequest (asked ask body) }
-        ensures { IfOk result (λ q. q ≡ asked ask body) }
+    /// The request of parts that are known to fit its operation. It takes over the share of `ask`, so it copies nothing and takes no memory.
+    pub fn fitting(ask: Arc<Ask>, body: Body) -> Self
+        requires { IsRequest (asked (arc_value ask) body) }
+        ensures { result ≡ asked (arc_value ask) body }
     {
-        let ask = Arc::new(alloc, ask)?;
-        Ok(Self { ask, body })
+        Self { ask, body }
     }
 
     /// All parts except the body.

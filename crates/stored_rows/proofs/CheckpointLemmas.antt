@@ -44,7 +44,7 @@ or_left : (a b : Bool) → a ≡ true → (a || b) ≡ true
 or_left true b h = refl
 or_left false b h = cc
 
-row_fits : (p : Part (List Piece)) (a : Act) → is_row a ≡ true → Fits p a
+pub row_fits : (p : Part (List Piece)) (a : Act) → is_row a ≡ true → Fits p a
 row_fits p a row = or_left (is_row a) _ row
 
 row_first : (key : Key) (c : Recorded) (cs : List Recorded) (p : Part (List Piece)) (b : Bool) → is_on key c ≡ b → is_row c.0.act ≡ true

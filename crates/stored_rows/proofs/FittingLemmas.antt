@@ -52,7 +52,7 @@ acts_on-middle before rest c =
 
 -- ---- acts that fit
 
-fit_more : (acts : List Act) (a : Act) (p : Part (List Piece)) → FitInTurn acts p → Fits (after_acts same_pieces acts p) a → FitInTurn (acts ++ a ∷ []) p
+pub fit_more : (acts : List Act) (a : Act) (p : Part (List Piece)) → FitInTurn acts p → Fits (after_acts same_pieces acts p) a → FitInTurn (acts ++ a ∷ []) p
 fit_more [] a p old new = (new, tt)
 fit_more (b ∷ acts) a p old new = (old.0, fit_more acts a (changed same_pieces b p) old.1 new)
 

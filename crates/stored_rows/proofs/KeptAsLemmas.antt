@@ -19,7 +19,7 @@ use Rattle.stored_rows.specs.Logging.{IsPutAt, KeepsFound, with_placed}
 use Rattle.stored_rows.specs.States.{IsKeptAs}
 
 -- an act that comes without content brings none
-no_content : (P : List Piece → Type 0) (a : Act) → is_row a ≡ false → content_of a ≡ None → EachActContent P a
+pub no_content : (P : List Piece → Type 0) (a : Act) → is_row a ≡ false → content_of a ≡ None → EachActContent P a
 no_content P (acts.PutBlob a) plain none = cc
 no_content P (acts.PutBlock a) plain none = cc
 no_content P (acts.StoredBlob a) plain none = cc

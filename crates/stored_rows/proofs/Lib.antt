@@ -1,9 +1,12 @@
+pub mod AreSweptLemmas
 pub mod CheckpointLemmas
 pub mod CompactionLemmas
 pub mod CountLemmas
+pub mod CursorLemmas
 pub mod CutLemmas
 pub mod FittingLemmas
 pub mod KeptAsLemmas
+pub mod KnownLemmas
 pub mod LawLemmas
 pub mod LimitLemmas
 pub mod LoadLemmas
@@ -11,4 +14,10 @@ pub mod LoggingLemmas
 pub mod NotedLemmas
 pub mod ReadLemmas
 pub mod RepairLemmas
+pub mod RowAgainLemmas
+pub mod StepLemmas
+pub mod SweepCallLemmas
+pub mod SweepEndLemmas
+pub mod SweptLemmas
 pub mod TakeLemmas
+pub mod TouchLemmas

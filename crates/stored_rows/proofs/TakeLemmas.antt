@@ -71,7 +71,7 @@ pub still_none : (s t : ThreeStreams) (d : Option KeyedAct) → d ≡ doubted s 
 still_none s t d tried none now = tried ∙ undoubted s none ∙ sym (undoubted t now)
 
 -- a change that fits its container fits it as it is kept
-kept_fits : (s : ThreeStreams) (c d : KeyedAct) → IsKeptAs (laid s.blobs) c d → (u : ThreeStreams) → Fits (held_of (logged u) c.key) c.act → Fits (held_of (logged u) d.key) d.act
+pub kept_fits : (s : ThreeStreams) (c d : KeyedAct) → IsKeptAs (laid s.blobs) c d → (u : ThreeStreams) → Fits (held_of (logged u) c.key) c.act → Fits (held_of (logged u) d.key) d.act
 kept_fits s c d same u own =
     same.fits (part_value pieces_len (held_of (logged u) d.key)) ∙ ap (λ k. fits (part_value pieces_len (held_of (logged u) k)) c.act) same.key ∙ own
 
@@ -106,10 +106,10 @@ sure_same s t range b whole h = (means_same s t h.0 range b whole, h.1)
 -- ---- a change that was taken
 
 module _ (s t : ThreeStreams) (c : Recorded) (d : KeyedAct) (range : KeyRange) (h : AddsChange s c d t) (covered : covers range c.0.key ≡ true) (own : Fits (held_of (logged s) c.0.key) c.0.act) where
-  covered_kept : covers range d.key ≡ true
+  pub covered_kept : covers range d.key ≡ true
   covered_kept = ap (λ k. covers range k) h.same.key ∙ covered
 
-  own_kept : Fits (held_of (logged s) d.key) d.act
+  pub own_kept : Fits (held_of (logged s) d.key) d.act
   own_kept = kept_fits t c.0 d h.same s own
 
   -- it fits the rows that are loaded
@@ -155,7 +155,7 @@ taken_changed s t c d range a b loaded kept h = record {
 -- ---- a doubt that is settled
 
 -- the change that was in doubt, and what is so of it
-doubt_own : (s : ThreeStreams) (range : KeyRange) (c : Recorded) → FitsDoubt range s → (logged s).doubt ≡ Some c → (covers range c.0.key ≡ true) × Fits (held_of (logged s) c.0.key) c.0.act
+pub doubt_own : (s : ThreeStreams) (range : KeyRange) (c : Recorded) → FitsDoubt range s → (logged s).doubt ≡ Some c → (covers range c.0.key ≡ true) × Fits (held_of (logged s) c.0.key) c.0.act
 doubt_own s range c fits is = subst (λ (o : Option Recorded). IfSome o (λ d. (covers range d.0.key ≡ true) × Fits (held_of (logged s) d.0.key) d.0.act)) is fits
 
 -- a stream with the same blocks and the same doubt
@@ -268,7 +268,7 @@ seal_keeps (Err e) s t h none rows places = elim h [
 ]
 
 -- streams with the same blocks at the same places
-shared_keeps : (s t : ThreeStreams) → HaveSameBlocks s t → KeepsLog s t
+pub shared_keeps : (s t : ThreeStreams) → HaveSameBlocks s t → KeepsLog s t
 shared_keeps s t same = record {
   rows = ap (λ es. changes_of (blocks_of es)) same.rows;
   log = ap (λ es. changes_of (blocks_of es)) same.log;

@@ -13,7 +13,9 @@ use Rattle.partition_stream.specs.Streams.{ThreeStreams, logged}
 use Rattle.partition_stream.specs.declared.position.Position.{Position}
 use Rattle.stored_rows.specs.Fitting.{AllFit, FitsDoubt}
 use Rattle.stored_rows.specs.Ranges.{covers}
+use Rattle.stored_rows.specs.Swept.{AreSwept}
 use Rattle.stored_rows.specs.declared.key_range.KeyRange.{KeyRange}
+use Rattle.stored_rows.specs.declared.sweep.Sweep.{Sweep}
 
 -- rows after a change, if it is one of the range
 abbrev pub with_change : KeyRange → World (List Piece) → KeyedAct → World (List Piece)
@@ -56,7 +58,8 @@ pub record AreLoaded (s : ThreeStreams) (o : Option (World (List Piece))) (d : O
   pub tried : d ≡ doubted s
   pub rows : IfSome o (AreRowsOf range s)
 
--- what is true of all stored rows: that of `AreLoaded`, and extents of two or more blocks may have so many bytes
-pub record AreLimited (bytes : ℕ) (s : ThreeStreams) (o : Option (World (List Piece))) (d : Option KeyedAct) (range : KeyRange) : Type 0 where
+-- what is true of all stored rows: that of `AreLoaded`, extents of two or more blocks may have so many bytes, and a sweep may be under way
+pub record AreLimited (bytes : ℕ) (s : ThreeStreams) (o : Option (World (List Piece))) (d : Option KeyedAct) (range : KeyRange) (sweep : Option Sweep) : Type 0 where
   pub loaded : AreLoaded s o d range
   pub limits : HaveLimit bytes s
+  pub swept : IfSome sweep (λ w. AreSwept w range s)

@@ -1,7 +1,8 @@
 -- What it does to streams to put the content of a change and to log the change.
-use Rattle.std.specs.Prelude.{◌≡◌, ⊤, Option, None, Some, Result, Ok, Err, List}
+use Rattle.std.specs.Prelude.{◌≡◌, ⊤, ℕ, Option, None, Some, Result, Ok, Err, List}
 use Rattle.extent_node.specs.Copies.{Block}
 use Rattle.stamp_types.specs.Changes.{KeyedAct, change_with}
+use Rattle.stamp_types.specs.Contents.{EachActContent}
 use Rattle.stamp_types.specs.World.{Part}
 use Rattle.stamp_types.specs.declared.piece.Piece.{Piece}
 use Rattle.block_blobs.specs.declared.found_blocks.FoundBlocks.{FoundBlocks}
@@ -12,7 +13,10 @@ use Rattle.partition_stream.specs.Changes.{Recorded}
 use Rattle.partition_stream.specs.Contents.{ArePlaced}
 use Rattle.partition_stream.specs.Meanings.{IsOneMore}
 use Rattle.partition_stream.specs.Streams.{ThreeStreams, logged}
+use Rattle.partition_stream.specs.Sweeping.{AreFrom}
+use Rattle.row_trees.specs.Halfway.{News}
 use Rattle.stored_rows.specs.States.{IsKeptAs}
+use Rattle.stored_rows.specs.Swept.{MayLog}
 use Rattle.stored_rows.specs.declared.logging.Unlogged.{Unlogged}
 use Rattle.stored_rows.specs.declared.logging.Unlogged.TheVariants as fault
 
@@ -57,3 +61,16 @@ IsPutAndLogged (Ok d) s c t = AddsChange s c d t
 IsPutAndLogged (Err (fault.Doubt d)) s c t = Doubts s c d t
 IsPutAndLogged (Err fault.Busy) s c t = KeepsLog s t × ((logged t).doubt ≡ None)
 IsPutAndLogged (Err fault.NoMemory) s c t = KeepsLog s t × ((logged t).doubt ≡ None)
+
+-- the change is kept with its content in extents of the data from this number on, and may be logged whenever it could be logged before
+pub record IsKeptFrom (n : ℕ) (c d : KeyedAct) : Type 0 where
+  pub key : d.key ≡ c.key
+  pub from : EachActContent (AreFrom n) d.act
+  pub may : (news : Option News) (p : Part (List Piece)) → MayLog news p c.act → MayLog news p d.act
+
+-- the same of a change that was put and logged, or is in doubt
+abbrev pub IsLoggedFrom : ℕ → KeyedAct → Result KeyedAct Unlogged → Type 0
+IsLoggedFrom n c (Ok d) = IsKeptFrom n c d
+IsLoggedFrom n c (Err (fault.Doubt d)) = IsKeptFrom n c d
+IsLoggedFrom n c (Err fault.Busy) = ⊤
+IsLoggedFrom n c (Err fault.NoMemory) = ⊤

@@ -1,5 +1,5 @@
 //! Laws of stored rows. Each law is the contract of a function that does nothing.
-ghost use Rattle.std.specs.Prelude.{◌≡◌, ◌≢◌, ◌⊎◌, Err, List, None, Ok, Option, Some, false, true};
+ghost use Rattle.std.specs.Prelude.{◌≡◌, ◌≢◌, ◌⊎◌, Bool, Err, List, None, Ok, Option, Some, false, true};
 ghost use Rattle.stamp_types.specs.Changes.{KeyedAct};
 ghost use Rattle.stamp_types.specs.Pieces.{held};
 ghost use Rattle.stamp_types.specs.World.{World, changed, no_part, part_at, part_value, same_pieces};
@@ -8,11 +8,16 @@ ghost use Rattle.stamp_values.specs.declared.key.Key.{Key};
 ghost use Rattle.stream_manager.specs.Streams.{laid};
 ghost use Rattle.partition_stream.specs.Changes.{Recorded};
 ghost use Rattle.partition_stream.specs.Contents.{content_at};
-ghost use Rattle.partition_stream.specs.Meanings.{acts_on, after_acts, held_of, meaning};
+ghost use Rattle.partition_stream.specs.Meanings.{IsOneMore, acts_on, after_acts, held_of, meaning};
 ghost use Rattle.partition_stream.specs.Positions.{all_changes};
+ghost use Rattle.partition_stream.specs.Storing.{AreKept};
 ghost use Rattle.partition_stream.specs.Streams.{ThreeStreams, logged};
+ghost use Rattle.partition_stream.specs.Sweeping.{GivesUpBefore};
+ghost use Rattle.partition_stream.specs.declared.mark.Mark.{Mark};
 ghost use Rattle.partition_stream.specs.declared.faults.TakeFault.{TakeFault};
 ghost use Rattle.partition_stream.specs.declared.faults.TakeFault.TheVariants as fault;
+ghost use Rattle.row_trees.specs.Halfway.{IsAllNew};
+ghost use Rattle.stored_rows.specs.Swept.{AllNews, IsRowInDoubt, IsSwept};
 ghost use Rattle.stored_rows.specs.Loaded.{AreLoaded};
 ghost use Rattle.stored_rows.specs.Ranges.{covers};
 ghost use Rattle.stored_rows.specs.States.{AreTaken, IsChanged, IsInDoubt, SettlesRows, IsTaken, MeansTheSame, Stored, bytes_of, doubt_of, pieces_of};
@@ -57,4 +62,17 @@ pub fn a_refused_take_changes_nothing()
 pub fn a_doubt_is_one_change_or_none()
     ensures { (s t u : Stored) (c : Recorded) (e : Ended) → IsTaken (Err fault.Doubt) s c t → SettlesRows (Ok e) t u
         → IsChanged s c u ⊎ (MeansTheSame s u × (doubt_of u ≡ None)) }
+{}
+
+/// If each row of a container of the range was written since the mark of a sweep, the container is the same after the streams before the mark were
+/// given up.
+pub fn a_sweep_that_ends_keeps_each_container()
+    ensures { (m : Mark) (news : AllNews) (inside : Key → Bool) (s t : ThreeStreams) (key : Key) → IsSwept m news inside s → GivesUpBefore m s t
+        → inside key ≡ true → IsAllNew (news key) (held_of (logged s) key) → meaning (logged t) key ≡ meaning (logged s) key }
+{}
+
+/// If a row that a sweep has written is in doubt, each container is the same in bytes whether the row is kept or dropped.
+pub fn a_row_in_doubt_changes_no_container()
+    ensures { (s t : ThreeStreams) (c : Recorded) (key : Key) → AreKept s → IsRowInDoubt s c → IsOneMore (logged s) c (logged t) → t.blobs ≡ s.blobs
+        → meaning (logged t) key ≡ meaning (logged s) key }
 {}

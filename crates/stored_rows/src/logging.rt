@@ -1,17 +1,18 @@
 //! Changes whose content is put and which are logged.
-ghost use Rattle.std.specs.Prelude.{◌≡◌, IfOk, IfSome, IsSomeAnd, IsTrue, None, OnErr, false, map};
+ghost use Rattle.std.specs.Prelude.{◌≡◌, IfOk, IfSome, IsSomeAnd, IsTrue, None, OnErr, false, length, map};
 ghost use Rattle.stamp_types.specs.ActKinds.{is_row};
 ghost use Rattle.stamp_types.specs.Changes.{content_of};
 ghost use Rattle.stamp_types.specs.Pieces.{is_held, piece_len};
-ghost use Rattle.stream_manager.specs.Places.{KeepsPlaces};
+ghost use Rattle.stream_manager.specs.Places.{GoesOn, KeepsPlaces};
 ghost use Rattle.stream_manager.specs.Streams.{laid};
 ghost use Rattle.partition_stream.specs.Counting.{FailsPut};
 ghost use Rattle.partition_stream.specs.Storing.{AreKept};
 ghost use Rattle.partition_stream.specs.Streams.{HaveSameLimits, logged};
+ghost use Rattle.partition_stream.specs.Sweeping.{AreFrom};
 ghost use Rattle.partition_stream.specs.Written.{written_len};
 ghost use Rattle.stored_rows.specs.Counting.{FailsLogged};
 ghost use Rattle.stored_rows.specs.Faults.{unlogged_by, unlogged_of_put};
-ghost use Rattle.stored_rows.specs.Logging.{IsPutAt, IsPutAndLogged, KeepsFound, with_placed};
+ghost use Rattle.stored_rows.specs.Logging.{IsLoggedFrom, IsPutAt, IsPutAndLogged, KeepsFound, with_placed};
 
 use extent_node::Wire;
 use partition_stream::{Streams, TakeFault};
@@ -43,8 +44,8 @@ impl From<StoredFault> for Unlogged {
     }
 }
 
-// Why a change was not logged, with the change if it is in doubt.
-fn not_logged(fault: TakeFault, kept: Change) -> Unlogged
+/// Why a change was not logged, with the change if it is in doubt.
+pub(crate) fn not_logged(fault: TakeFault, kept: Change) -> Unlogged
     ensures { result ≡ unlogged_by fault kept }
 {
     match fault {
@@ -61,6 +62,7 @@ fn not_logged(fault: TakeFault, kept: Change) -> Unlogged
 }
 
 // Puts the content of a change into the data, if it comes with content, and answers the pieces that say where it is. No byte is copied.
+#[tactic(auto, using(stream_manager::proofs::RunLemmas::stays_on))]
 fn put_pieces<W: Wire>(
     streams: &mut Streams,
     change: &Change,
@@ -68,7 +70,9 @@ fn put_pieces<W: Wire>(
 ) -> Result<Option<Pieces>, StoredFault>
     requires held { IfSome (content_of change.now.act) (λ ps. IsTrue (is_held ps)) }
     ensures put { IfOk result (λ o. IsPutAt (laid streams.new.blobs) (content_of change.now.act) o) }
+    ensures after { IfOk result (λ o. IfSome o (AreFrom (length streams.old.blobs.sealed))) }
     ensures places { KeepsPlaces (laid streams.old.blobs) (laid streams.new.blobs) }
+    ensures follows { GoesOn (laid streams.old.blobs) (laid streams.new.blobs) }
     ensures log { streams.new.log ≡ streams.old.log }
     ensures rows { streams.new.rows ≡ streams.old.rows }
     ensures limit { streams.new.blobs.limit ≡ streams.old.blobs.limit }
@@ -96,6 +100,7 @@ fn with_pieces(change: Change, pieces: Option<Pieces>) -> Change
 
 /// Puts the content of a change and then logs the change. The change that is answered is the one as the log keeps it: its content is at
 /// places, and a list takes the same blocks. `written` is then how many bytes its record has. After a fault `written` is as it was.
+#[tactic(auto, using(stream_manager::proofs::RunLemmas::stays_on))]
 pub(crate) fn put_and_log<W: Wire>(
     streams: &mut Streams,
     change: Change,
@@ -111,6 +116,9 @@ pub(crate) fn put_and_log<W: Wire>(
     ensures length { IfOk result (λ kept. written.new ≡ written_len (kept, epoch)) }
     ensures unwritten { OnErr result (written.new ≡ written.old) }
     ensures counted { FailsLogged result (W.faults wire.old) (W.faults wire.new) }
+    ensures from { IsLoggedFrom (length streams.old.blobs.sealed) change result }
+    ensures log_follows { GoesOn (laid streams.old.log) (laid streams.new.log) }
+    ensures blobs_follow { GoesOn (laid streams.old.blobs) (laid streams.new.blobs) }
     ensures whole { AreKept streams.old }
     ensures limits { HaveSameLimits streams.old streams.new }
 {

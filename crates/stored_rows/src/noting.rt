@@ -18,8 +18,8 @@ use stamp_types::Change;
 use std::alloc::Global;
 use stream_manager::{Settled, StoredFault};
 
-// Keeps the change that is in doubt.
-fn keep_doubt(doubt: &mut Option<Change>, kept: Change)
+/// Keeps the change that is in doubt.
+pub(crate) fn keep_doubt(doubt: &mut Option<Change>, kept: Change)
     ensures { doubt.new ≡ Some kept }
 {
     drop(doubt.replace(kept));

@@ -4,7 +4,11 @@ ghost use Rattle.std.specs.Prelude.{◌≡◌};
 mod checkpoint;
 mod compact;
 mod repair;
+mod stepping;
+mod sweeping;
 mod wasting;
+
+pub use sweeping::SweptAway;
 
 use crate::cutting::{ends_of, share_upper};
 use crate::faults::Ended;
@@ -13,6 +17,7 @@ use crate::loading::rows_of;
 use crate::logging::put_and_log;
 use crate::noting::{note, note_loaded, note_settled};
 use crate::sealed::{AllSealed, note_sealed};
+use crate::sweep::{Sweep, end_sweep, keep_sweep};
 use crate::unloaded::Unloaded;
 use crate::waste::{ChangeWeight, FoundForChange, Waste, bound_of, named_by, recounted};
 use block_blobs::FoundBlocks;
@@ -44,6 +49,8 @@ pub struct StoredRows {
     waste: Waste,
     // Whether a list is answered by a ticket, whose fetch writes its text. It is not seen in contracts.
     gathers_lists: bool,
+    // The sweep that is under way. It is not seen in contracts.
+    sweep: Option<Sweep>,
 }
 
 impl Model for StoredRows {
@@ -55,7 +62,7 @@ impl Model for StoredRows {
 
     ghost view = { λ s. record { streams = s.streams; range = s.range; is_loaded = is_some s.rows } };
 
-    ghost invariant = { λ s. AreLimited s.extent_bytes s.streams s.rows s.doubt s.range };
+    ghost invariant = { λ s. AreLimited s.extent_bytes s.streams s.rows s.doubt s.range s.sweep };
 }
 
 impl StoredRows {
@@ -105,6 +112,7 @@ impl StoredRows {
             doubt: None,
             waste: Waste::none(),
             gathers_lists: false,
+            sweep: None,
         }
     }
 
@@ -277,6 +285,7 @@ impl StoredRows {
         ensures limits { HaveSameLimits self.old.streams self.new.streams }
         ensures counted { FailsTake result (W.faults wire.old) (W.faults wire.new) }
     {
+        keep_sweep(&mut self.sweep, &self.rows, &change);
         let logged = put_and_log(&mut self.streams, change, epoch, written, wire);
         note(self.alloc, &mut self.rows, &mut self.doubt, logged, found)
     }
@@ -433,6 +442,7 @@ impl StoredRows {
         match share_upper(&mut self.streams, &mut self.rows, &middle) {
             Ok((streams, rows)) => {
                 self.range.to = Some(middle);
+                end_sweep(&mut self.sweep);
                 let waste = recounted(self.alloc, self.waste, &rows);
                 self.waste = recounted(self.alloc, self.waste, &self.rows);
                 Ok(Self {
@@ -444,6 +454,7 @@ impl StoredRows {
                     doubt: None,
                     waste,
                     gathers_lists: self.gathers_lists,
+                    sweep: None,
                 })
             }
             Err(AllocError) => Err(StoredFault::NoMemory),

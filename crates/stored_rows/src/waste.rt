@@ -179,6 +179,24 @@ impl Waste {
         }
     }
 
+    /// After a row with so many bytes of content was written again. Its record counts as the bytes that records have beside their fields.
+    pub(crate) const fn after_row(self, content: u64) -> Self {
+        Self {
+            content: self.content.saturating_add(content),
+            records: self.records.saturating_add(BESIDE_BYTES),
+            ..self
+        }
+    }
+
+    /// After what was written before a sweep began is given up.
+    pub(crate) const fn after_sweep(self, began: Self) -> Self {
+        Self {
+            content: self.content.saturating_sub(began.content),
+            records: self.records.saturating_sub(began.records),
+            ..self
+        }
+    }
+
     /// After a compaction that failed: what is wasted so far is taken to exist, so that the next compaction is not tried at once.
     pub(crate) const fn put_off(self) -> Self {
         Self {

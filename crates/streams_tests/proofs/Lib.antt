@@ -1,2 +1,3 @@
 pub mod CreatedLemmas
 pub mod FirstLemmas
+pub mod StoredRowLemmas

@@ -43,6 +43,8 @@ mod record_write_tests;
 #[cfg(test)]
 mod repair_tests;
 #[cfg(test)]
+mod rewriting_tests;
+#[cfg(test)]
 mod sample_acts;
 #[cfg(test)]
 mod sample_fields;
@@ -62,6 +64,8 @@ mod stored_checkpoint_tests;
 mod stored_compaction_tests;
 #[cfg(test)]
 mod stored_samples;
+#[cfg(test)]
+mod stored_sweep_tests;
 #[cfg(test)]
 mod stored_tests;
 #[cfg(test)]

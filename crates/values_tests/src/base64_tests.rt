@@ -1,6 +1,8 @@
 //! What no clause says: that each call can succeed. The texts are those of RFC 4648, section 10, and their nearest neighbours.
 
-use base64_text::{append_base64, decoded_base64, is_base64_within, write_base64};
+use base64_text::{
+    append_base64, base64_of_16, base64_of_32, decoded_base64, is_base64_within, write_base64,
+};
 use std::test::Fail;
 
 #[test]
@@ -60,4 +62,12 @@ fn bytes_are_appended(rt: HostRuntime) -> Result<(), Fail> {
     append_base64(&mut text, b"foob").expect(&rt, "memory");
     assert!(rt; text.as_str() == "Zm8=Zm9vYg==");
     Ok(())
+}
+
+// The texts come from Python's base64.
+#[test]
+fn sums_are_written_into_arrays(rt: HostRuntime) {
+    assert!(rt; base64_of_16(b"0123456789abcdef") == *b"MDEyMzQ1Njc4OWFiY2RlZg==");
+    let digest = *b"0123456789abcdef0123456789abcdef";
+    assert!(rt; base64_of_32(&digest) == *b"MDEyMzQ1Njc4OWFiY2RlZjAxMjM0NTY3ODlhYmNkZWY=");
 }

@@ -51,8 +51,8 @@ fn a_message_is_signed_by_a_key_in_base64(rt: HostRuntime) {
     // For many messages under one key: the blocks of the key are hashed once.
     let key = SigningKey::new(secret);
     // A signature that came with a message is judged so: it is made anew, and the texts are compared.
-    let again = key.sign(rt.alloc(), message).expect(&rt, "memory");
-    assert_eq!(rt; again.as_str(), signature.as_str());
+    let again = key.signature(message);
+    assert_eq!(rt; again.as_slice(), signature.as_bytes());
     // The second pad is missing.
     let fault = read_key(rt.alloc(), b"SmVmZQ=").err();
     assert_eq!(rt; fault, Some(SecretFault::NotBase64));

@@ -2,6 +2,7 @@
 ghost use Rattle.std.specs.Prelude.{◌≡◌};
 
 use super::StoredRows;
+use crate::sweep::end_sweep;
 use checkpoint_rows::checkpoint_rows;
 use extent_node::Wire;
 use partition_stream::Replaced;
@@ -34,6 +35,8 @@ impl StoredRows {
         ensures counted { FailsStored result (W.faults wire.old) (W.faults wire.new) }
     {
         self.streams.kept();
+        // A sweep does not go on over a new log.
+        end_sweep(&mut self.sweep);
         let Some(rows) = &self.rows else {
             unreachable!("the rows are loaded");
         };

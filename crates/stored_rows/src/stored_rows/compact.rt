@@ -3,6 +3,7 @@ ghost use Rattle.std.specs.Prelude.{◌≡◌};
 
 use super::StoredRows;
 use crate::compacted::{Compacted, note_moved};
+use crate::sweep::end_sweep;
 use extent_node::Wire;
 use partition_stream::{Replaced, Streams};
 use stream_manager::StoredFault;
@@ -25,6 +26,7 @@ impl StoredRows {
         ensures refused { OnErr result (self.new ≡ self.old) }
         ensures counted { FailsStored result (W.faults wire.old) (W.faults wire.new) }
     {
+        end_sweep(&mut self.sweep);
         let moved = self.streams.compact(self.extent_bytes, wire);
         note_moved(&mut self.rows, moved)
     }

@@ -1,12 +1,13 @@
-use Rattle.std.proofs.Common.{Err, refl, sym, subst}
+use Rattle.std.proofs.Common.{Err, ap, length, refl, sym, subst}
 use Rattle.stamp_types.specs.Changes.{content_of}
 use Rattle.stream_manager.specs.Streams.{laid}
-use Rattle.stored_rows.specs.Logging.{IsPutAndLogged, KeepsFound}
+use Rattle.stored_rows.specs.Logging.{IsKeptFrom, IsLoggedFrom, IsPutAndLogged, KeepsFound}
 use Rattle.stored_rows.specs.States.{IsKeptAs}
 use Rattle.stored_rows.specs.Counting.{FailsLogged}
 use Rattle.stored_rows.proofs.CountLemmas.{grows_twice, log_fails}
 use Rattle.stored_rows.proofs.KeptAsLemmas.{kept_as_put, placed_found}
 use Rattle.stored_rows.proofs.LoggingLemmas.{logged_more, logged_refused}
+use Rattle.stored_rows.proofs.SweepCallLemmas.{kept_from, refused_from, same_on}
 use Rattle.stored_rows.proofs.logging.put_and_log.Goals as goal
 
 pub log_change-requires : goal.log_change-requires
@@ -35,6 +36,18 @@ returns-in-Err-log_change-clause-logged g c =
     c.put_pieces.ensures.log c.put_pieces.ensures.rows c.put_pieces.ensures.places same c.log_change.ensures.blobs c.log_change.ensures.rows
     c.in-Err-log_change.fault c.in-Err-log_change.ensures.logged)
 
+pub returns-in-Ok-log_change-clause-from : goal.returns-in-Ok-log_change-clause-from
+returns-in-Ok-log_change-clause-from g c =
+    subst (IsKeptFrom (length c.args.streams.now.blobs.sealed) c.args.change) (sym c.with_pieces-kept.ensures)
+    (kept_from (laid c.put_pieces.new.streams.blobs) (length c.args.streams.now.blobs.sealed) c.args.change (content_of c.args.change.act) c.in-Ok.pieces c.requires.plain refl c.in-Ok.ensures.put c.in-Ok.ensures.after)
+
+pub returns-in-Err-log_change-clause-from : goal.returns-in-Err-log_change-clause-from
+returns-in-Err-log_change-clause-from g c =
+    subst (λ e. IsLoggedFrom (length c.args.streams.now.blobs.sealed) c.args.change (Err e)) (sym c.not_logged.ensures)
+    (refused_from (length c.args.streams.now.blobs.sealed) c.args.change c.with_pieces-kept.result c.in-Err-log_change.fault
+    (subst (IsKeptFrom (length c.args.streams.now.blobs.sealed) c.args.change) (sym c.with_pieces-kept.ensures)
+    (kept_from (laid c.put_pieces.new.streams.blobs) (length c.args.streams.now.blobs.sealed) c.args.change (content_of c.args.change.act) c.in-Ok.pieces c.requires.plain refl c.in-Ok.ensures.put c.in-Ok.ensures.after)))
+
 pub returns-in-Ok-log_change-clause-found : goal.returns-in-Ok-log_change-clause-found
 returns-in-Ok-log_change-clause-found g c = subst (KeepsFound c.args.change) (sym c.with_pieces-kept.ensures) (placed_found c.args.change c.in-Ok.pieces)
 
@@ -45,3 +58,6 @@ pub returns-in-Err-log_change-clause-counted : goal.returns-in-Err-log_change-cl
 returns-in-Err-log_change-clause-counted g c =
     subst (λ e. FailsLogged (Err e) (g.W.Wire.faults c.args.wire.now) (g.W.Wire.faults c.log_change.new.wire)) (sym c.not_logged.ensures)
     (log_fails c.in-Err-log_change.fault c.with_pieces-kept.result _ _ _ _ _ c.in-Ok.ensures.counted c.in-Err-log_change.ensures.counted)
+
+pub returns-in-Err-clause-log_follows : goal.returns-in-Err-clause-log_follows
+returns-in-Err-clause-log_follows g c = same_on c.args.streams.now.log c.put_pieces.new.streams.log (ap laid c.put_pieces.ensures.log)

@@ -20,35 +20,35 @@ returns-in-Split-clause-taken g c = λ s stands.
 
 pub returns-in-Settle-clause-taken : goal.returns-in-Settle-clause-taken
 returns-in-Settle-clause-taken g c = λ s stands.
-    subst (λ (x : Step). (s' : State) × (Takes s x (has_faults (g.W.Wire.faults c.args.wire.now) (g.W.Wire.faults c.tend.new.wire)) c.tend.result s' × StandsFor c.tend.new.self s')) (sym c.in-Settle.is) (c.tend.ensures.taken s stands)
+    subst (λ (x : Step). (s' : State) × (Takes s x (has_faults (g.W.Wire.faults c.args.wire.now) (g.W.Wire.faults c.tend_now.new.wire)) c.tend_now.result s' × StandsFor c.tend_now.new.self s')) (sym c.in-Settle.is) (c.tend_now.ensures.taken s stands)
 
 pub returns-in-Seal-clause-taken : goal.returns-in-Seal-clause-taken
 returns-in-Seal-clause-taken g c = λ s stands.
-    subst (λ (x : Step). (s' : State) × (Takes s x (has_faults (g.W.Wire.faults c.args.wire.now) (g.W.Wire.faults c.tend-in-Seal.new.wire)) c.tend-in-Seal.result s' × StandsFor c.tend-in-Seal.new.self s')) (sym c.in-Seal.is) (c.tend-in-Seal.ensures.taken s stands)
+    subst (λ (x : Step). (s' : State) × (Takes s x (has_faults (g.W.Wire.faults c.args.wire.now) (g.W.Wire.faults c.tend_now-in-Seal.new.wire)) c.tend_now-in-Seal.result s' × StandsFor c.tend_now-in-Seal.new.self s')) (sym c.in-Seal.is) (c.tend_now-in-Seal.ensures.taken s stands)
 
 pub returns-in-Load-clause-taken : goal.returns-in-Load-clause-taken
 returns-in-Load-clause-taken g c = λ s stands.
-    subst (λ (x : Step). (s' : State) × (Takes s x (has_faults (g.W.Wire.faults c.args.wire.now) (g.W.Wire.faults c.tend-in-Load.new.wire)) c.tend-in-Load.result s' × StandsFor c.tend-in-Load.new.self s')) (sym c.in-Load.is) (c.tend-in-Load.ensures.taken s stands)
+    subst (λ (x : Step). (s' : State) × (Takes s x (has_faults (g.W.Wire.faults c.args.wire.now) (g.W.Wire.faults c.tend_now-in-Load.new.wire)) c.tend_now-in-Load.result s' × StandsFor c.tend_now-in-Load.new.self s')) (sym c.in-Load.is) (c.tend_now-in-Load.ensures.taken s stands)
 
 pub returns-in-Checkpoint-clause-taken : goal.returns-in-Checkpoint-clause-taken
 returns-in-Checkpoint-clause-taken g c = λ s stands.
-    subst (λ (x : Step). (s' : State) × (Takes s x (has_faults (g.W.Wire.faults c.args.wire.now) (g.W.Wire.faults c.tend-in-Checkpoint.new.wire)) c.tend-in-Checkpoint.result s' × StandsFor c.tend-in-Checkpoint.new.self s')) (sym c.in-Checkpoint.is) (c.tend-in-Checkpoint.ensures.taken s stands)
+    subst (λ (x : Step). (s' : State) × (Takes s x (has_faults (g.W.Wire.faults c.args.wire.now) (g.W.Wire.faults c.tend_now-in-Checkpoint.new.wire)) c.tend_now-in-Checkpoint.result s' × StandsFor c.tend_now-in-Checkpoint.new.self s')) (sym c.in-Checkpoint.is) (c.tend_now-in-Checkpoint.ensures.taken s stands)
 
 pub returns-in-Compact-clause-taken : goal.returns-in-Compact-clause-taken
 returns-in-Compact-clause-taken g c = λ s stands.
-    subst (λ (x : Step). (s' : State) × (Takes s x (has_faults (g.W.Wire.faults c.args.wire.now) (g.W.Wire.faults c.tend-in-Compact.new.wire)) c.tend-in-Compact.result s' × StandsFor c.tend-in-Compact.new.self s')) (sym c.in-Compact.is) (c.tend-in-Compact.ensures.taken s stands)
+    subst (λ (x : Step). (s' : State) × (Takes s x (has_faults (g.W.Wire.faults c.args.wire.now) (g.W.Wire.faults c.tend_now-in-Compact.new.wire)) c.tend_now-in-Compact.result s' × StandsFor c.tend_now-in-Compact.new.self s')) (sym c.in-Compact.is) (c.tend_now-in-Compact.ensures.taken s stands)
 
 pub returns-in-Unload-clause-taken : goal.returns-in-Unload-clause-taken
 returns-in-Unload-clause-taken g c = λ s stands.
-    subst (λ (x : Step). (s' : State) × (Takes s x (has_faults (g.W.Wire.faults c.args.wire.now) (g.W.Wire.faults c.tend-in-Unload.new.wire)) c.tend-in-Unload.result s' × StandsFor c.tend-in-Unload.new.self s')) (sym c.in-Unload.is) (c.tend-in-Unload.ensures.taken s stands)
+    subst (λ (x : Step). (s' : State) × (Takes s x (has_faults (g.W.Wire.faults c.args.wire.now) (g.W.Wire.faults c.tend_now-in-Unload.new.wire)) c.tend_now-in-Unload.result s' × StandsFor c.tend_now-in-Unload.new.self s')) (sym c.in-Unload.is) (c.tend_now-in-Unload.ensures.taken s stands)
 
 pub returns-in-Move-clause-taken : goal.returns-in-Move-clause-taken
 returns-in-Move-clause-taken g c = λ s stands.
-    subst (λ (x : Step). (s' : State) × (Takes s x (has_faults (g.W.Wire.faults c.args.wire.now) (g.W.Wire.faults c.tend-in-Move.new.wire)) c.tend-in-Move.result s' × StandsFor c.tend-in-Move.new.self s')) (sym c.in-Move.is) (c.tend-in-Move.ensures.taken s stands)
+    subst (λ (x : Step). (s' : State) × (Takes s x (has_faults (g.W.Wire.faults c.args.wire.now) (g.W.Wire.faults c.tend_now-in-Move.new.wire)) c.tend_now-in-Move.result s' × StandsFor c.tend_now-in-Move.new.self s')) (sym c.in-Move.is) (c.tend_now-in-Move.ensures.taken s stands)
 
 pub returns-in-Repair-clause-taken : goal.returns-in-Repair-clause-taken
 returns-in-Repair-clause-taken g c = λ s stands.
-    subst (λ (x : Step). (s' : State) × (Takes s x (has_faults (g.W.Wire.faults c.args.wire.now) (g.W.Wire.faults c.tend-in-Repair.new.wire)) c.tend-in-Repair.result s' × StandsFor c.tend-in-Repair.new.self s')) (sym c.in-Repair.is) (c.tend-in-Repair.ensures.taken s stands)
+    subst (λ (x : Step). (s' : State) × (Takes s x (has_faults (g.W.Wire.faults c.args.wire.now) (g.W.Wire.faults c.tend_now-in-Repair.new.wire)) c.tend_now-in-Repair.result s' × StandsFor c.tend_now-in-Repair.new.self s')) (sym c.in-Repair.is) (c.tend_now-in-Repair.ensures.taken s stands)
 
 pub returns-in-Rotate-clause-taken : goal.returns-in-Rotate-clause-taken
 returns-in-Rotate-clause-taken g c = λ s stands.

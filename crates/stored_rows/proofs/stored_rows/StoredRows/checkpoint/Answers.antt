@@ -1,9 +1,11 @@
-use Rattle.std.proofs.Common.{◌≡◌, None, IfSome, sym, subst}
+use Rattle.std.proofs.Common.{◌≡◌, Option, None, IfSome, sym, subst}
 use Rattle.std.specs.Option.{is_some}
 use Rattle.partition_stream.specs.Streams.{logged}
 use Rattle.stored_rows.specs.Checkpoints.{IsWrittenAnew, MeansTheRange}
 use Rattle.stored_rows.specs.Loaded.{AreRowsOf}
 use Rattle.stored_rows.specs.States.{Stored, doubt_of}
+use Rattle.stored_rows.specs.Swept.{AreSwept}
+use Rattle.stored_rows.specs.declared.sweep.Sweep.{Sweep}
 use Rattle.stored_rows.proofs.CheckpointLemmas.{kept_loaded, means_range, rows_stored, rows_writable, written_anew}
 use Rattle.stored_rows.proofs.LimitLemmas.{checkpoint_limit}
 use Rattle.stored_rows.proofs.stored_rows.StoredRows.checkpoint.Goals as goal
@@ -28,6 +30,7 @@ invariant_of-self g c =
           c.checkpoint_rows.ensures.doubt c.checkpoint_rows.ensures.meaning c.checkpoint_rows.ensures.rows c.checkpoint_rows.ensures.log c.checkpoint_rows.ensures.same;
       limits = checkpoint_limit c.self.inside.extent_bytes c.self.inside.streams c.checkpoint_rows.new.streams c.checkpoint_rows.result c.self.invariant.limits c.checkpoint_rows.ensures.blobs c.checkpoint_rows.ensures.limits
           c.checkpoint_rows.ensures.same;
+      swept = subst (λ (v : Option Sweep). IfSome v (λ w. AreSwept w c.self.inside.range c.checkpoint_rows.new.streams)) (sym c.end_sweep.ensures) tt;
     }
 
 pub returns-in-Ok-clause-same : goal.returns-in-Ok-clause-same

@@ -1,4 +1,4 @@
-use Rattle.std.proofs.Common.{◌≡◌, ◌∙◌, true, None, Some, ap, sym, subst}
+use Rattle.std.proofs.Common.{◌≡◌, ◌∙◌, true, IfSome, Option, None, Some, ap, sym, subst}
 use Rattle.std.specs.Option.{is_some}
 use Rattle.std.specs.FinMap as finite
 use Rattle.stamp_values.specs.Trees.{is_below, is_from}
@@ -7,6 +7,8 @@ use Rattle.stored_rows.specs.Loaded.{AreLoaded}
 use Rattle.stored_rows.specs.Ranges.{covers}
 use Rattle.stored_rows.specs.States.{IsHalf, MeansTheSame, Stored, doubt_of}
 use Rattle.stored_rows.specs.declared.key_range.KeyRange.{KeyRange}
+use Rattle.stored_rows.specs.Swept.{AreSwept}
+use Rattle.stored_rows.specs.declared.sweep.Sweep.{Sweep}
 use Rattle.partition_stream.specs.Compactions.{HaveLimit}
 use Rattle.stored_rows.proofs.CutLemmas.{is_some-map}
 use Rattle.stored_rows.proofs.LimitLemmas.{limit_kept}
@@ -24,6 +26,7 @@ invariant_of-result c =
           (upper_loaded c.self.inside.streams c.in-Ok.streams c.self.inside.rows c.self.inside.doubt c.self.inside.range c.args.middle c.self.invariant.loaded covered
           c.in-Ok.ensures.shared (sealed_sure c.in-Ok.streams c.in-Ok.ensures.whole)));
       limits = limit_kept c.self.inside.extent_bytes c.self.inside.streams c.in-Ok.streams c.self.invariant.limits c.in-Ok.ensures.limits;
+      swept = tt;
     }
 
 pub invariant_of-self : goal.invariant_of-self
@@ -39,6 +42,7 @@ invariant_of-self c =
           (lower_loaded s t c.self.inside.rows c.self.inside.doubt c.self.inside.range c.args.middle c.self.invariant.loaded covered same sure
           (still_none s t c.self.inside.doubt c.self.invariant.loaded.tried none sure));
       limits = subst (HaveLimit c.self.inside.extent_bytes) (sym c.share_upper.ensures.same) c.self.invariant.limits;
+      swept = subst (λ (v : Option Sweep). IfSome v (λ w. AreSwept w (record { from = c.self.inside.range.from; to = Some c.args.middle }) t)) (sym c.end_sweep.ensures) tt;
     }
 
 pub returns-in-Ok-clause-lower : goal.returns-in-Ok-clause-lower

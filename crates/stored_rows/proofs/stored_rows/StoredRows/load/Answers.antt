@@ -12,6 +12,7 @@ invariant_of-self g c =
       loaded = made_loaded c.rows_of-made.result c.self.inside.streams c.self.inside.range c.self.inside.rows c.note_loaded-loaded.new.rows c.self.inside.doubt c.self.invariant.loaded
           c.rows_of-made.ensures.loaded c.note_loaded-loaded.ensures.noted;
       limits = c.self.invariant.limits;
+      swept = c.self.invariant.swept;
     }
 
 pub returns-clause-counted : goal.returns-clause-counted

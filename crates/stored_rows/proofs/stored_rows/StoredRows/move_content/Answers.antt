@@ -1,4 +1,4 @@
-use Rattle.std.proofs.Common.{◌≡◌, None, IfOk, OnErr, OnOk, Result, sym, subst}
+use Rattle.std.proofs.Common.{◌≡◌, Option, None, IfOk, IfSome, OnErr, OnOk, Result, sym, subst}
 use Rattle.std.specs.Option.{is_some}
 use Rattle.stream_manager.specs.declared.faults.StoredFault.{StoredFault}
 use Rattle.partition_stream.specs.Compactions.{AreRows}
@@ -6,6 +6,8 @@ use Rattle.partition_stream.specs.Streams.{ThreeStreams, logged}
 use Rattle.stored_rows.specs.Compactions.{IsMoved}
 use Rattle.stored_rows.specs.Counting.{FailsStored}
 use Rattle.stored_rows.specs.States.{Stored, doubt_of}
+use Rattle.stored_rows.specs.Swept.{AreSwept}
+use Rattle.stored_rows.specs.declared.sweep.Sweep.{Sweep}
 use Rattle.stored_rows.proofs.CompactionLemmas.{moved_fails, moved_loaded, moved_means, moved_old, moved_same}
 use Rattle.stored_rows.proofs.LimitLemmas.{moved_limit}
 use Rattle.stored_rows.proofs.NotedLemmas.{stored_at}
@@ -21,6 +23,7 @@ invariant_of-self g c =
       loaded = moved_loaded c.compact-moved.result c.self.inside.streams c.compact-moved.new.self c.self.inside.range c.self.inside.rows c.note_moved.new.rows c.self.inside.doubt c.self.invariant.loaded
           none c.compact-moved.ensures.doubt c.compact-moved.ensures.rows c.compact-moved.ensures.log c.compact-moved.ensures.same c.note_moved.ensures.noted;
       limits = moved_limit c.self.inside.extent_bytes c.self.inside.streams c.compact-moved.new.self c.compact-moved.result c.self.invariant.limits c.compact-moved.ensures.limits c.compact-moved.ensures.same;
+      swept = subst (λ (v : Option Sweep). IfSome v (λ w. AreSwept w c.self.inside.range c.compact-moved.new.self)) (sym c.end_sweep.ensures) tt;
     }
 
 pub returns-clause-moved : goal.returns-clause-moved

@@ -6,6 +6,7 @@ use Rattle.stored_rows.specs.States.{SettlesRows, Stored}
 use Rattle.stored_rows.specs.declared.faults.Ended.{Ended}
 use Rattle.stored_rows.proofs.LimitLemmas.{limit_kept, settled_limits}
 use Rattle.stored_rows.proofs.NotedLemmas.{settled_fails, settled_fits, settled_loaded, settled_rows}
+use Rattle.stored_rows.proofs.SweepCallLemmas.{settled_swept}
 use Rattle.stored_rows.proofs.stored_rows.StoredRows.settle.Goals as goal
 
 pub note_settled-requires : goal.note_settled-requires
@@ -20,6 +21,8 @@ invariant_of-self g c =
           c.self.invariant.loaded c.settle-settled.ensures.blobs c.settle-settled.ensures.rows c.settle-settled.ensures.settled c.note_settled.ensures.noted;
       limits = limit_kept c.self.inside.extent_bytes c.self.inside.streams c.settle-settled.new.self c.self.invariant.limits
           (settled_limits c.self.inside.streams c.settle-settled.new.self c.settle-settled.ensures.blobs c.settle-settled.ensures.rows c.settle-settled.ensures.limit);
+      swept = settled_swept c.settle-settled.result c.self.inside.streams c.settle-settled.new.self c.self.inside.range c.self.inside.rows c.self.inside.doubt c.self.inside.sweep c.self.invariant.swept
+          c.self.invariant.loaded c.settle-settled.ensures.blobs c.settle-settled.ensures.rows c.settle-settled.ensures.follows c.settle-settled.ensures.settled;
     }
 
 pub returns-clause-settled : goal.returns-clause-settled

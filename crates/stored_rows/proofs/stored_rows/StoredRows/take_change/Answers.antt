@@ -1,4 +1,4 @@
-use Rattle.std.proofs.Common.{◌≡◌, true, None, IfSome, Result, sym, subst}
+use Rattle.std.proofs.Common.{◌≡◌, true, Option, None, IfSome, Result, sym, subst}
 use Rattle.std.specs.Option.{is_some}
 use Rattle.partition_stream.specs.Meanings.{held_of}
 use Rattle.partition_stream.specs.Streams.{logged}
@@ -7,9 +7,12 @@ use Rattle.row_trees.specs.ListedBlocks.{AreFoundFor}
 use Rattle.stored_rows.specs.Counting.{FailsTake}
 use Rattle.stored_rows.specs.Fitting.{Fits}
 use Rattle.stored_rows.specs.Ranges.{covers}
+use Rattle.stored_rows.specs.Swept.{AreSwept}
+use Rattle.stored_rows.specs.declared.sweep.Sweep.{Sweep}
 use Rattle.stored_rows.specs.States.{AreFoundIn, IsTaken, Stored, doubt_of, pieces_of}
 use Rattle.stored_rows.proofs.LimitLemmas.{limit_kept}
 use Rattle.stored_rows.proofs.NotedLemmas.{logged_fits, logged_found, noted_fails, noted_loaded, noted_taken}
+use Rattle.stored_rows.proofs.SweepCallLemmas.{logged_swept}
 use Rattle.stored_rows.proofs.stored_rows.StoredRows.take_change.Goals as goal
 
 pub note-requires-clause-fits : goal.note-requires-clause-fits
@@ -38,6 +41,10 @@ invariant_of-self g c =
       loaded = noted_loaded c.put_and_log-logged.result c.self.inside.streams c.put_and_log-logged.new.streams (c.args.change, c.args.epoch) c.self.inside.range covered own c.put_and_log-logged.ensures.logged
           c.self.inside.rows c.note.new.rows c.self.inside.doubt c.note.new.doubt none c.self.invariant.loaded c.note.ensures.noted;
       limits = limit_kept c.self.inside.extent_bytes c.self.inside.streams c.put_and_log-logged.new.streams c.self.invariant.limits c.put_and_log-logged.ensures.limits;
+      swept = subst (λ (v : Option Sweep). IfSome v (λ w. AreSwept w c.self.inside.range c.put_and_log-logged.new.streams)) (sym c.keep_sweep.ensures)
+          (logged_swept c.put_and_log-logged.result c.self.inside.streams c.put_and_log-logged.new.streams (c.args.change, c.args.epoch) c.self.inside.range c.self.inside.sweep c.self.inside.rows
+          c.self.invariant.swept c.self.invariant.loaded.rows c.put_and_log-logged.ensures.whole covered c.requires.plain own c.put_and_log-logged.ensures.logged c.put_and_log-logged.ensures.from
+          c.put_and_log-logged.ensures.log_follows c.put_and_log-logged.ensures.blobs_follow);
     }
 
 pub returns-clause-taken : goal.returns-clause-taken

@@ -1,0 +1,43 @@
+-- The row that comes after a cursor, in the order of the keys and names (SOSP 2011, section 5.3: checkpoints).
+use Rattle.std.specs.Prelude.{◌≡◌, ◌≤◌, ⊤, ℕ, true, false, List, Option, Some, None}
+use Rattle.std.specs.FinMap as finite
+use Rattle.std.specs.Global.{Vec}
+use Rattle.stamp_values.specs.Trees.{is_below, is_name_from}
+use Rattle.stamp_values.specs.declared.key.Key.{Key}
+use Rattle.stamp_types.specs.Changes.{KeyedAct}
+use Rattle.stamp_types.specs.World.{Blob, World, part_at}
+use Rattle.stamp_types.specs.declared.piece.Piece.{Piece}
+use Rattle.row_trees.specs.RowRecords.{blob_row_of}
+use Rattle.stored_rows.specs.Swept.{is_past, is_past_blob, is_upto}
+use Rattle.stored_rows.specs.declared.cursor.Cursor.{Cursor}
+use Rattle.stored_rows.specs.declared.cursor.Cursor.TheVariants as cursor
+use Rattle.stored_rows.specs.declared.next_row.NextRow.{NextRow}
+use Rattle.stored_rows.specs.declared.next_row.NextRow.TheVariants as next
+
+-- no container is both after the cursor and before the key
+abbrev pub NoneBetween : Cursor → World (List Piece) → Key → Type 0
+NoneBetween c w key = (k : Key) → is_past c k ≡ false → is_below key k ≡ true → finite.get w k ≡ None
+
+-- the container is the first one after a cursor that is in no container
+pub record IsNextContainer (c : Cursor) (w : World (List Piece)) (key : Key) : Type 0 where
+  pub seen : 1 ≤ (part_at w key).count
+  pub after : is_past c key ≡ false
+  pub first : NoneBetween c w key
+
+-- this is the row of the first blob after a cursor in its container
+pub record IsNextBlob (c : Cursor) (w : World (List Piece)) (n : Key × (Vec ℕ × KeyedAct)) : Type 0 where
+  pub last : Option (Vec ℕ)
+  pub at : c ≡ cursor.In n.0 last
+  pub blob : Blob (List Piece)
+  pub there : finite.get (part_at w n.0).blobs n.1.0.items ≡ Some blob
+  pub row : n.1.1 ≡ record { key = n.0; act = blob_row_of (n.1.0.items, blob) }
+  pub after : is_upto last n.1.0.items ≡ false
+  pub first : (name : List ℕ) → is_upto last name ≡ false → is_name_from n.1.0.items name ≡ false → finite.get (part_at w n.0).blobs name ≡ None
+
+-- what comes after a cursor
+abbrev pub IsNextRow : Cursor → World (List Piece) → NextRow → Type 0
+IsNextRow c w (next.Container key) = IsNextContainer c w key
+IsNextRow c w next.Unseen = ⊤
+IsNextRow c w (next.Blob key name row) = IsNextBlob c w (key, (name, row))
+IsNextRow c w (next.NoBlob key) = (last : Option (Vec ℕ)) × ((c ≡ cursor.In key last) × ((name : List ℕ) → is_upto last name ≡ false → finite.get (part_at w key).blobs name ≡ None))
+IsNextRow c w next.NoContainer = (key : Key) → is_past c key ≡ false → finite.get w key ≡ None
