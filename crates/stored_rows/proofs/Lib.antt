@@ -2,7 +2,6 @@ pub mod AreSweptLemmas
 pub mod CheckpointLemmas
 pub mod CompactionLemmas
 pub mod CountLemmas
-pub mod CursorLemmas
 pub mod CutLemmas
 pub mod FittingLemmas
 pub mod KeptAsLemmas
@@ -15,9 +14,7 @@ pub mod NotedLemmas
 pub mod ReadLemmas
 pub mod RepairLemmas
 pub mod RowAgainLemmas
-pub mod StepLemmas
 pub mod SweepCallLemmas
 pub mod SweepEndLemmas
 pub mod SweptLemmas
 pub mod TakeLemmas
-pub mod TouchLemmas

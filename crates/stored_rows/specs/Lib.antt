@@ -5,10 +5,8 @@ pub mod Faults
 pub mod Fitting
 pub mod Loaded
 pub mod Logging
-pub mod NextRows
 pub mod Noting
 pub mod Ranges
 pub mod Repairs
-pub mod Rewriting
 pub mod States
 pub mod Swept

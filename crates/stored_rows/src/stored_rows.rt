@@ -4,7 +4,6 @@ ghost use Rattle.std.specs.Prelude.{◌≡◌};
 mod checkpoint;
 mod compact;
 mod repair;
-mod stepping;
 mod sweeping;
 mod wasting;
 
