@@ -23,7 +23,7 @@ use Rattle.checkpoint_rows.proofs.EntryLemmas.{each_entry, of_found}
 
 module _ (P : List Piece → Type 0) where
   -- the contents of the row of a blob
-  row_content : (name : List ℕ) (b : Blob (List Piece)) → EachBlobContent P b → EachActContent P (blob_row_of (name, b))
+  pub row_content : (name : List ℕ) (b : Blob (List Piece)) → EachBlobContent P b → EachActContent P (blob_row_of (name, b))
   row_content name b each =
       (each.committed, listed (entries b.uncommitted) (each_entry names_total (λ id content. P content) b.uncommitted each.uncommitted))
     where

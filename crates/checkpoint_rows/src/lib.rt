@@ -7,5 +7,5 @@ mod row_records;
 mod writing;
 
 pub use checkpoint::checkpoint_rows;
-pub use row_records::{blob_row, container_row};
 pub use laws::{the_rows_of_a_world_make_it_again, what_streams_mean_can_be_written};
+pub use row_records::{blob_row, container_row};

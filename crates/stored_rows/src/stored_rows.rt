@@ -7,8 +7,6 @@ mod repair;
 mod sweeping;
 mod wasting;
 
-pub use sweeping::SweptAway;
-
 use crate::cutting::{ends_of, share_upper};
 use crate::faults::Ended;
 use crate::key_range::KeyRange;
@@ -30,6 +28,7 @@ use stamp_types::{Change, Key, Piece};
 use std::alloc::{AllocError, Global};
 use std::marker::Model;
 use stream_manager::StoredFault;
+pub use sweeping::SweptAway;
 use tickets::{Answer, Unreachable, make_answer};
 
 /// The rows of a range of keys. Streams keep them, and they are in memory while they are loaded (SOSP 2011, section 5).

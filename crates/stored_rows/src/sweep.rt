@@ -69,7 +69,12 @@ impl Sweep {
     /// Notes that the row of a blob was written, in a container whose own row was written.
     ///
     /// `AllocError` if memory runs out. It is then not noted.
-    pub(crate) fn note_blob(&mut self, alloc: Global, key: &Key, name: &Text) -> Result<(), AllocError> {
+    pub(crate) fn note_blob(
+        &mut self,
+        alloc: Global,
+        key: &Key,
+        name: &Text,
+    ) -> Result<(), AllocError> {
         let bytes = Bytes::new(name.as_str().as_bytes().to_vec(alloc)?);
         match self.touched.get_mut(key) {
             Some(names) => {

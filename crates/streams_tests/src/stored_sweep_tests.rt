@@ -241,7 +241,12 @@ fn read_later(rt: &impl Abort, alloc: Global, stored: &mut StoredRows) {
     fill(rt, alloc, stored);
     begin(rt, alloc, stored);
     let before = part(rt, alloc, stored, "pics", 0);
-    touch_and_take(rt, alloc, stored, change_of(rt, alloc, "pics", delete_blob(rt, alloc)));
+    touch_and_take(
+        rt,
+        alloc,
+        stored,
+        change_of(rt, alloc, "pics", delete_blob(rt, alloc)),
+    );
     let _more = steps(rt, alloc, stored);
     end(rt, stored);
     assert!(rt; is_hello(rt, alloc, &before, 1));
