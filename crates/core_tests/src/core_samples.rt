@@ -143,8 +143,8 @@ pub(crate) fn tended(
     }
 }
 
-// The fault of the step that takes the care.
-fn fault_of(untended: Untended) -> StepFault {
+/// The fault of the step that takes the care.
+pub(crate) fn fault_of(untended: Untended) -> StepFault {
     match untended {
         Untended::NoSuchSlot => StepFault::NoSuchSlot,
         Untended::Slot(StoredFault::Busy) => StepFault::Busy,

@@ -1,8 +1,8 @@
 //! Steps of a core under written deliveries: splits, tickets, doubts, and what is done to one slot.
 
 use crate::core_samples::{
-    DELETE, Driven, LIST_FROM_Q, PUT_MORE, PUT_WORLD, empty_core, fetched, give, not_fetched,
-    split, tended,
+    DELETE, Driven, LIST_FROM_Q, PUT_MORE, PUT_WORLD, empty_core, fault_of, fetched, give,
+    not_fetched, split, tended,
 };
 use crate::requests::{
     CREATE, CREATE_LATER, CREATED, GET, GET_B, GET_BY_POLICY, LIST, MISSING, PUT, PUT_BLOCK,
@@ -14,9 +14,10 @@ use core_run::{Outcome, Step, StepFault};
 use extent_node::Node;
 use partition_map::MapFault;
 use partition_stream::StreamName;
-use stamp_core::CoreCare;
+use stamp_core::{CoreCare, Tended, Untended};
 use std::alloc::Global;
 use std::process::Abort;
+use stored_rows::Unloaded;
 
 // What the reply to a second Create Container of the same name begins with.
 const CONFLICT: &[u8] = b"HTTP/1.1 409 Conflict\r\n";
@@ -193,6 +194,57 @@ fn makes_a_compaction(rt: &impl Abort, alloc: Global, driven: &mut Driven) {
     assert!(rt; ends(rt, alloc, driven, GET, b"\r\n\r\nhello"));
 }
 
+// The rows that an unload or a move gives.
+fn rows_told(unloaded: &Unloaded) -> &'static str {
+    if unloaded.rows().is_some() {
+        "rows"
+    } else {
+        "no rows"
+    }
+}
+
+// What the value says that a care gave.
+fn told(given: Result<Tended, Untended>) -> &'static str {
+    match given {
+        Ok(Tended::Settled) => "settled",
+        Ok(Tended::Sealed(_sealed)) => "sealed",
+        Ok(Tended::Loaded) => "loaded",
+        Ok(Tended::Checkpointed(_replaced)) => "checkpointed",
+        Ok(Tended::Compacted(_compacted)) => "compacted",
+        Ok(Tended::Unloaded(unloaded) | Tended::Moved(unloaded)) => rows_told(&unloaded),
+        Ok(Tended::Repaired(_repaired)) => "repaired",
+        Err(untended) => {
+            let _fault = fault_of(untended);
+            "untended"
+        }
+    }
+}
+
+// Each care gives a value of its own kind. An unload and a move give the rows that were in memory.
+fn gives_what_was_done(rt: &impl Abort, alloc: Global, driven: &mut Driven) {
+    assert!(rt; begins(rt, alloc, driven, CREATE, CREATED));
+    assert!(rt; begins(rt, alloc, driven, PUT, CREATED));
+    let cares = [
+        (CoreCare::Settle, "settled"),
+        (CoreCare::Seal, "sealed"),
+        (repair_of(0), "repaired"),
+        (repair_of(99), "untended"),
+        (CoreCare::Checkpoint, "checkpointed"),
+        (CoreCare::Compact, "compacted"),
+        (CoreCare::Load, "loaded"),
+        (CoreCare::Unload, "rows"),
+        (CoreCare::Unload, "no rows"),
+        (CoreCare::Load, "loaded"),
+        (CoreCare::Move { server: 1 }, "rows"),
+        (CoreCare::Move { server: 2 }, "no rows"),
+    ];
+    for (care, says) in cares {
+        let given = driven.core.tend(alloc, 0, care, &mut driven.wire);
+        assert!(rt; told(given) == says, "{says}");
+    }
+    assert!(rt; ends(rt, alloc, driven, GET, b"\r\n\r\nhello"));
+}
+
 // A ticket reads the old data, also if its blob is written again and the slot is compacted.
 fn reads_the_old_data(rt: &impl Abort, alloc: Global, driven: &mut Driven) {
     keep_a_ticket(rt, alloc, driven);
@@ -318,6 +370,12 @@ fn a_checkpoint_settles_its_slot_first(rt: HostRuntime) {
 fn a_compaction_settles_its_slot_first(rt: HostRuntime) {
     let mut driven = empty_core(&rt, rt.alloc());
     makes_a_compaction(&rt, rt.alloc(), &mut *driven);
+}
+
+#[test]
+fn each_care_of_a_slot_gives_a_value_of_its_own(rt: HostRuntime) {
+    let mut driven = empty_core(&rt, rt.alloc());
+    gives_what_was_done(&rt, rt.alloc(), &mut *driven);
 }
 
 #[test]
