@@ -2,6 +2,8 @@
 use crate::requests::{CREATE, CREATE_EARLIER, CREATED, LIST, LIST_FROM_M};
 use crate::samples::{begins, sent};
 use crate::stored_samples::{Streamed, make_of_rows, make_streamed, rows, split};
+use extent_node::Node;
+use partition_stream::StreamName;
 use std::alloc::Global;
 use std::process::Abort;
 
@@ -35,29 +37,48 @@ fn tickets_after_list(rt: &impl Abort, alloc: Global, slot: &mut Streamed) -> u6
     slot.tickets
 }
 
-// Seals the slot, writes a checkpoint, compacts it, and takes its rows out of memory. After each of these the slot lists its containers again.
+// Node Two does not answer the seal of the log.
+const ASKS: [bool; 3] = [true, true, false];
+
+// Node Two gets a copy of the first extent of the log.
+fn repair(rt: &impl Abort, alloc: Global, slot: &mut Streamed) {
+    let called = slot.wire.called().len();
+    let repaired = slot
+        .slot
+        .repair(alloc, StreamName::Log, 0, Node::Two, &mut slot.wire);
+    assert!(rt; repaired.is_ok());
+    // Node Zero is asked, and the records of both containers are put to node Two.
+    assert_eq!(rt; slot.wire.called().len(), called + 3);
+}
+
+// Seals the slot, repairs it, writes a checkpoint, compacts it, takes its rows out of memory, and moves it. After each of these the slot lists
+// its containers again.
 fn care_for(rt: &impl Abort, alloc: Global, slot: &mut Streamed) {
     assert!(rt; slot.slot.settle(alloc, &mut slot.wire).is_ok());
     assert!(rt; slot.slot.seal(alloc, &mut slot.wire).is_ok());
     assert_eq!(rt; tickets_after_list(rt, alloc, slot), 2);
-    assert!(rt; slot.slot.checkpoint(alloc, &mut slot.wire).is_ok());
+    repair(rt, alloc, slot);
     assert_eq!(rt; tickets_after_list(rt, alloc, slot), 3);
-    assert!(rt; slot.slot.compact(alloc, &mut slot.wire).is_ok());
+    assert!(rt; slot.slot.checkpoint(alloc, &mut slot.wire).is_ok());
     assert_eq!(rt; tickets_after_list(rt, alloc, slot), 4);
+    assert!(rt; slot.slot.compact(alloc, &mut slot.wire).is_ok());
+    assert_eq!(rt; tickets_after_list(rt, alloc, slot), 5);
     drop(slot.slot.unload());
     assert!(rt; slot.slot.load(alloc, &mut slot.wire).is_ok());
-    assert_eq!(rt; tickets_after_list(rt, alloc, slot), 5);
+    assert_eq!(rt; tickets_after_list(rt, alloc, slot), 6);
+    drop(slot.slot.move_to(1));
+    assert_eq!(rt; tickets_after_list(rt, alloc, slot), 7);
 }
 
 #[test]
 fn lists_stay_gathered_in_both_halves_of_a_slot(rt: HostRuntime) {
     let alloc = rt.alloc();
-    let mut lower = make_of_rows(&rt, alloc, rows(alloc).gathering_lists(), &[], &[]);
+    let mut lower = make_of_rows(&rt, alloc, rows(alloc).gathering_lists(), &[], &ASKS);
     drop(listed(&rt, alloc, &mut *lower));
     assert_eq!(rt; lower.tickets, 1);
     care_for(&rt, alloc, &mut *lower);
     let mut upper = split(&rt, alloc, &mut *lower, "m").expect(&rt, "the nodes answer");
-    assert_eq!(rt; tickets_after_list(&rt, alloc, &mut *lower), 6);
+    assert_eq!(rt; tickets_after_list(&rt, alloc, &mut *lower), 8);
     drop(sent(&rt, alloc, &mut *upper, LIST_FROM_M));
     assert_eq!(rt; upper.tickets, 1);
 }

@@ -63,6 +63,8 @@ mod stored_checkpoint_tests;
 #[cfg(test)]
 mod stored_compaction_tests;
 #[cfg(test)]
+mod stored_list_tests;
+#[cfg(test)]
 mod stored_samples;
 #[cfg(test)]
 mod stored_sweep_tests;

@@ -41,13 +41,23 @@ pub(crate) fn key(rt: &impl Abort, alloc: Global, name: &str) -> Key {
     }
 }
 
-/// Rows of the containers from `bbb` on, in extents of a million bytes. A test owns them by a pointer, as it owns streams.
-pub(crate) fn stored(rt: &impl Abort, alloc: Global) -> Box<StoredRows> {
-    let range = KeyRange {
+// The containers from `bbb` on.
+fn from_bbb(rt: &impl Abort, alloc: Global) -> KeyRange {
+    KeyRange {
         from: key(rt, alloc, "bbb"),
         to: None,
-    };
-    let stored = StoredRows::new(alloc, 1_000_000, range);
+    }
+}
+
+/// Rows of the containers from `bbb` on, in extents of a million bytes. A test owns them by a pointer, as it owns streams.
+pub(crate) fn stored(rt: &impl Abort, alloc: Global) -> Box<StoredRows> {
+    let stored = StoredRows::new(alloc, 1_000_000, from_bbb(rt, alloc));
+    Box::new(alloc, stored).expect(rt, "memory")
+}
+
+/// The same rows, of which lists are gathered.
+pub(crate) fn gathering(rt: &impl Abort, alloc: Global) -> Box<StoredRows> {
+    let stored = StoredRows::new(alloc, 1_000_000, from_bbb(rt, alloc)).gathering_lists();
     Box::new(alloc, stored).expect(rt, "memory")
 }
 
