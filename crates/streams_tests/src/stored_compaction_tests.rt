@@ -19,7 +19,7 @@ use stored_rows::StoredRows;
 const MANY: usize = 17_825_792;
 
 // A container with a blob that was put twice, an empty one, and one that was deleted: six changes.
-fn fill(rt: &impl Abort, alloc: Global, stored: &mut StoredRows) {
+pub(crate) fn fill(rt: &impl Abort, alloc: Global, stored: &mut StoredRows) {
     made(rt, alloc, stored, create(rt, alloc, "pics"));
     made(rt, alloc, stored, put(rt, alloc, "pics"));
     made(rt, alloc, stored, put(rt, alloc, "pics"));
@@ -28,7 +28,7 @@ fn fill(rt: &impl Abort, alloc: Global, stored: &mut StoredRows) {
     made(rt, alloc, stored, delete(rt, alloc, "gone"));
 }
 
-fn is_full(rt: &impl Abort, alloc: Global, stored: &StoredRows) {
+pub(crate) fn is_full(rt: &impl Abort, alloc: Global, stored: &StoredRows) {
     assert_eq!(rt; look(rt, alloc, stored, "pics"), Seen::Blob(3, 5));
     assert_eq!(rt; look(rt, alloc, stored, "other"), Seen::Empty(1));
     assert_eq!(rt; look(rt, alloc, stored, "gone"), Seen::Deleted(2));

@@ -2,9 +2,9 @@
 use crate::partition_samples::Told;
 use crate::sample_wires::script;
 use crate::stored_checkpoint_tests::{made, reload};
+use crate::stored_compaction_tests::{fill, is_full};
 use crate::stored_samples::{
-    Seen, checkpoint, compact, create, cut, delete, is_hello, look, part, put, stored,
-    unload_and_take,
+    Seen, checkpoint, compact, create, cut, is_hello, look, part, put, stored, unload_and_take,
 };
 use std::alloc::Global;
 use std::process::Abort;
@@ -24,22 +24,6 @@ fn goes_on(rt: &impl Abort, stored: &mut StoredRows) {
     assert!(rt; !stored.has_doubt());
     assert!(rt; stored.sweep_end().is_none());
     assert!(rt; stored.is_sweeping());
-}
-
-// A container with a blob that was put twice, an empty one, and one that was deleted: six changes.
-fn fill(rt: &impl Abort, alloc: Global, stored: &mut StoredRows) {
-    made(rt, alloc, stored, create(rt, alloc, "pics"));
-    made(rt, alloc, stored, put(rt, alloc, "pics"));
-    made(rt, alloc, stored, put(rt, alloc, "pics"));
-    made(rt, alloc, stored, create(rt, alloc, "other"));
-    made(rt, alloc, stored, create(rt, alloc, "gone"));
-    made(rt, alloc, stored, delete(rt, alloc, "gone"));
-}
-
-fn is_full(rt: &impl Abort, alloc: Global, stored: &StoredRows) {
-    assert_eq!(rt; look(rt, alloc, stored, "pics"), Seen::Blob(3, 5));
-    assert_eq!(rt; look(rt, alloc, stored, "other"), Seen::Empty(1));
-    assert_eq!(rt; look(rt, alloc, stored, "gone"), Seen::Deleted(2));
 }
 
 // Fills the rows, and begins a sweep: each node is asked for the log and for the data.
