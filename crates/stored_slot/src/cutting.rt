@@ -78,6 +78,7 @@ fn cut_with<H: Histories, W: Wire>(
                 stored: upper,
                 pairs,
                 doubt: None,
+                unknown: None,
             };
             Ok(StoredSlot { parts })
         }

@@ -16,6 +16,7 @@ mod serving;
 mod settling;
 mod steady;
 mod stored_slot;
+mod unknown_reply;
 
 pub use auditing::Audited;
 pub use laws::{

@@ -72,6 +72,7 @@ impl<H: Histories> StoredSlot<H> {
             stored: rows,
             pairs,
             doubt: None,
+            unknown: None,
         };
         Self { parts }
     }
