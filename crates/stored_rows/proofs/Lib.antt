@@ -4,6 +4,7 @@ pub mod CompactionLemmas
 pub mod CountLemmas
 pub mod CutLemmas
 pub mod FittingLemmas
+pub mod HeardLemmas
 pub mod KeptAsLemmas
 pub mod KnownLemmas
 pub mod LawLemmas

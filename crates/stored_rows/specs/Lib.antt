@@ -3,6 +3,7 @@ pub mod Compactions
 pub mod Counting
 pub mod Faults
 pub mod Fitting
+pub mod Heard
 pub mod Loaded
 pub mod Logging
 pub mod Noting

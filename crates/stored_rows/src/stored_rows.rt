@@ -88,6 +88,7 @@ impl StoredRows {
     ghost use Rattle.range_rows.specs.SentContent.{AreShort, bytes_sent, is_within, span_bytes, with_content};
     ghost use Rattle.tickets.specs.Answers.{IsAnswerIf, IsSpanStored, are_in_last};
     ghost use Rattle.stored_rows.specs.Counting.{FailsStored, FailsTake};
+    ghost use Rattle.stored_rows.specs.Heard.{HearsStored, HearsTake};
     ghost use Rattle.stored_rows.specs.Loaded.{AreRowsOf};
     ghost use Rattle.stored_rows.specs.Ranges.{covers};
     ghost use Rattle.stored_rows.specs.States.{AreFoundIn, IsHalf, SettlesRows, IsTaken, MeansTheSame, bytes_of, doubt_of, pieces_of};
@@ -282,6 +283,7 @@ impl StoredRows {
         ensures taken { IsTaken result self.old (change, epoch) self.new }
         ensures limits { HaveSameLimits self.old.streams self.new.streams }
         ensures counted { FailsTake result (W.faults wire.old) (W.faults wire.new) }
+        ensures heard { HearsTake result (W.calls wire.old) (W.calls wire.new) (W.faults wire.old) (W.faults wire.new) }
     {
         keep_sweep(&mut self.sweep, &self.rows, &change);
         let logged = put_and_log(&mut self.streams, change, epoch, written, wire);
@@ -323,6 +325,7 @@ impl StoredRows {
         ensures taken { IsTaken result self.old (change, epoch) self.new }
         ensures limits { HaveSameLimits self.old.streams self.new.streams }
         ensures counted { FailsTake result (W.faults wire.old) (W.faults wire.new) }
+        ensures heard { HearsTake result (W.calls wire.old) (W.calls wire.new) (W.faults wire.old) (W.faults wire.new) }
     {
         let (blocks, weight) = match found {
             Some(FoundForChange { blocks, weight }) => (Some(blocks), weight),
@@ -356,6 +359,7 @@ impl StoredRows {
         ensures taken { IsTaken result self.old (change, epoch) self.new }
         ensures limits { HaveSameLimits self.old.streams self.new.streams }
         ensures counted { FailsTake result (W.faults wire.old) (W.faults wire.new) }
+        ensures heard { HearsTake result (W.calls wire.old) (W.calls wire.new) (W.faults wire.old) (W.faults wire.new) }
     {
         let found = match found {
             Some(found) => Some(found),
@@ -368,10 +372,12 @@ impl StoredRows {
     ///
     /// After a fault they are not loaded, as before. Busy: each node with a copy of some extent was asked, and answered no. NoMemory: memory
     /// ran out for the rows.
+    #[tactic(auto, using(extent_seal::proofs::HeardLemmas::heard_none))]
     pub fn load<W: Wire>(&mut self, wire: &mut W) -> Result<(), StoredFault>
         ensures loaded { OnOk result (self.new ≡ record self.old { is_loaded = true }) }
         ensures refused { OnErr result (self.new ≡ self.old) }
         ensures counted { FailsStored result (W.faults wire.old) (W.faults wire.new) }
+        ensures heard { HearsStored result (W.calls wire.old) (W.calls wire.new) (W.faults wire.old) (W.faults wire.new) }
         ensures unheard { self.old.is_loaded ≡ true → wire.new ≡ wire.old }
     {
         if self.rows.is_some() {
@@ -402,6 +408,7 @@ impl StoredRows {
         ensures limits { HaveSameLimits self.old.streams self.new.streams }
         ensures data { self.new.streams.blobs ≡ self.old.streams.blobs }
         ensures counted { FailsStored result (W.faults wire.old) (W.faults wire.new) }
+        ensures heard { HearsStored result (W.calls wire.old) (W.calls wire.new) (W.faults wire.old) (W.faults wire.new) }
     {
         self.streams.kept();
         let settled = self.streams.settle(wire);

@@ -2,8 +2,10 @@ use Rattle.std.proofs.Common.{Result, sym, subst}
 use Rattle.std.specs.Option.{is_some}
 use Rattle.stream_manager.specs.declared.faults.StoredFault.{StoredFault}
 use Rattle.stored_rows.specs.Counting.{FailsStored}
+use Rattle.stored_rows.specs.Heard.{HearsStored}
 use Rattle.stored_rows.specs.States.{SettlesRows, Stored}
 use Rattle.stored_rows.specs.declared.faults.Ended.{Ended}
+use Rattle.stored_rows.proofs.HeardLemmas.{hears_ended}
 use Rattle.stored_rows.proofs.LimitLemmas.{limit_kept, settled_limits}
 use Rattle.stored_rows.proofs.NotedLemmas.{settled_fails, settled_fits, settled_loaded, settled_rows}
 use Rattle.stored_rows.proofs.SweepCallLemmas.{settled_swept}
@@ -38,3 +40,8 @@ pub returns-clause-counted : goal.returns-clause-counted
 returns-clause-counted g c =
     subst (λ (r : Result Ended StoredFault). FailsStored r (g.W.Wire.faults c.args.wire.now) (g.W.Wire.faults c.settle-settled.new.wire)) (sym c.note_settled.ensures.answer)
     (settled_fails c.settle-settled.result (g.W.Wire.faults c.args.wire.now) (g.W.Wire.faults c.settle-settled.new.wire) c.settle-settled.ensures.counted)
+
+pub returns-clause-heard : goal.returns-clause-heard
+returns-clause-heard g c =
+    subst (λ (r : Result Ended StoredFault). HearsStored r (g.W.Wire.calls c.args.wire.now) (g.W.Wire.calls c.settle-settled.new.wire) (g.W.Wire.faults c.args.wire.now) (g.W.Wire.faults c.settle-settled.new.wire)) (sym c.note_settled.ensures.answer)
+    (hears_ended c.settle-settled.result (g.W.Wire.calls c.args.wire.now) (g.W.Wire.calls c.settle-settled.new.wire) (g.W.Wire.faults c.args.wire.now) (g.W.Wire.faults c.settle-settled.new.wire) c.settle-settled.ensures.heard)

@@ -6,10 +6,12 @@ use Rattle.partition_stream.specs.declared.faults.TakeFault.{TakeFault}
 use Rattle.row_trees.specs.ListedBlocks.{AreFoundFor}
 use Rattle.stored_rows.specs.Counting.{FailsTake}
 use Rattle.stored_rows.specs.Fitting.{Fits}
+use Rattle.stored_rows.specs.Heard.{HearsTake}
 use Rattle.stored_rows.specs.Ranges.{covers}
 use Rattle.stored_rows.specs.Swept.{AreSwept}
 use Rattle.stored_rows.specs.declared.sweep.Sweep.{Sweep}
 use Rattle.stored_rows.specs.States.{AreFoundIn, IsTaken, Stored, doubt_of, pieces_of}
+use Rattle.stored_rows.proofs.HeardLemmas.{hears_taken}
 use Rattle.stored_rows.proofs.LimitLemmas.{limit_kept}
 use Rattle.stored_rows.proofs.NotedLemmas.{logged_fits, logged_found, noted_fails, noted_loaded, noted_taken}
 use Rattle.stored_rows.proofs.SweepCallLemmas.{logged_swept}
@@ -60,3 +62,8 @@ pub returns-clause-counted : goal.returns-clause-counted
 returns-clause-counted g c =
     subst (λ (r : Result (Unit {0}) TakeFault). FailsTake r (g.W.Wire.faults c.args.wire.now) (g.W.Wire.faults c.put_and_log-logged.new.wire)) (sym c.note.ensures.answer)
     (noted_fails c.put_and_log-logged.result (g.W.Wire.faults c.args.wire.now) (g.W.Wire.faults c.put_and_log-logged.new.wire) c.put_and_log-logged.ensures.counted)
+
+pub returns-clause-heard : goal.returns-clause-heard
+returns-clause-heard g c =
+    subst (λ (r : Result (Unit {0}) TakeFault). HearsTake r (g.W.Wire.calls c.args.wire.now) (g.W.Wire.calls c.put_and_log-logged.new.wire) (g.W.Wire.faults c.args.wire.now) (g.W.Wire.faults c.put_and_log-logged.new.wire)) (sym c.note.ensures.answer)
+    (hears_taken c.put_and_log-logged.result (g.W.Wire.calls c.args.wire.now) (g.W.Wire.calls c.put_and_log-logged.new.wire) (g.W.Wire.faults c.args.wire.now) (g.W.Wire.faults c.put_and_log-logged.new.wire) c.put_and_log-logged.ensures.heard)
