@@ -147,7 +147,7 @@ impl Parts {
     }
 
     // Tries the block, and once more on a new extent if it is excluded. Takes no memory.
-    #[tactic(auto, using(crate::proofs::SizeLemmas::first_within, crate::proofs::CountLemmas::one_more_bound, extent_seal::proofs::HeardLemmas::heard_then))]
+    #[tactic(auto, using(crate::proofs::SizeLemmas::first_within, crate::proofs::CountLemmas::one_more_bound))]
     fn put<W: Wire>(
         &mut self,
         block: BlockOwners,
@@ -242,7 +242,7 @@ impl Parts {
     }
 
     /// Appends the block, after a doubt is settled. All memory that this may need is taken before a node is called.
-    #[tactic(auto, using(crate::proofs::CountLemmas::one_more_bound, extent_seal::proofs::HeardLemmas::heard_none, extent_seal::proofs::HeardLemmas::heard_then))]
+    #[tactic(auto, using(crate::proofs::CountLemmas::one_more_bound, extent_seal::proofs::HeardLemmas::heard_none))]
     pub fn append<W: Wire>(&mut self, block: &Share, wire: &mut W) -> Result<Place, AppendFault>
         requires whole { IsWhole self.old }
         ensures appended { IsAppend result (extents_of self.old) self.old.last.extent block.now
@@ -329,7 +329,6 @@ impl Parts {
     }
 
     /// Seals the last extent if it holds a block or a doubt.
-    #[tactic(auto, using(extent_seal::proofs::HeardLemmas::heard_none))]
     pub fn seal<W: Wire>(&mut self, wire: &mut W) -> Result<(), StoredFault>
         requires whole { IsWhole self.old }
         ensures sealed { IsSealed result (extents_of self.old) self.old.last.extent
