@@ -1,9 +1,9 @@
 -- Asks of which enough were answered, one after the other.
-use Rattle.std.proofs.Common.{◌≡◌, ◌≤◌, ◌⊎◌, ℕ, zero, suc, ◌+◌, ◌*◌, Bool, true, false, inl, inr, refl, sym, ◌∙◌, ap, arith}
+use Rattle.std.proofs.Common.{◌≡◌, ◌≤◌, ◌<◌, ◌⊎◌, min, ℕ, zero, suc, ◌+◌, ◌*◌, Bool, true, false, inl, inr, refl, sym, ◌∙◌, ap, arith}
 use Rattle.extent_node.specs.Faults.{Calls, Counts, CountsNone, fault_unless, one_more}
-use Rattle.extent_seal.specs.Counting.{AsksEach, CountsAppend, FailsUnless, PutsEach, asked_if, fault_if}
+use Rattle.extent_seal.specs.Counting.{AsksEach, CountsAppend, FailsEach, FailsUnless, PutsEach, asked_if, fault_if}
 use Rattle.extent_seal.specs.Extents.{Closed, Open, Three}
-use Rattle.extent_seal.specs.Heard.{AsksAreHeard, TellsAsks, TellsOne}
+use Rattle.extent_seal.specs.Heard.{AsksAreHeard, CanCount, TellsAsks, TellsOne}
 use Rattle.extent_seal.specs.Repairs.{FirstAnswers, calls_more}
 use Rattle.extent_seal.specs.Seals.{Seals}
 use Rattle.extent_seal.specs.declared.open_extent.Appended.{Appended}
@@ -157,3 +157,27 @@ heard_first kept a b f g (inr (inr p)) = record {
   };
   enough = omega (arith, vain_bound kept.zero, vain_bound kept.one);
 }
+
+-- ---- asks that no node answered
+
+-- as far as a wire can count, a number of calls is added
+counted_calls : (k n : ℕ) → n ≤ 340_282_366_920_938_463_463_374_607_431_768_211_455
+    → calls_more k n ≡ min (n + k) 340_282_366_920_938_463_463_374_607_431_768_211_455
+unfolding calls_more one_more
+counted_calls zero n within = omega arith
+counted_calls (suc k) n within = let before = counted_calls k n within in omega arith
+
+-- one ask of a node that answered no: no ask was answered yes
+vain_one : (answered unanswered a b f g : ℕ) → a + 1 < 340_282_366_920_938_463_463_374_607_431_768_211_455
+    → TellsOne answered unanswered a b f g → b ≡ one_more a → g ≡ f + 1 → (answered ≡ 0) × (unanswered ≡ 1)
+unfolding one_more
+vain_one answered unanswered a b f g less told asked failed =
+    let calls = counted_calls (answered + unanswered) a (omega arith) in
+    (omega (arith, told.0, told.1, asked, failed, calls), omega (arith, told.1, failed))
+
+pub not_heard : (a b f g : Calls) → CanCount a.asks → AsksEach a b → FailsEach f g → AsksAreHeard a b f g → ⊥
+not_heard a b f g less asked failed heard =
+    let zero_one = vain_one heard.answered.zero heard.unanswered.zero a.asks.zero b.asks.zero f.asks.zero g.asks.zero less.0 heard.told.zero_told asked.1.0 failed.1 in
+    let one_one = vain_one heard.answered.one heard.unanswered.one a.asks.one b.asks.one f.asks.one g.asks.one less.1 heard.told.one_told asked.1.1 failed.2 in
+    let two_one = vain_one heard.answered.two heard.unanswered.two a.asks.two b.asks.two f.asks.two g.asks.two less.2 heard.told.two_told asked.1.2 failed.3 in
+    absurd (omega (arith, heard.enough, zero_one.0, zero_one.1, one_one.0, one_one.1, two_one.0, two_one.1))

@@ -1,5 +1,5 @@
 -- Asks of which enough were answered: nothing was given up because no node answered (SOSP 2011, section 4.3.2).
-use Rattle.std.specs.Prelude.{◌≡◌, ◌≤◌, ℕ, ◌+◌, ◌*◌}
+use Rattle.std.specs.Prelude.{◌≡◌, ◌≤◌, ◌<◌, ℕ, ◌+◌, ◌*◌}
 use Rattle.extent_node.specs.Faults.{Calls, Counts}
 use Rattle.extent_seal.specs.Counting.{all_nodes}
 use Rattle.extent_seal.specs.Repairs.{calls_more}
@@ -20,3 +20,8 @@ pub record AsksAreHeard (old new failed_old failed_new : Calls) : Type 0 where
   pub unanswered : Counts
   pub told : TellsAsks answered unanswered old.asks new.asks failed_old.asks failed_new.asks
   pub enough : all_nodes unanswered ≤ 2 * all_nodes answered
+
+-- the wire has counted fewer calls of each node than it can count, by two at least
+abbrev pub CanCount : Counts → Type 0
+CanCount c = (c.zero + 1 < 340_282_366_920_938_463_463_374_607_431_768_211_455)
+    × (c.one + 1 < 340_282_366_920_938_463_463_374_607_431_768_211_455) × (c.two + 1 < 340_282_366_920_938_463_463_374_607_431_768_211_455)
