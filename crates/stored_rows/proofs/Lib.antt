@@ -2,6 +2,8 @@ pub mod AreSweptLemmas
 pub mod CheckpointLemmas
 pub mod CompactionLemmas
 pub mod CountLemmas
+pub mod CursorLemmas
+pub mod CursorMoves
 pub mod CutLemmas
 pub mod FittingLemmas
 pub mod HeardLemmas
@@ -11,11 +13,17 @@ pub mod LawLemmas
 pub mod LimitLemmas
 pub mod LoadLemmas
 pub mod LoggingLemmas
+pub mod NextRowLemmas
 pub mod NotedLemmas
 pub mod ReadLemmas
 pub mod RepairLemmas
 pub mod RowAgainLemmas
+pub mod RowDoubtLemmas
+pub mod RowWriteLemmas
+pub mod StepLemmas
+pub mod SteppedLemmas
 pub mod SweepCallLemmas
 pub mod SweepEndLemmas
 pub mod SweptLemmas
 pub mod TakeLemmas
+pub mod TouchLemmas

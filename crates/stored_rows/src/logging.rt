@@ -15,6 +15,7 @@ ghost use Rattle.partition_stream.specs.Written.{written_len};
 ghost use Rattle.stored_rows.specs.Counting.{FailsLogged};
 ghost use Rattle.stored_rows.specs.Faults.{unlogged_by, unlogged_of_put};
 ghost use Rattle.stored_rows.specs.Heard.{HearsLogged};
+ghost use Rattle.stored_rows.specs.Rewriting.{IfLogged};
 ghost use Rattle.stored_rows.specs.Logging.{IsLoggedFrom, IsPutAt, IsPutAndLogged, KeepsFound, with_placed};
 
 use extent_node::Wire;
@@ -117,6 +118,7 @@ pub(crate) fn put_and_log<W: Wire>(
     requires sure { (logged streams.old).doubt ≡ None }
     ensures logged { IsPutAndLogged result streams.old (change, epoch) streams.new }
     ensures found { IfOk result (λ kept. KeepsFound change kept) }
+    ensures plain_kept { IfLogged result (λ kept. is_row kept.act ≡ false) }
     ensures length { IfOk result (λ kept. written.new ≡ written_len (kept, epoch)) }
     ensures unwritten { OnErr result (written.new ≡ written.old) }
     ensures counted { FailsLogged result (W.faults wire.old) (W.faults wire.new) }

@@ -15,6 +15,7 @@ invariant_of-self g c =
           c.rows_of-made.ensures.loaded c.note_loaded-loaded.ensures.noted;
       limits = c.self.invariant.limits;
       swept = c.self.invariant.swept;
+      again = c.self.invariant.again;
     }
 
 pub returns-clause-counted : goal.returns-clause-counted

@@ -15,6 +15,7 @@ use Rattle.stored_rows.proofs.HeardLemmas.{hears_taken}
 use Rattle.stored_rows.proofs.LimitLemmas.{limit_kept}
 use Rattle.stored_rows.proofs.NotedLemmas.{logged_fits, logged_found, noted_fails, noted_loaded, noted_taken}
 use Rattle.stored_rows.proofs.SweepCallLemmas.{logged_swept}
+use Rattle.stored_rows.proofs.RowDoubtLemmas.{taken_again}
 use Rattle.stored_rows.proofs.stored_rows.StoredRows.take_change.Goals as goal
 
 pub note-requires-clause-fits : goal.note-requires-clause-fits
@@ -47,6 +48,8 @@ invariant_of-self g c =
           (logged_swept c.put_and_log-logged.result c.self.inside.streams c.put_and_log-logged.new.streams (c.args.change, c.args.epoch) c.self.inside.range c.self.inside.sweep c.self.inside.rows
           c.self.invariant.swept c.self.invariant.loaded.rows c.put_and_log-logged.ensures.whole covered c.requires.plain own c.put_and_log-logged.ensures.logged c.put_and_log-logged.ensures.from
           c.put_and_log-logged.ensures.log_follows c.put_and_log-logged.ensures.blobs_follow);
+      again = taken_again c.put_and_log-logged.result c.self.inside.streams c.put_and_log-logged.new.streams (c.args.change, c.args.epoch) c.self.inside.spare c.put_and_log-logged.ensures.logged
+          c.put_and_log-logged.ensures.plain_kept;
     }
 
 pub returns-clause-taken : goal.returns-clause-taken
