@@ -41,3 +41,9 @@ returns-in_err-at-clause-follows g c = twice_on (laid c.args.blobs.now) (laid c.
 
 pub returns-in_err-push-clause-follows : goal.returns-in_err-push-clause-follows
 returns-in_err-push-clause-follows g c = twice_on (laid c.args.blobs.now) (laid c.loop-piece.blobs) (laid c.put_piece.new.blobs) c.loop-piece.invariant.follows c.put_piece.ensures.follows
+
+pub returns-in_err-push-clause-heard : goal.returns-in_err-push-clause-heard
+returns-in_err-push-clause-heard g c = λ _.
+    heard_then (g.W.Wire.calls c.args.wire.now) (g.W.Wire.calls c.loop-piece.wire) (g.W.Wire.calls c.put_piece.new.wire)
+    (g.W.Wire.faults c.args.wire.now) (g.W.Wire.faults c.loop-piece.wire) (g.W.Wire.faults c.put_piece.new.wire)
+    c.loop-piece.invariant.heard (c.put_piece.ensures.heard (λ e. absurd (search rules)))
