@@ -1,5 +1,4 @@
 pub mod Dates
-pub mod KeyRoute
 pub mod Needs
 pub mod Openings
 pub mod Parts

@@ -64,24 +64,15 @@ fn answer_steadily(
 }
 
 // Compacts the first slot of which little is left to which something refers, if there is one, over nodes in memory, and drops what was replaced.
+// What a compaction gives is large, so it is not even made as None if nothing is to be compacted.
 //
-// Nothing that a request is answered changes, also if memory runs out for it. This function is not inlined: what a compaction gives is large, and a
-// caller would write its zeros for each request.
-#[inline(never)]
-fn compact_now(core: &mut Core<ProvedHistories>, wire: &mut Steady, alloc: Global)
-    requires calm { IsCalm core.old }
-    ensures { core.new ≡ core.old }
-{
-    drop(core.compact_wasteful(alloc, wire));
-}
-
-// The same, if a slot is to be compacted.
+// Nothing that a request is answered changes, also if memory runs out for it.
 fn compact_if_wasteful(core: &mut Core<ProvedHistories>, wire: &mut Steady, alloc: Global)
     requires calm { IsCalm core.old }
     ensures { core.new ≡ core.old }
 {
     if core.is_wasteful() {
-        compact_now(core, wire, alloc);
+        drop(core.compact_wasteful(alloc, wire));
     }
 }
 

@@ -106,7 +106,7 @@ new_row_step None p a name is = λ h. elim (got_after no_news (p.count + 1) a p 
 ]
 
 -- after an act the row of the container is new
-pub begun_next : (o : Option News) (a : Act) (p : Part (List Piece)) → IsBegun (next_news o a) p
+begun_next : (o : Option News) (a : Act) (p : Part (List Piece)) → IsBegun (next_news o a) p
 begun_next (Some news) a p = tt
 begun_next None a p = tt
 
@@ -157,7 +157,7 @@ known_same c names news inside half s t held within known = record {
 
 -- ---- a change that may be logged
 
-pub none_of : {X : Type 0} (o : Option X) → is_none o ≡ true → o ≡ None
+none_of : {X : Type 0} (o : Option X) → is_none o ≡ true → o ≡ None
 none_of None h = refl
 none_of (Some x) h = cc
 

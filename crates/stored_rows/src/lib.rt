@@ -9,17 +9,12 @@ mod key_range;
 mod laws;
 mod loading;
 mod logging;
-mod next_row;
 mod noting;
 mod record_len;
 mod repaired;
-mod rewriting;
-mod row_doubt;
 mod sealed;
-mod step;
 mod stored_rows;
 mod sweep;
-mod sweep_steps;
 mod unloaded;
 mod waste;
 
@@ -34,7 +29,6 @@ pub use laws::{
 pub use partition_stream::TakeFault;
 pub use repaired::{NoExtent, Repaired, Unrepaired};
 pub use sealed::AllSealed;
-pub use step::{Progress, StepLimit};
 pub use stored_rows::{StoredRows, SweptAway};
 pub use stream_manager::StoredFault;
 pub use unloaded::Unloaded;

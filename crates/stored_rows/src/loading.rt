@@ -1,7 +1,6 @@
 //! Rows that are made of the changes that streams keep.
 ghost use Rattle.std.specs.Prelude.{◌≡◌, ◌≢◌, ◌<◌, Err, IfOk, IfSome, IsTrue, Ok, OnOk, false, true};
 ghost use Rattle.extent_seal.specs.Counting.{Grows, all_faults};
-ghost use Rattle.extent_seal.specs.Heard.{AsksAreHeard};
 ghost use Rattle.extent_seal.specs.declared.sealed.ReadFault.TheVariants.{Unreachable};
 ghost use Rattle.stamp_types.specs.Pieces.{pieces_len};
 ghost use Rattle.stamp_types.specs.World.{changed_in, part_at, part_value, same_pieces};
@@ -52,7 +51,6 @@ fn make_next<W: Wire>(
     ensures ended { result ≡ Ok false → changes_left streams.now position.new ≡ 0 }
     ensures unreachable { result ≡ Err Unreachable → all_faults (W.faults wire.old) < all_faults (W.faults wire.new) }
     ensures grown { Grows (W.faults wire.old) (W.faults wire.new) }
-    ensures heard { result ≢ Err Unreachable → AsksAreHeard (W.calls wire.old) (W.calls wire.new) (W.faults wire.old) (W.faults wire.new) }
 {
     let Some((change, _epoch)) = streams.next_change(position, wire)? else {
         return Ok(false);
@@ -64,7 +62,6 @@ fn make_next<W: Wire>(
 /// Rows that have all changes of the streams, in their order, but only those of the range.
 ///
 /// Unreachable: each node with a copy of some extent was asked, and answered no.
-#[tactic(auto, using(extent_seal::proofs::HeardLemmas::heard_then))]
 pub(crate) fn rows_of<W: Wire>(
     alloc: Global,
     streams: &Streams,
@@ -75,7 +72,6 @@ pub(crate) fn rows_of<W: Wire>(
     ensures loaded { IfOk result (λ w. AreRowsOf range.now streams.now w) }
     ensures unreachable { result ≡ Err Unreachable → all_faults (W.faults wire.old) < all_faults (W.faults wire.new) }
     ensures grown { Grows (W.faults wire.old) (W.faults wire.new) }
-    ensures heard { result ≢ Err Unreachable → AsksAreHeard (W.calls wire.old) (W.calls wire.new) (W.faults wire.old) (W.faults wire.new) }
 {
     let mut rows = Rows::new(alloc);
     let mut position = Position::first();

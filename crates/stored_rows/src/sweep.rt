@@ -1,10 +1,9 @@
 //! A sweep of rows that is under way: where it began, how far it has come, and the rows that it has written beyond.
-ghost use Rattle.std.specs.Prelude.{◌≡◌, ◌||◌, MatchOption, None, OnErr, OnOk, false};
+ghost use Rattle.std.specs.Prelude.{◌≡◌, ◌||◌, MatchOption, None, false};
 ghost use Rattle.std.specs.FinMap as finite;
-ghost use Rattle.std.specs.Option.{option_copied};
 ghost use Rattle.block_blobs.specs.StoredRows.{is_left};
 ghost use Rattle.stamp_types.specs.World.{blob_in};
-ghost use Rattle.stored_rows.specs.Swept.{IsOver, is_end, is_over, is_touched, is_touched_blob, is_unseen, kept_sweep, knows_blob, knows_name, knows_read, knows_row, may_log, read_by, with_blob_row, with_container};
+ghost use Rattle.stored_rows.specs.Swept.{IsOver, is_end, is_over, is_touched, is_touched_blob, is_unseen, kept_sweep, knows_blob, knows_name, knows_read, knows_row, may_log};
 ghost use Rattle.stored_rows.specs.declared.cursor.Cursor.TheVariants as cursor;
 
 use crate::cursor::Cursor;
@@ -58,10 +57,7 @@ impl Sweep {
     /// Notes that the own row of a container was written.
     ///
     /// `AllocError` if memory runs out. It is then not noted.
-    pub(crate) fn note_container(&mut self, alloc: Global, key: &Key) -> Result<(), AllocError>
-        ensures noted { OnOk result (self.new ≡ with_container self.old key.now) }
-        ensures refused { OnErr result (self.new ≡ self.old) }
-    {
+    pub(crate) fn note_container(&mut self, alloc: Global, key: &Key) -> Result<(), AllocError> {
         if self.is_touched(key) {
             return Ok(());
         }
@@ -70,20 +66,7 @@ impl Sweep {
         Ok(())
     }
 
-    // Notes that the row of a blob was written, in a container that was not touched.
-    fn note_first(&mut self, alloc: Global, key: &Key, name: Bytes) -> Result<(), AllocError>
-        requires { finite.get self.old.touched key.now ≡ None }
-        ensures noted { OnOk result (self.new ≡ with_blob_row self.old key.now name) }
-        ensures refused { OnErr result (self.new ≡ self.old) }
-    {
-        let mut names = Named::new(alloc);
-        names.insert(name, Written {})?;
-        let key = key.clone()?;
-        self.touched.insert(key, names)?;
-        Ok(())
-    }
-
-    /// Notes that the row of a blob was written.
+    /// Notes that the row of a blob was written, in a container whose own row was written.
     ///
     /// `AllocError` if memory runs out. It is then not noted.
     pub(crate) fn note_blob(
@@ -91,17 +74,20 @@ impl Sweep {
         alloc: Global,
         key: &Key,
         name: &Text,
-    ) -> Result<(), AllocError>
-        ensures noted { OnOk result (self.new ≡ with_blob_row self.old key.now name.now) }
-        ensures refused { OnErr result (self.new ≡ self.old) }
-    {
+    ) -> Result<(), AllocError> {
         let bytes = Bytes::new(name.as_str().as_bytes().to_vec(alloc)?);
         match self.touched.get_mut(key) {
             Some(names) => {
                 names.insert(bytes, Written {})?;
                 Ok(())
             }
-            None => self.note_first(alloc, key, bytes),
+            None => {
+                let mut names = Named::new(alloc);
+                names.insert(bytes, Written {})?;
+                let key = key.clone()?;
+                self.touched.insert(key, names)?;
+                Ok(())
+            }
         }
     }
 
@@ -171,9 +157,7 @@ impl Sweep {
 }
 
 /// The name of the blob that an act reads, if it reads one.
-pub(crate) fn read_name(act: &Act) -> Option<&Text>
-    ensures { option_copied result ≡ read_by act.now }
-{
+pub(crate) fn read_name(act: &Act) -> Option<&Text> {
     match act {
         Act::SetMetadata(set) => Some(&set.blob),
         Act::PutBlock(put) => Some(&put.blob),

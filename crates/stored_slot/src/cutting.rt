@@ -78,7 +78,6 @@ fn cut_with<H: Histories, W: Wire>(
                 stored: upper,
                 pairs,
                 doubt: None,
-                unknown: None,
             };
             Ok(StoredSlot { parts })
         }

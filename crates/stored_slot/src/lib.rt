@@ -16,7 +16,6 @@ mod serving;
 mod settling;
 mod steady;
 mod stored_slot;
-mod unknown_reply;
 
 pub use auditing::Audited;
 pub use laws::{

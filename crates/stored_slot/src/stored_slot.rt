@@ -72,7 +72,6 @@ impl<H: Histories> StoredSlot<H> {
             stored: rows,
             pairs,
             doubt: None,
-            unknown: None,
         };
         Self { parts }
     }

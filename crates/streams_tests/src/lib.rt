@@ -67,8 +67,6 @@ mod stored_list_tests;
 #[cfg(test)]
 mod stored_samples;
 #[cfg(test)]
-mod stored_step_tests;
-#[cfg(test)]
 mod stored_sweep_tests;
 #[cfg(test)]
 mod stored_tests;

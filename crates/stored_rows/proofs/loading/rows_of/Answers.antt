@@ -1,5 +1,4 @@
 use Rattle.std.proofs.Common.{◌≡◌, Ok, false, refl}
-use Rattle.extent_seal.proofs.HeardLemmas.{heard_none}
 use Rattle.stored_rows.proofs.CountLemmas.{grows_not}
 use Rattle.stored_rows.proofs.LoadLemmas.{none_read, read_all}
 use Rattle.stored_rows.proofs.loading.rows_of.Goals as goal
@@ -8,7 +7,6 @@ pub changes-init : goal.changes-init
 changes-init g c = record {
   read = none_read c.args.streams.now c.args.range.now c.first-position.result c.new-rows.result c.new-rows.ensures (c.first-position.ensures c.args.streams.now);
   grown = grows_not _ _ refl;
-  heard = heard_none _ _;
 }
 
 pub returns-clause-loaded : goal.returns-clause-loaded

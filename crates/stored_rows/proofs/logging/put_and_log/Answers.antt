@@ -1,6 +1,5 @@
-use Rattle.std.proofs.Common.{◌≡◌, Err, ap, false, length, refl, sym, subst}
-use Rattle.stamp_types.specs.ActKinds.{is_row}
-use Rattle.stamp_types.specs.Changes.{KeyedAct, content_of}
+use Rattle.std.proofs.Common.{Err, ap, length, refl, sym, subst}
+use Rattle.stamp_types.specs.Changes.{content_of}
 use Rattle.stream_manager.specs.Streams.{laid}
 use Rattle.stored_rows.specs.Logging.{IsKeptFrom, IsLoggedFrom, IsPutAndLogged, KeepsFound}
 use Rattle.stored_rows.specs.States.{IsKeptAs}
@@ -8,8 +7,6 @@ use Rattle.stored_rows.specs.Counting.{FailsLogged}
 use Rattle.stored_rows.proofs.CountLemmas.{grows_twice, log_fails}
 use Rattle.stored_rows.proofs.KeptAsLemmas.{kept_as_put, placed_found}
 use Rattle.stored_rows.proofs.LoggingLemmas.{logged_more, logged_refused}
-use Rattle.stored_rows.specs.Rewriting.{IfLogged}
-use Rattle.stored_rows.proofs.RowDoubtLemmas.{placed_plain, unlogged_plain}
 use Rattle.stored_rows.proofs.SweepCallLemmas.{kept_from, refused_from, same_on}
 use Rattle.stored_rows.proofs.logging.put_and_log.Goals as goal
 
@@ -64,13 +61,3 @@ returns-in-Err-log_change-clause-counted g c =
 
 pub returns-in-Err-clause-log_follows : goal.returns-in-Err-clause-log_follows
 returns-in-Err-clause-log_follows g c = same_on c.args.streams.now.log c.put_pieces.new.streams.log (ap laid c.put_pieces.ensures.log)
-
-pub returns-in-Ok-log_change-clause-plain_kept : goal.returns-in-Ok-log_change-clause-plain_kept
-returns-in-Ok-log_change-clause-plain_kept g c =
-    subst (λ (d : KeyedAct). is_row d.act ≡ false) (sym c.with_pieces-kept.ensures) (placed_plain c.args.change c.in-Ok.pieces c.requires.plain)
-
-pub returns-in-Err-log_change-clause-plain_kept : goal.returns-in-Err-log_change-clause-plain_kept
-returns-in-Err-log_change-clause-plain_kept g c =
-    subst (λ e. IfLogged (Err e) (λ d. is_row d.act ≡ false)) (sym c.not_logged.ensures)
-    (unlogged_plain c.in-Err-log_change.fault c.with_pieces-kept.result
-    (subst (λ (d : KeyedAct). is_row d.act ≡ false) (sym c.with_pieces-kept.ensures) (placed_plain c.args.change c.in-Ok.pieces c.requires.plain)))

@@ -11,7 +11,6 @@ use Rattle.stored_rows.specs.declared.sweep.Sweep.{Sweep}
 use Rattle.stored_rows.proofs.CompactionLemmas.{moved_fails, moved_loaded, moved_means, moved_old, moved_same}
 use Rattle.stored_rows.proofs.LimitLemmas.{moved_limit}
 use Rattle.stored_rows.proofs.NotedLemmas.{stored_at}
-use Rattle.stored_rows.proofs.RowDoubtLemmas.{no_row}
 use Rattle.stored_rows.proofs.stored_rows.StoredRows.move_content.Goals as goal
 
 pub compact-moved-requires-clause-rows : goal.compact-moved-requires-clause-rows
@@ -25,7 +24,6 @@ invariant_of-self g c =
           none c.compact-moved.ensures.doubt c.compact-moved.ensures.rows c.compact-moved.ensures.log c.compact-moved.ensures.same c.note_moved.ensures.noted;
       limits = moved_limit c.self.inside.extent_bytes c.self.inside.streams c.compact-moved.new.self c.compact-moved.result c.self.invariant.limits c.compact-moved.ensures.limits c.compact-moved.ensures.same;
       swept = subst (λ (v : Option Sweep). IfSome v (λ w. AreSwept w c.self.inside.range c.compact-moved.new.self)) (sym c.end_sweep.ensures) tt;
-      again = no_row c.compact-moved.new.self c.self.inside.spare c.compact-moved.ensures.doubt;
     }
 
 pub returns-clause-moved : goal.returns-clause-moved
