@@ -203,7 +203,7 @@ fn rows_told(unloaded: &Unloaded) -> &'static str {
     }
 }
 
-// What the value says that a care gave.
+// The name of the value that a care gave.
 fn told(given: Result<Tended, Untended>) -> &'static str {
     match given {
         Ok(Tended::Settled) => "settled",
