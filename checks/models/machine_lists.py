@@ -223,11 +223,13 @@ class Run:
         self.lines.call(self.wire, name, words, answer.hex() if is_reply else answer)
         return answer
 
-    def show(self):
-        """Over a wire that is well, each slot is settled, each ticket is fetched, and everything is read."""
+    def show(self, loads=True):
+        """Over a wire that is well, each slot is settled, each ticket is fetched, and everything is read. The slots are loaded for it, if that is wanted."""
         self.wire = Fixed()
         for number in range(len(self.machine.slots)):
             self.step("settle", number)
+            if loads:
+                self.step("unload", number)
         for make in [*all_reads(self.machine.stamp)]:
             self.serve(make)
         for number in range(len(self.machine.tickets)):
@@ -250,12 +252,20 @@ def repair(run, dice):
     return run.step("repair", at, part, dice.randrange(len(getattr(streams, part).sealed) + 1), node)
 
 
-def random_step(run, dice, often=1):
-    """One random step of a list. A checkpoint or a compaction comes so many times as often."""
+def sweep(run, dice):
+    """A step of a sweep, mostly of one that is under way, if there is one."""
+    sweeping = [number for number, it in enumerate(run.machine.slots) if it.sweep]
+    at = dice.choice(sweeping) if sweeping and dice.random() < 0.8 else random_slot(run, dice)
+    return run.step("sweep", at, dice.choice((1, 1, 2, 3)))
+
+
+def random_step(run, dice, sweeps, often=1):
+    """One random step of a list. A checkpoint or a whole sweep comes so many times as often. A core has no step of a part of a sweep."""
     slots = run.machine.slots
     in_doubt, unloaded = any(it.doubt for it in slots), not all(it.is_loaded for it in slots)
     ways = {"serve": 28, "settle": 1 + 3 * in_doubt, "seal": 2, "load": 0.5 + unloaded, "unload": 1.5, "move": 0.7, "repair": 2.5, "split": 1.5}
     ways |= {"checkpoint": often, "compact": 1.5 * often, "fetch": 0.2 + 3 * any(run.machine.tickets), "rotate": 2}
+    ways["sweep"] = sweeps * (2 * often + 5 * any(it.sweep for it in slots))
     way = dice.choices([*ways], [*ways.values()])[0]
     if way == "serve":
         run.serve(Requests(dice, run.machine.stamp).one, dice.random() < 0.1)
@@ -270,45 +280,64 @@ def random_step(run, dice, often=1):
         run.step("move", random_slot(run, dice), dice.randrange(3))
     elif way == "repair":
         repair(run, dice)
+    elif way == "sweep":
+        sweep(run, dice)
     else:
         run.step(way, random_slot(run, dice))
 
 
-def random_run(seed, limits=LIMITS):
-    """The lines of a random list of forty steps, and of what it left. An extent has at most so many bytes as one of the limits says."""
+def fill(run, dice):
+    """Makes some containers with blobs and blocks, over a wire that is well."""
+    wire, run.wire = run.wire, Fixed()
+    for name in dice.sample(CONTAINERS, 3):
+        run.serve(lambda moment: create(name, moment))
+        for it in BLOBS:
+            run.serve(lambda moment: put(name, it, dice.randbytes(dice.choice((1, 80))), moment))
+            for label in dice.sample(IDS, dice.randrange(3)):
+                run.serve(lambda moment: block(name, it, label, dice.randbytes(5), moment))
+    run.wire = wire
+
+
+def random_run(seed, limits=LIMITS, sweeps=True):
+    """The lines of a random list of forty steps, and of what it left. An extent has at most so many bytes as one of the limits says. Half of the lists
+    begin with some containers and blobs."""
     dice, lines = random.Random(f"steps {seed}"), Lines()
     run = Run(lines, Random(dice), dice.choice(limits))
-    while lines.calls < STEPS:
-        random_step(run, dice)
-    run.show()
+    if dice.random() < 0.5:
+        fill(run, dice)
+    begun = lines.calls
+    while lines.calls < begun + STEPS:
+        random_step(run, dice, sweeps)
+    run.show(dice.random() < 0.5)
     return lines
 
 
-def turned_run(seed, wire, limits):
-    """The lines of a short random list that often writes the streams anew, and the letters of the calls of the wire in the list."""
+def turned_run(seed, wire, limits, sweeps):
+    """The lines of a short random list that often writes the rows again, and the letters of the calls of the wire in the list."""
     dice, lines = random.Random(f"turned {seed}"), Lines()
     run = Run(lines, wire, dice.choice(limits))
     run.serve(lambda moment: create("pics", moment))
     run.serve(lambda moment: put("pics", "a", b"hello", moment))
     while lines.calls < SHORT:
-        random_step(run, dice, 5)
+        random_step(run, dice, sweeps, 5)
     calls = "".join(it.rpartition("| ")[2] for it in lines.said.splitlines())
     run.show()
     return lines, calls
 
 
-def turned_runs(seed, limits=LIMITS):
+def turned_runs(seed, limits=LIMITS, sweeps=True):
     """A short random list over a wire that is well, and then with a fault at each of its calls in turn. After the fault the list may go on in
     another way, since what exists may be other things."""
-    clean, calls = turned_run(seed, Fixed(), limits)
+    clean, calls = turned_run(seed, Fixed(), limits, sweeps)
     yield clean
     for at, letter in enumerate(calls):
         for fault in (Wire.REFUSED, Wire.LOST) if letter.islower() else (Wire.REFUSED,):
-            yield turned_run(seed, Fixed(at=at, fault=fault), limits)[0]
+            yield turned_run(seed, Fixed(at=at, fault=fault), limits, sweeps)[0]
 
 
-def script(run):
-    """The steps of one list, and what each was answered: a reply that a ticket holds is fetched at once."""
+def script(run, sweeps):
+    """The steps of one list, and what each was answered: a reply that a ticket holds is fetched at once. If sweeps are wanted, there are steps of
+    sweeps too, with changes between them."""
 
     def serve(make, *words):
         answer = run.serve(lambda moment: make(*words, moment))
@@ -339,23 +368,39 @@ def script(run):
     yield run.step("compact", 0)
     yield serve(delete, "aaa")
     yield read("pics")
+    if not sweeps:
+        return
+    yield serve(create, "zzz")
+    yield serve(block, "zzz", "a", "AAAA", b"one")
+    # The own row of the first container is written. Then a change reads two rows that are not written yet.
+    yield run.step("sweep", 1, 1)
+    yield serve(commit, "zzz", "a", [("Latest", "AAAA")])
+    yield run.step("sweep", 1, 3)
+    yield serve(delete, "pics")
+    yield run.step("sweep", 1, 3)
+    yield read("zzz")
+    # A sweep that a checkpoint ends.
+    yield run.step("sweep", 1, 2)
+    yield run.step("checkpoint", 1)
+    yield run.step("unload", 1)
+    yield read("zzz")
 
 
 @cache
-def clean_answers(limit):
-    return [*script(Run(Lines(), Fixed(), limit))]
+def clean_answers(limit, sweeps):
+    return [*script(Run(Lines(), Fixed(), limit), sweeps)]
 
 
-def fixed_run(wire, limit):
+def fixed_run(wire, limit, sweeps):
     """The lines of one list and of what it left, and the letters of the calls of the wire in the list.
 
     If only one call fails, each answer is as if none failed."""
     lines = Lines()
     run = Run(lines, wire, limit)
-    answers = [*script(run)]
+    answers = [*script(run, sweeps)]
     calls = "".join(it.rpartition("| ")[2] for it in lines.said.splitlines())
     if wire.seed is None and wire.down is None and wire.at is not None:
-        assert answers == clean_answers(limit)
+        assert answers == clean_answers(limit, sweeps)
     run.show()
     return lines, calls
 
@@ -367,7 +412,7 @@ def rule_of(reply):
 
 
 # The requests of worked lists.
-ASKED = {"create": create, "properties": lambda name, moment: request("GET", f"/{name}?restype=container", moment)}
+ASKED = {"create": create, "delete": delete, "properties": lambda name, moment: request("GET", f"/{name}?restype=container", moment)}
 
 
 def worked_run(text, limit):
@@ -378,7 +423,7 @@ def worked_run(text, limit):
         step, answers, wanted = (it.strip() for it in line.split("|"))
         name, *words = step.split()
         run.wire = Fixed()
-        run.wire.list = answers
+        run.wire.list = answers.replace(" ", "")
         if name in ASKED:
             assert rule_of(run.serve(lambda moment: ASKED[name](*words, moment))) == wanted, line
         else:
@@ -387,23 +432,23 @@ def worked_run(text, limit):
     return lines
 
 
-def worked_runs(limit):
+def worked_runs(limit, sweeps):
     text = "\n".join(it for it in DELIVERIES.read_text(encoding="utf-8").splitlines() if not it.startswith("#"))
-    return [worked_run(it, limit) for it in re.split(r"\n\n+", text.strip())]
+    return [worked_run(it, limit) for it in re.split(r"\n\n+", text.strip()) if sweeps or "sweep" not in it]
 
 
-def fault_runs(is_all, limit=170):
+def fault_runs(is_all, limit=170, sweeps=True):
     """The lines of one list, with each fault at each call of the wire, and with each call failing from there on. If all lists are wanted, also over
     a wire that is not well, with one fault less, and with each node down. Before them come the worked lists."""
-    yield from worked_runs(limit)
+    yield from worked_runs(limit, sweeps)
     for base in (Fixed(), Fixed(seed="not well"))[: 1 + is_all]:
-        clean, calls = fixed_run(base.again(), limit)
+        clean, calls = fixed_run(base.again(), limit, sweeps)
         yield clean
         for at, letter in enumerate(calls):
             faults = (Wire.REFUSED, Wire.LOST) if letter.islower() else (Wire.REFUSED,)
             for fault in (*faults, *(Wire.WELL for _ in range(base.seed is not None))):
-                yield fixed_run(base.again(at, fault), limit)[0]
+                yield fixed_run(base.again(at, fault), limit, sweeps)[0]
             for fault in (Wire.REFUSED, Wire.LOST):
-                yield fixed_run(base.again(at, fault, Fixed.ALL), limit)[0]
+                yield fixed_run(base.again(at, fault, Fixed.ALL), limit, sweeps)[0]
             for node in range(3 * is_all):
-                yield fixed_run(base.again(at, down=node), limit)[0]
+                yield fixed_run(base.again(at, down=node), limit, sweeps)[0]

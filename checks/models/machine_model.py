@@ -1,13 +1,13 @@
 """A plain model of slots over streams: what each step answers, which nodes it calls, and what it leaves.
 
 The containers are what the accepted requests make in their order. A slot has three streams, from stream_model.py, and at most one request
-whose change is in doubt. Replies are made by replay_model.py, and the lengths of records by record_model.py. It was written from docs/streams.md and
-docs/theorem.md, and never calls the product.
+whose change is in doubt, or one row that a sweep has written and that is in doubt. Replies are made by replay_model.py, and the lengths of records by
+record_model.py. It was written from docs/streams.md and docs/theorem.md, and never calls the product.
 """
 from head_model import head_end, read_head
 from record_model import blob_row_length, container_row_length, record_length
 from replay_model import Asked, Denial, Stamp, denied_bytes, range_of, reply_bytes, route
-from stream_model import Streams
+from stream_model import Streams, Sweep
 
 ACCOUNT, KEYS = "devstoreaccount1", [b"key1", b"key2"]
 SPANS = 256
@@ -48,10 +48,11 @@ class Logged:
 
 
 class Row:
-    """A row of a checkpoint, as a block: that of a blob, or of a container, which has no content."""
+    """A row of a checkpoint or of a sweep, as a block: that of a blob, or of a container, which has no content. If it is in doubt, it has the pieces
+    that each of its contents has if it is kept."""
 
     def __init__(self, length, blob=None):
-        self.length, self.blob = length, blob
+        self.length, self.blob, self.spare = length, blob, []
 
     def __len__(self):
         return self.length
@@ -94,17 +95,32 @@ class Containers(Stamp):
 
 
 class Slot:
-    """The containers from the first key up to the bound, in streams. The rows of the last checkpoint are what the entries before it made."""
+    """The containers from the first key up to the bound, in streams. The rows of the last checkpoint, or those that the last sweep wrote, are what
+    the entries before it made."""
 
     def __init__(self, streams, first="", bound=None, is_loaded=True, written=()):
-        self.streams, self.first, self.bound, self.is_loaded, self.written, self.doubt = streams, first, bound, is_loaded, [*written], None
+        self.streams, self.first, self.bound, self.is_loaded, self.written = streams, first, bound, is_loaded, [*written]
+        self.doubt, self.sweep = None, None
 
     def covers(self, name):
         return self.first <= name and (self.bound is None or name < self.bound)
 
     def entries(self):
         """All entries of its containers."""
-        return [it for it in (*self.written, *(it.entry for it in self.streams.changes)) if self.covers(it.asked.container)]
+        return [it for it in (*self.written, *logged(self.streams.changes)) if self.covers(it.asked.container)]
+
+    def row_in_doubt(self):
+        return self.streams.doubt if isinstance(self.streams.doubt, Row) else None
+
+    def end_row_doubt(self, wire):
+        """Ends the doubt of a row. Says whether the slot has none any more."""
+        row = self.row_in_doubt()
+        if row is None:
+            return True
+        ended = self.streams.settle(wire)
+        if ended not in ("busy", "dropped"):
+            row.place(row.spare)
+        return ended != "busy"
 
     def load(self, wire):
         """All rows and then all changes are read in their order, of all names. The first one that no node gives ends the load."""
@@ -113,11 +129,37 @@ class Slot:
         return self.is_loaded
 
     def checkpoint(self, rows, wire):
-        entries = self.entries()
+        """A sweep does not go on over a new log."""
+        entries, self.sweep = self.entries(), None
         if self.streams.checkpoint(rows, wire) == "busy":
             return False
         self.written = entries
         return True
+
+    def begin_sweep(self, wire):
+        """Begins a sweep, if none is under way. Says whether one is under way."""
+        if self.sweep is None and self.streams.seal(wire) == "done":
+            self.sweep = Sweep(self.streams.mark())
+        return self.sweep is not None
+
+    def write(self, row, wire):
+        """Puts the content of a row again, and logs the row. Says whether that was done."""
+        contents = []
+        for pieces in row.contents():
+            contents.append(self.streams.again(pieces, wire))
+            if contents[-1] is None:
+                return False
+        answer = self.streams.log_change(row, wire)
+        if answer == "done":
+            row.place(contents)
+        elif answer == "doubt":
+            row.spare = contents
+        return answer == "done"
+
+    def end_sweep(self):
+        """Each row was written: what came before is given up."""
+        self.written += logged(self.streams.give_up_before(self.sweep.mark))
+        self.sweep = None
 
     def keep(self, place, wire):
         """What a piece is read by when its ticket is fetched: the nodes and their copies of a sealed extent. It is empty if the piece is read now,
@@ -126,6 +168,11 @@ class Slot:
         if number < len(sealed):
             return sealed[number]
         return {} if self.streams.blobs.read(place, wire) is not None else None
+
+
+def logged(changes):
+    """The entries of these changes. A row has none."""
+    return [it.entry for it in changes if isinstance(it, Logged)]
 
 
 def spans(asked, part):
@@ -152,7 +199,8 @@ class Machine:
         for slot in self.slots:
             slot.streams.check()
             assert slot.entries() == [it for it in self.history if slot.covers(it.asked.container)]
-            assert slot.doubt is (slot.streams.doubt and slot.streams.doubt.entry)
+            assert slot.row_in_doubt() or slot.doubt is (slot.streams.doubt and slot.streams.doubt.entry)
+            assert slot.doubt is None or not slot.row_in_doubt()
             data = dict(slot.streams.blobs.places())
             for row in self.rows(slot):
                 assert row.whole() == [b"".join(data[place] for place, _ in pieces) for pieces in row.contents()]
@@ -176,8 +224,16 @@ class Machine:
         slot.doubt = None
         return True
 
+    def is_cleared(self, slot, wire):
+        """Ends the doubt of a slot, or of a row. Says whether the slot has none any more."""
+        return self.is_settled(slot, wire) and slot.end_row_doubt(wire)
+
     def change(self, slot, entry, wire):
         asked, body = entry.asked, entry.asked.body
+        if not (slot.end_row_doubt(wire) and self.is_touched(slot, asked, wire)):
+            return denied(asked, entry.moment, BUSY)
+        # The blocks that a list takes may be at new places.
+        _, entry.said = self.stamp.denial(asked)
         pieces = slot.streams.put([body] if body and asked.name in ("PutBlob", "PutBlock") else [], wire)
         if pieces is None:
             return denied(asked, entry.moment, BUSY)
@@ -252,10 +308,10 @@ class Machine:
             return "not inside"
         if len(self.slots) >= SPANS:
             return "full"
-        if not self.is_settled(slot, wire) or slot.streams.seal(wire) != "done":
+        if not self.is_cleared(slot, wire) or slot.streams.seal(wire) != "done":
             return "busy"
         self.slots.insert(at + 1, Slot(slot.streams.share(), middle, slot.bound, slot.is_loaded, slot.written))
-        slot.bound = middle
+        slot.bound, slot.sweep = middle, None
         return "made"
 
     def on_slot(self, at, step):
@@ -267,41 +323,88 @@ class Machine:
         return self.on_slot(at, lambda slot: "made" if self.is_settled(slot, wire) else "busy")
 
     def seal(self, at, wire):
-        return self.on_slot(at, lambda slot: "made" if self.is_settled(slot, wire) and slot.streams.seal(wire) == "done" else "busy")
+        return self.on_slot(at, lambda slot: "made" if self.is_cleared(slot, wire) and slot.streams.seal(wire) == "done" else "busy")
 
     def load(self, at, wire):
         return self.on_slot(at, lambda slot: "made" if self.is_settled(slot, wire) and slot.load(wire) else "busy")
 
+    def container_row(self, name):
+        return Row(container_row_length(self.stamp.account, name, self.stamp.containers.get(name)))
+
+    def blobs(self, name):
+        """The blobs of a container in the order of their names."""
+        container = self.stamp.containers.get(name)
+        return sorted(container.blobs.items() if container else ())
+
+    def blob_row(self, name, blob):
+        it = self.stamp.containers[name].blobs[blob]
+        return Row(blob_row_length(self.stamp.account, name, blob, it), it)
+
     def rows(self, slot):
         """The rows of the containers that a slot has, each before those of its blobs."""
         for name in filter(slot.covers, sorted(self.stamp.counts)):
-            container = self.stamp.containers.get(name)
-            yield Row(container_row_length(self.stamp.account, name, container))
-            for blob, it in sorted(container.blobs.items() if container else ()):
-                yield Row(blob_row_length(self.stamp.account, name, blob, it), it)
+            yield self.container_row(name)
+            for blob, _ in self.blobs(name):
+                yield self.blob_row(name, blob)
 
-    def is_written(self, slot, wire):
-        """Writes the rows of a slot as a checkpoint. Says whether that was done."""
-        return self.is_settled(slot, wire) and slot.load(wire) and slot.checkpoint(self.rows(slot), wire)
+    def is_ready(self, slot, wire):
+        """Whether a slot is settled and loaded, and has no row in doubt."""
+        return self.is_settled(slot, wire) and slot.load(wire) and slot.end_row_doubt(wire)
 
     def checkpoint(self, at, wire):
-        return self.on_slot(at, lambda slot: "made" if self.is_written(slot, wire) else "busy")
+        return self.on_slot(at, lambda slot: "made" if self.is_ready(slot, wire) and slot.checkpoint(self.rows(slot), wire) else "busy")
+
+    # ---- sweeps
+
+    def is_touched(self, slot, asked, wire):
+        """Before a change the rows are written again that it reads, unless the sweep of the slot knows them. Says whether all of them are written."""
+        name, blob, sweep = asked.container, asked.blob, slot.sweep
+        if sweep is None:
+            return True
+        if name in self.stamp.counts and not sweep.knows((name, 0)):
+            if not slot.write(self.container_row(name), wire):
+                return False
+            sweep.touched.add((name, 0))
+        is_read = asked.name in ("SetMetadata", "PutBlock", "PutBlockList") and blob in dict(self.blobs(name))
+        if is_read and not sweep.knows((name, 1, blob)):
+            if not slot.write(self.blob_row(name, blob), wire):
+                return False
+            sweep.touched.add((name, 1, blob))
+        return True
+
+    def next_row(self, slot):
+        """What the sweep of a slot does next: the cursor after it, and the row, if a row is written; and none if no container is left."""
+        cursor = slot.sweep.cursor
+        name, *rest = cursor
+        if rest and rest[0] < 2:
+            left = [it for it, _ in self.blobs(name) if (name, 1, it) > cursor]
+            return ((name, 1, left[0]), self.blob_row(name, left[0])) if left else ((name, 2), None)
+        left = [it for it in filter(slot.covers, sorted(self.stamp.counts)) if it > name or not rest]
+        return ((left[0], 0), self.container_row(left[0])) if left else None
+
+    def swept(self, slot, rows, wire):
+        """Makes a step of so many rows, or of all rows. The end of a container counts as one."""
+        if not (self.is_ready(slot, wire) and slot.begin_sweep(wire)):
+            return "busy"
+        while rows is None or rows:
+            went = self.next_row(slot)
+            if went is None:
+                slot.end_sweep()
+                return "over"
+            cursor, row = went
+            if row and not slot.write(row, wire):
+                return "busy"
+            slot.sweep.cursor = cursor
+            rows = rows and rows - 1
+        return "rows left"
+
+    def sweep(self, at, rows, wire):
+        return self.on_slot(at, lambda slot: self.swept(slot, rows, wire))
 
     def compact(self, at, wire):
-        """A checkpoint whose content is moved to new data. The checkpoint stays if the content is not moved."""
-
-        def move(slot):
-            moved = slot.streams.compact(wire) if self.is_written(slot, wire) else None
-            if moved is None:
-                return "busy"
-            for row, contents in moved:
-                row.place(contents)
-            # The rows are loaded again, if nodes answer.
-            slot.is_loaded = False
-            slot.load(wire)
-            return "made"
-
-        return self.on_slot(at, move)
+        """A step of a sweep that writes all rows that are left."""
+        ended = self.on_slot(at, lambda slot: self.swept(slot, None, wire))
+        return "made" if ended == "over" else ended
 
     def unload(self, at, _wire):
         def drop(slot):

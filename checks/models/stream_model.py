@@ -144,6 +144,11 @@ class Stream:
         """Whether the stream is sealed."""
         return self.is_sealed() or self.close(wire) is not None
 
+    def give_up_front(self, count):
+        """So many extents have no block any more, and each node has a copy of them. They keep their numbers."""
+        for number in range(count):
+            self.sealed[number] = {it: [] for it in NODES}
+
     def repair(self, number, node, wire):
         """Gives a node a copy of a sealed extent, and says how that ended. Other streams that share the extent keep it as it was."""
         if number >= len(self.sealed):
@@ -271,38 +276,28 @@ class Streams:
         self.log, self.rows, self.changes = Stream(self.limit), made, []
         return "done"
 
-    def moved(self, pieces, made, wire):
-        """The pieces with their places in new data, or None. All are read before one is put."""
-        blocks, placed = [], []
+    def again(self, pieces, wire):
+        """The pieces with their places at the end of the data, or None. All are read before one is put."""
+        blocks = []
         for place, _ in pieces:
-            block = self.blobs.read(place, wire)
-            if block is None:
+            blocks.append(self.blobs.read(place, wire))
+            if blocks[-1] is None:
                 return None
-            blocks.append(block)
-        for block in blocks:
-            place = made.append(block, wire)
-            if isinstance(place, str):
-                return None
-            placed.append((place, len(block)))
-        return placed
+        return self.put(blocks, wire)
 
-    def compact(self, wire):
-        """The content of the rows of a checkpoint takes the place of the data, if all of it is moved and each row is written with its new places.
-        Gives of each row the new pieces of each of its contents, or None."""
-        blobs, rows, moved = Stream(self.limit), Stream(self.limit), []
-        for place, row in self.rows.places():
-            if self.rows.read(place, wire) is None:
-                return None
-            contents = []
-            for pieces in row.contents():
-                contents.append(self.moved(pieces, blobs, wire))
-                if contents[-1] is None:
-                    return None
-            if isinstance(rows.append(row, wire), str):
-                return None
-            moved.append((row, contents))
-        self.log, self.blobs, self.rows, self.data = Stream(self.limit), blobs, rows, dict(blobs.places())
-        return moved
+    def mark(self):
+        """How many extents of the log and of the data are sealed."""
+        return len(self.log.sealed), len(self.blobs.sealed)
+
+    def give_up_before(self, mark):
+        """The extents of the log and of the data before a mark have no block any more, and the rows neither. Gives the changes that were there."""
+        log, blobs = mark
+        given = sum(number < log for (number, _), _ in self.log.places())
+        self.log.give_up_front(log)
+        self.blobs.give_up_front(blobs)
+        before, self.changes = self.changes[:given], self.changes[given:]
+        self.rows, self.data = Stream(self.limit), {place: block for place, block in self.data.items() if place[0] >= blobs}
+        return before
 
     def is_sealed(self):
         return all(it.is_sealed() for it in (self.log, self.blobs, self.rows))
@@ -319,6 +314,23 @@ class Streams:
             while (change := self.log.read(place, wire)) is None:
                 yield "!"
             yield str(change)
+
+
+class Sweep:
+    """A sweep that is under way: its mark, how far it has come, and the rows that were written before it came to them.
+
+    A row is known by the container's name, and by 0 or by 1 and the blob's name: so the rows come in their order. A name and 2 come after all rows of
+    a container."""
+
+    START, END = ("",), (chr(0x10FFFF),)
+
+    def __init__(self, mark):
+        self.mark, self.cursor, self.touched = mark, self.START, set()
+
+    def knows(self, row):
+        """Whether the row was written since the mark. A container is known if one of its blobs was written before the cursor came to it."""
+        is_touched = row in self.touched or row[1] == 0 and any(it[0] == row[0] for it in self.touched)
+        return row <= self.cursor or is_touched
 
 
 class Lines:

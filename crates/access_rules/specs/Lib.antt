@@ -1,4 +1,5 @@
 pub mod Dates
+pub mod KeyRoute
 pub mod Needs
 pub mod Openings
 pub mod Parts

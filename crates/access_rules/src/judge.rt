@@ -2,11 +2,12 @@
 ghost use Rattle.std.specs.Prelude.{◌≡◌, ℕ, IfOk, IsErr, IsTrue, Option, option_copied};
 ghost use Rattle.stamp_values.specs.declared.signing.Credential.TheVariants as credential;
 ghost use Rattle.access_rules.specs.declared.keys.Keys.{Keys};
+ghost use Rattle.access_rules.specs.KeyRoute.{early_of};
 ghost use Rattle.access_rules.specs.Rules.{has_false_signature, needs_signature, token_asked, verdict_of};
 ghost use Rattle.access_rules.specs.Signatures.{has_true_signature};
 
-use crate::judgement::{Verdict, Way};
-use crate::key_route::{by_judged_key, by_key};
+use crate::judgement::{Dated, EarlyJudgement, Verdict, Way};
+use crate::key_route::{by_judged_key, by_key, date_by_key};
 use crate::keys::Keys;
 use crate::needs::need_of;
 use crate::token_parts::token_asked;
@@ -62,9 +63,22 @@ pub fn verdict(
     }
 }
 
-/// The verdict on a request whose signature was judged before, under the same keys: `is_false` is what `has_false_signature`
-/// answers, and `token` what `token_asked` answers. The answer is the verdict that `verdict` gives. The call takes no memory, and does not
-/// look at the query.
+/// The part of a judgement that the keys and the request alone decide, if it was judged whether its signature is false: `is_false` is what
+/// `has_false_signature` answers. The call takes no memory.
+pub fn early_judgement(keys: Option<&Keys>, ask: &Ask, is_false: bool) -> EarlyJudgement
+    requires { is_false ≡ has_false_signature (option_copied keys) ask.now }
+    ensures { result ≡ early_of (option_copied keys.entry) ask.now }
+{
+    let dated = match &ask.credential {
+        Credential::Shared(values) => date_by_key(keys, ask, values.as_slice()),
+        Credential::Token | Credential::Anonymous => Dated::Open(None),
+    };
+    EarlyJudgement { dated, is_false }
+}
+
+/// The verdict on a request of which it was decided before, under the same keys, what the keys and the request alone decide: `early` is
+/// what `early_judgement` answers, and `token` what `token_asked` answers. The answer is the verdict that `verdict` gives. The call takes
+/// no memory. It does not look at the query, at Authorization or at the headers.
 #[tactic(auto, using(crate::proofs::TokenLemmas::asked_by_token))]
 pub fn verdict_judged(
     keys: Option<&Keys>,
@@ -72,17 +86,17 @@ pub fn verdict_judged(
     request: &Request,
     token: Option<&Token<'_>>,
     now: Moment,
-    is_false: bool,
+    early: EarlyJudgement,
 ) -> Verdict
     requires token { option_copied token ≡ token_asked request.now.ask }
-    requires judged { is_false ≡ has_false_signature (option_copied keys) request.now.ask }
+    requires judged { early ≡ early_of (option_copied keys) request.now.ask }
     ensures { result
         ≡ verdict_of (option_copied keys.entry) (option_copied acl.entry) request.now.ask now }
 {
     let ask = request.ask();
     match &ask.credential {
-        Credential::Shared(values) => by_judged_key(keys, ask, values.as_slice(), now, is_false),
-        Credential::Token => by_judged_token(keys, acl, ask, token, now, is_false),
+        Credential::Shared(_values) => by_judged_key(early, now),
+        Credential::Token => by_judged_token(keys, acl, ask, token, now, early.is_false),
         Credential::Anonymous => by_public(acl, ask),
     }
 }
@@ -101,5 +115,6 @@ pub fn verdict_vouched(
         ≡ verdict_of (option_copied keys.entry) (option_copied acl.entry) request.now.ask now }
 {
     let token = token_asked(request.ask());
-    verdict_judged(keys, acl, request, token.as_ref(), now, false)
+    let early = early_judgement(keys, request.ask(), false);
+    verdict_judged(keys, acl, request, token.as_ref(), now, early)
 }

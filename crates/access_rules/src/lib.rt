@@ -17,8 +17,8 @@ mod token_laws;
 mod token_parts;
 mod token_route;
 
-pub use judge::{verdict, verdict_judged, verdict_vouched};
-pub use judgement::{SignedBy, Verdict, Way};
+pub use judge::{early_judgement, verdict, verdict_judged, verdict_vouched};
+pub use judgement::{Dated, EarlyJudgement, SignedBy, Verdict, Way};
 pub use keys::Keys;
 pub use laws::{
     a_container_that_does_not_exist_is_as_closed, each_level_opens_what_it_names,

@@ -32,7 +32,7 @@ escaped_byte b = if is_plain b then b ∷ [] else 37 ∷ hex_digit (b / 16) ∷ 
 abbrev pub escaped : List ℕ → List ℕ
 escaped text = flat_map escaped_byte text
 
--- the word for a way
+-- the word for a route
 unfoldable pub way_word : Way → List ℕ
 way_word way.Shared = codes "shared"
 way_word way.Token = codes "token"
@@ -77,7 +77,7 @@ abbrev pub policy_text : List ℕ → Option Keys → Ask → List ℕ
 policy_text [] keys q = key_text keys q
 policy_text (b ∷ bs) keys q = codes "policy=" ++ escaped (b ∷ bs)
 
--- by what the way allows the request: a key, a stored policy, or neither
+-- by what the route allows the request: a key, a stored policy, or neither
 abbrev pub by_text : Way → Option Keys → Ask → List ℕ
 by_text way.Shared keys q = key_text keys q
 by_text way.Token keys q = policy_text (id_of (token_in q)) keys q
@@ -96,7 +96,7 @@ path_text q = (codes "/" ++ escaped q.key.account) ++ (codes "/" ++ escaped q.ke
 unfoldable pub field : List ℕ → List ℕ
 field word = word ++ codes " "
 
--- the line of an entry: moment, way, key or policy, operation, path, and place
+-- the line of an entry: moment, route, key or policy, operation, path, and position in the history of the container
 abbrev pub line_of : AuditEntry → List ℕ
 line_of e =
     field (iso_text (to_fraction 7) (time_at e.moment)) ++ field (way_word e.way) ++ field (by_text e.way e.revision.keys e.request.ask)

@@ -2,6 +2,7 @@
 ghost use Rattle.std.specs.Prelude.{◌≡◌, IfErr, IfOk};
 ghost use Rattle.std.specs.Arc.{arc_value};
 ghost use Rattle.policy_book.specs.Entries.{IsReceiptOf};
+ghost use Rattle.audit_lines.specs.Unposted.{entry_back};
 
 use policy_book::{Book, Entry, Receipt};
 use std::alloc::{AllocError, Global};
@@ -18,6 +19,26 @@ pub struct Books {
 pub struct Posted {
     pub book: Arc<Book>,
     pub receipt: Receipt,
+}
+
+/// Why an entry was not posted. The entry comes back.
+#[derive(Drop)]
+pub enum Unposted {
+    /// The book has given out all indexes that its limit allows.
+    Full(Entry),
+    /// Memory ran out, or the book can have no further owner.
+    NoMemory(Entry),
+}
+
+// An entry that this book gave back.
+fn given_back(book: &Book, entry: Entry) -> Unposted
+    ensures { entry_back result ≡ entry }
+{
+    if book.count() >= book.limit() {
+        Unposted::Full(entry)
+    } else {
+        Unposted::NoMemory(entry)
+    }
 }
 
 // A book without entries, in an allocation that can be shared.
@@ -47,19 +68,21 @@ impl Books {
         self.current.read(rt).clone()
     }
 
-    /// Posts an entry. The entry comes back if the book has as many entries as it may have, or if memory runs out.
-    pub fn post<R: Wait>(&self, rt: &R, entry: Entry) -> Result<Posted, Entry>
+    /// Posts an entry. The entry comes back if the book is full, or if memory runs out. No clause says that the cause is true, since other
+    /// threads post meanwhile.
+    pub fn post<R: Wait>(&self, rt: &R, entry: Entry) -> Result<Posted, Unposted>
         ensures posted { IfOk result (λ p. IsReceiptOf (arc_value p.book) p.receipt × (p.receipt.value ≡ entry)) }
-        ensures back { IfErr result (λ e. e ≡ entry) }
+        ensures back { IfErr result (λ e. entry_back e ≡ entry) }
     {
         let Ok(book) = self.current(rt) else {
-            return Err(entry);
+            return Err(Unposted::NoMemory(entry));
         };
         match book.post(rt, entry) {
             Ok(receipt) => Ok(Posted { book, receipt }),
             Err(entry) => {
+                let back = given_back(&book, entry);
                 drop(book);
-                Err(entry)
+                Err(back)
             }
         }
     }

@@ -8,7 +8,7 @@ mod unwritten;
 mod writing;
 mod written;
 
-pub use books::{Books, Posted};
+pub use books::{Books, Posted, Unposted};
 pub use line::append_line;
 pub use writing::{append_from, write_books};
 pub use written::append_line_at;

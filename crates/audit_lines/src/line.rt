@@ -15,7 +15,7 @@ use sas_token::read_token;
 use stamp_types::{Ask, Op, Text};
 use std::alloc::{AllocError, Global};
 
-// The word for a way.
+// The word for a route.
 #[tactic(auto, unfolding(crate::specs::Lines::way_word))]
 fn way_word(way: Way) -> &'static str
     ensures { result.now ≡ lines.way_word way }
@@ -116,7 +116,7 @@ fn append_policy(out: &mut Vec<u8>, id: &[u8], entry: &Entry) -> Result<(), Allo
     }
 }
 
-// Appends what the way of the entry allows the request by.
+// Appends what the route of the entry allows the request by.
 fn append_by(out: &mut Vec<u8>, entry: &Entry) -> Result<(), AllocError>
     ensures { OnOk result (out.new.items
         ≡ out.old.items ++ lines.by_text entry.now.way entry.now.revision.keys entry.now.request.ask) }
@@ -155,7 +155,7 @@ fn append_path(out: &mut Vec<u8>, ask: &Ask) -> Result<(), AllocError>
     append_blob(out, &ask.blob)
 }
 
-// Appends the moment and the way of the entry.
+// Appends the moment and the route of the entry.
 fn append_moment_and_way(alloc: Global, out: &mut Vec<u8>, entry: &Entry) -> Result<(), AllocError>
     ensures { OnOk result (out.new.items ≡ out.old.items
         ++ field (iso_text (to_fraction 7) (time_at entry.now.moment)) ++ field (lines.way_word entry.now.way)) }
@@ -196,7 +196,7 @@ fn append_request(out: &mut Vec<u8>, entry: &Entry) -> Result<(), AllocError>
     out.extend_from_slice(b"\n")
 }
 
-/// Appends the line of an entry: its moment, its way, the key or the stored policy that allowed it, the operation, the path, and the place,
+/// Appends the line of an entry: its moment, its route, the key or the stored policy that allowed it, the operation, the path, and the position,
 /// with a space between each two, and a line feed at the end. No signature is made: the entry keeps which key gives it.
 ///
 /// `AllocError` if memory runs out. Then some of the line may have been appended.

@@ -5,6 +5,7 @@ pub mod GrammarLaws
 pub mod IdLemmas
 pub mod IdTurns
 pub mod KeptLemmas
+pub mod LatestLemmas
 pub mod PageTokensRead
 pub mod PlainValues
 pub mod PolicyFaults
@@ -12,6 +13,7 @@ pub mod PolicyLemmas
 pub mod PolicyValueLemmas
 pub mod ReadAgain
 pub mod Readings
+pub mod ShortIds
 pub mod TextBytes
 pub mod TrimmedValues
 pub mod WrittenLemmas

@@ -1,5 +1,5 @@
 //! The elements of a block list, each with its text as it is written.
-ghost use Rattle.std.specs.Prelude.{◌≡◌, ◌≤◌, ◌<◌, ℕ, length, map, Some, None, IfSome, option_map, MatchResult};
+ghost use Rattle.std.specs.Prelude.{◌≡◌, ◌≤◌, ◌<◌, ◌++◌, ℕ, codes, length, map, Some, None, IfSome, option_map, MatchResult};
 ghost use Rattle.xml_text.specs.Reading as tags;
 ghost use Rattle.body_forms.specs.BlockLists.{list_name};
 ghost use Rattle.body_forms.specs.Outcomes.{Finds, OnForm};
@@ -14,6 +14,11 @@ use xml_text::{Kind, Tag, Tokens, content, is_tag};
 
 /// The name of the root.
 const LIST_NAME: &[u8] = b"BlockList";
+
+// The tags of an element `Latest`, as clients write them.
+const OPENING: &[u8] = b"<Latest>";
+
+const CLOSING: &[u8] = b"</Latest>";
 
 /// An element of a block list, with its text as it is written.
 #[derive(Clone, Copy, Drop)]
@@ -49,9 +54,58 @@ fn element_from<'a>(text: &mut Tokens<'a>, tag: Tag<'a>) -> Option<Element<'a>>
     Some(Element { lookup, written })
 }
 
+// The rest of a text that begins with the opening tag of an element `Latest`.
+fn after_opening(text: &[u8]) -> Option<&[u8]>
+    ensures begins { IfSome result (λ rest. text.now ≡ codes "<Latest>" ++ rest.now) }
+    ensures shorter { IfSome result (λ rest. length rest.now < length text.now) }
+{
+    text.strip_prefix(OPENING)
+}
+
+// The rest of a text that begins with the closing tag of an element `Latest`.
+fn after_closing(text: &[u8]) -> Option<&[u8]>
+    ensures begins { IfSome result (λ rest. text.now ≡ codes "</Latest>" ++ rest.now) }
+    ensures shorter { IfSome result (λ rest. length rest.now < length text.now) }
+{
+    text.strip_prefix(CLOSING)
+}
+
+// The element `Latest` at the front, if its tags have neither attributes nor white space, and what is left of the text after it.
+#[tactic(auto, using(crate::proofs::LatestLemmas::latest_next))]
+fn latest(text: &[u8]) -> Option<(Element<'_>, &[u8])>
+    ensures value { IfSome result (λ r.
+        reading.next_at list_name blocks.entry_at text.now ≡ Some (Some (entry_view r.0), r.1.now)) }
+    ensures shorter { IfSome result (λ r. length r.1.now < length text.now) }
+{
+    let mut inside = Tokens {
+        left: after_opening(text)?,
+    };
+    let written = inside.text()?;
+    let rest = after_closing(inside.left)?;
+    let element = Element {
+        lookup: Lookup::Latest,
+        written,
+    };
+    Some((element, rest))
+}
+
 // Takes one element, or the end of the list.
-#[tactic(auto, unfolding(xml_text::specs::ElementReading::next_at))]
 fn next_element<'a>(text: &mut Tokens<'a>) -> Option<Option<Element<'a>>>
+    ensures value { tags.Gives (λ e. option_map entry_view e) result text.new.left.now
+        (reading.next_at list_name blocks.entry_at text.old.left.now) }
+    ensures shorter { IfSome result (λ _. length text.new.left.now < length text.old.left.now) }
+{
+    // Most elements are found by two comparisons, which cost less than the readings of their tags.
+    if let Some((element, rest)) = latest(text.left) {
+        text.left = rest;
+        return Some(Some(element));
+    }
+    any_element(text)
+}
+
+// Takes one element, or the end of the list, however their tags are written.
+#[tactic(auto, unfolding(xml_text::specs::ElementReading::next_at))]
+fn any_element<'a>(text: &mut Tokens<'a>) -> Option<Option<Element<'a>>>
     ensures value { tags.Gives (λ e. option_map entry_view e) result text.new.left.now
         (reading.next_at list_name blocks.entry_at text.old.left.now) }
     ensures shorter { IfSome result (λ _. length text.new.left.now < length text.old.left.now) }

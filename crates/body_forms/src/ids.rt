@@ -1,5 +1,5 @@
 //! The ids of a block list.
-ghost use Rattle.std.specs.Prelude.{◌≡◌, ◌==◌, map, None, Some, IfOk, IfSome, MatchOption, MatchResult};
+ghost use Rattle.std.specs.Prelude.{◌≡◌, ◌≤◌, ◌==◌, length, map, None, Some, IfOk, IfSome, MatchOption, MatchResult};
 ghost use Rattle.std.specs.List.{list_any};
 ghost use Rattle.stamp_values.specs.Ascii.{ampersand};
 ghost use Rattle.base64_text.specs.Base64.{standard, encode_of};
@@ -11,15 +11,41 @@ ghost use Rattle.body_forms.specs.Outcomes.{OnId};
 
 use crate::body_fault::BodyFault;
 use crate::elements::Element;
+use base64::engine::general_purpose::STANDARD;
 use base64_text::decoded_base64;
 use stamp_values::{BlockId, Bytes, Wanted};
 use std::alloc::{AllocError, Global};
 use xml_text::without_white_ends;
 
+// How many characters the Base64 of 16 bytes has. Most clients make shorter ids.
+const SHORT: usize = 24;
+
 fn has_reference(written: &[u8]) -> bool
     ensures { result ≡ list_any (λ c. c == ampersand) written.now }
 {
     written.iter().any(|&byte| byte == b'&')
+}
+
+// The id of these bytes, or `None` if there are no bytes or more than 64.
+fn id_of_bytes(alloc: Global, bytes: &[u8]) -> Result<Option<BlockId>, AllocError>
+    ensures { IfOk result (λ o. MatchOption o (ids.if_id bytes.now ≡ None) (λ id. ids.if_id bytes.now ≡ Some id)) }
+{
+    BlockId::copied(alloc, bytes)
+}
+
+// The id that a short text is the Base64 of. The bytes are decoded into an array, and so without an allocation.
+#[tactic(auto, unfolding(crate::specs::Ids::id_of, base64::specs::GeneralPurpose::decoded_of))]
+fn short_id(alloc: Global, text: &[u8]) -> Result<Option<BlockId>, AllocError>
+    requires { length text.now ≤ 24 }
+    ensures value { IfOk result (λ o. MatchOption o (ids.id_of text.now ≡ None)
+        (λ id. ids.id_of text.now ≡ Some id)) }
+    ensures read { IfOk result (λ o. IfSome o (λ id. text.now ≡ encode_of standard id)) }
+{
+    let mut bytes = [0; 18];
+    match STANDARD.decode_slice_unchecked(text, &mut bytes) {
+        Ok(len) => id_of_bytes(alloc, &bytes[..len]),
+        Err(_fault) => Ok(None),
+    }
 }
 
 // The id that the text is the Base64 of.
@@ -29,6 +55,9 @@ fn decoded_id(alloc: Global, text: &[u8]) -> Result<Option<BlockId>, AllocError>
         (λ id. ids.id_of text.now ≡ Some id)) }
     ensures read { IfOk result (λ o. IfSome o (λ id. text.now ≡ encode_of standard id)) }
 {
+    if text.len() <= SHORT {
+        return short_id(alloc, text);
+    }
     match decoded_base64(alloc, text)? {
         Some(bytes) => Ok(BlockId::new(Bytes::new(bytes))),
         None => Ok(None),

@@ -14,7 +14,18 @@ use stamp_core::Core;
 use stamp_types::{Moment, Reply, Request};
 use std::alloc::{AllocError, Global};
 use std::marker::Model;
+use stored_rows::StepLimit;
 use stored_slot::Steady;
+
+/// After how many rows the step of a sweep before a request ends. A request adds two rows at most, so a sweep gains on the requests.
+const STEP_ROWS: u32 = 4;
+
+/// After how many blocks the step of a sweep before a request ends. A row is written whole, so a step may write more.
+const STEP_BLOCKS: u64 = 2_000;
+
+/// After how many bytes of content the step of a sweep before a request ends, if the body of the request has no more: 4 MiB. A longer body raises the
+/// limit to its own length. So before a write of n bytes a step moves n bytes at least, unless it comes to its last row or block before.
+const STEP_BYTES: u64 = 4_194_304;
 
 // One more owner of each part of the pair.
 fn copy_of(keys: &Keys) -> Result<Keys, AllocError>
@@ -63,16 +74,39 @@ fn answer_steadily(
     core.answer(alloc, request, None, reading, moment, wire)
 }
 
-// Compacts the first slot of which little is left to which something refers, if there is one, over nodes in memory, and drops what was replaced.
-// What a compaction gives is large, so it is not even made as None if nothing is to be compacted.
+// The limit of the step of a sweep before a request whose body has so many bytes.
+fn step_limit(body_len: u64) -> StepLimit {
+    StepLimit {
+        rows: STEP_ROWS,
+        blocks: STEP_BLOCKS,
+        bytes: body_len.max(STEP_BYTES),
+    }
+}
+
+// Makes one step of the sweep of the first slot that is sweeping or wasteful, if there is one, over nodes in memory, and drops what it gave up.
 //
-// Nothing that a request is answered changes, also if memory runs out for it.
-fn compact_if_wasteful(core: &mut Core<ProvedHistories>, wire: &mut Steady, alloc: Global)
+// The answer to a request is the same after a step, also if memory runs out for the step. This function is not inlined: the value that a step gives
+// is large, and a caller would write its zeros for each request.
+#[inline(never)]
+fn sweep_now(core: &mut Core<ProvedHistories>, wire: &mut Steady, alloc: Global, body_len: u64)
     requires calm { IsCalm core.old }
     ensures { core.new ≡ core.old }
 {
-    if core.is_wasteful() {
-        drop(core.compact_wasteful(alloc, wire));
+    drop(core.sweep_wasteful(alloc, step_limit(body_len), wire));
+}
+
+// The same before a request that writes, if a slot is sweeping or wasteful.
+fn sweep_before(
+    core: &mut Core<ProvedHistories>,
+    wire: &mut Steady,
+    alloc: Global,
+    request: &Request,
+)
+    requires calm { IsCalm core.old }
+    ensures { core.new ≡ core.old }
+{
+    if request.ask().op.writes() && core.is_wasteful() {
+        sweep_now(core, wire, alloc, request.body().len() as u64);
     }
 }
 
@@ -118,7 +152,7 @@ impl CoreService {
 
 #[cfg(test)]
 impl CoreService {
-    // Whether the core is to be compacted.
+    // Whether a slot of the core is sweeping or wasteful.
     pub(crate) fn is_wasteful(&self) -> bool {
         self.core.is_wasteful()
     }
@@ -135,7 +169,8 @@ impl Service for CoreService {
 
     ghost starves = { λ old new. new ≡ old };
 
-    /// The reply of the machine, and its change. If earlier changes left much to which nothing refers, the core is compacted first.
+    /// The reply of the machine, and its change. If earlier changes left much to which nothing refers, a request that writes first makes a step of a
+    /// sweep.
     ///
     /// `AllocError` if memory runs out for the reading of the body, the change or the reply. Then nothing is changed.
     fn answer(
@@ -149,7 +184,7 @@ impl Service for CoreService {
     {
         let reading = Reading::of(alloc, &request)?;
         let Self { core, wire } = self;
-        compact_if_wasteful(core, wire, alloc);
+        sweep_before(core, wire, alloc, &request);
         answer_steadily(core, wire, alloc, &request, reading, moment)
     }
 }

@@ -17,7 +17,8 @@ use partition_stream::StreamName;
 use stamp_core::{CoreCare, Tended, Untended};
 use std::alloc::Global;
 use std::process::Abort;
-use stored_rows::Unloaded;
+use stored_rows::{StepLimit, Unloaded};
+use stored_slot::SweepStep;
 
 // What the reply to a second Create Container of the same name begins with.
 const CONFLICT: &[u8] = b"HTTP/1.1 409 Conflict\r\n";
@@ -179,8 +180,8 @@ fn makes_a_checkpoint(rt: &impl Abort, alloc: Global, driven: &mut Driven) {
     assert!(rt; begins(rt, alloc, driven, CREATE, CONFLICT));
 }
 
-// A compaction settles first, as a checkpoint does. It is Busy if a row is refused twice, and the container is kept.
-fn makes_a_compaction(rt: &impl Abort, alloc: Global, driven: &mut Driven) {
+// A sweep settles first, as a checkpoint does. It is Busy if a row is refused twice, and the container is kept.
+fn makes_a_sweep(rt: &impl Abort, alloc: Global, driven: &mut Driven) {
     begin_a_doubt(rt, alloc, driven);
     give(rt, alloc, driven, &[], &SILENT_TWICE);
     assert!(rt; tended(alloc, driven, 0, CoreCare::Compact) == Some(StepFault::Busy));
@@ -203,6 +204,15 @@ fn rows_told(unloaded: &Unloaded) -> &'static str {
     }
 }
 
+// How far a sweep is.
+fn swept_told(swept: &SweepStep) -> &'static str {
+    match swept {
+        SweepStep::RowsLeft => "rows left",
+        SweepStep::Over(_away) => "over",
+        SweepStep::Stopped => "stopped",
+    }
+}
+
 // The name of the value that a care gave.
 fn told(given: Result<Tended, Untended>) -> &'static str {
     match given {
@@ -210,7 +220,7 @@ fn told(given: Result<Tended, Untended>) -> &'static str {
         Ok(Tended::Sealed(_sealed)) => "sealed",
         Ok(Tended::Loaded) => "loaded",
         Ok(Tended::Checkpointed(_replaced)) => "checkpointed",
-        Ok(Tended::Compacted(_compacted)) => "compacted",
+        Ok(Tended::Swept(swept)) => swept_told(&swept),
         Ok(Tended::Unloaded(unloaded) | Tended::Moved(unloaded)) => rows_told(&unloaded),
         Ok(Tended::Repaired(_repaired)) => "repaired",
         Err(untended) => {
@@ -230,7 +240,7 @@ fn gives_what_was_done(rt: &impl Abort, alloc: Global, driven: &mut Driven) {
         (repair_of(0), "repaired"),
         (repair_of(99), "untended"),
         (CoreCare::Checkpoint, "checkpointed"),
-        (CoreCare::Compact, "compacted"),
+        (CoreCare::Compact, "over"),
         (CoreCare::Load, "loaded"),
         (CoreCare::Unload, "rows"),
         (CoreCare::Unload, "no rows"),
@@ -245,7 +255,7 @@ fn gives_what_was_done(rt: &impl Abort, alloc: Global, driven: &mut Driven) {
     assert!(rt; ends(rt, alloc, driven, GET, b"\r\n\r\nhello"));
 }
 
-// A ticket reads the old data, also if its blob is written again and the slot is compacted.
+// A ticket reads the old data, also if its blob is written again and the slot is swept.
 fn reads_the_old_data(rt: &impl Abort, alloc: Global, driven: &mut Driven) {
     keep_a_ticket(rt, alloc, driven);
     assert!(rt; begins(rt, alloc, driven, PUT_WORLD, CREATED));
@@ -272,24 +282,37 @@ fn puts_again(rt: &impl Abort, alloc: Global, driven: &mut Driven, count: usize)
     }
 }
 
-// Whether the core makes a compaction that is due.
-fn compacts(alloc: Global, driven: &mut Driven) -> bool {
-    let compacted = driven.core.compact_wasteful(alloc, &mut driven.wire);
-    let is_made = compacted.is_some();
-    drop(compacted);
-    is_made
+// One row in each step.
+const ONE: StepLimit = StepLimit {
+    rows: 1,
+    blocks: 2_000,
+    bytes: 4_194_304,
+};
+
+// How far the sweep of a core is after a step, if one is due.
+fn sweep(alloc: Global, driven: &mut Driven) -> &'static str {
+    match driven.core.sweep_wasteful(alloc, ONE, &mut driven.wire) {
+        Some(swept) => swept_told(&swept),
+        None => "no step",
+    }
 }
 
-// Each Put Blob but the last wastes 768 KiB, so 23 of them waste more than the 16 MiB and the blob that exists. Nothing is compacted before.
-fn compacts_if_it_is_due(rt: &impl Abort, alloc: Global, driven: &mut Driven) {
+// Each Put Blob but the last wastes 768 KiB, so 22 of them waste more than the 16 MiB and a third of the blob that exists. Nothing is swept before.
+// The container and the blob have a row each. The third step finds no blob more, and the fourth no container more.
+fn sweeps_if_it_is_due(rt: &impl Abort, alloc: Global, driven: &mut Driven) {
     assert!(rt; begins(rt, alloc, driven, CREATE, CREATED));
     puts_again(rt, alloc, driven, 22);
     assert!(rt; !driven.core.is_wasteful());
-    assert!(rt; !compacts(alloc, driven));
+    assert!(rt; sweep(alloc, driven) == "no step");
     puts_again(rt, alloc, driven, 2);
+    for _step in 0..3 {
+        assert!(rt; driven.core.is_wasteful());
+        assert!(rt; sweep(alloc, driven) == "rows left");
+    }
     assert!(rt; driven.core.is_wasteful());
-    assert!(rt; compacts(alloc, driven));
+    assert!(rt; sweep(alloc, driven) == "over");
     assert!(rt; !driven.core.is_wasteful());
+    assert!(rt; sweep(alloc, driven) == "no step");
     assert!(rt; begins(rt, alloc, driven, PUT, CREATED));
     assert!(rt; ends(rt, alloc, driven, GET, b"\r\n\r\nhello"));
 }
@@ -367,9 +390,9 @@ fn a_checkpoint_settles_its_slot_first(rt: HostRuntime) {
 }
 
 #[test]
-fn a_compaction_settles_its_slot_first(rt: HostRuntime) {
+fn a_sweep_settles_its_slot_first(rt: HostRuntime) {
     let mut driven = empty_core(&rt, rt.alloc());
-    makes_a_compaction(&rt, rt.alloc(), &mut *driven);
+    makes_a_sweep(&rt, rt.alloc(), &mut *driven);
 }
 
 #[test]
@@ -379,15 +402,15 @@ fn each_care_of_a_slot_gives_a_value_of_its_own(rt: HostRuntime) {
 }
 
 #[test]
-fn a_ticket_keeps_what_it_reads_over_a_compaction(rt: HostRuntime) {
+fn a_ticket_keeps_what_it_reads_over_a_sweep(rt: HostRuntime) {
     let mut driven = empty_core(&rt, rt.alloc());
     reads_the_old_data(&rt, rt.alloc(), &mut *driven);
 }
 
 #[test]
-fn a_core_compacts_once_enough_is_wasted(rt: HostRuntime) {
+fn a_core_sweeps_once_enough_is_wasted(rt: HostRuntime) {
     let mut driven = empty_core(&rt, rt.alloc());
-    compacts_if_it_is_due(&rt, rt.alloc(), &mut *driven);
+    sweeps_if_it_is_due(&rt, rt.alloc(), &mut *driven);
 }
 
 #[test]

@@ -47,8 +47,6 @@ mod stamp_tests;
 #[cfg(test)]
 mod stored_checkpoint_tests;
 #[cfg(test)]
-mod stored_compaction_tests;
-#[cfg(test)]
 mod stored_list_tests;
 #[cfg(test)]
 mod stored_repair_tests;
@@ -60,3 +58,7 @@ mod stored_samples;
 mod stored_slot_tests;
 #[cfg(test)]
 mod stored_split_tests;
+#[cfg(test)]
+mod stored_step_tests;
+#[cfg(test)]
+mod stored_sweep_tests;

@@ -51,7 +51,7 @@ fn repair(rt: &impl Abort, alloc: Global, slot: &mut Streamed) {
     assert_eq!(rt; slot.wire.called().len(), called + 3);
 }
 
-// Seals the slot, repairs it, writes a checkpoint, compacts it, takes its rows out of memory, and moves it. After each of these the slot lists
+// Seals the slot, repairs it, writes a checkpoint, sweeps it, takes its rows out of memory, and moves it. After each of these the slot lists
 // its containers again.
 fn care_for(rt: &impl Abort, alloc: Global, slot: &mut Streamed) {
     assert!(rt; slot.slot.settle(alloc, &mut slot.wire).is_ok());

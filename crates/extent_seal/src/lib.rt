@@ -9,7 +9,7 @@ mod repair;
 mod sealed;
 mod shares;
 
-pub use laws::replicas_hold_prefixes;
+pub use laws::{asks_in_vain_are_not_heard, replicas_hold_prefixes};
 pub use open_extent::{Appended, NoReplica, OpenExtent};
 pub use sealed::{ReadFault, Sealed};
 pub use shares::BlockOwners;

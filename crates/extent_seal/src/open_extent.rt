@@ -87,6 +87,8 @@ impl OpenExtent {
     ghost use Rattle.extent_seal.specs.Extents.{all_three, answer_of, replica};
     ghost use Rattle.extent_seal.specs.Seals.{Seals, IsCommitted};
     ghost use Rattle.extent_seal.specs.Appends.{IsAppended};
+    ghost use Rattle.extent_seal.specs.Heard.{AsksAreHeard};
+    ghost use Rattle.extent_seal.specs.Repairs.{FirstAnswers};
     ghost use Rattle.extent_seal.specs.Counting.{AsksEach, CountsAppend, FailsEach, FailsUnless, Grows, PutsEach, SomeAnswers};
 
     /// An extent without blocks, and with room for none. Takes no memory.
@@ -169,6 +171,7 @@ impl OpenExtent {
         ensures committed { IfOk result (λ s. IsCommitted self.extent s.blocks) }
         ensures called { AsksEach (W.calls wire.old) (W.calls wire.new) }
         ensures counted { IfOk result (λ s. FailsUnless s.kept (W.faults wire.old) (W.faults wire.new)) }
+        ensures heard { IfOk result (λ s. AsksAreHeard (W.calls wire.old) (W.calls wire.new) (W.faults wire.old) (W.faults wire.new)) }
         ensures same { IfErr result (λ e. e.0 ≡ self) }
         ensures unanswered { IfErr result (λ e. FailsEach (W.faults wire.old) (W.faults wire.new)) }
     {
@@ -210,6 +213,8 @@ impl OpenExtent {
         ensures called { result ≡ Err Unreachable → AsksEach (W.calls wire.old) (W.calls wire.new) }
         ensures unreachable { result ≡ Err Unreachable → FailsEach (W.faults wire.old) (W.faults wire.new) }
         ensures answered { result ≢ Err Unreachable → SomeAnswers all_three (W.calls wire.old) (W.calls wire.new) (W.faults wire.old) (W.faults wire.new) }
+        ensures first { result ≢ Err Unreachable → FirstAnswers all_three (W.calls wire.old).asks (W.calls wire.new).asks (W.faults wire.old).asks (W.faults wire.new).asks }
+        ensures heard { result ≢ Err Unreachable → AsksAreHeard (W.calls wire.old) (W.calls wire.new) (W.faults wire.old) (W.faults wire.new) }
         ensures unput { CountsNone (W.calls wire.old).puts (W.calls wire.new).puts }
         ensures grown { Grows (W.faults wire.old) (W.faults wire.new) }
     {

@@ -114,6 +114,8 @@ impl Sealed {
     ghost use Rattle.std.specs.Option.{is_some};
     ghost use Rattle.extent_seal.specs.Counting.{AsksCopies, AsksNoOther, FailsCopies, Grows, SomeAnswers, all_faults};
     ghost use Rattle.extent_seal.specs.Extents.{answer_of};
+    ghost use Rattle.extent_seal.specs.Heard.{AsksAreHeard};
+    ghost use Rattle.extent_seal.specs.Repairs.{FirstAnswers};
     ghost use Rattle.extent_seal.specs.declared.sealed.ReadFault.TheVariants.{Unreachable};
 
     /// How many blocks there are: the commit length.
@@ -140,6 +142,8 @@ impl Sealed {
         ensures unreachable { result ≡ Err Unreachable → FailsCopies self.now.kept (W.faults wire.old) (W.faults wire.new) }
         ensures faulty { result ≡ Err Unreachable → all_faults (W.faults wire.old) < all_faults (W.faults wire.new) }
         ensures answered { result ≢ Err Unreachable → SomeAnswers self.now.kept (W.calls wire.old) (W.calls wire.new) (W.faults wire.old) (W.faults wire.new) }
+        ensures first { result ≢ Err Unreachable → FirstAnswers self.now.kept (W.calls wire.old).asks (W.calls wire.new).asks (W.faults wire.old).asks (W.faults wire.new).asks }
+        ensures heard { result ≢ Err Unreachable → AsksAreHeard (W.calls wire.old) (W.calls wire.new) (W.faults wire.old) (W.faults wire.new) }
         ensures discarded { AsksNoOther self.now.kept (W.calls wire.old) (W.calls wire.new) }
         ensures grown { Grows (W.faults wire.old) (W.faults wire.new) }
     {

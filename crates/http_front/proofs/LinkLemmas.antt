@@ -120,6 +120,7 @@ module _ {C S : Type 0} (gives : C → ℕ → C → Type 0) (answers : S → As
           broken = ran.broken;
           ends = ran.left;
           flushed = ran.flushed;
+          told = ran.told;
         }
 
 -- ---- what a body is admitted by

@@ -18,7 +18,7 @@ use Rattle.http_front.specs.Conversations.{Exchange, item_of, moment_of, bytes_o
 use Rattle.http_front.specs.Conversations.Exchange.{Answered, RefusedAt}
 use Rattle.http_front.specs.Inputs.{IsCutAt}
 use Rattle.http_front.specs.Outcomes.{IsOfWholeInput}
-use Rattle.http_front.specs.Resumptions.{Wait, IsResumed, step_of, last_bytes, Finishes, HasConversed, HasRun, GivesOneMoment, GivesOneReply, EndsAlike}
+use Rattle.http_front.specs.Resumptions.{Wait, IsResumed, step_of, last_bytes, Finishes, HasConversed, HasRun, MakesLastCalls, GivesOneMoment, GivesOneReply, EndsAlike}
 use Rattle.http_front.specs.Steps.{Comes, Conversing, LeavesStep}
 use Rattle.http_front.specs.Streams.{Tail, tail_bytes}
 use Rattle.http_front.specs.Streams.Item.{Requested, Refused}
@@ -76,60 +76,64 @@ module _ {C S : Type 0} (gives : C → ℕ → C → Type 0) (answers : S → As
     ran_well : (ended : Result End FrontFault) → HasConversed gives answers starves clock clock' world world' from a ended
         → Finishes ended ended a b → ended ≢ Err Write → HasRun gives answers starves clock clock' world world' from b ended
     ran_well (Ok end) c f fine =
-        let flushed = (f.flushed fine).1 in
+        let flushed = (f.calls.flushed fine).1 in
         let works : b.writer.output ≢ outputs.Failed = λ e. let both = sym flushed ∙ e in absurd (cc) in record {
-          conversed = still gives answers starves clock clock' world world' from a b f.unread.0 (Ok end) f.sent works c.conversed;
-          whole = whole_still gives answers starves clock clock' world world' from a b f.unread.0 (Ok end) f.sent works c.whole;
+          conversed = still gives answers starves clock clock' world world' from a b f.calls.unread.0 (Ok end) f.calls.sent works c.conversed;
+          whole = whole_still gives answers starves clock clock' world world' from a b f.calls.unread.0 (Ok end) f.calls.sent works c.whole;
           starved = λ e. absurd (cc);
           broken = λ e. absurd (cc);
-          left = leaves_still gives answers starves clock clock' world world' from a b f.unread.0 (Ok end) fine works c.left;
+          left = leaves_still gives answers starves clock clock' world world' from a b f.calls.unread.0 (Ok end) fine works c.left;
           flushed = flushed;
+          told = f.told;
         }
     ran_well (Err Read) c f fine =
-        let flushed = (f.flushed fine).1 in
+        let flushed = (f.calls.flushed fine).1 in
         let works : b.writer.output ≢ outputs.Failed = λ e. let both = sym flushed ∙ e in absurd (cc) in record {
-          conversed = still gives answers starves clock clock' world world' from a b f.unread.0 (Err Read) f.sent works c.conversed;
-          whole = whole_still gives answers starves clock clock' world world' from a b f.unread.0 (Err Read) f.sent works c.whole;
+          conversed = still gives answers starves clock clock' world world' from a b f.calls.unread.0 (Err Read) f.calls.sent works c.conversed;
+          whole = whole_still gives answers starves clock clock' world world' from a b f.calls.unread.0 (Err Read) f.calls.sent works c.whole;
           starved = λ e. absurd (cc);
           broken = λ e. absurd (cc);
-          left = leaves_still gives answers starves clock clock' world world' from a b f.unread.0 (Err Read) fine works c.left;
+          left = leaves_still gives answers starves clock clock' world world' from a b f.calls.unread.0 (Err Read) fine works c.left;
           flushed = flushed;
+          told = f.told;
         }
     ran_well (Err Turns) c f fine =
-        let flushed = (f.flushed fine).1 in
+        let flushed = (f.calls.flushed fine).1 in
         let works : b.writer.output ≢ outputs.Failed = λ e. let both = sym flushed ∙ e in absurd (cc) in record {
-          conversed = still gives answers starves clock clock' world world' from a b f.unread.0 (Err Turns) f.sent works c.conversed;
+          conversed = still gives answers starves clock clock' world world' from a b f.calls.unread.0 (Err Turns) f.calls.sent works c.conversed;
           whole = λ is. absurd is;
           starved = λ e. absurd (cc);
           broken = λ e. absurd (cc);
-          left = leaves_still gives answers starves clock clock' world world' from a b f.unread.0 (Err Turns) fine works c.left;
+          left = leaves_still gives answers starves clock clock' world world' from a b f.calls.unread.0 (Err Turns) fine works c.left;
           flushed = flushed;
+          told = f.told;
         }
     ran_well (Err NoMemory) c f fine =
-        let flushed = (f.flushed fine).1 in
+        let flushed = (f.calls.flushed fine).1 in
         let works : b.writer.output ≢ outputs.Failed = λ e. let both = sym flushed ∙ e in absurd (cc) in record {
           conversed = tt;
           whole = λ is. absurd is;
-          starved = λ e. starved_then gives answers starves clock clock' world world' from a b f.unread.0 f.sent c.left (c.starved refl);
+          starved = λ e. starved_then gives answers starves clock clock' world world' from a b f.calls.unread.0 f.calls.sent c.left (c.starved refl);
           broken = λ e. absurd (cc);
           left = works;
           flushed = flushed;
+          told = f.told;
         }
     ran_well (Err Write) c f fine = absurd (fine refl)
 
     -- what went out, if a write failed
     broke : (ended : Result End FrontFault) → HasConversed gives answers starves clock clock' world world' from a ended
         → Finishes ended (Err Write) a b → EndsByWrite gives answers starves clock clock' world world' from b
-    broke (Ok end) c f = broken_by gives answers starves clock clock' world world' from a b f.unread.0 (Ok end) (λ e. absurd (cc)) (λ e. absurd (cc)) f.sent c.conversed
-    broke (Err Read) c f = broken_by gives answers starves clock clock' world world' from a b f.unread.0 (Err Read) (λ e. absurd (cc)) (λ e. absurd (cc)) f.sent c.conversed
-    broke (Err Turns) c f = broken_by gives answers starves clock clock' world world' from a b f.unread.0 (Err Turns) (λ e. absurd (cc)) (λ e. absurd (cc)) f.sent c.conversed
-    broke (Err NoMemory) c f = inr (starved_then gives answers starves clock clock' world world' from a b f.unread.0 f.sent c.left (c.starved refl))
-    broke (Err Write) c f = inl (subst (BreaksOff gives answers clock clock' world world' from) (sym (f.still refl).1) (c.broken refl))
+    broke (Ok end) c f = broken_by gives answers starves clock clock' world world' from a b f.calls.unread.0 (Ok end) (λ e. absurd (cc)) (λ e. absurd (cc)) f.calls.sent c.conversed
+    broke (Err Read) c f = broken_by gives answers starves clock clock' world world' from a b f.calls.unread.0 (Err Read) (λ e. absurd (cc)) (λ e. absurd (cc)) f.calls.sent c.conversed
+    broke (Err Turns) c f = broken_by gives answers starves clock clock' world world' from a b f.calls.unread.0 (Err Turns) (λ e. absurd (cc)) (λ e. absurd (cc)) f.calls.sent c.conversed
+    broke (Err NoMemory) c f = inr (starved_then gives answers starves clock clock' world world' from a b f.calls.unread.0 f.calls.sent c.left (c.starved refl))
+    broke (Err Write) c f = inl (subst (BreaksOff gives answers clock clock' world world' from) (sym (f.calls.still refl).1) (c.broken refl))
 
     ran_by : (ended result : Result End FrontFault) → HasConversed gives answers starves clock clock' world world' from a ended
         → Finishes ended result a b → result ≢ Err Write → HasRun gives answers starves clock clock' world world' from b result
     ran_by ended result c f fine =
-        let same = (f.flushed fine).0 in
+        let same = (f.calls.flushed fine).0 in
         let conversed = subst (HasConversed gives answers starves clock clock' world world' from a) (sym same) c in
         ran_well result conversed (subst (λ r. Finishes r result a b) (sym same) f) fine
 
@@ -145,8 +149,9 @@ module _ {C S : Type 0} (gives : C → ℕ → C → Type 0) (answers : S → As
       whole = λ is. absurd is;
       starved = λ e. absurd (cc);
       broken = λ e. broke ended c f;
-      left = f.failed refl;
+      left = f.calls.failed refl;
       flushed = tt;
+      told = f.told;
     }
 
 -- ---- one output
@@ -230,10 +235,10 @@ module _ {C S : Type 0} (gives : C → ℕ → C → Type 0) (answers : S → As
             (subst (λ (t : Tail). EndsAs result' to'.reader.input t from'.reader.turns (length input)) (sym read.1) b.ends);
       }
 
--- ---- a connection is finished
+-- ---- the last calls of a connection
 
 -- a write had failed
-pub finished_broken : (ended : Result End FrontFault) (a : ConnectionState) → LeavesRun ended a → ended ≡ Err Write → Finishes ended ended a a
+pub finished_broken : (ended : Result End FrontFault) (a : ConnectionState) → LeavesRun ended a → ended ≡ Err Write → MakesLastCalls ended ended a a
 finished_broken (Err Write) a left is = record {
   unread = (refl, refl);
   sent = Sends-none a.writer;
@@ -249,7 +254,7 @@ finished_broken (Err NoMemory) a left is = absurd (cc)
 -- the bytes that say that memory ran out were written
 pub finished_starved : (ended : Result End FrontFault) (a b : ConnectionState) (fault : FrontFault) → ended ≡ Err NoMemory → (b.reader ≡ a.reader) × (b.bytes ≡ a.bytes)
     → Sends a.writer b.writer out_of_memory_bytes → (fault ≡ NoMemory → b.writer.output ≡ outputs.Flushed)
-    → (fault ≢ NoMemory → (fault ≡ Write) × (b.writer.output ≡ outputs.Failed)) → Finishes ended (Err fault) a b
+    → (fault ≢ NoMemory → (fault ≡ Write) × (b.writer.output ≡ outputs.Failed)) → MakesLastCalls ended (Err fault) a b
 finished_starved (Err NoMemory) a b NoMemory is unread sent flushed failed = record {
   unread = unread;
   sent = sent;
@@ -281,7 +286,7 @@ none_last (Err NoMemory) a b kept sent = absurd (kept refl)
 
 -- what was written is flushed
 pub finished_flushed : (ended : Result End FrontFault) (a b : ConnectionState) → ended ≢ Err Write → ended ≢ Err NoMemory → (b.reader ≡ a.reader) × (b.bytes ≡ a.bytes)
-    → Sends a.writer b.writer [] → b.writer.output ≡ outputs.Flushed → Finishes ended ended a b
+    → Sends a.writer b.writer [] → b.writer.output ≡ outputs.Flushed → MakesLastCalls ended ended a b
 finished_flushed ended a b told kept unread sent flushed = record {
   unread = unread;
   sent = none_last ended a b kept sent;
@@ -292,7 +297,7 @@ finished_flushed ended a b told kept unread sent flushed = record {
 
 -- the last flush failed
 pub finished_unflushed : (ended result : Result End FrontFault) (a b : ConnectionState) → ended ≢ Err Write → ended ≢ Err NoMemory → (b.reader ≡ a.reader) × (b.bytes ≡ a.bytes)
-    → Sends a.writer b.writer [] → result ≡ Err Write → b.writer.output ≡ outputs.Failed → Finishes ended result a b
+    → Sends a.writer b.writer [] → result ≡ Err Write → b.writer.output ≡ outputs.Failed → MakesLastCalls ended result a b
 finished_unflushed ended result a b told kept unread sent is failed = record {
   unread = unread;
   sent = none_last ended a b kept sent;

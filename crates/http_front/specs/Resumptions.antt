@@ -11,7 +11,7 @@ use Rattle.http_front.specs.declared.end.FrontFault.TheVariants.{Read, Write, Tu
 use Rattle.http_front.specs.declared.item.Stage.{Stage}
 use Rattle.http_front.specs.declared.item.Progress.{Progress}
 use Rattle.http_front.specs.declared.item.Progress.TheVariants.{Ended, Waits}
-use Rattle.http_front.specs.Connections.{ConnectionState, GivesUp, Sends, StopsWriting}
+use Rattle.http_front.specs.Connections.{ConnectionState, GivesUp, IsTold, Sends, StopsWriting}
 use Rattle.http_front.specs.Conversations.{AnswersInput, AnswersReceived, BreaksOff, EndsByWrite, EndsOutOfMemory, LeavesRun}
 use Rattle.http_front.specs.Outcomes.{IsOfWholeInput, UnlessWriteFailed, UnlessWriteOrMemoryFailed}
 use Rattle.http_front.specs.Steps.{Comes, Conversing, LeavesStep}
@@ -52,14 +52,20 @@ last_bytes (Err Write) = []
 last_bytes (Err Turns) = []
 last_bytes (Err NoMemory) = out_of_memory_bytes
 
--- A connection that came to its end was finished: its last bytes were written and flushed, or a write failed. Nothing is written
+-- A connection that came to its end made its last calls: its last bytes were written and flushed, or a write failed. Nothing is written
 -- after a failed write.
-pub record Finishes (ended result : Result End FrontFault) (from to : ConnectionState) : Type 0 where
+pub record MakesLastCalls (ended result : Result End FrontFault) (from to : ConnectionState) : Type 0 where
   pub unread : (to.reader ≡ from.reader) × (to.bytes ≡ from.bytes)
   pub sent : Sends from.writer to.writer (last_bytes ended)
   pub flushed : result ≢ Err Write → (result ≡ ended) × (to.writer.output ≡ outputs.Flushed)
   pub failed : result ≡ Err Write → to.writer.output ≡ outputs.Failed
   pub still : ended ≡ Err Write → (result ≡ Err Write) × (to ≡ from)
+
+-- A connection that came to its end was finished: it made its last calls, and how far its input and its output have come is what its calls
+-- say.
+pub record Finishes (ended result : Result End FrontFault) (from to : ConnectionState) : Type 0 where
+  pub calls : MakesLastCalls ended result from to
+  pub told : IsTold to
 
 -- what was read, answered and written on a connection that came to its end and is not finished
 pub record HasConversed {C S : Type 0} (gives : C → ℕ → C → Type 0) (answers : S → Asked → ℕ → Reply → S → Type 0) (starves : S → S → Type 0)
@@ -79,6 +85,7 @@ pub record HasRun {C S : Type 0} (gives : C → ℕ → C → Type 0) (answers :
   pub broken : result ≡ Err Write → EndsByWrite gives answers starves clock clock' world world' from to
   pub left : LeavesRun result to
   pub flushed : UnlessWriteFailed result (to.writer.output ≡ outputs.Flushed)
+  pub told : IsTold to
 
 -- What a connection waits for is not waited for, and that is as if a call had failed: a write if it waits for its writer, and otherwise
 -- a read.

@@ -4,7 +4,7 @@ ghost use Rattle.stamp_types.specs.declared.ask.Ask.{Ask};
 ghost use Rattle.reply_form.specs.FixedReplies.{out_of_memory_bytes};
 ghost use Rattle.http_front.specs.Admissions.{StepAdmitted, StepsAdmitted, item_admitted, stage_admitted};
 ghost use Rattle.http_front.specs.Connections.{ConnectionState, IsFresh, IsOpen, IsTold, Sends};
-ghost use Rattle.http_front.specs.Resumptions.{Finishes, IsGivenUp};
+ghost use Rattle.http_front.specs.Resumptions.{Finishes, IsGivenUp, MakesLastCalls};
 ghost use Rattle.http_front.specs.Stages.{IsPartial, IsStaged, IsWaiting, TakesWork, item_work, may_be_long, wants_write, work};
 ghost use Rattle.http_front.specs.Steps.{CanGoOn, Comes, ComesOn, Conversing, HasAnswered, HasAnsweredOn, HasLess};
 ghost use Rattle.http_front.specs.Steps.{IsAnswering, IsReading, LeavesOn, LeavesStep, WritesReply};
@@ -257,16 +257,14 @@ fn end_out_of_memory<R: Read, W: Write>(connection: &mut Connection<R, W>) -> Fr
     FrontFault::NoMemory
 }
 
-/// Finishes a connection that came to its end by [`advance`]: if memory ran out, the fixed bytes that say so are written, and what
-/// was written is flushed. Returns how the connection ended: `Write` if a write or the flush fails. These last calls are not waited for:
-/// if the writer takes nothing now, or does not flush now, that is as if the call had failed.
+// Makes the last calls of a connection that came to its end, and returns how the connection ended.
 #[tactic(auto, using(crate::proofs::Resumed::finished_broken, crate::proofs::Resumed::finished_starved, crate::proofs::Resumed::finished_flushed, crate::proofs::Resumed::finished_unflushed))]
-pub fn finish<R: Read, W: Write>(
+fn make_last_calls<R: Read, W: Write>(
     connection: &mut Connection<R, W>,
     ended: Result<End, FrontFault>,
 ) -> Result<End, FrontFault>
     requires { LeavesRun ended connection.old }
-    ensures { Finishes ended result connection.old connection.new }
+    ensures { MakesLastCalls ended result connection.old connection.new }
 {
     if ended == Err(FrontFault::Write) {
         return ended;
@@ -276,6 +274,21 @@ pub fn finish<R: Read, W: Write>(
     }
     connection.flush()?;
     ended
+}
+
+/// Finishes a connection that came to its end by [`advance`]: if memory ran out, the fixed bytes that say so are written, and what
+/// was written is flushed. Returns how the connection ended: `Write` if a write or the flush fails. These last calls are not waited for:
+/// if the writer takes nothing now, or does not flush now, that is as if the call had failed.
+pub fn finish<R: Read, W: Write>(
+    connection: &mut Connection<R, W>,
+    ended: Result<End, FrontFault>,
+) -> Result<End, FrontFault>
+    requires { LeavesRun ended connection.old }
+    ensures { Finishes ended result connection.old connection.new }
+{
+    let end = make_last_calls(connection, ended);
+    connection.keeps_marks();
+    end
 }
 
 /// Serves one connection, on which nothing was read or written yet: reads, answers and writes until it ends. If the reader has nothing
@@ -318,7 +331,5 @@ pub fn run<R: Read, W: Write, C: Clock, S: Service>(
     ensures told { IsTold connection.new }
 {
     let ended = converse(alloc, connection, clock, service);
-    let end = finish(connection, ended);
-    connection.keeps_marks();
-    end
+    finish(connection, ended)
 }

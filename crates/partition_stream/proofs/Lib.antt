@@ -1,7 +1,6 @@
 pub mod CallLemmas
 pub mod ChangeLemmas
 pub mod CheckpointLemmas
-pub mod CompactionLemmas
 pub mod ContentLemmas
 pub mod DataLemmas
 pub mod FailedLemmas
@@ -15,7 +14,6 @@ pub mod MovedReadings
 pub mod OneMoreLemmas
 pub mod PositionLemmas
 pub mod RepairLemmas
-pub mod RowWalkLemmas
 pub mod StreamLemmas
 pub mod RewritingLemmas
 pub mod SweepingLemmas

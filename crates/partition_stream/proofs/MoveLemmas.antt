@@ -1,4 +1,4 @@
--- Content that is read in one stream of data and put into another.
+-- Content that is read in the data and put again.
 use Rattle.std.proofs.Common.{◌≡◌, ◌∙◌, ℕ, ◌+◌, ◌<◌, ◌≤◌, IsTrue, Result, Ok, Err, inl, inr, List, [], ◌∷◌, ◌++◌, length, map, take, get_or, ap, sym, refl, subst, unwrap_or, arith}
 use Rattle.std.specs.List.{AllZip}
 use Rattle.std.proofs.lemmas.List.Concat.{flat_map-cons}

@@ -1,5 +1,5 @@
 -- Rows whose content is moved: they stay moved, and they are as good as the rows that were moved.
-use Rattle.std.proofs.Common.{◌≡◌, ◌∙◌, ◌&&◌, ◌||◌, ◌==◌, ℕ, suc, ◌+◌, Bool, true, IsTrue, Option, Some, None, IfSome, List, [], ◌∷◌, All, is_none, is_some, length, map, nat_le, nat_lt, ap, sym, refl}
+use Rattle.std.proofs.Common.{◌≡◌, ◌∙◌, ◌&&◌, ◌||◌, ◌==◌, ℕ, suc, ◌+◌, Bool, IsTrue, Option, Some, None, IfSome, List, [], ◌∷◌, All, is_none, is_some, length, map, nat_le, nat_lt, ap, sym, refl}
 use Rattle.std.specs.Prelude.{sum_by}
 use Rattle.std.specs.List.{AllZip, list_all}
 use Rattle.std.specs.Ordering.{is_lt, nat_cmp}
@@ -11,23 +11,20 @@ use Rattle.extent_node.specs.Copies.{Block}
 use Rattle.stamp_values.specs.Limits.{blob_limit, entries_limit, uncommitted_limit}
 use Rattle.stamp_values.specs.Names.{is_account, is_blob, is_container}
 use Rattle.stamp_values.specs.declared.key.Key.{Key}
-use Rattle.stamp_types.specs.ActKinds.{is_row}
-use Rattle.stamp_types.specs.Changes.{KeyedAct, are_blocks, are_uncommitted, blocks_len, has_ids_of_one_length, has_ids_or_one, has_rising_ids, is_block, is_change, is_committed, is_id_before_next, is_in_one_piece, is_stored_blob}
+use Rattle.stamp_types.specs.Changes.{are_blocks, are_uncommitted, blocks_len, has_ids_of_one_length, has_rising_ids, is_block, is_change, is_committed, is_id_before_next, is_in_one_piece, is_stored_blob}
 use Rattle.stamp_types.specs.Contents.{EachActContent, EachCommittedContent}
 use Rattle.stamp_types.specs.Pieces.{piece_len, pieces_len}
 use Rattle.stamp_types.specs.declared.act.Act.{Act}
 use Rattle.stamp_types.specs.declared.act.Act.TheVariants as act
-use Rattle.stamp_types.specs.declared.act.ContainerRow.{ContainerRow}
 use Rattle.stamp_types.specs.declared.act.StoredBlob.{StoredBlob}
 use Rattle.stamp_types.specs.declared.committed.Block as stored
 use Rattle.stamp_types.specs.declared.committed.Committed.{Committed}
 use Rattle.stamp_types.specs.declared.committed.UncommittedBlock.{UncommittedBlock}
 use Rattle.stamp_types.specs.declared.piece.Piece.{Piece}
 use Rattle.stream_manager.specs.Places.{KeepsPlaces}
-use Rattle.partition_stream.specs.Changes.{Recorded}
-use Rattle.partition_stream.specs.Compactions.{AreMovedBlocks, AreMovedRecords, AreMovedUncommitted, IsMovedAct, IsMovedBlock, IsMovedChange, IsMovedCommitted, IsMovedPart, IsMovedRecord, IsMovedRow, IsMovedUncommitted, blob_row}
+use Rattle.partition_stream.specs.Compactions.{AreMovedBlocks, AreMovedUncommitted, IsMovedAct, IsMovedBlock, IsMovedCommitted, IsMovedPart, IsMovedRow, IsMovedUncommitted}
 use Rattle.partition_stream.specs.Contents.{AreStored}
-use Rattle.partition_stream.proofs.MoveLemmas.{blocks_stay, uncommitted_stay, zip_then}
+use Rattle.partition_stream.proofs.MoveLemmas.{blocks_stay}
 
 -- ---- lists of which R holds at each place
 
@@ -77,20 +74,6 @@ module _ (es fs gs : List (List Block)) (keeps : KeepsPlaces fs gs) where
   part_stays None (Some d) m = absurd m
   part_stays (Some c) None m = absurd m
   part_stays (Some c) (Some d) m = committed_stays c d m
-
-  row_stays : (a b : StoredBlob) → IsMovedRow es a fs b → IsMovedRow es a gs b
-  row_stays a b m = record { blob = m.blob; committed = part_stays a.committed b.committed m.committed; uncommitted = uncommitted_stay es fs gs keeps a.uncommitted b.uncommitted m.uncommitted }
-
-  act_stays : (a b : Act) → IsMovedAct es a fs b → IsMovedAct es a gs b
-  act_stays (act.StoredBlob a) (act.StoredBlob b) m = row_stays a b m
-  act_stays (act.ContainerRow a) (act.ContainerRow b) m = m
-  act_stays a b m = absurd m
-
-  moved_record_stays : (c d : Recorded) → IsMovedRecord es c fs d → IsMovedRecord es c gs d
-  moved_record_stays c d m = record { change = record { key = m.change.key; act = act_stays c.0.act d.0.act m.change.act }; epoch = m.epoch }
-
-  pub records_stay : (cs ds : List Recorded) → AreMovedRecords es cs fs ds → AreMovedRecords es cs gs ds
-  records_stay cs ds m = zip_then (λ c d. IsMovedRecord es c fs d) (λ c d. IsMovedRecord es c gs d) moved_record_stays cs ds m
 
 -- ---- rows that are as good
 
@@ -178,22 +161,3 @@ module _ (es fs : List (List Block)) where
       (committed_stored a.committed b.committed m.committed, zip_all MovedUncommitted (λ v. AreStored fs v.content) (λ u v is. is.content.stored) a.uncommitted b.uncommitted m.uncommitted)
   act_stored (act.ContainerRow a) (act.ContainerRow b) m = tt
   act_stored a b m = absurd m
-
--- a row whose committed part was moved before its uncommitted blocks
-pub row_moved : (es fs gs : List (List Block)) (a b : StoredBlob) → KeepsPlaces fs gs → b.blob ≡ a.blob → IsMovedPart es a.committed fs b.committed → AreMovedUncommitted es a.uncommitted gs b.uncommitted
-    → IsMovedRow es a gs b
-row_moved es fs gs a b keeps blob committed uncommitted = record { blob = blob; committed = part_stays es fs gs keeps a.committed b.committed committed; uncommitted = uncommitted }
-
--- the row of a blob
-pub is_blob_row : (c : KeyedAct) (r : StoredBlob) → blob_row c.act ≡ Some r → record { key = c.key; act = act.StoredBlob r } ≡ c
-is_blob_row c r is = λ i. record { key = c.key; act = same c.act is i }
-  where
-    same : (a : Act) → blob_row a ≡ Some r → act.StoredBlob r ≡ a
-    same (act.StoredBlob a) e = let own : r ≡ a = cc in ap (λ x. act.StoredBlob x) own
-    same other e = cc
-
--- a row that is not the row of a blob is the row of a container
-pub is_own_row : (a : Act) → is_row a ≡ true → blob_row a ≡ None → (r : ContainerRow) × (a ≡ act.ContainerRow r)
-is_own_row (act.StoredBlob a) row none = cc
-is_own_row (act.ContainerRow r) row none = (r, refl)
-is_own_row other row none = cc

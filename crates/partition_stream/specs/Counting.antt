@@ -37,7 +37,7 @@ CallsPut (Ok ps) pieces before after old new = CallsAtMost (2 * pieces) 0 before
 CallsPut (Err stored_fault.Busy) pieces before after old new = CallsAtMost (2 * pieces) 1 before after old new
 CallsPut (Err stored_fault.NoMemory) pieces before after old new = CallsAtMost (2 * pieces) 0 before after old new
 
--- the faults of a row that is moved: if it is Busy, an ask of each node failed, or two puts failed; Unreachable comes only after a fault
+-- the faults of a row whose content is put again: if it is Busy, an ask of each node failed, or two puts failed; Unreachable comes only after a fault
 abbrev pub FailsCompaction : {T : Type 0} → Result T CompactionFault → Calls → Calls → Type 0
 FailsCompaction (Ok moved) old new = Grows old new
 FailsCompaction (Err compaction_fault.Busy) old new = FailsEachAtLeast old new ⊎ FailsPutsAtLeast 2 old new

@@ -1,6 +1,7 @@
 //! Changes that are read back, one after the other.
 ghost use Rattle.std.specs.Prelude.{◌≡◌, ◌≢◌, ◌<◌, ◌+◌, ◌++◌, ◌∷◌, ⊤, [], All, Some, Err, IfOk, IsSomeAnd, MatchOption};
 ghost use Rattle.extent_seal.specs.Counting.{Grows, all_faults};
+ghost use Rattle.extent_seal.specs.Heard.{AsksAreHeard};
 ghost use Rattle.extent_seal.specs.declared.sealed.ReadFault.TheVariants.{Unreachable};
 ghost use Rattle.stream_manager.specs.Places.{block_at, blocks_of};
 ghost use Rattle.stream_manager.specs.Streams.{laid};
@@ -72,12 +73,14 @@ fn change_at<W: Wire>(
     ensures read { IfOk result (λ r. IsSomeAnd (block_at (laid stream.now) place) (λ b. change_in b ≡ Some r)) }
     ensures unreachable { (result ≡ Err Unreachable) → all_faults (W.faults wire.old) < all_faults (W.faults wire.new) }
     ensures grown { Grows (W.faults wire.old) (W.faults wire.new) }
+    ensures heard { result ≢ Err Unreachable → AsksAreHeard (W.calls wire.old) (W.calls wire.new) (W.faults wire.old) (W.faults wire.new) }
 {
     let block = stream.read(place, wire)?;
     change_of(alloc, &block)
 }
 
 /// The change of the first block from an index of an extent on, if there is a block.
+#[tactic(auto, using(extent_seal::proofs::HeardLemmas::heard_none))]
 pub(crate) fn next_in<W: Wire>(
     stream: &Stream,
     alloc: Global,
@@ -91,6 +94,7 @@ pub(crate) fn next_in<W: Wire>(
     ensures unheard { IfOk result (λ o. MatchOption o (wire.new ≡ wire.old) (λ n. ⊤)) }
     ensures unreachable { (result ≡ Err Unreachable) → all_faults (W.faults wire.old) < all_faults (W.faults wire.new) }
     ensures grown { Grows (W.faults wire.old) (W.faults wire.new) }
+    ensures heard { result ≢ Err Unreachable → AsksAreHeard (W.calls wire.old) (W.calls wire.new) (W.faults wire.old) (W.faults wire.new) }
 {
     match next_block(stream, extent, index) {
         None => Ok(None),

@@ -22,8 +22,8 @@ use stream_manager::{StoredFault, Stream};
 #[derive(Drop)]
 pub struct NewRows {
     alloc: Global,
-    pub(crate) extent_bytes: u32,
-    pub(crate) rows: Stream,
+    extent_bytes: u32,
+    rows: Stream,
 }
 
 impl Model for NewRows {

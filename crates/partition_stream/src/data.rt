@@ -1,9 +1,10 @@
 //! Content that is put into a stream of data, piece by piece.
-ghost use Rattle.std.specs.Prelude.{◌≡◌, ◌≤◌, ◌⊎◌, Err, IfOk, IsTrue, Some, length};
+ghost use Rattle.std.specs.Prelude.{◌≡◌, ◌≢◌, ◌≤◌, ◌⊎◌, Err, IfOk, IsTrue, Some, length};
+ghost use Rattle.extent_seal.specs.Heard.{AsksAreHeard};
 ghost use Rattle.stamp_types.specs.Pieces.{is_held, is_held_piece, is_pieces, piece_len};
 ghost use Rattle.stream_manager.specs.Places.{GoesOn, KeepsPlaces, block_at};
 ghost use Rattle.stream_manager.specs.Streams.{laid};
-ghost use Rattle.stream_manager.specs.declared.faults.StoredFault.TheVariants.{NoMemory};
+ghost use Rattle.stream_manager.specs.declared.faults.StoredFault.TheVariants.{Busy, NoMemory};
 ghost use Rattle.partition_stream.specs.Contents.{ArePlaced, EndsWithBlock, IsPlaced};
 ghost use Rattle.partition_stream.specs.Counting.{CallsPut, FailsPut};
 ghost use Rattle.partition_stream.specs.Sweeping.{AreFrom, IsFrom};
@@ -25,6 +26,7 @@ fn put_bytes<W: Wire>(blobs: &mut Stream, bytes: &Share, wire: &mut W) -> Result
     ensures limit { blobs.new.limit ≡ blobs.old.limit }
     ensures called { CallsPut result 1 (length blobs.old.sealed) (length blobs.new.sealed) (W.calls wire.old) (W.calls wire.new) }
     ensures counted { FailsPut result (W.faults wire.old) (W.faults wire.new) }
+    ensures heard { result ≢ Err Busy → AsksAreHeard (W.calls wire.old) (W.calls wire.new) (W.faults wire.old) (W.faults wire.new) }
     ensures ends { IfOk result (λ p. EndsWithBlock (laid blobs.new)) }
     ensures unchanged { result ≡ Err NoMemory → blobs.new ≡ blobs.old }
     ensures unheard { result ≡ Err NoMemory → wire.new ≡ wire.old }
@@ -49,6 +51,7 @@ fn put_piece<W: Wire>(blobs: &mut Stream, piece: &Piece, wire: &mut W) -> Result
     ensures limit { blobs.new.limit ≡ blobs.old.limit }
     ensures called { CallsPut result 1 (length blobs.old.sealed) (length blobs.new.sealed) (W.calls wire.old) (W.calls wire.new) }
     ensures counted { FailsPut result (W.faults wire.old) (W.faults wire.new) }
+    ensures heard { result ≢ Err Busy → AsksAreHeard (W.calls wire.old) (W.calls wire.new) (W.faults wire.old) (W.faults wire.new) }
     ensures ends { IfOk result (λ p. EndsWithBlock (laid blobs.new)) }
     ensures unchanged { result ≡ Err NoMemory → blobs.new ≡ blobs.old }
     ensures unheard { result ≡ Err NoMemory → wire.new ≡ wire.old }
@@ -66,7 +69,7 @@ fn put_piece<W: Wire>(blobs: &mut Stream, piece: &Piece, wire: &mut W) -> Result
 }
 
 // Puts pieces into the data, one after the other.
-#[tactic(auto, using(stream_manager::proofs::RunLemmas::stays_on, crate::proofs::DataLemmas::twice_on))]
+#[tactic(auto, using(stream_manager::proofs::RunLemmas::stays_on, crate::proofs::DataLemmas::twice_on, extent_seal::proofs::HeardLemmas::heard_none, extent_seal::proofs::HeardLemmas::heard_then))]
 fn put_pieces<W: Wire>(
     alloc: Global,
     blobs: &mut Stream,
@@ -82,6 +85,7 @@ fn put_pieces<W: Wire>(
     ensures limit { blobs.new.limit ≡ blobs.old.limit }
     ensures called { CallsPut result (length pieces.now) (length blobs.old.sealed) (length blobs.new.sealed) (W.calls wire.old) (W.calls wire.new) }
     ensures counted { FailsPut result (W.faults wire.old) (W.faults wire.new) }
+    ensures heard { result ≢ Err Busy → AsksAreHeard (W.calls wire.old) (W.calls wire.new) (W.faults wire.old) (W.faults wire.new) }
     ensures spent { result ≡ Err NoMemory → ((blobs.new ≡ blobs.old) × (wire.new ≡ wire.old)) ⊎ EndsWithBlock (laid blobs.new) }
 {
     let mut placed = Vec::with_capacity(alloc, pieces.len())?;
@@ -107,6 +111,7 @@ pub(crate) fn put_content<W: Wire>(
     ensures limit { blobs.new.limit ≡ blobs.old.limit }
     ensures called { CallsPut result (length content.now) (length blobs.old.sealed) (length blobs.new.sealed) (W.calls wire.old) (W.calls wire.new) }
     ensures counted { FailsPut result (W.faults wire.old) (W.faults wire.new) }
+    ensures heard { result ≢ Err Busy → AsksAreHeard (W.calls wire.old) (W.calls wire.new) (W.faults wire.old) (W.faults wire.new) }
     ensures spent { result ≡ Err NoMemory → ((blobs.new ≡ blobs.old) × (wire.new ≡ wire.old)) ⊎ EndsWithBlock (laid blobs.new) }
 {
     let placed = put_pieces(alloc, blobs, content.as_slice(), wire)?;

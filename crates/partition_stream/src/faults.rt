@@ -1,4 +1,4 @@
-//! Why changes were not taken, and rows were not moved.
+//! Why changes were not taken, and rows were not put again.
 ghost use Rattle.std.specs.Prelude.{◌≡◌};
 
 use std::alloc::{AllocError, AllocFailed};
@@ -36,10 +36,10 @@ impl<T: Drop> From<AllocFailed<T>> for TakeFault {
     }
 }
 
-/// Why a row was not moved to new streams.
+/// Why the content of a row was not put again.
 #[derive(Clone, Copy, Debug, PartialEq, Eq)]
 pub enum CompactionFault {
-    /// A block or a record was tried twice, or no node answered.
+    /// A block was tried twice, or no node answered a seal.
     Busy,
     /// Every node with a copy of some content was asked, and each answered no.
     Unreachable,

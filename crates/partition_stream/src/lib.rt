@@ -4,16 +4,12 @@
 mod changes;
 mod checkpoint;
 mod checkpoint_laws;
-mod compacting;
-mod compaction;
-mod compaction_laws;
 mod data;
 mod faults;
 mod laws;
 mod logging;
 mod mark;
 mod moving;
-mod moving_rows;
 mod part;
 mod position;
 mod repair;
@@ -24,11 +20,6 @@ mod sweeping;
 
 pub use checkpoint::{NewRows, Replaced};
 pub use checkpoint_laws::{a_checkpoint_means_its_rows, a_checkpoint_means_what_it_meant};
-pub use compaction::NewStreams;
-pub use compaction_laws::{
-    a_compaction_means_what_it_meant, a_row_that_is_added_is_moved,
-    no_content_is_lost_by_a_compaction,
-};
 pub use faults::{CompactionFault, TakeFault};
 pub use laws::{
     a_body_that_is_cut_may_be_put, a_change_that_fails_is_not_counted,

@@ -1,6 +1,7 @@
 //! Records that are appended to a log.
-ghost use Rattle.std.specs.Prelude.{◌≡◌, ◌≤◌, Err, IfOk, length};
+ghost use Rattle.std.specs.Prelude.{◌≡◌, ◌≢◌, ◌≤◌, Err, IfOk, length};
 ghost use Rattle.std.specs.Result.{IsOkUnless};
+ghost use Rattle.extent_seal.specs.Heard.{AsksAreHeard};
 ghost use Rattle.log_record.specs.Fits.{IsRecorded};
 ghost use Rattle.log_record.specs.Records.{record_bytes};
 ghost use Rattle.log_record.specs.Sizes.{IsPlacedChange};
@@ -8,7 +9,7 @@ ghost use Rattle.stream_manager.specs.Places.{GoesOn};
 ghost use Rattle.stream_manager.specs.Streams.{laid};
 ghost use Rattle.partition_stream.specs.Counting.{CallsLog, FailsLog};
 ghost use Rattle.partition_stream.specs.Logging.{IsRecordAppended};
-ghost use Rattle.partition_stream.specs.declared.faults.TakeFault.TheVariants.{NoMemory};
+ghost use Rattle.partition_stream.specs.declared.faults.TakeFault.TheVariants.{Busy, Doubt, NoMemory};
 
 use crate::faults::TakeFault;
 use extent_node::Wire;
@@ -44,6 +45,7 @@ pub(crate) fn append_record<W: Wire>(
     ensures limit { log.new.limit ≡ log.old.limit }
     ensures called { CallsLog result (length log.old.sealed) (length log.new.sealed) (W.calls wire.old) (W.calls wire.new) }
     ensures counted { FailsLog result (length log.old.sealed) (length log.new.sealed) (W.faults wire.old) (W.faults wire.new) }
+    ensures heard { result ≢ Err Doubt → result ≢ Err Busy → AsksAreHeard (W.calls wire.old) (W.calls wire.new) (W.faults wire.old) (W.faults wire.new) }
     ensures unheard { (result ≡ Err NoMemory) → wire.new ≡ wire.old }
 {
     match log.append(block, wire) {

@@ -1,6 +1,7 @@
 //! Parts of pieces that are read without the streams.
 ghost use Rattle.std.specs.Prelude.{◌≡◌, ◌≢◌, ◌≤◌, ◌<◌, [], true, false, Err, IfOk, IsSomeAnd, length, get_or, slice_range};
 ghost use Rattle.extent_seal.specs.Counting.{Grows, all_faults};
+ghost use Rattle.extent_seal.specs.Heard.{AsksAreHeard};
 ghost use Rattle.extent_seal.specs.declared.sealed.ReadFault.TheVariants.{Unreachable};
 ghost use Rattle.stream_manager.specs.Places.{block_at};
 ghost use Rattle.stream_manager.specs.Streams.{laid};
@@ -46,9 +47,10 @@ impl Model for Part {
 }
 
 impl Part {
-    ghost use Rattle.std.specs.Prelude.{◌≡◌, ◌≤◌, ◌<◌, [], true, false, Err, IfOk, IfSome, length, get_or, slice_range};
+    ghost use Rattle.std.specs.Prelude.{◌≡◌, ◌≢◌, ◌≤◌, ◌<◌, [], true, false, Err, IfOk, IfSome, length, get_or, slice_range};
     ghost use Rattle.std.specs.Option.{is_some, option_copied};
     ghost use Rattle.extent_seal.specs.Counting.{Grows, all_faults};
+    ghost use Rattle.extent_seal.specs.Heard.{AsksAreHeard};
     ghost use Rattle.extent_seal.specs.declared.sealed.ReadFault.TheVariants.{Unreachable};
 
     // The part whose bytes were read.
@@ -93,11 +95,13 @@ impl Part {
     /// The bytes. No byte is copied. If they were read already, no node is called.
     ///
     /// Unreachable: every node with a copy of the extent was asked, and answered no. NoMemory: the bytes can have no further owner.
+    #[tactic(auto, using(extent_seal::proofs::HeardLemmas::heard_none))]
     pub fn fetch<W: Wire>(&self, wire: &mut W) -> Result<Share, ReadFault>
         ensures read { IfOk result (λ s. s ≡ self.now.bytes) }
         ensures unheard { self.now.is_read ≡ true → wire.new ≡ wire.old }
         ensures unreachable { result ≡ Err Unreachable → all_faults (W.faults wire.old) < all_faults (W.faults wire.new) }
         ensures grown { Grows (W.faults wire.old) (W.faults wire.new) }
+        ensures heard { result ≢ Err Unreachable → AsksAreHeard (W.calls wire.old) (W.calls wire.new) (W.faults wire.old) (W.faults wire.new) }
     {
         match &self.source {
             BlockSource::Read(bytes) => shared(bytes),
@@ -133,6 +137,7 @@ fn part_of<W: Wire>(
     ensures read { IfOk result (λ s. s ≡ slice_range (get_or handle.now.blocks index []) from to) }
     ensures unreachable { result ≡ Err Unreachable → all_faults (W.faults wire.old) < all_faults (W.faults wire.new) }
     ensures grown { Grows (W.faults wire.old) (W.faults wire.new) }
+    ensures heard { result ≢ Err Unreachable → AsksAreHeard (W.calls wire.old) (W.calls wire.new) (W.faults wire.old) (W.faults wire.new) }
 {
     let block = handle.read(index, wire)?;
     match block.slice(from, to) {
@@ -143,6 +148,7 @@ fn part_of<W: Wire>(
 
 /// Bytes of the block at a place, to be read without the stream. A block of the last extent is read now, since only sealed extents
 /// can be shared.
+#[tactic(auto, using(extent_seal::proofs::HeardLemmas::heard_none))]
 pub(crate) fn part_at<W: Wire>(
     blobs: &mut Stream,
     place: Place,
@@ -158,6 +164,7 @@ pub(crate) fn part_at<W: Wire>(
     ensures unheard { is_in_last blobs.old place ≡ false → wire.new ≡ wire.old }
     ensures unreachable { result ≡ Err Unreachable → all_faults (W.faults wire.old) < all_faults (W.faults wire.new) }
     ensures grown { Grows (W.faults wire.old) (W.faults wire.new) }
+    ensures heard { result ≢ Err Unreachable → AsksAreHeard (W.calls wire.old) (W.calls wire.new) (W.faults wire.old) (W.faults wire.new) }
 {
     let extent = place.extent as usize;
     let index = place.index as usize;

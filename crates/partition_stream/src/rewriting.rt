@@ -12,12 +12,13 @@ ghost use Rattle.partition_stream.specs.Sweeping.{AreFrom};
 
 use crate::faults::CompactionFault;
 use crate::moving::{put_read, read_content};
-use crate::moving_rows::with_blocks;
 use crate::streams::Streams;
 use extent_node::Wire;
-use stamp_types::{Act, Block, Change, Committed, Key, Pieces, StoredBlob, UncommittedBlock};
+use stamp_types::{
+    Act, Block, Change, Committed, Key, Metadata, Pieces, Props, StoredBlob, UncommittedBlock,
+};
 use stamp_values::Items;
-use std::alloc::Global;
+use std::alloc::{AllocError, Global};
 use stream_manager::Stream;
 
 // Puts content that is in the data again, and answers the pieces that say where it is now.
@@ -124,6 +125,43 @@ fn put_uncommitted_again<W: Wire>(
         moved.push(at)?;
     }
     Ok(moved)
+}
+
+// A committed part without its blocks.
+fn beside_blocks(committed: &Committed<Pieces>) -> Result<(Props, Metadata), AllocError>
+    ensures props { IfOk result (λ copies. copies.0 ≡ committed.now.props) }
+    ensures metadata { IfOk result (λ copies. copies.1 ≡ committed.now.metadata) }
+{
+    let props = committed.props.clone()?;
+    match committed.metadata.clone() {
+        Ok(metadata) => Ok((props, metadata)),
+        Err(fault) => {
+            drop(props);
+            Err(fault)
+        }
+    }
+}
+
+// The same committed part with these blocks.
+fn with_blocks(
+    committed: &Committed<Pieces>,
+    blocks: Vec<Block<Pieces>>,
+) -> Result<Committed<Pieces>, AllocError>
+    ensures { IfOk result (λ c. c ≡ record { etag = committed.now.etag; made = committed.now.made; props = committed.now.props; metadata = committed.now.metadata; blocks = blocks.items }) }
+{
+    match beside_blocks(committed) {
+        Ok((props, metadata)) => Ok(Committed {
+            etag: committed.etag,
+            made: committed.made,
+            props,
+            metadata,
+            blocks: Items::new(blocks),
+        }),
+        Err(fault) => {
+            drop(blocks);
+            Err(fault)
+        }
+    }
 }
 
 // Puts the content of a committed part again.

@@ -40,6 +40,7 @@ impl Model for Streams {
 impl Streams {
     ghost use Rattle.std.specs.Prelude.{◌≡◌, ◌≢◌, ◌≤◌, ◌<◌, ◌⊎◌, ◌+◌, ◌++◌, ◌∷◌, ⊤, [], true, false, None, Err, IfOk, OnOk, OnErr, IsTrue, MatchOption, length, slice_range};
     ghost use Rattle.extent_seal.specs.Counting.{AsksNoOther, Grows, SomeAnswers, all_faults};
+    ghost use Rattle.extent_seal.specs.Heard.{AsksAreHeard};
     ghost use Rattle.extent_seal.specs.declared.sealed.ReadFault.TheVariants.{Unreachable};
     ghost use Rattle.stamp_types.specs.Pieces.{is_held, piece_len};
     ghost use Rattle.stream_manager.specs.Counting.{CallsSettle, FailsSettle, kept_in};
@@ -55,7 +56,7 @@ impl Streams {
     ghost use Rattle.partition_stream.specs.Streams.{AreSealed, HaveSameBlocks, HaveSameLimits, IsEmptyLast, logged};
     ghost use Rattle.partition_stream.specs.Sweeping.{AreFrom};
     ghost use Rattle.partition_stream.specs.Written.{written_len};
-    ghost use Rattle.partition_stream.specs.declared.faults.TakeFault.TheVariants.{NoMemory};
+    ghost use Rattle.partition_stream.specs.declared.faults.TakeFault.TheVariants.{Busy, Doubt, NoMemory};
 
     /// Streams without a change and without data, whose extents of two or more blocks have at most `extent_bytes` bytes. Takes no memory.
     pub fn new(alloc: Global, extent_bytes: u32) -> Self
@@ -102,6 +103,7 @@ impl Streams {
         ensures limit { self.new.blobs.limit ≡ self.old.blobs.limit }
         ensures called { CallsPut result (length content.now) (length self.old.blobs.sealed) (length self.new.blobs.sealed) (W.calls wire.old) (W.calls wire.new) }
         ensures counted { FailsPut result (W.faults wire.old) (W.faults wire.new) }
+        ensures heard { result ≢ Err stored_fault.Busy → AsksAreHeard (W.calls wire.old) (W.calls wire.new) (W.faults wire.old) (W.faults wire.new) }
         ensures spent { result ≡ Err stored_fault.NoMemory → ((self.new.blobs ≡ self.old.blobs) × (wire.new ≡ wire.old)) ⊎ EndsWithBlock (laid self.new.blobs) }
     {
         put_content(self.alloc, &mut self.blobs, content, wire)
@@ -112,6 +114,7 @@ impl Streams {
     /// Busy: the change is not in the log, since its record was tried twice, or no node answered the seal of a full extent or of an older
     /// doubt. Doubt: some delivery was not Done, and then no node answered; the change is in doubt until the next settle, seal or change.
     /// NoMemory: no node was called, and the streams are as they were.
+    #[tactic(auto, using(extent_seal::proofs::HeardLemmas::heard_none))]
     pub fn log_change<W: Wire>(
         &mut self,
         change: &Change,
@@ -127,6 +130,7 @@ impl Streams {
         ensures limit { self.new.log.limit ≡ self.old.log.limit }
         ensures called { CallsLog result (length self.old.log.sealed) (length self.new.log.sealed) (W.calls wire.old) (W.calls wire.new) }
         ensures counted { FailsLog result (length self.old.log.sealed) (length self.new.log.sealed) (W.faults wire.old) (W.faults wire.new) }
+        ensures heard { result ≢ Err Doubt → result ≢ Err Busy → AsksAreHeard (W.calls wire.old) (W.calls wire.new) (W.faults wire.old) (W.faults wire.new) }
         ensures unheard { result ≡ Err NoMemory → wire.new ≡ wire.old }
     {
         let block = record_of(self.alloc, change, epoch)?;
@@ -146,6 +150,7 @@ impl Streams {
         ensures limit { self.new.log.limit ≡ self.old.log.limit }
         ensures called { CallsSettle result (W.calls wire.old) (W.calls wire.new) }
         ensures counted { FailsSettle result (W.faults wire.old) (W.faults wire.new) }
+        ensures heard { result ≢ Err stored_fault.Busy → AsksAreHeard (W.calls wire.old) (W.calls wire.new) (W.faults wire.old) (W.faults wire.new) }
     {
         self.log.settle(wire)
     }
@@ -256,6 +261,7 @@ impl Streams {
         ensures read { IfOk result (λ s. s ≡ slice_range (bytes_at (laid self.now.blobs) piece.now) start end) }
         ensures unreachable { result ≡ Err Unreachable → all_faults (W.faults wire.old) < all_faults (W.faults wire.new) }
         ensures grown { Grows (W.faults wire.old) (W.faults wire.new) }
+        ensures heard { result ≢ Err Unreachable → AsksAreHeard (W.calls wire.old) (W.calls wire.new) (W.faults wire.old) (W.faults wire.new) }
         ensures answered { result ≢ Err Unreachable → SomeAnswers (kept_in self.now.blobs.sealed (extent_of piece.now)) (W.calls wire.old) (W.calls wire.new) (W.faults wire.old) (W.faults wire.new) }
         ensures discarded { AsksNoOther (kept_in self.now.blobs.sealed (extent_of piece.now)) (W.calls wire.old) (W.calls wire.new) }
     {
@@ -276,6 +282,7 @@ impl Streams {
     /// If the block of the piece is in the last extent of the data, the bytes are read now. If it is in a sealed extent, no node is
     /// called, and this extent gets its count of owners when it is first shared. Unreachable: each node was asked for a block of the
     /// last extent, and answered no. NoMemory: memory ran out for the count of owners, or the bytes can have no further owner.
+    #[tactic(auto, using(extent_seal::proofs::HeardLemmas::heard_none))]
     pub fn part<W: Wire>(
         &mut self,
         piece: &Piece,
@@ -292,6 +299,7 @@ impl Streams {
         ensures unheard { is_piece_in_last self.old.blobs piece.now ≡ false → wire.new ≡ wire.old }
         ensures unreachable { result ≡ Err Unreachable → all_faults (W.faults wire.old) < all_faults (W.faults wire.new) }
         ensures grown { Grows (W.faults wire.old) (W.faults wire.new) }
+        ensures heard { result ≢ Err Unreachable → AsksAreHeard (W.calls wire.old) (W.calls wire.new) (W.faults wire.old) (W.faults wire.new) }
     {
         match piece {
             Piece::At { place, .. } => part_at(&mut self.blobs, *place, start, end, wire),
@@ -300,6 +308,7 @@ impl Streams {
     }
 
     // The next change of the rows. If there is none, the position is then before the first change of the log.
+    #[tactic(auto, using(extent_seal::proofs::HeardLemmas::heard_none))]
     fn next_row<W: Wire>(
         &self,
         position: &mut Position,
@@ -313,6 +322,7 @@ impl Streams {
         ensures refused { OnErr result (position.new ≡ position.old) }
         ensures unreachable { result ≡ Err Unreachable → all_faults (W.faults wire.old) < all_faults (W.faults wire.new) }
         ensures grown { Grows (W.faults wire.old) (W.faults wire.new) }
+        ensures heard { result ≢ Err Unreachable → AsksAreHeard (W.calls wire.old) (W.calls wire.new) (W.faults wire.old) (W.faults wire.new) }
     {
         match next_in(
             &self.rows,
@@ -336,6 +346,7 @@ impl Streams {
     }
 
     // The next change of the log.
+    #[tactic(auto, using(extent_seal::proofs::HeardLemmas::heard_none))]
     fn next_logged<W: Wire>(
         &self,
         position: &mut Position,
@@ -348,6 +359,7 @@ impl Streams {
         ensures refused { OnErr result (position.new ≡ position.old) }
         ensures unreachable { result ≡ Err Unreachable → all_faults (W.faults wire.old) < all_faults (W.faults wire.new) }
         ensures grown { Grows (W.faults wire.old) (W.faults wire.new) }
+        ensures heard { result ≢ Err Unreachable → AsksAreHeard (W.calls wire.old) (W.calls wire.new) (W.faults wire.old) (W.faults wire.new) }
     {
         match next_in(&self.log, self.alloc, position.extent, position.index, wire)? {
             Some(next) => {
@@ -365,6 +377,7 @@ impl Streams {
     /// The changes of the rows come first, and then those of the log, each in the order in which they were made. A change that is in
     /// doubt is not among them. After a fault no change was passed. Unreachable: every node with a copy of a block was asked, and answered
     /// no. NoMemory: memory ran out for the change, or its block can have no further owner.
+    #[tactic(auto, using(extent_seal::proofs::HeardLemmas::heard_then))]
     pub fn next_change<W: Wire>(
         &self,
         position: &mut Position,
@@ -377,6 +390,7 @@ impl Streams {
         ensures refused { OnErr result (changes_before self.now position.new ≡ changes_before self.now position.old) }
         ensures unreachable { result ≡ Err Unreachable → all_faults (W.faults wire.old) < all_faults (W.faults wire.new) }
         ensures grown { Grows (W.faults wire.old) (W.faults wire.new) }
+        ensures heard { result ≢ Err Unreachable → AsksAreHeard (W.calls wire.old) (W.calls wire.new) (W.faults wire.old) (W.faults wire.new) }
     {
         if position.in_log {
             return self.next_logged(position, wire);

@@ -3,7 +3,9 @@ use Rattle.std.proofs.Common.{◌≡◌, ◌↔◌, ◌∙◌, Bool, true, false
 use Rattle.stamp_types.specs.declared.ask.Ask.{Ask}
 use Rattle.access_rules.specs.declared.keys.Keys.{Keys}
 use Rattle.sas_token.specs.Tokens.{Sent}
+use Rattle.access_rules.specs.KeyRoute.{early_of}
 use Rattle.access_rules.specs.Rules.{has_false_signature, token_asked}
+use Rattle.access_rules.specs.declared.judgement.EarlyJudgement.{EarlyJudgement}
 use Rattle.access_rules.specs.declared.judgement.SignedBy.{SignedBy}
 use Rattle.access_rules.specs.Signatures.{has_true_signature, signed_by, IsSigned}
 use Rattle.access_rules.proofs.SignatureLemmas.{signed_is, true_not_false}
@@ -42,17 +44,15 @@ bool_of true c to from = sym (to refl)
 bool_of false true to from = from refl
 bool_of false false to from = refl
 
--- the test for a signature that was judged false is the rule, under the keys in force
-pub false_under : (b : Bool) (s : Signature) (pair : Keys) (keys : Option Keys) (q : Ask) → (IsTrue b ↔ (s ≡ signature.False)) → s ≡ signature_under pair q → keys ≡ Some pair
-    → b ≡ has_false_signature keys q
-false_under b s pair keys q test is force =
+-- the test for a signature that was judged false is the rule
+pub false_found : (b : Bool) (s : Signature) (pair : Keys) (q : Ask) → (IsTrue b ↔ (s ≡ signature.False)) → s ≡ signature_under pair q → b ≡ has_false_signature (Some pair) q
+false_found b s pair q test is =
     let found = found_false s pair q is in
     bool_of b (has_false_signature (Some pair) q) (λ e. found.0 (test.0 e)) (λ e. test.1 (found.1 e))
-    ∙ ap (λ k. has_false_signature k q) (sym force)
 
--- a signature that is false of what one request asks is false of what another asks, if both ask the same
-pub false_of_ask : (b : Bool) (keys : Option Keys) (a c : Ask) → b ≡ has_false_signature keys a → a ≡ c → b ≡ has_false_signature keys c
-false_of_ask b keys a c is same = is ∙ ap (has_false_signature keys) same
+-- what the keys and the request alone decide of what one request asks is decided of what another asks, if both ask the same
+pub early_of_ask : (early : EarlyJudgement) (pair : Keys) (keys : Option Keys) (a c : Ask) → early ≡ early_of (Some pair) a → keys ≡ Some pair → a ≡ c → early ≡ early_of keys c
+early_of_ask early pair keys a c is force same = is ∙ ap (λ k. early_of k a) (sym force) ∙ ap (early_of keys) same
 
 -- the key that signs what one request asks signs what another asks, if both ask the same
 pub signer_of_ask : (by : SignedBy) (pair : Keys) (keys : Option Keys) (a c : Ask) → by ≡ signed_by (Some pair) a → keys ≡ Some pair → a ≡ c → by ≡ signed_by keys c

@@ -8,7 +8,7 @@ use Rattle.access_rules.specs.declared.judgement.Verdict.TheVariants.{Allow}
 use Rattle.access_rules.specs.Rules.{verdict_of}
 use Rattle.policy_book.specs.Judgements.{Revised}
 
--- a request at a moment, how many changes its container had taken before, the way by which it was allowed, and the access and the
+-- a request at a moment, how many changes its container had taken before, the route by which it was allowed, and the access and the
 -- keys that allowed it
 pub record AuditEntry : Type 0 where
   pub request : Asked
@@ -21,7 +21,7 @@ pub record AuditEntry : Type 0 where
 abbrev pub audit_entry_of : Asked → ℕ → Way → ℕ → Revised → AuditEntry
 audit_entry_of q place way t r = record { request = record q { body = [] }; place = place; way = way; moment = t; revision = r }
 
--- the entry is true: the verdict on its request at its moment, under the access and the keys of its revision, is that its way allows
+-- the entry is true: the verdict on its request at its moment, under the access and the keys of its revision, is that its route allows
 -- the request; and it keeps no body
 pub record IsTrueEntry (e : AuditEntry) : Type 0 where
   pub allowed : verdict_of e.revision.keys e.revision.acl e.request.ask e.moment ≡ Allow e.way

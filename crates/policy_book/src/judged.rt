@@ -1,12 +1,13 @@
 //! Judgements of signatures, with each outcome, and the key that gives a signature.
 ghost use Rattle.std.specs.Prelude.{◌≡◌, ◌↔◌, IfOk, IsTrue, Some, option_copied};
 ghost use Rattle.std.specs.Arc.{arc_value};
+ghost use Rattle.access_rules.specs.KeyRoute.{early_of};
 ghost use Rattle.access_rules.specs.Rules.{has_false_signature, token_asked};
 ghost use Rattle.access_rules.specs.Signatures.{signed_by, IsSigned};
 ghost use Rattle.policy_book.specs.Judgements.{signature_under};
 ghost use Rattle.policy_book.specs.declared.judged.Signature.TheVariants as signature;
 
-use access_rules::{Keys, SignedBy, signature_with, token_asked};
+use access_rules::{EarlyJudgement, Keys, SignedBy, early_judgement, signature_with, token_asked};
 use sas_token::Token;
 use stamp_types::Request;
 use std::alloc::{AllocError, Global};
@@ -26,8 +27,8 @@ pub enum Signature {
 }
 
 /// The judgement on the signature of a request under a pair of keys. It borrows the request, whose body does not matter, and shares
-/// the pair. It also keeps which of the two keys gives the signature, and the token by which the request asks, so that nobody reads the token
-/// out of the query a second time.
+/// the pair. It also keeps which of the two keys gives the signature, the first of the rules K1 to K3 that holds or else the date of the
+/// request, and the token by which the request asks. So nobody reads Authorization, the date or the query a second time.
 ///
 /// It says nothing of a container, a policy or a moment.
 #[derive(Drop)]
@@ -36,12 +37,14 @@ pub struct Judged<'a> {
     keys: Arc<Keys>,
     signature: Signature,
     by: SignedBy,
+    early: EarlyJudgement,
     token: Option<Token<'a>>,
 }
 
 impl<'a> Model for Judged<'a> {
     ghost use Rattle.std.specs.Prelude.{◌≡◌, Some};
     ghost use Rattle.std.specs.Arc.{arc_value};
+    ghost use Rattle.access_rules.specs.KeyRoute.{early_of};
     ghost use Rattle.access_rules.specs.Rules.{token_asked};
     ghost use Rattle.access_rules.specs.Signatures.{signed_by};
     ghost use Rattle.policy_book.specs.Judgements.{Judgement, signature_under};
@@ -52,18 +55,31 @@ impl<'a> Model for Judged<'a> {
 
     ghost invariant = { λ j. (j.signature ≡ signature_under (arc_value j.keys) j.request.now.ask)
         × (j.by ≡ signed_by (Some (arc_value j.keys)) j.request.now.ask)
+        × (j.early ≡ early_of (Some (arc_value j.keys)) j.request.now.ask)
         × (j.token ≡ token_asked j.request.now.ask) };
 }
 
-// How the signature of a request is judged, and which key gives it.
+// How the signature of a request is judged, which key gives it, and what the keys and the request alone decide.
 #[derive(Drop)]
 struct Outcome {
     signature: Signature,
     by: SignedBy,
+    early: EarlyJudgement,
 }
 
-// How the signature of the request, whose token was read, is judged, and which key gives it. Neither key is named if there is no
-// signature to judge.
+// Whether a signature was judged false.
+fn is_false(judged: Signature) -> bool
+    ensures { IsTrue result ↔ (judged ≡ signature.False) }
+{
+    match judged {
+        Signature::True | Signature::Unjudged => false,
+        Signature::False => true,
+    }
+}
+
+// How the signature of the request, whose token was read, is judged, which key gives it, and what the keys and the request alone decide.
+// Neither key is named if there is no signature to judge.
+#[tactic(auto, using(crate::proofs::JudgementLemmas::false_found))]
 fn found(
     alloc: Global,
     keys: &Keys,
@@ -73,6 +89,7 @@ fn found(
     requires { option_copied token ≡ token_asked request.now.ask }
     ensures signature { IfOk result (λ f. f.signature ≡ signature_under keys.now request.now.ask) }
     ensures by { IfOk result (λ f. f.by ≡ signed_by (Some keys.now) request.now.ask) }
+    ensures early { IfOk result (λ f. f.early ≡ early_of (Some keys.now) request.now.ask) }
 {
     let (signature, by) = match signature_with(alloc, Some(keys), request.ask(), token)? {
         Some(SignedBy::First) => (Signature::True, SignedBy::First),
@@ -80,7 +97,12 @@ fn found(
         Some(SignedBy::Neither) => (Signature::False, SignedBy::Neither),
         None => (Signature::Unjudged, SignedBy::Neither),
     };
-    Ok(Outcome { signature, by })
+    let early = early_judgement(Some(keys), request.ask(), is_false(signature));
+    Ok(Outcome {
+        signature,
+        by,
+        early,
+    })
 }
 
 /// Judges the signature of the request under the pair of keys.
@@ -106,6 +128,7 @@ pub fn judge<'a>(
         keys,
         signature: outcome.signature,
         by: outcome.by,
+        early: outcome.early,
         token,
     })
 }
@@ -141,6 +164,14 @@ impl<'a> Judged<'a> {
     {
         let _request = &self.request;
         self.by
+    }
+
+    /// The part that the pair of keys and the request alone decide, as `early_judgement` answers it.
+    pub fn early(&self) -> EarlyJudgement
+        ensures { result ≡ early_of (Some self.now.keys) self.now.ask }
+    {
+        let _request = &self.request;
+        self.early
     }
 
     /// The token by which the request asks, as `token_asked` reads it. `None` if it asks by another route, or if its query is not a token.

@@ -1,10 +1,10 @@
 //! The verdict on a request whose signature may have been judged before, and the key that gives its signature.
-ghost use Rattle.std.specs.Prelude.{◌≡◌, ◌↔◌, IfOk, IfSome, IsErr, IsOk, IsSome, IsTrue, Some, option_copied};
-ghost use Rattle.access_rules.specs.Rules.{has_false_signature, needs_signature, verdict_of};
+ghost use Rattle.std.specs.Prelude.{◌≡◌, ◌↔◌, IfOk, IsErr, IsOk, IsTrue, Some, option_copied};
+ghost use Rattle.access_rules.specs.Rules.{needs_signature, verdict_of};
 ghost use Rattle.access_rules.specs.Signatures.{signed_by};
 ghost use Rattle.policy_book.specs.Judgements.{IsInForce, IsOfAsk};
 
-use crate::judged::{Judged, Signature};
+use crate::judged::Judged;
 use access_rules::{Keys, SignedBy, Verdict, signature_by, verdict, verdict_judged};
 use stamp_types::{Acl, Moment, Request};
 use std::alloc::{AllocError, Global};
@@ -29,25 +29,12 @@ fn is_in_force(judged: &Judged<'_>, keys: Option<&Keys>) -> bool
     }
 }
 
-// Whether the signature is false under the keys in force, if the judgement is of that pair.
-#[tactic(auto, using(crate::proofs::JudgementLemmas::false_under))]
-fn is_false_by(judged: &Judged<'_>, keys: Option<&Keys>) -> Option<bool>
-    ensures known { IsSome result ↔ (option_copied keys.entry ≡ Some judged.now.keys) }
-    ensures value { IfSome result (λ is_false.
-        is_false ≡ has_false_signature (option_copied keys.entry) judged.now.ask) }
-{
-    if is_in_force(judged, keys) {
-        Some(judged.signature() == Signature::False)
-    } else {
-        None
-    }
-}
-
 /// Whether a request may be served at a moment: what `verdict` answers. A judgement changes no answer: one of the pair in force spares
-/// the signature and the reading of the token, and the call then takes no memory; one of another pair, or of another epoch, is not used.
+/// the signature and the readings of Authorization, of the date and of the token, and the call then takes no memory. A judgement of another
+/// pair, or of another epoch, is not used.
 ///
 /// `AllocError` if memory runs out for the string to sign or for a signature.
-#[tactic(auto, using(crate::proofs::JudgementLemmas::false_of_ask, crate::proofs::JudgementLemmas::token_of_ask))]
+#[tactic(auto, using(crate::proofs::JudgementLemmas::early_of_ask, crate::proofs::JudgementLemmas::token_of_ask))]
 pub fn verdict_by(
     alloc: Global,
     keys: Option<&Keys>,
@@ -64,8 +51,9 @@ pub fn verdict_by(
     ensures spared { IsInForce (option_copied judged.entry) (option_copied keys.entry) → IsOk result }
 {
     if let Some(judged) = judged {
-        if let Some(is_false) = is_false_by(judged, keys) {
-            return Ok(verdict_judged(keys, acl, request, judged.token(), now, is_false));
+        if is_in_force(judged, keys) {
+            let early = judged.early();
+            return Ok(verdict_judged(keys, acl, request, judged.token(), now, early));
         }
     }
     verdict(alloc, keys, acl, request, now)

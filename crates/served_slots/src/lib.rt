@@ -2,9 +2,8 @@
 #![tactic(auto)]
 
 mod admission;
-#[cfg(test)]
-mod compaction_tests;
 mod connection;
+mod effort;
 mod entering;
 mod laws;
 mod locked;
@@ -24,6 +23,8 @@ mod slots;
 mod slots_tests;
 mod splitting;
 mod steadily;
+#[cfg(test)]
+mod sweep_tests;
 mod table;
 mod taking;
 mod told;

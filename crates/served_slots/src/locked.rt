@@ -11,9 +11,10 @@ ghost use Rattle.served_slots.specs.Slots.{IsLeftBy};
 ghost use Rattle.served_slots.specs.Steps.{IsPartedFrom, MakesOne, StaysOrEnds};
 
 pub(crate) mod rotating;
+pub(crate) mod sweeping;
 
 use crate::entering::{Missed, Upper, cut_and_enter, serve_and_enter};
-use crate::steadily::{compact_steadily, first_slot};
+use crate::steadily::first_slot;
 use crate::told::Told;
 use range_rows::Reading;
 use served_history::{Account, LogFront, SlotHistory, SlotWord};
@@ -22,7 +23,6 @@ use stamp_types::Key;
 use std::alloc::{AllocError, Global};
 use std::marker::Model;
 use std::sync::Arc;
-use stored_rows::Compacted;
 use stored_slot::StoredSlot;
 
 /// A slot, the end of its range, and what it knows of the history. The containers of the slot are those that this history leaves.
@@ -173,25 +173,5 @@ impl<A: Account> LockedSlot<A> {
                 Err(AllocError)
             }
         }
-    }
-
-    /// Whether the slot has many bytes of content and rows to which nothing refers.
-    pub(crate) fn is_wasteful(&self) -> bool {
-        self.slot.is_wasteful()
-    }
-
-    /// Whether a compaction is worth its time if memory is short.
-    pub(crate) fn has_garbage(&self) -> bool {
-        self.slot.has_garbage()
-    }
-
-    /// Gives up content and rows to which nothing refers. What was replaced may be dropped after the lock.
-    pub(crate) fn compact(&mut self, alloc: Global) -> Option<Compacted>
-        ensures { self.new ≡ self.old }
-    {
-        let Some(_own) = &self.history else {
-            return None;
-        };
-        compact_steadily(&mut self.slot, alloc)
     }
 }

@@ -16,6 +16,10 @@ ghost use Rattle.served_slots.specs.Rotations.{HasLastEpoch, HasRotated};
 ghost use Rattle.served_slots.specs.Slots.{IsLeftBy};
 ghost use Rattle.served_slots.specs.Steps.{IsSplitFault, SpansSay};
 
+mod sweeping;
+
+use crate::effort::step_before;
+use crate::locked::sweeping::Swept;
 use crate::next_pairs::{judging_pairs, made_pair};
 use crate::splitting::SplitFault;
 use crate::table::Table;
@@ -30,6 +34,7 @@ use stamp_types::{Key, Moment, Request, Text};
 use std::alloc::{AllocError, Global};
 use std::marker::PhantomData;
 use std::sync::{Arc, RwLock, Wait};
+use stored_rows::StepLimit;
 
 // A history, and the number of the slot whose word comes next.
 #[derive(Drop)]
@@ -198,9 +203,66 @@ impl<A: Account> Slots<A> {
         one_more(&self.pairs.read(rt))
     }
 
+    // Serves a request under the lock of the slot that has its first key, as `serve` does.
+    fn answer_under_lock<R: Wait>(
+        &self,
+        rt: &R,
+        alloc: Global,
+        known: &mut LogFront<A>,
+        ready: &Ready<'_>,
+        reading: Reading,
+    ) -> Result<Told, AllocError>
+        requires first { ready.now.first ≡ routed ready.now.request.now }
+        requires judged { IsOfAsk ready.now.judged ready.now.request.now.ask }
+        requires read { reading ≡ reading_of ready.now.request.now }
+        ensures served { IfOk result (λ told. IsServed known.old ready.now.request.now ready.now.moment told.replied known.new) }
+        ensures audited { IfOk result (λ told. AuditsLast known.new ready.now.request.now ready.now.moment told.entry) }
+        ensures unasked { IfOk result (λ told. ready.now.is_audited ≡ false → told.entry ≡ None) }
+        ensures same { OnErr result (known.new ≡ known.old) }
+    {
+        let table = self.table.read(rt);
+        let mut locked = table.locked(rt, &ready.first);
+        locked.answer(alloc, known, ready, reading)
+    }
+
+    // The same of a request that makes a step of a sweep first, up to this limit, if the slot is to be swept. If that is the last step, what it gives
+    // up is dropped while no lock is held, and then the request waits for the locks once more.
+    fn answer_after_step<R: Wait>(
+        &self,
+        rt: &R,
+        alloc: Global,
+        known: &mut LogFront<A>,
+        ready: &Ready<'_>,
+        reading: Reading,
+        limit: StepLimit,
+        is_short: bool,
+    ) -> Result<Told, AllocError>
+        requires first { ready.now.first ≡ routed ready.now.request.now }
+        requires judged { IsOfAsk ready.now.judged ready.now.request.now.ask }
+        requires read { reading ≡ reading_of ready.now.request.now }
+        ensures served { IfOk result (λ told. IsServed known.old ready.now.request.now ready.now.moment told.replied known.new) }
+        ensures audited { IfOk result (λ told. AuditsLast known.new ready.now.request.now ready.now.moment told.entry) }
+        ensures unasked { IfOk result (λ told. ready.now.is_audited ≡ false → told.entry ≡ None) }
+        ensures same { OnErr result (known.new ≡ known.old) }
+    {
+        let table = self.table.read(rt);
+        let mut locked = table.locked(rt, &ready.first);
+        if locked.is_to_sweep(is_short) {
+            if let Swept::Over(away) = locked.sweep(alloc, limit) {
+                drop(locked);
+                drop(table);
+                drop(away);
+                return self.answer_under_lock(rt, alloc, known, ready, reading);
+            }
+        }
+        locked.answer(alloc, known, ready, reading)
+    }
+
     /// Serves a request by the slot that has its first key. The request is then the last entry that the connection knows. If entries of the
-    /// audit book are asked for, the one of the request is by what the history left before it. If memory is short, a slot gives up what few bytes
-    /// it has to which nothing refers before that.
+    /// audit book are asked for, the one of the request is by what the history left before it.
+    ///
+    /// A request that writes makes a step of a sweep first, if the slot is to be swept. If memory is short, a few bytes to which nothing refers are
+    /// enough for that.
     ///
     /// `AllocError` as of the slot. Then the connection knows what it knew.
     pub(crate) fn serve<R: Wait>(
@@ -220,15 +282,12 @@ impl<A: Account> Slots<A> {
         ensures unasked { IfOk result (λ told. ready.now.is_audited ≡ false → told.entry ≡ None) }
         ensures same { OnErr result (known.new ≡ known.old) }
     {
-        let table = self.table.read(rt);
-        let mut locked = table.locked(rt, alloc, &ready.first, is_short);
-        locked.answer(alloc, known, ready, reading)
-    }
-
-    /// Has each slot give up what few bytes it has to which nothing refers. Returns whether a slot had such bytes.
-    pub(crate) fn collect<R: Wait>(&self, rt: &R, alloc: Global) -> bool {
-        let table = self.table.read(rt);
-        table.collect(rt, alloc)
+        match step_before(ready.request) {
+            Some(limit) => {
+                self.answer_after_step(rt, alloc, known, ready, reading, limit, is_short)
+            }
+            None => self.answer_under_lock(rt, alloc, known, ready, reading),
+        }
     }
 
     /// Replaces a key of the account for all slots, or for none. Answers the epoch of the new pair. Each slot enters the rotation, so that requests on
@@ -271,13 +330,5 @@ impl<A: Account> Slots<A> {
     {
         let mut table = self.table.write(rt);
         table.split(alloc, middle)
-    }
-}
-
-#[cfg(test)]
-impl<A: Account> Slots<A> {
-    // Whether the slot that has the key is to be compacted. Waits for the locks of table and slot.
-    pub(crate) fn is_wasteful<R: Wait>(&self, rt: &R, key: &Key) -> bool {
-        self.table.read(rt).is_wasteful(rt, key)
     }
 }

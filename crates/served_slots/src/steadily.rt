@@ -23,8 +23,8 @@ use slot_state::{AccountPairs, ProvedHistories, Ready};
 use stamp_types::Key;
 use std::alloc::{AllocError, Global};
 use std::sync::Arc;
-use stored_rows::{Compacted, KeyRange, StoredRows};
-use stored_slot::{Audited, EXTENT_BYTES, Steady, StoredSlot};
+use stored_rows::{KeyRange, StepLimit, StoredRows};
+use stored_slot::{Audited, EXTENT_BYTES, Steady, StoredSlot, SweepStep};
 
 // A slot of all keys with these rows.
 #[tactic(auto, using(crate::proofs::FirstLemmas::slot_of_all))]
@@ -121,17 +121,18 @@ pub(crate) fn cut_steadily(
     }
 }
 
-/// Gives up content and rows to which nothing refers. Gives what was replaced; none if memory runs out.
-pub(crate) fn compact_steadily(
+/// Makes a step of a sweep, up to the limit. `None` if memory runs out.
+pub(crate) fn sweep_steadily(
     slot: &mut StoredSlot<ProvedHistories>,
     alloc: Global,
-) -> Option<Compacted>
+    limit: StepLimit,
+) -> Option<SweepStep>
     requires { slot.old.doubt ≡ None }
     ensures { slot.new ≡ slot.old }
 {
     let wire = &mut Steady::new();
-    match slot.compact(alloc, wire) {
-        Ok(replaced) => Some(replaced),
+    match slot.sweep(alloc, limit, wire) {
+        Ok(step) => Some(step),
         Err(_fault) => None,
     }
 }

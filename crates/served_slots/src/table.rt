@@ -80,21 +80,6 @@ fn halve<A: Account>(
     }
 }
 
-// Compacts the slot of this lock, and waits for the lock again. What is replaced has many bytes, which are set to zero where the function begins: so it
-// is not part of `locked`, which each request calls.
-fn compacted<'a, A: Account, R: Wait>(
-    lock: &'a Mutex<LockedSlot<A>>,
-    rt: &R,
-    alloc: Global,
-    locked: MutexGuard<'a, LockedSlot<A>>,
-) -> MutexGuard<'a, LockedSlot<A>> {
-    let mut locked = locked;
-    let replaced = locked.compact(alloc);
-    drop(locked);
-    drop(replaced);
-    lock.lock(rt)
-}
-
 // Splits the span of this slot, which has the key: another span begins with the key then.
 #[tactic(auto, using(crate::proofs::SpanLemmas::has_slot))]
 fn split_span(spans: &mut Spans, slot: usize, middle: &Key) -> Result<(), SplitFault>
@@ -165,35 +150,21 @@ impl<A: Account> Table<A> {
         &self.slots[self.spans.find(key)]
     }
 
-    /// Waits for the lock of the slot that has the key. If earlier changes left much to which nothing refers, the slot is compacted first, and what
-    /// that replaces is dropped while the lock is free. If memory is short, a little to which nothing refers is enough for that.
-    pub(crate) fn locked<R: Wait>(
-        &self,
-        rt: &R,
-        alloc: Global,
-        key: &Key,
-        is_short: bool,
-    ) -> MutexGuard<'_, LockedSlot<A>> {
-        let lock = self.lock_of(key);
-        let locked = lock.lock(rt);
-        if locked.is_wasteful() || is_short && locked.has_garbage() {
-            return compacted(lock, rt, alloc, locked);
-        }
-        locked
+    /// Waits for the lock of the slot that has the key.
+    pub(crate) fn locked<R: Wait>(&self, rt: &R, key: &Key) -> MutexGuard<'_, LockedSlot<A>> {
+        self.lock_of(key).lock(rt)
     }
 
-    /// Compacts each slot that has a little to which nothing refers, and waits for each lock in turn. Returns whether a slot was compacted, or was
-    /// to be and memory ran out for that.
-    pub(crate) fn collect<R: Wait>(&self, rt: &R, alloc: Global) -> bool {
-        let mut is_any = false;
-        for lock in &self.slots {
-            let locked = lock.lock(rt);
-            if locked.has_garbage() {
-                is_any = true;
-                drop(compacted(lock, rt, alloc, locked));
-            }
+    /// Waits for the lock of the slot with this number. `None` if no slot has it.
+    pub(crate) fn locked_at<R: Wait>(
+        &self,
+        rt: &R,
+        at: usize,
+    ) -> Option<MutexGuard<'_, LockedSlot<A>>> {
+        match self.slots.get(at) {
+            Some(lock) => Some(lock.lock(rt)),
+            None => None,
         }
-        is_any
     }
 
     /// Splits the span that has the key, and then its slot. If the slot fails, its two spans are joined again.
@@ -240,13 +211,5 @@ impl<A: Account> Table<A> {
             Err(KeysFault::Last) => Err(KeysFault::Last),
             Err(KeysFault::NoMemory) => Err(KeysFault::NoMemory),
         }
-    }
-}
-
-#[cfg(test)]
-impl<A: Account> Table<A> {
-    // Whether the slot that has the key is to be compacted. Waits for its lock.
-    pub(crate) fn is_wasteful<R: Wait>(&self, rt: &R, key: &Key) -> bool {
-        self.lock_of(key).lock(rt).is_wasteful()
     }
 }

@@ -27,8 +27,8 @@ pub record Begins (p : PassState) (s : SlotState) : Type 0 where
   pub pairs : IsPrefix p.pairs (pairs_at s.pairs p.key.account)
   pub front : IsPrefix p.front (history_at s.histories p.key)
 
--- Why a slot does not answer after a pass: the pass shows a key pair at this place that is not the slot's; or its pairs are the slot's, and it
--- shows an entry at this place that is not the slot's; or what it shows is a beginning of what the slot has, and memory ran out
+-- Why a slot does not answer after a pass: the pass shows a key pair at this position that is not the slot's; or its pairs are the slot's, and it
+-- shows an entry at this position that is not the slot's; or what it shows is a beginning of what the slot has, and memory ran out
 abbrev pub IsAfterFault : PassState → SlotState → AfterFault → Type 0
 IsAfterFault p s (after.Pairs place) = DiffersAt p.pairs (pairs_at s.pairs p.key.account) place
 IsAfterFault p s (after.Alien place) = IsPrefix p.pairs (pairs_at s.pairs p.key.account) × DiffersAt p.front (history_at s.histories p.key) place

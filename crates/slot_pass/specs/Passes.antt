@@ -33,7 +33,7 @@ IsOrder xs ys order.Same = xs ≡ ys
 IsOrder xs ys order.First = IsPrefix xs ys × (xs ≢ ys)
 IsOrder xs ys order.Second = IsPrefix ys xs × (xs ≢ ys)
 
--- why two passes are not of one history: they are of different containers, or of one container, and their fronts differ at this place
+-- why two passes are not of one history: they are of different containers, or of one container, and their fronts differ at this position
 abbrev pub IsMeetFault : PassState → PassState → MeetFault → Type 0
 IsMeetFault p q fault.Keys = p.key ≢ q.key
 IsMeetFault p q (fault.Differ place) = (p.key ≡ q.key) × PartsAt p.front q.front place

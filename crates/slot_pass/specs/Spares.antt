@@ -19,12 +19,12 @@ pub record CanBecome {X : Type 0} (known : ℕ) (all ys : List X) : Type 0 where
   pub known_is : known ≡ length first
   pub becomes : IsOneOf first one other ys
 
--- both lists have an element at this place, and these two differ
+-- both lists have an element at this position, and these two differ
 pub record IsOtherAt {X : Type 0} (xs ys : List X) (place : ℕ) : Type 0 where
   pub below : place < length xs
   pub under : place < length ys
   pub differs : slice_get ys place ≢ slice_get xs place
 
--- if both lists have an element at this place, it is the same element
+-- if both lists have an element at this position, it is the same element
 abbrev pub AgreesAt : {X : Type 0} → List X → List X → ℕ → Type 0
 AgreesAt xs ys place = place < length xs → place < length ys → slice_get ys place ≡ slice_get xs place

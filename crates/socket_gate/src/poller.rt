@@ -1,4 +1,5 @@
 //! The thread that polls: it takes new connections, tells workers which connections have something to do, and ends those that are slow.
+ghost use Rattle.std.specs.Prelude.{◌≡◌, IsSome, false};
 
 use crate::gate::{Gate, IdleLink, LinkPlace, SocketLink, counts};
 use crate::lingering::Lingering;
@@ -381,11 +382,22 @@ impl<'a, R: Wait + Drop, C: Clock + Drop, K: front::Clock + Drop, S: Service + D
         }
     }
 
-    // Takes the connection of a place that was waited for too long. If it may have something to do, a worker stays with it first, and then
-    // it is looked at again.
+    // Takes the connection of a place that was waited for too long.
     fn slow(&self, index: usize, now: Duration) -> Option<Slow<SocketLink<'a, K, S>>> {
         let mut place = self.places.get(index)?.lock(&self.rt);
-        let place = &mut *place;
+        self.take_slow(&mut *place, index, now)
+    }
+
+    // The same of a place whose lock is held. If the connection may have something to do, a worker stays with it first, and then it is looked
+    // at again. So a request that came in time and waits for a worker is not ended.
+    fn take_slow(
+        &self,
+        place: &mut LinkPlace<'a, K, S>,
+        index: usize,
+        now: Duration,
+    ) -> Option<Slow<SocketLink<'a, K, S>>>
+        ensures { IsSome result → place.old.is_queued ≡ false }
+    {
         if place.is_queued || !self.is_slow(place, now) {
             return None;
         }
@@ -468,7 +480,19 @@ impl<'a, R: Wait + Drop, C: Clock + Drop, K: front::Clock + Drop, S: Service + D
     // Takes the connection of a place if it waits in this phase.
     fn take_waiting(&self, index: usize, phase: Phase) -> Option<SocketLink<'a, K, S>> {
         let mut place = self.places.get(index)?.lock(&self.rt);
-        let place = &mut *place;
+        self.take_in_phase(&mut *place, index, phase)
+    }
+
+    // The same of a place whose lock is held. A connection that waits for a worker does not give way.
+    fn take_in_phase(
+        &self,
+        place: &mut LinkPlace<'a, K, S>,
+        index: usize,
+        phase: Phase,
+    ) -> Option<SocketLink<'a, K, S>>
+        ensures queued { IsSome result → place.old.is_queued ≡ false }
+        ensures phase { IsSome result → place.old.timer.phase ≡ phase }
+    {
         if place.timer.phase != phase || place.is_queued {
             return None;
         }

@@ -1,10 +1,10 @@
 pub mod AuditLemmas
-pub mod CompactLemmas
 pub mod FaultLemmas
 pub mod RangeLemmas
 pub mod RotateLemmas
 pub mod RunLemmas
 pub mod ServeLemmas
 pub mod SplitLemmas
+pub mod SweepLemmas
 pub mod TendLemmas
 pub mod TicketLemmas

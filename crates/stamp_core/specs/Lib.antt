@@ -1,7 +1,7 @@
-pub mod Compactions
 pub mod CoreAudits
 pub mod CoreSteps
 pub mod Ranges
 pub mod Rotations
+pub mod Sweeps
 pub mod Tending
 pub mod Tickets

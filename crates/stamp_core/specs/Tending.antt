@@ -1,4 +1,4 @@
--- What the care of a slot gives, as an answer of the machine (Calder et al., SOSP 2011, sections 4 and 5).
+-- The answer of the machine to a care of a slot, and the value that goes with the care (Calder et al., SOSP 2011, sections 4 and 5).
 use Rattle.std.specs.Prelude.{◌≡◌, ⊤, Result, Ok, Err}
 use Rattle.core_run.specs.declared.step.Outcome.TheVariants as outcome
 use Rattle.core_run.specs.declared.step.StepFault.TheVariants as fault
@@ -12,20 +12,20 @@ use Rattle.stamp_core.specs.declared.tended.Tended.TheVariants as tended
 use Rattle.stamp_core.specs.declared.tended.Untended.{Untended}
 use Rattle.stamp_core.specs.declared.tended.Untended.TheVariants as untended
 
--- what the machine answers: a care that was taken is made
+-- the answer of the machine: a care that was taken is made
 abbrev pub care_answer : Result Tended Untended → Answer
 care_answer (Ok given) = Ok outcome.Made
 care_answer (Err untended.NoSuchSlot) = Err fault.NoSuchSlot
 care_answer (Err (untended.Slot f)) = Err (fault_of_slot f)
 care_answer (Err (untended.Repair f)) = Err (fault_of_repair (fault_of f))
 
--- what was given is of this care, and of a repair it is of this stream, this extent and this node
+-- the value is of this care, and the value of a repair is of this stream, this extent and this node
 abbrev pub IsOf : CoreCare → Tended → Type 0
 IsOf care.Settle tended.Settled = ⊤
 IsOf care.Seal (tended.Sealed sealed) = ⊤
 IsOf care.Load tended.Loaded = ⊤
 IsOf care.Checkpoint (tended.Checkpointed replaced) = ⊤
-IsOf care.Compact (tended.Compacted compacted) = ⊤
+IsOf care.Compact (tended.Swept swept) = ⊤
 IsOf care.Unload (tended.Unloaded rows) = ⊤
 IsOf (care.Move server) (tended.Moved rows) = ⊤
 IsOf (care.Repair stream extent node) (tended.Repaired repaired) = repaired ≡ record { part = stream; extent = extent; node = node }

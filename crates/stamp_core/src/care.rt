@@ -1,8 +1,8 @@
-//! What is done to one slot, beside serving requests and splitting it.
+//! The names of the steps on one slot, beside serving requests and splitting the slot.
 use extent_node::Node;
 use partition_stream::StreamName;
 
-/// What is done to one slot.
+/// A step on one slot.
 #[derive(Clone, Copy)]
 pub enum CoreCare {
     /// Keep or drop the change that is in doubt.
@@ -13,7 +13,7 @@ pub enum CoreCare {
     Load,
     /// Write the rows as a checkpoint, and begin the log anew.
     Checkpoint,
-    /// Write the rows and the content that they say to new streams.
+    /// Sweep the streams: write all rows again, and give up all that was there before.
     Compact,
     /// Drop the rows from memory.
     Unload,

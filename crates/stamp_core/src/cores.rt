@@ -20,7 +20,7 @@ ghost use Rattle.stamp_core.specs.CoreSteps.{AnswersSteadily, told_answer, has_f
 ghost use Rattle.stamp_core.specs.Tending.{IsOf, care_answer};
 
 mod audit;
-mod compact;
+mod sweep;
 
 use crate::auditing::AuditedReply;
 use crate::care::CoreCare;
@@ -264,7 +264,7 @@ impl<H: Histories> Core<H> {
     /// One Settle, Seal, Load, Checkpoint, Compact, Unload, Move or Repair step, on the slot with this number. All but Unload and Move settle
     /// the doubt of the slot first. The machine has no extents and no logs, so its answer `Made` says that the doubt was settled, and no more.
     /// But what the slot gave is handed on, and only its call makes such a value: so a step that says `Sealed` has sealed the streams, and so
-    /// on. To drop what a checkpoint or a compaction replaced takes time for each block.
+    /// on. To drop what a checkpoint replaced or a sweep gave up takes time for each block.
     ///
     /// `NoSuchSlot` if no slot has the number. `Repair` with `NoSuchExtent` if the stream of a repair has no sealed extent of the number. `Busy`
     /// of the slot, or `Unreachable` of a repair, if nodes that were needed did not answer, and `NoMemory` if memory runs out. After a fault

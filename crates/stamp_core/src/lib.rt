@@ -3,12 +3,12 @@
 
 mod auditing;
 mod care;
-mod compacting;
 mod cores;
 mod open_tickets;
 mod rotating;
 mod serving;
 mod splitting;
+mod sweeping;
 mod telling;
 mod tended;
 mod tending;

@@ -1,8 +1,9 @@
-//! What the care of a slot gave, and why it was not taken.
+//! The value that a care of a slot gives, and why a care is not taken.
 use partition_stream::Replaced;
-use stored_rows::{AllSealed, Compacted, Repaired, StoredFault, Unloaded, Unrepaired};
+use stored_rows::{AllSealed, Repaired, StoredFault, Unloaded, Unrepaired};
+use stored_slot::SweepStep;
 
-/// What the care of a slot gave. Only the call of the slot that takes the care makes the value in it: so a body that answers `Sealed` has sealed
+/// The value that a care of a slot gives. Only the call of the slot that takes the care makes the value in it: so a body that answers `Sealed` has sealed
 /// the streams of a slot, and a body that answers `Repaired` has made this repair.
 #[derive(Drop)]
 pub enum Tended {
@@ -14,8 +15,8 @@ pub enum Tended {
     Loaded,
     /// The rows are written as a checkpoint. These are the log and the older rows.
     Checkpointed(Replaced),
-    /// The rows and their content are in new streams. These are the old ones.
-    Compacted(Compacted),
+    /// A step of a sweep is made. This is how far the sweep is, with what it gave up at its end.
+    Swept(SweepStep),
     /// The slot has no rows in memory. These are the rows that it had.
     Unloaded(Unloaded),
     /// Another server has the slot. These are the rows that were in memory.

@@ -1,4 +1,4 @@
-//! What is done to one slot, beside serving requests and splitting it.
+//! The cares of one slot: each step on a slot, beside serving requests and splitting the slot.
 ghost use Rattle.std.specs.Prelude.{◌≡◌, IfOk};
 ghost use Rattle.extent_seal.specs.Counting.{Grows};
 ghost use Rattle.stored_rows.specs.Repairs.{IsRepairOf, fault_of, unnamed};
@@ -17,8 +17,8 @@ use partition_map::Spans;
 use partition_stream::{Replaced, StreamName};
 use slot_state::Histories;
 use std::alloc::Global;
-use stored_rows::{AllSealed, Compacted, Repaired, StoredFault, Unrepaired};
-use stored_slot::StoredSlot;
+use stored_rows::{AllSealed, Repaired, StoredFault, Unrepaired};
+use stored_slot::{StoredSlot, SweepStep};
 
 /// Why a step on a slot fails.
 pub(crate) fn fault_of_slot(fault: StoredFault) -> StepFault
@@ -85,13 +85,13 @@ fn checkpointed(called: Result<Replaced, StoredFault>) -> Result<Tended, Untende
     }
 }
 
-// A compaction that ended so.
-fn compacted(called: Result<Compacted, StoredFault>) -> Result<Tended, Untended>
+// A sweep that ended so.
+fn swept(called: Result<SweepStep, StoredFault>) -> Result<Tended, Untended>
     ensures answer { care_answer result ≡ slot_answer called }
     ensures given { IfOk result (IsOf care.Compact) }
 {
     match called {
-        Ok(compacted) => Ok(Tended::Compacted(compacted)),
+        Ok(swept) => Ok(Tended::Swept(swept)),
         Err(fault) => Err(Untended::Slot(fault)),
     }
 }
@@ -146,7 +146,7 @@ fn tend_slot<H: Histories, W: Wire>(
         CoreCare::Seal => sealed(slot.seal(alloc, wire)),
         CoreCare::Load => loaded(slot.load(alloc, wire)),
         CoreCare::Checkpoint => checkpointed(slot.checkpoint(alloc, wire)),
-        CoreCare::Compact => compacted(slot.compact(alloc, wire)),
+        CoreCare::Compact => swept(slot.compact(alloc, wire)),
         CoreCare::Unload => Ok(Tended::Unloaded(slot.unload())),
         CoreCare::Move { server } => Ok(Tended::Moved(slot.move_to(server))),
         CoreCare::Repair {

@@ -35,9 +35,9 @@ module _ (s s' : SlotState) (old new : Calls) where
   written (Ok u) left counted = (left, counted)
   written (Err f) left counted = (left, counted)
 
-  pub compacted : (r : Result (Unit {0}) StoredFault) → LeavesSettled r s s' → FailsStored r old new → TendsLent care.Compact s old new (told_slot r) s'
-  compacted (Ok u) left counted = (left, counted)
-  compacted (Err f) left counted = (left, counted)
+  pub swept : (r : Result (Unit {0}) StoredFault) → LeavesSettled r s s' → FailsStored r old new → TendsLent care.Compact s old new (told_slot r) s'
+  swept (Ok u) left counted = (left, counted)
+  swept (Err f) left counted = (left, counted)
 
   pub repaired : (stream : StreamName) (extent : ℕ) (node : Node) (r : Result Repaired Unrepaired) → IsRepairOf stream extent node r → LeavesRepaired (unnamed r) s s' → FailsRepair (unnamed r) old new
       → TendsLent (care.Repair stream extent node) s old new (told_repair r) s'

@@ -13,7 +13,7 @@ pub enum Care {
     Load,
     /// Write the rows as a checkpoint, and begin the log anew.
     Checkpoint,
-    /// Write the rows and the content that they say, and no other content, to new streams.
+    /// Sweep the streams: write all rows again, and give up all that was there before.
     Compact,
     /// Drop the rows from memory.
     Unload,

@@ -184,8 +184,9 @@ impl<W: Wire + Drop> Stamp<W> {
         table.tend(rt, alloc, slot, care, taken)
     }
 
-    /// Settles, seals, loads, unloads, compacts or repairs the slot with this number, or makes a checkpoint of it. All but an unload settle
-    /// the doubt of the slot first. What a checkpoint or a compaction replaces, and what an unload takes out of memory, is dropped after the locks.
+    /// Settles, seals, loads, unloads, sweeps or repairs the slot with this number, or makes a checkpoint of it. All but an unload settle the
+    /// doubt of the slot first. Streams that a checkpoint replaces or a sweep gives up, and rows that an unload takes out of memory, are dropped after
+    /// the locks.
     ///
     /// `NoSuchSlot` if no slot has the number, `Slot` with the fault of the slot's call, `Repair` with the fault of the repair. If the slot does
     /// not begin with the first key of its span, the answer is `Slot` with `NoMemory`, and the slot stays: only tests show that each slot does.

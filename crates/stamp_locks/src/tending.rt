@@ -1,4 +1,4 @@
-//! What is done to a slot that its lock lends, beside serving and cutting it.
+//! The cares of a slot that its lock lends: each step on it, beside serving and cutting it.
 ghost use Rattle.std.specs.Prelude.{◌≡◌, ◌≢◌, ◌≤◌, Err, length};
 ghost use Rattle.partition_map.specs.Spans.{AreSpans};
 ghost use Rattle.stored_rows.specs.Counting.{FailsStored};
@@ -16,19 +16,19 @@ use partition_map::Spans;
 use partition_stream::Replaced;
 use slot_state::KeptHistories;
 use std::alloc::Global;
-use stored_rows::{Compacted, Repaired, StoredFault, Unloaded, Unrepaired};
-use stored_slot::StoredSlot;
+use stored_rows::{Repaired, StoredFault, Unloaded, Unrepaired};
+use stored_slot::{StoredSlot, SweepStep};
 
-/// What a care took out of a slot: streams that a checkpoint or a compaction replaced, or rows that were in memory. To drop it takes time for
-/// each block, or for each row.
+/// A value that a care took out of a slot: streams that a checkpoint replaced, streams that a sweep gave up, or rows that were in memory. To drop it
+/// takes time for each block, or for each row.
 #[derive(Drop)]
 pub(crate) enum TakenOut {
     Checkpoint(Replaced),
-    Compaction(Compacted),
+    Sweep(SweepStep),
     Rows(Unloaded),
 }
 
-// What a care answers whose call of the slot ended so.
+// The answer of a care whose call of the slot ended so.
 fn told_slot(called: Result<(), StoredFault>) -> Result<(), TendFault>
     ensures { result ≡ lent.told_slot called }
 {
@@ -38,7 +38,7 @@ fn told_slot(called: Result<(), StoredFault>) -> Result<(), TendFault>
     }
 }
 
-// What a repair answers that ended so.
+// The answer of a repair that ended so.
 fn told_repair(called: Result<Repaired, Unrepaired>) -> Result<(), TendFault>
     ensures { result ≡ lent.told_repair called }
 {
@@ -89,7 +89,7 @@ fn checkpoint<W: Wire>(
     }
 }
 
-// Writes the rows and their content to new streams, and keeps what was replaced.
+// Sweeps the streams, and keeps what the sweep gave up.
 fn compact<W: Wire>(
     slot: &mut StoredSlot<KeptHistories>,
     wire: &mut W,
@@ -100,8 +100,8 @@ fn compact<W: Wire>(
     ensures counted { FailsStored result (W.faults wire.old) (W.faults wire.new) }
 {
     match slot.compact(alloc, wire) {
-        Ok(old) => {
-            drop(taken.replace(TakenOut::Compaction(old)));
+        Ok(swept) => {
+            drop(taken.replace(TakenOut::Sweep(swept)));
             Ok(())
         }
         Err(fault) => Err(fault),

@@ -276,13 +276,13 @@ module _ (keys : Keys) (t : ℕ) (from to : ConnectionState) (result : Result En
   unbegun : ReplayEndsOutOfMemory keys t from to
   unbegun = record {
     received = [];
-    came = subst (λ (r : ReaderState). Receives from.reader r []) (sym finished.unread.0) (Receives-none from.reader fresh.0);
+    came = subst (λ (r : ReaderState). Receives from.reader r []) (sym finished.calls.unread.0) (Receives-none from.reader fresh.0);
     items = [];
     rest = [];
     reads = refl;
     begun = [];
     begun_is = inl refl;
-    output = finished.sent;
+    output = finished.calls.sent;
   }
 
   pub unbegun_starved : result ≡ Err NoMemory → ReplayEndsOutOfMemory keys t from to

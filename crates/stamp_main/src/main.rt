@@ -48,6 +48,9 @@ mod signing;
 mod signing_tests;
 mod sockets;
 mod splitting;
+mod sweeper;
+#[cfg(test)]
+mod sweeper_tests;
 mod words;
 
 /// The most reads that the program makes of its input.

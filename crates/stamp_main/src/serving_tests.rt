@@ -28,7 +28,7 @@ use std::time::{Clock, Duration};
 use std::{io, thread};
 
 // A Create Container of `pics`, signed by `key1`, a Put of `hello` under `a.txt`, signed by `key2`, and a Get of it, signed by `key1`.
-const CREATE: &[u8] =
+pub(crate) const CREATE: &[u8] =
     b"PUT /devstoreaccount1/pics?restype=container HTTP/1.1\r\nHost: 127.0.0.1:10000\r\nContent-Length: 0\r\nx-ms-date: Mon, 01 Oct 2012 12:00:00 GMT\r\nx-ms-version: 2012-02-12\r\nAuthorization: SharedKey devstoreaccount1:/Zt/M8NwlklmDGB00sttbyo87McxrIOvJXhMqumuXk0=\r\n\r\n";
 
 const PUT: &[u8] =
@@ -67,7 +67,7 @@ const LITTLE_PATIENCE: u64 = 300;
 
 /// A clock by which it stays noon of 1 October 2012, though time passes as it does by another clock.
 #[derive(Drop)]
-struct Noon<'a, R>(&'a R);
+pub(crate) struct Noon<'a, R>(pub(crate) &'a R);
 
 impl<R: Clock> Clock for Noon<'_, R> {
     fn monotonic(&self) -> io::Result<Duration> {

@@ -6,6 +6,7 @@ ghost use Rattle.served_history.specs.declared.entry.Entry.TheVariants.{Opened};
 use crate::audit::Audit;
 use crate::console::Console;
 use crate::machine::Machine;
+use crate::sweeper::{Bell, sweep_until};
 use access_rules::Keys;
 use audit_lines::{Books, write_books};
 use served_history::{Account, LogFront, NewHistory};
@@ -203,7 +204,43 @@ fn serve_and_write<
     served
 }
 
-/// Serves connections by these services, and lets the operator obey the lines of a console until serving has ended.
+// Serves connections by these services, and lets the operator obey the lines of a console until serving has ended. Rings the bell then.
+fn serve_attended<
+    'a,
+    A: Account + Send + Sync,
+    R: Net + Threads + Wait + Sync,
+    C: Clock + Sync,
+    L: Read + Drop + Send,
+    O: Write + Drop + Send,
+>(
+    rt: &'a R,
+    clock: &'a C,
+    alloc: Global,
+    operator: &mut Operator<'a, A, R>,
+    services: &SlotServices<'a, A, R, C>,
+    intake: &Intake<'_>,
+    console: &mut Console<L, O>,
+    bell: &Bell,
+) -> io::Result<()> {
+    let listener = intake.listener;
+    let workers = intake.workers;
+    let limits = intake.limits;
+    let is_over = AtomicBool::new(false);
+    let (_, served) = thread::join(
+        rt,
+        || console.attend(rt, operator, alloc, &is_over),
+        || {
+            let served = serve_listener(rt, clock, alloc, listener, workers, services, limits);
+            is_over.store(true, Ordering::SeqCst);
+            bell.ring(rt);
+            served
+        },
+    );
+    served
+}
+
+/// Serves connections by these services, lets the operator obey the lines of a console, and sweeps the slots that are to be swept, until serving has
+/// ended. If no thread can be made for the sweeps, only requests that write make steps of sweeps.
 pub(crate) fn serve_and_obey<
     'a,
     A: Account + Send + Sync,
@@ -220,18 +257,15 @@ pub(crate) fn serve_and_obey<
     intake: &Intake<'_>,
     console: &mut Console<L, O>,
 ) -> io::Result<()> {
-    let listener = intake.listener;
-    let workers = intake.workers;
-    let limits = intake.limits;
-    let is_over = AtomicBool::new(false);
+    let slots = services.slots;
+    let reserve = services.reserve;
+    let bell = Bell::new();
     let (_, served) = thread::join(
         rt,
-        || console.attend(rt, operator, alloc, &is_over),
-        || {
-            let served = serve_listener(rt, clock, alloc, listener, workers, services, limits);
-            is_over.store(true, Ordering::SeqCst);
-            served
-        },
+        || sweep_until(rt, clock, alloc, slots, reserve, &bell),
+        || -> io::Result<()>
+            requires { IsSend A.row × IsSend L.row × IsSend O.row }
+        { serve_attended(rt, clock, alloc, operator, services, intake, console, &bell) },
     );
     served
 }

@@ -26,7 +26,8 @@ ghost use Rattle.stamp_model.specs.Runs.{Timed, world_after_all, reply_to_one};
 /// rule, also for a request that only reads. Along the entries of a history, if a caller saw a
 /// blob, and an entry with the ETag of that blob in If-Match is accepted later, the blob was still
 /// as the caller saw it when that entry changed it. The same is so of a later request among
-/// requests in turn, if the reply to the later request names no rule.
+/// requests in turn, if the reply to the later request names no rule, and if no ETag of the
+/// container is above its count at first.
 pub fn a_conditional_write_changes_what_its_caller_saw()
     ensures changed { (keys : Option Keys) (w : World (List ℕ)) (q : Asked) (t : ℕ)
         → IsAsk q.ask → effect keys w q t ≢ w → MeetsConditions (part_at w q.ask.key) q.ask }

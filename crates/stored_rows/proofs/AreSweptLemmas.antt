@@ -83,15 +83,22 @@ module _ (w : Sweep) (range : KeyRange) (s t : ThreeStreams) (swept : AreSwept w
     pub swept_doubts : (c : Recorded) → (logged t).doubt ≡ Some c → IsLoggable w.mark swept.news s c → AreSwept w range t
     swept_doubts c is may = swept_with (subst (λ (o : Option Recorded). IfSome o (IsLoggable w.mark swept.news t)) (sym is) (loggable_same c may))
 
-  -- one change more, which may be logged
+  -- one change more, which may be logged: what is new is what was new, and what the change writes
+  pub swept_news : (c : Recorded) → IsOneMore (logged s) c (logged t) → (logged t).doubt ≡ None → covers range c.0.key ≡ true → Fits (held_of (logged s) c.0.key) c.0.act
+      → IsLoggable w.mark swept.news s c → (now : AreSwept w range t) × (now.news ≡ with_new_change swept.news c)
+  swept_news c more none covered fit may = (
+    record {
+      log = log_there;
+      blobs = blobs_there;
+      room = let a = swept.room in let b = room_stays w.mark s t swept.log swept.blobs log blobs in omega (arith, a, b);
+      news = with_new_change swept.news c;
+      swept = swept_more w.mark swept.news (covers range) s t c swept.swept more (more_since w.mark s t (c ∷ []) swept.log log more.log) covered may.may fit may.from;
+      known = known_more w.cursor w.touched swept.news (covers range) s t c swept.known more;
+      doubt = subst (λ (o : Option Recorded). IfSome o (IsLoggable w.mark (with_new_change swept.news c) t)) (sym none) tt;
+    },
+    refl,
+  )
+
   pub swept_change : (c : Recorded) → IsOneMore (logged s) c (logged t) → (logged t).doubt ≡ None → covers range c.0.key ≡ true → Fits (held_of (logged s) c.0.key) c.0.act
       → IsLoggable w.mark swept.news s c → AreSwept w range t
-  swept_change c more none covered fit may = record {
-    log = log_there;
-    blobs = blobs_there;
-    room = let a = swept.room in let b = room_stays w.mark s t swept.log swept.blobs log blobs in omega (arith, a, b);
-    news = with_new_change swept.news c;
-    swept = swept_more w.mark swept.news (covers range) s t c swept.swept more (more_since w.mark s t (c ∷ []) swept.log log more.log) covered may.may fit may.from;
-    known = known_more w.cursor w.touched swept.news (covers range) s t c swept.known more;
-    doubt = subst (λ (o : Option Recorded). IfSome o (IsLoggable w.mark (with_new_change swept.news c) t)) (sym none) tt;
-  }
+  swept_change c more none covered fit may = (swept_news c more none covered fit may).0

@@ -1,4 +1,4 @@
--- What a sweep knows of the rows that were written since its mark.
+-- Rows that a sweep knows to be written since its mark.
 use Rattle.std.proofs.Common.{◌≡◌, ◌∙◌, ◌⊎◌, inl, inr, ℕ, ◌+◌, ◌==◌, ◌&&◌, Bool, true, false, ◌||◌, cond, Option, Some, None, IsSome, List, ap, sym, refl, subst}
 use Rattle.std.specs.Prelude.{IfSome, is_none, not, unwrap_or}
 use Rattle.std.proofs.lemmas.Bool.{eqb-true}
@@ -106,7 +106,7 @@ new_row_step None p a name is = λ h. elim (got_after no_news (p.count + 1) a p 
 ]
 
 -- after an act the row of the container is new
-begun_next : (o : Option News) (a : Act) (p : Part (List Piece)) → IsBegun (next_news o a) p
+pub begun_next : (o : Option News) (a : Act) (p : Part (List Piece)) → IsBegun (next_news o a) p
 begun_next (Some news) a p = tt
 begun_next None a p = tt
 
@@ -140,7 +140,7 @@ module _ (c : Cursor) (names : Names) (news : AllNews) (inside : Key → Bool) (
           subst (λ (b : Bool). IsBegun (cond b (next_news (news key) x.0.act) (news key)) (held_of (logged t) key)) (sym off)
           (subst (λ (p : Part (List Piece)). IsBegun (news key) p) (sym (held_of-other (logged s) (logged t) x key more (other_key key x off))) is)
 
-  -- What is known stays true, whatever change comes
+  -- All that is known stays true, whatever change comes
   pub known_more : IsKnown c names (with_new_change news x) inside t
   known_more = record {
     rows = λ key here knows. begun_more key (known.rows key here knows);
@@ -157,7 +157,7 @@ known_same c names news inside half s t held within known = record {
 
 -- ---- a change that may be logged
 
-none_of : {X : Type 0} (o : Option X) → is_none o ≡ true → o ≡ None
+pub none_of : {X : Type 0} (o : Option X) → is_none o ≡ true → o ≡ None
 none_of None h = refl
 none_of (Some x) h = cc
 

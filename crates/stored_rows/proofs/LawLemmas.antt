@@ -7,7 +7,7 @@ use Rattle.partition_stream.specs.Changes.{Recorded}
 use Rattle.partition_stream.specs.Meanings.{acts_on, after_acts, is_on}
 use Rattle.partition_stream.specs.declared.faults.TakeFault.{TakeFault}
 use Rattle.partition_stream.specs.declared.faults.TakeFault.TheVariants as fault
-use Rattle.stored_rows.specs.States.{AreTaken, IsChanged, SettlesRows, IsTaken, MeansTheSame, Stored, bytes_of, doubt_of}
+use Rattle.stored_rows.specs.States.{AreTaken, IsChanged, IsTaken, MeansTheSame, SettlesRows, Stored, bytes_of, doubt_of, own_doubt, own_doubt_of}
 use Rattle.stored_rows.specs.declared.faults.Ended.{Ended}
 use Rattle.stored_rows.specs.declared.faults.Ended.TheVariants as ended
 use Rattle.stored_rows.proofs.FittingLemmas.{acts_on-next, is_on-same}
@@ -57,7 +57,7 @@ changed_before s t u c same h = record {
 
 -- a doubt that is settled
 pub doubt_settled : (s t u : Stored) (c : Recorded) (e : Ended) → IsTaken (Err fault.Doubt) s c t → SettlesRows (Ok e) t u
-    → IsChanged s c u ⊎ (MeansTheSame s u × (doubt_of u ≡ None))
-doubt_settled s t u c ended.Clean taken h = inr (same_twice s t u taken.0 h.0, h.1.1)
+    → IsChanged s c u ⊎ (MeansTheSame s u × (own_doubt_of u ≡ None))
+doubt_settled s t u c ended.Clean taken h = inr (same_twice s t u taken.0 h.0, ap own_doubt h.1.1 ∙ h.1.0)
 doubt_settled s t u c ended.Kept taken h = inl (changed_before s t u c taken.0 (h.0 c taken.1))
-doubt_settled s t u c ended.Dropped taken h = inr (same_twice s t u taken.0 h.0, h.1.1)
+doubt_settled s t u c ended.Dropped taken h = inr (same_twice s t u taken.0 h.0, ap own_doubt h.1.1)

@@ -1,5 +1,5 @@
 -- How many bytes an extent of two or more blocks may have: each call keeps it.
-use Rattle.std.proofs.Common.{◌≡◌, ◌∙◌, ℕ, Result, Ok, Err, refl, sym, ap, subst}
+use Rattle.std.proofs.Common.{◌≡◌, ◌∙◌, ℕ, Result, Ok, Err, sym, ap, subst}
 use Rattle.std.specs.Prelude.{OnErr, OnOk}
 use Rattle.stream_manager.specs.Streams.{Streamed}
 use Rattle.partition_stream.specs.Compactions.{HaveLimit}
@@ -13,25 +13,10 @@ module _ (n : ℕ) (s t : ThreeStreams) where
   pub limit_kept : HaveLimit n s → HaveSameLimits s t → HaveLimit n t
   limit_kept old same = record { log = same.log ∙ old.log; blobs = same.blobs ∙ old.blobs; rows = same.rows ∙ old.rows }
 
-  -- streams of one limit
-  pub limits_equal : HaveLimit n s → HaveLimit n t → HaveSameLimits s t
-  limits_equal old new = record { log = new.log ∙ sym old.log; blobs = new.blobs ∙ sym old.blobs; rows = new.rows ∙ sym old.rows }
-
   -- the log and the rows are new, or nothing is
   pub checkpoint_limit : {T E : Type 0} (r : Result T E) → HaveLimit n s → t.blobs ≡ s.blobs → OnOk r ((t.log.limit ≡ n) × (t.rows.limit ≡ n)) → OnErr r (t ≡ s) → HaveLimit n t
   checkpoint_limit (Ok x) old blobs made same = record { log = made.0; blobs = ap limit_of blobs ∙ old.blobs; rows = made.1 }
   checkpoint_limit (Err e) old blobs made same = subst (HaveLimit n) (sym same) old
-
-  -- all streams are new, or nothing is
-  pub moved_limit : {T E : Type 0} (r : Result T E) → HaveLimit n s → OnOk r (HaveLimit n t) → OnErr r (t ≡ s) → HaveLimit n t
-  moved_limit (Ok x) old made same = made
-  moved_limit (Err e) old made same = subst (HaveLimit n) (sym same) old
-
-pub limits_itself : (s t : ThreeStreams) → t ≡ s → HaveSameLimits s t
-limits_itself s t same = subst (HaveSameLimits s) (sym same) (record { log = refl; blobs = refl; rows = refl })
-
-pub limits_twice : (s t u : ThreeStreams) → HaveSameLimits s t → HaveSameLimits t u → HaveSameLimits s u
-limits_twice s t u first then = record { log = then.log ∙ first.log; blobs = then.blobs ∙ first.blobs; rows = then.rows ∙ first.rows }
 
 -- content was put, and a change was logged
 pub logged_limits : (s t u : ThreeStreams) → t.log ≡ s.log → t.rows ≡ s.rows → t.blobs.limit ≡ s.blobs.limit → u.blobs ≡ t.blobs → u.rows ≡ t.rows → u.log.limit ≡ t.log.limit → HaveSameLimits s u

@@ -29,7 +29,7 @@ use Rattle.stored_rows.specs.Loaded.{AreLoaded, AreRowsOf}
 use Rattle.stored_rows.specs.Logging.{IsPutAndLogged, KeepsFound, KeepsLog}
 use Rattle.stored_rows.specs.Noting.{IfKept, IsKeptBeside, IsLoadedBeside, IsSettledBeside, ended_by, loaded_by, sealed_by, taken_by}
 use Rattle.stored_rows.specs.Ranges.{covers}
-use Rattle.stored_rows.specs.States.{IsTaken, MeansTheSame, SettlesRows, Stored}
+use Rattle.stored_rows.specs.States.{IsTaken, MeansTheSame, SettlesRows, Stored, own_doubt}
 use Rattle.stored_rows.specs.declared.key_range.KeyRange.{KeyRange}
 use Rattle.stored_rows.specs.declared.faults.Ended.{Ended}
 use Rattle.stored_rows.specs.declared.sealed.AllSealed.{AllSealed}
@@ -124,16 +124,16 @@ still_loaded s t range v w whole h same =
 
 -- what a settle does
 pub settled_rows : (r : Result Settled StoredFault) (s t : ThreeStreams) (range : KeyRange) (v w : Option (World (List Piece))) (d e : Option KeyedAct) → AreLoaded s v d range → AreKept s
-    → t.blobs ≡ s.blobs → t.rows ≡ s.rows → IsLogSettled r s t → IsSettledBeside r v w d e
+    → t.blobs ≡ s.blobs → t.rows ≡ s.rows → IsLogSettled r s t → IsSettledBeside r v w d e → own_doubt (logged s).doubt ≡ (logged s).doubt
     → SettlesRows (ended_by r) (record { streams = s; range = range; is_loaded = is_some v }) (record { streams = t; range = range; is_loaded = is_some w })
-settled_rows (Ok settled.Clean) s t range v w d e old whole blobs rows h f =
-    (still_loaded s t range v w whole (same_log_keeps s t h.1 blobs rows) f.0, (h.0, same_log_doubt s t h.1 ∙ h.0))
-settled_rows (Ok (settled.Kept p)) s t range v w d e old whole blobs rows h f =
-    (kept_changed s t range v d old blobs rows h.0 w whole h.1.0 h.1.1.0 h.1.1.1 f.0, (subst (λ q. IsSome q) (sym h.1.0) refl, h.1.1.1))
-settled_rows (Ok settled.Dropped) s t range v w d e old whole blobs rows h f =
-    (still_loaded s t range v w whole (log_keeps s t h.1.0 blobs rows) f.0, (h.0, h.1.1))
-settled_rows (Err x) s t range v w d e old whole blobs rows h f =
-    (still_loaded s t range v w whole (same_log_keeps s t h.1 blobs rows) f.0, (h.0, same_log_doubt s t h.1))
+settled_rows (Ok settled.Clean) s t range v w d e old whole blobs rows h f own =
+    (still_loaded s t range v w whole (same_log_keeps s t h.1 blobs rows) f.0, (own ∙ h.0, same_log_doubt s t h.1))
+settled_rows (Ok (settled.Kept p)) s t range v w d e old whole blobs rows h f own =
+    (kept_changed s t range v d old blobs rows h.0 w whole h.1.0 h.1.1.0 h.1.1.1 f.0, (subst (λ q. IsSome q) (sym (own ∙ h.1.0)) refl, h.1.1.1))
+settled_rows (Ok settled.Dropped) s t range v w d e old whole blobs rows h f own =
+    (still_loaded s t range v w whole (log_keeps s t h.1.0 blobs rows) f.0, (subst (λ q. IsSome q) (sym own) h.0, h.1.1))
+settled_rows (Err x) s t range v w d e old whole blobs rows h f own =
+    (still_loaded s t range v w whole (same_log_keeps s t h.1 blobs rows) f.0, (subst (λ q. IsSome q) (sym own) h.0, same_log_doubt s t h.1))
 
 -- a settle fails as that of its log did
 pub settled_fails : (r : Result Settled StoredFault) (a b : Calls) → FailsSettle r a b → FailsStored (ended_by r) a b

@@ -83,7 +83,8 @@ container_row_keeps s t key k more = by (is_on k row) refl
 pub again_keeps : (s t : Logged) (key : Key) (a : Act) → IsAgain s.blobs (held_of s key) a → IsOneMore s (record { key = key; act = a }, 0) t → t.blobs ≡ s.blobs
     → ((k : Key) → EachContent (AreStored s.blobs) (held_of s k)) → (k : Key) → meaning t k ≡ meaning s k
 again_keeps s t key (act.StoredBlob row) again more blobs stored k =
-    row_again_keeps s t key row.blob again.0 row 0 again.1.0
+    row_again_keeps s t key row.blob again.0 row
+    0 again.1.0
     (subst (λ (fs : List (List Block)). IsMovedRow s.blobs (row_of row.blob again.0) fs row) (sym blobs) again.1.1) more
     (subst (λ (fs : List (List Block)). KeepsPlaces s.blobs fs) (sym blobs) (λ p b h. h)) stored k
 again_keeps s t key (act.ContainerRow r) again more blobs stored k =

@@ -1,4 +1,4 @@
--- What each call leaves of a sweep.
+-- A sweep after each call.
 use Rattle.std.proofs.Common.{◌≡◌, ◌∙◌, ℕ, Bool, true, false, cond, Option, Some, None, IfSome, Result, Ok, Err, List, [], ◌∷◌, ◌++◌, length, ap, refl, sym, subst}
 use Rattle.extent_node.specs.Copies.{Block}
 use Rattle.stamp_values.specs.declared.key.Key.{Key}

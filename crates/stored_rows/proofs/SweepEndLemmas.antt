@@ -82,6 +82,10 @@ past_all cursor.Start key name end = cc
 past_all (cursor.In at last) key name end = cc
 past_all (cursor.After at) key name end = cc
 
+-- nothing is in doubt once a front was given up
+pub given_sure : (m : Mark) (s t : ThreeStreams) → GivesUpBefore m s t → (logged t).doubt ≡ None
+given_sure m s t given = ap (λ (last : Open). option_and_then change_in last.tried) given.log.last ∙ ap (option_and_then change_in) given.sure
+
 each_new : (o : Option News) (p : Part (List Piece)) → ((name : List ℕ) → IsNewRow o p name) → IsAllNew o p
 each_new None p new = new []
 each_new (Some news) p new = new
@@ -102,7 +106,7 @@ module _ (w : Sweep) (range : KeyRange) (s t : ThreeStreams) (swept : AreSwept w
   bytes_there key covered = swept_ends w.mark swept.news (covers range) s t swept.swept given key covered (new_at key covered)
 
   pub sure_given : (logged t).doubt ≡ None
-  sure_given = ap (λ (last : Open). option_and_then change_in last.tried) given.log.last ∙ ap (option_and_then change_in) given.sure
+  sure_given = given_sure w.mark s t given
 
   same_part : (key : Key) (b : Bool) → covers range key ≡ b → part_of range key (all_changes s) ≡ part_of range key (all_changes t)
   same_part key true covered = part_of-covered range key (all_changes s) covered ∙ sym (held_there key covered) ∙ sym (part_of-covered range key (all_changes t) covered)

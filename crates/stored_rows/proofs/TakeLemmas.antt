@@ -198,7 +198,7 @@ module _ (s t : ThreeStreams) (range : KeyRange) (o : Option (World (List Piece)
   pub dropped_loaded : (logged t).log ≡ (logged s).log → (logged t).doubt ≡ None → AreLoaded t o None range
   dropped_loaded log none = loaded_same s t (log_keeps s t log blobs rows) range o d None old (no_doubt range t none) (sym (undoubted t none))
 
-  one_more : (c : Recorded) → (logged t).log ≡ (logged s).log ++ c ∷ [] → IsOneMore (logged s) c (logged t)
+  pub one_more : (c : Recorded) → (logged t).log ≡ (logged s).log ++ c ∷ [] → IsOneMore (logged s) c (logged t)
   one_more c log = record { rows = ap (λ r. changes_of (blocks_of (laid r))) rows; log = log }
 
   -- the doubt is the change that is kept beside the streams
@@ -253,7 +253,7 @@ nothing_held : (kept : Bool) (o : Option Recorded) → o ≡ None → doubt_held
 nothing_held true o none = ap option_to_list none
 nothing_held false o none = refl
 
-none_added : (s t : ThreeStreams) (doubt : Option Recorded) → (logged s).doubt ≡ None → Logs s [] doubt t → (logged t).log ≡ (logged s).log
+pub none_added : (s t : ThreeStreams) (doubt : Option Recorded) → (logged s).doubt ≡ None → Logs s [] doubt t → (logged t).log ≡ (logged s).log
 none_added s t doubt none h =
     h.changes ∙ ap (λ l. (logged s).log ++ with_kept l []) (nothing_held (is_kept (laid s.log) s.log.last (laid t.log)) (logged s).doubt none)
     ∙ append-nil (logged s).log

@@ -27,7 +27,7 @@ abbrev pub stored_fault_of_read : ReadFault → StoredFault
 stored_fault_of_read read.Unreachable = stored.Busy
 stored_fault_of_read read.NoMemory = stored.NoMemory
 
--- the fault of a compaction whose content was not moved
+-- the fault of a row whose content was not put again
 abbrev pub stored_fault_of_compaction : CompactionFault → StoredFault
 stored_fault_of_compaction compaction.Busy = stored.Busy
 stored_fault_of_compaction compaction.Unreachable = stored.Busy

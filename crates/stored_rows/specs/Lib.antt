@@ -3,10 +3,14 @@ pub mod Compactions
 pub mod Counting
 pub mod Faults
 pub mod Fitting
+pub mod Heard
 pub mod Loaded
 pub mod Logging
+pub mod NextRows
 pub mod Noting
 pub mod Ranges
 pub mod Repairs
+pub mod Rewriting
+pub mod RowDoubts
 pub mod States
 pub mod Swept

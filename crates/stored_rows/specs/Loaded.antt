@@ -4,7 +4,7 @@ use Rattle.std.specs.Option.{option_map}
 use Rattle.stamp_values.specs.declared.key.Key.{Key}
 use Rattle.stamp_types.specs.Changes.{KeyedAct}
 use Rattle.stamp_types.specs.declared.piece.Piece.{Piece}
-use Rattle.stamp_types.specs.World.{Part, World, changed_in, no_part, part_at, same_pieces}
+use Rattle.stamp_types.specs.World.{Blob, Part, World, changed_in, no_part, part_at, same_pieces}
 use Rattle.partition_stream.specs.Changes.{Recorded}
 use Rattle.partition_stream.specs.Compactions.{HaveLimit}
 use Rattle.partition_stream.specs.Meanings.{acts_on, after_acts}
@@ -13,6 +13,7 @@ use Rattle.partition_stream.specs.Streams.{ThreeStreams, logged}
 use Rattle.partition_stream.specs.declared.position.Position.{Position}
 use Rattle.stored_rows.specs.Fitting.{AllFit, FitsDoubt}
 use Rattle.stored_rows.specs.Ranges.{covers}
+use Rattle.stored_rows.specs.RowDoubts.{FitsRowDoubt}
 use Rattle.stored_rows.specs.Swept.{AreSwept}
 use Rattle.stored_rows.specs.declared.key_range.KeyRange.{KeyRange}
 use Rattle.stored_rows.specs.declared.sweep.Sweep.{Sweep}
@@ -58,8 +59,10 @@ pub record AreLoaded (s : ThreeStreams) (o : Option (World (List Piece))) (d : O
   pub tried : d ≡ doubted s
   pub rows : IfSome o (AreRowsOf range s)
 
--- what is true of all stored rows: that of `AreLoaded`, extents of two or more blocks may have so many bytes, and a sweep may be under way
-pub record AreLimited (bytes : ℕ) (s : ThreeStreams) (o : Option (World (List Piece))) (d : Option KeyedAct) (range : KeyRange) (sweep : Option Sweep) : Type 0 where
+-- what is true of all stored rows: that of `AreLoaded`, extents of two or more blocks may have so many bytes, a sweep may be under way, and so
+-- may the doubt of a row
+pub record AreLimited (bytes : ℕ) (s : ThreeStreams) (o : Option (World (List Piece))) (d : Option KeyedAct) (range : KeyRange) (sweep : Option Sweep) (spare : Option (Blob (List Piece))) : Type 0 where
   pub loaded : AreLoaded s o d range
   pub limits : HaveLimit bytes s
   pub swept : IfSome sweep (λ w. AreSwept w range s)
+  pub again : FitsRowDoubt s spare

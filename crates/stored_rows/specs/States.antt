@@ -1,7 +1,8 @@
 -- Stored rows: what is seen of them, and what calls do to them (SOSP 2011, section 5).
-use Rattle.std.specs.Prelude.{◌≡◌, ◌≢◌, ℕ, Bool, true, Option, Some, None, Result, Ok, Err, List, [], ◌∷◌, IsSome}
+use Rattle.std.specs.Prelude.{◌≡◌, ◌≢◌, ℕ, Bool, true, cond, Option, Some, None, Result, Ok, Err, List, [], ◌∷◌, IsSome}
 use Rattle.extent_node.specs.Copies.{Block}
 use Rattle.stamp_values.specs.declared.key.Key.{Key}
+use Rattle.stamp_types.specs.ActKinds.{is_row}
 use Rattle.stamp_types.specs.Changes.{KeyedAct}
 use Rattle.stamp_types.specs.Pieces.{held}
 use Rattle.stamp_types.specs.World.{Part, changed}
@@ -43,6 +44,14 @@ AreFoundIn s c blocks = AreFoundFor (pieces_of s c.key) c.act blocks
 -- the change that is in doubt, with its epoch
 abbrev pub doubt_of : Stored → Option Recorded
 doubt_of s = (logged s.streams).doubt
+
+-- the change that is in doubt, if it is not a row: a row that a sweep has written changes no container, whether it is kept or not
+abbrev pub own_doubt : Option Recorded → Option Recorded
+own_doubt None = None
+own_doubt (Some c) = cond (is_row c.0.act) None (Some c)
+
+abbrev pub own_doubt_of : Stored → Option Recorded
+own_doubt_of s = own_doubt (doubt_of s)
 
 -- a change is kept as another one, with its content at places where it is read
 pub record IsKeptAs (es : List (List Block)) (c d : KeyedAct) : Type 0 where
@@ -87,12 +96,12 @@ IsTaken (Err fault.Doubt) s c t = MeansTheSame s t × IsInDoubt c t
 IsTaken (Err fault.Busy) s c t = MeansTheSame s t × (doubt_of t ≡ None)
 IsTaken (Err fault.NoMemory) s c t = MeansTheSame s t × (doubt_of t ≡ None)
 
--- what a settle does: each change as which the doubt was kept is made now, or none
+-- what a settle does: each change as which the doubt was kept is made now, or none; a row in doubt is left
 abbrev pub SettlesRows : Result Ended StoredFault → Stored → Stored → Type 0
-SettlesRows (Ok ended.Clean) s t = MeansTheSame s t × ((doubt_of s ≡ None) × (doubt_of t ≡ None))
-SettlesRows (Ok ended.Kept) s t = ((c : Recorded) → IsInDoubt c s → IsChanged s c t) × (IsSome (doubt_of s) × (doubt_of t ≡ None))
-SettlesRows (Ok ended.Dropped) s t = MeansTheSame s t × (IsSome (doubt_of s) × (doubt_of t ≡ None))
-SettlesRows (Err e) s t = MeansTheSame s t × (IsSome (doubt_of s) × (doubt_of t ≡ doubt_of s))
+SettlesRows (Ok ended.Clean) s t = MeansTheSame s t × ((own_doubt_of s ≡ None) × (doubt_of t ≡ doubt_of s))
+SettlesRows (Ok ended.Kept) s t = ((c : Recorded) → IsInDoubt c s → IsChanged s c t) × (IsSome (own_doubt_of s) × (doubt_of t ≡ None))
+SettlesRows (Ok ended.Dropped) s t = MeansTheSame s t × (IsSome (own_doubt_of s) × (doubt_of t ≡ None))
+SettlesRows (Err e) s t = MeansTheSame s t × (IsSome (own_doubt_of s) × (doubt_of t ≡ doubt_of s))
 
 -- one of the two halves of stored rows that were cut: it means the same, for its own range, and has no doubt
 pub record IsHalf (own : KeyRange) (s t : Stored) : Type 0 where

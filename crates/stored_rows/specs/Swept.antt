@@ -1,5 +1,5 @@
 -- Rows that are swept: each is logged again, so that the streams before a mark can be given up (SOSP 2011, section 5.3: checkpoints).
-use Rattle.std.specs.Prelude.{◌≡◌, ◌≤◌, ⊤, ◌||◌, ◌&&◌, ◌==◌, ℕ, Bool, true, false, cond, not, length, List, Option, Some, None, IfSome, IsSome, is_none, is_some}
+use Rattle.std.specs.Prelude.{◌≡◌, ◌≤◌, ⊤, ◌||◌, ◌&&◌, ◌==◌, ℕ, Bool, true, false, cond, not, length, List, Option, Some, None, IfSome, IsSome, is_none, is_some, unwrap_or}
 use Rattle.std.specs.FinMap as finite
 use Rattle.std.specs.Global.{Vec}
 use Rattle.std.specs.Option.{option_map_or}
@@ -7,9 +7,8 @@ use Rattle.std.specs.declared.cmp.Ordering.{Ordering}
 use Rattle.std.specs.declared.cmp.Ordering.TheVariants.{Less, Equal, Greater}
 use Rattle.extent_node.specs.Copies.{Block}
 use Rattle.stamp_values.specs.Order.{key_cmp, name_cmp}
-use Rattle.stamp_values.specs.Trees.{is_below, is_from, is_name_from}
+use Rattle.stamp_values.specs.Trees.{is_from, is_name_from}
 use Rattle.stamp_values.specs.declared.key.Key.{Key}
-use Rattle.stamp_types.specs.ActKinds.{is_row}
 use Rattle.stamp_types.specs.Contents.{EachActContent}
 use Rattle.stamp_types.specs.Changes.{KeyedAct}
 use Rattle.stamp_types.specs.World.{Blob, Part, World, blob_in, no_part, part_at}
@@ -113,6 +112,15 @@ is_touched names key = is_some (finite.get names key)
 abbrev pub is_touched_blob : Names → Key → List ℕ → Bool
 is_touched_blob names key name = option_map_or (λ own. is_some (finite.get own name)) (finite.get names key) false
 
+-- the sweep once it has noted that the own row of a container was written
+abbrev pub with_container : Sweep → Key → Sweep
+with_container w key = cond (is_touched w.touched key) w (record w { touched = finite.insert w.touched key finite.empty })
+
+-- the sweep once it has noted that the row of a blob was written
+abbrev pub with_blob_row : Sweep → Key → List ℕ → Sweep
+with_blob_row w key name =
+    record w { touched = finite.insert w.touched key (finite.insert (unwrap_or (finite.get w.touched key) finite.empty) name (record {})) }
+
 -- whether the sweep knows that the row of the container was written since the mark
 abbrev pub knows_row : Cursor → Names → Key → Bool
 knows_row c names key = is_past c key || is_touched names key
@@ -162,6 +170,13 @@ is_unseen p = p.count == 0 && is_none p.standing
 -- whether the sweep knows that the blob was written since the mark, or nothing is left of a blob of this name
 abbrev pub knows_name : Cursor → Names → Key → Part (List Piece) → List ℕ → Bool
 knows_name c names key p name = knows_blob c names key name || not (is_left (blob_in p name))
+
+-- the name of the blob that the act reads, if it reads a blob
+abbrev pub read_by : Act → Option (List ℕ)
+read_by (act.SetMetadata a) = Some a.blob
+read_by (act.PutBlock a) = Some a.blob
+read_by (act.PutBlockList a) = Some a.blob
+read_by other = None
 
 -- whether the sweep knows that the blob that the act reads was written since the mark, if the act reads a blob
 abbrev pub knows_read : Cursor → Names → Key → Part (List Piece) → Act → Bool

@@ -16,7 +16,7 @@ pub(crate) fn stored_fault_of_read(fault: ReadFault) -> StoredFault
     }
 }
 
-/// The fault of a compaction whose content was not moved.
+/// The fault of a row whose content was not put again.
 pub(crate) fn stored_fault_of_compaction(fault: CompactionFault) -> StoredFault
     ensures { result ≡ stored_fault_of_compaction fault }
 {

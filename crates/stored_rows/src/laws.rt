@@ -20,7 +20,7 @@ ghost use Rattle.row_trees.specs.Halfway.{IsAllNew};
 ghost use Rattle.stored_rows.specs.Swept.{AllNews, IsRowInDoubt, IsSwept};
 ghost use Rattle.stored_rows.specs.Loaded.{AreLoaded};
 ghost use Rattle.stored_rows.specs.Ranges.{covers};
-ghost use Rattle.stored_rows.specs.States.{AreTaken, IsChanged, IsInDoubt, SettlesRows, IsTaken, MeansTheSame, Stored, bytes_of, doubt_of, pieces_of};
+ghost use Rattle.stored_rows.specs.States.{AreTaken, IsChanged, IsInDoubt, IsTaken, MeansTheSame, SettlesRows, Stored, bytes_of, doubt_of, own_doubt_of, pieces_of};
 ghost use Rattle.stored_rows.specs.declared.faults.Ended.{Ended};
 ghost use Rattle.stored_rows.specs.declared.key_range.KeyRange.{KeyRange};
 
@@ -58,10 +58,10 @@ pub fn a_refused_take_changes_nothing()
 {}
 
 /// A change that is in doubt and then settled is the change as if it had been taken, or nothing: each container is as the change leaves
-/// it, or each container is as it was.
+/// it, or each container is as it was. Then no change that was taken is in doubt.
 pub fn a_doubt_is_one_change_or_none()
     ensures { (s t u : Stored) (c : Recorded) (e : Ended) → IsTaken (Err fault.Doubt) s c t → SettlesRows (Ok e) t u
-        → IsChanged s c u ⊎ (MeansTheSame s u × (doubt_of u ≡ None)) }
+        → IsChanged s c u ⊎ (MeansTheSame s u × (own_doubt_of u ≡ None)) }
 {}
 
 /// If each row of a container of the range was written since the mark of a sweep, the container is the same after the streams before the mark were

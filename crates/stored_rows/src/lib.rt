@@ -1,7 +1,6 @@
 //! The rows of a range of keys that streams keep, and that are in memory while they are loaded.
 #![tactic(auto)]
 
-mod compacted;
 mod cursor;
 mod cutting;
 mod faults;
@@ -9,16 +8,20 @@ mod key_range;
 mod laws;
 mod loading;
 mod logging;
+mod next_row;
 mod noting;
 mod record_len;
 mod repaired;
+mod rewriting;
+mod row_doubt;
 mod sealed;
+mod step;
 mod stored_rows;
 mod sweep;
+mod sweep_steps;
 mod unloaded;
 mod waste;
 
-pub use compacted::Compacted;
 pub use faults::Ended;
 pub use key_range::KeyRange;
 pub use laws::{
@@ -29,6 +32,7 @@ pub use laws::{
 pub use partition_stream::TakeFault;
 pub use repaired::{NoExtent, Repaired, Unrepaired};
 pub use sealed::AllSealed;
+pub use step::{Progress, StepLimit};
 pub use stored_rows::{StoredRows, SweptAway};
 pub use stream_manager::StoredFault;
 pub use unloaded::Unloaded;

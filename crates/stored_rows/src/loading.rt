@@ -1,6 +1,7 @@
 //! Rows that are made of the changes that streams keep.
 ghost use Rattle.std.specs.Prelude.{◌≡◌, ◌≢◌, ◌<◌, Err, IfOk, IfSome, IsTrue, Ok, OnOk, false, true};
 ghost use Rattle.extent_seal.specs.Counting.{Grows, all_faults};
+ghost use Rattle.extent_seal.specs.Heard.{AsksAreHeard};
 ghost use Rattle.extent_seal.specs.declared.sealed.ReadFault.TheVariants.{Unreachable};
 ghost use Rattle.stamp_types.specs.Pieces.{pieces_len};
 ghost use Rattle.stamp_types.specs.World.{changed_in, part_at, part_value, same_pieces};
@@ -51,6 +52,7 @@ fn make_next<W: Wire>(
     ensures ended { result ≡ Ok false → changes_left streams.now position.new ≡ 0 }
     ensures unreachable { result ≡ Err Unreachable → all_faults (W.faults wire.old) < all_faults (W.faults wire.new) }
     ensures grown { Grows (W.faults wire.old) (W.faults wire.new) }
+    ensures heard { result ≢ Err Unreachable → AsksAreHeard (W.calls wire.old) (W.calls wire.new) (W.faults wire.old) (W.faults wire.new) }
 {
     let Some((change, _epoch)) = streams.next_change(position, wire)? else {
         return Ok(false);
@@ -72,6 +74,7 @@ pub(crate) fn rows_of<W: Wire>(
     ensures loaded { IfOk result (λ w. AreRowsOf range.now streams.now w) }
     ensures unreachable { result ≡ Err Unreachable → all_faults (W.faults wire.old) < all_faults (W.faults wire.new) }
     ensures grown { Grows (W.faults wire.old) (W.faults wire.new) }
+    ensures heard { result ≢ Err Unreachable → AsksAreHeard (W.calls wire.old) (W.calls wire.new) (W.faults wire.old) (W.faults wire.new) }
 {
     let mut rows = Rows::new(alloc);
     let mut position = Position::first();

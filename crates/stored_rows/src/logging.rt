@@ -1,10 +1,12 @@
 //! Changes whose content is put and which are logged.
-ghost use Rattle.std.specs.Prelude.{◌≡◌, IfOk, IfSome, IsSomeAnd, IsTrue, None, OnErr, false, length, map};
+ghost use Rattle.std.specs.Prelude.{◌≡◌, ◌≢◌, Err, IfOk, IfSome, IsSomeAnd, IsTrue, None, OnErr, false, length, map};
+ghost use Rattle.extent_seal.specs.Heard.{AsksAreHeard};
 ghost use Rattle.stamp_types.specs.ActKinds.{is_row};
 ghost use Rattle.stamp_types.specs.Changes.{content_of};
 ghost use Rattle.stamp_types.specs.Pieces.{is_held, piece_len};
 ghost use Rattle.stream_manager.specs.Places.{GoesOn, KeepsPlaces};
 ghost use Rattle.stream_manager.specs.Streams.{laid};
+ghost use Rattle.stream_manager.specs.declared.faults.StoredFault.TheVariants as stored_fault;
 ghost use Rattle.partition_stream.specs.Counting.{FailsPut};
 ghost use Rattle.partition_stream.specs.Storing.{AreKept};
 ghost use Rattle.partition_stream.specs.Streams.{HaveSameLimits, logged};
@@ -12,6 +14,8 @@ ghost use Rattle.partition_stream.specs.Sweeping.{AreFrom};
 ghost use Rattle.partition_stream.specs.Written.{written_len};
 ghost use Rattle.stored_rows.specs.Counting.{FailsLogged};
 ghost use Rattle.stored_rows.specs.Faults.{unlogged_by, unlogged_of_put};
+ghost use Rattle.stored_rows.specs.Heard.{HearsLogged};
+ghost use Rattle.stored_rows.specs.Rewriting.{IfLogged};
 ghost use Rattle.stored_rows.specs.Logging.{IsLoggedFrom, IsPutAt, IsPutAndLogged, KeepsFound, with_placed};
 
 use extent_node::Wire;
@@ -62,7 +66,7 @@ pub(crate) fn not_logged(fault: TakeFault, kept: Change) -> Unlogged
 }
 
 // Puts the content of a change into the data, if it comes with content, and answers the pieces that say where it is. No byte is copied.
-#[tactic(auto, using(stream_manager::proofs::RunLemmas::stays_on))]
+#[tactic(auto, using(stream_manager::proofs::RunLemmas::stays_on, extent_seal::proofs::HeardLemmas::heard_none))]
 fn put_pieces<W: Wire>(
     streams: &mut Streams,
     change: &Change,
@@ -77,6 +81,7 @@ fn put_pieces<W: Wire>(
     ensures rows { streams.new.rows ≡ streams.old.rows }
     ensures limit { streams.new.blobs.limit ≡ streams.old.blobs.limit }
     ensures counted { FailsPut result (W.faults wire.old) (W.faults wire.new) }
+    ensures heard { result ≢ Err stored_fault.Busy → AsksAreHeard (W.calls wire.old) (W.calls wire.new) (W.faults wire.old) (W.faults wire.new) }
 {
     match change.content() {
         Some(content) => match streams.put_data(content, wire) {
@@ -113,9 +118,11 @@ pub(crate) fn put_and_log<W: Wire>(
     requires sure { (logged streams.old).doubt ≡ None }
     ensures logged { IsPutAndLogged result streams.old (change, epoch) streams.new }
     ensures found { IfOk result (λ kept. KeepsFound change kept) }
+    ensures plain_kept { IfLogged result (λ kept. is_row kept.act ≡ false) }
     ensures length { IfOk result (λ kept. written.new ≡ written_len (kept, epoch)) }
     ensures unwritten { OnErr result (written.new ≡ written.old) }
     ensures counted { FailsLogged result (W.faults wire.old) (W.faults wire.new) }
+    ensures heard { HearsLogged result (W.calls wire.old) (W.calls wire.new) (W.faults wire.old) (W.faults wire.new) }
     ensures from { IsLoggedFrom (length streams.old.blobs.sealed) change result }
     ensures log_follows { GoesOn (laid streams.old.log) (laid streams.new.log) }
     ensures blobs_follow { GoesOn (laid streams.old.blobs) (laid streams.new.blobs) }

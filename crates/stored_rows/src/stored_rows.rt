@@ -2,8 +2,8 @@
 ghost use Rattle.std.specs.Prelude.{◌≡◌};
 
 mod checkpoint;
-mod compact;
 mod repair;
+mod stepping;
 mod sweeping;
 mod wasting;
 
@@ -13,6 +13,7 @@ use crate::key_range::KeyRange;
 use crate::loading::rows_of;
 use crate::logging::put_and_log;
 use crate::noting::{note, note_loaded, note_settled};
+use crate::row_doubt::{end_row, is_row};
 use crate::sealed::{AllSealed, note_sealed};
 use crate::sweep::{Sweep, end_sweep, keep_sweep};
 use crate::unloaded::Unloaded;
@@ -23,7 +24,7 @@ use extent_node::Wire;
 use extent_seal::ReadFault;
 use partition_stream::{Part, Streams, TakeFault};
 use range_rows::Span;
-use row_trees::{Found, Rows};
+use row_trees::{Found, NewRow, Rows};
 use stamp_types::{Change, Key, Piece};
 use std::alloc::{AllocError, Global};
 use std::marker::Model;
@@ -41,8 +42,10 @@ pub struct StoredRows {
     // The rows that the streams mean, while they are loaded.
     rows: Option<Rows>,
     range: KeyRange,
-    // The change that is in doubt, as the log may keep it.
+    // The change that is in doubt, as the log may keep it: a change that was taken, or a row that a sweep has written.
     doubt: Option<Change>,
+    // The row of a blob that memory will have if the row in doubt is kept, so that the end of the doubt takes no memory.
+    spare: Option<NewRow>,
     // What the streams have, and what exists of it. It is not seen in contracts.
     waste: Waste,
     // Whether a list is answered by a ticket, whose fetch writes its text. It is not seen in contracts.
@@ -60,11 +63,11 @@ impl Model for StoredRows {
 
     ghost view = { λ s. record { streams = s.streams; range = s.range; is_loaded = is_some s.rows } };
 
-    ghost invariant = { λ s. AreLimited s.extent_bytes s.streams s.rows s.doubt s.range s.sweep };
+    ghost invariant = { λ s. AreLimited s.extent_bytes s.streams s.rows s.doubt s.range s.sweep s.spare };
 }
 
 impl StoredRows {
-    ghost use Rattle.std.specs.Prelude.{◌≡◌, ◌≢◌, ◌≤◌, ◌+◌, ◌<◌, ◌^◌, true, false, is_some, All, None, Some, Err, IfSome, IfOk, IsErr, IsTrue, MatchOption, OnOk, OnErr, length, slice_range};
+    ghost use Rattle.std.specs.Prelude.{◌≡◌, ◌≢◌, ◌≤◌, ◌+◌, ◌<◌, ◌^◌, true, false, is_none, is_some, All, None, Some, Ok, Err, IfSome, IfOk, IsErr, IsTrue, MatchOption, OnOk, OnErr, length, slice_range};
     ghost use Rattle.std.specs.List.{flat_map, list_all};
     ghost use Rattle.std.specs.Option.{option_copied};
     ghost use Rattle.extent_seal.specs.Counting.{Grows, all_faults};
@@ -88,9 +91,10 @@ impl StoredRows {
     ghost use Rattle.range_rows.specs.SentContent.{AreShort, bytes_sent, is_within, span_bytes, with_content};
     ghost use Rattle.tickets.specs.Answers.{IsAnswerIf, IsSpanStored, are_in_last};
     ghost use Rattle.stored_rows.specs.Counting.{FailsStored, FailsTake};
+    ghost use Rattle.stored_rows.specs.Heard.{HearsStored, HearsTake};
     ghost use Rattle.stored_rows.specs.Loaded.{AreRowsOf};
     ghost use Rattle.stored_rows.specs.Ranges.{covers};
-    ghost use Rattle.stored_rows.specs.States.{AreFoundIn, IsHalf, SettlesRows, IsTaken, MeansTheSame, bytes_of, doubt_of, pieces_of};
+    ghost use Rattle.stored_rows.specs.States.{AreFoundIn, IsHalf, SettlesRows, IsTaken, MeansTheSame, bytes_of, doubt_of, own_doubt_of, pieces_of};
 
     /// The rows of a range without a container, which are loaded. The extents of their streams, and of those that take the place of these
     /// streams later, have at most `extent_bytes` bytes if they have two or more blocks. Takes no memory.
@@ -108,6 +112,7 @@ impl StoredRows {
             rows: Some(Rows::new(alloc)),
             range,
             doubt: None,
+            spare: None,
             waste: Waste::none(),
             gathers_lists: false,
             sweep: None,
@@ -157,11 +162,32 @@ impl StoredRows {
         self.range.to.as_ref()
     }
 
-    /// Whether a change is in doubt.
+    /// Whether a change that was taken is in doubt.
     pub fn has_doubt(&self) -> bool
-        ensures { result ≡ is_some (doubt_of self.now) }
+        ensures { result ≡ is_some (own_doubt_of self.now) }
     {
-        self.doubt.is_some()
+        match &self.doubt {
+            Some(change) => !is_row(change.act()),
+            None => false,
+        }
+    }
+
+    /// Whether nothing is in doubt: neither a change that was taken nor a row that a sweep has written.
+    pub fn is_sure(&self) -> bool
+        ensures { result ≡ is_none (doubt_of self.now) }
+    {
+        self.doubt.is_none()
+    }
+
+    // Whether a row that a sweep has written is in doubt.
+    fn has_row_doubt(&self) -> bool
+        ensures row { IsTrue result → own_doubt_of self.now ≡ None }
+        ensures sure { result ≡ false → own_doubt_of self.now ≡ doubt_of self.now }
+    {
+        match &self.doubt {
+            Some(change) => is_row(change.act()),
+            None => false,
+        }
     }
 
     /// The rows, if they are loaded: each container of the range as the streams mean it, and no other container.
@@ -282,6 +308,7 @@ impl StoredRows {
         ensures taken { IsTaken result self.old (change, epoch) self.new }
         ensures limits { HaveSameLimits self.old.streams self.new.streams }
         ensures counted { FailsTake result (W.faults wire.old) (W.faults wire.new) }
+        ensures heard { HearsTake result (W.calls wire.old) (W.calls wire.new) (W.faults wire.old) (W.faults wire.new) }
     {
         keep_sweep(&mut self.sweep, &self.rows, &change);
         let logged = put_and_log(&mut self.streams, change, epoch, written, wire);
@@ -323,6 +350,7 @@ impl StoredRows {
         ensures taken { IsTaken result self.old (change, epoch) self.new }
         ensures limits { HaveSameLimits self.old.streams self.new.streams }
         ensures counted { FailsTake result (W.faults wire.old) (W.faults wire.new) }
+        ensures heard { HearsTake result (W.calls wire.old) (W.calls wire.new) (W.faults wire.old) (W.faults wire.new) }
     {
         let (blocks, weight) = match found {
             Some(FoundForChange { blocks, weight }) => (Some(blocks), weight),
@@ -356,6 +384,7 @@ impl StoredRows {
         ensures taken { IsTaken result self.old (change, epoch) self.new }
         ensures limits { HaveSameLimits self.old.streams self.new.streams }
         ensures counted { FailsTake result (W.faults wire.old) (W.faults wire.new) }
+        ensures heard { HearsTake result (W.calls wire.old) (W.calls wire.new) (W.faults wire.old) (W.faults wire.new) }
     {
         let found = match found {
             Some(found) => Some(found),
@@ -368,10 +397,12 @@ impl StoredRows {
     ///
     /// After a fault they are not loaded, as before. Busy: each node with a copy of some extent was asked, and answered no. NoMemory: memory
     /// ran out for the rows.
+    #[tactic(auto, using(extent_seal::proofs::HeardLemmas::heard_none))]
     pub fn load<W: Wire>(&mut self, wire: &mut W) -> Result<(), StoredFault>
         ensures loaded { OnOk result (self.new ≡ record self.old { is_loaded = true }) }
         ensures refused { OnErr result (self.new ≡ self.old) }
         ensures counted { FailsStored result (W.faults wire.old) (W.faults wire.new) }
+        ensures heard { HearsStored result (W.calls wire.old) (W.calls wire.new) (W.faults wire.old) (W.faults wire.new) }
         ensures unheard { self.old.is_loaded ≡ true → wire.new ≡ wire.old }
     {
         if self.rows.is_some() {
@@ -393,19 +424,78 @@ impl StoredRows {
         }
     }
 
-    /// Settles a change that is in doubt, if there is one. If it is kept, the rows that are loaded make it.
+    /// Settles a change that was taken and is in doubt, if there is one. If it is kept, the rows that are loaded make it. A row in doubt is left.
     ///
     /// If the rows find no memory for it they are dropped, and the change is counted. Busy: no node answered. NoMemory: no node was called.
     /// After both the doubt is as it was.
+    #[tactic(auto, using(extent_seal::proofs::HeardLemmas::heard_none))]
     pub fn settle<W: Wire>(&mut self, wire: &mut W) -> Result<Ended, StoredFault>
         ensures settled { SettlesRows result self.old self.new }
+        ensures limits { HaveSameLimits self.old.streams self.new.streams }
+        ensures data { self.new.streams.blobs ≡ self.old.streams.blobs }
+        ensures counted { FailsStored result (W.faults wire.old) (W.faults wire.new) }
+        ensures heard { HearsStored result (W.calls wire.old) (W.calls wire.new) (W.faults wire.old) (W.faults wire.new) }
+    {
+        if self.has_row_doubt() {
+            return Ok(Ended::Clean);
+        }
+        self.settle_own(wire)
+    }
+
+    // Settles a change that was taken, if it is in doubt.
+    fn settle_own<W: Wire>(&mut self, wire: &mut W) -> Result<Ended, StoredFault>
+        requires { own_doubt_of self.old ≡ doubt_of self.old }
+        ensures settled { SettlesRows result self.old self.new }
+        ensures limits { HaveSameLimits self.old.streams self.new.streams }
+        ensures data { self.new.streams.blobs ≡ self.old.streams.blobs }
+        ensures counted { FailsStored result (W.faults wire.old) (W.faults wire.new) }
+        ensures heard { HearsStored result (W.calls wire.old) (W.calls wire.new) (W.faults wire.old) (W.faults wire.new) }
+    {
+        self.streams.kept();
+        let settled = self.streams.settle(wire);
+        note_settled(self.alloc, &mut self.rows, &mut self.doubt, settled)
+    }
+
+    // Settles a row that is in doubt.
+    fn settle_row<W: Wire>(&mut self, wire: &mut W) -> Result<(), StoredFault>
+        requires own { own_doubt_of self.old ≡ None }
+        ensures means { (key : Key) → bytes_of self.new key ≡ bytes_of self.old key }
+        ensures range { self.new.range ≡ self.old.range }
+        ensures loaded { self.new.is_loaded ≡ self.old.is_loaded }
+        ensures sure { OnOk result (doubt_of self.new ≡ None) }
+        ensures own { own_doubt_of self.new ≡ None }
         ensures limits { HaveSameLimits self.old.streams self.new.streams }
         ensures data { self.new.streams.blobs ≡ self.old.streams.blobs }
         ensures counted { FailsStored result (W.faults wire.old) (W.faults wire.new) }
     {
         self.streams.kept();
         let settled = self.streams.settle(wire);
-        note_settled(self.alloc, &mut self.rows, &mut self.doubt, settled)
+        end_row(&mut self.rows, &mut self.doubt, &mut self.spare, settled)
+    }
+
+    /// Ends the doubt of a row that a sweep has written, if there is one: the row is kept or dropped. Each container is as it was. A caller ends it
+    /// before it writes or seals, and answers whether a row was in doubt: what was found in the rows before is then found anew.
+    ///
+    /// Busy: no node answered. NoMemory: no node was called. After both the row is in doubt as before.
+    pub fn end_row_doubt<W: Wire>(&mut self, wire: &mut W) -> Result<bool, StoredFault>
+        requires own { own_doubt_of self.old ≡ None }
+        ensures means { (key : Key) → bytes_of self.new key ≡ bytes_of self.old key }
+        ensures range { self.new.range ≡ self.old.range }
+        ensures loaded { self.new.is_loaded ≡ self.old.is_loaded }
+        ensures sure { OnOk result (doubt_of self.new ≡ None) }
+        ensures own { own_doubt_of self.new ≡ None }
+        ensures still { result ≡ Ok false → self.new ≡ self.old }
+        ensures limits { HaveSameLimits self.old.streams self.new.streams }
+        ensures data { self.new.streams.blobs ≡ self.old.streams.blobs }
+        ensures counted { FailsStored result (W.faults wire.old) (W.faults wire.new) }
+    {
+        if !self.has_row_doubt() {
+            return Ok(false);
+        }
+        match self.settle_row(wire) {
+            Ok(()) => Ok(true),
+            Err(fault) => Err(fault),
+        }
     }
 
     /// Seals the streams. Each container is as it was, also after a fault.
@@ -450,6 +540,7 @@ impl StoredRows {
                     rows,
                     range: upper,
                     doubt: None,
+                    spare: None,
                     waste,
                     gathers_lists: self.gathers_lists,
                     sweep: None,

@@ -1,9 +1,10 @@
 //! A sweep of rows that is under way: where it began, how far it has come, and the rows that it has written beyond.
-ghost use Rattle.std.specs.Prelude.{◌≡◌, ◌||◌, MatchOption, None, false};
+ghost use Rattle.std.specs.Prelude.{◌≡◌, ◌||◌, MatchOption, None, OnErr, OnOk, false};
 ghost use Rattle.std.specs.FinMap as finite;
+ghost use Rattle.std.specs.Option.{option_copied};
 ghost use Rattle.block_blobs.specs.StoredRows.{is_left};
 ghost use Rattle.stamp_types.specs.World.{blob_in};
-ghost use Rattle.stored_rows.specs.Swept.{IsOver, is_end, is_over, is_touched, is_touched_blob, is_unseen, kept_sweep, knows_blob, knows_name, knows_read, knows_row, may_log};
+ghost use Rattle.stored_rows.specs.Swept.{IsOver, is_end, is_over, is_touched, is_touched_blob, is_unseen, kept_sweep, knows_blob, knows_name, knows_read, knows_row, may_log, read_by, with_blob_row, with_container};
 ghost use Rattle.stored_rows.specs.declared.cursor.Cursor.TheVariants as cursor;
 
 use crate::cursor::Cursor;
@@ -22,14 +23,14 @@ pub(crate) struct Written {}
 /// A sweep that is under way.
 #[derive(Drop)]
 pub(crate) struct Sweep {
-    // What comes before it is given up at the end.
+    // All that comes before it is given up at the end.
     pub(crate) mark: Mark,
     // For the handles of what is given up.
     pub(crate) room: HandleRoom,
     pub(crate) cursor: Cursor,
     // The containers whose row was written before the cursor came to it, each with the blobs whose rows were written.
     pub(crate) touched: Keyed<Named<Written>>,
-    // What the streams had when it began.
+    // The count of the streams when it began.
     pub(crate) began: Waste,
 }
 
@@ -57,7 +58,10 @@ impl Sweep {
     /// Notes that the own row of a container was written.
     ///
     /// `AllocError` if memory runs out. It is then not noted.
-    pub(crate) fn note_container(&mut self, alloc: Global, key: &Key) -> Result<(), AllocError> {
+    pub(crate) fn note_container(&mut self, alloc: Global, key: &Key) -> Result<(), AllocError>
+        ensures noted { OnOk result (self.new ≡ with_container self.old key.now) }
+        ensures refused { OnErr result (self.new ≡ self.old) }
+    {
         if self.is_touched(key) {
             return Ok(());
         }
@@ -66,7 +70,20 @@ impl Sweep {
         Ok(())
     }
 
-    /// Notes that the row of a blob was written, in a container whose own row was written.
+    // Notes that the row of a blob was written, in a container that was not touched.
+    fn note_first(&mut self, alloc: Global, key: &Key, name: Bytes) -> Result<(), AllocError>
+        requires { finite.get self.old.touched key.now ≡ None }
+        ensures noted { OnOk result (self.new ≡ with_blob_row self.old key.now name) }
+        ensures refused { OnErr result (self.new ≡ self.old) }
+    {
+        let mut names = Named::new(alloc);
+        names.insert(name, Written {})?;
+        let key = key.clone()?;
+        self.touched.insert(key, names)?;
+        Ok(())
+    }
+
+    /// Notes that the row of a blob was written.
     ///
     /// `AllocError` if memory runs out. It is then not noted.
     pub(crate) fn note_blob(
@@ -74,20 +91,17 @@ impl Sweep {
         alloc: Global,
         key: &Key,
         name: &Text,
-    ) -> Result<(), AllocError> {
+    ) -> Result<(), AllocError>
+        ensures noted { OnOk result (self.new ≡ with_blob_row self.old key.now name.now) }
+        ensures refused { OnErr result (self.new ≡ self.old) }
+    {
         let bytes = Bytes::new(name.as_str().as_bytes().to_vec(alloc)?);
         match self.touched.get_mut(key) {
             Some(names) => {
                 names.insert(bytes, Written {})?;
                 Ok(())
             }
-            None => {
-                let mut names = Named::new(alloc);
-                names.insert(bytes, Written {})?;
-                let key = key.clone()?;
-                self.touched.insert(key, names)?;
-                Ok(())
-            }
+            None => self.note_first(alloc, key, bytes),
         }
     }
 
@@ -157,7 +171,9 @@ impl Sweep {
 }
 
 /// The name of the blob that an act reads, if it reads one.
-pub(crate) fn read_name(act: &Act) -> Option<&Text> {
+pub(crate) fn read_name(act: &Act) -> Option<&Text>
+    ensures { option_copied result ≡ read_by act.now }
+{
     match act {
         Act::SetMetadata(set) => Some(&set.blob),
         Act::PutBlock(put) => Some(&put.blob),
@@ -181,7 +197,7 @@ fn is_unseen(found: &Found<'_>) -> bool
     found.count() == 0 && found.standing().is_none()
 }
 
-/// Ends the sweep, if one is under way. What it has written stays, and what it would have given up waits for the next sweep.
+/// Ends the sweep, if one is under way. The rows that it has written stay, and the garbage waits for the next sweep.
 pub(crate) fn end_sweep(sweep: &mut Option<Sweep>)
     ensures { sweep.new ≡ None }
 {
@@ -210,7 +226,7 @@ pub(crate) fn keep_sweep(sweep: &mut Option<Sweep>, rows: &Option<Rows>, change:
 pub(crate) struct Swept {
     pub(crate) mark: Mark,
     pub(crate) room: HandleRoom,
-    // What the streams had when the sweep began.
+    // The count of the streams when the sweep began.
     pub(crate) began: Waste,
 }
 

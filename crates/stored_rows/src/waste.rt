@@ -8,14 +8,14 @@ use crate::record_len::{
 use block_blobs::{FoundBlocks, ListContent};
 use partition_stream::TakeFault;
 use row_trees::{Found, FoundBlob, Rows};
-use stamp_types::{Act, Change, Committed, Key, Pieces, PutBlob, PutBlockList, Text};
+use stamp_types::{Act, Change, Committed, Key, Pieces, PutBlob, PutBlockList, StoredBlob, Text};
 use std::alloc::Global;
 
 /// How many bytes of memory a record takes beside its own, with those that its content takes beside its bytes: three replicas list a block,
 /// and its owners are counted. So many short records are not kept for long either.
 const BESIDE_BYTES: u64 = 256;
 
-/// How many bytes more than those that exist streams may have to which nothing refers: 16 MiB.
+/// How many bytes more than a third of those that exist streams may have to which nothing refers: 16 MiB.
 const SPARED_BYTES: u64 = 16_777_216;
 
 /// How many bytes more than a sixteenth of those that exist streams may have to which nothing refers if memory is short: 1 MiB.
@@ -35,7 +35,7 @@ pub(crate) struct Size {
 }
 
 impl Size {
-    const fn none() -> Self {
+    pub(crate) const fn none() -> Self {
         Self::of_rows(0)
     }
 
@@ -49,7 +49,7 @@ impl Size {
         }
     }
 
-    const fn and(self, other: Self) -> Self {
+    pub(crate) const fn and(self, other: Self) -> Self {
         Self {
             rows: self.rows.saturating_add(other.rows),
             entries: self.entries.saturating_add(other.entries),
@@ -67,10 +67,12 @@ impl Size {
         }
     }
 
-    const fn content(self) -> u64 {
+    /// How many bytes of content.
+    pub(crate) const fn content(self) -> u64 {
         self.committed.saturating_add(self.pending)
     }
 
+    /// How many bytes the records have, with those that they take beside their own.
     const fn records(self) -> u64 {
         self.rows.saturating_add(self.entries)
     }
@@ -90,9 +92,9 @@ pub struct ChangeWeight {
 /// What the streams have, and what exists of it.
 ///
 /// What was written is counted exactly, but for a record that was not logged, or of which nobody knows whether it was: it counts as if it
-/// had been written. What exists is counted exactly too, with two exceptions. An uncommitted block counts only once the rows were counted,
-/// and as it was then. The committed blocks of a list are each taken to be as long in their row as the first. So what is wasted is rather
-/// counted too high.
+/// had been written. A row that a sweep writes counts once it is logged. All that exists is counted exactly too, with two exceptions. An
+/// uncommitted block counts only once the rows were counted or a sweep came to its row, and as it was then. The committed blocks of a list
+/// are each taken to be as long in their row as the first. So what is wasted is rather counted too high.
 #[derive(Clone, Copy)]
 pub(crate) struct Waste {
     // the content that was put into the data
@@ -111,18 +113,18 @@ impl Waste {
         }
     }
 
-    /// Whether the bytes to which nothing refers are more than those that exist and 16 MiB.
+    /// Whether the bytes to which nothing refers are more than a third of those that exist and 16 MiB.
     pub(crate) const fn is_wasteful(self) -> bool {
         let existing = self
             .existing
             .content()
             .saturating_add(self.existing.records());
         let written = self.content.saturating_add(self.records);
-        written.saturating_sub(existing) > existing.saturating_add(SPARED_BYTES)
+        written.saturating_sub(existing) > (existing / 3).saturating_add(SPARED_BYTES)
     }
 
     /// Whether the bytes to which nothing refers are more than 1 MiB and a sixteenth of those that exist: so much is collected if memory is
-    /// short. With a lower bound each deletion of a small blob would have the whole slot written anew.
+    /// short. With a lower bound each deletion of a small blob would have all rows written again.
     pub(crate) const fn has_garbage(self) -> bool {
         let existing = self
             .existing
@@ -170,21 +172,37 @@ impl Waste {
         }
     }
 
-    /// After the data was written anew too: it has what exists.
-    pub(crate) const fn after_compaction(self) -> Self {
+    /// After a sweep began. It counts the uncommitted blocks anew, each as it comes to their row.
+    pub(crate) const fn at_mark(self) -> Self {
         Self {
-            content: self.existing.content(),
-            records: self.existing.records(),
+            existing: Size {
+                entries: 0,
+                pending: 0,
+                ..self.existing
+            },
             ..self
         }
     }
 
-    /// After a row with so many bytes of content was written again. Its record counts as the bytes that records have beside their fields.
-    pub(crate) const fn after_row(self, content: u64) -> Self {
+    /// After a row of this size was written again before the sweep came to it: it comes to the row later, and counts its blocks then.
+    pub(crate) const fn after_touch(self, row: Size) -> Self {
         Self {
-            content: self.content.saturating_add(content),
-            records: self.records.saturating_add(BESIDE_BYTES),
+            content: self.content.saturating_add(row.content()),
+            records: self.records.saturating_add(row.records()),
             ..self
+        }
+    }
+
+    /// After a sweep came to a row of this size, and wrote it again.
+    pub(crate) const fn after_row(self, row: Size) -> Self {
+        let blocks = Size {
+            rows: 0,
+            committed: 0,
+            ..row
+        };
+        Self {
+            existing: self.existing.and(blocks),
+            ..self.after_touch(row)
         }
     }
 
@@ -193,19 +211,6 @@ impl Waste {
         Self {
             content: self.content.saturating_sub(began.content),
             records: self.records.saturating_sub(began.records),
-            ..self
-        }
-    }
-
-    /// After a compaction that failed: what is wasted so far is taken to exist, so that the next compaction is not tried at once.
-    pub(crate) const fn put_off(self) -> Self {
-        Self {
-            existing: Size {
-                rows: self.records,
-                entries: 0,
-                committed: self.content,
-                pending: 0,
-            },
             ..self
         }
     }
@@ -263,6 +268,41 @@ fn container_size(alloc: Global, head: u64, found: &Found<'_>) -> Size {
 // What each row of a container takes before its fields.
 fn row_head(key: &Key) -> u64 {
     BESIDE_BYTES.saturating_add(head_of(key))
+}
+
+/// The size of the own row of a container.
+pub(crate) fn container_row_size(key: &Key, found: &Found<'_>) -> Size {
+    Size::of_rows(found_len(row_head(key), found))
+}
+
+// The committed part of the row of a blob.
+fn committed_size(row: &StoredBlob) -> Size {
+    let mut size = Size::none();
+    let Some(committed) = &row.committed else {
+        return size;
+    };
+    for block in committed.blocks.as_slice() {
+        size = size.and(Size {
+            committed: block.content.len(),
+            ..Size::none()
+        });
+    }
+    size
+}
+
+/// The size of the row of a blob that is written again: what exists of the blob.
+pub(crate) fn blob_row_size(key: &Key, row: &StoredBlob) -> Size {
+    let committed = committed_part(row.committed.as_ref());
+    let len = blob_len(row_head(key), row.blob.as_str().len(), committed);
+    let mut size = committed_size(row).and(Size::of_rows(len));
+    for block in row.uncommitted.as_slice() {
+        size = size.and(Size {
+            entries: block_len(block.id.as_slice().len(), &block.content),
+            pending: block.content.len(),
+            ..Size::none()
+        });
+    }
+    size
 }
 
 // What exists of all containers.

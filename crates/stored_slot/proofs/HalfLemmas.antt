@@ -23,7 +23,7 @@ use Rattle.slot_state.proofs.SplitLemmas.{read_retained}
 use Rattle.stored_slot.specs.Meanings.{AreOfStreams, AreReplays, slot_with}
 use Rattle.stored_slot.specs.Settled.{Cuts, CutsSettled, SettlesSlot}
 use Rattle.stored_slot.proofs.DecisionLemmas.{and_parts, from_from, same_end}
-use Rattle.stored_slot.proofs.MeaningLemmas.{none_later}
+use Rattle.stored_slot.proofs.MeaningLemmas.{none_later, sure_own}
 
 -- ---- keys of the halves
 
@@ -112,13 +112,13 @@ module _ (pairs : Pairs) (h g : Histories) (s t : Stored) (middle : Key) (covere
   pub lower_kept : IsHalf (record s.range { to = Some middle }) s t → g ≡ retain_keys h (is_below middle) → AreOfStreams pairs g t None
   lower_kept half is = record {
     replays = half_kept pairs h g s t (record s.range { to = Some middle }) (is_below middle) are half (lower_keys s.range middle inside.0 inside.1) is;
-    doubted = half.sure;
+    doubted = sure_own t half.sure;
   }
 
   pub upper_kept : IsHalf (record { from = middle; to = s.range.to }) s t → g ≡ retain_keys h (is_from middle) → AreOfStreams pairs g t None
   upper_kept half is = record {
     replays = half_kept pairs h g s t (record { from = middle; to = s.range.to }) (is_from middle) are half (upper_keys s.range middle inside.0 inside.1) is;
-    doubted = half.sure;
+    doubted = sure_own t half.sure;
   }
 
 pub lower_slot : (pairs : Pairs) (h g : Histories) (s t : Stored) (middle : Key) → IsHalf (record s.range { to = Some middle }) s t → g ≡ retain_keys h (is_below middle)

@@ -1,6 +1,5 @@
 pub mod AnswerLemmas
 pub mod AuditLemmas
-pub mod CompactLemmas
 pub mod DecisionLemmas
 pub mod HalfLemmas
 pub mod KeepLemmas
@@ -9,4 +8,5 @@ pub mod MeaningLemmas
 pub mod PairLemmas
 pub mod RepairLemmas
 pub mod ServeLemmas
+pub mod SweepLemmas
 pub mod ViewLemmas

@@ -1,5 +1,5 @@
 -- What a slot keeps after a change that is taken or settled.
-use Rattle.std.proofs.Common.{◌≡◌, ◌≤◌, ◌⊎◌, ◌∙◌, inl, inr, arith, ℕ, Bool, true, false, cond, List, [], ◌∷◌, ◌++◌, Option, Some, None, IsSome, is_some, unwrap_or, Result, Ok, Err, refl, sym, ap, subst}
+use Rattle.std.proofs.Common.{◌≡◌, ◌≤◌, ◌+◌, ◌⊎◌, ◌∙◌, inl, inr, arith, ℕ, Bool, true, false, cond, List, [], ◌∷◌, ◌++◌, Option, Some, None, IsSome, is_some, unwrap_or, Result, Ok, Err, refl, sym, ap, subst}
 use Rattle.std.specs.Cmp.{eq_by_cmp_equiv}
 use Rattle.std.specs.Ordering.{eq_by_cmp}
 use Rattle.std.specs.Prelude.{IfSome, IsTrue, OnErr, OnOk, length}
@@ -15,7 +15,7 @@ use Rattle.stamp_types.specs.declared.act.Act.TheVariants as act
 use Rattle.stamp_types.specs.Changes.{KeyedAct, content_of}
 use Rattle.stamp_types.specs.Contents.{EachActContent}
 use Rattle.stamp_types.specs.Pieces.{held, is_held, pieces_len}
-use Rattle.stamp_types.specs.World.{Part, changed, no_part, part_value}
+use Rattle.stamp_types.specs.World.{Part, changed, count_after, no_part, part_value}
 use Rattle.stamp_types.proofs.WorldLemmas.{part_value-no_part}
 use Rattle.access_rules.specs.declared.keys.Keys.{Keys}
 use Rattle.row_trees.specs.Fits.{fits}
@@ -37,7 +37,7 @@ use Rattle.stamp_model.proofs.EffectLemmas.{on_key}
 use Rattle.stamp_model.proofs.ReplyLemmas.{unrefused}
 use Rattle.stored_rows.specs.Checkpoints.{MeansTheRange}
 use Rattle.stored_rows.specs.Ranges.{covers}
-use Rattle.stored_rows.specs.States.{IsChanged, IsInDoubt, IsKeptAs, IsTaken, MeansTheSame, SettlesRows, Stored, bytes_of, doubt_of, pieces_of}
+use Rattle.stored_rows.specs.States.{IsChanged, IsInDoubt, IsKeptAs, IsTaken, MeansTheSame, SettlesRows, Stored, bytes_of, doubt_of, own_doubt, own_doubt_of, pieces_of}
 use Rattle.stored_rows.specs.declared.faults.Ended.{Ended}
 use Rattle.stored_rows.specs.declared.faults.Ended.TheVariants as ended
 use Rattle.slot_state.specs.HistoryMaps.{Histories, NoneIsEmpty, history_at, with_entry, without_last}
@@ -48,13 +48,17 @@ use Rattle.slot_state.proofs.RowLemmas.{brings_held}
 use Rattle.slot_state.proofs.StepLemmas.{history_at-insert}
 use Rattle.stored_slot.specs.Meanings.{AreOfStreams, AreReplays, HasDoubt, IsDoubted, MakesChange, slot_with}
 use Rattle.stored_slot.specs.Settled.{LeavesSettled, SettlesSlot, follows, keeps_change, pushed_left}
-use Rattle.stored_slot.specs.Changes.{doubt_after, doubt_left, slot_taken, with_taken}
+use Rattle.stored_slot.specs.Changes.{doubted_entry, doubt_left, slot_taken, with_taken}
 
 true_false : true ≡ false → ⊥
 true_false h = cc
 
 none_some : {X : Type 0} (x : X) → None ≡ Some x → ⊥
 none_some x h = cc
+
+-- without a doubt there is no own doubt
+pub sure_own : (s : Stored) → doubt_of s ≡ None → own_doubt_of s ≡ None
+sure_own s sure = ap own_doubt sure
 
 -- ---- rows that mean the same
 
@@ -164,14 +168,14 @@ module _ (pairs : Pairs) (h : Histories) (s : Stored) (e : Past) (c : KeyedAct) 
 
   -- ---- a change that is taken, or not
 
-  pub taken_kept : (t : Stored) (r : Result (Unit {0}) TakeFault) → AreReplays pairs h s → IsTaken r s (c, e.epoch) t → AreOfStreams pairs (with_taken r h e) t (doubt_after r e)
-  taken_kept t (Ok u) are is = record { replays = entered_replays t are is; doubted = is.sure }
+  pub taken_kept : (t : Stored) (r : Result (Unit {0}) TakeFault) → AreReplays pairs h s → IsTaken r s (c, e.epoch) t → AreOfStreams pairs (with_taken r h e) t (doubted_entry r e)
+  taken_kept t (Ok u) are is = record { replays = entered_replays t are is; doubted = sure_own t is.sure }
   taken_kept t (Err fault.Doubt) are is = record {
     replays = same_replays pairs h s t are is.0.range is.0.bytes;
     doubted = record { change = c; makes = same_makes pairs h s t e c makes is.0.range; tried = is.1 };
   }
-  taken_kept t (Err fault.Busy) are is = record { replays = same_replays pairs h s t are is.0.range is.0.bytes; doubted = is.1 }
-  taken_kept t (Err fault.NoMemory) are is = record { replays = same_replays pairs h s t are is.0.range is.0.bytes; doubted = is.1 }
+  taken_kept t (Err fault.Busy) are is = record { replays = same_replays pairs h s t are is.0.range is.0.bytes; doubted = sure_own t is.1 }
+  taken_kept t (Err fault.NoMemory) are is = record { replays = same_replays pairs h s t are is.0.range is.0.bytes; doubted = sure_own t is.1 }
 
   pub taken_range : (t : Stored) (r : Result (Unit {0}) TakeFault) → IsTaken r s (c, e.epoch) t → t.range ≡ s.range
   taken_range t (Ok u) is = is.range
@@ -190,12 +194,15 @@ tried_still c s t tried same blobs = record {
 
 pub settled_kept : (pairs : Pairs) (h : Histories) (s t : Stored) (e : Past) (r : Result Ended StoredFault) → AreReplays pairs h s → IsDoubted pairs h s e → SettlesRows r s t
     → t.streams.blobs ≡ s.streams.blobs → AreOfStreams pairs (follows r h e) t (doubt_left r e)
-settled_kept pairs h s t e (Ok ended.Clean) are doubted is blobs = absurd (none_some _ (sym is.1.0 ∙ doubted.tried.doubt))
+settled_kept pairs h s t e (Ok ended.Clean) are doubted is blobs = record {
+  replays = same_replays pairs h s t are is.0.range is.0.bytes;
+  doubted = ap own_doubt is.1.1 ∙ is.1.0;
+}
 settled_kept pairs h s t e (Ok ended.Kept) are doubted is blobs = record {
   replays = entered_replays pairs h s e doubted.change doubted.makes t are (is.0 (doubted.change, e.epoch) doubted.tried);
-  doubted = is.1.1;
+  doubted = sure_own t is.1.1;
 }
-settled_kept pairs h s t e (Ok ended.Dropped) are doubted is blobs = record { replays = same_replays pairs h s t are is.0.range is.0.bytes; doubted = is.1.1 }
+settled_kept pairs h s t e (Ok ended.Dropped) are doubted is blobs = record { replays = same_replays pairs h s t are is.0.range is.0.bytes; doubted = sure_own t is.1.1 }
 settled_kept pairs h s t e (Err f) are doubted is blobs = record {
   replays = same_replays pairs h s t are is.0.range is.0.bytes;
   doubted = record {
@@ -211,9 +218,38 @@ settled_range pairs h s t e (Ok ended.Kept) doubted is = (is.0 (doubted.change, 
 settled_range pairs h s t e (Ok ended.Dropped) doubted is = is.0.range
 settled_range pairs h s t e (Err f) doubted is = is.0.range
 
+-- ---- a change of a request is no row
+
+plain_by : (key : Key) (o : Option Act) (c : KeyedAct) → IfSome o (λ a. is_row a ≡ false) → option_map (on_key key) o ≡ Some c → is_row c.act ≡ false
+plain_by key None c said is = absurd (none_some c is)
+plain_by key (Some a) c said is = let same : on_key key a ≡ c = cc in subst (λ (c : KeyedAct). is_row c.act ≡ false) same said
+
+module _ (pairs : Pairs) (h : Histories) (s : Stored) (e : Past) (c : KeyedAct) (makes : MakesChange pairs h s e c) where
+  pub take_plain : is_row c.act ≡ false
+  take_plain =
+      plain_by e.request.ask.key (act_by e.request.ask.op (sizes (replayed_at pairs h e.request.ask.key)) e.request e.moment) c
+      (said_of_act_by (sizes (replayed_at pairs h e.request.ask.key)) e.request e.moment (λ a. is_row a ≡ false) (λ a plain. plain) e.request.ask.op) makes.makes
+
+plain_counts : (a : Act) (n : ℕ) → is_row a ≡ false → count_after a n ≡ n + 1
+plain_counts (act.ContainerRow a) n plain = absurd (true_false plain)
+plain_counts (act.StoredBlob a) n plain = absurd (true_false plain)
+plain_counts other n plain = refl
+
+plain_by_counts : (a : Act) → ((n : ℕ) → count_after a n ≡ n + 1) → is_row a ≡ false
+plain_by_counts (act.ContainerRow a) counts = absurd (omega (arith, counts 0, counts 1))
+plain_by_counts (act.StoredBlob a) counts = absurd (omega (arith, counts 0))
+plain_by_counts other counts = refl
+
+-- a change that is no row is kept as a change that is no row: each counts
+kept_plain : (es : List (List Block)) (c d : KeyedAct) → IsKeptAs es c d → is_row c.act ≡ false → is_row d.act ≡ false
+kept_plain es c d same plain =
+    plain_by_counts d.act (λ n. ap (λ (p : Part (List ℕ)). p.count) (same.bytes (record { count = n; standing = None; blobs = finite.empty })) ∙ plain_counts c.act n plain)
+
 -- the streams have a change in doubt
-pub is_doubted : (pairs : Pairs) (h : Histories) (s : Stored) (e : Past) → IsDoubted pairs h s e → IsSome (doubt_of s)
-is_doubted pairs h s e doubted = ap is_some doubted.tried.doubt
+pub is_doubted : (pairs : Pairs) (h : Histories) (s : Stored) (e : Past) → IsDoubted pairs h s e → IsSome (own_doubt_of s)
+is_doubted pairs h s e doubted =
+    let plain : is_row doubted.tried.kept.act ≡ false = kept_plain (laid s.streams.blobs) doubted.change doubted.tried.kept doubted.tried.same (take_plain pairs h s e doubted.change doubted.makes) in
+    ap is_some (ap own_doubt doubted.tried.doubt ∙ ap (λ (b : Bool). cond b None (Some (doubted.tried.kept, e.epoch))) plain)
 
 -- ---- a slot without containers
 
@@ -241,7 +277,7 @@ replays_nothing pairs h s numbered empty none =
 -- ---- steps that leave a slot as it is
 
 pub sealed_kept : (pairs : Pairs) (h : Histories) (s t : Stored) → AreReplays pairs h s → MeansTheSame s t → doubt_of t ≡ None → AreOfStreams pairs h t None
-sealed_kept pairs h s t are same none = record { replays = same_replays pairs h s t are same.range same.bytes; doubted = none }
+sealed_kept pairs h s t are same none = record { replays = same_replays pairs h s t are same.range same.bytes; doubted = sure_own t none }
 
 -- the streams mean the same of the range
 pub range_kept : (pairs : Pairs) (h : Histories) (s t : Stored) → AreReplays pairs h s → MeansTheRange s t → doubt_of t ≡ None → AreOfStreams pairs h t None
@@ -254,7 +290,7 @@ range_kept pairs h s t are same none = record {
     legal = are.legal;
     latest = are.latest;
   };
-  doubted = none;
+  doubted = sure_own t none;
 }
 
 pub slot_same : (pairs : Pairs) (h : Histories) (s t : Stored) (d : Option Past) → t.range ≡ s.range → slot_with pairs h t d ≡ slot_with pairs h s d
@@ -279,7 +315,7 @@ module _ (pairs : Pairs) (h : Histories) (s t : Stored) (d d' : Option Past) (ar
     doubted_own : IsDoubted pairs h s e
     doubted_own = subst (λ (x : Option Past). HasDoubt pairs h s x) is are.doubted
 
-    pub own_doubted : IsSome (doubt_of s)
+    pub own_doubted : IsSome (own_doubt_of s)
     own_doubted = is_doubted pairs h s e doubted_own
 
     pub doubt_kept : (h' : Histories) (r : Result Ended StoredFault) → h' ≡ follows r h e → SettlesRows r s t → t.streams.blobs ≡ s.streams.blobs → d' ≡ doubt_left r e → AreOfStreams pairs h' t d'
@@ -288,7 +324,7 @@ module _ (pairs : Pairs) (h : Histories) (s t : Stored) (d d' : Option Past) (ar
         (subst (λ (g : Histories). AreOfStreams pairs g t (doubt_left r e)) (sym same) (settled_kept pairs h s t e r are.replays doubted_own rows blobs))
 
     by_end : (ended : Ended) → SettlesRows (Ok ended) s t → SettlesSlot (slot_with pairs h s (Some e)) (slot_with pairs (follows (Ok ended) h e) t None)
-    by_end ended.Clean rows = absurd (none_some _ (sym rows.1.0 ∙ doubted_own.tried.doubt))
+    by_end ended.Clean rows = inr (slot_same pairs h s t None (settled_range pairs h s t e (Ok ended.Clean) doubted_own rows))
     by_end ended.Kept rows = inl (slot_same pairs (with_entry h e) s t None (settled_range pairs h s t e (Ok ended.Kept) doubted_own rows))
     by_end ended.Dropped rows = inr (slot_same pairs h s t None (settled_range pairs h s t e (Ok ended.Dropped) doubted_own rows))
 
@@ -321,7 +357,7 @@ entered_by old pushed after e (Ok u) none is stays back = stays ∙ is
 entered_by old pushed after e (Err f) none is stays back = taken_back old pushed after e e.request.ask.key none is refl back
 
 -- nothing was settled, since memory ran out for the entry
-pub unsettled : (s : Stored) → IsSome (doubt_of s) → SettlesRows (Err stored_fault.NoMemory) s s
+pub unsettled : (s : Stored) → IsSome (own_doubt_of s) → SettlesRows (Err stored_fault.NoMemory) s s
 unsettled s doubted = (same_means s, (doubted, refl))
 
 -- nothing was taken, since memory ran out for the entry
@@ -329,10 +365,6 @@ pub untaken : (s : Stored) (c : Recorded) → doubt_of s ≡ None → IsTaken (E
 untaken s c sure = (same_means s, sure)
 
 -- ---- what a change needs to be taken
-
-plain_by : (key : Key) (o : Option Act) (c : KeyedAct) → IfSome o (λ a. is_row a ≡ false) → option_map (on_key key) o ≡ Some c → is_row c.act ≡ false
-plain_by key None c said is = absurd (none_some c is)
-plain_by key (Some a) c said is = let same : on_key key a ≡ c = cc in subst (λ (c : KeyedAct). is_row c.act ≡ false) same said
 
 held_by : (a : Act) → EachActContent (λ ps. is_held ps ≡ true) a → IfSome (content_of a) (λ ps. is_held ps ≡ true)
 held_by (act.PutBlob a) all = all
@@ -342,11 +374,6 @@ held_by other all = tt
 module _ (pairs : Pairs) (h : Histories) (s : Stored) (e : Past) (c : KeyedAct) (makes : MakesChange pairs h s e c) where
   pub take_covered : covers s.range c.key ≡ true
   take_covered = ap (covers s.range) (own_change pairs h s e c makes).0 ∙ makes.covered
-
-  pub take_plain : is_row c.act ≡ false
-  take_plain =
-      plain_by e.request.ask.key (act_by e.request.ask.op (sizes (replayed_at pairs h e.request.ask.key)) e.request e.moment) c
-      (said_of_act_by (sizes (replayed_at pairs h e.request.ask.key)) e.request e.moment (λ a. is_row a ≡ false) (λ a plain. plain) e.request.ask.op) makes.makes
 
   pub take_held : IfSome (content_of c.act) (λ ps. IsTrue (is_held ps))
   take_held = held_by c.act (brings_held (sizes (replayed_at pairs h e.request.ask.key)) e.request e.moment c makes.makes)
@@ -358,7 +385,7 @@ module _ (pairs : Pairs) (h : Histories) (s : Stored) (e : Past) (c : KeyedAct) 
       (own_change pairs h s e c makes).1)
 
   -- the slot after a try of the change
-  pub slot_tried : (t : Stored) (h' : Histories) (d : Option Past) (r : Result (Unit {0}) TakeFault) → IsTaken r s (c, e.epoch) t → h' ≡ with_taken r h e → d ≡ doubt_after r e
+  pub slot_tried : (t : Stored) (h' : Histories) (d : Option Past) (r : Result (Unit {0}) TakeFault) → IsTaken r s (c, e.epoch) t → h' ≡ with_taken r h e → d ≡ doubted_entry r e
       → slot_with pairs h' t d ≡ slot_taken r (slot_with pairs h s None) e
   slot_tried t h' d r taken same left = λ i. record {
     histories = same i;
@@ -368,8 +395,8 @@ module _ (pairs : Pairs) (h : Histories) (s : Stored) (e : Past) (c : KeyedAct) 
     doubt = left i;
   }
 
-  pub tried_kept : (t : Stored) (h' : Histories) (d : Option Past) (r : Result (Unit {0}) TakeFault) → AreReplays pairs h s → IsTaken r s (c, e.epoch) t → h' ≡ with_taken r h e → d ≡ doubt_after r e
+  pub tried_kept : (t : Stored) (h' : Histories) (d : Option Past) (r : Result (Unit {0}) TakeFault) → AreReplays pairs h s → IsTaken r s (c, e.epoch) t → h' ≡ with_taken r h e → d ≡ doubted_entry r e
       → AreOfStreams pairs h' t d
   tried_kept t h' d r are taken same left =
       subst (λ (x : Option Past). AreOfStreams pairs h' t x) (sym left)
-      (subst (λ (g : Histories). AreOfStreams pairs g t (doubt_after r e)) (sym same) (taken_kept pairs h s e c makes t r are taken))
+      (subst (λ (g : Histories). AreOfStreams pairs g t (doubted_entry r e)) (sym same) (taken_kept pairs h s e c makes t r are taken))

@@ -13,7 +13,7 @@ use Rattle.partition_stream.specs.Repairs.{stream_of}
 use Rattle.partition_stream.specs.declared.repair.StreamName.{StreamName}
 use Rattle.stored_rows.specs.Counting.{FailsStored}
 use Rattle.stored_rows.specs.Repairs.{FailsRepair, IsRepairOf, unnamed}
-use Rattle.stored_rows.specs.States.{MeansTheSame, Stored, doubt_of}
+use Rattle.stored_rows.specs.States.{MeansTheSame, Stored, doubt_of, own_doubt}
 use Rattle.stored_rows.specs.declared.repaired.Repaired.{Repaired}
 use Rattle.stored_rows.specs.declared.repaired.Unrepaired.{Unrepaired}
 use Rattle.stored_rows.proofs.CountLemmas.{fails_later, grows_twice}
@@ -23,9 +23,8 @@ use Rattle.stored_slot.specs.Meanings.{AreOfStreams, slot_with}
 use Rattle.stored_slot.specs.Parts.{AreOfSlot, slot_of}
 use Rattle.stored_slot.specs.Settled.{LeavesRepaired, SettlesSlot, repair_fault_of}
 use Rattle.stored_slot.specs.declared.parts.SlotParts.{SlotParts}
-use Rattle.stored_slot.proofs.KeepLemmas.{seal_kept}
-use Rattle.stored_slot.proofs.MeaningLemmas.{slot_same}
-use Rattle.stored_slot.proofs.ServeLemmas.{settled_parts}
+use Rattle.stored_slot.proofs.MeaningLemmas.{same_replays, slot_same}
+use Rattle.stored_slot.proofs.ServeLemmas.{none_kept, settled_parts}
 
 abbrev failed : RepairFault → Result (Unit {0}) RepairFault
 failed f = Err f
@@ -66,7 +65,10 @@ left_repaired (Err repair.NoMemory) s m t settled same = inl (subst (λ (x : Slo
 
 module _ {H : Type 0} (held : H → Histories) (p m : SlotParts H) (settled : SettlesSlot (slot_of held p) (slot_of held m)) (are : AreOfSlot held m) where
   pub repair_kept : (u : Stored) → MeansTheSame m.stored u → doubt_of u ≡ doubt_of m.stored → AreOfStreams (arc_value m.pairs) (held m.histories) u m.doubt
-  repair_kept u same doubt = seal_kept held p m settled are u same (doubt ∙ (settled_parts held p m settled are).sure)
+  repair_kept u same doubt =
+      let here = settled_parts held p m settled are in
+      none_kept (arc_value m.pairs) (held m.histories) u m.doubt (same_replays (arc_value m.pairs) (held m.histories) m.stored u here.replays same.range same.bytes)
+      (ap own_doubt doubt ∙ here.sure) here.none
 
   pub repair_left : (u : Stored) (r : Result (Unit {0}) RepairFault) → MeansTheSame m.stored u → LeavesRepaired r (slot_of held p) (slot_with (arc_value m.pairs) (held m.histories) u m.doubt)
   repair_left u r same =

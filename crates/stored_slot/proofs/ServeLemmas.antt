@@ -26,7 +26,7 @@ use Rattle.tickets.specs.Answers.{IsAnswer, IsAnswerIf}
 use Rattle.tickets.specs.declared.answer.Answer.{Answer}
 use Rattle.tickets.specs.declared.answer.Answer.TheVariants as answer
 use Rattle.stored_rows.specs.Counting.{FailsStored, FailsTake}
-use Rattle.stored_rows.specs.States.{Stored, doubt_of}
+use Rattle.stored_rows.specs.States.{Stored, own_doubt_of}
 use Rattle.stored_rows.proofs.CountLemmas.{grows_twice}
 use Rattle.slot_state.specs.HistoryMaps.{Histories, with_entry}
 use Rattle.slot_state.specs.Pairs.{Pairs, current_at, pairs_at}
@@ -198,11 +198,11 @@ taken_served pairs h s d e c old new none are makes now frame a s' r told same c
 )
 
 -- a slot whose streams have no doubt
-pub none_kept : (pairs : Pairs) (h : Histories) (s : Stored) (d : Option Past) → AreReplays pairs h s → doubt_of s ≡ None → d ≡ None → AreOfStreams pairs h s d
+pub none_kept : (pairs : Pairs) (h : Histories) (s : Stored) (d : Option Past) → AreReplays pairs h s → own_doubt_of s ≡ None → d ≡ None → AreOfStreams pairs h s d
 none_kept pairs h s d are sure none = subst (λ (x : Option Past). AreOfStreams pairs h s x) (sym none) (record { replays = are; doubted = sure })
 
 -- the same after calls that left the rows and the doubt as they were
-pub none_same : (pairs : Pairs) (h : Histories) (s t : Stored) (d : Option Past) → t ≡ s → AreReplays pairs h s → doubt_of s ≡ None → d ≡ None → AreOfStreams pairs h t d
+pub none_same : (pairs : Pairs) (h : Histories) (s t : Stored) (d : Option Past) → t ≡ s → AreReplays pairs h s → own_doubt_of s ≡ None → d ≡ None → AreOfStreams pairs h t d
 none_same pairs h s t d same are sure none = subst (λ (x : Stored). AreOfStreams pairs h x d) (sym same) (none_kept pairs h s d are sure none)
 
 -- the parts of a slot without a doubt are those of a slot
@@ -231,8 +231,8 @@ module _ (pairs : Pairs) (h : Histories) (s t : Stored) (same : t ≡ loaded s) 
   loaded_replays are =
       subst (λ (x : Stored). AreReplays pairs h x) (sym same) (record { numbered = are.numbered; bytes = are.bytes; legal = are.legal; latest = are.latest })
 
-  pub loaded_sure : doubt_of s ≡ None → doubt_of t ≡ None
-  loaded_sure none = ap doubt_of same ∙ none
+  pub loaded_sure : own_doubt_of s ≡ None → own_doubt_of t ≡ None
+  loaded_sure none = ap own_doubt_of same ∙ none
 
   pub loaded_slot : (d : Option Past) → slot_with pairs h t d ≡ slot_with pairs h s d
   loaded_slot d = ap (λ (x : Stored). slot_with pairs h x d) same

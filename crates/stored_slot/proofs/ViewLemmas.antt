@@ -4,7 +4,7 @@ use Rattle.stamp_types.specs.declared.past.Past.{Past}
 use Rattle.stamp_types.specs.Requests.{Asked}
 use Rattle.policy_book.specs.Entries.{AuditEntry}
 use Rattle.tickets.specs.declared.answer.Answer.{Answer}
-use Rattle.stored_rows.specs.States.{IsInDoubt, Stored, bytes_of, doubt_of}
+use Rattle.stored_rows.specs.States.{IsInDoubt, Stored, bytes_of, own_doubt_of}
 use Rattle.slot_state.specs.HistoryMaps.{Histories}
 use Rattle.slot_state.specs.Pairs.{Pairs}
 use Rattle.slot_state.specs.Slots.{SlotState}
@@ -27,7 +27,7 @@ audits_seen s v q t F a o s' seen audits = subst (λ (x : SlotState). SlotAudits
 
 -- rows that were dropped from memory
 doubt_unloaded : (pairs : Pairs) (h : Histories) (s t : Stored) (d : Option Past) → t ≡ record s { is_loaded = false } → HasDoubt pairs h s d → HasDoubt pairs h t d
-doubt_unloaded pairs h s t None same sure = ap doubt_of same ∙ sure
+doubt_unloaded pairs h s t None same sure = ap own_doubt_of same ∙ sure
 doubt_unloaded pairs h s t (Some e) same doubted = record {
   change = doubted.change;
   makes = same_makes pairs h s t e doubted.change doubted.makes (ap (λ (x : Stored). x.range) same);

@@ -15,13 +15,13 @@ with_taken (Ok u) h e = with_entry h e
 with_taken (Err f) h e = h
 
 -- the entry is in doubt if its change is
-abbrev pub doubt_after : Result (Unit {0}) TakeFault → Past → Option Past
-doubt_after (Err fault.Doubt) e = Some e
-doubt_after other e = None
+abbrev pub doubted_entry : Result (Unit {0}) TakeFault → Past → Option Past
+doubted_entry (Err fault.Doubt) e = Some e
+doubted_entry other e = None
 
 -- the slot after a try of the change of an entry
 abbrev pub slot_taken : Result (Unit {0}) TakeFault → SlotState → Past → SlotState
-slot_taken r s e = record s { histories = with_taken r s.histories e; doubt = doubt_after r e }
+slot_taken r s e = record s { histories = with_taken r s.histories e; doubt = doubted_entry r e }
 
 -- the entry stays in doubt if the settle fails
 abbrev pub doubt_left : Result Ended StoredFault → Past → Option Past

@@ -7,3 +7,4 @@ pub mod Parts
 pub mod Served
 pub mod Settled
 pub mod SteadyCounts
+pub mod Sweeps

@@ -11,7 +11,7 @@ use Rattle.range_rows.specs.SentContent.{sizes}
 use Rattle.stamp_model.specs.Histories.{IsLegal, NoneIsLater, pair_of}
 use Rattle.stamp_model.specs.Refusals.{refusal}
 use Rattle.stored_rows.specs.Ranges.{covers}
-use Rattle.stored_rows.specs.States.{IsInDoubt, Stored, bytes_of, doubt_of}
+use Rattle.stored_rows.specs.States.{IsInDoubt, Stored, bytes_of, own_doubt_of}
 use Rattle.slot_state.specs.HistoryMaps.{Histories, history_at}
 use Rattle.slot_state.specs.Pairs.{AreNumbered, Pairs, current_at, epoch_of, pairs_at}
 use Rattle.slot_state.specs.Slots.{SlotState, replayed_at}
@@ -48,9 +48,10 @@ pub record IsDoubted (pairs : Pairs) (h : Histories) (s : Stored) (e : Past) : T
   pub makes : MakesChange pairs h s e change
   pub tried : IsInDoubt (change, e.epoch) s
 
--- the streams have a change in doubt if and only if the slot has, and it is the slot's
+-- The streams have a change in doubt if and only if the slot has, and it is the slot's. A row that a sweep has written may be in doubt beside: it
+-- changes no container, whether it is kept or not
 abbrev pub HasDoubt : Pairs → Histories → Stored → Option Past → Type 0
-HasDoubt pairs h s None = doubt_of s ≡ None
+HasDoubt pairs h s None = own_doubt_of s ≡ None
 HasDoubt pairs h s (Some e) = IsDoubted pairs h s e
 
 -- what is true of every slot over streams

@@ -7,7 +7,7 @@ use Rattle.stamp_types.specs.declared.past.Past.{Past}
 use Rattle.stamp_types.specs.declared.reply.Reply.{Reply}
 use Rattle.stamp_types.specs.Requests.{Asked}
 use Rattle.range_partition.specs.declared.framed.FramedDecision.{FramedDecision}
-use Rattle.stored_rows.specs.States.{doubt_of}
+use Rattle.stored_rows.specs.States.{doubt_of, own_doubt_of}
 use Rattle.slot_state.specs.HistoryMaps.{Histories}
 use Rattle.slot_state.specs.Slots.{IsReplyFor, SlotState}
 use Rattle.stored_slot.specs.Decided.{DecidesFor}
@@ -22,11 +22,15 @@ slot_of held p = slot_with (arc_value p.pairs) (held p.histories) p.stored p.dou
 abbrev pub AreOfSlot : {H : Type 0} → (H → Histories) → SlotParts H → Type 0
 AreOfSlot held p = AreOfStreams (arc_value p.pairs) (held p.histories) p.stored p.doubt
 
--- what is true of the parts of every slot without a doubt
+-- what is true of the parts of every slot without a doubt; a row that a sweep has written may be in doubt
 pub record AreSettled {H : Type 0} (held : H → Histories) (p : SlotParts H) : Type 0 where
   pub replays : AreReplays (arc_value p.pairs) (held p.histories) p.stored
-  pub sure : doubt_of p.stored ≡ None
+  pub sure : own_doubt_of p.stored ≡ None
   pub none : p.doubt ≡ None
+
+-- the streams have no doubt, not of a row either
+abbrev pub AreClear : {H : Type 0} → SlotParts H → Type 0
+AreClear p = doubt_of p.stored ≡ None
 
 -- the request of the entry makes this change of the slot
 abbrev pub MakesChangeOf : {H : Type 0} → (H → Histories) → SlotParts H → Past → KeyedAct → Type 0

@@ -7,7 +7,7 @@ ghost use Rattle.stored_rows.specs.Counting.{FailsStored};
 ghost use Rattle.stored_rows.specs.Ranges.{covers};
 ghost use Rattle.stored_rows.specs.States.{doubt_of};
 ghost use Rattle.stored_slot.specs.Meanings.{AreOfStreams, AreReplays, slot_with};
-ghost use Rattle.stored_slot.specs.Parts.{AreOfSlot, AreSettled, slot_of};
+ghost use Rattle.stored_slot.specs.Parts.{AreClear, AreOfSlot, AreSettled, slot_of};
 ghost use Rattle.stored_slot.specs.Settled.{Cuts, CutsSettled};
 
 use crate::parts::SlotParts;
@@ -78,6 +78,7 @@ fn cut_with<H: Histories, W: Wire>(
                 stored: upper,
                 pairs,
                 doubt: None,
+                unknown: None,
             };
             Ok(StoredSlot { parts })
         }
@@ -97,6 +98,7 @@ impl<H: Histories> SlotParts<H> {
         wire: &mut W,
     ) -> Result<StoredSlot<H>, StoredFault>
         requires before { AreSettled H.held self.old }
+        requires clear { AreClear self.old }
         requires covered { covers self.old.stored.range middle.now ≡ true }
         ensures after { AreOfSlot H.held self.new }
         ensures cut { Cuts result (slot_of H.held self.old) middle.now (slot_of H.held self.new) }
@@ -121,7 +123,7 @@ impl<H: Histories> SlotParts<H> {
         ensures cut { CutsSettled result (slot_of H.held self.old) middle.now (slot_of H.held self.new) }
         ensures counted { FailsStored result (W.faults wire.old) (W.faults wire.new) }
     {
-        match self.settle(alloc, wire) {
+        match self.clear(alloc, wire) {
             Ok(()) => self.cut_settled(alloc, middle, wire),
             Err(fault) => Err(fault),
         }

@@ -52,7 +52,7 @@ impl<H: Histories> SlotParts<H> {
         ensures sealed { OnOk result (AreSealed self.new.stored.streams) }
         ensures counted { FailsStored result (W.faults wire.old) (W.faults wire.new) }
     {
-        match self.settle(alloc, wire) {
+        match self.clear(alloc, wire) {
             Ok(()) => self.stored.seal(wire),
             Err(fault) => Err(fault),
         }
@@ -71,7 +71,7 @@ impl<H: Histories> SlotParts<H> {
         ensures emptied { OnOk result ((logged self.new.stored.streams).log ≡ []) }
         ensures counted { FailsStored result (W.faults wire.old) (W.faults wire.new) }
     {
-        match self.load(alloc, wire) {
+        match self.load_clear(alloc, wire) {
             Ok(()) => self.stored.checkpoint(wire),
             Err(fault) => Err(fault),
         }

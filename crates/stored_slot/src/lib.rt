@@ -4,7 +4,6 @@
 mod answering;
 mod auditing;
 mod changing;
-mod compacting;
 mod cutting;
 mod deciding;
 mod keeping;
@@ -16,6 +15,8 @@ mod serving;
 mod settling;
 mod steady;
 mod stored_slot;
+mod sweeping;
+mod unknown_reply;
 
 pub use auditing::Audited;
 pub use laws::{
@@ -24,3 +25,4 @@ pub use laws::{
 };
 pub use steady::Steady;
 pub use stored_slot::{EXTENT_BYTES, StoredSlot};
+pub use sweeping::SweepStep;

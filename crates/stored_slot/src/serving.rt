@@ -10,82 +10,98 @@ ghost use Rattle.stored_rows.specs.States.{AreFoundIn};
 ghost use Rattle.slot_state.specs.Slots as slots;
 ghost use Rattle.slot_state.specs.Slots.{entry_of};
 ghost use Rattle.stored_slot.specs.Parts.{AreOfSlot, AreSettled, DecidesOn, IsReplyOf, MakesChangeOf, slot_of};
-ghost use Rattle.stored_slot.specs.Served as served;
 ghost use Rattle.stored_slot.specs.Served.{Faulted, IsTakenAnswer, ServesUnrefused, SlotServes};
 
-use crate::answering::{busy, denial, failed, reading, unknown};
+use crate::answering::{busy, denial, failed, reading};
 use crate::changing::FoundChange;
 use crate::deciding::WeighedDecision;
 use crate::parts::SlotParts;
+use crate::unknown_reply::UnknownReply;
 use extent_node::Wire;
 use policy_book::Judged;
 use range_partition::FramedDecision;
 use range_rows::{FramedAnswer, Reading};
-use slot_state::Histories;
+use slot_state::{AccountPairs, Histories};
 use stamp_types::{Moment, Past, Reply, Request};
 use std::alloc::{AllocError, Global};
 use stored_rows::{ChangeWeight, FoundForChange, TakeFault};
 use tickets::Answer;
 
-// What is made for a change before anything is put: the entry, and the reply if the outcome is unknown. After the first put, lack of memory
-// would hide a doubt.
+// All that a change needs before anything is put: its entry, and the reply if the outcome is unknown. After the first put, lack of memory would
+// hide a doubt.
 #[derive(Drop)]
 struct Ready {
     entry: Past,
-    unknown: Reply,
+    unknown: UnknownReply,
 }
 
-// The answer to a request whose change was taken, is in doubt, or is neither.
-fn taken_answer(alloc: Global, taken: Result<(), TakeFault>, frame: Reply, unknown: Reply) -> Answer
-    requires { unknown ≡ served.unknown }
+// The answer to a request whose change was taken, is in doubt, or is neither. The slot keeps the reply to an unknown outcome, unless it is
+// the answer.
+fn taken_answer(
+    alloc: Global,
+    taken: Result<(), TakeFault>,
+    frame: Reply,
+    unknown: UnknownReply,
+    kept: &mut Option<UnknownReply>,
+) -> Answer
     ensures { IsTakenAnswer taken frame result }
 {
     match taken {
         Ok(()) => {
-            drop(unknown);
+            unknown.keep(kept);
             Answer::Done(frame)
         }
         Err(TakeFault::Doubt) => {
             drop(frame);
-            Answer::Done(unknown)
+            Answer::Done(unknown.reply())
         }
         Err(TakeFault::Busy) => {
-            drop(unknown);
+            unknown.keep(kept);
             drop(frame);
             busy(alloc)
         }
         Err(TakeFault::NoMemory) => {
-            drop(unknown);
+            unknown.keep(kept);
             drop(frame);
             Answer::NoMemory
         }
     }
 }
 
-impl<H: Histories> SlotParts<H> {
-    // What a change needs before anything is put.
-    fn make_ready(
-        &self,
-        alloc: Global,
-        request: &Request,
-        moment: Moment,
-    ) -> Result<Ready, AllocError>
-        ensures entry { IfOk result (λ ready. ready.entry ≡ entry_of (arc_value self.now.pairs) request.now moment) }
-        ensures unknown { IfOk result (λ ready. ready.unknown ≡ served.unknown) }
-    {
-        let epoch = self.pairs.epoch(&request.ask().key.account);
-        let unknown = unknown(alloc)?;
-        let request = request.clone()?;
-        Ok(Ready {
-            entry: Past {
-                request,
-                moment,
-                epoch,
-            },
-            unknown,
-        })
-    }
+// The entry of a request that is served now. No byte of it is copied.
+fn entry_now(pairs: &AccountPairs, request: &Request, moment: Moment) -> Result<Past, AllocError>
+    ensures { IfOk result (λ entry. entry ≡ entry_of pairs.now request.now moment) }
+{
+    let epoch = pairs.epoch(&request.ask().key.account);
+    let request = request.clone()?;
+    Ok(Past {
+        request,
+        moment,
+        epoch,
+    })
+}
 
+// All that a change needs before anything is put. The reply to an unknown outcome is the one that the slot keeps, if it keeps one.
+fn make_ready(
+    pairs: &AccountPairs,
+    kept: &mut Option<UnknownReply>,
+    alloc: Global,
+    request: &Request,
+    moment: Moment,
+) -> Result<Ready, AllocError>
+    ensures { IfOk result (λ ready. ready.entry ≡ entry_of pairs.now request.now moment) }
+{
+    let entry = entry_now(pairs, request, moment)?;
+    match UnknownReply::take_or_make(kept, alloc) {
+        Ok(unknown) => Ok(Ready { entry, unknown }),
+        Err(fault) => {
+            drop(entry);
+            Err(fault)
+        }
+    }
+}
+
+impl<H: Histories> SlotParts<H> {
     // Makes the change of a request that is served now, and answers it.
     fn answer_change<W: Wire>(
         &mut self,
@@ -100,7 +116,6 @@ impl<H: Histories> SlotParts<H> {
         requires found { AreFoundIn self.old.stored made.change made.found.blocks }
         requires entry { ready.entry ≡ entry_of (arc_value self.old.pairs) ready.entry.request ready.entry.moment }
         requires reply { IsReplyOf H.held self.old ready.entry.request ready.entry.moment frame }
-        requires unknown { ready.unknown ≡ served.unknown }
         ensures after { AreOfSlot H.held self.new }
         ensures served { ServesUnrefused (slot_of H.held self.old) ready.entry.request ready.entry.moment
             (Faulted (W.faults wire.old) (W.faults wire.new)) result (slot_of H.held self.new) }
@@ -108,7 +123,7 @@ impl<H: Histories> SlotParts<H> {
     {
         let Ready { entry, unknown } = ready;
         let taken = self.change(alloc, entry, made, wire);
-        taken_answer(alloc, taken, frame, unknown)
+        taken_answer(alloc, taken, frame, unknown, &mut self.unknown)
     }
 
     // Serves a request that makes this change, with this reply.
@@ -130,7 +145,7 @@ impl<H: Histories> SlotParts<H> {
             (Faulted (W.faults wire.old) (W.faults wire.new)) result (slot_of H.held self.new) }
         ensures grown { Grows (W.faults wire.old) (W.faults wire.new) }
     {
-        match self.make_ready(alloc, request, moment) {
+        match make_ready(&self.pairs, &mut self.unknown, alloc, request, moment) {
             Ok(ready) => self.answer_change(alloc, ready, frame, made, wire),
             Err(AllocError) => {
                 drop(made);

@@ -1,7 +1,7 @@
 //! How a change of a slot that is in doubt ends.
 ghost use Rattle.std.specs.Prelude.{◌≡◌, ◌≢◌, [], IsSome};
 ghost use Rattle.stored_rows.specs.Counting.{FailsStored};
-ghost use Rattle.stored_rows.specs.States.{SettlesRows, doubt_of};
+ghost use Rattle.stored_rows.specs.States.{SettlesRows, own_doubt_of};
 ghost use Rattle.slot_state.specs.HistoryMaps.{history_at};
 ghost use Rattle.stored_slot.specs.Parts.{AreOfSlot, slot_of};
 ghost use Rattle.stored_slot.specs.Settled as settled;
@@ -51,7 +51,7 @@ fn settle_entry<H: Histories, W: Wire>(
     entry: &Past,
     wire: &mut W,
 ) -> Result<Ended, StoredFault>
-    requires doubt { IsSome (doubt_of stored.old) }
+    requires doubt { IsSome (own_doubt_of stored.old) }
     ensures settled { SettlesRows result stored.old stored.new }
     ensures entries { H.held histories.new ≡ settled.follows result (H.held histories.old) entry.now }
     ensures data { stored.new.streams.blobs ≡ stored.old.streams.blobs }

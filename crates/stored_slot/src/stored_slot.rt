@@ -18,7 +18,7 @@ ghost use Rattle.stored_slot.specs.Meanings.{slot_with};
 ghost use Rattle.stored_slot.specs.Served.{Faulted, SlotServes};
 ghost use Rattle.stored_slot.specs.Settled.{CutsSettled, LeavesRepaired, LeavesSettled, SettlesOrFails};
 
-mod compact;
+mod sweep;
 
 use crate::parts::SlotParts;
 use extent_node::{Node, Wire};
@@ -72,6 +72,7 @@ impl<H: Histories> StoredSlot<H> {
             stored: rows,
             pairs,
             doubt: None,
+            unknown: None,
         };
         Self { parts }
     }

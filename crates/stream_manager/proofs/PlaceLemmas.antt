@@ -128,6 +128,13 @@ sealed_onward es fs gs a b = record {
   longer = let l = a.longer in let m = b.longer in omega arith;
 }
 
+-- sealed extents that are as they were
+pub sealed_still : (es : List (List Block)) → KeepsSealed es es
+sealed_still es = record {
+  closed = λ e h. refl;
+  longer = omega arith;
+}
+
 -- what is added twice is added together
 pub onward : (es fs gs : List (List Block)) (xs ys : List Block) → Follows es xs fs → Follows fs ys gs → Follows es (xs ++ ys) gs
 onward es fs gs xs ys a b = record {

@@ -44,7 +44,8 @@ impl Handle {
     ghost use Rattle.std.specs.List.{slice_get};
     ghost use Rattle.extent_seal.specs.Counting.{AsksCopies, AsksNoOther, FailsCopies, Grows, SomeAnswers, all_faults};
     ghost use Rattle.extent_seal.specs.Extents.{answer_of};
-    ghost use Rattle.extent_seal.specs.Repairs.{Copies, FailsToCopy, with_copy};
+    ghost use Rattle.extent_seal.specs.Heard.{AsksAreHeard};
+    ghost use Rattle.extent_seal.specs.Repairs.{Copies, FailsToCopy, FirstAnswers, with_copy};
     ghost use Rattle.extent_seal.specs.declared.sealed.ReadFault.TheVariants.{NoMemory, Unreachable};
 
     /// A handle of an extent that one stream has. Takes no memory.
@@ -78,6 +79,8 @@ impl Handle {
         ensures unreachable { result ≡ Err Unreachable → FailsCopies self.now.kept (W.faults wire.old) (W.faults wire.new) }
         ensures faulty { result ≡ Err Unreachable → all_faults (W.faults wire.old) < all_faults (W.faults wire.new) }
         ensures answered { result ≢ Err Unreachable → SomeAnswers self.now.kept (W.calls wire.old) (W.calls wire.new) (W.faults wire.old) (W.faults wire.new) }
+        ensures first { result ≢ Err Unreachable → FirstAnswers self.now.kept (W.calls wire.old).asks (W.calls wire.new).asks (W.faults wire.old).asks (W.faults wire.new).asks }
+        ensures heard { result ≢ Err Unreachable → AsksAreHeard (W.calls wire.old) (W.calls wire.new) (W.faults wire.old) (W.faults wire.new) }
         ensures discarded { AsksNoOther self.now.kept (W.calls wire.old) (W.calls wire.new) }
         ensures grown { Grows (W.faults wire.old) (W.faults wire.new) }
     {

@@ -45,6 +45,8 @@ impl Parts {
     ghost use Rattle.extent_node.specs.Copies.{Block};
     ghost use Rattle.extent_node.specs.Faults.{CountsNone};
     ghost use Rattle.extent_seal.specs.Counting.{AsksCopies, AsksEach, AsksNoOther, FailsCopies, FailsEach, Grows, SomeAnswers, all_faults};
+    ghost use Rattle.extent_seal.specs.Heard.{AsksAreHeard};
+    ghost use Rattle.extent_seal.specs.Repairs.{FirstAnswers};
     ghost use Rattle.extent_seal.specs.declared.sealed.ReadFault.TheVariants.{Unreachable};
     ghost use Rattle.stamp_values.specs.declared.place.Place.{Place};
     ghost use Rattle.stream_manager.specs.Counting.{AsksAtMost, CallsTry, FailsTry, CallsAppend, FailsAppend, CallsSettle, FailsSettle, CallsSeal, FailsSeal, kept_in};
@@ -54,8 +56,10 @@ impl Parts {
     ghost use Rattle.stream_manager.specs.Parts.{EndsDoubt, IsReadyFor, IsSame, IsUnanswered, IsWhole, SealsAtMostOne, SealsLast, StaysWhole, extents_of};
     ghost use Rattle.stream_manager.specs.Places.{IsLastAt, block_at, next_place};
     ghost use Rattle.stream_manager.specs.Sizes.{IsWithin, AreSized, AreCounted};
+    ghost use Rattle.stream_manager.specs.declared.faults.AppendFault.TheVariants as append_fault;
     ghost use Rattle.stream_manager.specs.declared.faults.AppendFault.TheVariants.{TooLarge, Busy};
-    ghost use Rattle.stream_manager.specs.declared.parts.Tried.TheVariants.{Excluded, Placed};
+    ghost use Rattle.stream_manager.specs.declared.faults.StoredFault.TheVariants as stored_fault;
+    ghost use Rattle.stream_manager.specs.declared.parts.Tried.TheVariants.{Doubt, Excluded, Placed};
 
     /// Seals the last extent, and answers whether the block that was tried on it lies in it.
     pub fn close<W: Wire>(&mut self, wire: &mut W) -> Result<bool, NoReplica>
@@ -66,6 +70,7 @@ impl Parts {
         ensures sealed { IfOk result (λ kept. SealsLast self.old self.new (W.faults wire.old) (W.faults wire.new)) }
         ensures same { OnErr result (IsUnanswered self.old self.new (W.faults wire.old) (W.faults wire.new)) }
         ensures called { AsksEach (W.calls wire.old) (W.calls wire.new) }
+        ensures heard { IfOk result (λ kept. AsksAreHeard (W.calls wire.old) (W.calls wire.new) (W.faults wire.old) (W.faults wire.new)) }
         ensures room { SealsAtMostOne self.old self.new }
         ensures bytes { IfOk result (λ kept. self.new.bytes ≡ 0) }
         ensures same_bytes { OnErr result (self.new.bytes ≡ self.old.bytes) }
@@ -98,6 +103,7 @@ impl Parts {
         ensures sealed { IfOk result (λ kept. SealsLast self.old self.new (W.faults wire.old) (W.faults wire.new)) }
         ensures same { OnErr result (IsUnanswered self.old self.new (W.faults wire.old) (W.faults wire.new)) }
         ensures called { AsksEach (W.calls wire.old) (W.calls wire.new) }
+        ensures heard { IfOk result (λ kept. AsksAreHeard (W.calls wire.old) (W.calls wire.new) (W.faults wire.old) (W.faults wire.new)) }
         ensures room { SealsAtMostOne self.old self.new }
         ensures whole { StaysWhole self.old self.new }
     {
@@ -105,7 +111,7 @@ impl Parts {
     }
 
     // Tries the block on the last extent. Takes no memory.
-    #[tactic(auto, using(crate::proofs::SizeLemmas::short_sized, crate::proofs::SizeLemmas::whole_sized, crate::proofs::CountLemmas::one_more_bound))]
+    #[tactic(auto, using(crate::proofs::SizeLemmas::short_sized, crate::proofs::SizeLemmas::whole_sized, crate::proofs::CountLemmas::one_more_bound, extent_seal::proofs::HeardLemmas::heard_put, extent_seal::proofs::HeardLemmas::heard_then))]
     fn try_once<W: Wire>(&mut self, block: BlockOwners, wire: &mut W) -> Tried
         requires whole { IsWhole self.old }
         requires ready { IsReadyFor self.old block }
@@ -114,6 +120,7 @@ impl Parts {
             (extents_of self.new) self.new.last.extent }
         ensures called { CallsTry result (length self.old.sealed.extents) (length self.new.sealed.extents) (W.calls wire.old) (W.calls wire.new) }
         ensures counted { FailsTry result (W.faults wire.old) (W.faults wire.new) }
+        ensures heard { result ≢ Doubt → AsksAreHeard (W.calls wire.old) (W.calls wire.new) (W.faults wire.old) (W.faults wire.new) }
         ensures room { SealsAtMostOne self.old self.new }
         ensures whole { StaysWhole self.old self.new }
         ensures longer { length self.old.sealed.extents ≤ length self.new.sealed.extents }
@@ -156,6 +163,7 @@ impl Parts {
             (extents_of self.new) self.new.last.extent }
         ensures called { CallsAppend result (length self.old.sealed.extents) (length self.new.sealed.extents) (W.calls wire.old) (W.calls wire.new) }
         ensures counted { FailsAppend result (length self.old.sealed.extents) (length self.new.sealed.extents) (W.faults wire.old) (W.faults wire.new) }
+        ensures heard { result ≢ Err append_fault.Doubt → AsksAreHeard (W.calls wire.old) (W.calls wire.new) (W.faults wire.old) (W.faults wire.new) }
         ensures whole { StaysWhole self.old self.new }
         ensures after { IfOk result (λ p. length self.old.sealed.extents ≤ p.extent) }
         ensures twice { (result ≡ Err Busy) → length self.new.sealed.extents ≡ length self.old.sealed.extents + 2 }
@@ -202,7 +210,7 @@ impl Parts {
     }
 
     // Seals the last extent, if it is to be sealed before a block is tried. Takes no memory.
-    #[tactic(auto, using(crate::proofs::SizeLemmas::first_within, crate::proofs::CountLemmas::one_more_bound))]
+    #[tactic(auto, using(crate::proofs::SizeLemmas::first_within, crate::proofs::CountLemmas::one_more_bound, extent_seal::proofs::HeardLemmas::heard_none))]
     fn make_ready<W: Wire>(&mut self, seals: bool, wire: &mut W) -> Result<bool, NoReplica>
         requires whole { IsWhole self.old }
         requires room { 0 < self.old.sealed.room }
@@ -217,6 +225,7 @@ impl Parts {
         ensures unput { IfOk result (λ kept. CountsNone (W.calls wire.old).puts (W.calls wire.new).puts) }
         ensures unanswered_calls { OnErr result (AsksEach (W.calls wire.old) (W.calls wire.new)) }
         ensures counted { IfOk result (λ kept. Grows (W.faults wire.old) (W.faults wire.new)) }
+        ensures heard { IfOk result (λ kept. AsksAreHeard (W.calls wire.old) (W.calls wire.new) (W.faults wire.old) (W.faults wire.new)) }
         ensures room { SealsAtMostOne self.old self.new }
         ensures whole { StaysWhole self.old self.new }
         ensures fits { IfOk result (λ kept. (b : Block)
@@ -233,13 +242,14 @@ impl Parts {
     }
 
     /// Appends the block, after a doubt is settled. All memory that this may need is taken before a node is called.
-    #[tactic(auto, using(crate::proofs::CountLemmas::one_more_bound))]
+    #[tactic(auto, using(crate::proofs::CountLemmas::one_more_bound, extent_seal::proofs::HeardLemmas::heard_none))]
     pub fn append<W: Wire>(&mut self, block: &Share, wire: &mut W) -> Result<Place, AppendFault>
         requires whole { IsWhole self.old }
         ensures appended { IsAppend result (extents_of self.old) self.old.last.extent block.now
             (extents_of self.new) self.new.last.extent }
         ensures called { CallsAppend result (length self.old.sealed.extents) (length self.new.sealed.extents) (W.calls wire.old) (W.calls wire.new) }
         ensures counted { FailsAppend result (length self.old.sealed.extents) (length self.new.sealed.extents) (W.faults wire.old) (W.faults wire.new) }
+        ensures heard { result ≢ Err append_fault.Doubt → result ≢ Err Busy → AsksAreHeard (W.calls wire.old) (W.calls wire.new) (W.faults wire.old) (W.faults wire.new) }
         ensures after { IfOk result (λ p. length self.old.sealed.extents ≤ p.extent) }
         ensures large { (result ≡ Err TooLarge) ↔ (16_777_216 < length block.now) }
         ensures unheard { IsRefused result → wire.new ≡ wire.old }
@@ -293,12 +303,14 @@ impl Parts {
     }
 
     /// Settles a doubt, if there is one.
+    #[tactic(auto, using(extent_seal::proofs::HeardLemmas::heard_none))]
     pub fn settle<W: Wire>(&mut self, wire: &mut W) -> Result<Settled, StoredFault>
         requires whole { IsWhole self.old }
         ensures settled { IsSettled result (extents_of self.old) self.old.last.extent
             (extents_of self.new) self.new.last.extent }
         ensures called { CallsSettle result (W.calls wire.old) (W.calls wire.new) }
         ensures counted { FailsSettle result (W.faults wire.old) (W.faults wire.new) }
+        ensures heard { result ≢ Err stored_fault.Busy → AsksAreHeard (W.calls wire.old) (W.calls wire.new) (W.faults wire.old) (W.faults wire.new) }
         ensures whole { StaysWhole self.old self.new }
     {
         if !self.last.is_short() {
@@ -323,6 +335,7 @@ impl Parts {
             (extents_of self.new) self.new.last.extent }
         ensures called { CallsSeal result (length self.old.sealed.extents) (length self.new.sealed.extents) (W.calls wire.old) (W.calls wire.new) }
         ensures counted { FailsSeal result (W.faults wire.old) (W.faults wire.new) }
+        ensures heard { result ≢ Err stored_fault.Busy → AsksAreHeard (W.calls wire.old) (W.calls wire.new) (W.faults wire.old) (W.faults wire.new) }
         ensures unused { self.old.last.extent.blocks ≡ [] → self.old.last.extent.tried ≡ None → wire.new ≡ wire.old }
         ensures same_sealed { self.old.last.extent.blocks ≡ [] → self.old.last.extent.tried ≡ None → self.new.sealed.extents ≡ self.old.sealed.extents }
         ensures whole { StaysWhole self.old self.new }
@@ -364,6 +377,8 @@ impl Parts {
         ensures unreachable { result ≡ Err Unreachable → FailsCopies (kept_in self.now.sealed.extents place.extent) (W.faults wire.old) (W.faults wire.new) }
         ensures faulty { result ≡ Err Unreachable → all_faults (W.faults wire.old) < all_faults (W.faults wire.new) }
         ensures answered { result ≢ Err Unreachable → SomeAnswers (kept_in self.now.sealed.extents place.extent) (W.calls wire.old) (W.calls wire.new) (W.faults wire.old) (W.faults wire.new) }
+        ensures first { result ≢ Err Unreachable → FirstAnswers (kept_in self.now.sealed.extents place.extent) (W.calls wire.old).asks (W.calls wire.new).asks (W.faults wire.old).asks (W.faults wire.new).asks }
+        ensures heard { result ≢ Err Unreachable → AsksAreHeard (W.calls wire.old) (W.calls wire.new) (W.faults wire.old) (W.faults wire.new) }
         ensures discarded { AsksNoOther (kept_in self.now.sealed.extents place.extent) (W.calls wire.old) (W.calls wire.new) }
         ensures grown { Grows (W.faults wire.old) (W.faults wire.new) }
     {

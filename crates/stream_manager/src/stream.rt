@@ -35,6 +35,8 @@ impl Stream {
     ghost use Rattle.std.specs.Option.{is_some};
     ghost use Rattle.extent_seal.specs.Extents.{Closed};
     ghost use Rattle.extent_seal.specs.Counting.{AsksCopies, AsksNoOther, FailsCopies, FailsEach, Grows, SomeAnswers, all_faults};
+    ghost use Rattle.extent_seal.specs.Heard.{AsksAreHeard};
+    ghost use Rattle.extent_seal.specs.Repairs.{FirstAnswers};
     ghost use Rattle.extent_seal.specs.declared.sealed.ReadFault.TheVariants.{Unreachable};
     ghost use Rattle.stream_manager.specs.Counting.{CallsAppend, FailsAppend, CallsSettle, FailsSettle, CallsSeal, FailsSeal, kept_in};
     ghost use Rattle.stream_manager.specs.GivenUp.{GivesUp, GivesUpFront, with_blocks};
@@ -43,8 +45,9 @@ impl Stream {
     ghost use Rattle.stream_manager.specs.Repairs.{CountsRepair, IsUnheardFault, repaired};
     ghost use Rattle.stream_manager.specs.Sizes.{AreSized};
     ghost use Rattle.stream_manager.specs.Streams.{laid};
-    ghost use Rattle.stream_manager.specs.declared.faults.AppendFault.TheVariants.{TooLarge, Busy};
+    ghost use Rattle.stream_manager.specs.declared.faults.AppendFault.TheVariants.{TooLarge, Busy, Doubt};
     ghost use Rattle.stream_manager.specs.declared.faults.RepairFault.TheVariants as repair_fault;
+    ghost use Rattle.stream_manager.specs.declared.faults.StoredFault.TheVariants as stored_fault;
 
     /// A stream without blocks, whose extents of two or more blocks have at most `extent_bytes` bytes. Takes no memory.
     pub fn new(alloc: Global, extent_bytes: u32) -> Self
@@ -72,6 +75,7 @@ impl Stream {
         ensures after { IfOk result (λ p. length self.old.sealed ≤ p.extent) }
         ensures called { CallsAppend result (length self.old.sealed) (length self.new.sealed) (W.calls wire.old) (W.calls wire.new) }
         ensures counted { FailsAppend result (length self.old.sealed) (length self.new.sealed) (W.faults wire.old) (W.faults wire.new) }
+        ensures heard { result ≢ Err Doubt → result ≢ Err Busy → AsksAreHeard (W.calls wire.old) (W.calls wire.new) (W.faults wire.old) (W.faults wire.new) }
         ensures large { (result ≡ Err TooLarge) ↔ (16_777_216 < length block.now) }
         ensures refused { IsRefused result → self.new ≡ self.old }
         ensures unheard { IsRefused result → wire.new ≡ wire.old }
@@ -89,6 +93,7 @@ impl Stream {
         ensures settled { IsSettled result (laid self.old) self.old.last (laid self.new) self.new.last }
         ensures called { CallsSettle result (W.calls wire.old) (W.calls wire.new) }
         ensures counted { FailsSettle result (W.faults wire.old) (W.faults wire.new) }
+        ensures heard { result ≢ Err stored_fault.Busy → AsksAreHeard (W.calls wire.old) (W.calls wire.new) (W.faults wire.old) (W.faults wire.new) }
         ensures limit { self.new.limit ≡ self.old.limit }
         ensures sized { AreSized self.new.limit self.new.sealed self.new.last }
     {
@@ -103,6 +108,7 @@ impl Stream {
         ensures sealed { IsSealed result (laid self.old) self.old.last (laid self.new) self.new.last }
         ensures called { CallsSeal result (length self.old.sealed) (length self.new.sealed) (W.calls wire.old) (W.calls wire.new) }
         ensures counted { FailsSeal result (W.faults wire.old) (W.faults wire.new) }
+        ensures heard { result ≢ Err stored_fault.Busy → AsksAreHeard (W.calls wire.old) (W.calls wire.new) (W.faults wire.old) (W.faults wire.new) }
         ensures unused { self.old.last.blocks ≡ [] → self.old.last.tried ≡ None → wire.new ≡ wire.old }
         ensures same { self.old.last.blocks ≡ [] → self.old.last.tried ≡ None → self.new.sealed ≡ self.old.sealed }
         ensures limit { self.new.limit ≡ self.old.limit }
@@ -122,6 +128,8 @@ impl Stream {
         ensures unreachable { result ≡ Err Unreachable → FailsCopies (kept_in self.now.sealed place.extent) (W.faults wire.old) (W.faults wire.new) }
         ensures faulty { result ≡ Err Unreachable → all_faults (W.faults wire.old) < all_faults (W.faults wire.new) }
         ensures answered { result ≢ Err Unreachable → SomeAnswers (kept_in self.now.sealed place.extent) (W.calls wire.old) (W.calls wire.new) (W.faults wire.old) (W.faults wire.new) }
+        ensures first { result ≢ Err Unreachable → FirstAnswers (kept_in self.now.sealed place.extent) (W.calls wire.old).asks (W.calls wire.new).asks (W.faults wire.old).asks (W.faults wire.new).asks }
+        ensures heard { result ≢ Err Unreachable → AsksAreHeard (W.calls wire.old) (W.calls wire.new) (W.faults wire.old) (W.faults wire.new) }
         ensures discarded { AsksNoOther (kept_in self.now.sealed place.extent) (W.calls wire.old) (W.calls wire.new) }
         ensures grown { Grows (W.faults wire.old) (W.faults wire.new) }
     {

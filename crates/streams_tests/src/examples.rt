@@ -196,7 +196,7 @@ fn a_change_is_kept_while_its_rows_are_unloaded(rt: HostRuntime) {
     let pics = key_of(&rt, alloc, "pics");
     assert!(rt; stored.is_loaded() && stored.covers(&pics)); // `find` requires it
     assert_eq!(rt; stored.find(&pics).count(), 1);
-    assert!(rt; !stored.has_doubt()); // a checkpoint requires it
+    assert!(rt; stored.is_sure()); // a checkpoint requires it
     let replaced = stored.checkpoint(&mut wire).ok();
     drop(replaced); // the old log and the old rows
 }

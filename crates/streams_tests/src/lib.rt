@@ -61,11 +61,15 @@ mod stored_answer_tests;
 #[cfg(test)]
 mod stored_checkpoint_tests;
 #[cfg(test)]
-mod stored_compaction_tests;
+mod stored_garbage_tests;
 #[cfg(test)]
 mod stored_list_tests;
 #[cfg(test)]
 mod stored_samples;
+#[cfg(test)]
+mod stored_step_tests;
+#[cfg(test)]
+mod stored_sweep_samples;
 #[cfg(test)]
 mod stored_sweep_tests;
 #[cfg(test)]

@@ -1,6 +1,6 @@
 //! The row of a blob whose content is put again at the end of the data (SOSP 2011, section 5.3).
 ghost use Rattle.std.specs.Prelude.{IfOk, List};
-ghost use Rattle.extent_node.specs.Copies.{Block};
+ghost use Rattle.extent_node.specs.Copies as copies;
 ghost use Rattle.stamp_types.specs.Contents.{EachActContent};
 ghost use Rattle.stream_manager.specs.Places.{KeepsPlaces};
 ghost use Rattle.stream_manager.specs.Streams.{laid};
@@ -19,7 +19,7 @@ use std::process::Abort;
 
 // The row of the blob `a.txt`, which has a committed block and an uncommitted block of the same content.
 fn row(rt: &impl Abort, alloc: Global, content: &Pieces) -> Change
-    ensures { (es : List (List Block)) → AreStored es content.now → EachActContent (AreStored es) result.act }
+    ensures { (es : List (List copies.Block)) → AreStored es content.now → EachActContent (AreStored es) result.act }
 {
     let block = Block {
         id: None,

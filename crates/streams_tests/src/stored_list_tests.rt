@@ -2,8 +2,9 @@
 use crate::partition_samples::Told;
 use crate::sample_wires::{R, script};
 use crate::stored_samples::{
-    checkpoint, compact, create, cut, gathering, load, part, put, seal, settle, take,
+    checkpoint, create, cut, gathering, load, part, put, seal, settle, take,
 };
+use crate::stored_sweep_samples::{begin, end, steps};
 use crate::ticket_tests::frame;
 use body_forms::Draft;
 use extent_node::{Delivery, Node};
@@ -75,22 +76,20 @@ fn write_and_load(rt: &impl Abort, alloc: Global, stored: &mut StoredRows) {
     let mut wire = script(rt, alloc, &[], &[]);
     assert_eq!(rt; checkpoint(rt, stored, &mut wire), Told::Done);
     assert!(rt; stored.gathers_lists());
-    assert_eq!(rt; compact(rt, stored, &mut wire), Told::Done);
-    assert!(rt; stored.gathers_lists());
     stored.unload();
     assert!(rt; stored.gathers_lists());
     assert_eq!(rt; load(stored, &mut wire), Told::Done);
     assert!(rt; stored.gathers_lists());
 }
 
-// Begins a sweep, ends it if no row is left, and cuts the rows.
+// Begins a sweep, writes each row, ends the sweep, and cuts the rows.
 fn sweep_and_cut(rt: &impl Abort, alloc: Global, stored: &mut StoredRows) {
     let mut wire = script(rt, alloc, &[], &[]);
-    assert!(rt; !stored.has_doubt());
-    assert!(rt; stored.sweep_begin(&mut wire).is_ok());
+    let _asked = begin(rt, alloc, stored);
     assert!(rt; stored.gathers_lists());
-    assert!(rt; !stored.has_doubt());
-    drop(stored.sweep_end());
+    let _steps = steps(rt, alloc, stored);
+    assert!(rt; stored.gathers_lists());
+    end(rt, stored);
     assert!(rt; stored.gathers_lists());
     let upper = cut(rt, alloc, stored, "pics", &mut wire).expect(rt, "a half");
     assert!(rt; stored.gathers_lists() && upper.gathers_lists());

@@ -112,7 +112,7 @@ pub(crate) fn test_change(rt: &impl Abort, stored: &StoredRows, change: &Change)
     assert!(rt; is_held(change));
     let fits = stored.fits(change).expect(rt, "memory");
     assert!(rt; fits);
-    assert!(rt; !stored.has_doubt());
+    assert!(rt; stored.is_sure());
 }
 
 /// Takes a change with the epoch 7.
@@ -161,21 +161,15 @@ pub(crate) fn settle(stored: &mut StoredRows, wire: &mut Script) -> Told {
 }
 
 pub(crate) fn seal(rt: &impl Abort, stored: &mut StoredRows, wire: &mut Script) -> Told {
-    assert!(rt; !stored.has_doubt());
+    assert!(rt; stored.is_sure());
     told(stored.seal(wire).map(drop))
 }
 
 /// Writes the rows, which are loaded, as a checkpoint.
 pub(crate) fn checkpoint(rt: &impl Abort, stored: &mut StoredRows, wire: &mut Script) -> Told {
     assert!(rt; stored.is_loaded());
-    assert!(rt; !stored.has_doubt());
+    assert!(rt; stored.is_sure());
     told(stored.checkpoint(wire).map(drop))
-}
-
-/// Puts what exists into new streams.
-pub(crate) fn compact(rt: &impl Abort, stored: &mut StoredRows, wire: &mut Script) -> Told {
-    assert!(rt; !stored.has_doubt());
-    told(stored.compact(wire).map(drop))
 }
 
 /// Cuts the rows at the key of the container of this name. `None` if that was Busy.
@@ -187,7 +181,7 @@ pub(crate) fn cut(
     wire: &mut Script,
 ) -> Option<Box<StoredRows>> {
     let middle = key(rt, alloc, name);
-    assert!(rt; !stored.has_doubt());
+    assert!(rt; stored.is_sure());
     assert!(rt; stored.covers(&middle));
     match stored.cut(&middle, wire) {
         Ok(half) => Some(Box::new(alloc, half).expect(rt, "memory")),

@@ -2,26 +2,17 @@
 use crate::partition_samples::Told;
 use crate::sample_wires::script;
 use crate::stored_checkpoint_tests::{made, reload};
-use crate::stored_compaction_tests::{fill, is_full};
 use crate::stored_samples::{
-    Seen, checkpoint, compact, create, cut, is_hello, look, part, put, stored, unload_and_take,
+    Seen, checkpoint, create, cut, is_hello, look, part, put, stored, unload_and_take,
 };
+use crate::stored_sweep_samples::{begin, fill, is_full};
 use std::alloc::Global;
 use std::process::Abort;
 use stored_rows::{StoredFault, StoredRows};
 
-// Begins a sweep. So many nodes are asked.
-fn begin(rt: &impl Abort, alloc: Global, stored: &mut StoredRows, asked: usize) {
-    let mut wire = script(rt, alloc, &[], &[]);
-    assert!(rt; !stored.has_doubt());
-    assert!(rt; stored.sweep_begin(&mut wire).is_ok());
-    assert_eq!(rt; wire.called().len(), asked);
-    assert!(rt; stored.is_sweeping());
-}
-
 // A sweep that has rows left does not end.
 fn goes_on(rt: &impl Abort, stored: &mut StoredRows) {
-    assert!(rt; !stored.has_doubt());
+    assert!(rt; stored.is_sure());
     assert!(rt; stored.sweep_end().is_none());
     assert!(rt; stored.is_sweeping());
 }
@@ -29,7 +20,7 @@ fn goes_on(rt: &impl Abort, stored: &mut StoredRows) {
 // Fills the rows, and begins a sweep: each node is asked for the log and for the data.
 fn fill_and_begin(rt: &impl Abort, alloc: Global, stored: &mut StoredRows) {
     fill(rt, alloc, stored);
-    begin(rt, alloc, stored, 6);
+    assert_eq!(rt; begin(rt, alloc, stored), 6);
 }
 
 fn seal_and_mark(rt: &impl Abort, alloc: Global, stored: &mut StoredRows) {
@@ -39,7 +30,7 @@ fn seal_and_mark(rt: &impl Abort, alloc: Global, stored: &mut StoredRows) {
     // The content is sealed, so it is read later.
     let part = part(rt, alloc, stored, "pics", 0);
     assert!(rt; is_hello(rt, alloc, &part, 1));
-    begin(rt, alloc, stored, 0);
+    assert_eq!(rt; begin(rt, alloc, stored), 0);
     goes_on(rt, stored);
     reload(rt, alloc, stored, 6);
     is_full(rt, alloc, stored);
@@ -53,7 +44,7 @@ fn a_sweep_begins_with_a_seal_and_goes_on_until_no_row_is_left(rt: HostRuntime) 
 
 fn begin_without_a_node(rt: &impl Abort, alloc: Global, stored: &mut StoredRows) {
     fill(rt, alloc, stored);
-    assert!(rt; !stored.has_doubt());
+    assert!(rt; stored.is_sure());
     let mut wire = script(rt, alloc, &[], &[false, false, false]);
     let begun = stored.sweep_begin(&mut wire);
     assert!(rt; matches!(begun, Err(StoredFault::Busy)));
@@ -74,7 +65,7 @@ fn change_untouched(rt: &impl Abort, alloc: Global, stored: &mut StoredRows) {
     goes_on(rt, stored);
     made(rt, alloc, stored, put(rt, alloc, "pics"));
     assert!(rt; !stored.is_sweeping());
-    assert!(rt; !stored.has_doubt());
+    assert!(rt; stored.is_sure());
     assert!(rt; stored.sweep_end().is_none());
     reload(rt, alloc, stored, 8);
     assert_eq!(rt; look(rt, alloc, stored, "pics"), Seen::Blob(4, 5));
@@ -105,15 +96,13 @@ fn write_anew(rt: &impl Abort, alloc: Global, stored: &mut StoredRows) {
     fill_and_begin(rt, alloc, stored);
     assert_eq!(rt; checkpoint(rt, stored, &mut wire), Told::Done);
     assert!(rt; !stored.is_sweeping());
-    // Since the seal no block was put into the log or the data, so each node is asked for the new rows alone.
-    begin(rt, alloc, stored, 3);
-    assert_eq!(rt; compact(rt, stored, &mut wire), Told::Done);
-    assert!(rt; !stored.is_sweeping());
     is_full(rt, alloc, stored);
+    // Since the seal no block was put into the log or the data, so each node is asked for the new rows alone.
+    assert_eq!(rt; begin(rt, alloc, stored), 3);
 }
 
 #[test]
-fn a_checkpoint_and_a_compaction_end_a_sweep(rt: HostRuntime) {
+fn a_checkpoint_ends_a_sweep(rt: HostRuntime) {
     let mut stored = stored(&rt, rt.alloc());
     write_anew(&rt, rt.alloc(), &mut *stored);
 }

@@ -39,7 +39,7 @@ fn reload(rt: &impl Abort, alloc: Global, stored: &mut StoredRows, asked: usize)
 
 fn begin(rt: &impl Abort, alloc: Global, stored: &StoredRows) {
     assert!(rt; stored.is_loaded());
-    assert!(rt; !stored.has_doubt());
+    assert!(rt; stored.is_sure());
     assert!(rt; !stored.covers(&key(rt, alloc, "bba")));
     assert!(rt; stored.covers(&key(rt, alloc, "bbb")));
     assert!(rt; stored.covers(&key(rt, alloc, "zzz")));
@@ -122,7 +122,7 @@ fn doubt(rt: &impl Abort, alloc: Global, stored: &mut StoredRows, answers: [bool
     assert!(rt; stored.has_doubt());
     assert_eq!(rt; look(rt, alloc, stored, "pics"), Seen::Empty(1));
     assert_eq!(rt; settle(stored, &mut wire), end);
-    assert!(rt; !stored.has_doubt());
+    assert!(rt; stored.is_sure());
     assert_eq!(rt; settle(stored, &mut wire), Told::Clean);
 }
 
@@ -188,7 +188,7 @@ fn fail(rt: &impl Abort, alloc: Global, stored: &mut StoredRows) {
     let mut wire = script(rt, alloc, &[], &NO);
     assert!(rt; cut(rt, alloc, stored, "pics", &mut wire).is_none());
     assert!(rt; stored.is_loaded());
-    assert!(rt; !stored.has_doubt());
+    assert!(rt; stored.is_sure());
     assert!(rt; stored.covers(&key(rt, alloc, "bbb")));
     assert_eq!(rt; look(rt, alloc, stored, "pics"), Seen::Blob(2, 5));
     stored.unload();

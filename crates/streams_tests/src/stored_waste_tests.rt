@@ -4,7 +4,8 @@ use crate::sample_acts::delete_blob;
 use crate::sample_fields::{bare, hello, id, meta, metadata, noon, red, text};
 use crate::sample_wires::script;
 use crate::stored_checkpoint_tests::made;
-use crate::stored_samples::{change_of, compact, create, load, stored};
+use crate::stored_samples::{change_of, create, load, stored};
+use crate::stored_sweep_samples::sweep;
 use log_record::write_change;
 use row_trees::{Found, FoundBlob};
 use stamp_types::{
@@ -16,7 +17,7 @@ use std::alloc::Global;
 use std::process::Abort;
 use stored_rows::StoredRows;
 
-// How many bytes may be wasted beside as many as exist: 16 MiB.
+// How many bytes may be wasted beside a third of those that exist: 16 MiB.
 const SPARED: u64 = 16_777_216;
 
 // How many bytes more a record counts than it has.
@@ -75,8 +76,8 @@ fn put_headers(rt: &impl Abort, alloc: Global, blob: Text, len: usize) -> Change
     put_props(rt, alloc, blob, headers(rt, alloc, len))
 }
 
-// Content of so many bytes, in pieces of these bytes. At most five pieces are made.
-fn content(rt: &impl Abort, alloc: Global, body: &Share, len: usize) -> Pieces {
+/// Content of so many bytes, in pieces of these bytes. At most five pieces are made.
+pub(crate) fn content(rt: &impl Abort, alloc: Global, body: &Share, len: usize) -> Pieces {
     let mut pieces = Vec::new(alloc);
     let mut left = len;
     for _ in 0..5 {
@@ -91,8 +92,8 @@ fn content(rt: &impl Abort, alloc: Global, body: &Share, len: usize) -> Pieces {
     Pieces::new(pieces).expect(rt, "good pieces")
 }
 
-// The change that puts the blob `a.txt` of so many bytes.
-fn put_bytes(rt: &impl Abort, alloc: Global, body: &Share, len: usize) -> Change {
+/// The change that puts the blob `a.txt` of so many bytes.
+pub(crate) fn put_bytes(rt: &impl Abort, alloc: Global, body: &Share, len: usize) -> Change {
     let act = Act::PutBlob(PutBlob {
         blob: text(rt, alloc, "a.txt"),
         moment: noon(rt),
@@ -103,7 +104,7 @@ fn put_bytes(rt: &impl Abort, alloc: Global, body: &Share, len: usize) -> Change
     change_of(rt, alloc, "pics", act)
 }
 
-fn delete(rt: &impl Abort, alloc: Global) -> Change {
+pub(crate) fn delete(rt: &impl Abort, alloc: Global) -> Change {
     change_of(rt, alloc, "pics", delete_blob(rt, alloc))
 }
 
@@ -273,8 +274,8 @@ fn counted(rt: &impl Abort, alloc: Global, stored: &mut StoredRows, change: Chan
     bytes
 }
 
-// A container, and four changes of one kind.
-fn fill(rt: &impl Abort, alloc: Global, stored: &mut StoredRows, kind: u64) -> u64 {
+/// A container, and four changes of one kind.
+pub(crate) fn fill(rt: &impl Abort, alloc: Global, stored: &mut StoredRows, kind: u64) -> u64 {
     let mut bytes = counted(rt, alloc, stored, create(rt, alloc, "pics"));
     for number in 0..4 {
         let more = counted(rt, alloc, stored, step(rt, alloc, kind, number));
@@ -312,8 +313,8 @@ fn container_bytes(rt: &impl Abort, alloc: Global, key: &Key, found: &Found<'_>)
     bytes
 }
 
-// How many bytes count that exist.
-fn existing(rt: &impl Abort, alloc: Global, stored: &StoredRows) -> u64 {
+/// How many bytes count that exist.
+pub(crate) fn existing(rt: &impl Abort, alloc: Global, stored: &StoredRows) -> u64 {
     let first = Key {
         account: Text::empty(alloc),
         container: Text::empty(alloc),
@@ -326,20 +327,22 @@ fn existing(rt: &impl Abort, alloc: Global, stored: &StoredRows) -> u64 {
     bytes
 }
 
-fn reload(rt: &impl Abort, alloc: Global, stored: &mut StoredRows) {
+/// Counts the rows again.
+pub(crate) fn reload(rt: &impl Abort, alloc: Global, stored: &mut StoredRows) {
     let mut wire = script(rt, alloc, &[], &[]);
     stored.unload();
     assert_eq!(rt; load(stored, &mut wire), Told::Done);
 }
 
-// How many bytes a blob has whose put and whose deletion leave so many bytes wasted as are spared and as exist, and so many more.
+// How many bytes a blob has whose put and whose deletion leave so many bytes wasted as are spared and a third of those that exist, and so many
+// more.
 fn len_until_due(rt: &impl Abort, alloc: Global, written: u64, existing: u64, more: u64) -> u64 {
     let records = change_bytes(rt, alloc, &put_bytes(rt, alloc, &Share::empty(), 0))
         .saturating_add(change_bytes(rt, alloc, &delete(rt, alloc)))
         .saturating_add(written);
     let len = SPARED
         .saturating_add(existing)
-        .saturating_add(existing)
+        .saturating_add(existing / 3)
         .saturating_add(more)
         .saturating_sub(records);
     // The record of the put has 21 bytes for each piece.
@@ -348,7 +351,25 @@ fn len_until_due(rt: &impl Abort, alloc: Global, written: u64, existing: u64, mo
     len.saturating_sub(pieces * 21)
 }
 
-// A compaction is due at the very byte.
+/// A sweep is due at the very byte.
+pub(crate) fn is_due_at(
+    rt: &impl Abort,
+    alloc: Global,
+    stored: &mut StoredRows,
+    body: &Share,
+    written: u64,
+    more: u64,
+) {
+    let existing = existing(rt, alloc, stored);
+    let len = len_until_due(rt, alloc, written, existing, more);
+    let len = usize::try_from(len).ok().expect(rt, "a length");
+    made(rt, alloc, stored, put_bytes(rt, alloc, body, len));
+    assert!(rt; !stored.is_wasteful());
+    made(rt, alloc, stored, delete(rt, alloc));
+    assert!(rt; stored.is_wasteful() == (more == 1));
+}
+
+// The same after changes of one kind.
 fn waste_until_due(
     rt: &impl Abort,
     alloc: Global,
@@ -361,22 +382,20 @@ fn waste_until_due(
     if more > 1 {
         reload(rt, alloc, stored);
     }
-    let existing = existing(rt, alloc, stored);
-    let len = len_until_due(rt, alloc, written, existing, more % 2);
-    let len = usize::try_from(len).ok().expect(rt, "a length");
-    made(rt, alloc, stored, put_bytes(rt, alloc, body, len));
-    assert!(rt; !stored.is_wasteful());
-    made(rt, alloc, stored, delete(rt, alloc));
-    assert!(rt; stored.is_wasteful() == (more % 2 == 1), "kind {kind}");
-    let mut wire = script(rt, alloc, &[], &[]);
-    assert_eq!(rt; compact(rt, stored, &mut wire), Told::Done);
-    assert!(rt; !stored.is_wasteful());
+    is_due_at(rt, alloc, stored, body, written, more % 2);
+    sweep(rt, alloc, stored);
+    assert!(rt; !stored.is_wasteful() && !stored.has_garbage());
 }
 
-// What was counted as changes were made (0 and 1), and what was counted again from the rows (2 and 3): at the byte before, and at this byte.
-fn each_is_due(rt: &impl Abort, alloc: Global, kind: u64, first: u64) {
+/// The bytes of a piece of the most bytes.
+pub(crate) fn long_body(rt: &impl Abort, alloc: Global) -> Share {
     let bytes = vec![in alloc; 7; PIECE].expect(rt, "memory");
-    let body = Share::new(alloc, bytes).expect(rt, "memory");
+    Share::new(alloc, bytes).expect(rt, "memory")
+}
+
+// As counted when changes were made (0 and 1), and as counted again from the rows (2 and 3): at the byte before, and at this byte.
+fn each_is_due(rt: &impl Abort, alloc: Global, kind: u64, first: u64) {
+    let body = long_body(rt, alloc);
     for more in first..4 {
         let mut stored = stored(rt, alloc);
         waste_until_due(rt, alloc, &mut *stored, &body, kind, more);
@@ -416,7 +435,7 @@ fn name(rt: &impl Abort, alloc: Global, number: u16) -> Text {
     Text::new(name).expect(rt, "a name")
 }
 
-// Blobs with 48,000 bytes of headers, each under its own name or all under one name. Answers how many were put before a compaction was due.
+// Blobs with 48,000 bytes of headers, each under its own name or all under one name. Answers how many were put before a sweep was due.
 fn put_until_due(rt: &impl Abort, alloc: Global, stored: &mut StoredRows, is_one: bool) -> u16 {
     made(rt, alloc, stored, create(rt, alloc, "pics"));
     let props = headers(rt, alloc, 12_000);
@@ -440,6 +459,6 @@ fn headers_that_are_replaced_are_wasted_and_those_that_exist_are_not(rt: HostRun
     let mut own = stored(&rt, rt.alloc());
     assert!(rt; put_until_due(&rt, rt.alloc(), &mut *own, false) == 400);
     let mut one = stored(&rt, rt.alloc());
-    // Each put counts 48,000 bytes and some 400 more: 347 puts have 16 MiB and twice what exists.
+    // Each put counts 48,000 bytes and some 400 more: 347 puts have 16 MiB and four thirds of the one that exists.
     assert!(rt; (346..=349).contains(&put_until_due(&rt, rt.alloc(), &mut *one, true)));
 }

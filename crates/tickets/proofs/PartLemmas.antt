@@ -2,7 +2,8 @@
 use Rattle.std.proofs.Common.{inl, inr, ◌≡◌, ◌≤◌, ◌<◌, ◌+◌, ◌-◌, ◌^◌, ◌∙◌, ◌&&◌, ℕ, Bool, List, [], ◌∷◌, ◌++◌, IsTrue, length, map, take, drop, get_or, ap, refl, subst, sym, arith}
 use Rattle.std.specs.Prelude.{All, slice_range, unwrap_or}
 use Rattle.std.specs.List.{flat_map, list_all}
-use Rattle.std.proofs.lemmas.List.{length-append, length-take, map-append, take_more}
+use Rattle.std.proofs.lemmas.Grind.{flat_map-append}
+use Rattle.std.proofs.lemmas.List.{append-nil, append_assoc, length-append, take-append-drop, length-take, map-append, take_more}
 use Rattle.std.proofs.lemmas.List.Concat.{flat_map-cons}
 use Rattle.std.proofs.lemmas.List.Sums.{sum_by-cons}
 use Rattle.std.proofs.lemmas.List.Elements.{All-get_or, All-weaker}
@@ -40,6 +41,31 @@ kept_more s t ss i span done all same within is before more =
     let next : take (i + 1) ss ≡ take i ss ++ span ∷ [] = take_more ss i span within ∙ ap (λ x. take i ss ++ x ∷ []) (sym is) in
     more ∙ ap (λ (u : ThreeStreams). done ++ kept_span u.blobs span ∷ []) same ∙ ap (λ l. l ++ kept_span s.blobs span ∷ []) before
     ∙ sym (ap (map (kept_span s.blobs)) next ∙ map-append (kept_span s.blobs) (take i ss) (span ∷ []))
+
+one_bytes : (p : KeptPart) → parts_bytes (p ∷ []) ≡ p.bytes
+one_bytes p = flat_map-cons (λ (p : KeptPart). p.bytes) p [] ∙ append-nil p.bytes
+
+-- the bytes of one part more
+pub more_bytes : (body done all : List ℕ) (ps : List KeptPart) (i : ℕ) (p : KeptPart) → i < length ps → p ≡ get_or ps i p → done ≡ body ++ parts_bytes (take i ps)
+    → all ≡ done ++ p.bytes → all ≡ body ++ parts_bytes (take (i + 1) ps)
+more_bytes body done all ps i p within is before more =
+    let next : take (i + 1) ps ≡ take i ps ++ p ∷ [] = take_more ps i p within ∙ ap (λ x. take i ps ++ x ∷ []) (sym is) in
+    more ∙ ap (λ l. l ++ p.bytes) before ∙ append_assoc body (parts_bytes (take i ps)) p.bytes
+    ∙ ap (λ l. body ++ l) (sym (ap parts_bytes next ∙ flat_map-append (λ (p : KeptPart). p.bytes) (take i ps) (p ∷ []) ∙ ap (λ l. parts_bytes (take i ps) ++ l) (one_bytes p)))
+
+-- they are no longer than those of all parts
+pub more_fits : (body done : List ℕ) (ps : List KeptPart) (i n : ℕ) (p : KeptPart) → i < length ps → p ≡ get_or ps i p → done ≡ body ++ parts_bytes (take i ps)
+    → length (body ++ parts_bytes ps) < n → length (done ++ p.bytes) < n
+more_fits body done ps i n p within is before fits =
+    let front : List ℕ = parts_bytes (take (i + 1) ps) in
+    let rest : List ℕ = parts_bytes (drop (i + 1) ps) in
+    let whole : parts_bytes ps ≡ front ++ rest = ap parts_bytes (sym (take-append-drop (i + 1) ps)) ∙ flat_map-append (λ (p : KeptPart). p.bytes) (take (i + 1) ps) (drop (i + 1) ps) in
+    let next : length (done ++ p.bytes) ≡ length (body ++ front) = ap length (more_bytes body done (done ++ p.bytes) ps i p within is before refl) in
+    let all : length (body ++ parts_bytes ps) ≡ length (body ++ (front ++ rest)) = ap (λ (l : List ℕ). length (body ++ l)) whole in
+    let one = length-append body front in
+    let two = length-append body (front ++ rest) in
+    let three = length-append front rest in
+    omega (arith, fits, next, all, one, two, three)
 
 -- the bytes of the parts are those of the spans
 pub kept_bytes : (blobs : Streamed) (ss : List Span) → parts_bytes (map (kept_span blobs) ss) ≡ flat_map (span_bytes (bytes_at (laid blobs))) ss

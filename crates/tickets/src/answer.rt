@@ -2,6 +2,7 @@
 ghost use Rattle.std.specs.Prelude.{◌≡◌, ◌≢◌, ◌+◌, ◌<◌, ◌^◌, ◌++◌, ◌∷◌, [], All, Err, IfOk, IsTrue, OnErr, OnOk, length, map, true};
 ghost use Rattle.std.specs.List.{flat_map, list_all};
 ghost use Rattle.extent_seal.specs.Counting.{Grows, all_faults};
+ghost use Rattle.extent_seal.specs.Heard.{AsksAreHeard};
 ghost use Rattle.extent_seal.specs.declared.sealed.ReadFault.TheVariants as read_fault;
 ghost use Rattle.stream_manager.specs.Streams.{laid};
 ghost use Rattle.partition_stream.specs.Contents.{bytes_at};
@@ -46,6 +47,7 @@ fn part_of_span<W: Wire>(
     ensures same { streams.new ≡ streams.old }
     ensures unreachable { result ≡ Err read_fault.Unreachable → all_faults (W.faults wire.old) < all_faults (W.faults wire.new) }
     ensures grown { Grows (W.faults wire.old) (W.faults wire.new) }
+    ensures heard { result ≢ Err read_fault.Unreachable → AsksAreHeard (W.calls wire.old) (W.calls wire.new) (W.faults wire.old) (W.faults wire.new) }
 {
     streams.part(&span.piece, span.from as usize, span.to as usize, wire)
 }
@@ -74,6 +76,7 @@ fn keep_span<W: Wire>(
     ensures same { streams.new ≡ streams.old }
     ensures unreachable { result ≡ Err read_fault.Unreachable → all_faults (W.faults wire.old) < all_faults (W.faults wire.new) }
     ensures grown { Grows (W.faults wire.old) (W.faults wire.new) }
+    ensures heard { result ≢ Err read_fault.Unreachable → AsksAreHeard (W.calls wire.old) (W.calls wire.new) (W.faults wire.old) (W.faults wire.new) }
 {
     let part = part_of_span(streams, span, wire)?;
     push(parts, part)?;
@@ -81,6 +84,7 @@ fn keep_span<W: Wire>(
 }
 
 // The parts of the pieces that spans ask for, in their order.
+#[tactic(auto, using(extent_seal::proofs::HeardLemmas::heard_none))]
 fn parts_of<W: Wire>(
     alloc: Global,
     streams: &mut Streams,
@@ -93,6 +97,7 @@ fn parts_of<W: Wire>(
     ensures same { streams.new ≡ streams.old }
     ensures unreachable { result ≡ Err read_fault.Unreachable → all_faults (W.faults wire.old) < all_faults (W.faults wire.new) }
     ensures grown { Grows (W.faults wire.old) (W.faults wire.new) }
+    ensures heard { result ≢ Err read_fault.Unreachable → AsksAreHeard (W.calls wire.old) (W.calls wire.new) (W.faults wire.old) (W.faults wire.new) }
 {
     let mut parts = Vec::new(alloc);
     for span in spans {
@@ -176,6 +181,7 @@ fn content_answer<W: Wire>(
     ensures same { streams.new ≡ streams.old }
     ensures unreachable { OnErr result (all_faults (W.faults wire.old) < all_faults (W.faults wire.new)) }
     ensures grown { Grows (W.faults wire.old) (W.faults wire.new) }
+    ensures heard { OnOk result (AsksAreHeard (W.calls wire.old) (W.calls wire.new) (W.faults wire.old) (W.faults wire.new)) }
 {
     // The body of the frame fits in memory.
     let _held = frame.body.len();
@@ -193,6 +199,7 @@ fn content_answer<W: Wire>(
 }
 
 // The answer of a page of a list, whose text is written now, with the content of these spans after its body.
+#[tactic(auto, using(extent_seal::proofs::HeardLemmas::heard_none))]
 fn page_answer<W: Wire>(
     alloc: Global,
     streams: &mut Streams,
@@ -208,6 +215,7 @@ fn page_answer<W: Wire>(
     ensures same { streams.new ≡ streams.old }
     ensures unreachable { OnErr result (all_faults (W.faults wire.old) < all_faults (W.faults wire.new)) }
     ensures grown { Grows (W.faults wire.old) (W.faults wire.new) }
+    ensures heard { OnOk result (AsksAreHeard (W.calls wire.old) (W.calls wire.new) (W.faults wire.old) (W.faults wire.new)) }
 {
     match listing.write(alloc) {
         Ok(frame) => content_answer(alloc, streams, frame, spans, wire),
@@ -219,7 +227,7 @@ fn page_answer<W: Wire>(
 ///
 /// It is Done if each span is in the last extent of the data: its bytes are read now. If lists are gathered, a list is Later: its text is written
 /// when its ticket is fetched. Unreachable: every node was asked for a block of the last extent, and answered no.
-#[tactic(auto, using(crate::proofs::PageLemmas::answer_if, crate::proofs::PageLemmas::page_later))]
+#[tactic(auto, using(crate::proofs::PageLemmas::answer_if, crate::proofs::PageLemmas::page_later, extent_seal::proofs::HeardLemmas::heard_none))]
 pub fn make_answer<W: Wire>(
     alloc: Global,
     streams: &mut Streams,
@@ -236,6 +244,7 @@ pub fn make_answer<W: Wire>(
     ensures same { streams.new ≡ streams.old }
     ensures unreachable { OnErr result (all_faults (W.faults wire.old) < all_faults (W.faults wire.new)) }
     ensures grown { Grows (W.faults wire.old) (W.faults wire.new) }
+    ensures heard { OnOk result (AsksAreHeard (W.calls wire.old) (W.calls wire.new) (W.faults wire.old) (W.faults wire.new)) }
 {
     match frame.into_parts() {
         Ok(frame) => content_answer(alloc, streams, frame, spans, wire),

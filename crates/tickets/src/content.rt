@@ -1,6 +1,7 @@
 //! Content that is read later, without the streams that keep it.
-ghost use Rattle.std.specs.Prelude.{◌≡◌, ◌<◌, ◌^◌, ◌++◌, Err, IfErr, IfOk, length};
+ghost use Rattle.std.specs.Prelude.{◌≡◌, ◌≢◌, ◌<◌, ◌^◌, ◌++◌, Err, IfErr, IfOk, length};
 ghost use Rattle.extent_seal.specs.Counting.{Grows, all_faults};
+ghost use Rattle.extent_seal.specs.Heard.{AsksAreHeard};
 ghost use Rattle.extent_seal.specs.declared.sealed.ReadFault.TheVariants.{Unreachable};
 ghost use Rattle.tickets.specs.Tickets.{parts_bytes, with_parts};
 
@@ -37,6 +38,7 @@ fn push_part<W: Wire>(body: &mut Shares, part: &Part, wire: &mut W) -> Result<()
     ensures pushed { IfOk result (λ _. body.new ≡ body.old ++ part.now.bytes) }
     ensures unreachable { result ≡ Err Unreachable → all_faults (W.faults wire.old) < all_faults (W.faults wire.new) }
     ensures grown { Grows (W.faults wire.old) (W.faults wire.new) }
+    ensures heard { result ≢ Err Unreachable → AsksAreHeard (W.calls wire.old) (W.calls wire.new) (W.faults wire.old) (W.faults wire.new) }
 {
     let bytes = part.fetch(wire)?;
     match body.push(bytes) {
@@ -45,28 +47,36 @@ fn push_part<W: Wire>(body: &mut Shares, part: &Part, wire: &mut W) -> Result<()
     }
 }
 
+// The same bytes, with owners of their own. No byte is copied.
+fn copy_of(body: &Shares) -> Result<Shares, AllocError>
+    ensures { IfOk result (λ copy. copy ≡ body.now) }
+{
+    body.clone()
+}
+
 // The bytes of the body, and then those of the parts.
+#[tactic(auto, using(extent_seal::proofs::HeardLemmas::heard_none))]
 fn body_with<W: Wire>(body: &Shares, parts: &[Part], wire: &mut W) -> Result<Shares, ReadFault>
     requires { length (body.now ++ parts_bytes parts.now) < 2 ^ 64 }
     ensures read { IfOk result (λ s. s ≡ body.now ++ parts_bytes parts.now) }
     ensures unreachable { result ≡ Err Unreachable → all_faults (W.faults wire.old) < all_faults (W.faults wire.new) }
     ensures grown { Grows (W.faults wire.old) (W.faults wire.new) }
+    ensures heard { result ≢ Err Unreachable → AsksAreHeard (W.calls wire.old) (W.calls wire.new) (W.faults wire.old) (W.faults wire.new) }
 {
-    let mut whole = match body.clone() {
+    let mut whole = match copy_of(body) {
         Ok(copy) => copy,
         Err(AllocError) => return Err(ReadFault::NoMemory),
     };
-    let mut left = parts;
-    while let [first, rest @ ..] = left {
-        push_part(&mut whole, first, wire)?;
-        left = rest;
+    for part in parts {
+        push_part(&mut whole, part, wire)?;
     }
     Ok(whole)
 }
 
 impl LaterContent {
-    ghost use Rattle.std.specs.Prelude.{◌≡◌, ◌<◌, ◌^◌, ◌++◌, IfErr, IfOk, length};
+    ghost use Rattle.std.specs.Prelude.{◌≡◌, ◌≢◌, ◌<◌, ◌^◌, ◌++◌, IfErr, IfOk, length};
     ghost use Rattle.extent_seal.specs.Counting.{Grows, all_faults};
+    ghost use Rattle.extent_seal.specs.Heard.{AsksAreHeard};
     ghost use Rattle.extent_seal.specs.declared.sealed.ReadFault.TheVariants.{Unreachable};
     ghost use Rattle.tickets.specs.Tickets.{parts_bytes, with_parts};
 
@@ -84,6 +94,7 @@ impl LaterContent {
         ensures back { IfErr result (λ e. e.0 ≡ self) }
         ensures unreachable { IfErr result (λ e. e.1 ≡ Unreachable → all_faults (W.faults wire.old) < all_faults (W.faults wire.new)) }
         ensures grown { Grows (W.faults wire.old) (W.faults wire.new) }
+        ensures heard { IfErr result (λ e. e.1 ≢ Unreachable → AsksAreHeard (W.calls wire.old) (W.calls wire.new) (W.faults wire.old) (W.faults wire.new)) }
     {
         match body_with(&self.frame.body, &self.parts, wire) {
             Ok(body) => Ok(Reply { body, ..self.frame }),

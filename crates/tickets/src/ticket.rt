@@ -54,8 +54,9 @@ fn written(page: LaterPage) -> Result<Reply, (LaterPage, ReadFault)>
 }
 
 impl Ticket {
-    ghost use Rattle.std.specs.Prelude.{◌≡◌, ◌<◌, ◌^◌, ◌++◌, IfErr, IfOk, length};
+    ghost use Rattle.std.specs.Prelude.{◌≡◌, ◌≢◌, ◌<◌, ◌^◌, ◌++◌, IfErr, IfOk, length};
     ghost use Rattle.extent_seal.specs.Counting.{Grows, all_faults};
+    ghost use Rattle.extent_seal.specs.Heard.{AsksAreHeard};
     ghost use Rattle.extent_seal.specs.declared.sealed.ReadFault.TheVariants.{Unreachable};
     ghost use Rattle.tickets.specs.Tickets.{parts_bytes, with_parts};
 
@@ -82,11 +83,13 @@ impl Ticket {
     ///
     /// After a fault the ticket comes back, and can be fetched again. Unreachable: every node with a copy of some extent was asked, and
     /// answered no. NoMemory: memory ran out, or some bytes can have no further owner.
+    #[tactic(auto, using(extent_seal::proofs::HeardLemmas::heard_none))]
     pub fn fetch<W: Wire>(self, wire: &mut W) -> Result<Reply, (Self, ReadFault)>
         ensures fetched { IfOk result (λ reply. reply ≡ self) }
         ensures back { IfErr result (λ e. e.0 ≡ self) }
         ensures unreachable { IfErr result (λ e. e.1 ≡ Unreachable → all_faults (W.faults wire.old) < all_faults (W.faults wire.new)) }
         ensures grown { Grows (W.faults wire.old) (W.faults wire.new) }
+        ensures heard { IfErr result (λ e. e.1 ≢ Unreachable → AsksAreHeard (W.calls wire.old) (W.calls wire.new) (W.faults wire.old) (W.faults wire.new)) }
     {
         match self.later {
             Ok(content) => match content.fetch(wire) {

@@ -3,7 +3,7 @@
 
 use crate::line_tests::{BY_FIRST, BY_SECOND, entry, put_by};
 use crate::rule_tests::{FIRST, SECOND};
-use audit_lines::{Books, append_from, write_books};
+use audit_lines::{Books, Unposted, append_from, write_books};
 use stamp_types::Request;
 use std::alloc::Global;
 use std::io::Write;
@@ -25,6 +25,12 @@ fn post<R: Wait + Abort>(
     books.post(rt, entry(rt, alloc, request, place)).is_ok()
 }
 
+// Whether an entry of the request comes back since the book is full.
+fn is_full<R: Wait + Abort>(rt: &R, alloc: Global, books: &Books, request: &Request) -> bool {
+    let posted = books.post(rt, entry(rt, alloc, request, 7));
+    matches!(posted, Err(Unposted::Full(_)))
+}
+
 // Whether the current book has these lines, and no others.
 fn has_lines<R: Wait + Abort>(rt: &R, alloc: Global, books: &Books, lines: &[&str]) -> bool {
     let book = books.current(rt).expect(rt, "an owner");
@@ -41,7 +47,7 @@ fn a_full_book_is_begun_anew(rt: HostRuntime) {
     let second = put_by(&rt, alloc, &[SECOND]);
     assert!(rt; post(&rt, alloc, &books, &first, 7));
     assert!(rt; post(&rt, alloc, &books, &second, 8));
-    assert!(rt; !post(&rt, alloc, &books, &first, 7));
+    assert!(rt; is_full(&rt, alloc, &books, &first));
     assert!(rt; has_lines(&rt, alloc, &books, &[BY_FIRST, BY_SECOND]));
     assert!(rt; books.renew(&rt, alloc).is_ok());
     assert!(rt; has_lines(&rt, alloc, &books, &[]));
@@ -53,7 +59,7 @@ fn a_full_book_is_begun_anew(rt: HostRuntime) {
 fn books_without_entries_take_none(rt: HostRuntime) {
     let alloc = rt.alloc();
     let books = Books::new(alloc, 0).expect(&rt, "memory");
-    assert!(rt; !post(&rt, alloc, &books, &put_by(&rt, alloc, &[FIRST]), 7));
+    assert!(rt; is_full(&rt, alloc, &books, &put_by(&rt, alloc, &[FIRST])));
     assert!(rt; has_lines(&rt, alloc, &books, &[]));
 }
 

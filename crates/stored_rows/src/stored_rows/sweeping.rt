@@ -7,8 +7,8 @@ use extent_node::Wire;
 use partition_stream::{GivenUp, Mark};
 use stream_manager::StoredFault;
 
-/// What a sweep gave up at its end: all that came before its mark. To drop it takes time for each of its blocks, so a caller may drop it once it
-/// holds no lock.
+/// All that came before the mark of a sweep, as it was given up at its end. To drop it takes time for each of its blocks, so a caller may drop it
+/// once it holds no lock.
 #[derive(Drop)]
 pub struct SweptAway {
     /// How many extents of the log and of the data were sealed when the sweep began.
@@ -36,6 +36,7 @@ impl StoredRows {
         match self.streams.sweep_room() {
             Ok(room) => {
                 let began = Sweep::begin(self.alloc, mark, room, self.waste);
+                self.waste = self.waste.at_mark();
                 drop(self.sweep.replace(began));
                 Ok(())
             }

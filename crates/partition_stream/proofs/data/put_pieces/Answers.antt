@@ -1,4 +1,5 @@
-use Rattle.std.proofs.Common.{◌∙◌, arith, inr}
+use Rattle.std.proofs.Common.{◌∙◌, arith, inr, rules}
+use Rattle.extent_seal.proofs.HeardLemmas.{heard_then}
 use Rattle.stream_manager.specs.Streams.{laid}
 use Rattle.partition_stream.proofs.DataLemmas.{pieces_after, placed_more, twice_on}
 use Rattle.partition_stream.proofs.data.put_pieces.Goals as goal
@@ -29,6 +30,9 @@ loop-piece-preserved g c = record {
         let before = c.loop-piece.invariant.counted in
         (omega (arith, now, before), omega (arith, now, before), omega (arith, now, before)),
   );
+  heard = heard_then (g.W.Wire.calls c.args.wire.now) (g.W.Wire.calls c.loop-piece.wire) (g.W.Wire.calls c.put_piece.new.wire)
+      (g.W.Wire.faults c.args.wire.now) (g.W.Wire.faults c.loop-piece.wire) (g.W.Wire.faults c.put_piece.new.wire)
+      c.loop-piece.invariant.heard (c.put_piece.ensures.heard (λ e. absurd (search rules)));
   spent = inr c.in_ok-at.ensures.ends;
 }
 
@@ -37,3 +41,9 @@ returns-in_err-at-clause-follows g c = twice_on (laid c.args.blobs.now) (laid c.
 
 pub returns-in_err-push-clause-follows : goal.returns-in_err-push-clause-follows
 returns-in_err-push-clause-follows g c = twice_on (laid c.args.blobs.now) (laid c.loop-piece.blobs) (laid c.put_piece.new.blobs) c.loop-piece.invariant.follows c.put_piece.ensures.follows
+
+pub returns-in_err-push-clause-heard : goal.returns-in_err-push-clause-heard
+returns-in_err-push-clause-heard g c = λ _.
+    heard_then (g.W.Wire.calls c.args.wire.now) (g.W.Wire.calls c.loop-piece.wire) (g.W.Wire.calls c.put_piece.new.wire)
+    (g.W.Wire.faults c.args.wire.now) (g.W.Wire.faults c.loop-piece.wire) (g.W.Wire.faults c.put_piece.new.wire)
+    c.loop-piece.invariant.heard (c.put_piece.ensures.heard (λ e. absurd (search rules)))

@@ -1,5 +1,6 @@
 use Rattle.std.proofs.Common.{take, ◌≡◌, ◌*◌, ◌⊎◌, length}
 use Rattle.extent_seal.specs.Counting.{Grows}
+use Rattle.extent_seal.specs.Heard.{AsksAreHeard}
 use Rattle.stream_manager.specs.Counting.{CallsAtMost}
 use Rattle.stream_manager.specs.Places.{GoesOn, KeepsPlaces}
 use Rattle.stream_manager.specs.Streams.{laid}
@@ -16,5 +17,6 @@ invariant-loop-piece g l = record {
   limit : l.blobs.limit ≡ l.initial.blobs.limit;
   called : CallsAtMost (2 * l.piece-index) 0 (length l.initial.blobs.sealed) (length l.blobs.sealed) (g.W.Wire.calls l.initial.wire) (g.W.Wire.calls l.wire);
   counted : Grows (g.W.Wire.faults l.initial.wire) (g.W.Wire.faults l.wire);
+  heard : AsksAreHeard (g.W.Wire.calls l.initial.wire) (g.W.Wire.calls l.wire) (g.W.Wire.faults l.initial.wire) (g.W.Wire.faults l.wire);
   spent : ((l.blobs ≡ l.initial.blobs) × (l.wire ≡ l.initial.wire)) ⊎ EndsWithBlock (laid l.blobs);
 }

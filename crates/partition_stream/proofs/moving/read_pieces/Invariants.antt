@@ -6,6 +6,6 @@ use Rattle.partition_stream.proofs.moving.read_pieces.Given as goal
 
 abbrev pub invariant-loop-piece : goal.invariant-loop-piece
 invariant-loop-piece g l = record {
-  read : l.read.items ≡ map (read_piece (laid l.old)) (take l.piece-index l.pieces);
+  read : l.read.items ≡ map (read_piece (laid l.blobs)) (take l.piece-index l.pieces);
   counted : Grows (g.W.Wire.faults l.initial.wire) (g.W.Wire.faults l.wire);
 }

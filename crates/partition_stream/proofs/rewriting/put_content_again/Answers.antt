@@ -7,5 +7,5 @@ put_read-requires g c = held_read (laid c.args.blobs.now) c.args.content.now c.i
 
 pub returns-clause-moved : goal.returns-clause-moved
 returns-clause-moved g c =
-    moved_content (laid c.args.blobs.now) (laid c.put_read.new.new) c.args.content.now c.in_ok-read.read c.in_ok-placed.placed
+    moved_content (laid c.args.blobs.now) (laid c.put_read.new.blobs) c.args.content.now c.in_ok-read.read c.in_ok-placed.placed
     c.requires c.in_ok-read.ensures.read c.in_ok-placed.ensures.placed

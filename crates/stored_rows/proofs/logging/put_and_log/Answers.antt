@@ -1,12 +1,18 @@
-use Rattle.std.proofs.Common.{Err, ap, length, refl, sym, subst}
-use Rattle.stamp_types.specs.Changes.{content_of}
+use Rattle.std.proofs.Common.{◌≡◌, Err, ap, false, length, refl, sym, subst}
+use Rattle.extent_seal.proofs.HeardLemmas.{heard_then}
+use Rattle.stamp_types.specs.ActKinds.{is_row}
+use Rattle.stamp_types.specs.Changes.{KeyedAct, content_of}
 use Rattle.stream_manager.specs.Streams.{laid}
+use Rattle.stored_rows.specs.Heard.{HearsLogged}
 use Rattle.stored_rows.specs.Logging.{IsKeptFrom, IsLoggedFrom, IsPutAndLogged, KeepsFound}
 use Rattle.stored_rows.specs.States.{IsKeptAs}
 use Rattle.stored_rows.specs.Counting.{FailsLogged}
 use Rattle.stored_rows.proofs.CountLemmas.{grows_twice, log_fails}
+use Rattle.stored_rows.proofs.HeardLemmas.{hears_log, hears_put}
 use Rattle.stored_rows.proofs.KeptAsLemmas.{kept_as_put, placed_found}
 use Rattle.stored_rows.proofs.LoggingLemmas.{logged_more, logged_refused}
+use Rattle.stored_rows.specs.Rewriting.{IfLogged}
+use Rattle.stored_rows.proofs.RowDoubtLemmas.{placed_plain, unlogged_plain}
 use Rattle.stored_rows.proofs.SweepCallLemmas.{kept_from, refused_from, same_on}
 use Rattle.stored_rows.proofs.logging.put_and_log.Goals as goal
 
@@ -61,3 +67,32 @@ returns-in-Err-log_change-clause-counted g c =
 
 pub returns-in-Err-clause-log_follows : goal.returns-in-Err-clause-log_follows
 returns-in-Err-clause-log_follows g c = same_on c.args.streams.now.log c.put_pieces.new.streams.log (ap laid c.put_pieces.ensures.log)
+
+pub returns-in-Ok-log_change-clause-plain_kept : goal.returns-in-Ok-log_change-clause-plain_kept
+returns-in-Ok-log_change-clause-plain_kept g c =
+    subst (λ (d : KeyedAct). is_row d.act ≡ false) (sym c.with_pieces-kept.ensures) (placed_plain c.args.change c.in-Ok.pieces c.requires.plain)
+
+pub returns-in-Err-log_change-clause-plain_kept : goal.returns-in-Err-log_change-clause-plain_kept
+returns-in-Err-log_change-clause-plain_kept g c =
+    subst (λ e. IfLogged (Err e) (λ d. is_row d.act ≡ false)) (sym c.not_logged.ensures)
+    (unlogged_plain c.in-Err-log_change.fault c.with_pieces-kept.result
+    (subst (λ (d : KeyedAct). is_row d.act ≡ false) (sym c.with_pieces-kept.ensures) (placed_plain c.args.change c.in-Ok.pieces c.requires.plain)))
+
+pub returns-in-Err-clause-heard : goal.returns-in-Err-clause-heard
+returns-in-Err-clause-heard g c =
+    subst (λ e. HearsLogged (Err e) (g.W.Wire.calls c.args.wire.now) (g.W.Wire.calls c.put_pieces.new.wire) (g.W.Wire.faults c.args.wire.now) (g.W.Wire.faults c.put_pieces.new.wire)) (sym c.from.ensures)
+    (hears_put c.in-Err.fault (g.W.Wire.calls c.args.wire.now) (g.W.Wire.calls c.put_pieces.new.wire) (g.W.Wire.faults c.args.wire.now) (g.W.Wire.faults c.put_pieces.new.wire)
+    (λ other. c.in-Err.ensures.heard (λ e. other (cc))))
+
+pub returns-in-Ok-log_change-clause-heard : goal.returns-in-Ok-log_change-clause-heard
+returns-in-Ok-log_change-clause-heard g c =
+    heard_then (g.W.Wire.calls c.args.wire.now) (g.W.Wire.calls c.put_pieces.new.wire) (g.W.Wire.calls c.log_change.new.wire)
+    (g.W.Wire.faults c.args.wire.now) (g.W.Wire.faults c.put_pieces.new.wire) (g.W.Wire.faults c.log_change.new.wire)
+    (c.in-Ok.ensures.heard (λ e. absurd (cc))) (c.in-Ok-log_change.ensures.heard (λ e. absurd (cc)) (λ e. absurd (cc)))
+
+pub returns-in-Err-log_change-clause-heard : goal.returns-in-Err-log_change-clause-heard
+returns-in-Err-log_change-clause-heard g c =
+    subst (λ e. HearsLogged (Err e) (g.W.Wire.calls c.args.wire.now) (g.W.Wire.calls c.log_change.new.wire) (g.W.Wire.faults c.args.wire.now) (g.W.Wire.faults c.log_change.new.wire)) (sym c.not_logged.ensures)
+    (hears_log c.in-Err-log_change.fault c.with_pieces-kept.result (g.W.Wire.calls c.args.wire.now) (g.W.Wire.calls c.put_pieces.new.wire) (g.W.Wire.calls c.log_change.new.wire)
+    (g.W.Wire.faults c.args.wire.now) (g.W.Wire.faults c.put_pieces.new.wire) (g.W.Wire.faults c.log_change.new.wire)
+    (c.in-Ok.ensures.heard (λ e. absurd (cc))) (λ d b. c.in-Err-log_change.ensures.heard (λ e. d (cc)) (λ e. b (cc))))

@@ -8,4 +8,4 @@ returns-in-Ok-clause-entered g c =
     c.in-Ok.ensures.pushed c.take_or_take_back.ensures.stays c.take_or_take_back.ensures.back
 
 pub returns-in-Err-clause-taken : goal.returns-in-Err-clause-taken
-returns-in-Err-clause-taken g c = untaken c.args.stored.now (c.args.made.change, c.args.entry.now.epoch) c.requires.sure
+returns-in-Err-clause-taken g c = untaken c.args.stored.now (c.args.change, c.args.entry.now.epoch) c.requires.sure

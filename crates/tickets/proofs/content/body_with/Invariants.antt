@@ -1,11 +1,13 @@
-use Rattle.std.proofs.Common.{◌≡◌, ◌++◌, length}
+use Rattle.std.proofs.Common.{◌≡◌, ◌++◌, take}
 use Rattle.extent_seal.specs.Counting.{Grows}
+use Rattle.extent_seal.specs.Heard.{AsksAreHeard}
 use Rattle.tickets.specs.Tickets.{parts_bytes}
 use Rattle.tickets.proofs.content.body_with.Given as goal
 
--- the bytes so far and those of the parts that are left make the whole
-abbrev pub invariant-loop-left : goal.invariant-loop-left
-invariant-loop-left g l = (l.whole ++ parts_bytes l.left ≡ l.body ++ parts_bytes l.parts) × Grows (g.W.Wire.faults l.initial.wire) (g.W.Wire.faults l.wire)
-
-abbrev pub decreases-loop-left : goal.decreases-loop-left
-decreases-loop-left g l = length l.left
+-- the bytes are those of the body and of the parts so far
+abbrev pub invariant-loop-part : goal.invariant-loop-part
+invariant-loop-part g l = record {
+  bytes : l.whole ≡ l.body ++ parts_bytes (take l.part-index l.parts);
+  heard : AsksAreHeard (g.W.Wire.calls l.initial.wire) (g.W.Wire.calls l.wire) (g.W.Wire.faults l.initial.wire) (g.W.Wire.faults l.wire);
+  grown : Grows (g.W.Wire.faults l.initial.wire) (g.W.Wire.faults l.wire);
+}

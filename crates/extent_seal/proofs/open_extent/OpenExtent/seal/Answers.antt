@@ -1,4 +1,6 @@
+use Rattle.std.proofs.Common.{rules}
 use Rattle.extent_seal.specs.contracts.open_extent.OpenExtent as extent
+use Rattle.extent_seal.proofs.HeardLemmas.{heard_sealed}
 use Rattle.extent_seal.proofs.SealLemmas.{sealing, all_same, seals, committed}
 use Rattle.extent_seal.proofs.open_extent.OpenExtent.seal.Goals as goal
 
@@ -28,3 +30,6 @@ returns-clause-sealed g c = sealed g c
 
 pub returns-clause-committed : goal.returns-clause-committed
 returns-clause-committed g c = committed c.args.self.extent _ (sealed g c)
+
+pub returns-clause-heard : goal.returns-clause-heard
+returns-clause-heard g c = heard_sealed c.args.self.extent _ _ _ _ _ (sealed g c) (search rules) (search rules)

@@ -18,4 +18,5 @@ invariant_of-self c =
       loaded = c.self.invariant.loaded;
       limits = c.self.invariant.limits;
       swept = subst (λ (v : Option Sweep). IfSome v (λ w. AreSwept w c.self.inside.range c.self.inside.streams)) (sym c.replace.ensures.after) own;
+      again = c.self.invariant.again;
     }

@@ -8,6 +8,7 @@ use Rattle.stored_rows.specs.Swept.{AreSwept}
 use Rattle.stored_rows.specs.declared.sweep.Sweep.{Sweep}
 use Rattle.stored_rows.proofs.CheckpointLemmas.{kept_loaded, means_range, rows_stored, rows_writable, written_anew}
 use Rattle.stored_rows.proofs.LimitLemmas.{checkpoint_limit}
+use Rattle.stored_rows.proofs.RowDoubtLemmas.{no_row}
 use Rattle.stored_rows.proofs.stored_rows.StoredRows.checkpoint.Goals as goal
 
 pub checkpoint_rows-requires-clause-writable : goal.checkpoint_rows-requires-clause-writable
@@ -31,6 +32,7 @@ invariant_of-self g c =
       limits = checkpoint_limit c.self.inside.extent_bytes c.self.inside.streams c.checkpoint_rows.new.streams c.checkpoint_rows.result c.self.invariant.limits c.checkpoint_rows.ensures.blobs c.checkpoint_rows.ensures.limits
           c.checkpoint_rows.ensures.same;
       swept = subst (λ (v : Option Sweep). IfSome v (λ w. AreSwept w c.self.inside.range c.checkpoint_rows.new.streams)) (sym c.end_sweep.ensures) tt;
+      again = no_row c.checkpoint_rows.new.streams c.self.inside.spare c.checkpoint_rows.ensures.doubt;
     }
 
 pub returns-in-Ok-clause-same : goal.returns-in-Ok-clause-same

@@ -13,6 +13,7 @@ use Rattle.partition_stream.specs.Compactions.{HaveLimit}
 use Rattle.stored_rows.proofs.CutLemmas.{is_some-map}
 use Rattle.stored_rows.proofs.LimitLemmas.{limit_kept}
 use Rattle.stored_rows.proofs.TakeLemmas.{half_means, lower_loaded, means_itself, same_streams, sealed_sure, still_none, upper_loaded}
+use Rattle.stored_rows.proofs.RowDoubtLemmas.{no_row}
 use Rattle.stored_rows.proofs.stored_rows.StoredRows.halve.Goals as goal
 
 pub invariant_of-result : goal.invariant_of-result
@@ -27,6 +28,7 @@ invariant_of-result c =
           c.in-Ok.ensures.shared (sealed_sure c.in-Ok.streams c.in-Ok.ensures.whole)));
       limits = limit_kept c.self.inside.extent_bytes c.self.inside.streams c.in-Ok.streams c.self.invariant.limits c.in-Ok.ensures.limits;
       swept = tt;
+      again = no_row c.in-Ok.streams None (sealed_sure c.in-Ok.streams c.in-Ok.ensures.whole);
     }
 
 pub invariant_of-self : goal.invariant_of-self
@@ -43,6 +45,7 @@ invariant_of-self c =
           (still_none s t c.self.inside.doubt c.self.invariant.loaded.tried none sure));
       limits = subst (HaveLimit c.self.inside.extent_bytes) (sym c.share_upper.ensures.same) c.self.invariant.limits;
       swept = subst (λ (v : Option Sweep). IfSome v (λ w. AreSwept w (record { from = c.self.inside.range.from; to = Some c.args.middle }) t)) (sym c.end_sweep.ensures) tt;
+      again = no_row t c.self.inside.spare sure;
     }
 
 pub returns-in-Ok-clause-lower : goal.returns-in-Ok-clause-lower

@@ -8,9 +8,10 @@ use Rattle.stored_rows.specs.Compactions.{KeepsTheRange}
 use Rattle.stored_rows.specs.States.{Stored, doubt_of}
 use Rattle.stored_rows.specs.Swept.{AreSwept}
 use Rattle.stored_rows.specs.declared.sweep.Sweep.{Sweep}
-use Rattle.stored_rows.proofs.CompactionLemmas.{keeps_itself}
 use Rattle.stored_rows.proofs.LimitLemmas.{limit_kept}
-use Rattle.stored_rows.proofs.SweepEndLemmas.{only_since, over_ends}
+use Rattle.stored_rows.proofs.SweepEndLemmas.{given_sure, only_since, over_ends}
+use Rattle.stored_rows.proofs.RowDoubtLemmas.{no_row}
+use Rattle.stored_rows.proofs.SteppedLemmas.{keeps_itself}
 use Rattle.stored_rows.proofs.stored_rows.StoredRows.sweep_end.Goals as goal
 
 pub returns-in_err-mark-clause-kept : goal.returns-in_err-mark-clause-kept
@@ -25,6 +26,7 @@ invariant_of-self-2 c =
           c.in_ok-mark.ensures.over.0 c.give_up_before-given.ensures.left c.self.invariant.loaded none).0;
       limits = limit_kept c.self.inside.extent_bytes c.self.inside.streams c.give_up_before-given.new.self c.self.invariant.limits c.give_up_before-given.ensures.left.limits;
       swept = subst (λ (v : Option Sweep). IfSome v (λ w. AreSwept w c.self.inside.range c.give_up_before-given.new.self)) (sym c.in_ok-mark.ensures.over.1) tt;
+      again = no_row c.give_up_before-given.new.self c.self.inside.spare (given_sure c.in_ok-mark.field-0.mark c.self.inside.streams c.give_up_before-given.new.self c.give_up_before-given.ensures.left);
     }
 
 pub returns-clause-kept : goal.returns-clause-kept

@@ -6,13 +6,16 @@ use Rattle.partition_stream.specs.declared.faults.TakeFault.{TakeFault}
 use Rattle.row_trees.specs.ListedBlocks.{AreFoundFor}
 use Rattle.stored_rows.specs.Counting.{FailsTake}
 use Rattle.stored_rows.specs.Fitting.{Fits}
+use Rattle.stored_rows.specs.Heard.{HearsTake}
 use Rattle.stored_rows.specs.Ranges.{covers}
 use Rattle.stored_rows.specs.Swept.{AreSwept}
 use Rattle.stored_rows.specs.declared.sweep.Sweep.{Sweep}
 use Rattle.stored_rows.specs.States.{AreFoundIn, IsTaken, Stored, doubt_of, pieces_of}
+use Rattle.stored_rows.proofs.HeardLemmas.{hears_taken}
 use Rattle.stored_rows.proofs.LimitLemmas.{limit_kept}
 use Rattle.stored_rows.proofs.NotedLemmas.{logged_fits, logged_found, noted_fails, noted_loaded, noted_taken}
 use Rattle.stored_rows.proofs.SweepCallLemmas.{logged_swept}
+use Rattle.stored_rows.proofs.RowDoubtLemmas.{taken_again}
 use Rattle.stored_rows.proofs.stored_rows.StoredRows.take_change.Goals as goal
 
 pub note-requires-clause-fits : goal.note-requires-clause-fits
@@ -45,6 +48,8 @@ invariant_of-self g c =
           (logged_swept c.put_and_log-logged.result c.self.inside.streams c.put_and_log-logged.new.streams (c.args.change, c.args.epoch) c.self.inside.range c.self.inside.sweep c.self.inside.rows
           c.self.invariant.swept c.self.invariant.loaded.rows c.put_and_log-logged.ensures.whole covered c.requires.plain own c.put_and_log-logged.ensures.logged c.put_and_log-logged.ensures.from
           c.put_and_log-logged.ensures.log_follows c.put_and_log-logged.ensures.blobs_follow);
+      again = taken_again c.put_and_log-logged.result c.self.inside.streams c.put_and_log-logged.new.streams (c.args.change, c.args.epoch) c.self.inside.spare c.put_and_log-logged.ensures.logged
+          c.put_and_log-logged.ensures.plain_kept;
     }
 
 pub returns-clause-taken : goal.returns-clause-taken
@@ -60,3 +65,8 @@ pub returns-clause-counted : goal.returns-clause-counted
 returns-clause-counted g c =
     subst (λ (r : Result (Unit {0}) TakeFault). FailsTake r (g.W.Wire.faults c.args.wire.now) (g.W.Wire.faults c.put_and_log-logged.new.wire)) (sym c.note.ensures.answer)
     (noted_fails c.put_and_log-logged.result (g.W.Wire.faults c.args.wire.now) (g.W.Wire.faults c.put_and_log-logged.new.wire) c.put_and_log-logged.ensures.counted)
+
+pub returns-clause-heard : goal.returns-clause-heard
+returns-clause-heard g c =
+    subst (λ (r : Result (Unit {0}) TakeFault). HearsTake r (g.W.Wire.calls c.args.wire.now) (g.W.Wire.calls c.put_and_log-logged.new.wire) (g.W.Wire.faults c.args.wire.now) (g.W.Wire.faults c.put_and_log-logged.new.wire)) (sym c.note.ensures.answer)
+    (hears_taken c.put_and_log-logged.result (g.W.Wire.calls c.args.wire.now) (g.W.Wire.calls c.put_and_log-logged.new.wire) (g.W.Wire.faults c.args.wire.now) (g.W.Wire.faults c.put_and_log-logged.new.wire) c.put_and_log-logged.ensures.heard)

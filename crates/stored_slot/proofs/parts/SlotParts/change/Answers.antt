@@ -1,37 +1,42 @@
+use Rattle.std.proofs.Common.{◌∙◌, ap}
 use Rattle.std.specs.Arc.{arc_value}
-use Rattle.stored_slot.proofs.MeaningLemmas.{slot_tried, take_covered, take_fits, take_held, take_plain, tried_kept}
+use Rattle.slot_state.specs.Slots.{SlotState}
+use Rattle.stored_slot.specs.Changes.{slot_taken}
+use Rattle.stored_slot.specs.Parts.{slot_of}
+use Rattle.stored_slot.proofs.MeaningLemmas.{same_makes, take_covered}
+use Rattle.stored_slot.proofs.SweepLemmas.{before_counted, before_taken, beside_kept, beside_settled, beside_slot, take_later}
 use Rattle.stored_slot.proofs.parts.SlotParts.change.Goals as goal
 
-pub take_entry-taken-requires-clause-covered : goal.take_entry-taken-requires-clause-covered
-take_entry-taken-requires-clause-covered g c =
+pub make_way-requires-clause-covered : goal.make_way-requires-clause-covered
+make_way-requires-clause-covered g c =
     let p = c.args.self.now in
     take_covered (arc_value p.pairs) (g.H.Histories.held p.histories) p.stored c.args.entry c.args.made.change c.requires.makes
 
-pub take_entry-taken-requires-clause-plain : goal.take_entry-taken-requires-clause-plain
-take_entry-taken-requires-clause-plain g c =
-    let p = c.args.self.now in
-    take_plain (arc_value p.pairs) (g.H.Histories.held p.histories) p.stored c.args.entry c.args.made.change c.requires.makes
+pub enter_change-requires-clause-before : goal.enter_change-requires-clause-before
+enter_change-requires-clause-before g c = beside_settled g.H.Histories.held c.args.self.now c.make_way.new.stored c.requires.before c.make_way.ensures.beside
 
-pub take_entry-taken-requires-clause-held : goal.take_entry-taken-requires-clause-held
-take_entry-taken-requires-clause-held g c =
+pub enter_change-requires-clause-makes : goal.enter_change-requires-clause-makes
+enter_change-requires-clause-makes g c =
     let p = c.args.self.now in
-    take_held (arc_value p.pairs) (g.H.Histories.held p.histories) p.stored c.args.entry c.args.made.change c.requires.makes
+    same_makes (arc_value p.pairs) (g.H.Histories.held p.histories) p.stored c.make_way.new.stored c.args.entry c.args.made.change c.requires.makes c.make_way.ensures.beside.kept.range
 
-pub take_entry-taken-requires-clause-fits : goal.take_entry-taken-requires-clause-fits
-take_entry-taken-requires-clause-fits g c =
-    let p = c.args.self.now in
-    take_fits (arc_value p.pairs) (g.H.Histories.held p.histories) p.stored c.args.entry c.args.made.change c.requires.makes c.requires.before.replays c.kept.ensures.sizes
-
-pub returns-clause-after : goal.returns-clause-after
-returns-clause-after g c =
+pub returns-in-Ok-clause-taken : goal.returns-in-Ok-clause-taken
+returns-in-Ok-clause-taken g c =
     let held = g.H.Histories.held in
-    let p = c.args.self.now in
-    tried_kept (arc_value p.pairs) (held p.histories) p.stored c.args.entry c.args.made.change c.requires.makes c.take_entry-taken.new.stored (held c.take_entry-taken.new.histories) c.keep_doubt.new.doubt c.take_entry-taken.result
-    c.requires.before.replays c.take_entry-taken.ensures.taken c.take_entry-taken.ensures.entered c.keep_doubt.ensures
+    c.enter_change.ensures.taken
+    ∙ ap (λ (s : SlotState). slot_taken c.enter_change.result s c.args.entry) (beside_slot held c.args.self.now c.make_way.new.stored c.requires.before c.make_way.ensures.beside)
 
-pub returns-clause-taken : goal.returns-clause-taken
-returns-clause-taken g c =
+pub returns-in-Ok-clause-counted : goal.returns-in-Ok-clause-counted
+returns-in-Ok-clause-counted g c = take_later c.enter_change.result _ _ _ c.in-Ok.ensures.counted c.enter_change.ensures.counted
+
+pub returns-in-Err-clause-after : goal.returns-in-Err-clause-after
+returns-in-Err-clause-after g c = beside_kept g.H.Histories.held c.args.self.now c.make_way.new.stored c.requires.before c.make_way.ensures.beside
+
+pub returns-in-Err-clause-taken : goal.returns-in-Err-clause-taken
+returns-in-Err-clause-taken g c =
     let held = g.H.Histories.held in
-    let p = c.args.self.now in
-    slot_tried (arc_value p.pairs) (held p.histories) p.stored c.args.entry c.args.made.change c.requires.makes c.take_entry-taken.new.stored (held c.take_entry-taken.new.histories) c.keep_doubt.new.doubt c.take_entry-taken.result
-    c.take_entry-taken.ensures.taken c.take_entry-taken.ensures.entered c.keep_doubt.ensures
+    before_taken c.in-Err.fault c.fault_before.result (slot_of held c.args.self.now) _ c.args.entry c.fault_before.ensures c.requires.before.none
+    (beside_slot held c.args.self.now c.make_way.new.stored c.requires.before c.make_way.ensures.beside)
+
+pub returns-in-Err-clause-counted : goal.returns-in-Err-clause-counted
+returns-in-Err-clause-counted g c = before_counted c.in-Err.fault c.fault_before.result _ _ c.fault_before.ensures c.in-Err.ensures.counted

@@ -1,4 +1,5 @@
 use Rattle.std.proofs.Common.{rules, ◌≡◌, length, subst}
+use Rattle.extent_seal.proofs.HeardLemmas.{heard_then}
 use Rattle.stream_manager.specs.Extents.{extents}
 use Rattle.stream_manager.specs.Outcomes.{IsPut}
 use Rattle.stream_manager.proofs.AppendLemmas.{calls_after, fails_after, put_after}
@@ -31,3 +32,9 @@ returns-in-Ok-clause-counted g c =
     (length c.args.self.now.sealed.extents) (length c.make_ready.new.self.sealed.extents) (length c.put.new.self.sealed.extents)
     (g.W.Wire.faults c.args.wire.now) (g.W.Wire.faults c.make_ready.new.wire) (g.W.Wire.faults c.put.new.wire)
     (search rules) c.put.ensures.twice c.in-Ok.ensures.counted c.put.ensures.put c.put.ensures.counted
+
+pub returns-in-Ok-clause-heard : goal.returns-in-Ok-clause-heard
+returns-in-Ok-clause-heard g c = λ sure _.
+    heard_then (g.W.Wire.calls c.args.wire.now) (g.W.Wire.calls c.make_ready.new.wire) (g.W.Wire.calls c.put.new.wire)
+    (g.W.Wire.faults c.args.wire.now) (g.W.Wire.faults c.make_ready.new.wire) (g.W.Wire.faults c.put.new.wire)
+    c.in-Ok.ensures.heard (c.put.ensures.heard sure)

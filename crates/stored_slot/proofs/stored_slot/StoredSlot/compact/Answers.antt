@@ -1,8 +1,0 @@
-use Rattle.std.proofs.Common.{subst}
-use Rattle.slot_state.specs.Slots.{SlotState}
-use Rattle.stored_slot.specs.Parts.{slot_of}
-use Rattle.stored_slot.specs.Settled.{LeavesSettled}
-use Rattle.stored_slot.proofs.stored_slot.StoredSlot.compact.Goals as goal
-
-pub returns-clause-left : goal.returns-clause-left
-returns-clause-left g c = subst (λ (s : SlotState). LeavesSettled c.compact.result s (slot_of g.H.Histories.held c.compact.new.self)) c.self.view_is c.compact.ensures.left
