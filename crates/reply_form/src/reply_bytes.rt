@@ -165,6 +165,15 @@ pub fn write_head(
     Ok(out)
 }
 
+// Room for a reply with a few headers, as it is sent. All of it is taken at once: a list that grows is moved.
+fn room_of(reply: &Reply, verb: Option<Verb>) -> usize {
+    if sends_body(reply.status, verb) {
+        HEAD_ROOM.saturating_add(reply.body.len())
+    } else {
+        HEAD_ROOM
+    }
+}
+
 /// A reply as it is sent: its head, and its body if `sends_body` says so (RFC 9110, section 15).
 ///
 /// `moment` is when the request was judged, and `close` is whether the connection ends after the
@@ -179,11 +188,11 @@ pub fn write_reply(
 ) -> Result<Vec<u8>, AllocError>
     ensures { IfOk result (λ bytes. bytes.items ≡ reply_bytes reply.now moment verb close) }
 {
-    let mut out = write_head(alloc, reply, moment, close)?;
+    let mut out = Vec::with_capacity(alloc, room_of(reply, verb))?;
+    append_head(&mut out, reply, moment, close)?;
     if !sends_body(reply.status, verb) {
         return Ok(out);
     }
-    out.reserve_exact(reply.body.len())?;
     append_shares(&mut out, reply.body.as_slice())?;
     Ok(out)
 }
