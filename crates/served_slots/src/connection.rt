@@ -163,7 +163,8 @@ impl<'a, A: Account, R: Wait> Service for SlotsService<'a, A, R> {
     /// and the entry of the audit book is posted.
     ///
     /// If memory runs out, the reserve is given up, and the request is tried once more. If the reserve was gone before, a request that brings
-    /// content is not tried again.
+    /// content is not tried again. If memory runs out again for a request that brings no content, the slots give up their garbage, and it is tried a
+    /// third time: a deletion frees memory, so it should not be refused for want of a little.
     ///
     /// `AllocError` if memory runs out. Then the connection knows what it knew. If it runs out for these bytes, the request is an entry that changes
     /// nothing, and the connection does not know it.
@@ -182,6 +183,12 @@ impl<'a, A: Account, R: Wait> Service for SlotsService<'a, A, R> {
         }
         let was_held = self.give_up_reserve();
         if brings_content(op) && !was_held {
+            return Err(AllocError);
+        }
+        if let Ok(reply) = self.answer_once(alloc, &request, moment) {
+            return Ok(reply);
+        }
+        if brings_content(op) || !self.slots.collect(self.rt, alloc) {
             return Err(AllocError);
         }
         self.answer_once(alloc, &request, moment)
