@@ -17,16 +17,6 @@ use std::marker::Model;
 use stored_rows::StepLimit;
 use stored_slot::Steady;
 
-/// After how many rows the step of a sweep before a request ends. A request adds two rows at most, so a sweep gains on the requests.
-const STEP_ROWS: u32 = 4;
-
-/// After how many blocks the step of a sweep before a request ends. A row is written whole, so a step may write more.
-const STEP_BLOCKS: u64 = 2_000;
-
-/// After how many bytes of content the step of a sweep before a request ends, if the body of the request has no more: 4 MiB. A longer body raises the
-/// limit to its own length. So before a write of n bytes a step moves n bytes at least, unless it comes to its last row or block before.
-const STEP_BYTES: u64 = 4_194_304;
-
 // One more owner of each part of the pair.
 fn copy_of(keys: &Keys) -> Result<Keys, AllocError>
     ensures { IfOk result (λ copy. copy ≡ keys.now) }
@@ -74,15 +64,6 @@ fn answer_steadily(
     core.answer(alloc, request, None, reading, moment, wire)
 }
 
-// The limit of the step of a sweep before a request whose body has so many bytes.
-fn step_limit(body_len: u64) -> StepLimit {
-    StepLimit {
-        rows: STEP_ROWS,
-        blocks: STEP_BLOCKS,
-        bytes: body_len.max(STEP_BYTES),
-    }
-}
-
 // Makes one step of the sweep of the first slot that is sweeping or wasteful, if there is one, over nodes in memory, and drops what it gave up.
 //
 // The answer to a request is the same after a step, also if memory runs out for the step. This function is not inlined: the value that a step gives
@@ -92,7 +73,7 @@ fn sweep_now(core: &mut Core<ProvedHistories>, wire: &mut Steady, alloc: Global,
     requires calm { IsCalm core.old }
     ensures { core.new ≡ core.old }
 {
-    drop(core.sweep_wasteful(alloc, step_limit(body_len), wire));
+    drop(core.sweep_wasteful(alloc, StepLimit::of_a_write(body_len), wire));
 }
 
 // The same before a request that writes, if a slot is sweeping or wasteful.

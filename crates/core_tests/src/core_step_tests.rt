@@ -207,9 +207,9 @@ fn rows_told(unloaded: &Unloaded) -> &'static str {
 // How far a sweep is.
 fn swept_told(swept: &SweepStep) -> &'static str {
     match swept {
-        SweepStep::RowsLeft => "rows left",
+        SweepStep::RowsLeft(_made) => "rows left",
         SweepStep::Over(_away) => "over",
-        SweepStep::Stopped => "stopped",
+        SweepStep::Stopped(_made) => "stopped",
     }
 }
 

@@ -33,9 +33,9 @@ enum Stepped {
 
 fn step(alloc: Global, slot: &mut Streamed) -> Stepped {
     match slot.slot.sweep(alloc, ONE, &mut slot.wire) {
-        Ok(SweepStep::RowsLeft) => Stepped::RowsLeft,
+        Ok(SweepStep::RowsLeft(_made)) => Stepped::RowsLeft,
         Ok(SweepStep::Over(_away)) => Stepped::Over,
-        Ok(SweepStep::Stopped) => Stepped::Stopped,
+        Ok(SweepStep::Stopped(_made)) => Stepped::Stopped,
         Err(_fault) => Stepped::Fault,
     }
 }

@@ -3,9 +3,6 @@
 use stamp_types::Request;
 use stored_rows::StepLimit;
 
-/// The bytes of content that a step of a writing request writes again at least. No byte of content is copied.
-const FEW_BYTES: u64 = 4_194_304;
-
 /// A step of a slot while no request comes to it.
 pub(crate) const AT_REST: StepLimit = StepLimit {
     rows: 64,
@@ -20,16 +17,11 @@ pub(crate) const IN_NEED: StepLimit = StepLimit {
     bytes: 67_108_864,
 };
 
-/// The step that a request makes before it is served, if it writes. A request that only reads makes none. A request that brings much content makes as
-/// much garbage at most, so its step goes as far.
+/// The step that a request makes before it is served, if it writes. A request that only reads makes none.
 pub(crate) fn step_before(request: &Request) -> Option<StepLimit> {
-    if !request.ask().op.writes() {
-        return None;
+    if request.ask().op.writes() {
+        Some(StepLimit::of_a_write(request.body().len() as u64))
+    } else {
+        None
     }
-    let brought = request.body().len() as u64;
-    Some(StepLimit {
-        rows: 4,
-        blocks: 2_000,
-        bytes: brought.max(FEW_BYTES),
-    })
 }

@@ -16,6 +16,27 @@ pub struct StepLimit {
     pub bytes: u64,
 }
 
+// The rows of the step of a request that writes.
+const FEW_ROWS: u32 = 4;
+
+// The blocks of this step.
+const FEW_BLOCKS: u64 = 2_000;
+
+// The bytes of content of this step, if the request brings no more.
+const FEW_BYTES: u64 = 4_194_304;
+
+impl StepLimit {
+    /// The step that a request makes before it writes, if it brings so many bytes of content: 4 rows, 2,000 blocks, and 4 MiB or as many bytes as the
+    /// request brings. A request adds two rows at most and as much garbage as content, so a sweep gains on the requests.
+    pub fn of_a_write(brought: u64) -> Self {
+        Self {
+            rows: FEW_ROWS,
+            blocks: FEW_BLOCKS,
+            bytes: brought.max(FEW_BYTES),
+        }
+    }
+}
+
 /// How far a sweep has come after a step.
 #[derive(Clone, Copy, Debug, PartialEq, Eq)]
 pub enum Progress {

@@ -25,4 +25,4 @@ pub use laws::{
 };
 pub use steady::Steady;
 pub use stored_slot::{EXTENT_BYTES, StoredSlot};
-pub use sweeping::SweepStep;
+pub use sweeping::{StepMade, SweepStep};

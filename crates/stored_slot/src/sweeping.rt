@@ -17,16 +17,20 @@ use stored_rows::{
     FoundForChange, Progress, StepLimit, StoredFault, StoredRows, SweptAway, TakeFault,
 };
 
-/// How far a sweep is after a step.
+/// Says that a slot made a step of a sweep. Only a slot makes this value.
+#[derive(Drop)]
+pub struct StepMade(());
+
+/// How far a sweep is after a step. Only the step of a slot makes such a value.
 #[derive(Drop)]
 pub enum SweepStep {
     /// Rows are left.
-    RowsLeft,
+    RowsLeft(StepMade),
     /// Each row was written. All that came before is given up. To drop it takes time for each of its blocks, so a caller may drop it once it holds no
     /// lock.
     Over(SweptAway),
     /// The sweep ended early, and gave nothing up.
-    Stopped,
+    Stopped(StepMade),
 }
 
 // The answer of a slot if a row was not written. If it is not known whether a row is kept, the row is in doubt, and each container is as it was.
@@ -108,7 +112,7 @@ fn end(stored: &mut StoredRows) -> SweepStep
 {
     match stored.sweep_end() {
         Some(away) => SweepStep::Over(away),
-        None => SweepStep::Stopped,
+        None => SweepStep::Stopped(StepMade(())),
     }
 }
 
@@ -124,9 +128,9 @@ fn go_on<W: Wire>(
     ensures counted { FailsStored result (W.faults wire.old) (W.faults wire.new) }
 {
     match stored.sweep_step(limit, wire) {
-        Ok(Progress::RowsLeft) => Ok(SweepStep::RowsLeft),
+        Ok(Progress::RowsLeft) => Ok(SweepStep::RowsLeft(StepMade(()))),
         Ok(Progress::Done) => Ok(end(stored)),
-        Ok(Progress::NoSweep) => Ok(SweepStep::Stopped),
+        Ok(Progress::NoSweep) => Ok(SweepStep::Stopped(StepMade(()))),
         Err(fault) => Err(row_fault(fault)),
     }
 }

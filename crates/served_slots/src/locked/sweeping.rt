@@ -48,9 +48,9 @@ impl<A: Account> LockedSlot<A> {
         ensures { self.new ≡ self.old }
     {
         match self.step(alloc, limit) {
-            Some(SweepStep::RowsLeft) => Swept::RowsLeft,
+            Some(SweepStep::RowsLeft(_made)) => Swept::RowsLeft,
             Some(SweepStep::Over(away)) => Swept::Over(Box::new(alloc, away).ok()),
-            Some(SweepStep::Stopped) => Swept::Failed,
+            Some(SweepStep::Stopped(_made)) => Swept::Failed,
             None => Swept::Failed,
         }
     }
