@@ -23,4 +23,3 @@ pub mod StepLemmas
 pub mod TicketLemmas
 pub mod Values
 pub mod WaitLemmas
-pub mod WithdrawnLemmas

@@ -34,4 +34,5 @@ pub mod RunLemmas
 pub mod SeenContainerLemmas
 pub mod SeenLemmas
 pub mod SuccessLemmas
+pub mod WithdrawnLemmas
 pub mod WrittenLemmas

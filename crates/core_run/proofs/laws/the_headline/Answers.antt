@@ -9,7 +9,7 @@ use Rattle.core_run.proofs.AskedLemmas.{asked_so}
 use Rattle.core_run.proofs.HeadlineLemmas.{condition_met, etag_one, refused_replies, refused_world, written_read}
 use Rattle.core_run.proofs.HistoryLemmas.{leads_so}
 use Rattle.core_run.proofs.PlaceLemmas.{has_place}
-use Rattle.core_run.proofs.WithdrawnLemmas.{refused_withdrawn}
+use Rattle.stamp_model.proofs.WithdrawnLemmas.{refused_withdrawn}
 use Rattle.core_run.proofs.laws.the_headline.Goals as goal
 
 pub returns-clause-reply : goal.returns-clause-reply
