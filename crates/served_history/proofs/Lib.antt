@@ -2,6 +2,7 @@ pub mod Adding
 pub mod AfterLemmas
 pub mod ConnectionLemmas
 pub mod FirstLemmas
+pub mod FrontLemmas
 pub mod KeyLemmas
 pub mod PairLemmas
 pub mod ReplyLemmas

@@ -1,4 +1,5 @@
 pub mod Connections
+pub mod Fronts
 pub mod Growth
 pub mod Histories
 pub mod Rotations

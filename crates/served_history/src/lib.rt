@@ -2,6 +2,7 @@
 #![tactic(auto)]
 
 mod entry;
+mod front_laws;
 mod history;
 #[cfg(test)]
 mod history_tests;
@@ -10,6 +11,9 @@ mod rotation_laws;
 mod slot_history;
 
 pub use entry::TimedCall;
+pub use front_laws::{
+    a_connection_is_a_pass_of_each_container, who_knows_a_withdrawal_gets_no_answer_by_it,
+};
 pub use history::{Account, LogFront, NewHistory, SlotWord};
 pub use laws::{
     a_connection_reads_its_own_writes, a_slot_has_what_its_entry_leaves, a_slot_keeps_what_it_has,
