@@ -97,7 +97,7 @@ module _ (tag : ℕ) (key : Key) (front : List Entry) (has : owner front key ≡
   no_opening : front ≡ [] → IsOpened front → ⊥
   no_opening none opened = subst IsOpened none opened
 
-  one_stays : (e : Entry) → IsOpened front → IsOwn front e → is_of tag e ≡ false → HasStayed key front (front ++ e ∷ [])
+  pub one_stays : (e : Entry) → IsOpened front → IsOwn front e → is_of tag e ≡ false → HasStayed key front (front ++ e ∷ [])
   one_stays (Opened pairs) opened own other = absurd (no_opening own opened)
   one_stays (Served slot r) opened own other = served_stays slot r own.0 other
   one_stays (Split slot middle upper) opened own other = split_stays slot middle upper own other
@@ -113,7 +113,7 @@ stayed_then key front mid log one two = record {
   container = two.container ∙ one.container;
 }
 
-other_slot : (b : Bool) (n : ℕ) → cond b 1 0 + n ≡ 0 → (b ≡ false) × (n ≡ 0)
+pub other_slot : (b : Bool) (n : ℕ) → cond b 1 0 + n ≡ 0 → (b ≡ false) × (n ≡ 0)
 other_slot true n h = absurd (omega arith)
 other_slot false n h = (refl, omega (arith, h))
 

@@ -15,6 +15,7 @@ ghost use Rattle.http_front.specs.declared.end.FrontFault.{FrontFault};
 ghost use Rattle.http_front.specs.Connections.{ConnectionState};
 ghost use Rattle.http_front.specs.Conversations.{AnswersInput, BreaksOff, EndsOutOfMemory};
 ghost use Rattle.served_history.specs.declared.entry.Entry.{Entry};
+ghost use Rattle.served_history.specs.Fronts.{front_at};
 ghost use Rattle.served_history.specs.Growth.{IsEntered};
 ghost use Rattle.served_history.specs.Histories.{GoesOnWithout, HasStayed, IsHistory, IsServed, IsUnchanged, entry_after, owner, served_requests, timed_at, world_left};
 ghost use Rattle.served_history.specs.Connections.{AddsOneAtMost, AreOfOneHistory, Call, IsReadAfter, ReadsHistory, calls_of};
@@ -22,11 +23,13 @@ ghost use Rattle.served_history.specs.Connections.{AddsOneAtMost, AreOfOneHistor
 use crate::history::{Account, LogFront};
 use http_front::Clock;
 
-/// While a slot makes no entry, its keys stay its own, and their bounds, their key pairs and their containers stay as they are, whatever entries
-/// other slots make. So the reply to a request on one of its keys stays the same too, also to a List Containers.
+/// While a slot makes no entry, its keys stay its own, and their bounds, their key pairs, their containers and the fronts of their containers
+/// stay as they are, whatever entries other slots make. So the reply to a request on one of its keys stays the same too, also to a List Containers.
 pub fn a_slot_keeps_what_it_has()
     ensures stays { (slot : ℕ) (front log : List Entry) (key : Key)
         → GoesOnWithout slot front log → owner front key ≡ slot → HasStayed key front log }
+    ensures front { (slot : ℕ) (front log : List Entry) (key : Key)
+        → GoesOnWithout slot front log → owner front key ≡ slot → front_at log key ≡ front_at front key }
     ensures reply { (slot : ℕ) (front log : List Entry) (q : Asked) (t : ℕ)
         → GoesOnWithout slot front log → owner front (routed q) ≡ slot → IsAsk q.ask
         → reply_to_one (world_left log) (timed_at log q t)
