@@ -379,10 +379,16 @@ def script(run, sweeps):
     yield serve(delete, "pics")
     yield run.step("sweep", 1, 3)
     yield read("zzz")
+    # A sweep that goes on in both halves of a slot.
+    yield run.step("sweep", 1, 3)
+    yield run.step("split", 1, "zzz")
+    yield run.step("sweep", 2, 9)
+    yield read("zzz")
+    yield run.step("sweep", 1, 9)
     # A sweep that a checkpoint ends.
-    yield run.step("sweep", 1, 2)
-    yield run.step("checkpoint", 1)
-    yield run.step("unload", 1)
+    yield run.step("sweep", 2, 2)
+    yield run.step("checkpoint", 2)
+    yield run.step("unload", 2)
     yield read("zzz")
 
 

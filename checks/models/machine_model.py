@@ -310,8 +310,9 @@ class Machine:
             return "full"
         if not self.is_cleared(slot, wire) or slot.streams.seal(wire) != "done":
             return "busy"
-        self.slots.insert(at + 1, Slot(slot.streams.share(), middle, slot.bound, slot.is_loaded, slot.written))
-        slot.bound, slot.sweep = middle, None
+        upper = Slot(slot.streams.share(), middle, slot.bound, slot.is_loaded, slot.written)
+        upper.sweep, slot.bound = slot.sweep and slot.sweep.of_half(), middle
+        self.slots.insert(at + 1, upper)
         return "made"
 
     def on_slot(self, at, step):
@@ -377,7 +378,8 @@ class Machine:
         cursor = slot.sweep.cursor
         name, *rest = cursor
         if rest and rest[0] < 2:
-            left = [it for it, _ in self.blobs(name) if (name, 1, it) > cursor]
+            # After a split the cursor may be in a container of the other half.
+            left = [it for it, _ in self.blobs(name) if slot.covers(name) and (name, 1, it) > cursor]
             return ((name, 1, left[0]), self.blob_row(name, left[0])) if left else ((name, 2), None)
         left = [it for it in filter(slot.covers, sorted(self.stamp.counts)) if it > name or not rest]
         return ((left[0], 0), self.container_row(left[0])) if left else None

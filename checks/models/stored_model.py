@@ -112,7 +112,8 @@ class Stored:
     def next_row(self):
         """The cursor after the row that comes next, and the row, if a row comes."""
         name, *rest = self.sweep.cursor
-        if rest and rest[0] == 0 and self.found(name)[2] is not None:
+        # After a cut the cursor may be in a container of the other half.
+        if rest and rest[0] == 0 and self.covers(name) and self.found(name)[2] is not None:
             return (name, 1, BLOB), BlobRow(name, self.found(name)[2])
         if rest and rest[0] < 2:
             return (name, 2), None
@@ -188,7 +189,7 @@ class Stored:
         if self.streams.seal(wire) != "done":
             return None
         half = Stored(self.streams.share(), middle, self.high)
-        half.is_loaded, self.high, self.sweep = self.is_loaded, middle, None
+        half.is_loaded, half.sweep, self.high = self.is_loaded, self.sweep and self.sweep.of_half(), middle
         return half
 
     def keep(self, place, start, end, wire):
@@ -396,7 +397,9 @@ def fixed_run(lines, wire):
     def take(*words):
         if run.stored.has_doubt():
             run.settle()
-        if not run.stored.has_doubt() and run.stored.covers(words[1]) and (words[0] == "create") != run.stored.found(words[1])[1]:
+        if run.stored.has_row_doubt():
+            run.row()
+        if run.stored.is_sure() and run.stored.covers(words[1]) and (words[0] == "create") != run.stored.found(words[1])[1]:
             run.take(*words)
 
     for round, name in enumerate(NAMES[:4]):
@@ -408,9 +411,11 @@ def fixed_run(lines, wire):
         if round == 1:
             run.unload()
             run.load()
-        if round == 2 and not run.stored.has_doubt():
-            run.seal()
-            run.cut(NAMES[1])
+        if round == 2 and run.stored.is_sure():
+            run.begin()
+            run.step(1)
+            if run.stored.is_sure():
+                run.cut(NAMES[1])
         take("delete", name)
         run.settle()
         for number in run.kept()[-1:]:

@@ -327,6 +327,12 @@ class Sweep:
     def __init__(self, mark):
         self.mark, self.cursor, self.touched = mark, self.START, set()
 
+    def of_half(self):
+        """The sweep of the upper half of a cut: it does not know the rows that were written before it came to them."""
+        half = Sweep(self.mark)
+        half.cursor = self.cursor
+        return half
+
     def knows(self, row):
         """Whether the row was written since the mark. A container is known if one of its blobs was written before the cursor came to it."""
         is_touched = row in self.touched or row[1] == 0 and any(it[0] == row[0] for it in self.touched)

@@ -8,6 +8,7 @@ use crate::stored_samples::{D, R, Streamed, make_streamed, put_hello, split};
 use extent_node::{Delivery, Script};
 use std::alloc::Global;
 use std::process::Abort;
+use stored_rows::StepLimit;
 use stored_slot::SweepStep;
 
 // What the reply to a second Create Container of the same name begins with.
@@ -151,4 +152,42 @@ fn sweep_a_half(rt: &impl Abort, alloc: Global, lower: &mut Streamed) {
 fn each_half_is_swept_by_itself(rt: HostRuntime) {
     let mut slot = make_streamed(&rt, rt.alloc(), &[], &[]);
     sweep_a_half(&rt, rt.alloc(), &mut *slot);
+}
+
+// Writes one row of a sweep, and begins it before. Rows are left.
+fn step(alloc: Global, slot: &mut Streamed) -> bool {
+    let one = StepLimit {
+        rows: 1,
+        blocks: 2_000,
+        bytes: 4_194_304,
+    };
+    matches!(
+        slot.slot.sweep(alloc, one, &mut slot.wire),
+        Ok(SweepStep::RowsLeft)
+    )
+}
+
+// A sweep that has written the row of the first container goes on in both halves of a split. The upper half ends it first.
+fn split_a_sweep(rt: &impl Abort, alloc: Global, lower: &mut Streamed) {
+    put_hello(rt, alloc, lower);
+    assert!(rt; begins(rt, alloc, lower, CREATE_LATER, CREATED));
+    assert!(rt; step(alloc, lower));
+    let mut upper = split(rt, alloc, lower, "q").expect(rt, "an upper half");
+    assert!(rt; lower.slot.is_sweeping() && upper.slot.is_sweeping());
+    assert!(rt; sweep(alloc, &mut *upper));
+    assert!(rt; lower.slot.is_sweeping() && !upper.slot.is_sweeping());
+    assert!(rt; ends(rt, alloc, lower, GET, b"\r\n\r\nhello"));
+    assert!(rt; sweep(alloc, lower));
+    assert!(rt; !lower.slot.is_sweeping());
+    // The row that was written before the split, and one row of each half.
+    reload(rt, alloc, lower, 2);
+    reload(rt, alloc, &mut *upper, 2);
+    assert!(rt; ends(rt, alloc, lower, GET, b"\r\n\r\nhello"));
+    assert!(rt; begins(rt, alloc, &mut *upper, CREATE_LATER, CONFLICT));
+}
+
+#[test]
+fn a_sweep_goes_on_in_both_halves_of_a_slot(rt: HostRuntime) {
+    let mut slot = make_streamed(&rt, rt.alloc(), &[], &[]);
+    split_a_sweep(&rt, rt.alloc(), &mut *slot);
 }

@@ -66,6 +66,30 @@ before_end (Some to) middle key h e = below_below key middle to e h
 
 -- ---- what each half has
 
+both : (a b : Bool) → (a && b) ≡ true → (a ≡ true) × (b ≡ true)
+both true true h = (refl, refl)
+both true false h = cc
+both false b h = cc
+
+both_so : (a b : Bool) → a ≡ true → b ≡ true → (a && b) ≡ true
+both_so true true h g = refl
+both_so true false h g = g
+both_so false b h g = h
+
+-- a key of the lower half is a key of the range
+pub lower_within : (range : KeyRange) (middle : Key) → covers range middle ≡ true → (key : Key) → covers (record range { to = Some middle }) key ≡ true → covers range key ≡ true
+lower_within range middle covered key here =
+    let own = both (is_from range.from key) (is_below middle key) here in
+    both_so (is_from range.from key) (is_before_end range.to key) own.0
+    (before_end range.to middle key (both (is_from range.from middle) (is_before_end range.to middle) covered).1 own.1)
+
+-- and so is a key of the upper half
+pub upper_within : (range : KeyRange) (middle : Key) → covers range middle ≡ true → (key : Key) → covers (record { from = middle; to = range.to }) key ≡ true → covers range key ≡ true
+upper_within range middle covered key here =
+    let own = both (is_from middle key) (is_before_end range.to key) here in
+    both_so (is_from range.from key) (is_before_end range.to key)
+    (from_from range.from middle key (both (is_from range.from middle) (is_before_end range.to middle) covered).0 own.0) own.1
+
 cond_lower : (a b l : Bool) (p : Part (List Piece)) → (l ≡ true → b ≡ true) → cond l (cond (a && b) p no_part) no_part ≡ cond (a && l) p no_part
 cond_lower true true true p h = refl
 cond_lower true true false p h = refl
@@ -80,11 +104,6 @@ cond_upper true false true p h = refl
 cond_upper false b true p h = let wrong : false ≡ true = h refl in absurd cc
 cond_upper true b false p h = refl
 cond_upper false b false p h = refl
-
-both : (a b : Bool) → (a && b) ≡ true → (a ≡ true) × (b ≡ true)
-both true true h = (refl, refl)
-both true false h = cc
-both false b h = cc
 
 retained_by : (d : Part (List Piece)) (o : Option (Part (List Piece))) (b : Bool) → unwrap_or (cond b o None) d ≡ cond b (unwrap_or o d) d
 retained_by d o true = refl

@@ -5,6 +5,7 @@ pub mod CursorLemmas
 pub mod CursorMoves
 pub mod CutLemmas
 pub mod FittingLemmas
+pub mod HalfSweptLemmas
 pub mod HeardLemmas
 pub mod KeptAsLemmas
 pub mod KnownLemmas
@@ -14,6 +15,7 @@ pub mod LoadLemmas
 pub mod LoggingLemmas
 pub mod NextRowLemmas
 pub mod NotedLemmas
+pub mod PartLemmas
 pub mod ReadLemmas
 pub mod RepairLemmas
 pub mod RowAgainLemmas

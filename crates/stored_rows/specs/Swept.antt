@@ -22,7 +22,7 @@ use Rattle.partition_stream.specs.Changes.{Recorded}
 use Rattle.partition_stream.specs.Compactions.{IsMovedRow}
 use Rattle.partition_stream.specs.Meanings.{acts_on, held_of, is_on}
 use Rattle.partition_stream.specs.Streams.{ThreeStreams, logged}
-use Rattle.partition_stream.specs.Sweeping.{AreFrom, LieFrom, changes_from, handles_before, made_from}
+use Rattle.partition_stream.specs.Sweeping.{AreFrom, LieFrom, changes_from, handles_before, made_from, mark_of}
 use Rattle.partition_stream.specs.declared.mark.Mark.{Mark}
 use Rattle.stored_rows.specs.Fitting.{FitInTurn}
 use Rattle.row_trees.specs.Halfway.{IsSweptPart, IsTouched, News, news_after, no_news}
@@ -197,7 +197,26 @@ is_over (Some w) = is_end w.cursor
 -- these are the parts of a sweep that has written each row
 abbrev pub IsOver : Option Sweep → Swept → Type 0
 IsOver None e = ⊥
-IsOver (Some w) e = (is_end w.cursor ≡ true) × ((e.mark ≡ w.mark) × (e.room ≡ w.room))
+IsOver (Some w) e = (is_end w.cursor ≡ true) × ((e.mark ≡ w.mark) × ((e.room ≡ w.room) × (e.began ≡ w.began)))
+
+-- the cursors are past the same rows
+pub record PassSame (c d : Cursor) : Type 0 where
+  pub rows : (key : Key) → is_past d key ≡ is_past c key
+  pub blobs : (key : Key) (name : List ℕ) → is_past_blob d key name ≡ is_past_blob c key name
+
+-- the sweep of a part of the rows that another sweep has: it goes on from the same mark and behind the same rows, and no row beyond them was touched
+pub record IsPartOf (w part : Sweep) : Type 0 where
+  pub mark : part.mark ≡ w.mark
+  pub cursor : PassSame w.cursor part.cursor
+  pub touched : part.touched ≡ finite.empty
+  pub began : part.began ≡ w.began
+
+-- this is the sweep of the upper half of rows that are cut, if a sweep of the rows is under way: it has room for all extents of these streams that are
+-- sealed
+abbrev pub IsOfHalf : Option Sweep → ThreeStreams → Option Sweep → Type 0
+IsOfHalf None s o = o ≡ None
+IsOfHalf (Some w) s None = ⊥
+IsOfHalf (Some w) s (Some half) = IsPartOf w half × (half.room.room ≡ handles_before (mark_of s) s)
 
 -- the sweep, if it goes on while a change of these rows is logged: it ends if it does not know that the change may be logged
 abbrev pub kept_sweep : Option Sweep → Option (World (List Piece)) → KeyedAct → Option Sweep

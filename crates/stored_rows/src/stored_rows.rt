@@ -7,7 +7,7 @@ mod stepping;
 mod sweeping;
 mod wasting;
 
-use crate::cutting::{ends_of, share_upper};
+use crate::cutting::{UpperHalf, ends_of, share_upper};
 use crate::faults::Ended;
 use crate::key_range::KeyRange;
 use crate::loading::rows_of;
@@ -15,7 +15,7 @@ use crate::logging::put_and_log;
 use crate::noting::{note, note_loaded, note_settled};
 use crate::row_doubt::{end_row, is_row};
 use crate::sealed::{AllSealed, note_sealed};
-use crate::sweep::{Sweep, end_sweep, keep_sweep};
+use crate::sweep::{Sweep, keep_sweep};
 use crate::unloaded::Unloaded;
 use crate::waste::{ChangeWeight, FoundForChange, Waste, bound_of, named_by, recounted};
 use block_blobs::FoundBlocks;
@@ -410,7 +410,7 @@ impl StoredRows {
         }
         let made = rows_of(self.alloc, &self.streams, &self.range, wire);
         let loaded = note_loaded(&mut self.rows, made);
-        self.waste = recounted(self.alloc, self.waste, &self.rows);
+        self.waste = recounted(self.alloc, self.waste, &self.rows, &self.sweep);
         loaded
     }
 
@@ -514,7 +514,7 @@ impl StoredRows {
         note_sealed(sealed)
     }
 
-    // The upper half with the same streams.
+    // The upper half with the same streams. A sweep that is under way goes on in both halves.
     fn halve(&mut self, middle: Key, upper: KeyRange) -> Result<Self, StoredFault>
         requires sure { doubt_of self.old ≡ None }
         requires sealed { AreSealed self.old.streams }
@@ -527,12 +527,23 @@ impl StoredRows {
         ensures refused { OnErr result (MeansTheSame self.old self.new × (doubt_of self.new ≡ None)) }
         ensures memory { result ≢ Err stored_fault.Busy }
     {
-        match share_upper(&mut self.streams, &mut self.rows, &middle) {
-            Ok((streams, rows)) => {
+        match share_upper(
+            self.alloc,
+            &mut self.streams,
+            &mut self.rows,
+            &self.sweep,
+            &middle,
+        ) {
+            Ok(
+                UpperHalf {
+                    streams,
+                    rows,
+                    sweep,
+                },
+            ) => {
                 self.range.to = Some(middle);
-                end_sweep(&mut self.sweep);
-                let waste = recounted(self.alloc, self.waste, &rows);
-                self.waste = recounted(self.alloc, self.waste, &self.rows);
+                let waste = recounted(self.alloc, self.waste, &rows, &sweep);
+                self.waste = recounted(self.alloc, self.waste, &self.rows, &self.sweep);
                 Ok(Self {
                     alloc: self.alloc,
                     streams,
@@ -543,7 +554,7 @@ impl StoredRows {
                     spare: None,
                     waste,
                     gathers_lists: self.gathers_lists,
-                    sweep: None,
+                    sweep,
                 })
             }
             Err(AllocError) => Err(StoredFault::NoMemory),
@@ -551,7 +562,8 @@ impl StoredRows {
     }
 
     /// Cuts the range at a key: what is below the key stays, and what is from the key on is answered. Both halves share the sealed extents.
-    /// Both halves are loaded if the rows were loaded.
+    /// Both halves are loaded if the rows were loaded. A sweep that is under way goes on in both halves, each for its own range. Each half
+    /// ends it by itself, and gives up its own handles of what came before the mark.
     ///
     /// After a fault nothing was cut. Busy: no node answered the seal of a stream. NoMemory: memory ran out.
     pub fn cut<W: Wire>(&mut self, middle: &Key, wire: &mut W) -> Result<Self, StoredFault>

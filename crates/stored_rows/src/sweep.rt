@@ -1,15 +1,15 @@
 //! A sweep of rows that is under way: where it began, how far it has come, and the rows that it has written beyond.
-ghost use Rattle.std.specs.Prelude.{◌≡◌, ◌||◌, MatchOption, None, OnErr, OnOk, false};
+ghost use Rattle.std.specs.Prelude.{◌≡◌, ◌||◌, IfOk, MatchOption, None, OnErr, OnOk, false};
 ghost use Rattle.std.specs.FinMap as finite;
 ghost use Rattle.std.specs.Option.{option_copied};
 ghost use Rattle.block_blobs.specs.StoredRows.{is_left};
 ghost use Rattle.stamp_types.specs.World.{blob_in};
-ghost use Rattle.stored_rows.specs.Swept.{IsOver, is_end, is_over, is_touched, is_touched_blob, is_unseen, kept_sweep, knows_blob, knows_name, knows_read, knows_row, may_log, read_by, with_blob_row, with_container};
+ghost use Rattle.stored_rows.specs.Swept.{IsOfHalf, IsOver, IsPartOf, is_end, is_over, is_touched, is_touched_blob, is_unseen, kept_sweep, knows_blob, knows_name, knows_read, knows_row, may_log, read_by, with_blob_row, with_container};
 ghost use Rattle.stored_rows.specs.declared.cursor.Cursor.TheVariants as cursor;
 
 use crate::cursor::Cursor;
 use crate::waste::Waste;
-use partition_stream::Mark;
+use partition_stream::{Mark, Streams};
 use row_trees::{Found, Rows};
 use stamp_types::{Act, Change, Text};
 use stamp_values::{Bytes, Key, Keyed, Named};
@@ -45,6 +45,26 @@ impl Sweep {
             cursor: Cursor::Start,
             touched: Keyed::new(alloc),
             began,
+        }
+    }
+
+    // The sweep of a part of the rows, with room of its own: it knows the rows up to the cursor, and none that was touched beyond.
+    fn part(&self, alloc: Global, room: HandleRoom) -> Result<Self, AllocError>
+        ensures part { IfOk result (IsPartOf self.now) }
+        ensures room { IfOk result (λ part. part.room ≡ room) }
+    {
+        match self.cursor.copied() {
+            Ok(cursor) => Ok(Self {
+                mark: self.mark,
+                room,
+                cursor,
+                touched: Keyed::new(alloc),
+                began: self.began,
+            }),
+            Err(fault) => {
+                drop(room);
+                Err(fault)
+            }
         }
     }
 
@@ -221,6 +241,26 @@ pub(crate) fn keep_sweep(sweep: &mut Option<Sweep>, rows: &Option<Rows>, change:
     }
 }
 
+/// The sweep of the upper half of rows that are cut, if a sweep of the rows is under way: it goes on from the same mark, and knows the rows up to the
+/// cursor. These are the streams of the half, and it has room of its own for their handles. A row that was touched beyond the cursor may be written once
+/// more.
+///
+/// `AllocError` if memory runs out.
+pub(crate) fn sweep_of_half(
+    alloc: Global,
+    sweep: &Option<Sweep>,
+    streams: &Streams,
+) -> Result<Option<Sweep>, AllocError>
+    ensures { IfOk result (IsOfHalf sweep.now streams.now) }
+{
+    let Some(under_way) = sweep else {
+        return Ok(None);
+    };
+    let room = streams.sweep_room()?;
+    let half = under_way.part(alloc, room)?;
+    Ok(Some(half))
+}
+
 /// The parts of a sweep that has written each row. The sweep is then over.
 #[derive(Drop)]
 pub(crate) struct Swept {
@@ -228,12 +268,15 @@ pub(crate) struct Swept {
     pub(crate) room: HandleRoom,
     // The count of the streams when the sweep began.
     pub(crate) began: Waste,
+    // To drop these takes time for each name.
+    pub(crate) touched: Keyed<Named<Written>>,
 }
 
 // Takes a sweep apart.
 fn parts_of(sweep: Sweep) -> Swept
     ensures mark { result.mark ≡ sweep.mark }
     ensures room { result.room ≡ sweep.room }
+    ensures began { result.began ≡ sweep.began }
 {
     let Sweep {
         mark,
@@ -243,8 +286,12 @@ fn parts_of(sweep: Sweep) -> Swept
         began,
     } = sweep;
     drop(cursor);
-    drop(touched);
-    Swept { mark, room, began }
+    Swept {
+        mark,
+        room,
+        began,
+        touched,
+    }
 }
 
 // Whether a sweep is under way that has written each row.

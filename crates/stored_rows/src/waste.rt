@@ -1,10 +1,12 @@
 //! How many bytes the streams have, and to how many of them something refers. No answer depends on these numbers.
 ghost use Rattle.std.specs.Prelude.{◌≡◌};
 
+use crate::cursor::Cursor;
 use crate::record_len::{
     all_blocks_len, blob_len, block_len, blocks_len, committed_len, created_len, deleted_len,
     found_len, head_of, metadata_len, policies_len, record_bound, whole_len,
 };
+use crate::sweep::Sweep;
 use block_blobs::{FoundBlocks, ListContent};
 use partition_stream::TakeFault;
 use row_trees::{Found, FoundBlob, Rows};
@@ -64,6 +66,15 @@ impl Size {
             entries: self.entries.saturating_sub(other.entries),
             committed: self.committed.saturating_sub(other.committed),
             pending: self.pending.saturating_sub(other.pending),
+        }
+    }
+
+    // The uncommitted blocks.
+    const fn blocks(self) -> Self {
+        Self {
+            rows: 0,
+            committed: 0,
+            ..self
         }
     }
 
@@ -195,13 +206,8 @@ impl Waste {
 
     /// After a sweep came to a row of this size, and wrote it again.
     pub(crate) const fn after_row(self, row: Size) -> Self {
-        let blocks = Size {
-            rows: 0,
-            committed: 0,
-            ..row
-        };
         Self {
-            existing: self.existing.and(blocks),
+            existing: self.existing.and(row.blocks()),
             ..self.after_touch(row)
         }
     }
@@ -305,23 +311,49 @@ pub(crate) fn blob_row_size(key: &Key, row: &StoredBlob) -> Size {
     size
 }
 
-// What exists of all containers.
-fn rows_size(alloc: Global, rows: &Rows) -> Size {
+// The uncommitted blocks of a container in rows that the cursor has not passed.
+fn blocks_beyond(alloc: Global, key: &Key, found: &Found<'_>, cursor: &Cursor) -> Size {
+    let mut size = Size::none();
+    for (name, blob) in found.blobs_from(&Vec::new(alloc)) {
+        if !cursor.is_past_blob(key, name) {
+            size = size.and(content_size(&blob).blocks());
+        }
+    }
+    size
+}
+
+// The uncommitted blocks of a container that a sweep counts when it comes to their rows, if a sweep is under way.
+fn blocks_left(alloc: Global, key: &Key, found: &Found<'_>, sweep: &Option<Sweep>) -> Size {
+    match sweep {
+        Some(under_way) => blocks_beyond(alloc, key, found, &under_way.cursor),
+        None => Size::none(),
+    }
+}
+
+// What exists of all containers, without the blocks that a sweep counts later.
+fn rows_size(alloc: Global, rows: &Rows, sweep: &Option<Sweep>) -> Size {
     let first = Key {
         account: Text::empty(alloc),
         container: Text::empty(alloc),
     };
     let mut size = Size::none();
     for (key, found) in rows.containers_from(&first) {
-        size = size.and(container_size(alloc, row_head(key), &found));
+        let whole = container_size(alloc, row_head(key), &found);
+        size = size.and(whole.without(blocks_left(alloc, key, &found, sweep)));
     }
     size
 }
 
-/// Counts what exists in the rows, if they are in memory. Takes time with their number.
-pub(crate) fn recounted(alloc: Global, waste: Waste, rows: &Option<Rows>) -> Waste {
+/// Counts what exists in the rows, if they are in memory. Takes time with their number. If a sweep is under way, the uncommitted blocks to whose rows it
+/// has not come are left out: it counts them when it comes to their rows.
+pub(crate) fn recounted(
+    alloc: Global,
+    waste: Waste,
+    rows: &Option<Rows>,
+    sweep: &Option<Sweep>,
+) -> Waste {
     match rows {
-        Some(rows) => waste.counted(rows_size(alloc, rows)),
+        Some(rows) => waste.counted(rows_size(alloc, rows, sweep)),
         None => waste,
     }
 }

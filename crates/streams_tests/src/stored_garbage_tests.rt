@@ -1,9 +1,10 @@
 //! Garbage of rows that streams keep, before and after sweeps (SOSP 2011, section 5.3).
 use crate::sample_acts::{put_hello, put_no_blocks};
 use crate::sample_fields::{id, text};
+use crate::sample_wires::script;
 use crate::stored_checkpoint_tests::made;
-use crate::stored_samples::{change_of, create, stored};
-use crate::stored_sweep_samples::sweep;
+use crate::stored_samples::{change_of, create, cut, stored};
+use crate::stored_sweep_samples::{begin, end, step, steps, sweep};
 use crate::stored_waste_tests::{
     content, delete, existing, fill, is_due_at, long_body, put_bytes, reload,
 };
@@ -115,6 +116,74 @@ fn a_sweep_leaves_no_garbage_of_uncommitted_blocks(rt: HostRuntime) {
 #[test]
 fn a_sweep_leaves_no_garbage_of_deleted_containers(rt: HostRuntime) {
     each_is_swept(&rt, rt.alloc(), 4, 2);
+}
+
+// The rest of a sweep. Afterwards the streams count as the rows that exist, to the byte.
+fn go_on_until_due(
+    rt: &impl Abort,
+    alloc: Global,
+    stored: &mut StoredRows,
+    body: &Share,
+    more: u64,
+) {
+    let _steps = steps(rt, alloc, stored);
+    end(rt, stored);
+    assert!(rt; !stored.is_wasteful() && !stored.has_garbage());
+    let written = existing(rt, alloc, stored);
+    is_due_at(rt, alloc, stored, body, written, more);
+}
+
+// The rows are counted again in the middle of a sweep: by a load, or by a cut that leaves all rows in the lower half or in the upper half. The sweep
+// counts the uncommitted blocks to whose rows it comes later, and no block twice.
+fn count_between(
+    rt: &impl Abort,
+    alloc: Global,
+    stored: &mut StoredRows,
+    body: &Share,
+    way: u64,
+    more: u64,
+) {
+    let mut wire = script(rt, alloc, &[], &[]);
+    match way {
+        0 => {
+            reload(rt, alloc, stored);
+            go_on_until_due(rt, alloc, stored, body, more);
+        }
+        1 => {
+            let _upper = cut(rt, alloc, stored, "q", &mut wire).expect(rt, "an upper half");
+            go_on_until_due(rt, alloc, stored, body, more);
+        }
+        _ => {
+            let mut upper = cut(rt, alloc, stored, "pics", &mut wire).expect(rt, "an upper half");
+            go_on_until_due(rt, alloc, &mut *upper, body, more);
+        }
+    }
+}
+
+// Uncommitted blocks and much garbage, and a sweep that has made so many steps.
+fn sweep_some(rt: &impl Abort, alloc: Global, stored: &mut StoredRows, body: &Share, count: u64) {
+    let _written = fill(rt, alloc, stored, 3);
+    made(rt, alloc, stored, put_bytes(rt, alloc, body, MANY));
+    made(rt, alloc, stored, delete(rt, alloc));
+    let _asked = begin(rt, alloc, stored);
+    let mut wire = script(rt, alloc, &[], &[]);
+    for _step in 0..count {
+        let _progress = step(rt, stored, &mut wire);
+    }
+}
+
+#[test]
+fn no_uncommitted_block_is_counted_twice(rt: HostRuntime) {
+    let body = long_body(&rt, rt.alloc());
+    for way in 0..3 {
+        for count in 0..5 {
+            for more in 0..2 {
+                let mut stored = stored(&rt, rt.alloc());
+                sweep_some(&rt, rt.alloc(), &mut *stored, &body, count);
+                count_between(&rt, rt.alloc(), &mut *stored, &body, way, more);
+            }
+        }
+    }
 }
 
 // The change that puts an uncommitted block of 4 MiB under an id of this letter.

@@ -62,6 +62,28 @@ fn a_step_ends_at_each_limit(rt: HostRuntime) {
     assert_eq!(rt; count(&rt, rt.alloc(), 100, 2, 5), 1);
 }
 
+// The same, if the one block is not committed.
+fn count_uncommitted(rt: &impl Abort, alloc: Global, blocks: u64, bytes: u64) -> usize {
+    let mut stored = stored(rt, alloc);
+    made(rt, alloc, &mut *stored, create(rt, alloc, "pics"));
+    let older = put_block_of(rt, alloc, pieces(rt, alloc, b"older"));
+    made(rt, alloc, &mut *stored, change_of(rt, alloc, "pics", older));
+    let _asked = begin(rt, alloc, &mut *stored);
+    let limit = StepLimit {
+        rows: 100,
+        blocks,
+        bytes,
+    };
+    steps_upto(rt, alloc, &mut *stored, limit)
+}
+
+#[test]
+fn a_step_counts_uncommitted_blocks(rt: HostRuntime) {
+    assert_eq!(rt; count_uncommitted(&rt, rt.alloc(), 2, 6), 0);
+    assert_eq!(rt; count_uncommitted(&rt, rt.alloc(), 1, 6), 1);
+    assert_eq!(rt; count_uncommitted(&rt, rt.alloc(), 2, 5), 1);
+}
+
 // A change after each number of steps, with all that it reads touched before.
 fn change_between(rt: &impl Abort, alloc: Global, stored: &mut StoredRows, count: usize) {
     fill(rt, alloc, stored);
@@ -216,20 +238,103 @@ fn a_part_that_was_made_before_a_sweep_is_read_after_it(rt: HostRuntime) {
     read_later(&rt, rt.alloc(), &mut *stored);
 }
 
-// A cut ends a sweep of both halves.
-fn cut_between(rt: &impl Abort, alloc: Global, stored: &mut StoredRows) {
-    fill(rt, alloc, stored);
-    let _asked = begin(rt, alloc, stored);
+// After so many steps of a sweep: how many rows are written, and how many records each half has once both halves have gone on and have ended it. A row
+// that was written before the cut is not written again, and each half has it.
+fn records_after(steps: usize) -> (usize, usize, usize) {
+    match steps {
+        0 => (0, 2, 2),
+        1 => (1, 2, 3),
+        2 => (1, 2, 3),
+        3 => (2, 2, 4),
+        4 => (2, 2, 4),
+        5 => (3, 3, 4),
+        _ => (4, 4, 4),
+    }
+}
+
+// The upper half of a cut after so many steps of a sweep: both halves are sweeping.
+fn cut_after(
+    rt: &impl Abort,
+    alloc: Global,
+    lower: &mut StoredRows,
+    count: usize,
+) -> Box<StoredRows> {
+    fill(rt, alloc, lower);
+    let _asked = begin(rt, alloc, lower);
     let mut wire = script(rt, alloc, &[], &[]);
-    let _progress = step(rt, stored, &mut wire);
-    let upper = cut(rt, alloc, stored, "pics", &mut wire).expect(rt, "an upper half");
-    assert!(rt; !stored.is_sweeping() && !upper.is_sweeping());
+    for _step in 0..count {
+        let _progress = step(rt, lower, &mut wire);
+    }
+    let upper = cut(rt, alloc, lower, "pics", &mut wire).expect(rt, "an upper half");
+    assert!(rt; lower.is_sweeping() && upper.is_sweeping());
+    upper
+}
+
+fn is_lower(rt: &impl Abort, alloc: Global, lower: &StoredRows) {
+    assert_eq!(rt; look(rt, alloc, lower, "other"), Seen::Empty(1));
+    assert_eq!(rt; look(rt, alloc, lower, "gone"), Seen::Deleted(2));
+    assert_eq!(rt; look_in_rows(rt, alloc, lower, "pics"), Seen::Never);
+}
+
+// The rest of a sweep of one half, and how many records the half has then.
+fn go_on(rt: &impl Abort, alloc: Global, half: &mut StoredRows, records: usize) {
+    let _steps = steps(rt, alloc, half);
+    end(rt, half);
+    reload(rt, alloc, half, records);
+}
+
+// The lower half ends the sweep first. Until the upper half ends it too, the upper half has all changes of both halves, and the content before the mark.
+fn end_one_by_one(rt: &impl Abort, alloc: Global, lower: &mut StoredRows, count: usize) {
+    let (written, of_lower, of_upper) = records_after(count);
+    let mut upper = cut_after(rt, alloc, lower, count);
+    go_on(rt, alloc, lower, of_lower);
+    is_lower(rt, alloc, lower);
+    reload(rt, alloc, &mut *upper, 6 + written);
+    assert!(rt; upper.is_sweeping());
+    assert_eq!(rt; look(rt, alloc, &*upper, "pics"), Seen::Blob(3, 5));
+    let before = part(rt, alloc, &mut *upper, "pics", 0);
+    assert!(rt; is_hello(rt, alloc, &before, 1));
+    go_on(rt, alloc, &mut *upper, of_upper);
+    assert_eq!(rt; look(rt, alloc, &*upper, "pics"), Seen::Blob(3, 5));
+    // If the cut came after the row of the blob was written, its content is sealed.
+    let sealed = count / 6;
+    let after = part(rt, alloc, &mut *upper, "pics", 1 - sealed);
+    assert!(rt; is_hello(rt, alloc, &after, sealed));
+    is_lower(rt, alloc, lower);
 }
 
 #[test]
-fn a_cut_ends_a_sweep(rt: HostRuntime) {
+fn each_half_goes_on_with_a_sweep_and_ends_it(rt: HostRuntime) {
+    for count in 0..8 {
+        let mut stored = stored(&rt, rt.alloc());
+        end_one_by_one(&rt, rt.alloc(), &mut *stored, count);
+    }
+}
+
+// A row is touched before the cut. The upper half does not know it, and a change of each half is kept.
+fn change_both_halves(rt: &impl Abort, alloc: Global, lower: &mut StoredRows) {
+    fill(rt, alloc, lower);
+    let _asked = begin(rt, alloc, lower);
+    touch_and_take(rt, alloc, lower, put(rt, alloc, "pics"));
+    let mut wire = script(rt, alloc, &[], &[]);
+    let mut upper = cut(rt, alloc, lower, "pics", &mut wire).expect(rt, "an upper half");
+    let named = set_metadata(rt, alloc);
+    touch_and_take(rt, alloc, &mut *upper, change_of(rt, alloc, "pics", named));
+    touch_and_take(rt, alloc, lower, create(rt, alloc, "gone"));
+    // The row of `pics` and the put, then the row of `gone` and the create, and two rows of steps.
+    go_on(rt, alloc, lower, 2 + 2 + 2);
+    assert_eq!(rt; look(rt, alloc, lower, "gone"), Seen::Empty(3));
+    assert_eq!(rt; look(rt, alloc, lower, "other"), Seen::Empty(1));
+    // The row of `pics` and the put, then both rows and the metadata, and two rows of steps.
+    go_on(rt, alloc, &mut *upper, 2 + 3 + 2);
+    assert_eq!(rt; look(rt, alloc, &*upper, "pics"), Seen::Blob(5, 5));
+    reads_hello(rt, alloc, &mut *upper);
+}
+
+#[test]
+fn changes_of_both_halves_are_kept_by_a_sweep(rt: HostRuntime) {
     let mut stored = stored(&rt, rt.alloc());
-    cut_between(&rt, rt.alloc(), &mut *stored);
+    change_both_halves(&rt, rt.alloc(), &mut *stored);
 }
 
 // The lower half has `gone` and `other`, and the upper half has `pics`, which stays in the old data.

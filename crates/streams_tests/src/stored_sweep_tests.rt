@@ -107,15 +107,34 @@ fn a_checkpoint_ends_a_sweep(rt: HostRuntime) {
     write_anew(&rt, rt.alloc(), &mut *stored);
 }
 
-fn cut_under_way(rt: &impl Abort, alloc: Global, stored: &mut StoredRows) {
-    fill_and_begin(rt, alloc, stored);
+// A sweep that has written no row goes on in both halves of a cut, and in the halves of a half.
+fn cut_under_way(rt: &impl Abort, alloc: Global, lower: &mut StoredRows) {
+    fill_and_begin(rt, alloc, lower);
+    let mut wire = script(rt, alloc, &[], &[]);
+    let mut middle = cut(rt, alloc, lower, "other", &mut wire).expect(rt, "an upper half");
+    let mut upper = cut(rt, alloc, &mut *middle, "pics", &mut wire).expect(rt, "an upper half");
+    // Since the seal no block was put.
+    assert!(rt; wire.called().is_empty());
+    goes_on(rt, lower);
+    goes_on(rt, &mut *middle);
+    goes_on(rt, &mut *upper);
+}
+
+#[test]
+fn a_sweep_goes_on_in_both_halves_of_a_cut(rt: HostRuntime) {
+    let mut stored = stored(&rt, rt.alloc());
+    cut_under_way(&rt, rt.alloc(), &mut *stored);
+}
+
+fn cut_at_rest(rt: &impl Abort, alloc: Global, stored: &mut StoredRows) {
+    fill(rt, alloc, stored);
     let mut wire = script(rt, alloc, &[], &[]);
     let upper = cut(rt, alloc, stored, "pics", &mut wire).expect(rt, "an upper half");
     assert!(rt; !stored.is_sweeping() && !upper.is_sweeping());
 }
 
 #[test]
-fn a_cut_ends_a_sweep_of_both_halves(rt: HostRuntime) {
+fn a_cut_begins_no_sweep(rt: HostRuntime) {
     let mut stored = stored(&rt, rt.alloc());
-    cut_under_way(&rt, rt.alloc(), &mut *stored);
+    cut_at_rest(&rt, rt.alloc(), &mut *stored);
 }

@@ -2,18 +2,20 @@
 ghost use Rattle.std.specs.Prelude.{◌≡◌};
 
 use super::StoredRows;
-use crate::sweep::{Sweep, Swept, end_if_over};
+use crate::sweep::{Sweep, Swept, Written, end_if_over};
 use extent_node::Wire;
 use partition_stream::{GivenUp, Mark};
+use stamp_values::{Keyed, Named};
 use stream_manager::StoredFault;
 
-/// All that came before the mark of a sweep, as it was given up at its end. To drop it takes time for each of its blocks, so a caller may drop it
-/// once it holds no lock.
+/// All that came before the mark of a sweep, as it was given up at its end, and the names of the rows that were touched. To drop them takes time for each
+/// block and each name, so a caller may drop them once it holds no lock.
 #[derive(Drop)]
 pub struct SweptAway {
     /// How many extents of the log and of the data were sealed when the sweep began.
     pub mark: Mark,
     given: GivenUp,
+    touched: Keyed<Named<Written>>,
 }
 
 impl StoredRows {
@@ -83,9 +85,18 @@ impl StoredRows {
         ensures rows { IfSome result (λ away. (logged self.new.streams).rows ≡ []) }
         ensures refused { result ≡ None → self.new ≡ self.old }
     {
-        let Swept { mark, room, began } = end_if_over(&mut self.sweep)?;
+        let Swept {
+            mark,
+            room,
+            began,
+            touched,
+        } = end_if_over(&mut self.sweep)?;
         self.waste = self.waste.after_sweep(began);
         let given = self.streams.give_up_before(mark, room);
-        Some(SweptAway { mark, given })
+        Some(SweptAway {
+            mark,
+            given,
+            touched,
+        })
     }
 }

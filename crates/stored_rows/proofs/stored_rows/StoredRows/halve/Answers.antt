@@ -8,9 +8,9 @@ use Rattle.stored_rows.specs.Ranges.{covers}
 use Rattle.stored_rows.specs.States.{IsHalf, MeansTheSame, Stored, doubt_of}
 use Rattle.stored_rows.specs.declared.key_range.KeyRange.{KeyRange}
 use Rattle.stored_rows.specs.Swept.{AreSwept}
-use Rattle.stored_rows.specs.declared.sweep.Sweep.{Sweep}
 use Rattle.partition_stream.specs.Compactions.{HaveLimit}
 use Rattle.stored_rows.proofs.CutLemmas.{is_some-map}
+use Rattle.stored_rows.proofs.HalfSweptLemmas.{lower_swept, upper_swept}
 use Rattle.stored_rows.proofs.LimitLemmas.{limit_kept}
 use Rattle.stored_rows.proofs.TakeLemmas.{half_means, lower_loaded, means_itself, same_streams, sealed_sure, still_none, upper_loaded}
 use Rattle.stored_rows.proofs.RowDoubtLemmas.{no_row}
@@ -22,13 +22,15 @@ invariant_of-result c =
     let own : c.args.upper ≡ record { from = c.args.middle; to = c.self.inside.range.to } =
     subst (λ (v : Stored). c.args.upper ≡ record { from = c.args.middle; to = v.range.to }) (sym c.self.view_is) c.requires.upper in
     record {
-      loaded = subst (λ (r : KeyRange). AreLoaded c.in-Ok.streams c.in-Ok.rows None r) (sym own)
-          (subst (λ o. AreLoaded c.in-Ok.streams o None (record { from = c.args.middle; to = c.self.inside.range.to })) (sym c.in-Ok.ensures.from)
-          (upper_loaded c.self.inside.streams c.in-Ok.streams c.self.inside.rows c.self.inside.doubt c.self.inside.range c.args.middle c.self.invariant.loaded covered
-          c.in-Ok.ensures.shared (sealed_sure c.in-Ok.streams c.in-Ok.ensures.whole)));
-      limits = limit_kept c.self.inside.extent_bytes c.self.inside.streams c.in-Ok.streams c.self.invariant.limits c.in-Ok.ensures.limits;
-      swept = tt;
-      again = no_row c.in-Ok.streams None (sealed_sure c.in-Ok.streams c.in-Ok.ensures.whole);
+      loaded = subst (λ (r : KeyRange). AreLoaded c.in-Ok.field-0.streams c.in-Ok.field-0.rows None r) (sym own)
+          (subst (λ o. AreLoaded c.in-Ok.field-0.streams o None (record { from = c.args.middle; to = c.self.inside.range.to })) (sym c.in-Ok.ensures.from)
+          (upper_loaded c.self.inside.streams c.in-Ok.field-0.streams c.self.inside.rows c.self.inside.doubt c.self.inside.range c.args.middle c.self.invariant.loaded covered
+          c.in-Ok.ensures.shared (sealed_sure c.in-Ok.field-0.streams c.in-Ok.ensures.whole)));
+      limits = limit_kept c.self.inside.extent_bytes c.self.inside.streams c.in-Ok.field-0.streams c.self.invariant.limits c.in-Ok.ensures.limits;
+      swept = subst (λ (r : KeyRange). IfSome c.in-Ok.field-0.sweep (λ w. AreSwept w r c.in-Ok.field-0.streams)) (sym own)
+          (upper_swept c.self.inside.range c.args.middle covered c.self.inside.streams c.in-Ok.field-0.streams c.in-Ok.ensures.shared (sealed_sure c.in-Ok.field-0.streams c.in-Ok.ensures.whole)
+          c.self.inside.sweep c.in-Ok.field-0.sweep c.self.invariant.swept c.in-Ok.ensures.sweep);
+      again = no_row c.in-Ok.field-0.streams None (sealed_sure c.in-Ok.field-0.streams c.in-Ok.ensures.whole);
     }
 
 pub invariant_of-self : goal.invariant_of-self
@@ -44,7 +46,7 @@ invariant_of-self c =
           (lower_loaded s t c.self.inside.rows c.self.inside.doubt c.self.inside.range c.args.middle c.self.invariant.loaded covered same sure
           (still_none s t c.self.inside.doubt c.self.invariant.loaded.tried none sure));
       limits = subst (HaveLimit c.self.inside.extent_bytes) (sym c.share_upper.ensures.same) c.self.invariant.limits;
-      swept = subst (λ (v : Option Sweep). IfSome v (λ w. AreSwept w (record { from = c.self.inside.range.from; to = Some c.args.middle }) t)) (sym c.end_sweep.ensures) tt;
+      swept = lower_swept c.self.inside.range c.args.middle covered s t same sure c.self.inside.sweep c.self.invariant.swept;
       again = no_row t c.self.inside.spare sure;
     }
 
@@ -63,10 +65,10 @@ returns-in-Ok-clause-lower c =
 
 pub returns-in-Ok-clause-upper : goal.returns-in-Ok-clause-upper
 returns-in-Ok-clause-upper c =
-    let new : Stored = record { streams = c.in-Ok.streams; range = c.args.upper; is_loaded = is_some c.in-Ok.rows } in
+    let new : Stored = record { streams = c.in-Ok.field-0.streams; range = c.args.upper; is_loaded = is_some c.in-Ok.field-0.rows } in
     subst (λ (v : Stored). IsHalf c.args.upper v new) c.self.view_is
-    (half_means c.self.inside.streams c.in-Ok.streams (is_some c.self.inside.rows) (is_some c.in-Ok.rows) c.self.inside.range c.args.upper
-    c.in-Ok.ensures.shared (sealed_sure c.in-Ok.streams c.in-Ok.ensures.whole)
+    (half_means c.self.inside.streams c.in-Ok.field-0.streams (is_some c.self.inside.rows) (is_some c.in-Ok.field-0.rows) c.self.inside.range c.args.upper
+    c.in-Ok.ensures.shared (sealed_sure c.in-Ok.field-0.streams c.in-Ok.ensures.whole)
     (ap is_some c.in-Ok.ensures.from ∙ is_some-map (λ w. finite.retain_keys w (is_from c.args.middle)) c.self.inside.rows))
 
 pub returns-in-Err-clause-refused : goal.returns-in-Err-clause-refused
