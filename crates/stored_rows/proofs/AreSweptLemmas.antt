@@ -1,10 +1,6 @@
 -- Streams of a range that is swept: what each call leaves of it.
-use Rattle.std.proofs.Common.{◌≡◌, ◌≤◌, ◌+◌, ◌∙◌, ℕ, Bool, true, Option, Some, None, IfSome, IfOk, Result, Ok, Err, List, [], ◌∷◌, ◌++◌, length, ap, sym, refl, subst, append-nil, arith}
-use Rattle.stamp_values.specs.declared.key.Key.{Key}
-use Rattle.stamp_types.specs.Changes.{KeyedAct}
-use Rattle.stamp_types.specs.Contents.{EachActContent}
+use Rattle.std.proofs.Common.{◌≡◌, ◌≤◌, ◌+◌, ◌∙◌, true, Option, Some, None, IfSome, List, [], ◌∷◌, ◌++◌, length, sym, refl, subst, append-nil, arith}
 use Rattle.stamp_types.specs.World.{Part}
-use Rattle.stamp_types.specs.declared.act.Act.{Act}
 use Rattle.stamp_types.specs.declared.piece.Piece.{Piece}
 use Rattle.stream_manager.specs.Places.{GoesOn}
 use Rattle.stream_manager.specs.Streams.{Streamed, laid}
@@ -12,13 +8,12 @@ use Rattle.stream_manager.proofs.ReadLemmas.{count_of_extents}
 use Rattle.partition_stream.specs.Changes.{Recorded}
 use Rattle.partition_stream.specs.Meanings.{IsOneMore, held_of}
 use Rattle.partition_stream.specs.Streams.{ThreeStreams, logged}
-use Rattle.partition_stream.specs.Sweeping.{AreFrom, changes_from}
-use Rattle.partition_stream.specs.declared.mark.Mark.{Mark}
+use Rattle.partition_stream.specs.Sweeping.{changes_from}
 use Rattle.partition_stream.proofs.SweepingLemmas.{more_since, room_stays}
 use Rattle.stored_rows.specs.Fitting.{Fits}
 use Rattle.stored_rows.specs.Logging.{KeepsLog}
 use Rattle.stored_rows.specs.Ranges.{covers}
-use Rattle.stored_rows.specs.Swept.{AllNews, AreSwept, IsLoggable, MayLog, with_new_change}
+use Rattle.stored_rows.specs.Swept.{AreSwept, IsLoggable, MayLog, with_new_change}
 use Rattle.stored_rows.specs.declared.key_range.KeyRange.{KeyRange}
 use Rattle.stored_rows.specs.declared.sweep.Sweep.{Sweep}
 use Rattle.stored_rows.proofs.KnownLemmas.{known_more, known_same}

@@ -17,7 +17,7 @@ use Rattle.partition_stream.specs.Streams.{ThreeStreams, logged}
 use Rattle.stored_rows.specs.Loaded.{AreRowsOf}
 use Rattle.stored_rows.specs.NextRows.{IsNextContainer, IsOutside}
 use Rattle.stored_rows.specs.Ranges.{covers}
-use Rattle.stored_rows.specs.Swept.{AllNews, AreSwept, IsBegun, IsNewRow, is_past, is_past_blob, is_past_in, is_touched, is_upto}
+use Rattle.stored_rows.specs.Swept.{AreSwept, IsBegun, IsNewRow, is_past, is_past_blob, is_past_in, is_touched, is_upto}
 use Rattle.stored_rows.specs.declared.cursor.Cursor.{Cursor}
 use Rattle.stored_rows.specs.declared.cursor.Cursor.TheVariants as cursor
 use Rattle.stored_rows.specs.declared.key_range.KeyRange.{KeyRange}

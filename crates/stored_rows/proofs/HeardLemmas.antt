@@ -1,5 +1,5 @@
 -- Calls of stored rows hear as their calls of the streams do.
-use Rattle.std.proofs.Common.{◌≡◌, ◌≢◌, Result, Ok, Err, subst, sym}
+use Rattle.std.proofs.Common.{◌≡◌, ◌≢◌, Result, Ok, Err}
 use Rattle.extent_node.specs.Faults.{Calls}
 use Rattle.extent_seal.specs.Heard.{AsksAreHeard}
 use Rattle.extent_seal.specs.declared.sealed.ReadFault.{ReadFault}

@@ -5,7 +5,6 @@ use Rattle.std.proofs.lemmas.Bool.{eqb-true}
 use Rattle.std.specs.FinMap as finite
 use Rattle.std.specs.Option.{option_map}
 use Rattle.std.specs.Ordering.{eq_by_cmp}
-use Rattle.std.specs.Cmp.{eq_by_cmp_equiv}
 use Rattle.stamp_values.specs.Order.{name_cmp, names_total}
 use Rattle.stamp_values.specs.declared.key.Key.{Key}
 use Rattle.stamp_types.specs.ActKinds.{is_row}
@@ -20,7 +19,7 @@ use Rattle.partition_stream.specs.Meanings.{IsOneMore, held_of, is_on}
 use Rattle.partition_stream.specs.Streams.{ThreeStreams, logged}
 use Rattle.partition_stream.proofs.MeaningLemmas.{held_of-other, held_of-own}
 use Rattle.row_trees.specs.Halfway.{IsNew, IsTouched, News, news_after, no_news, with_new}
-use Rattle.stored_rows.specs.Swept.{AllNews, IsBegun, IsKnown, IsNewRow, IsUnseen, MayLog, Names, is_past, is_past_blob, is_touched, is_touched_blob, is_unseen, knows_blob, knows_name, knows_read, knows_row, may_log, next_news, with_new_change}
+use Rattle.stored_rows.specs.Swept.{AllNews, IsBegun, IsKnown, IsNewRow, IsUnseen, MayLog, Names, is_unseen, knows_blob, knows_name, knows_read, knows_row, may_log, next_news, with_new_change}
 use Rattle.stored_rows.specs.declared.cursor.Cursor.{Cursor}
 use Rattle.stored_rows.proofs.FittingLemmas.{is_on-own, is_on-same}
 use Rattle.stored_rows.proofs.LoadLemmas.{other_key}

@@ -1,7 +1,7 @@
 -- A row that is in doubt: what is kept of it, and how its doubt ends.
-use Rattle.std.proofs.Common.{◌≡◌, ◌≢◌, ◌∙◌, ◌++◌, ◌∷◌, [], ℕ, Bool, true, false, cond, IsTrue, List, Option, Some, None, IfSome, IsSome, Result, Ok, Err, ap, refl, sym, subst}
+use Rattle.std.proofs.Common.{◌≡◌, ◌≢◌, ◌∙◌, ◌++◌, ◌∷◌, [], Bool, true, false, cond, List, Option, Some, None, IfSome, IsSome, Result, Ok, Err, ap, refl, sym, subst}
 use Rattle.std.specs.FinMap as finite
-use Rattle.std.specs.Option.{option_and_then, option_map}
+use Rattle.std.specs.Option.{option_map}
 use Rattle.std.specs.Prelude.{OnErr, OnOk, is_some}
 use Rattle.extent_node.specs.Copies.{Block}
 use Rattle.extent_node.specs.Faults.{Calls}
@@ -32,24 +32,23 @@ use Rattle.partition_stream.specs.declared.faults.TakeFault.{TakeFault}
 use Rattle.partition_stream.specs.declared.faults.TakeFault.TheVariants as take
 use Rattle.stored_rows.specs.Counting.{FailsStored}
 use Rattle.stored_rows.specs.Faults.{unlogged_by}
-use Rattle.stored_rows.specs.Loaded.{AreLoaded, AreRowsOf, IsFollowed, doubted}
+use Rattle.stored_rows.specs.Loaded.{AreLoaded, AreRowsOf, IsFollowed}
 use Rattle.stored_rows.specs.Logging.{IsPutAndLogged, with_placed}
 use Rattle.stored_rows.specs.Noting.{IfKept}
 use Rattle.stored_rows.specs.Ranges.{covers}
 use Rattle.stored_rows.specs.Rewriting.{IfLogged, IsRowLogged}
 use Rattle.stored_rows.specs.RowDoubts.{EndsRow, FitsMemory, FitsRowDoubt, HasRow, HasSpare, IsKeptReady, ended_row_by, stored_blob_of}
 use Rattle.stored_rows.specs.States.{own_doubt}
-use Rattle.stored_rows.specs.Swept.{AreSwept, IsAgain, IsRowInDoubt}
+use Rattle.stored_rows.specs.Swept.{AreSwept, IsAgain}
 use Rattle.stored_rows.specs.declared.key_range.KeyRange.{KeyRange}
 use Rattle.stored_rows.specs.declared.logging.Unlogged.{Unlogged}
 use Rattle.stored_rows.specs.declared.logging.Unlogged.TheVariants as fault
 use Rattle.stored_rows.specs.declared.sweep.Sweep.{Sweep}
-use Rattle.stored_rows.proofs.CheckpointLemmas.{row_fits}
 use Rattle.stored_rows.proofs.CountLemmas.{settle_fails, settle_grows}
 use Rattle.stored_rows.proofs.FittingLemmas.{all_fit_more}
 use Rattle.stored_rows.proofs.LoadLemmas.{part_of-covered}
 use Rattle.stored_rows.proofs.RowAgainLemmas.{container_row_keeps, row_doubt_kept}
-use Rattle.stored_rows.proofs.StepLemmas.{IsRowFor, again_row, same_rows}
+use Rattle.stored_rows.proofs.StepLemmas.{IsRowFor, same_rows}
 use Rattle.stored_rows.proofs.TakeLemmas.{clean_loaded, doubt_own, dropped_loaded, held_same, kept_loaded, log_keeps, meaning_same, no_doubt, one_more, same_log_doubt, same_log_keeps, undoubted}
 
 -- ---- what is kept of a row in doubt

@@ -1,11 +1,9 @@
 -- The row of a container or of a blob that is logged again.
-use Rattle.std.proofs.Common.{◌≡◌, ◌∙◌, ◌++◌, ◌&&◌, ◌<◌, ℕ, Bool, true, false, List, [], ◌∷◌, Option, Some, None, IfSome, IsSome, IsSomeAnd, IsTrue, Result, Ok, Err, append-nil, length, inl, inr, ap, refl, subst, sym, unwrap_or}
+use Rattle.std.proofs.Common.{◌≡◌, ◌∙◌, ◌++◌, ◌&&◌, ◌<◌, true, List, [], ◌∷◌, Option, Some, None, IsSome, IsSomeAnd, IsTrue, Result, Ok, Err, length, inl, inr, ap, refl, subst, sym, unwrap_or}
 use Rattle.std.specs.FinMap as finite
-use Rattle.std.specs.Option.{option_and_then, option_to_list}
-use Rattle.extent_node.specs.Copies.{Block}
+use Rattle.std.specs.Option.{option_and_then}
 use Rattle.extent_node.specs.Faults.{Calls}
 use Rattle.extent_seal.specs.Counting.{Grows}
-use Rattle.stamp_values.specs.declared.key.Key.{Key}
 use Rattle.std.proofs.lemmas.Bool.{and_parts}
 use Rattle.stamp_values.specs.Names.{is_account, is_container}
 use Rattle.stamp_types.specs.Changes.{KeyedAct, is_act, is_change, is_stored_blob}

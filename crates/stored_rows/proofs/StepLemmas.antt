@@ -1,5 +1,5 @@
 -- Rows that are written again: what is true of stored rows, and of a sweep, is true of them afterwards.
-use Rattle.std.proofs.Common.{◌≡◌, ◌≤◌, ◌==◌, ◌∙◌, ◌⊎◌, ℕ, inl, inr, Bool, true, false, cond, Option, Some, None, IfSome, IsSome, IsTrue, Result, Ok, Err, ◌||◌, List, [], ◌∷◌, ap, refl, sym, subst}
+use Rattle.std.proofs.Common.{◌≡◌, ◌≤◌, ◌==◌, ◌∙◌, ◌⊎◌, inl, inr, Bool, true, false, cond, Option, Some, None, IfSome, IsSome, Result, Ok, Err, ◌||◌, List, [], ◌∷◌, ap, refl, sym, subst}
 use Rattle.std.proofs.lemmas.Bool.{eqb-true}
 use Rattle.std.specs.FinMap as finite
 use Rattle.std.specs.Prelude.{is_none, length}
@@ -7,8 +7,7 @@ use Rattle.extent_node.specs.Copies.{Block}
 use Rattle.stamp_values.specs.declared.key.Key.{Key}
 use Rattle.stamp_types.specs.ActKinds.{is_row}
 use Rattle.stamp_types.specs.Changes.{KeyedAct}
-use Rattle.stamp_types.specs.Contents.{EachActContent}
-use Rattle.stamp_types.specs.World.{Part, World, changed_in, no_part, part_at, same_pieces}
+use Rattle.stamp_types.specs.World.{Part, World, changed_in, part_at, same_pieces}
 use Rattle.stamp_types.specs.declared.act.Act.{Act}
 use Rattle.stamp_types.specs.declared.act.Act.TheVariants as act
 use Rattle.stamp_types.specs.declared.act.StoredBlob.{StoredBlob}
@@ -20,11 +19,9 @@ use Rattle.partition_stream.specs.Changes.{Recorded}
 use Rattle.partition_stream.specs.Meanings.{IsOneMore, held_of}
 use Rattle.partition_stream.specs.Positions.{all_changes}
 use Rattle.partition_stream.specs.Streams.{ThreeStreams, logged}
-use Rattle.partition_stream.specs.Sweeping.{AreFrom}
-use Rattle.partition_stream.specs.declared.mark.Mark.{Mark}
 use Rattle.stored_rows.specs.Fitting.{Fits}
 use Rattle.row_trees.specs.Halfway.{News}
-use Rattle.stored_rows.specs.Loaded.{AreLoaded, AreRowsOf, part_of}
+use Rattle.stored_rows.specs.Loaded.{AreLoaded, part_of}
 use Rattle.stored_rows.specs.Logging.{KeepsLog}
 use Rattle.stored_rows.specs.Ranges.{covers}
 use Rattle.stored_rows.specs.Swept.{AllNews, AreSwept, IsAgain, IsBegun, IsLoggable, IsNewRow, MayLog, is_unseen, with_new_change}
@@ -56,7 +53,7 @@ use Rattle.stored_rows.proofs.TakeLemmas.{held_same, meaning_same}
 use Rattle.stored_rows.proofs.AreSweptLemmas.{swept_doubts, swept_news}
 use Rattle.stored_rows.proofs.CheckpointLemmas.{row_fits}
 use Rattle.stored_rows.proofs.FittingLemmas.{all_fit_more, all_more}
-use Rattle.stored_rows.proofs.KnownLemmas.{begun_next, both_true, new_more, none_of, none_some, nothing_in}
+use Rattle.stored_rows.proofs.KnownLemmas.{begun_next, both_true, none_of, none_some, nothing_in}
 use Rattle.stored_rows.proofs.LoadLemmas.{have_more_covered, part_of-apart, part_of-covered}
 use Rattle.stored_rows.proofs.RowAgainLemmas.{container_row_keeps}
 use Rattle.stored_rows.proofs.TakeLemmas.{loaded_same, no_doubt, still_none}

@@ -1,15 +1,15 @@
 -- Stored rows after one row of a sweep.
-use Rattle.std.proofs.Common.{◌≡◌, ◌≤◌, ◌==◌, ◌&&◌, ◌||◌, ◌∙◌, ◌⊎◌, inl, inr, ℕ, Bool, true, false, IsTrue, Option, Some, None, IfSome, IsSome, Result, Ok, Err, List, ap, refl, sym, subst, unwrap_or, arith}
+use Rattle.std.proofs.Common.{◌≡◌, ◌≤◌, ◌==◌, ◌&&◌, ◌||◌, ◌∙◌, ◌⊎◌, inl, inr, ℕ, Bool, true, false, Option, Some, None, IfSome, IsSome, Result, Ok, Err, List, ap, refl, sym, subst, unwrap_or, arith}
 use Rattle.std.proofs.lemmas.Bool.{eqb-false, eqb-true}
 use Rattle.std.specs.Cmp.{eq_by_cmp_equiv}
 use Rattle.std.specs.FinMap as finite
 use Rattle.std.specs.Global.{Vec}
 use Rattle.std.specs.Ordering.{is_eq, is_le}
-use Rattle.std.specs.Prelude.{is_none, is_some, not}
+use Rattle.std.specs.Prelude.{is_none, not}
 use Rattle.std.specs.declared.cmp.Ordering.{Ordering}
 use Rattle.std.specs.declared.cmp.Ordering.TheVariants.{Less, Equal, Greater}
 use Rattle.stamp_values.specs.Order.{key_cmp, keys_total}
-use Rattle.stamp_values.specs.Trees.{is_from, is_name_from}
+use Rattle.stamp_values.specs.Trees.{is_name_from}
 use Rattle.stamp_values.specs.declared.key.Key.{Key}
 use Rattle.stamp_types.specs.Changes.{KeyedAct}
 use Rattle.stamp_types.specs.World.{Blob, Part, World, blob_in, no_blob, no_part, part_at}
@@ -17,14 +17,12 @@ use Rattle.stamp_types.specs.declared.act.Act.{Act}
 use Rattle.stamp_types.specs.declared.act.Act.TheVariants as act
 use Rattle.stamp_types.specs.declared.act.StoredBlob.{StoredBlob}
 use Rattle.stamp_types.specs.declared.piece.Piece.{Piece}
-use Rattle.block_blobs.specs.StoredRows.{is_left, row_of}
+use Rattle.block_blobs.specs.StoredRows.{is_left}
 use Rattle.row_trees.specs.RowRecords.{blob_row_of, container_row_of}
-use Rattle.stream_manager.specs.Streams.{laid}
-use Rattle.partition_stream.specs.Changes.{Recorded}
-use Rattle.partition_stream.specs.Meanings.{held_of, meaning}
+use Rattle.partition_stream.specs.Meanings.{held_of}
 use Rattle.partition_stream.specs.Positions.{all_changes}
 use Rattle.partition_stream.specs.Storing.{AreKept}
-use Rattle.partition_stream.specs.Streams.{HaveSameLimits, ThreeStreams, logged}
+use Rattle.partition_stream.specs.Streams.{ThreeStreams, logged}
 use Rattle.partition_stream.specs.declared.faults.TakeFault.{TakeFault}
 use Rattle.row_trees.proofs.RowSwaps.{left_is_there}
 use Rattle.checkpoint_rows.specs.Writing.{IsWritableBlob}
@@ -37,10 +35,10 @@ use Rattle.stored_rows.specs.Loaded.{AreLoaded}
 use Rattle.stored_rows.specs.NextRows.{IsNextBlob, IsNextContainer, IsOutside}
 use Rattle.stored_rows.specs.Noting.{taken_by}
 use Rattle.stored_rows.specs.Ranges.{covers}
-use Rattle.stored_rows.specs.Rewriting.{AreOfOneBlob, FailsStep, GoOn, IfLogged, IsBlobRow, IsRewritten, IsRowLogged, IsStepped, IsSwapped, LeavesRowDoubt, doubt_after}
+use Rattle.stored_rows.specs.Rewriting.{AreOfOneBlob, FailsStep, GoOn, IfLogged, IsRewritten, IsRowLogged, IsStepped, IsSwapped, LeavesRowDoubt, doubt_after}
 use Rattle.stored_rows.specs.RowDoubts.{HasSpare}
 use Rattle.stored_rows.specs.States.{Stored}
-use Rattle.stored_rows.specs.Swept.{AreSwept, IsAgain, IsBegun, IsNewRow, is_past, is_touched, is_unseen, is_upto, knows_row, with_blob_row, with_container, with_new_change}
+use Rattle.stored_rows.specs.Swept.{AreSwept, IsBegun, IsNewRow, is_past, is_touched, is_unseen, is_upto, knows_row, with_blob_row, with_container, with_new_change}
 use Rattle.stored_rows.specs.declared.cursor.Cursor.TheVariants as cursor
 use Rattle.stored_rows.specs.declared.key_range.KeyRange.{KeyRange}
 use Rattle.stored_rows.specs.declared.logging.Unlogged.{Unlogged}
@@ -50,7 +48,7 @@ use Rattle.stored_rows.proofs.CheckpointLemmas.{rows_writable}
 use Rattle.stored_rows.proofs.CountLemmas.{fails_later, grows_twice}
 use Rattle.stored_rows.proofs.CursorLemmas.{none_new}
 use Rattle.stored_rows.proofs.CursorMoves.{past_blob, past_container}
-use Rattle.stored_rows.proofs.KnownLemmas.{begun_more, either_true, new_more, nothing_in}
+use Rattle.stored_rows.proofs.KnownLemmas.{either_true, new_more, nothing_in}
 use Rattle.stored_rows.proofs.LoadLemmas.{part_of-apart, part_of-covered}
 use Rattle.stored_rows.proofs.RowDoubtLemmas.{no_row, own_spare, row_again}
 use Rattle.stored_rows.proofs.RowWriteLemmas.{logged_then}

@@ -18,7 +18,7 @@ use Rattle.stream_manager.specs.declared.faults.Settled.TheVariants as settled
 use Rattle.stream_manager.specs.declared.faults.StoredFault.{StoredFault}
 use Rattle.stream_manager.proofs.RunLemmas.{stays_on}
 use Rattle.partition_stream.specs.Changes.{Recorded, changes_of}
-use Rattle.partition_stream.specs.Meanings.{IsOneMore, held_of}
+use Rattle.partition_stream.specs.Meanings.{held_of}
 use Rattle.partition_stream.specs.Outcomes.{IsLogSettled}
 use Rattle.partition_stream.specs.Positions.{all_changes}
 use Rattle.partition_stream.specs.Storing.{AreKept}
@@ -30,10 +30,10 @@ use Rattle.partition_stream.proofs.RewritingLemmas.{act_from}
 use Rattle.checkpoint_rows.specs.Writing.{IsWritableBlob}
 use Rattle.checkpoint_rows.proofs.WritableLemmas.{held_of-writable}
 use Rattle.stored_rows.specs.Faults.{unlogged_by}
-use Rattle.stored_rows.specs.Fitting.{Fits, FitsDoubt}
+use Rattle.stored_rows.specs.Fitting.{Fits}
 use Rattle.row_trees.specs.Halfway.{News}
 use Rattle.stored_rows.specs.Loaded.{AreLoaded, AreRowsOf}
-use Rattle.stored_rows.specs.Logging.{AddsChange, Doubts, IsKeptFrom, IsLoggedFrom, IsPutAndLogged, IsPutAt, KeepsLog, with_placed}
+use Rattle.stored_rows.specs.Logging.{IsKeptFrom, IsLoggedFrom, IsPutAndLogged, IsPutAt, KeepsLog, with_placed}
 use Rattle.stored_rows.specs.Ranges.{covers}
 use Rattle.stored_rows.specs.Swept.{AreSwept, IsLoggable, MayLog, kept_sweep, may_log}
 use Rattle.stored_rows.specs.declared.key_range.KeyRange.{KeyRange}
@@ -44,7 +44,7 @@ use Rattle.stored_rows.proofs.AreSweptLemmas.{swept_change, swept_doubt, swept_d
 use Rattle.stored_rows.proofs.KeptAsLemmas.{no_content}
 use Rattle.stored_rows.proofs.KnownLemmas.{known_may}
 use Rattle.stored_rows.proofs.LoadLemmas.{part_of-covered}
-use Rattle.stored_rows.proofs.TakeLemmas.{covered_kept, doubt_own, kept_fits, log_keeps, own_kept, same_log_doubt, same_log_keeps, shared_keeps}
+use Rattle.stored_rows.proofs.TakeLemmas.{covered_kept, doubt_own, log_keeps, own_kept, same_log_doubt, same_log_keeps, shared_keeps}
 
 -- ---- a change whose content was put since the mark
 

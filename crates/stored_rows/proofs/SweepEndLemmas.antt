@@ -1,29 +1,28 @@
 -- The beginning and the end of a sweep.
-use Rattle.std.proofs.Common.{◌≡◌, ◌≤◌, ◌∙◌, ◌||◌, ◌++◌, ℕ, Bool, true, false, cond, Option, Some, None, IfSome, IsSome, List, [], All, drop, length, ap, sym, refl, subst, arith}
+use Rattle.std.proofs.Common.{◌≡◌, ◌≤◌, ◌∙◌, ◌||◌, ◌++◌, ℕ, Bool, true, false, Option, Some, None, IfSome, List, [], drop, ap, sym, refl, subst, arith}
 use Rattle.std.specs.FinMap as finite
 use Rattle.std.specs.Option.{option_and_then, option_map_or}
 use Rattle.std.specs.Prelude.{is_some}
-use Rattle.extent_node.specs.Copies.{Block}
 use Rattle.extent_seal.specs.Extents.{Open}
 use Rattle.stamp_values.specs.Order.{key_cmp, name_cmp}
 use Rattle.stamp_values.specs.declared.key.Key.{Key}
 use Rattle.stamp_types.specs.Changes.{KeyedAct}
-use Rattle.stamp_types.specs.World.{Part, World, no_part, part_at, same_pieces}
+use Rattle.stamp_types.specs.World.{Part, World, same_pieces}
 use Rattle.stamp_types.specs.declared.piece.Piece.{Piece}
 use Rattle.stream_manager.specs.Places.{blocks_of}
 use Rattle.stream_manager.specs.Streams.{laid}
 use Rattle.stream_manager.proofs.GivenUpLemmas.{blocks_emptied}
 use Rattle.partition_stream.specs.Changes.{Recorded, change_in}
-use Rattle.partition_stream.specs.Meanings.{acts_on, after_acts, held_of, meaning}
+use Rattle.partition_stream.specs.Meanings.{held_of, meaning}
 use Rattle.partition_stream.specs.Positions.{all_changes}
 use Rattle.partition_stream.specs.Streams.{AreSealed, ThreeStreams, logged}
 use Rattle.partition_stream.specs.Sweeping.{GivesUpBefore, handles_before, made_from, mark_of}
 use Rattle.partition_stream.specs.declared.mark.Mark.{Mark}
 use Rattle.partition_stream.proofs.SweepingLemmas.{held_given, sealed_is_sure}
 use Rattle.row_trees.specs.Halfway.{IsAllNew, News}
-use Rattle.stored_rows.specs.Loaded.{AreLoaded, AreRowsOf, doubted, part_of}
+use Rattle.stored_rows.specs.Loaded.{AreLoaded, AreRowsOf, part_of}
 use Rattle.stored_rows.specs.Ranges.{covers}
-use Rattle.stored_rows.specs.Swept.{AreSwept, IsBegun, IsLoggable, IsOver, IsNewRow, IsSwept, Names, is_end, is_past_blob, is_touched_blob, knows_blob, knows_row}
+use Rattle.stored_rows.specs.Swept.{AreSwept, IsLoggable, IsOver, IsNewRow, IsSwept, Names, is_end, is_past_blob, is_touched_blob, knows_blob, knows_row}
 use Rattle.stored_rows.specs.declared.cursor.Cursor.{Cursor}
 use Rattle.stored_rows.specs.declared.cursor.Cursor.TheVariants as cursor
 use Rattle.stored_rows.specs.declared.key_range.KeyRange.{KeyRange}

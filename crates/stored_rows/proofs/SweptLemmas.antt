@@ -1,5 +1,5 @@
 -- Rows that are swept: what was written since the mark stays so with each change, and is all that is left at the end.
-use Rattle.std.proofs.Common.{◌≡◌, ◌≢◌, ◌∙◌, ◌⊎◌, inl, inr, ℕ, ◌+◌, Bool, true, false, ◌||◌, cond, Option, Some, None, IsSome, List, [], ◌∷◌, ◌++◌, All, IsTrue, drop, length, ap, sym, refl, subst, append-nil}
+use Rattle.std.proofs.Common.{◌≡◌, ◌≢◌, ◌∙◌, ◌⊎◌, ◌+◌, Bool, true, false, ◌||◌, cond, Option, Some, None, List, [], ◌∷◌, ◌++◌, All, IsTrue, ap, sym, refl, subst, append-nil}
 use Rattle.std.specs.FinMap as finite
 use Rattle.std.proofs.lemmas.List.Elements.{All-nil, All-cons, All-append, All-same}
 use Rattle.extent_node.specs.Copies.{Block}
@@ -7,12 +7,10 @@ use Rattle.stamp_values.specs.Order.{name_cmp}
 use Rattle.stamp_values.specs.declared.key.Key.{Key}
 use Rattle.stamp_types.specs.Contents.{EachActContent}
 use Rattle.stamp_types.specs.Pieces.{pieces_len}
-use Rattle.stamp_types.specs.World.{Part, changed, no_part, part_value, same_pieces}
+use Rattle.stamp_types.specs.World.{Part, changed, no_part, same_pieces}
 use Rattle.stamp_types.specs.declared.act.Act.{Act}
 use Rattle.stamp_types.specs.declared.act.Act.TheVariants as act
 use Rattle.stamp_types.specs.declared.piece.Piece.{Piece}
-use Rattle.row_trees.specs.Fits.{fits}
-use Rattle.row_trees.specs.RowRecords.{container_row_of}
 use Rattle.stream_manager.specs.Places.{blocks_of}
 use Rattle.stream_manager.specs.Streams.{laid}
 use Rattle.stream_manager.proofs.GivenUpLemmas.{blocks_emptied}

@@ -10,7 +10,7 @@ use Rattle.stamp_values.specs.Order.{key_cmp, keys_exact, keys_total, name_cmp, 
 use Rattle.stamp_values.specs.declared.key.Key.{Key}
 use Rattle.partition_stream.specs.Meanings.{held_of}
 use Rattle.partition_stream.specs.Streams.{ThreeStreams, logged}
-use Rattle.stored_rows.specs.Swept.{AllNews, AreSwept, IsBegun, IsKnown, IsNewRow, Names, is_past, is_past_blob, is_touched, is_touched_blob, knows_blob, knows_row, with_blob_row, with_container}
+use Rattle.stored_rows.specs.Swept.{AllNews, AreSwept, IsBegun, IsKnown, IsNewRow, Names, is_past, is_past_blob, is_touched, is_touched_blob, knows_row, with_blob_row, with_container}
 use Rattle.stored_rows.specs.Ranges.{covers}
 use Rattle.stored_rows.specs.declared.cursor.Cursor.{Cursor}
 use Rattle.stored_rows.specs.declared.key_range.KeyRange.{KeyRange}

@@ -1,4 +1,4 @@
-use Rattle.std.proofs.Common.{◌≡◌, length, subst, sym}
+use Rattle.std.proofs.Common.{◌≡◌, subst, sym}
 use Rattle.stamp_types.specs.Changes.{KeyedAct}
 use Rattle.stream_manager.specs.Streams.{laid}
 use Rattle.partition_stream.proofs.MovedRowLemmas.{act_stored}

@@ -1,7 +1,6 @@
 use Rattle.std.proofs.Common.{◌≡◌, ◌∙◌, Ok, Result, Some, ap, inl, refl, subst, sym, true}
 use Rattle.stamp_types.specs.Changes.{KeyedAct}
 use Rattle.stamp_types.specs.World.{part_at}
-use Rattle.row_trees.specs.RowRecords.{blob_row_of}
 use Rattle.partition_stream.specs.Meanings.{held_of}
 use Rattle.partition_stream.specs.Streams.{logged}
 use Rattle.stored_rows.specs.Noting.{taken_by}

@@ -2,7 +2,7 @@ use Rattle.std.proofs.Common.{◌≡◌, ◌∙◌, ◌||◌, Ok, ap, subst, sym
 use Rattle.stamp_types.specs.World.{part_at}
 use Rattle.stored_rows.specs.Noting.{taken_by}
 use Rattle.stored_rows.specs.Rewriting.{IsStepped}
-use Rattle.stored_rows.specs.Swept.{is_unseen, knows_row, with_container}
+use Rattle.stored_rows.specs.Swept.{is_unseen, knows_row}
 use Rattle.stored_rows.specs.declared.sweep.Sweep.{Sweep}
 use Rattle.stored_rows.proofs.SteppedLemmas.{held_in_rows, not_unseen, own_not_noted, own_noted}
 use Rattle.stored_rows.proofs.TouchLemmas.{container_known}

@@ -1,6 +1,4 @@
-use Rattle.std.proofs.Common.{◌≡◌, None, Option, Some, subst, sym}
-use Rattle.stamp_types.specs.World.{Blob}
-use Rattle.stamp_types.specs.declared.piece.Piece.{Piece}
+use Rattle.std.proofs.Common.{◌≡◌, None, subst, sym}
 use Rattle.stamp_values.specs.declared.key.Key.{Key}
 use Rattle.partition_stream.specs.Streams.{logged}
 use Rattle.stored_rows.specs.States.{Stored, bytes_of, own_doubt, own_doubt_of}
