@@ -163,7 +163,7 @@ fn step(alloc: Global, slot: &mut Streamed) -> bool {
     };
     matches!(
         slot.slot.sweep(alloc, one, &mut slot.wire),
-        Ok(SweepStep::RowsLeft)
+        Ok(SweepStep::RowsLeft(_made))
     )
 }
 

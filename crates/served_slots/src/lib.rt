@@ -5,6 +5,7 @@ mod admission;
 mod connection;
 mod effort;
 mod entering;
+mod garbage;
 mod laws;
 mod locked;
 mod next_pairs;

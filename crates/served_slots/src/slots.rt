@@ -19,6 +19,7 @@ ghost use Rattle.served_slots.specs.Steps.{IsSplitFault, SpansSay};
 mod sweeping;
 
 use crate::effort::step_before;
+use crate::garbage::Garbage;
 use crate::locked::sweeping::Swept;
 use crate::next_pairs::{judging_pairs, made_pair};
 use crate::splitting::SplitFault;
@@ -139,6 +140,7 @@ fn replace(pairs: &mut Arc<AccountPairs>, next: Option<Arc<AccountPairs>>) {
 pub struct Slots<A: Account> {
     pairs: RwLock<Arc<AccountPairs>>,
     table: RwLock<Table<A>>,
+    garbage: Garbage,
 }
 
 impl<A: Account> Slots<A> {
@@ -173,7 +175,12 @@ impl<A: Account> Slots<A> {
         let table = first_table(alloc, &pairs, own, spares)?;
         let table = RwLock::new(table);
         let pairs = RwLock::new(pairs);
-        Ok((Slots { pairs, table }, front))
+        let slots = Slots {
+            pairs,
+            table,
+            garbage: Garbage::none(),
+        };
+        Ok((slots, front))
     }
 
     /// The request with what is made of it before a lock is taken.
@@ -225,8 +232,8 @@ impl<A: Account> Slots<A> {
         locked.answer(alloc, known, ready, reading)
     }
 
-    // The same of a request that makes a step of a sweep first, up to this limit, if the slot is to be swept. If that is the last step, what it gives
-    // up is dropped while no lock is held, and then the request waits for the locks once more.
+    // The same of a request that makes a step of a sweep first, up to this limit, if the slot is to be swept. If that is the last step, the request gives
+    // the locks back, leaves what is given up, or drops it if memory is short, and then waits for the locks once more.
     fn answer_after_step<R: Wait>(
         &self,
         rt: &R,
@@ -251,7 +258,7 @@ impl<A: Account> Slots<A> {
             if let Swept::Over(away) = locked.sweep(alloc, limit) {
                 drop(locked);
                 drop(table);
-                drop(away);
+                self.put_away(rt, away, is_short);
                 return self.answer_under_lock(rt, alloc, known, ready, reading);
             }
         }

@@ -155,6 +155,8 @@ fn sweeps_for_another<A: Account, R: Wait + Abort>(
         assert!(rt; is_put(rt, alloc, &mut reader, name));
     }
     assert!(rt; !slots.is_to_sweep(rt, false));
+    assert!(rt; slots.drop_left(rt)); // the last Put has left what was given up
+    assert!(rt; !slots.drop_left(rt));
     are_kept(rt, alloc, &mut writer);
 }
 

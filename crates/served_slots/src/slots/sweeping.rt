@@ -7,7 +7,7 @@ use partition_map::MOST_SLOTS;
 use served_history::Account;
 use std::alloc::Global;
 use std::sync::Wait;
-use stored_rows::StepLimit;
+use stored_rows::{StepLimit, SweptAway};
 
 /// The most steps of one sweep. No sweep is known to need so many.
 const MOST_STEPS: u32 = 4_194_304;
@@ -26,6 +26,16 @@ enum Tended {
 }
 
 impl<A: Account> Slots<A> {
+    // What the sweep of a request gave up: it is dropped at once if memory is short, and else by the next call that tends garbage, so that no client
+    // waits for that.
+    pub(crate) fn put_away<R: Wait>(&self, rt: &R, away: Option<Box<SweptAway>>, is_short: bool) {
+        if is_short {
+            drop(away);
+        } else {
+            self.garbage.leave(rt, away);
+        }
+    }
+
     // Makes a step of a sweep of the slot with this number, if it is to be swept. Waits for the locks of table and slot, and holds them for this step.
     // The garbage of the step is dropped while no lock is held. `None` if no slot has the number.
     fn step<R: Wait>(
@@ -81,10 +91,10 @@ impl<A: Account> Slots<A> {
         }
     }
 
-    /// Sweeps each slot that has a little to which nothing refers, step by step. Between steps the locks are given back. Returns whether a slot was
-    /// swept, or was to be and memory ran out for that.
+    /// Drops what sweeps gave up, and sweeps each slot that has a little to which nothing refers, step by step. Between steps the locks are given back.
+    /// Returns whether anything was dropped, or a slot was swept, or was to be and memory ran out for that.
     pub(crate) fn collect<R: Wait>(&self, rt: &R, alloc: Global) -> bool {
-        let mut is_any = false;
+        let mut is_any = self.garbage.drop_left(rt);
         for at in 0..MOST_SLOTS {
             match self.collect_at(rt, alloc, at) {
                 Some(is_swept) => is_any = is_any || is_swept,
@@ -94,12 +104,13 @@ impl<A: Account> Slots<A> {
         is_any
     }
 
-    /// Makes one step of a sweep of each slot that is to be swept: a sweep is under way, or the slot has much to which nothing refers, or memory is
-    /// short and it has a little. Returns whether a slot may be left that is to be swept.
+    /// Drops what sweeps of requests gave up, and makes one step of a sweep of each slot that is to be swept: a sweep is under way, or the slot has much
+    /// to which nothing refers, or memory is short and it has a little. Returns whether a slot may be left that is to be swept.
     ///
     /// A server calls it now and then, so that a slot is swept to which no request comes that writes. It waits for the lock of each slot in turn. The
     /// lock of the table is given back after each step, so a split waits for one step at most.
     pub fn tend_garbage<R: Wait>(&self, rt: &R, alloc: Global, is_short: bool) -> bool {
+        let _dropped = self.garbage.drop_left(rt);
         let mut is_left = false;
         for at in 0..MOST_SLOTS {
             match self.step(rt, alloc, at, AT_REST, is_short) {
@@ -113,6 +124,11 @@ impl<A: Account> Slots<A> {
 
 #[cfg(test)]
 impl<A: Account> Slots<A> {
+    // Drops what a sweep of a request gave up. Returns whether there was anything.
+    pub(crate) fn drop_left<R: Wait>(&self, rt: &R) -> bool {
+        self.garbage.drop_left(rt)
+    }
+
     // Whether a sweep of the first slot is under way. Waits for the locks of table and slot.
     pub(crate) fn is_sweeping<R: Wait>(&self, rt: &R) -> bool {
         match self.table.read(rt).locked_at(rt, 0) {
