@@ -78,7 +78,7 @@ fn cut_with<H: Histories, W: Wire>(
                 stored: upper,
                 pairs,
                 doubt: None,
-                unknown: None,
+                spare: None,
             };
             Ok(StoredSlot { parts })
         }
