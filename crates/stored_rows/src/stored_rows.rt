@@ -71,7 +71,6 @@ impl StoredRows {
     ghost use Rattle.std.specs.List.{flat_map, list_all};
     ghost use Rattle.std.specs.Option.{option_copied};
     ghost use Rattle.extent_seal.specs.Counting.{Grows, all_faults};
-    ghost use Rattle.extent_seal.specs.Heard.{AsksAreHeard};
     ghost use Rattle.extent_seal.specs.declared.sealed.ReadFault.TheVariants as read_fault;
     ghost use Rattle.stamp_types.specs.ActKinds.{is_row};
     ghost use Rattle.stamp_types.specs.Changes.{content_of};
@@ -258,7 +257,6 @@ impl StoredRows {
         ensures unheard { is_piece_in_last self.old.streams.blobs piece.now ≡ false → wire.new ≡ wire.old }
         ensures unreachable { result ≡ Err read_fault.Unreachable → all_faults (W.faults wire.old) < all_faults (W.faults wire.new) }
         ensures grown { Grows (W.faults wire.old) (W.faults wire.new) }
-        ensures heard { result ≢ Err read_fault.Unreachable → AsksAreHeard (W.calls wire.old) (W.calls wire.new) (W.faults wire.old) (W.faults wire.new) }
     {
         self.streams.part(piece, start, end, wire)
     }
@@ -286,7 +284,6 @@ impl StoredRows {
         ensures same { self.new ≡ self.old }
         ensures unreachable { OnErr result (all_faults (W.faults wire.old) < all_faults (W.faults wire.new)) }
         ensures grown { Grows (W.faults wire.old) (W.faults wire.new) }
-        ensures heard { OnOk result (AsksAreHeard (W.calls wire.old) (W.calls wire.new) (W.faults wire.old) (W.faults wire.new)) }
     {
         self.streams.kept();
         make_answer(self.alloc, &mut self.streams, frame, spans, gathers, wire)
@@ -470,7 +467,6 @@ impl StoredRows {
         ensures limits { HaveSameLimits self.old.streams self.new.streams }
         ensures data { self.new.streams.blobs ≡ self.old.streams.blobs }
         ensures counted { FailsStored result (W.faults wire.old) (W.faults wire.new) }
-        ensures heard { HearsStored result (W.calls wire.old) (W.calls wire.new) (W.faults wire.old) (W.faults wire.new) }
     {
         self.streams.kept();
         let settled = self.streams.settle(wire);
@@ -481,7 +477,6 @@ impl StoredRows {
     /// before it writes or seals, and answers whether a row was in doubt: what was found in the rows before is then found anew.
     ///
     /// Busy: no node answered. NoMemory: no node was called. After both the row is in doubt as before.
-    #[tactic(auto, using(extent_seal::proofs::HeardLemmas::heard_none))]
     pub fn end_row_doubt<W: Wire>(&mut self, wire: &mut W) -> Result<bool, StoredFault>
         requires own { own_doubt_of self.old ≡ None }
         ensures means { (key : Key) → bytes_of self.new key ≡ bytes_of self.old key }
@@ -493,7 +488,6 @@ impl StoredRows {
         ensures limits { HaveSameLimits self.old.streams self.new.streams }
         ensures data { self.new.streams.blobs ≡ self.old.streams.blobs }
         ensures counted { FailsStored result (W.faults wire.old) (W.faults wire.new) }
-        ensures heard { HearsStored result (W.calls wire.old) (W.calls wire.new) (W.faults wire.old) (W.faults wire.new) }
     {
         if !self.has_row_doubt() {
             return Ok(false);
@@ -514,7 +508,6 @@ impl StoredRows {
         ensures sealed { OnOk result (AreSealed self.new.streams) }
         ensures limits { HaveSameLimits self.old.streams self.new.streams }
         ensures counted { FailsStored result (W.faults wire.old) (W.faults wire.new) }
-        ensures heard { HearsStored result (W.calls wire.old) (W.calls wire.new) (W.faults wire.old) (W.faults wire.new) }
     {
         self.streams.kept();
         let sealed = self.streams.seal(wire);

@@ -2,7 +2,6 @@ pub mod AnswerLemmas
 pub mod AuditLemmas
 pub mod DecisionLemmas
 pub mod HalfLemmas
-pub mod HeardLemmas
 pub mod KeepLemmas
 pub mod LawLemmas
 pub mod MeaningLemmas

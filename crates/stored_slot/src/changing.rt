@@ -6,7 +6,6 @@ ghost use Rattle.stamp_types.specs.Pieces.{is_held, pieces_len};
 ghost use Rattle.stamp_types.specs.World.{part_value};
 ghost use Rattle.row_trees.specs.Fits.{fits};
 ghost use Rattle.stored_rows.specs.Counting.{FailsTake};
-ghost use Rattle.stored_rows.specs.Heard.{HearsTake};
 ghost use Rattle.stored_rows.specs.Ranges.{covers};
 ghost use Rattle.stored_rows.specs.States.{AreFoundIn, IsTaken, doubt_of, pieces_of};
 ghost use Rattle.slot_state.specs.HistoryMaps.{history_at, without_last};
@@ -49,7 +48,6 @@ fn take_or_take_back<H: Histories, W: Wire>(
     ensures stays { OnOk result (H.held histories.new ≡ H.held histories.old) }
     ensures back { OnErr result (H.held histories.new ≡ without_last (H.held histories.old) entry.now.request.ask.key) }
     ensures counted { FailsTake result (W.faults wire.old) (W.faults wire.new) }
-    ensures heard { HearsTake result (W.calls wire.old) (W.calls wire.new) (W.faults wire.old) (W.faults wire.new) }
 {
     let taken = stored.take(change, found, entry.epoch, wire);
     if taken.is_err() {
@@ -59,7 +57,7 @@ fn take_or_take_back<H: Histories, W: Wire>(
 }
 
 // Pushes the entry and takes its change: both, or neither. The entry is pushed first, so nothing can fail after the change is logged.
-#[tactic(auto, using(slot_state::proofs::MapLemmas::has_entry, stored_rows::proofs::CountLemmas::grows_not, extent_seal::proofs::HeardLemmas::heard_none))]
+#[tactic(auto, using(slot_state::proofs::MapLemmas::has_entry, stored_rows::proofs::CountLemmas::grows_not))]
 fn take_entry<H: Histories, W: Wire>(
     histories: &mut H,
     stored: &mut StoredRows,
@@ -78,7 +76,6 @@ fn take_entry<H: Histories, W: Wire>(
     ensures taken { IsTaken result stored.old (change, entry.now.epoch) stored.new }
     ensures entered { H.held histories.new ≡ changes.with_taken result (H.held histories.old) entry.now }
     ensures counted { FailsTake result (W.faults wire.old) (W.faults wire.new) }
-    ensures heard { HearsTake result (W.calls wire.old) (W.calls wire.new) (W.faults wire.old) (W.faults wire.new) }
 {
     match histories.push(alloc, entry) {
         Ok(()) => take_or_take_back(histories, stored, entry, change, found, wire),
@@ -120,7 +117,6 @@ impl<H: Histories> SlotParts<H> {
         ensures after { AreOfSlot H.held self.new }
         ensures taken { slot_of H.held self.new ≡ slot_taken result (slot_of H.held self.old) entry }
         ensures counted { FailsTake result (W.faults wire.old) (W.faults wire.new) }
-        ensures heard { HearsTake result (W.calls wire.old) (W.calls wire.new) (W.faults wire.old) (W.faults wire.new) }
     {
         self.stored.kept();
         let taken = take_entry(
@@ -153,7 +149,6 @@ impl<H: Histories> SlotParts<H> {
         ensures after { AreOfSlot H.held self.new }
         ensures taken { slot_of H.held self.new ≡ slot_taken result (slot_of H.held self.old) entry }
         ensures counted { FailsTake result (W.faults wire.old) (W.faults wire.new) }
-        ensures heard { HearsTake result (W.calls wire.old) (W.calls wire.new) (W.faults wire.old) (W.faults wire.new) }
     {
         let FoundChange { change, found } = made;
         match make_way(&mut self.stored, &change, found, wire) {

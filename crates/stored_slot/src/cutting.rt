@@ -78,7 +78,7 @@ fn cut_with<H: Histories, W: Wire>(
                 stored: upper,
                 pairs,
                 doubt: None,
-                spare: None,
+                unknown: None,
             };
             Ok(StoredSlot { parts })
         }

@@ -1,7 +1,6 @@
 //! Sweeps of a slot: its rows are written again in steps, and then what was there before is given up.
 ghost use Rattle.std.specs.Prelude.{◌≡◌, IfOk, IfSome, None, OnOk, true};
 ghost use Rattle.stored_rows.specs.Counting.{FailsStored};
-ghost use Rattle.stored_rows.specs.Heard.{HearsStored};
 ghost use Rattle.stored_rows.specs.Ranges.{covers};
 ghost use Rattle.stored_rows.specs.States.{AreFoundIn, doubt_of, own_doubt_of};
 ghost use Rattle.stored_slot.specs.Parts.{AreClear, AreOfSlot, AreSettled, slot_of};
@@ -66,7 +65,6 @@ fn touch<W: Wire>(
     ensures sure { OnOk result (doubt_of stored.new ≡ None) }
     ensures anew { IfOk result (λ found. found ≡ None) }
     ensures counted { FailsStored result (W.faults wire.old) (W.faults wire.new) }
-    ensures heard { HearsStored result (W.calls wire.old) (W.calls wire.new) (W.faults wire.old) (W.faults wire.new) }
 {
     match stored.touch(change, wire) {
         Ok(()) => Ok(None),
@@ -91,7 +89,6 @@ pub(crate) fn make_way<W: Wire>(
     ensures sure { OnOk result (doubt_of stored.new ≡ None) }
     ensures found { IfOk result (λ o. IfSome o (λ f. AreFoundIn stored.new change.now f.blocks)) }
     ensures counted { FailsStored result (W.faults wire.old) (W.faults wire.new) }
-    ensures heard { HearsStored result (W.calls wire.old) (W.calls wire.new) (W.faults wire.old) (W.faults wire.new) }
 {
     match stored.end_row_doubt(wire) {
         Ok(was_in_doubt) => {
@@ -120,7 +117,7 @@ fn end(stored: &mut StoredRows) -> SweepStep
 }
 
 // Writes the next rows of a sweep, and ends it if each row is written.
-#[tactic(auto, using(crate::proofs::SweepLemmas::row_counted, crate::proofs::SweepLemmas::touched_beside, crate::proofs::HeardLemmas::row_heard))]
+#[tactic(auto, using(crate::proofs::SweepLemmas::row_counted, crate::proofs::SweepLemmas::touched_beside))]
 fn go_on<W: Wire>(
     stored: &mut StoredRows,
     limit: StepLimit,
@@ -129,7 +126,6 @@ fn go_on<W: Wire>(
     requires sure { doubt_of stored.old ≡ None }
     ensures beside { KeepsContainers stored.old stored.new }
     ensures counted { FailsStored result (W.faults wire.old) (W.faults wire.new) }
-    ensures heard { HearsStored result (W.calls wire.old) (W.calls wire.new) (W.faults wire.old) (W.faults wire.new) }
 {
     match stored.sweep_step(limit, wire) {
         Ok(Progress::RowsLeft) => Ok(SweepStep::RowsLeft(StepMade(()))),
@@ -148,7 +144,6 @@ fn step<W: Wire>(
     requires sure { doubt_of stored.old ≡ None }
     ensures beside { KeepsContainers stored.old stored.new }
     ensures counted { FailsStored result (W.faults wire.old) (W.faults wire.new) }
-    ensures heard { HearsStored result (W.calls wire.old) (W.calls wire.new) (W.faults wire.old) (W.faults wire.new) }
 {
     match stored.sweep_begin(wire) {
         Ok(()) => go_on(stored, limit, wire),
@@ -165,7 +160,6 @@ impl<H: Histories> SlotParts<H> {
         ensures loaded { self.new.stored.is_loaded ≡ self.old.stored.is_loaded }
         ensures clear { OnOk result (AreClear self.new) }
         ensures counted { FailsStored result (W.faults wire.old) (W.faults wire.new) }
-        ensures heard { HearsStored result (W.calls wire.old) (W.calls wire.new) (W.faults wire.old) (W.faults wire.new) }
     {
         match self.stored.end_row_doubt(wire) {
             Ok(_was_in_doubt) => Ok(()),
@@ -180,7 +174,6 @@ impl<H: Histories> SlotParts<H> {
         ensures left { LeavesSettled result (slot_of H.held self.old) (slot_of H.held self.new) }
         ensures clear { OnOk result (AreClear self.new) }
         ensures counted { FailsStored result (W.faults wire.old) (W.faults wire.new) }
-        ensures heard { HearsStored result (W.calls wire.old) (W.calls wire.new) (W.faults wire.old) (W.faults wire.new) }
     {
         match self.settle(alloc, wire) {
             Ok(()) => self.end_row_doubt(wire),
@@ -200,7 +193,6 @@ impl<H: Histories> SlotParts<H> {
         ensures loaded { OnOk result (self.new.stored.is_loaded ≡ true) }
         ensures clear { OnOk result (AreClear self.new) }
         ensures counted { FailsStored result (W.faults wire.old) (W.faults wire.new) }
-        ensures heard { HearsStored result (W.calls wire.old) (W.calls wire.new) (W.faults wire.old) (W.faults wire.new) }
     {
         match self.load(alloc, wire) {
             Ok(()) => self.end_row_doubt(wire),
@@ -219,7 +211,6 @@ impl<H: Histories> SlotParts<H> {
         ensures after { AreOfSlot H.held self.new }
         ensures left { LeavesSettled result (slot_of H.held self.old) (slot_of H.held self.new) }
         ensures counted { FailsStored result (W.faults wire.old) (W.faults wire.new) }
-        ensures heard { HearsStored result (W.calls wire.old) (W.calls wire.new) (W.faults wire.old) (W.faults wire.new) }
     {
         match self.load_clear(alloc, wire) {
             Ok(()) => step(&mut self.stored, limit, wire),

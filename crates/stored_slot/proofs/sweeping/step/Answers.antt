@@ -1,6 +1,5 @@
 use Rattle.stored_slot.proofs.KeepLemmas.{stored_later}
 use Rattle.stored_slot.proofs.SweepLemmas.{begun_beside, beside_twice}
-use Rattle.stored_rows.proofs.HeardLemmas.{hears_stored_then}
 use Rattle.stored_slot.proofs.sweeping.step.Goals as goal
 
 pub returns-in-Ok-clause-beside : goal.returns-in-Ok-clause-beside
@@ -15,9 +14,3 @@ pub returns-in-Err-clause-beside : goal.returns-in-Err-clause-beside
 returns-in-Err-clause-beside g c =
     let e = c.sweep_begin.ensures in
     begun_beside c.args.stored.now c.sweep_begin.new.self e.same e.limits e.doubt
-
-pub returns-in-Ok-clause-heard : goal.returns-in-Ok-clause-heard
-returns-in-Ok-clause-heard g c =
-    hears_stored_then c.go_on.result (g.W.Wire.calls c.args.wire.now) (g.W.Wire.calls c.sweep_begin.new.wire) (g.W.Wire.calls c.go_on.new.wire)
-    (g.W.Wire.faults c.args.wire.now) (g.W.Wire.faults c.sweep_begin.new.wire) (g.W.Wire.faults c.go_on.new.wire)
-    c.in-Ok.ensures.heard c.go_on.ensures.heard

@@ -1,6 +1,5 @@
 use Rattle.stored_slot.proofs.KeepLemmas.{stored_later}
 use Rattle.stored_slot.proofs.SweepLemmas.{swept_kept, swept_left}
-use Rattle.stored_rows.proofs.HeardLemmas.{hears_stored_then}
 use Rattle.stored_slot.proofs.parts.SlotParts.sweep.Goals as goal
 
 pub returns-in-Ok-clause-after : goal.returns-in-Ok-clause-after
@@ -13,9 +12,3 @@ returns-in-Ok-clause-left g c =
 
 pub returns-in-Ok-clause-counted : goal.returns-in-Ok-clause-counted
 returns-in-Ok-clause-counted g c = stored_later c.step.result _ _ _ c.in-Ok.ensures.counted c.step.ensures.counted
-
-pub returns-in-Ok-clause-heard : goal.returns-in-Ok-clause-heard
-returns-in-Ok-clause-heard g c =
-    hears_stored_then c.step.result (g.W.Wire.calls c.args.wire.now) (g.W.Wire.calls c.load_clear.new.wire) (g.W.Wire.calls c.step.new.wire)
-    (g.W.Wire.faults c.args.wire.now) (g.W.Wire.faults c.load_clear.new.wire) (g.W.Wire.faults c.step.new.wire)
-    c.in-Ok.ensures.heard c.step.ensures.heard
