@@ -32,7 +32,7 @@ pub fn a_rotation_replaces_one_key()
 /// no less than that of the pair after all that the connection knows. A key that is not of that pair is not of the pair that judges, unless
 /// a rotation that the connection did not know gave it again. This holds of each slot that entered the rotation: if the slot had the key of
 /// the request then, a key that the rotation replaced is not of the pair that judges, unless a later rotation gave it again. If the reply
-/// names no rule, the pair that judged has admitted the request. That what is known is a history, `what_is_known_is_a_history` ensures.
+/// names no rule, the pair that judged has admitted the request. The entries that are known are a history (`what_is_known_is_a_history`).
 pub fn who_knows_a_rotation_gets_no_answer_by_the_replaced_pair()
     ensures epoch { (known known' : List Entry) (q : Asked) (t : ℕ) (reply : Reply)
         (turn : IsServed known q t reply known') → IsHistory known → IsHistory known'
