@@ -374,7 +374,7 @@ class Machine:
         return True
 
     def next_row(self, slot):
-        """What the sweep of a slot does next: the cursor after it, and the row, if a row is written; and none if no container is left."""
+        """The next act of the sweep of a slot: the cursor after it, and the row, if a row is written; and none if no container is left."""
         cursor = slot.sweep.cursor
         name, *rest = cursor
         if rest and rest[0] < 2:

@@ -297,7 +297,7 @@ fn sweep(alloc: Global, driven: &mut Driven) -> &'static str {
     }
 }
 
-// Each Put Blob but the last wastes 768 KiB, so 22 of them waste more than the 16 MiB and a third of the blob that exists. Nothing is swept before.
+// Each Put Blob but the last wastes 768 KiB, so 22 of them waste more than the 16 MiB and a third of the blob that exists. No row is swept before.
 // The container and the blob have a row each. The third step finds no blob more, and the fourth no container more.
 fn sweeps_if_it_is_due(rt: &impl Abort, alloc: Global, driven: &mut Driven) {
     assert!(rt; begins(rt, alloc, driven, CREATE, CREATED));

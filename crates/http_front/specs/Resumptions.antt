@@ -52,7 +52,7 @@ last_bytes (Err Write) = []
 last_bytes (Err Turns) = []
 last_bytes (Err NoMemory) = out_of_memory_bytes
 
--- A connection that came to its end made its last calls: its last bytes were written and flushed, or a write failed. Nothing is written
+-- A connection that came to its end made its last calls: its last bytes were written and flushed, or a write failed. No byte is written
 -- after a failed write.
 pub record MakesLastCalls (ended result : Result End FrontFault) (from to : ConnectionState) : Type 0 where
   pub unread : (to.reader ≡ from.reader) × (to.bytes ≡ from.bytes)

@@ -1,5 +1,5 @@
--- What is known of each container: its accepted changes among the entries of a history (Delegating Access with a Shared Access Signature:
--- revoking access). That a connection has a front of each container is the stamp's own.
+-- The front of each container: its accepted changes among the entries of a history (Delegating Access with a Shared Access Signature:
+-- revoking access). The front of a connection is the stamp's own.
 use Rattle.std.specs.Prelude.{ℕ, List, [], ◌∷◌}
 use Rattle.std.specs.FinMap as finite
 use Rattle.stamp_values.specs.declared.key.Key.{Key}

@@ -1,4 +1,4 @@
-//! What a connection knows of each container. A law about definitions is the contract of a function that does nothing.
+//! The front of each container that a connection knows. A law about definitions is the contract of a function that does nothing.
 ghost use Rattle.std.specs.Prelude.{◌≡◌, ◌≢◌, ◌++◌, ◌∷◌, [], ℕ, All, IsTrue, List, Some, false};
 ghost use Rattle.std.specs.FinMap as finite;
 ghost use mathlib.Core.List.{IsPrefix};

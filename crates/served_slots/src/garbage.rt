@@ -1,9 +1,9 @@
-//! What a sweep gave up, until a thread drops it that no client waits for.
+//! Garbage that a sweep gave up, until a thread drops it that no client waits for.
 
 use std::sync::{Mutex, Wait};
 use stored_rows::SweptAway;
 
-/// What the last sweep gave up. To drop it takes time for each of its blocks, for example 0.65 seconds after a sweep of 1,000,000 blobs. So a request
+/// The garbage that the last sweep gave up. To drop it takes time for each of its blocks, for example 0.65 seconds after a sweep of 1,000,000 blobs. So a request
 /// that makes the last step of a sweep leaves it here, and the thread that sweeps slots at rest drops it.
 #[derive(Drop)]
 pub(crate) struct Garbage {
@@ -18,7 +18,7 @@ impl Garbage {
         }
     }
 
-    /// Leaves what a sweep gave up, if it gave something up. What was left here before is dropped after the lock.
+    /// Leaves what a sweep gave up, if it gave something up. Garbage that was left here before is dropped after the lock.
     pub(crate) fn leave<R: Wait>(&self, rt: &R, away: Option<Box<SweptAway>>) {
         let Some(away) = away else {
             return;

@@ -39,7 +39,7 @@ fn split_rows(rows: &mut Option<Rows>, middle: &Key) -> Result<Option<Rows>, All
     }
 }
 
-/// What the upper half of rows that are cut has.
+/// The streams, the rows and the sweep of the upper half of rows that are cut.
 #[derive(Drop)]
 pub(crate) struct UpperHalf {
     pub(crate) streams: Streams,

@@ -330,7 +330,7 @@ fn blocks_left(alloc: Global, key: &Key, found: &Found<'_>, sweep: &Option<Sweep
     }
 }
 
-// What exists of all containers, without the blocks that a sweep counts later.
+// The size of all containers, without the blocks that a sweep counts later.
 fn rows_size(alloc: Global, rows: &Rows, sweep: &Option<Sweep>) -> Size {
     let first = Key {
         account: Text::empty(alloc),

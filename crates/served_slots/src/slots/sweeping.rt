@@ -26,7 +26,7 @@ enum Tended {
 }
 
 impl<A: Account> Slots<A> {
-    // What the sweep of a request gave up: it is dropped at once if memory is short, and else by the next call that tends garbage, so that no client
+    // The garbage that the sweep of a request gave up: it is dropped at once if memory is short, and else by the next call that tends garbage, so that no client
     // waits for that.
     pub(crate) fn put_away<R: Wait>(&self, rt: &R, away: Option<Box<SweptAway>>, is_short: bool) {
         if is_short {
