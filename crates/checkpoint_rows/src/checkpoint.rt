@@ -1,10 +1,12 @@
 //! The checkpoint of rows that are in memory.
-ghost use Rattle.std.specs.Prelude.{◌≡◌, [], IfOk, None, OnErr, OnOk};
+ghost use Rattle.std.specs.Prelude.{◌≡◌, ◌≢◌, [], Err, IfOk, None, OnErr, OnOk};
 ghost use Rattle.std.specs.FinMap.{entries};
+ghost use Rattle.extent_seal.specs.Heard.{AsksAreHeard};
 ghost use Rattle.stamp_types.specs.Contents.{EachWorldContent};
 ghost use Rattle.stamp_types.specs.World.{part_at};
 ghost use Rattle.stamp_values.specs.declared.key.Key.{Key};
 ghost use Rattle.stream_manager.specs.Streams.{laid};
+ghost use Rattle.stream_manager.specs.declared.faults.StoredFault.TheVariants.{Busy};
 ghost use Rattle.partition_stream.specs.Contents.{AreStored};
 ghost use Rattle.partition_stream.specs.Counting.{FailsPut};
 ghost use Rattle.partition_stream.specs.Meanings.{held_of};
@@ -42,6 +44,7 @@ fn write_rows<W: Wire>(
     ensures written { OnOk result (HasRows new.old (all_records (entries rows.now)) new.new) }
     ensures limit { new.new.limit ≡ new.old.limit }
     ensures counted { FailsPut result (W.faults wire.old) (W.faults wire.new) }
+    ensures heard { result ≢ Err Busy → AsksAreHeard (W.calls wire.old) (W.calls wire.new) (W.faults wire.old) (W.faults wire.new) }
 {
     let containers = all_containers(alloc, rows);
     add_containers(alloc, new, containers, wire)?;
@@ -73,6 +76,7 @@ pub fn checkpoint_rows<W: Wire>(
     ensures replaced { IfOk result (λ r. (r.log ≡ streams.old.log) × (r.rows ≡ streams.old.rows)) }
     ensures same { OnErr result (streams.new ≡ streams.old) }
     ensures counted { FailsPut result (W.faults wire.old) (W.faults wire.new) }
+    ensures heard { result ≢ Err Busy → AsksAreHeard (W.calls wire.old) (W.calls wire.new) (W.faults wire.old) (W.faults wire.new) }
 {
     let mut new = streams.begin_checkpoint(extent_bytes);
     write_rows(alloc, &mut new, rows, wire)?;

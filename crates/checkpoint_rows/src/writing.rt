@@ -1,8 +1,10 @@
 //! The rows of containers, which are written one after the other.
-ghost use Rattle.std.specs.Prelude.{◌≡◌, ◌≤◌, IfOk, None, OnOk, map};
+ghost use Rattle.std.specs.Prelude.{◌≡◌, ◌≢◌, ◌≤◌, Err, IfOk, None, OnOk, map};
 ghost use Rattle.std.specs.FinMap.{entries};
+ghost use Rattle.extent_seal.specs.Heard.{AsksAreHeard};
 ghost use Rattle.stamp_types.specs.declared.act.Act.TheVariants as act;
 ghost use Rattle.row_trees.specs.RowRecords.{blob_row_of, container_row_of};
+ghost use Rattle.stream_manager.specs.declared.faults.StoredFault.TheVariants.{Busy};
 ghost use Rattle.partition_stream.specs.Checkpoints.{HasOneRow};
 ghost use Rattle.partition_stream.specs.Counting.{FailsPut};
 ghost use Rattle.checkpoint_rows.specs.Writing.{AreReady, AreReadyParts, HasGoodNames, HasRows, IsPlacedRow, IsWritable, IsWritableBlob, all_records, container_records, own_acts, recorded};
@@ -16,6 +18,7 @@ use std::alloc::Global;
 use stream_manager::StoredFault;
 
 // Writes the row of a blob.
+#[tactic(auto, using(extent_seal::proofs::HeardLemmas::heard_none))]
 fn add_blob<W: Wire>(
     alloc: Global,
     new: &mut NewRows,
@@ -30,6 +33,7 @@ fn add_blob<W: Wire>(
     ensures written { OnOk result (HasOneRow new.old (recorded key.now (blob_row_of (name.now, blob.now))).0 new.new) }
     ensures limit { new.new.limit ≡ new.old.limit }
     ensures counted { FailsPut result (W.faults wire.old) (W.faults wire.new) }
+    ensures heard { result ≢ Err Busy → AsksAreHeard (W.calls wire.old) (W.calls wire.new) (W.faults wire.old) (W.faults wire.new) }
 {
     let row = blob_row(alloc, key, name, blob)?;
     new.add(&row, wire)
@@ -48,6 +52,7 @@ fn add_blobs<W: Wire>(
     ensures written { OnOk result (HasRows new.old (map (recorded key.now) (map blob_row_of blobs.entry)) new.new) }
     ensures limit { new.new.limit ≡ new.old.limit }
     ensures counted { FailsPut result (W.faults wire.old) (W.faults wire.new) }
+    ensures heard { result ≢ Err Busy → AsksAreHeard (W.calls wire.old) (W.calls wire.new) (W.faults wire.old) (W.faults wire.new) }
 {
     let mut left = blobs;
     while let Some((name, blob)) = left.next() {
@@ -57,6 +62,7 @@ fn add_blobs<W: Wire>(
 }
 
 // Writes the row of a container without its blobs.
+#[tactic(auto, using(extent_seal::proofs::HeardLemmas::heard_none))]
 fn add_container_row<W: Wire>(
     new: &mut NewRows,
     key: &Key,
@@ -69,13 +75,14 @@ fn add_container_row<W: Wire>(
     ensures written { OnOk result (HasOneRow new.old (record { key = key.now; act = act.ContainerRow (container_row_of found.now) }) new.new) }
     ensures limit { new.new.limit ≡ new.old.limit }
     ensures counted { FailsPut result (W.faults wire.old) (W.faults wire.new) }
+    ensures heard { result ≢ Err Busy → AsksAreHeard (W.calls wire.old) (W.calls wire.new) (W.faults wire.old) (W.faults wire.new) }
 {
     let row = container_row(key, found)?;
     new.add(&row, wire)
 }
 
 // Writes the row of a container without its blobs, if it has seen a change.
-#[tactic(auto, using(crate::proofs::WriteLemmas::no_row))]
+#[tactic(auto, using(crate::proofs::WriteLemmas::no_row, extent_seal::proofs::HeardLemmas::heard_none))]
 fn add_own<W: Wire>(
     new: &mut NewRows,
     key: &Key,
@@ -87,6 +94,7 @@ fn add_own<W: Wire>(
     ensures written { OnOk result (HasRows new.old (map (recorded key.now) (own_acts found.now)) new.new) }
     ensures limit { new.new.limit ≡ new.old.limit }
     ensures counted { FailsPut result (W.faults wire.old) (W.faults wire.new) }
+    ensures heard { result ≢ Err Busy → AsksAreHeard (W.calls wire.old) (W.calls wire.new) (W.faults wire.old) (W.faults wire.new) }
 {
     if found.count() == 0 {
         return Ok(());
@@ -116,6 +124,7 @@ fn add_container<W: Wire>(
     ensures written { OnOk result (HasRows new.old (container_records (key.now, found.now)) new.new) }
     ensures limit { new.new.limit ≡ new.old.limit }
     ensures counted { FailsPut result (W.faults wire.old) (W.faults wire.new) }
+    ensures heard { result ≢ Err Busy → AsksAreHeard (W.calls wire.old) (W.calls wire.new) (W.faults wire.old) (W.faults wire.new) }
 {
     add_own(new, key, found, wire)?;
     let blobs = all_blobs(alloc, found);
@@ -135,6 +144,7 @@ pub(crate) fn add_containers<W: Wire>(
     ensures written { OnOk result (HasRows new.old (all_records containers.entry) new.new) }
     ensures limit { new.new.limit ≡ new.old.limit }
     ensures counted { FailsPut result (W.faults wire.old) (W.faults wire.new) }
+    ensures heard { result ≢ Err Busy → AsksAreHeard (W.calls wire.old) (W.calls wire.new) (W.faults wire.old) (W.faults wire.new) }
 {
     let mut left = containers;
     while let Some((key, found)) = left.next() {

@@ -5,6 +5,7 @@ pub mod ContentLemmas
 pub mod DataLemmas
 pub mod FailedLemmas
 pub mod FirstPartLemmas
+pub mod HeardLemmas
 pub mod KeptLemmas
 pub mod LogLemmas
 pub mod MeaningLemmas

@@ -1,6 +1,7 @@
 -- Content that is read in the data and put again.
 use Rattle.std.proofs.Common.{◌≡◌, ◌∙◌, ℕ, ◌+◌, ◌<◌, ◌≤◌, IsTrue, Result, Ok, Err, inl, inr, List, [], ◌∷◌, ◌++◌, length, map, take, get_or, ap, sym, refl, subst, unwrap_or, arith}
 use Rattle.std.specs.List.{AllZip}
+use Rattle.std.proofs.lemmas.List.{map_more}
 use Rattle.std.proofs.lemmas.List.Concat.{flat_map-cons}
 use Rattle.std.proofs.lemmas.List.Elements.{All-head, All-tail, all_zip_more}
 use Rattle.extent_node.specs.Copies.{Block}
@@ -60,6 +61,16 @@ read_bytes : (es : List (List Block)) (ps : List Piece) → held (map (read_piec
 read_bytes es [] = refl
 read_bytes es (p ∷ ps) =
     flat_map-cons piece_bytes (read_piece es p) (map (read_piece es) ps) ∙ ap (λ l. bytes_at es p ++ l) (read_bytes es ps) ∙ sym (flat_map-cons (bytes_at es) p ps)
+
+-- one more piece is read
+pub read_more : (es : List (List Block)) (ps : List Piece) (i : ℕ) (p q : Piece) (done all : List Piece) → i < length ps → p ≡ get_or ps i p → done ≡ map (read_piece es) (take i ps)
+    → q ≡ read_piece es p → all ≡ done ++ q ∷ [] → all ≡ map (read_piece es) (take (i + 1) ps)
+read_more es ps i p q done all within is before now more =
+    more
+    ∙ ap (λ x. done ++ x ∷ []) now
+    ∙ ap (λ l. l ++ read_piece es p ∷ []) before
+    ∙ ap (λ x. map (read_piece es) (take i ps) ++ read_piece es x ∷ []) is
+    ∙ sym (map_more (read_piece es) ps i p within)
 
 -- what was read holds its bytes
 pub read_held : (es : List (List Block)) (ps : List Piece) → IsTrue (is_held (map (read_piece es) ps))

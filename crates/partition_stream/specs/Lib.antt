@@ -3,6 +3,7 @@ pub mod Checkpoints
 pub mod Compactions
 pub mod Contents
 pub mod Counting
+pub mod Heard
 pub mod Logging
 pub mod Meanings
 pub mod Outcomes

@@ -1,6 +1,7 @@
 //! Checkpoints: new rows that are written beside the old ones, and then put in their place (SOSP 2011, section 5.3).
-ghost use Rattle.std.specs.Prelude.{◌≡◌, ◌≤◌, None, Err, OnOk, length};
-ghost use Rattle.stream_manager.specs.declared.faults.StoredFault.TheVariants.{NoMemory};
+ghost use Rattle.std.specs.Prelude.{◌≡◌, ◌≢◌, ◌≤◌, None, Err, OnOk, length};
+ghost use Rattle.extent_seal.specs.Heard.{AsksAreHeard};
+ghost use Rattle.stream_manager.specs.declared.faults.StoredFault.TheVariants.{Busy, NoMemory};
 ghost use Rattle.log_record.specs.Fits.{IsRecorded};
 ghost use Rattle.log_record.specs.Records.{record_bytes};
 ghost use Rattle.log_record.specs.Sizes.{IsPlacedChange};
@@ -60,6 +61,7 @@ fn append_row<W: Wire>(
     ensures limit { rows.new.limit ≡ rows.old.limit }
     ensures called { CallsPut result 1 (length rows.old.sealed) (length rows.new.sealed) (W.calls wire.old) (W.calls wire.new) }
     ensures counted { FailsPut result (W.faults wire.old) (W.faults wire.new) }
+    ensures heard { result ≢ Err Busy → AsksAreHeard (W.calls wire.old) (W.calls wire.new) (W.faults wire.old) (W.faults wire.new) }
     ensures unchanged { result ≡ Err NoMemory → rows.new ≡ rows.old }
     ensures unheard { result ≡ Err NoMemory → wire.new ≡ wire.old }
 {
@@ -76,6 +78,7 @@ impl NewRows {
     ///
     /// Busy: the rows cannot go on. They are dropped, and the streams are as they were. NoMemory: no node was called, and the rows are
     /// as they were.
+    #[tactic(auto, using(extent_seal::proofs::HeardLemmas::heard_none))]
     pub fn add<W: Wire>(&mut self, change: &Change, wire: &mut W) -> Result<(), StoredFault>
         requires whole { self.old.last.tried ≡ None }
         requires placed { IsPlacedChange change.now }
@@ -83,6 +86,7 @@ impl NewRows {
         ensures limit { self.new.limit ≡ self.old.limit }
         ensures called { CallsPut result 1 (length self.old.sealed) (length self.new.sealed) (W.calls wire.old) (W.calls wire.new) }
         ensures counted { FailsPut result (W.faults wire.old) (W.faults wire.new) }
+        ensures heard { result ≢ Err Busy → AsksAreHeard (W.calls wire.old) (W.calls wire.new) (W.faults wire.old) (W.faults wire.new) }
         ensures unchanged { result ≡ Err NoMemory → self.new ≡ self.old }
         ensures unheard { result ≡ Err NoMemory → wire.new ≡ wire.old }
     {

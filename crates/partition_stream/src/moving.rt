@@ -6,6 +6,7 @@ ghost use Rattle.stream_manager.specs.Streams.{laid};
 ghost use Rattle.partition_stream.specs.Compactions.{read_piece};
 ghost use Rattle.partition_stream.specs.Contents.{ArePlaced, AreStored, IsStored};
 ghost use Rattle.partition_stream.specs.Counting.{FailsCompaction};
+ghost use Rattle.partition_stream.specs.Heard.{HearsCompaction};
 ghost use Rattle.partition_stream.specs.Sweeping.{AreFrom};
 
 use crate::data::put_content;
@@ -25,6 +26,7 @@ fn read_piece<W: Wire>(
     requires { IsStored (laid blobs.now) piece.now }
     ensures read { IfOk result (λ p. p ≡ read_piece (laid blobs.now) piece.now) }
     ensures counted { FailsCompaction result (W.faults wire.old) (W.faults wire.new) }
+    ensures heard { HearsCompaction result (W.calls wire.old) (W.calls wire.new) (W.faults wire.old) (W.faults wire.new) }
 {
     match piece {
         Piece::At { place, .. } => match blobs.read(*place, wire) {
@@ -37,6 +39,7 @@ fn read_piece<W: Wire>(
 }
 
 // The pieces with their bytes.
+#[tactic(auto, using(extent_seal::proofs::HeardLemmas::heard_none))]
 fn read_pieces<W: Wire>(
     alloc: Global,
     blobs: &Stream,
@@ -46,6 +49,7 @@ fn read_pieces<W: Wire>(
     requires { AreStored (laid blobs.now) pieces.now }
     ensures read { IfOk result (λ ps. ps.items ≡ map (read_piece (laid blobs.now)) pieces.now) }
     ensures counted { FailsCompaction result (W.faults wire.old) (W.faults wire.new) }
+    ensures heard { HearsCompaction result (W.calls wire.old) (W.calls wire.new) (W.faults wire.old) (W.faults wire.new) }
 {
     let mut read = Vec::with_capacity(alloc, pieces.len())?;
     for piece in pieces {
@@ -65,6 +69,7 @@ pub(crate) fn read_content<W: Wire>(
     requires { AreStored (laid blobs.now) content.now }
     ensures read { IfOk result (λ ps. ps ≡ map (read_piece (laid blobs.now)) content.now) }
     ensures counted { FailsCompaction result (W.faults wire.old) (W.faults wire.new) }
+    ensures heard { HearsCompaction result (W.calls wire.old) (W.calls wire.new) (W.faults wire.old) (W.faults wire.new) }
 {
     let read = read_pieces(alloc, blobs, content.as_slice(), wire)?;
     match Pieces::new(read) {
@@ -86,6 +91,7 @@ pub(crate) fn put_read<W: Wire>(
     ensures follows { GoesOn (laid blobs.old) (laid blobs.new) }
     ensures limit { blobs.new.limit ≡ blobs.old.limit }
     ensures counted { FailsCompaction result (W.faults wire.old) (W.faults wire.new) }
+    ensures heard { HearsCompaction result (W.calls wire.old) (W.calls wire.new) (W.faults wire.old) (W.faults wire.new) }
 {
     match put_content(alloc, blobs, read, wire) {
         Ok(placed) => Ok(placed),

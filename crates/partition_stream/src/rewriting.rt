@@ -8,6 +8,7 @@ ghost use Rattle.stream_manager.specs.Streams.{laid};
 ghost use Rattle.partition_stream.specs.Compactions.{AreMoved, AreMovedBlocks, AreMovedUncommitted, IsMovedBlock, IsMovedCommitted, IsMovedPart, IsMovedRow, IsMovedUncommitted};
 ghost use Rattle.partition_stream.specs.Contents.{AreStored};
 ghost use Rattle.partition_stream.specs.Counting.{FailsCompaction};
+ghost use Rattle.partition_stream.specs.Heard.{HearsCompaction};
 ghost use Rattle.partition_stream.specs.Sweeping.{AreFrom};
 
 use crate::faults::CompactionFault;
@@ -22,7 +23,7 @@ use std::alloc::{AllocError, Global};
 use stream_manager::Stream;
 
 // Puts content that is in the data again, and answers the pieces that say where it is now.
-#[tactic(auto, using(crate::proofs::MoveLemmas::held_read, crate::proofs::MoveLemmas::moved_content, stream_manager::proofs::RunLemmas::stays_on))]
+#[tactic(auto, using(crate::proofs::MoveLemmas::held_read, crate::proofs::MoveLemmas::moved_content, stream_manager::proofs::RunLemmas::stays_on, extent_seal::proofs::HeardLemmas::heard_then, crate::proofs::HeardLemmas::compaction_later))]
 fn put_content_again<W: Wire>(
     alloc: Global,
     blobs: &mut Stream,
@@ -35,6 +36,7 @@ fn put_content_again<W: Wire>(
     ensures follows { GoesOn (laid blobs.old) (laid blobs.new) }
     ensures limit { blobs.new.limit ≡ blobs.old.limit }
     ensures counted { FailsCompaction result (W.faults wire.old) (W.faults wire.new) }
+    ensures heard { HearsCompaction result (W.calls wire.old) (W.calls wire.new) (W.faults wire.old) (W.faults wire.new) }
 {
     let read = read_content(alloc, blobs, content, wire)?;
     let placed = put_read(alloc, blobs, &read, wire)?;
@@ -42,7 +44,7 @@ fn put_content_again<W: Wire>(
 }
 
 // Puts the content of a block again.
-#[tactic(auto, using(stream_manager::proofs::RunLemmas::stays_on))]
+#[tactic(auto, using(stream_manager::proofs::RunLemmas::stays_on, extent_seal::proofs::HeardLemmas::heard_none))]
 fn put_block_again<W: Wire>(
     alloc: Global,
     blobs: &mut Stream,
@@ -55,6 +57,7 @@ fn put_block_again<W: Wire>(
     ensures follows { GoesOn (laid blobs.old) (laid blobs.new) }
     ensures limit { blobs.new.limit ≡ blobs.old.limit }
     ensures counted { FailsCompaction result (W.faults wire.old) (W.faults wire.new) }
+    ensures heard { HearsCompaction result (W.calls wire.old) (W.calls wire.new) (W.faults wire.old) (W.faults wire.new) }
 {
     let id = block.id.clone()?;
     let content = put_content_again(alloc, blobs, &block.content, wire)?;
@@ -62,7 +65,7 @@ fn put_block_again<W: Wire>(
 }
 
 // Puts the content of blocks again, one block after the other.
-#[tactic(auto, using(stream_manager::proofs::RunLemmas::stays_on))]
+#[tactic(auto, using(stream_manager::proofs::RunLemmas::stays_on, extent_seal::proofs::HeardLemmas::heard_none))]
 fn put_blocks_again<W: Wire>(
     alloc: Global,
     blobs: &mut Stream,
@@ -75,6 +78,7 @@ fn put_blocks_again<W: Wire>(
     ensures follows { GoesOn (laid blobs.old) (laid blobs.new) }
     ensures limit { blobs.new.limit ≡ blobs.old.limit }
     ensures counted { FailsCompaction result (W.faults wire.old) (W.faults wire.new) }
+    ensures heard { HearsCompaction result (W.calls wire.old) (W.calls wire.new) (W.faults wire.old) (W.faults wire.new) }
 {
     let mut moved = Vec::with_capacity(alloc, blocks.len())?;
     for block in blocks {
@@ -85,7 +89,7 @@ fn put_blocks_again<W: Wire>(
 }
 
 // Puts the content of an uncommitted block again.
-#[tactic(auto, using(stream_manager::proofs::RunLemmas::stays_on))]
+#[tactic(auto, using(stream_manager::proofs::RunLemmas::stays_on, extent_seal::proofs::HeardLemmas::heard_none))]
 fn put_uncommitted_block_again<W: Wire>(
     alloc: Global,
     blobs: &mut Stream,
@@ -98,6 +102,7 @@ fn put_uncommitted_block_again<W: Wire>(
     ensures follows { GoesOn (laid blobs.old) (laid blobs.new) }
     ensures limit { blobs.new.limit ≡ blobs.old.limit }
     ensures counted { FailsCompaction result (W.faults wire.old) (W.faults wire.new) }
+    ensures heard { HearsCompaction result (W.calls wire.old) (W.calls wire.new) (W.faults wire.old) (W.faults wire.new) }
 {
     let id = block.id.clone()?;
     let content = put_content_again(alloc, blobs, &block.content, wire)?;
@@ -105,7 +110,7 @@ fn put_uncommitted_block_again<W: Wire>(
 }
 
 // Puts the content of uncommitted blocks again, one block after the other.
-#[tactic(auto, using(stream_manager::proofs::RunLemmas::stays_on))]
+#[tactic(auto, using(stream_manager::proofs::RunLemmas::stays_on, extent_seal::proofs::HeardLemmas::heard_none))]
 fn put_uncommitted_again<W: Wire>(
     alloc: Global,
     blobs: &mut Stream,
@@ -118,6 +123,7 @@ fn put_uncommitted_again<W: Wire>(
     ensures follows { GoesOn (laid blobs.old) (laid blobs.new) }
     ensures limit { blobs.new.limit ≡ blobs.old.limit }
     ensures counted { FailsCompaction result (W.faults wire.old) (W.faults wire.new) }
+    ensures heard { HearsCompaction result (W.calls wire.old) (W.calls wire.new) (W.faults wire.old) (W.faults wire.new) }
 {
     let mut moved = Vec::with_capacity(alloc, blocks.len())?;
     for block in blocks {
@@ -177,6 +183,7 @@ fn put_committed_again<W: Wire>(
     ensures follows { GoesOn (laid blobs.old) (laid blobs.new) }
     ensures limit { blobs.new.limit ≡ blobs.old.limit }
     ensures counted { FailsCompaction result (W.faults wire.old) (W.faults wire.new) }
+    ensures heard { HearsCompaction result (W.calls wire.old) (W.calls wire.new) (W.faults wire.old) (W.faults wire.new) }
 {
     let blocks = put_blocks_again(alloc, blobs, committed.blocks.as_slice(), wire)?;
     let moved = with_blocks(committed, blocks)?;
@@ -184,7 +191,7 @@ fn put_committed_again<W: Wire>(
 }
 
 // Puts the content of a committed part again, if there is a committed part.
-#[tactic(auto, using(stream_manager::proofs::RunLemmas::stays_on))]
+#[tactic(auto, using(stream_manager::proofs::RunLemmas::stays_on, extent_seal::proofs::HeardLemmas::heard_none))]
 fn put_part_again<W: Wire>(
     alloc: Global,
     blobs: &mut Stream,
@@ -197,6 +204,7 @@ fn put_part_again<W: Wire>(
     ensures follows { GoesOn (laid blobs.old) (laid blobs.new) }
     ensures limit { blobs.new.limit ≡ blobs.old.limit }
     ensures counted { FailsCompaction result (W.faults wire.old) (W.faults wire.new) }
+    ensures heard { HearsCompaction result (W.calls wire.old) (W.calls wire.new) (W.faults wire.old) (W.faults wire.new) }
 {
     match part {
         None => Ok(None),
@@ -208,7 +216,7 @@ fn put_part_again<W: Wire>(
 }
 
 // Puts the content of the row of a blob again.
-#[tactic(auto, using(stream_manager::proofs::RunLemmas::stays_on, crate::proofs::DataLemmas::twice_on))]
+#[tactic(auto, using(stream_manager::proofs::RunLemmas::stays_on, crate::proofs::DataLemmas::twice_on, extent_seal::proofs::HeardLemmas::heard_none, extent_seal::proofs::HeardLemmas::heard_then, crate::proofs::HeardLemmas::compaction_later))]
 fn put_stored_again<W: Wire>(
     alloc: Global,
     blobs: &mut Stream,
@@ -221,6 +229,7 @@ fn put_stored_again<W: Wire>(
     ensures follows { GoesOn (laid blobs.old) (laid blobs.new) }
     ensures limit { blobs.new.limit ≡ blobs.old.limit }
     ensures counted { FailsCompaction result (W.faults wire.old) (W.faults wire.new) }
+    ensures heard { HearsCompaction result (W.calls wire.old) (W.calls wire.new) (W.faults wire.old) (W.faults wire.new) }
 {
     let blob = row.blob.clone()?;
     let committed = put_part_again(alloc, blobs, &row.committed, wire)?;
@@ -242,6 +251,7 @@ impl Streams {
     ghost use Rattle.partition_stream.specs.Compactions.{IsMovedChange};
     ghost use Rattle.partition_stream.specs.Contents.{AreStored};
     ghost use Rattle.partition_stream.specs.Counting.{FailsCompaction};
+    ghost use Rattle.partition_stream.specs.Heard.{HearsCompaction};
     ghost use Rattle.partition_stream.specs.Sweeping.{AreFrom};
 
     /// Puts each content of the row of a blob again, at the end of the data, and answers the change that is the same row with the new
@@ -249,7 +259,7 @@ impl Streams {
     ///
     /// After a fault blocks may be left in the data to which nothing refers. Busy: a block was tried twice, or no node answered a seal.
     /// Unreachable: no node with a copy of some content answered. NoMemory: memory ran out; it may come after some calls of nodes.
-    #[tactic(auto, using(crate::proofs::MovedRowLemmas::moved_good, stream_manager::proofs::RunLemmas::stays_on))]
+    #[tactic(auto, using(crate::proofs::MovedRowLemmas::moved_good, stream_manager::proofs::RunLemmas::stays_on, extent_seal::proofs::HeardLemmas::heard_none))]
     pub fn put_row_again<W: Wire>(
         &mut self,
         key: &Key,
@@ -266,6 +276,7 @@ impl Streams {
         ensures rows { self.new.rows ≡ self.old.rows }
         ensures limit { self.new.blobs.limit ≡ self.old.blobs.limit }
         ensures counted { FailsCompaction result (W.faults wire.old) (W.faults wire.new) }
+        ensures heard { HearsCompaction result (W.calls wire.old) (W.calls wire.new) (W.faults wire.old) (W.faults wire.new) }
     {
         let key = key.clone()?;
         let moved = put_stored_again(self.alloc, &mut self.blobs, row, wire)?;

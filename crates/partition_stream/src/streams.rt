@@ -167,6 +167,7 @@ impl Streams {
         ensures called { CallsSeals result (length self.old.log.sealed) (length self.new.log.sealed) (W.calls wire.old) (W.calls wire.new) }
         ensures once { length self.new.log.sealed ≤ length self.old.log.sealed + 1 }
         ensures counted { FailsSeals result (W.faults wire.old) (W.faults wire.new) }
+        ensures heard { result ≢ Err stored_fault.Busy → AsksAreHeard (W.calls wire.old) (W.calls wire.new) (W.faults wire.old) (W.faults wire.new) }
     {
         self.log.seal(wire)
     }
@@ -183,6 +184,7 @@ impl Streams {
         ensures called { CallsSeals result (length self.old.blobs.sealed) (length self.new.blobs.sealed) (W.calls wire.old) (W.calls wire.new) }
         ensures once { length self.new.blobs.sealed ≤ length self.old.blobs.sealed + 1 }
         ensures counted { FailsSeals result (W.faults wire.old) (W.faults wire.new) }
+        ensures heard { result ≢ Err stored_fault.Busy → AsksAreHeard (W.calls wire.old) (W.calls wire.new) (W.faults wire.old) (W.faults wire.new) }
     {
         self.blobs.seal(wire)
     }
@@ -198,6 +200,7 @@ impl Streams {
         ensures called { CallsSeals result (length self.old.rows.sealed) (length self.new.rows.sealed) (W.calls wire.old) (W.calls wire.new) }
         ensures once { length self.new.rows.sealed ≤ length self.old.rows.sealed + 1 }
         ensures counted { FailsSeals result (W.faults wire.old) (W.faults wire.new) }
+        ensures heard { result ≢ Err stored_fault.Busy → AsksAreHeard (W.calls wire.old) (W.calls wire.new) (W.faults wire.old) (W.faults wire.new) }
     {
         self.rows.seal(wire)
     }
@@ -217,6 +220,7 @@ impl Streams {
         ensures called { CallsSeals result (sealed_extents self.old) (sealed_extents self.new) (W.calls wire.old) (W.calls wire.new) }
         ensures once { sealed_extents self.new ≤ sealed_extents self.old + 3 }
         ensures counted { FailsSeals result (W.faults wire.old) (W.faults wire.new) }
+        ensures heard { result ≢ Err stored_fault.Busy → AsksAreHeard (W.calls wire.old) (W.calls wire.new) (W.faults wire.old) (W.faults wire.new) }
     {
         self.seal_log(wire)?;
         self.seal_blobs(wire)?;

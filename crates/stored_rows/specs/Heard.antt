@@ -16,8 +16,8 @@ HearsStored (Ok _) old new failed_old failed_new = AsksAreHeard old new failed_o
 HearsStored (Err stored.Busy) old new failed_old failed_new = ⊤
 HearsStored (Err stored.NoMemory) old new failed_old failed_new = AsksAreHeard old new failed_old failed_new
 
--- the same of a change that is taken
-abbrev pub HearsTake : Result (Unit {0}) TakeFault → Calls → Calls → Calls → Calls → Type 0
+-- the same of a change that is taken, and of rows that are written again
+abbrev pub HearsTake : {T : Type 0} → Result T TakeFault → Calls → Calls → Calls → Calls → Type 0
 HearsTake (Ok _) old new failed_old failed_new = AsksAreHeard old new failed_old failed_new
 HearsTake (Err take.Busy) old new failed_old failed_new = ⊤
 HearsTake (Err take.Doubt) old new failed_old failed_new = ⊤

@@ -13,12 +13,14 @@ ghost use Rattle.stream_manager.specs.Streams.{laid};
 ghost use Rattle.partition_stream.specs.Compactions.{IsMovedChange};
 ghost use Rattle.partition_stream.specs.Contents.{AreStored};
 ghost use Rattle.partition_stream.specs.Counting.{FailsCompaction};
+ghost use Rattle.partition_stream.specs.Heard.{HearsCompaction};
 ghost use Rattle.partition_stream.specs.Meanings.{held_of};
 ghost use Rattle.partition_stream.specs.Storing.{AreKept, IsStoredChange};
 ghost use Rattle.partition_stream.specs.Streams.{logged};
 ghost use Rattle.partition_stream.specs.Sweeping.{AreFrom};
 ghost use Rattle.checkpoint_rows.specs.Writing.{IsWritableBlob};
 ghost use Rattle.stored_rows.specs.Counting.{FailsLogged};
+ghost use Rattle.stored_rows.specs.Heard.{HearsLogged};
 ghost use Rattle.stored_rows.specs.Rewriting.{GoOn, IfLogged, IsBlobRow, IsRewritten, IsRowLogged, IsSwapped};
 ghost use Rattle.stored_rows.specs.RowDoubts.{HasSpare, stored_blob_of};
 
@@ -42,6 +44,7 @@ fn log_row<W: Wire>(streams: &mut Streams, row: Change, wire: &mut W) -> Result<
     ensures follows { GoOn streams.old streams.new }
     ensures blobs { streams.new.blobs ≡ streams.old.blobs }
     ensures counted { FailsLogged result (W.faults wire.old) (W.faults wire.new) }
+    ensures heard { HearsLogged result (W.calls wire.old) (W.calls wire.new) (W.faults wire.old) (W.faults wire.new) }
 {
     match streams.log_change(&row, 0, wire) {
         Ok(_length) => Ok(row),
@@ -50,6 +53,7 @@ fn log_row<W: Wire>(streams: &mut Streams, row: Change, wire: &mut W) -> Result<
 }
 
 /// Logs the own row of a container again. It changes nothing in memory.
+#[tactic(auto, using(extent_seal::proofs::HeardLemmas::heard_none))]
 pub(crate) fn write_container<W: Wire>(
     streams: &mut Streams,
     rows: &Rows,
@@ -64,6 +68,7 @@ pub(crate) fn write_container<W: Wire>(
     ensures follows { GoOn streams.old streams.new }
     ensures blobs { streams.new.blobs ≡ streams.old.blobs }
     ensures counted { FailsLogged result (W.faults wire.old) (W.faults wire.new) }
+    ensures heard { HearsLogged result (W.calls wire.old) (W.calls wire.new) (W.faults wire.old) (W.faults wire.new) }
     ensures whole { AreKept streams.old }
 {
     streams.kept();
@@ -124,6 +129,7 @@ fn put_again<W: Wire>(
     ensures rows { streams.new.rows ≡ streams.old.rows }
     ensures follows { GoOn streams.old streams.new }
     ensures counted { FailsCompaction result (W.faults wire.old) (W.faults wire.new) }
+    ensures heard { HearsCompaction result (W.calls wire.old) (W.calls wire.new) (W.faults wire.old) (W.faults wire.new) }
 {
     streams.put_row_again(row.key(), stored_of(row), wire)
 }
@@ -146,6 +152,7 @@ fn swap_row(rows: &mut Rows, row: &Change, new: NewRow)
 }
 
 // Logs the row of a blob whose content was put again, and swaps the row in memory. All memory is taken before the record is logged.
+#[tactic(auto, using(extent_seal::proofs::HeardLemmas::heard_none))]
 fn log_blob<W: Wire>(
     alloc: Global,
     streams: &mut Streams,
@@ -164,6 +171,7 @@ fn log_blob<W: Wire>(
     ensures follows { GoOn streams.old streams.new }
     ensures blobs { streams.new.blobs ≡ streams.old.blobs }
     ensures counted { FailsLogged result (W.faults wire.old) (W.faults wire.new) }
+    ensures heard { HearsLogged result (W.calls wire.old) (W.calls wire.new) (W.faults wire.old) (W.faults wire.new) }
 {
     let Ok(new) = new_row(alloc, &moved) else {
         drop(moved);
@@ -200,6 +208,7 @@ pub(crate) fn write_blob<W: Wire>(
     ensures spare { HasSpare result spare.new }
     ensures follows { GoOn streams.old streams.new }
     ensures counted { FailsLogged result (W.faults wire.old) (W.faults wire.new) }
+    ensures heard { HearsLogged result (W.calls wire.old) (W.calls wire.new) (W.faults wire.old) (W.faults wire.new) }
     ensures whole { AreKept streams.old }
 {
     streams.kept();

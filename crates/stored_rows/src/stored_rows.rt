@@ -71,6 +71,7 @@ impl StoredRows {
     ghost use Rattle.std.specs.List.{flat_map, list_all};
     ghost use Rattle.std.specs.Option.{option_copied};
     ghost use Rattle.extent_seal.specs.Counting.{Grows, all_faults};
+    ghost use Rattle.extent_seal.specs.Heard.{AsksAreHeard};
     ghost use Rattle.extent_seal.specs.declared.sealed.ReadFault.TheVariants as read_fault;
     ghost use Rattle.stamp_types.specs.ActKinds.{is_row};
     ghost use Rattle.stamp_types.specs.Changes.{content_of};
@@ -257,6 +258,7 @@ impl StoredRows {
         ensures unheard { is_piece_in_last self.old.streams.blobs piece.now ≡ false → wire.new ≡ wire.old }
         ensures unreachable { result ≡ Err read_fault.Unreachable → all_faults (W.faults wire.old) < all_faults (W.faults wire.new) }
         ensures grown { Grows (W.faults wire.old) (W.faults wire.new) }
+        ensures heard { result ≢ Err read_fault.Unreachable → AsksAreHeard (W.calls wire.old) (W.calls wire.new) (W.faults wire.old) (W.faults wire.new) }
     {
         self.streams.part(piece, start, end, wire)
     }
@@ -284,6 +286,7 @@ impl StoredRows {
         ensures same { self.new ≡ self.old }
         ensures unreachable { OnErr result (all_faults (W.faults wire.old) < all_faults (W.faults wire.new)) }
         ensures grown { Grows (W.faults wire.old) (W.faults wire.new) }
+        ensures heard { OnOk result (AsksAreHeard (W.calls wire.old) (W.calls wire.new) (W.faults wire.old) (W.faults wire.new)) }
     {
         self.streams.kept();
         make_answer(self.alloc, &mut self.streams, frame, spans, gathers, wire)
@@ -467,6 +470,7 @@ impl StoredRows {
         ensures limits { HaveSameLimits self.old.streams self.new.streams }
         ensures data { self.new.streams.blobs ≡ self.old.streams.blobs }
         ensures counted { FailsStored result (W.faults wire.old) (W.faults wire.new) }
+        ensures heard { HearsStored result (W.calls wire.old) (W.calls wire.new) (W.faults wire.old) (W.faults wire.new) }
     {
         self.streams.kept();
         let settled = self.streams.settle(wire);
@@ -477,6 +481,7 @@ impl StoredRows {
     /// before it writes or seals, and answers whether a row was in doubt: what was found in the rows before is then found anew.
     ///
     /// Busy: no node answered. NoMemory: no node was called. After both the row is in doubt as before.
+    #[tactic(auto, using(extent_seal::proofs::HeardLemmas::heard_none))]
     pub fn end_row_doubt<W: Wire>(&mut self, wire: &mut W) -> Result<bool, StoredFault>
         requires own { own_doubt_of self.old ≡ None }
         ensures means { (key : Key) → bytes_of self.new key ≡ bytes_of self.old key }
@@ -488,6 +493,7 @@ impl StoredRows {
         ensures limits { HaveSameLimits self.old.streams self.new.streams }
         ensures data { self.new.streams.blobs ≡ self.old.streams.blobs }
         ensures counted { FailsStored result (W.faults wire.old) (W.faults wire.new) }
+        ensures heard { HearsStored result (W.calls wire.old) (W.calls wire.new) (W.faults wire.old) (W.faults wire.new) }
     {
         if !self.has_row_doubt() {
             return Ok(false);
@@ -508,6 +514,7 @@ impl StoredRows {
         ensures sealed { OnOk result (AreSealed self.new.streams) }
         ensures limits { HaveSameLimits self.old.streams self.new.streams }
         ensures counted { FailsStored result (W.faults wire.old) (W.faults wire.new) }
+        ensures heard { HearsStored result (W.calls wire.old) (W.calls wire.new) (W.faults wire.old) (W.faults wire.new) }
     {
         self.streams.kept();
         let sealed = self.streams.seal(wire);
@@ -566,6 +573,7 @@ impl StoredRows {
     /// ends it by itself, and gives up its own handles of what came before the mark.
     ///
     /// After a fault nothing was cut. Busy: no node answered the seal of a stream. NoMemory: memory ran out.
+    #[tactic(auto, using(extent_seal::proofs::HeardLemmas::heard_none, crate::proofs::HeardLemmas::hears_any))]
     pub fn cut<W: Wire>(&mut self, middle: &Key, wire: &mut W) -> Result<Self, StoredFault>
         requires sure { doubt_of self.old ≡ None }
         requires covered { covers self.old.range middle.now ≡ true }
@@ -575,6 +583,7 @@ impl StoredRows {
         ensures own_limits { IfOk result (λ upper. HaveSameLimits self.old.streams upper.streams) }
         ensures refused { OnErr result (MeansTheSame self.old self.new × (doubt_of self.new ≡ None)) }
         ensures counted { FailsStored result (W.faults wire.old) (W.faults wire.new) }
+        ensures heard { HearsStored result (W.calls wire.old) (W.calls wire.new) (W.faults wire.old) (W.faults wire.new) }
     {
         let Ok((end, upper)) = ends_of(&self.range, middle) else {
             return Err(StoredFault::NoMemory);

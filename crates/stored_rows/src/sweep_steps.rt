@@ -2,6 +2,7 @@
 ghost use Rattle.std.specs.Prelude.{◌≡◌, ◌||◌, IsOk, IsTrue, None, Some, true};
 ghost use Rattle.stamp_types.specs.World.{part_at};
 ghost use Rattle.partition_stream.specs.Streams.{logged};
+ghost use Rattle.stored_rows.specs.Heard.{HearsTake};
 ghost use Rattle.stored_rows.specs.Loaded.{AreLoaded};
 ghost use Rattle.stored_rows.specs.NextRows.{IsNextBlob, IsNextContainer, IsOutside};
 ghost use Rattle.stored_rows.specs.Noting.{taken_by};
@@ -75,6 +76,7 @@ fn step_container<W: Wire>(
     ensures stepped { IsStepped range.now streams.old streams.new rows.now doubt.new spare.now sweep.new }
     ensures doubt { LeavesRowDoubt result streams.new }
     ensures counted { FailsStep result (W.faults wire.old) (W.faults wire.new) }
+    ensures heard { HearsTake result (W.calls wire.old) (W.calls wire.new) (W.faults wire.old) (W.faults wire.new) }
 {
     let size = own_size(rows, &key);
     let logged = write_container(streams, rows, &key, wire);
@@ -111,6 +113,7 @@ fn step_blob<W: Wire>(
     ensures stepped { IsStepped range.now streams.old streams.new rows.new doubt.new spare.new sweep.new }
     ensures doubt { LeavesRowDoubt result streams.new }
     ensures counted { FailsStep result (W.faults wire.old) (W.faults wire.new) }
+    ensures heard { HearsTake result (W.calls wire.old) (W.calls wire.new) (W.faults wire.old) (W.faults wire.new) }
 {
     let size = row_size(&row);
     let logged = write_blob(alloc, streams, rows, spare, &row, wire);
@@ -129,6 +132,7 @@ fn step_blob<W: Wire>(
 }
 
 /// Writes the row that comes next, or moves the cursor past a container of which no blob is left.
+#[tactic(auto, using(extent_seal::proofs::HeardLemmas::heard_none))]
 pub(crate) fn step_row<W: Wire>(
     alloc: Global,
     streams: &mut Streams,
@@ -145,6 +149,7 @@ pub(crate) fn step_row<W: Wire>(
     ensures stepped { IsStepped range.now streams.old streams.new rows.new doubt.new spare.new sweep.new }
     ensures doubt { LeavesRowDoubt result streams.new }
     ensures counted { FailsStep result (W.faults wire.old) (W.faults wire.new) }
+    ensures heard { HearsTake result (W.calls wire.old) (W.calls wire.new) (W.faults wire.old) (W.faults wire.new) }
 {
     streams.kept();
     match next_row(alloc, rows, &sweep.cursor) {
@@ -170,6 +175,7 @@ pub(crate) fn step_row<W: Wire>(
 }
 
 // Writes the own row of a container again, unless the sweep knows that it was written or the container has none.
+#[tactic(auto, using(extent_seal::proofs::HeardLemmas::heard_none))]
 fn touch_container<W: Wire>(
     alloc: Global,
     streams: &mut Streams,
@@ -188,6 +194,7 @@ fn touch_container<W: Wire>(
     ensures stepped { IsStepped range.now streams.old streams.new rows.now doubt.new spare.now sweep.new }
     ensures doubt { LeavesRowDoubt result streams.new }
     ensures counted { FailsStep result (W.faults wire.old) (W.faults wire.new) }
+    ensures heard { HearsTake result (W.calls wire.old) (W.calls wire.new) (W.faults wire.old) (W.faults wire.new) }
     ensures begun { IsOk result → IsTrue (knows_row sweep.new.cursor sweep.new.touched key.now || is_unseen (part_at rows.now key.now)) }
 {
     streams.kept();
@@ -206,6 +213,7 @@ fn touch_container<W: Wire>(
 }
 
 // Writes the row of a blob again, unless the sweep knows that it was written or nothing is left of a blob of this name.
+#[tactic(auto, using(extent_seal::proofs::HeardLemmas::heard_none))]
 fn touch_blob<W: Wire>(
     alloc: Global,
     streams: &mut Streams,
@@ -226,6 +234,7 @@ fn touch_blob<W: Wire>(
     ensures stepped { IsStepped range.now streams.old streams.new rows.new doubt.new spare.new sweep.new }
     ensures doubt { LeavesRowDoubt result streams.new }
     ensures counted { FailsStep result (W.faults wire.old) (W.faults wire.new) }
+    ensures heard { HearsTake result (W.calls wire.old) (W.calls wire.new) (W.faults wire.old) (W.faults wire.new) }
 {
     streams.kept();
     if sweep.knows_name(key, &rows.find(key), name) {
@@ -247,6 +256,7 @@ fn touch_blob<W: Wire>(
 }
 
 /// Writes the rows again that a change reads and that the sweep does not know to be written.
+#[tactic(auto, using(extent_seal::proofs::HeardLemmas::heard_then, crate::proofs::HeardLemmas::hears_take_later))]
 pub(crate) fn touch_rows<W: Wire>(
     alloc: Global,
     streams: &mut Streams,
@@ -265,6 +275,7 @@ pub(crate) fn touch_rows<W: Wire>(
     ensures stepped { IsStepped range.now streams.old streams.new rows.new doubt.new spare.new sweep.new }
     ensures doubt { LeavesRowDoubt result streams.new }
     ensures counted { FailsStep result (W.faults wire.old) (W.faults wire.new) }
+    ensures heard { HearsTake result (W.calls wire.old) (W.calls wire.new) (W.faults wire.old) (W.faults wire.new) }
 {
     let key = change.key();
     match touch_container(alloc, streams, rows, range, sweep, doubt, spare, key, wire) {

@@ -13,6 +13,7 @@ impl StoredRows {
     ghost use Rattle.partition_stream.specs.Streams.{HaveSameLimits};
     ghost use Rattle.stored_rows.specs.Checkpoints.{IsWrittenAnew, MeansTheRange};
     ghost use Rattle.stored_rows.specs.Counting.{FailsStored};
+    ghost use Rattle.stored_rows.specs.Heard.{HearsStored};
     ghost use Rattle.stored_rows.specs.States.{doubt_of};
 
     /// Writes the rows of all containers of the range as a new checkpoint, and puts it in the place of the log and of the older rows. Gives
@@ -22,6 +23,7 @@ impl StoredRows {
     /// a cut, are not written again. The extents of the new log and of the new rows have the limit of the old ones.
     ///
     /// After a fault nothing is changed. Busy: a row was tried twice, or no node answered.
+    #[tactic(auto, using(crate::proofs::HeardLemmas::hears_failed))]
     pub fn checkpoint<W: Wire>(&mut self, wire: &mut W) -> Result<Replaced, StoredFault>
         requires sure { doubt_of self.old ≡ None }
         requires loaded { self.old.is_loaded ≡ true }
@@ -33,6 +35,7 @@ impl StoredRows {
         ensures replaced { IfOk result (λ r. (r.log ≡ self.old.streams.log) × (r.rows ≡ self.old.streams.rows)) }
         ensures refused { OnErr result (self.new ≡ self.old) }
         ensures counted { FailsStored result (W.faults wire.old) (W.faults wire.new) }
+        ensures heard { HearsStored result (W.calls wire.old) (W.calls wire.new) (W.faults wire.old) (W.faults wire.new) }
     {
         self.streams.kept();
         // A sweep does not go on over a new log.

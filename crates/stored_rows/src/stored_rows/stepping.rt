@@ -12,17 +12,20 @@ use stamp_types::Change;
 impl StoredRows {
     ghost use Rattle.std.specs.Prelude.{◌≡◌, None, true};
     ghost use Rattle.stored_rows.specs.Compactions.{KeepsTheRange};
+    ghost use Rattle.stored_rows.specs.Heard.{HearsTake};
     ghost use Rattle.stored_rows.specs.Ranges.{covers};
     ghost use Rattle.stored_rows.specs.Rewriting.{FailsStep, LeavesRowDoubt};
     ghost use Rattle.stored_rows.specs.States.{doubt_of};
 
     // Writes the next row of the sweep.
+    #[tactic(auto, using(extent_seal::proofs::HeardLemmas::heard_none))]
     fn write_next<W: Wire>(&mut self, wire: &mut W) -> Result<Went, TakeFault>
         requires sure { doubt_of self.old ≡ None }
         ensures kept { KeepsTheRange self.old self.new }
         ensures loaded { self.new.is_loaded ≡ self.old.is_loaded }
         ensures doubt { LeavesRowDoubt result self.new.streams }
         ensures counted { FailsStep result (W.faults wire.old) (W.faults wire.new) }
+        ensures heard { HearsTake result (W.calls wire.old) (W.calls wire.new) (W.faults wire.old) (W.faults wire.new) }
     {
         let Some(rows) = &mut self.rows else {
             return Ok(Went::NoSweep);
@@ -52,7 +55,7 @@ impl StoredRows {
     ///
     /// Busy: a row was tried twice, or nodes that were needed did not answer. Doubt: it is not known whether a row is kept; each container is the same
     /// either way. NoMemory: memory ran out before the row was logged. After a fault the rows before it are written, and the sweep goes on later.
-    #[tactic(auto, using(crate::proofs::SteppedLemmas::range_twice, crate::proofs::SteppedLemmas::step_later, crate::proofs::SteppedLemmas::keeps_itself, crate::proofs::CountLemmas::grows_twice, crate::proofs::CountLemmas::grows_not))]
+    #[tactic(auto, using(crate::proofs::SteppedLemmas::range_twice, crate::proofs::SteppedLemmas::step_later, crate::proofs::SteppedLemmas::keeps_itself, crate::proofs::CountLemmas::grows_twice, crate::proofs::CountLemmas::grows_not, extent_seal::proofs::HeardLemmas::heard_none, extent_seal::proofs::HeardLemmas::heard_then, crate::proofs::HeardLemmas::hears_take_later))]
     pub fn sweep_step<W: Wire>(
         &mut self,
         limit: StepLimit,
@@ -63,6 +66,7 @@ impl StoredRows {
         ensures loaded { self.new.is_loaded ≡ self.old.is_loaded }
         ensures doubt { LeavesRowDoubt result self.new.streams }
         ensures counted { FailsStep result (W.faults wire.old) (W.faults wire.new) }
+        ensures heard { HearsTake result (W.calls wire.old) (W.calls wire.new) (W.faults wire.old) (W.faults wire.new) }
     {
         let mut size = Rewritten::none();
         'rows: for _row in 0..limit.rows {
@@ -85,6 +89,7 @@ impl StoredRows {
     /// the change is taken; otherwise the take ends the sweep. Each container is as it was.
     ///
     /// The faults are those of a step.
+    #[tactic(auto, using(extent_seal::proofs::HeardLemmas::heard_none))]
     pub fn touch<W: Wire>(&mut self, change: &Change, wire: &mut W) -> Result<(), TakeFault>
         requires sure { doubt_of self.old ≡ None }
         requires covered { covers self.old.range change.now.key ≡ true }
@@ -92,6 +97,7 @@ impl StoredRows {
         ensures loaded { self.new.is_loaded ≡ self.old.is_loaded }
         ensures doubt { LeavesRowDoubt result self.new.streams }
         ensures counted { FailsStep result (W.faults wire.old) (W.faults wire.new) }
+        ensures heard { HearsTake result (W.calls wire.old) (W.calls wire.new) (W.faults wire.old) (W.faults wire.new) }
     {
         let Some(rows) = &mut self.rows else {
             return Ok(());

@@ -26,6 +26,7 @@ impl StoredRows {
     ghost use Rattle.partition_stream.specs.Streams.{AreSealed, HaveSameLimits, logged};
     ghost use Rattle.stored_rows.specs.Compactions.{KeepsTheRange};
     ghost use Rattle.stored_rows.specs.Counting.{FailsStored};
+    ghost use Rattle.stored_rows.specs.Heard.{HearsStored};
     ghost use Rattle.stored_rows.specs.States.{MeansTheSame, doubt_of};
 
     // Begins a sweep of streams that are sealed.
@@ -49,12 +50,14 @@ impl StoredRows {
     /// Begins a sweep, if none is under way: the streams are sealed, and each row that they have now is to be written again.
     ///
     /// After a fault no sweep has begun. Busy: no node answered the seal of a stream. NoMemory: memory ran out.
+    #[tactic(auto, using(extent_seal::proofs::HeardLemmas::heard_none, crate::proofs::HeardLemmas::hears_any))]
     pub fn sweep_begin<W: Wire>(&mut self, wire: &mut W) -> Result<(), StoredFault>
         requires sure { doubt_of self.old ≡ None }
         ensures same { MeansTheSame self.old self.new }
         ensures doubt { doubt_of self.new ≡ None }
         ensures limits { HaveSameLimits self.old.streams self.new.streams }
         ensures counted { FailsStored result (W.faults wire.old) (W.faults wire.new) }
+        ensures heard { HearsStored result (W.calls wire.old) (W.calls wire.new) (W.faults wire.old) (W.faults wire.new) }
     {
         if self.sweep.is_some() {
             return Ok(());

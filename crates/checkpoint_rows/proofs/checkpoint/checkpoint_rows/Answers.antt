@@ -1,3 +1,4 @@
+use Rattle.std.proofs.Common.{rules}
 use Rattle.stream_manager.specs.Streams.{laid}
 use Rattle.checkpoint_rows.proofs.PlacedLemmas.{all_stored, placed_rows, world_placed}
 use Rattle.checkpoint_rows.proofs.ReadyLemmas.{ready_world}
@@ -20,3 +21,6 @@ pub returns-clause-rows : goal.returns-clause-rows
 returns-clause-rows g c =
     placed_rows c.args.streams.now c.put_in_place.new.self c.begin_checkpoint-new.result c.write_rows.new.new c.args.rows.now
     c.begin_checkpoint-new.ensures.empty c.in_ok-write_rows.ensures.written c.put_in_place.ensures.placed
+
+pub returns-in_err-write_rows-clause-heard : goal.returns-in_err-write_rows-clause-heard
+returns-in_err-write_rows-clause-heard g c = λ reached. c.write_rows.ensures.heard (search rules)

@@ -1,4 +1,5 @@
-use Rattle.std.proofs.Common.{◌∙◌, map, refl, subst, sym}
+use Rattle.std.proofs.Common.{◌∙◌, map, refl, rules, subst, sym}
+use Rattle.extent_seal.proofs.HeardLemmas.{heard_none, heard_then}
 use Rattle.row_trees.specs.RowRecords.{blob_row_of}
 use Rattle.checkpoint_rows.specs.Writing.{HasRows, recorded}
 use Rattle.checkpoint_rows.proofs.CountLemmas.{grows_none, grows_twice}
@@ -7,7 +8,7 @@ use Rattle.checkpoint_rows.proofs.WriteLemmas.{blob_more, no_more}
 use Rattle.checkpoint_rows.proofs.writing.add_blobs.Goals as goal
 
 pub loop-name-init : goal.loop-name-init
-loop-name-init g c = record { can = tt; ends = tt; whole = c.requires.whole; ready = c.requires.ready; written = λ t has. has; limit = refl; counted = grows_none (g.W.Wire.faults c.args.wire.now) }
+loop-name-init g c = record { can = tt; ends = tt; whole = c.requires.whole; ready = c.requires.ready; written = λ t has. has; limit = refl; counted = grows_none (g.W.Wire.faults c.args.wire.now); heard = heard_none (g.W.Wire.calls c.args.wire.now) (g.W.Wire.faults c.args.wire.now) }
 
 pub add_blob-requires-clause-whole : goal.add_blob-requires-clause-whole
 add_blob-requires-clause-whole g c = c.loop-name.invariant.whole
@@ -31,6 +32,8 @@ loop-name-preserved g c = record {
       (blob_more c.loop-name.new c.add_blob.new.new t c.args.key.now (c.in-Some.name.now, c.in-Some.blob) c.next.new.self c.in_ok-add_blob.ensures.written has));
   limit = c.add_blob.ensures.limit ∙ c.loop-name.invariant.limit;
   counted = grows_twice (g.W.Wire.faults c.args.wire.now) (g.W.Wire.faults c.loop-name.wire) (g.W.Wire.faults c.add_blob.new.wire) c.loop-name.invariant.counted c.in_ok-add_blob.ensures.counted;
+  heard = heard_then (g.W.Wire.calls c.args.wire.now) (g.W.Wire.calls c.loop-name.wire) (g.W.Wire.calls c.add_blob.new.wire)
+      (g.W.Wire.faults c.args.wire.now) (g.W.Wire.faults c.loop-name.wire) (g.W.Wire.faults c.add_blob.new.wire) c.loop-name.invariant.heard (c.add_blob.ensures.heard (λ e. absurd (search rules)));
 }
 
 pub returns-clause-written : goal.returns-clause-written
@@ -43,3 +46,11 @@ returns-clause-counted g c = c.loop-name.invariant.counted
 
 pub returns-clause-limit : goal.returns-clause-limit
 returns-clause-limit g c = c.loop-name.invariant.limit
+
+pub returns-clause-heard : goal.returns-clause-heard
+returns-clause-heard g c = λ _. c.loop-name.invariant.heard
+
+pub returns-in_err-add_blob-clause-heard : goal.returns-in_err-add_blob-clause-heard
+returns-in_err-add_blob-clause-heard g c = λ reached.
+    heard_then (g.W.Wire.calls c.args.wire.now) (g.W.Wire.calls c.loop-name.wire) (g.W.Wire.calls c.add_blob.new.wire)
+    (g.W.Wire.faults c.args.wire.now) (g.W.Wire.faults c.loop-name.wire) (g.W.Wire.faults c.add_blob.new.wire) c.loop-name.invariant.heard (c.add_blob.ensures.heard (search rules))

@@ -1,5 +1,6 @@
 use Rattle.std.proofs.Common.{◌≡◌, None, length, map}
 use Rattle.extent_seal.specs.Counting.{Grows}
+use Rattle.extent_seal.specs.Heard.{AsksAreHeard}
 use Rattle.row_trees.specs.RowRecords.{blob_row_of}
 use Rattle.stream_manager.specs.Streams.{Streamed}
 use Rattle.checkpoint_rows.specs.Writing.{AreReady, HasRows, recorded}
@@ -15,6 +16,7 @@ invariant-loop-name g l = record {
   written : (t : Streamed) → HasRows l.new (map (recorded l.key) (map blob_row_of l.left)) t → HasRows l.initial.new (map (recorded l.key) (map blob_row_of l.initial.left)) t;
   limit : l.new.limit ≡ l.initial.new.limit;
   counted : Grows (g.W.Wire.faults l.initial.wire) (g.W.Wire.faults l.wire);
+  heard : AsksAreHeard (g.W.Wire.calls l.initial.wire) (g.W.Wire.calls l.wire) (g.W.Wire.faults l.initial.wire) (g.W.Wire.faults l.wire);
 }
 
 abbrev pub decreases-loop-name : goal.decreases-loop-name

@@ -1,5 +1,6 @@
 use Rattle.std.proofs.Common.{◌≡◌, All, length, take}
 use Rattle.extent_seal.specs.Counting.{Grows}
+use Rattle.extent_seal.specs.Heard.{AsksAreHeard}
 use Rattle.stream_manager.specs.Places.{GoesOn}
 use Rattle.stream_manager.specs.Streams.{laid}
 use Rattle.partition_stream.specs.Compactions.{AreMovedBlocks}
@@ -15,4 +16,5 @@ invariant-loop-block g l = record {
   follows : GoesOn (laid l.initial.blobs) (laid l.blobs);
   limit : l.blobs.limit ≡ l.initial.blobs.limit;
   counted : Grows (g.W.Wire.faults l.initial.wire) (g.W.Wire.faults l.wire);
+  heard : AsksAreHeard (g.W.Wire.calls l.initial.wire) (g.W.Wire.calls l.wire) (g.W.Wire.faults l.initial.wire) (g.W.Wire.faults l.wire);
 }

@@ -11,6 +11,7 @@ use Rattle.stored_rows.specs.declared.cursor.Cursor.TheVariants as cursor
 use Rattle.stored_rows.specs.declared.sweep_steps.Went.{Went}
 use Rattle.stored_rows.proofs.StepLemmas.{other_doubt}
 use Rattle.stored_rows.proofs.SteppedLemmas.{at_key, blob_covered, blob_doubt, blob_not_noted, blob_passed, held_in_rows, row_inside}
+use Rattle.stored_rows.proofs.HeardLemmas.{hears_not_written, hears_written}
 use Rattle.stored_rows.proofs.sweep_steps.step_blob.Goals as goal
 
 pub write_blob-logged-requires-clause-own : goal.write_blob-logged-requires-clause-own
@@ -48,3 +49,9 @@ returns-in-Err-clause-doubt g c =
     (subst (λ (r : Result (Unit {0}) TakeFault). LeavesRowDoubt r c.write_blob-logged.new.streams) (sym c.note_row.ensures.answer ∙ c.in-Err.is) (blob_doubt c.args.streams.now c.write_blob-logged.new.streams c.args.range.now c.args.sweep.now c.args.rows.now c.write_blob-logged.new.rows c.args.doubt.now c.note_row.new.doubt
     c.requires.loaded c.requires.swept c.requires.sure c.write_blob-logged.ensures.whole c.write_blob-logged.ensures.follows c.args.row (at.covered) (inl at.begun)
     c.write_blob-logged.result c.write_blob-logged.ensures.logged c.write_blob-logged.ensures.again c.write_blob-logged.ensures.rows c.note_row.ensures.kept c.write_blob-logged.new.spare c.write_blob-logged.ensures.spare))
+
+pub returns-in-Ok-clause-heard : goal.returns-in-Ok-clause-heard
+returns-in-Ok-clause-heard g c = hears_written c.write_blob-logged.result c.note_row.result (g.W.Wire.calls c.args.wire.now) (g.W.Wire.calls c.write_blob-logged.new.wire) (g.W.Wire.faults c.args.wire.now) (g.W.Wire.faults c.write_blob-logged.new.wire) c.note_row.ensures.answer c.in-Ok.is c.write_blob-logged.ensures.heard
+
+pub returns-in-Err-clause-heard : goal.returns-in-Err-clause-heard
+returns-in-Err-clause-heard g c = hears_not_written Went c.write_blob-logged.result c.note_row.result c.in-Err.fault (g.W.Wire.calls c.args.wire.now) (g.W.Wire.calls c.write_blob-logged.new.wire) (g.W.Wire.faults c.args.wire.now) (g.W.Wire.faults c.write_blob-logged.new.wire) c.note_row.ensures.answer c.in-Err.is c.write_blob-logged.ensures.heard

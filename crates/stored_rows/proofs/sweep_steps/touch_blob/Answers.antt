@@ -6,6 +6,8 @@ use Rattle.stored_rows.specs.Rewriting.{IsBlobRow, IsStepped}
 use Rattle.stored_rows.specs.Swept.{knows_blob, knows_name, with_blob_row}
 use Rattle.stored_rows.specs.declared.sweep.Sweep.{Sweep}
 use Rattle.stored_rows.proofs.SteppedLemmas.{at_key, blob_not_noted, blob_row_noted, blob_there, blob_writable, row_touched}
+use Rattle.stored_rows.specs.declared.step.Rewritten.{Rewritten}
+use Rattle.stored_rows.proofs.HeardLemmas.{hears_not_written, hears_written}
 use Rattle.stored_rows.proofs.sweep_steps.touch_blob.Goals as goal
 
 pub row_now-requires : goal.row_now-requires
@@ -53,3 +55,12 @@ returns-in-Err-clause-stepped g c =
     blob_not_noted c.args.streams.now c.write_blob-logged.new.streams c.args.range.now c.args.sweep.now c.args.rows.now c.write_blob-logged.new.rows c.args.doubt.now c.note_row.new.doubt
     c.requires.loaded c.requires.swept c.requires.sure c.write_blob-logged.ensures.whole c.write_blob-logged.ensures.follows c.in-Ok.row at.covered at.ready
     c.write_blob-logged.result c.write_blob-logged.ensures.logged c.write_blob-logged.ensures.again c.write_blob-logged.ensures.rows c.note_row.ensures.kept c.write_blob-logged.new.spare c.write_blob-logged.ensures.spare
+
+pub returns-in-Ok-note_blob-clause-heard : goal.returns-in-Ok-note_blob-clause-heard
+returns-in-Ok-note_blob-clause-heard g c = hears_written c.write_blob-logged.result c.note_row.result (g.W.Wire.calls c.args.wire.now) (g.W.Wire.calls c.write_blob-logged.new.wire) (g.W.Wire.faults c.args.wire.now) (g.W.Wire.faults c.write_blob-logged.new.wire) c.note_row.ensures.answer c.in-Ok-note_row.is c.write_blob-logged.ensures.heard
+
+pub returns-in-Err-note_blob-clause-heard : goal.returns-in-Err-note_blob-clause-heard
+returns-in-Err-note_blob-clause-heard g c = hears_written c.write_blob-logged.result c.note_row.result (g.W.Wire.calls c.args.wire.now) (g.W.Wire.calls c.write_blob-logged.new.wire) (g.W.Wire.faults c.args.wire.now) (g.W.Wire.faults c.write_blob-logged.new.wire) c.note_row.ensures.answer c.in-Ok-note_row.is c.write_blob-logged.ensures.heard
+
+pub returns-in-Err-clause-heard : goal.returns-in-Err-clause-heard
+returns-in-Err-clause-heard g c = hears_not_written Rewritten c.write_blob-logged.result c.note_row.result c.in-Err.fault (g.W.Wire.calls c.args.wire.now) (g.W.Wire.calls c.write_blob-logged.new.wire) (g.W.Wire.faults c.args.wire.now) (g.W.Wire.faults c.write_blob-logged.new.wire) c.note_row.ensures.answer c.in-Err.is c.write_blob-logged.ensures.heard

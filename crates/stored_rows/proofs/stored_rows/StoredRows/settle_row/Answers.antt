@@ -1,4 +1,4 @@
-use Rattle.std.proofs.Common.{◌≡◌, None, subst, sym}
+use Rattle.std.proofs.Common.{◌≡◌, None, Result, subst, sym}
 use Rattle.stamp_values.specs.declared.key.Key.{Key}
 use Rattle.partition_stream.specs.Streams.{logged}
 use Rattle.stored_rows.specs.States.{Stored, bytes_of, own_doubt, own_doubt_of}
@@ -7,6 +7,9 @@ use Rattle.std.specs.Prelude.{OnErr}
 use Rattle.stored_rows.proofs.LimitLemmas.{limit_kept, settled_limits}
 use Rattle.stored_rows.proofs.RowDoubtLemmas.{ended_err, row_ended_again, row_ended_loaded, row_ended_means, row_fits_memory}
 use Rattle.stored_rows.proofs.SweepCallLemmas.{settled_swept}
+use Rattle.stream_manager.specs.declared.faults.StoredFault.{StoredFault}
+use Rattle.stored_rows.specs.Heard.{HearsStored}
+use Rattle.stored_rows.proofs.HeardLemmas.{hears_row_ended}
 use Rattle.stored_rows.proofs.stored_rows.StoredRows.settle_row.Goals as goal
 
 pub end_row-requires : goal.end_row-requires
@@ -35,3 +38,8 @@ returns-clause-means g c =
     let new : Stored = record { streams = c.settle-settled.new.self; range = c.self.inside.range; is_loaded = is_some c.end_row.new.rows } in
     subst (λ (v : Stored). (key : Key) → bytes_of new key ≡ bytes_of v key) c.self.view_is
     (row_ended_means c.self.inside.streams c.settle-settled.new.self c.self.inside.range c.self.inside.rows c.self.inside.doubt c.self.inside.spare c.self.invariant.loaded c.self.invariant.again own c.kept.ensures c.settle-settled.ensures.blobs c.settle-settled.ensures.rows c.settle-settled.result c.settle-settled.ensures.settled)
+
+pub returns-clause-heard : goal.returns-clause-heard
+returns-clause-heard g c =
+    subst (λ (r : Result (Unit {0}) StoredFault). HearsStored r (g.W.Wire.calls c.args.wire.now) (g.W.Wire.calls c.settle-settled.new.wire) (g.W.Wire.faults c.args.wire.now) (g.W.Wire.faults c.settle-settled.new.wire)) (sym c.end_row.ensures.answer)
+    (hears_row_ended c.settle-settled.result (g.W.Wire.calls c.args.wire.now) (g.W.Wire.calls c.settle-settled.new.wire) (g.W.Wire.faults c.args.wire.now) (g.W.Wire.faults c.settle-settled.new.wire) c.settle-settled.ensures.heard)
