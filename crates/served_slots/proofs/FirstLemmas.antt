@@ -1,5 +1,5 @@
 -- The first slot.
-use Rattle.std.proofs.Common.{◌≡◌, ℕ, List, [], ◌∷◌, Option, None, refl, sym, ap, ◌∙◌}
+use Rattle.std.proofs.Common.{◌≡◌, ℕ, List, [], ◌∷◌, map, Option, None, refl, sym, ap, ◌∙◌}
 use Rattle.std.specs.Prelude.{unwrap_or}
 use Rattle.std.specs.FinMap.{empty, get-empty}
 use Rattle.stamp_values.specs.Order.{key_cmp}
@@ -11,19 +11,24 @@ use Rattle.stamp_model.specs.Histories.{replay}
 use Rattle.stored_rows.specs.Ranges.{all_keys}
 use Rattle.stored_rows.specs.States.{Stored}
 use Rattle.stored_rows.specs.declared.key_range.KeyRange.{KeyRange}
+use Rattle.slot_state.specs.HistoryMaps.{history_at}
 use Rattle.slot_state.specs.Pairs.{AreNumbered, Pairs, first_pairs, pairs_at}
 use Rattle.slot_state.specs.Slots.{SlotState, empty_slot, replayed_at}
 use Rattle.stored_slot.specs.Meanings.{slot_with}
 use Rattle.served_history.specs.declared.entry.Entry.{Entry}
 use Rattle.served_history.specs.declared.entry.Entry.TheVariants.{Opened}
+use Rattle.served_history.specs.Fronts.{front_at}
 use Rattle.served_history.specs.Growth.{SlotFront}
 use Rattle.served_history.specs.Histories.{bound_at, count_of, owner, pairs_for, world_left}
-use Rattle.served_slots.specs.Slots.{IsLeftBy}
+use Rattle.served_slots.specs.Slots.{IsLeftBy, past_of}
 
 nothing_at : (pairs : Pairs) (k : Key) → part_at empty k ≡ replayed_at pairs empty k
 nothing_at pairs k =
     ap (λ (o : Option (Part (List ℕ))). unwrap_or o no_part) (get-empty key_cmp k)
     ∙ ap (λ (o : Option (List Past)). replay (pairs_at pairs k.account) (unwrap_or o [])) (sym (get-empty key_cmp k))
+
+none_kept : (k : Key) → [] ≡ history_at empty k
+none_kept k = ap (λ (o : Option (List Past)). unwrap_or o []) (sym (get-empty key_cmp k))
 
 -- ---- the slot of all keys
 
@@ -43,6 +48,7 @@ first_left own ks pairs slot log are numbered = record {
   pairs = λ key inside. ap (λ (l : List Entry). pairs_for l key) log ∙ sym are;
   numbered = numbered;
   calm = refl;
+  histories = λ key inside. ap (λ (l : List Entry). map past_of (front_at l key)) log ∙ none_kept key;
   containers = λ key inside. ap (λ (l : List Entry). part_at (world_left l) key) log ∙ nothing_at pairs key;
 }
 

@@ -30,7 +30,8 @@ use Rattle.served_history.proofs.PairLemmas.{current_next, pair_next}
 use Rattle.served_history.proofs.RotationLemmas.{pairs_rotated}
 use Rattle.served_history.proofs.StayLemmas.{world_left-append}
 use Rattle.served_slots.specs.Rotations.{HasLastEpoch, HasRotated, IsToldBy, RotatesSlots, rotations_of}
-use Rattle.served_slots.specs.Slots.{IsLeftBy}
+use Rattle.served_slots.specs.Slots.{IsLeftBy, past_of}
+use Rattle.served_slots.proofs.KeptLemmas.{front_unserved}
 
 -- ---- key pairs
 
@@ -127,6 +128,7 @@ module _ (front : SlotFront) (to : Option Key) (s : SlotState) (left : IsLeftBy 
         pairs = pairs_then;
         numbered = still_numbered s.pairs account which key n longer next left.numbered;
         calm = left.calm;
+        histories = λ k inside. ap (map past_of) (front_unserved front.slot front.log known e known' k refl entered (left.has k inside)) ∙ left.histories k inside;
         containers = λ k inside.
             (stayed k inside).container
             ∙ ap (λ (w : World (List ℕ)). part_at w k) (world_left-append front.log (e ∷ []))

@@ -1,15 +1,17 @@
 -- A slot whose containers are those that its history leaves, and that serves a request.
-use Rattle.std.proofs.Common.{◌≡◌, ℕ, ◌&&◌, Bool, true, false, cond, List, [], ◌∷◌, ◌++◌, Option, Some, None, sym, ap, ◌∙◌, refl, subst}
+use Rattle.std.proofs.Common.{◌≡◌, ℕ, ◌&&◌, Bool, true, false, cond, List, [], ◌∷◌, ◌++◌, map, Option, Some, None, sym, ap, ◌∙◌, refl, subst}
 use Rattle.std.specs.Ordering.{is_le}
 use Rattle.std.specs.Prelude.{length}
 use Rattle.std.specs.declared.cmp.Ordering.{Ordering}
 use Rattle.std.specs.declared.cmp.Ordering.TheVariants.{Less, Equal, Greater}
 use Rattle.std.proofs.lemmas.Bool.{and_parts}
+use Rattle.std.proofs.lemmas.List.{length-map}
 use Rattle.stamp_values.specs.Operations.{names_container, writes}
 use Rattle.stamp_values.specs.Order.{key_cmp, keys_exact, keys_total}
 use Rattle.stamp_values.specs.Trees.{is_from}
 use Rattle.stamp_values.specs.declared.key.Key.{Key}
 use Rattle.stamp_types.proofs.WorldLemmas.{equal_if_is_eq}
+use Rattle.stamp_types.specs.declared.past.Past.{Past}
 use Rattle.stamp_types.specs.declared.reply.Reply.{Reply}
 use Rattle.stamp_types.specs.Requests.{Asked, IsAsk}
 use Rattle.stamp_types.specs.World.{World, part_at}
@@ -17,7 +19,7 @@ use Rattle.access_rules.specs.Rules.{way_of}
 use Rattle.policy_book.specs.Entries.{AuditEntry, audit_entry_of}
 use Rattle.policy_book.specs.Judgements.{Revised}
 use Rattle.row_trees.specs.Access.{acl_of}
-use Rattle.stamp_model.specs.AcceptedRequests.{is_on}
+use Rattle.stamp_model.specs.AcceptedRequests.{accepted_at, is_on}
 use Rattle.stamp_model.specs.Effects.{effect}
 use Rattle.stamp_model.specs.Runs.{Timed, reply_to_one}
 use Rattle.stamp_model.specs.SeenContainers.{is_between, is_in_account, is_seen, is_under, routed}
@@ -31,15 +33,18 @@ use Rattle.slot_state.proofs.RangeLemmas.{histories_after-listing}
 use Rattle.slot_state.proofs.StepLemmas.{effect_replayed}
 use Rattle.served_history.specs.declared.entry.Entry.{Entry}
 use Rattle.served_history.specs.declared.entry.Entry.TheVariants.{Served}
+use Rattle.served_history.specs.Fronts.{front_at}
 use Rattle.served_history.specs.Growth.{IsEntered, SlotFront}
 use Rattle.served_history.specs.Histories.{entry_after, timed_at, world_left, HasStayed, IsOwn, IsServed}
 use Rattle.served_history.proofs.AfterLemmas.{entry_follows}
+use Rattle.served_history.proofs.FrontLemmas.{front-append, front_stays}
 use Rattle.served_history.proofs.KeyLemmas.{bound-one, owner-one}
 use Rattle.served_history.proofs.PairLemmas.{pairs-one}
 use Rattle.served_history.proofs.ReplyLemmas.{entered_is_served, entry_stays, timed_stays}
 use Rattle.served_history.proofs.StayLemmas.{routed_own, stays, world_left-append}
 use Rattle.served_slots.specs.Audits.{AuditsInSlot, AuditsLast, IsAuditOf, IsSlotAudit, revision_at}
-use Rattle.served_slots.specs.Slots.{IsLeftBy, timed_in}
+use Rattle.served_slots.specs.Slots.{IsLeftBy, past_of, timed_in}
+use Rattle.served_slots.proofs.KeptLemmas.{kept_after}
 
 -- a ≤ b and b ≤ c give a ≤ c
 pub from_from : (a b c : Key) → is_from a b ≡ true → is_from b c ≡ true → is_from a c ≡ true
@@ -123,25 +128,38 @@ module _ (front : SlotFront) (to : Option Key) (s : SlotState) (left : IsLeftBy 
           let now : e ≡ entry_after front.log q t = λ i. Served (sym has i) (timed_is i) in
           now ∙ sym (entry_stays front.slot front.log own.log own.slot_knew q t has)
 
+      own_covered : names_container q.ask.op ≡ true → covers s q.ask.key ≡ true
+      own_covered names = ap (covers s) (sym (routed_own q names)) ∙ covered
+
+      -- the container of the request is there as it is in the slot
+      container_there : names_container q.ask.op ≡ true → part_at (world_left own.log) q.ask.key ≡ replayed_at s.pairs s.histories q.ask.key
+      container_there names = (stays front.slot q.ask.key front.log own.log own.slot_knew (left.has q.ask.key (own_covered names))).container ∙ left.containers q.ask.key (own_covered names)
+
+      -- each container of the range has the front there that the slot knew
+      front_there : (key : Key) → covers s key ≡ true → front_at own.log key ≡ front_at front.log key
+      front_there key inside = front_stays front.slot key front.log own.log own.slot_knew (left.has key inside)
+
+      -- the container of the request has as many changes there as the slot keeps of it
+      count_there : names_container q.ask.op ≡ true → length (history_at s.histories q.ask.key) ≡ length (front_at own.log q.ask.key)
+      count_there names =
+          sym (ap (λ (es : List Past). length es) (left.histories q.ask.key (own_covered names)))
+          ∙ length-map (front_at front.log q.ask.key) past_of
+          ∙ sym (ap (λ (rs : List Timed). length rs) (front_there q.ask.key (own_covered names)))
+
       -- what judges the request in the slot is what judges it there
       judged_there : names_container q.ask.op ≡ true → revision_in s q ≡ revision_at own.log q t
       judged_there names =
-          let here : covers s q.ask.key ≡ true = ap (covers s) (sym (routed_own q names)) ∙ covered in
-          let container : replayed_at s.pairs s.histories q.ask.key ≡ part_at (world_left own.log) q.ask.key =
-          sym ((stays front.slot q.ask.key front.log own.log own.slot_knew (left.has q.ask.key here)).container ∙ left.containers q.ask.key here) in
+          let container = sym (container_there names) in
           let timed : timed_in s to q t ≡ timed_at own.log q t = timed_is ∙ sym (timed_stays front.slot front.log own.log own.slot_knew q t (left.has (routed q) covered)) in
           λ i. record { acl = acl_of (container i); keys = (timed i).keys }
 
       audit_there : (a : AuditEntry) → IsSlotAudit s q t a → IsAuditOf known' q t a
-      audit_there a is =
-          let place : ℕ = length (history_at s.histories q.ask.key) in
-          let value : a ≡ audit_entry_of q place (way_of q.ask.credential) t (revision_at own.log q t) =
-          is.value ∙ ap (λ (x : Revised). audit_entry_of q place (way_of q.ask.credential) t x) (judged_there is.names) in record {
-            before = own.log;
-            enters = own.enters ∙ ap (λ (x : Entry). own.log ++ x ∷ []) entry_there;
-            names = is.names;
-            value = value ∙ ap (λ (n : ℕ). audit_entry_of q n (way_of q.ask.credential) t (revision_at own.log q t)) (sym (ap (λ (x : AuditEntry). x.place) value));
-          }
+      audit_there a is = record {
+        before = own.log;
+        enters = own.enters ∙ ap (λ (x : Entry). own.log ++ x ∷ []) entry_there;
+        names = is.names;
+        value = is.value ∙ (λ i. audit_entry_of q (count_there is.names i) (way_of q.ask.credential) t (judged_there is.names i));
+      }
 
       -- so an audit entry of the slot is by what the history left before the request
       pub audits_there : (o : Option AuditEntry) → AuditsInSlot s q t o → AuditsLast known' q t o
@@ -156,13 +174,19 @@ module _ (front : SlotFront) (to : Option Key) (s : SlotState) (left : IsLeftBy 
       effect_is key inside = by (names_container q.ask.op) refl
         where
           by : (b : Bool) → names_container q.ask.op ≡ b → part_at (effect (current_at s.pairs q.ask.key.account) (world_left front.log) q t) key ≡ replayed_at s.pairs (slot_after s q t).histories key
-          by true names =
-              let here : covers s q.ask.key ≡ true = ap (covers s) (sym (routed_own q names)) ∙ covered in
-              effect_replayed s (world_left front.log) q t left.numbered (left.containers q.ask.key here) key (left.containers key inside)
+          by true names = effect_replayed s (world_left front.log) q t left.numbered (left.containers q.ask.key (own_covered names)) key (left.containers key inside)
           by false lists =
               ap (λ (v : World (List ℕ)). part_at v key) (effect-read (current_at s.pairs q.ask.key.account) (world_left front.log) q t (ap writes (lists_containers q.ask.op lists)))
               ∙ left.containers key inside
               ∙ ap (λ (h : Histories). replayed_at s.pairs h key) (sym (histories_after-listing s.pairs s.histories q t lists))
+
+      -- the changes that the slot keeps of each container of the range after the request
+      kept_is : (key : Key) → covers s key ≡ true → map past_of (front_at known' key) ≡ history_at (slot_after s q t).histories key
+      kept_is key inside =
+          ap (λ (l : List Entry). map past_of (front_at l key)) own.enters
+          ∙ ap (map past_of) (front-append key own.log (e ∷ []))
+          ∙ ap (λ (rs : List Timed). map past_of (rs ++ accepted_at key (world_left own.log) (timed_in s to q t ∷ []))) (front_there key inside)
+          ∙ kept_after s to q t key (front_at front.log key) (left.histories key inside) (world_left own.log) container_there
 
       left_next : IsLeftBy (record { slot = front.slot; log = known' }) to (slot_after s q t)
       left_next = record {
@@ -173,6 +197,7 @@ module _ (front : SlotFront) (to : Option Key) (s : SlotState) (left : IsLeftBy 
         pairs = λ key inside. (stayed key inside).pairs ∙ pairs-one front.log e key ∙ left.pairs key inside;
         numbered = left.numbered;
         calm = left.calm;
+        histories = kept_is;
         containers = λ key inside.
             (stayed key inside).container
             ∙ ap (λ (w : World (List ℕ)). part_at w key) (world_left-append front.log (e ∷ []))

@@ -1,5 +1,5 @@
 -- Both halves of a slot whose containers are those that its history leaves.
-use Rattle.std.proofs.Common.{◌≡◌, ℕ, ◌&&◌, nat_eq, Bool, true, false, List, [], ◌∷◌, ◌++◌, Option, Some, refl, sym, ap, ◌∙◌}
+use Rattle.std.proofs.Common.{◌≡◌, ℕ, ◌&&◌, nat_eq, Bool, true, false, List, [], ◌∷◌, ◌++◌, map, Option, Some, refl, sym, ap, ◌∙◌}
 use Rattle.std.specs.Cmp.{Equal-is, eq_by_cmp_equiv}
 use Rattle.std.specs.Ordering.{is_le}
 use Rattle.std.proofs.lemmas.Bool.{and_parts}
@@ -8,18 +8,22 @@ use Rattle.stamp_values.specs.Trees.{is_below, is_from}
 use Rattle.stamp_values.specs.declared.key.Key.{Key}
 use Rattle.stamp_types.specs.World.{World, part_at}
 use Rattle.stamp_model.specs.SeenContainers.{is_under}
+use Rattle.slot_state.specs.HistoryMaps.{history_at}
 use Rattle.slot_state.specs.Slots.{SlotState, covers, is_inside, lower_half, upper_half, replayed_at}
 use Rattle.slot_state.proofs.HalfLemmas.{below_excludes, from_excludes, is_there}
 use Rattle.served_history.specs.declared.entry.Entry.{Entry}
 use Rattle.served_history.specs.declared.entry.Entry.TheVariants.{Split}
+use Rattle.served_history.specs.Fronts.{front_at}
 use Rattle.served_history.specs.Growth.{SlotFront}
 use Rattle.served_history.specs.Histories.{bound_at, owner, pairs_for, world_left, HasStayed}
 use Rattle.served_history.proofs.AfterLemmas.{entry_follows}
+use Rattle.served_history.proofs.FrontLemmas.{front_stays}
 use Rattle.served_history.proofs.KeyLemmas.{bound-one, by_false, by_true, from_of_below, owner-one, under_before}
 use Rattle.served_history.proofs.PairLemmas.{pairs-one}
 use Rattle.served_history.proofs.SlotLemmas.{made_it}
 use Rattle.served_history.proofs.StayLemmas.{stays, world_left-append}
-use Rattle.served_slots.specs.Slots.{IsLeftBy, IsParted}
+use Rattle.served_slots.specs.Slots.{IsLeftBy, IsParted, past_of}
+use Rattle.served_slots.proofs.KeptLemmas.{front_unserved}
 use Rattle.served_slots.proofs.ServeLemmas.{from_from}
 
 -- a key is from itself on
@@ -50,6 +54,9 @@ module _ (front : SlotFront) (to : Option Key) (s : SlotState) (left : IsLeftBy 
 
     pairs_lower : (key : Key) → covers s key ≡ true → pairs_for lower.log key ≡ s.pairs
     pairs_lower key there = (stayed key there).pairs ∙ pairs-one front.log e key ∙ left.pairs key there
+
+    front_lower : (key : Key) → covers s key ≡ true → front_at lower.log key ≡ front_at front.log key
+    front_lower key there = front_unserved front.slot front.log front.log e lower.log key refl parted.entered (left.has key there)
 
     container_lower : (key : Key) → covers s key ≡ true → part_at (world_left lower.log) key ≡ replayed_at s.pairs s.histories key
     container_lower key there =
@@ -86,6 +93,9 @@ module _ (front : SlotFront) (to : Option Key) (s : SlotState) (left : IsLeftBy 
           ∙ by_true (is_below middle key && is_under (bound_at front.log key) middle) (Some middle) (bound_at front.log key)
           (both (is_below middle key) (is_under (bound_at front.log key) middle) parts.1 (ap (λ (o : Option Key). is_under o middle) (left.bound key lower_there) ∙ before_end))
 
+      lower_kept : map past_of (front_at lower.log key) ≡ history_at (lower_half s middle).histories key
+      lower_kept = ap (map past_of) (front_lower key lower_there) ∙ left.histories key lower_there ∙ sym (is_there s.pairs s.histories (is_below middle) key parts.1).0
+
       lower_container : part_at (world_left lower.log) key ≡ replayed_at s.pairs (lower_half s middle).histories key
       lower_container = container_lower key lower_there ∙ sym (is_there s.pairs s.histories (is_below middle) key parts.1).1
 
@@ -98,6 +108,7 @@ module _ (front : SlotFront) (to : Option Key) (s : SlotState) (left : IsLeftBy 
       pairs = λ key there. pairs_lower key (lower_there key there);
       numbered = left.numbered;
       calm = left.calm;
+      histories = lower_kept;
       containers = lower_container;
     }
 
@@ -132,6 +143,12 @@ module _ (front : SlotFront) (to : Option Key) (s : SlotState) (left : IsLeftBy 
           (ap (λ (b : Bool). b && is_under (bound_at front.log key) middle) (from_excludes middle key parts_above.0))
           ∙ left.bound key upper_there
 
+      upper_kept : map past_of (front_at upper.log key) ≡ history_at (upper_half s middle).histories key
+      upper_kept =
+          ap (map past_of) (front_stays upper.slot key lower.log upper.log parted.fresh given ∙ front_lower key upper_there)
+          ∙ left.histories key upper_there
+          ∙ sym (is_there s.pairs s.histories (is_from middle) key parts_above.0).0
+
       upper_container : part_at (world_left upper.log) key ≡ replayed_at s.pairs (upper_half s middle).histories key
       upper_container = kept.container ∙ container_lower key upper_there ∙ sym (is_there s.pairs s.histories (is_from middle) key parts_above.0).1
 
@@ -144,5 +161,6 @@ module _ (front : SlotFront) (to : Option Key) (s : SlotState) (left : IsLeftBy 
       pairs = λ key there. (kept key there).pairs ∙ pairs_lower key (upper_there key there);
       numbered = left.numbered;
       calm = refl;
+      histories = upper_kept;
       containers = upper_container;
     }

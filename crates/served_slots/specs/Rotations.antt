@@ -1,6 +1,6 @@
 -- What a rotation makes of the key pairs of a slot, and what an operator knows of the history then (Blob service REST reference, 2012-02-12,
 -- Authentication for the Azure Storage Services: an account has two keys). That each slot enters the rotation is the stamp's own.
-use Rattle.std.specs.Prelude.{◌≡◌, ⊤, ℕ, List, [], ◌∷◌, ◌++◌, map, Option, Some, None}
+use Rattle.std.specs.Prelude.{◌≡◌, ℕ, Bool, true, List, [], ◌∷◌, ◌++◌, map, Option, Some, None}
 use mathlib.Core.List.{IsPrefix}
 use Rattle.stamp_values.specs.declared.key.Key.{Key}
 use Rattle.access_rules.specs.declared.keys.Keys.{Keys}
@@ -23,12 +23,12 @@ pub record IsToldBy (slot : ℕ) (account : List ℕ) (epoch : ℕ) (log : List 
   pub judges : pair_for log key account ≡ Some pair
   pub told : epoch ≡ pair.epoch
 
--- A slot that knows the history entered the rotation, as its one entry, after what was known, and knows then what is known; or it is of no use any
--- more. A slot of no use stays so
-abbrev pub RotatesSlot : Option SlotFront → List Entry → List ℕ → Which → List ℕ → List Entry → Option SlotFront → Type 0
-RotatesSlot (Some front) known account which key known' (Some front') = IsEntered front.slot front.log known (Rotated front.slot account which key) known' × HasOneMore front known' front'
-RotatesSlot (Some front) known account which key known' None = ⊤
-RotatesSlot None known account which key known' after = after ≡ None
+-- A slot that knows the history entered the rotation, as its one entry, after what was known, and knows then what is known. Or it is of no use any
+-- more, and it is told that the history missed an entry. A slot of no use stays so
+abbrev pub RotatesSlot : Option SlotFront → List Entry → List ℕ → Which → List ℕ → List Entry → Bool → Option SlotFront → Type 0
+RotatesSlot (Some front) known account which key known' missed (Some front') = IsEntered front.slot front.log known (Rotated front.slot account which key) known' × HasOneMore front known' front'
+RotatesSlot (Some front) known account which key known' missed None = missed ≡ true
+RotatesSlot None known account which key known' missed after = after ≡ None
 
 -- ---- all slots
 

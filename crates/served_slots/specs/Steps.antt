@@ -1,5 +1,5 @@
 -- What the steps on a locked slot answer (Calder et al., SOSP 2011, section 5: a range partition; section 5.5: a partition is split).
-use Rattle.std.specs.Prelude.{◌≡◌, ◌⊎◌, ◌+◌, ⊤, List, Option, Some, None, Result, Ok, Err}
+use Rattle.std.specs.Prelude.{◌≡◌, ◌+◌, ⊤, List, Option, Some, None, Result, Ok, Err}
 use Rattle.stamp_values.specs.declared.key.Key.{Key}
 use Rattle.stamp_types.specs.declared.reply.Reply.{Reply}
 use Rattle.partition_map.specs.Spans.{slot_of, split_refusal, with_point}
@@ -40,6 +40,11 @@ abbrev pub IfNoMemory : {T : Type 0} → Result T Missed → Type 0 → Type 0
 IfNoMemory (Err missed.NoMemory) holds = holds
 IfNoMemory other holds = ⊤
 
+-- this holds if the slot has a change that the history does not have
+abbrev pub IfLost : {T : Type 0} → Result T Missed → Type 0 → Type 0
+IfLost (Err missed.Lost) holds = holds
+IfLost other holds = ⊤
+
 -- the slot made one entry, and knows then what the connection knows
 pub record HasOneMore (front : SlotFront) (known' : List Entry) (front' : SlotFront) : Type 0 where
   pub log : front' ≡ record front { log = known' }
@@ -50,10 +55,6 @@ abbrev pub MakesOne : Option SlotFront → List Entry → Option SlotFront → T
 MakesOne (Some front) known' (Some front') = HasOneMore front known' front'
 MakesOne (Some front) known' None = ⊥
 MakesOne None known' after = ⊥
-
--- the slot knows what it knew, or it is of no use any more
-abbrev pub StaysOrEnds : Option SlotFront → Option SlotFront → Type 0
-StaysOrEnds before after = (after ≡ before) ⊎ (after ≡ None)
 
 -- a slot that knows the history before and after was split at this key, and this is what the upper slot knows
 abbrev pub IsPartedFrom : Option SlotFront → Key → Option SlotFront → Option SlotFront → Type 0

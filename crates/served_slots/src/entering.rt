@@ -20,12 +20,12 @@ use stamp_types::{Key, Moment, Request};
 use std::alloc::Global;
 use stored_slot::StoredSlot;
 
-/// Why a request was not answered.
+/// Why a slot answered no request, or was not cut.
 #[derive(Clone, Copy)]
 pub(crate) enum Missed {
-    /// Memory ran out, or the slot has made as many entries as it may, or it does not have the key.
+    /// Memory ran out, or the slot has made as many entries as it may, or it does not have the key, or no word is spare. The slot is as it was.
     NoMemory,
-    /// The slot has a change that the history does not have.
+    /// The slot has a change that the history does not have. The slot is of no use any more.
     Lost,
 }
 

@@ -8,7 +8,7 @@ ghost use Rattle.slot_state.specs.Slots.{empty_slot, is_inside};
 ghost use Rattle.served_history.specs.Histories.{IsServed, count_of};
 ghost use Rattle.served_slots.specs.Audits.{AuditsLast};
 ghost use Rattle.served_slots.specs.Slots.{IsLeftBy};
-ghost use Rattle.served_slots.specs.Steps.{IsPartedFrom, MakesOne, StaysOrEnds};
+ghost use Rattle.served_slots.specs.Steps.{IfLost, IfNoMemory, IsPartedFrom, MakesOne};
 
 pub(crate) mod rotating;
 pub(crate) mod sweeping;
@@ -103,15 +103,15 @@ impl<A: Account> LockedSlot<A> {
     /// The model's reply to a request after all entries before it, those of other slots too. The request is then the last entry that the
     /// slot and the connection know. If entries of the audit book are asked for, the one of the request is by what the history left before it.
     ///
-    /// `AllocError` if memory runs out, or if the slot does not have the key, or if it has made as many entries as it may: then nothing is
-    /// changed. Also if another thread has made an entry of this slot.
+    /// `NoMemory` if memory runs out, or if the slot does not have the key, or if it has made as many entries as it may: then nothing is
+    /// changed. `Lost` if another thread has made an entry of this slot, now or before: then the slot is of no use any more.
     pub(crate) fn answer(
         &mut self,
         alloc: Global,
         known: &mut LogFront<A>,
         ready: &Ready<'_>,
         reading: Reading,
-    ) -> Result<Told, AllocError>
+    ) -> Result<Told, Missed>
         requires first { ready.now.first ≡ routed ready.now.request.now }
         requires judged { IsOfAsk ready.now.judged ready.now.request.now.ask }
         requires read { reading ≡ reading_of ready.now.request.now }
@@ -120,42 +120,46 @@ impl<A: Account> LockedSlot<A> {
         ensures unasked { IfOk result (λ told. ready.now.is_audited ≡ false → told.entry ≡ None) }
         ensures same { OnErr result (known.new ≡ known.old) }
         ensures made { OnOk result (MakesOne self.old known.new self.new) }
-        ensures stays { OnErr result (StaysOrEnds self.old self.new) }
+        ensures stays { IfNoMemory result (self.new ≡ self.old) }
+        ensures ends { IfLost result (self.new ≡ None) }
     {
         let Some(own) = &mut self.history else {
             drop(reading);
-            return Err(AllocError);
+            return Err(Missed::Lost);
         };
         match serve_and_enter(&mut self.slot, own, &self.to, alloc, known, ready, reading) {
             Ok(told) => Ok(told),
-            Err(Missed::NoMemory) => Err(AllocError),
+            Err(Missed::NoMemory) => Err(Missed::NoMemory),
             Err(Missed::Lost) => {
                 drop(self.history.take());
-                Err(AllocError)
+                Err(Missed::Lost)
             }
         }
     }
 
     /// Cuts the slot at a key. The upper half is answered, with one of the spare words.
     ///
-    /// `AllocError` if the key is not inside the slot's range, if no word is spare, if the slot has made as many entries as it may, or if memory
-    /// runs out: then nothing is changed. Also if another thread has made an entry of this slot.
+    /// `NoMemory` if the key is not inside the slot's range, if no word is spare, if the slot has made as many entries as it may, or if memory
+    /// runs out: then nothing is changed. `Lost` if another thread has made an entry of this slot, now or before: then the slot is of no use any more.
     pub(crate) fn cut(
         &mut self,
         alloc: Global,
         middle: &Key,
         spares: &mut Vec<SlotWord<A>>,
-    ) -> Result<LockedSlot<A>, AllocError>
+    ) -> Result<LockedSlot<A>, Missed>
         ensures parted { IfOk result (λ upper. IsPartedFrom self.old middle.now self.new upper) }
-        ensures stays { OnErr result (StaysOrEnds self.old self.new) }
+        ensures stays { IfNoMemory result (self.new ≡ self.old) }
+        ensures ends { IfLost result (self.new ≡ None) }
     {
         let Some(own) = &mut self.history else {
-            return Err(AllocError);
+            return Err(Missed::Lost);
         };
         if !can_cut(&self.slot, own, middle, spares) {
-            return Err(AllocError);
+            return Err(Missed::NoMemory);
         }
-        let end = copy_of(middle)?;
+        let Ok(end) = copy_of(middle) else {
+            return Err(Missed::NoMemory);
+        };
         match cut_and_enter(
             &mut self.slot,
             own,
@@ -166,11 +170,11 @@ impl<A: Account> LockedSlot<A> {
             spares,
         ) {
             Ok(upper) => Ok(LockedSlot::of(upper)),
-            Err(Missed::NoMemory) => Err(AllocError),
+            Err(Missed::NoMemory) => Err(Missed::NoMemory),
             Err(Missed::Lost) => {
                 let lost = self.history.take();
                 drop(lost);
-                Err(AllocError)
+                Err(Missed::Lost)
             }
         }
     }

@@ -229,7 +229,10 @@ impl<A: Account> Slots<A> {
     {
         let table = self.table.read(rt);
         let mut locked = table.locked(rt, &ready.first);
-        locked.answer(alloc, known, ready, reading)
+        match locked.answer(alloc, known, ready, reading) {
+            Ok(told) => Ok(told),
+            Err(_missed) => Err(AllocError),
+        }
     }
 
     // The same of a request that makes a step of a sweep first, up to this limit, if the slot is to be swept. If that is the last step, the request gives
@@ -262,7 +265,10 @@ impl<A: Account> Slots<A> {
                 return self.answer_under_lock(rt, alloc, known, ready, reading);
             }
         }
-        locked.answer(alloc, known, ready, reading)
+        match locked.answer(alloc, known, ready, reading) {
+            Ok(told) => Ok(told),
+            Err(_missed) => Err(AllocError),
+        }
     }
 
     /// Serves a request by the slot that has its first key. The request is then the last entry that the connection knows. If entries of the

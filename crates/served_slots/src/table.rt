@@ -8,8 +8,9 @@ ghost use Rattle.served_slots.specs.Rotations.{HasLastEpoch, HasRotated, Rotates
 ghost use Rattle.served_slots.specs.Slots.{IsLeftBy};
 ghost use Rattle.served_slots.specs.Steps.{refusal_at, split_at, split_cause};
 
+use crate::entering::Missed;
 use crate::locked::LockedSlot;
-use crate::locked::rotating::rotate_from;
+use crate::locked::rotating::{Turn, rotate_from};
 use crate::next_pairs::KeyChange;
 use crate::splitting::SplitFault;
 use access_rules::{Keys, KeysFault, Which};
@@ -36,7 +37,7 @@ fn cut_in<A: Account>(
     alloc: Global,
     middle: &Key,
     spares: &mut Vec<SlotWord<A>>,
-) -> Result<LockedSlot<A>, AllocError> {
+) -> Result<LockedSlot<A>, Missed> {
     lock.get_mut().cut(alloc, middle, spares)
 }
 
@@ -58,7 +59,7 @@ fn halve_reserved<A: Account>(
             Ok(()) => Ok(()),
             Err(_) => unreachable!("there is room for one slot more"),
         },
-        Err(AllocError) => Err(AllocError),
+        Err(_missed) => Err(AllocError),
     }
 }
 
@@ -120,7 +121,15 @@ fn rotate_slots<A: Account>(
         which,
         key,
     };
-    rotate_from(first.get_mut(), rest, alloc, known, &change, made)
+    match rotate_from(first.get_mut(), rest, alloc, known, &change, made) {
+        Ok(
+            Turn {
+                told,
+                missed: _missed,
+            },
+        ) => Ok(told),
+        Err(fault) => Err(fault),
+    }
 }
 
 impl<A: Account> Table<A> {
