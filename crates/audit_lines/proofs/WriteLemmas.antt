@@ -1,5 +1,5 @@
 -- Lines and bytes that are added to others.
-use Rattle.std.proofs.Common.{◌≡◌, ◌∙◌, ℕ, zero, suc, ◌+◌, List, [], ◌∷◌, ◌++◌, Option, Some, None, Result, Ok, MatchResult, length, length-append, take, drop, refl, sym, ap, subst, arith}
+use Rattle.std.proofs.Common.{◌≡◌, ◌≤◌, ◌∙◌, ℕ, zero, suc, ◌+◌, List, [], ◌∷◌, ◌++◌, Option, Some, None, Result, Ok, MatchResult, length, length-append, take, drop, refl, sym, ap, subst, arith}
 use Rattle.std.specs.Prelude.{flat_map}
 use Rattle.std.specs.Io.KnownBytes.{Appends, Keeps, WriteAppends}
 use Rattle.std.proofs.lemmas.Grind.{flat_map-append}
@@ -82,3 +82,17 @@ pub taken_by : {E : Type 0} (held held' : Option (List ℕ)) (r : Result ℕ E) 
 taken_by {E} held held' r n given left wrote is same =
     subst (λ (l : List ℕ). Appends held held' (take n l)) same
     (subst (λ (x : Result ℕ E). MatchResult x (λ m. Appends held held' (take m given)) (λ _. Keeps held held')) is wrote)
+
+-- ---- bytes that are left
+
+-- nothing is left after as many bytes as there are
+pub all_dropped : (n : ℕ) (xs : List ℕ) → length xs ≤ n → drop n xs ≡ []
+all_dropped n [] small = nothing n
+all_dropped zero (x ∷ xs) small = absurd (omega arith)
+all_dropped (suc n) (x ∷ xs) small = all_dropped n xs (omega arith)
+
+-- if nothing is left, there are no more bytes than these
+pub no_more_dropped : (n : ℕ) (xs : List ℕ) → drop n xs ≡ [] → length xs ≤ n
+no_more_dropped n [] none = omega arith
+no_more_dropped zero (x ∷ xs) none = cc
+no_more_dropped (suc n) (x ∷ xs) none = let small : length xs ≤ n = no_more_dropped n xs none in omega arith

@@ -1,5 +1,5 @@
 //! Bytes that a writer takes in pieces.
-ghost use Rattle.std.specs.Prelude.{◌≡◌};
+ghost use Rattle.std.specs.Prelude.{◌≡◌, ◌↔◌, [], IsTrue};
 ghost use Rattle.audit_lines.specs.Lines.{WritesFrom};
 
 use std::io::{ErrorKind, Write};
@@ -34,7 +34,10 @@ impl Unwritten {
     }
 
     /// Whether all bytes were written.
-    pub(crate) fn is_done(&self) -> bool {
+    #[tactic(auto, using(crate::proofs::WriteLemmas::all_dropped, crate::proofs::WriteLemmas::no_more_dropped))]
+    pub(crate) fn is_done(&self) -> bool
+        ensures { IsTrue result ↔ self.now ≡ [] }
+    {
         self.done >= self.bytes.len()
     }
 

@@ -1,6 +1,8 @@
 //! The lines of books, as one thread writes them.
-ghost use Rattle.std.specs.Prelude.{◌≡◌, ◌++◌, ◌+◌, Ok, false, true};
+ghost use Rattle.std.specs.Prelude.{◌≡◌, ◌++◌, ◌+◌, [], Ok, false, true};
+ghost use Rattle.std.specs.Arc.{arc_value};
 ghost use Rattle.audit_lines.specs.Lines.{AppendsLines, IsAt, line_of};
+ghost use Rattle.audit_lines.specs.Rounds.{GoesOn, MakesLines, Renews, WritesBooks};
 ghost use Rattle.policy_book.specs.Entries.{AuditEntry};
 
 use crate::books::Books;
@@ -9,6 +11,7 @@ use crate::written::append_line_at;
 use policy_book::Book;
 use std::alloc::{AllocError, Global};
 use std::io::Write;
+use std::marker::Model;
 use std::sync::atomic::{AtomicBool, Ordering};
 use std::sync::{Arc, Wait};
 use std::thread;
@@ -56,25 +59,59 @@ struct Rounds {
     left: Unwritten,
 }
 
+impl Model for Rounds {
+    ghost use Rattle.std.specs.Arc.{arc_value};
+    ghost use Rattle.audit_lines.specs.Rounds.{Round};
+
+    ghost Value = { Round };
+
+    ghost view = { λ r. record { book = arc_value r.book; next = r.next; left = r.left } };
+}
+
 impl Rounds {
-    // Makes lines if all lines that were made are written, and writes what the writer takes.
-    fn go_on<W: Write>(&mut self, alloc: Global, writer: &mut W) {
+    // The first round of a book, of which no line was made.
+    fn new(alloc: Global, book: Arc<Book>) -> Self
+        ensures { result ≡ record { book = arc_value book; next = 0; left = [] } }
+    {
+        Self {
+            book,
+            next: 0,
+            left: Unwritten::new(Vec::new(alloc)),
+        }
+    }
+
+    // Makes lines if all lines that were made are written.
+    #[tactic(auto, using(crate::proofs::WriteLemmas::no_lines))]
+    fn make_lines(&mut self, alloc: Global)
+        ensures { MakesLines self.old self.new }
+    {
         if self.left.is_done() {
             let mut lines = Vec::new(alloc);
             self.next = append_from(alloc, &mut lines, &self.book, self.next);
             self.left = Unwritten::new(lines);
         }
+    }
+
+    // Makes lines if all lines that were made are written, and writes what the writer takes.
+    fn go_on<W: Write>(&mut self, alloc: Global, writer: &mut W)
+        ensures { GoesOn (W.contents writer.old) (W.contents writer.new) self.old self.new }
+    {
+        self.make_lines(alloc);
         self.left.write(writer);
     }
 
     // Whether all entries of the book have lines that are written.
-    fn is_done(&self) -> bool {
+    fn is_done(&self) -> bool
+        ensures { result ≡ true → self.now.left ≡ [] }
+    {
         self.left.is_done() && self.book.count() <= self.next
     }
 
     // Goes on after the last post until all is written, for some rounds at most.
-    fn finish<W: Write>(&mut self, alloc: Global, writer: &mut W) {
-        for _ in 0..LAST_ROUNDS {
+    fn finish<W: Write>(&mut self, alloc: Global, writer: &mut W)
+        ensures { GoesOn (W.contents writer.old) (W.contents writer.new) self.old self.new }
+    {
+        for _round in 0..LAST_ROUNDS {
             if self.is_done() {
                 return;
             }
@@ -83,7 +120,9 @@ impl Rounds {
     }
 
     // Begins a new book if this one is full and its lines are made. Without memory it is tried again later.
-    fn renew<R: Wait>(&mut self, rt: &R, alloc: Global, books: &Books) {
+    fn renew<R: Wait>(&mut self, rt: &R, alloc: Global, books: &Books)
+        ensures { Renews self.old self.new }
+    {
         if self.next < self.book.limit() {
             return;
         }
@@ -96,7 +135,7 @@ impl Rounds {
 
 /// Writes a line for each entry that is posted, until `ended` is set, and then the lines of the entries that were posted before.
 ///
-/// If the writer fails, the same bytes are tried again, so no line is cut. Entries that are posted meanwhile come back once the book is full.
+/// If the writer fails, the same bytes are tried again, so no line is cut before another line. Entries that are posted meanwhile come back once the book is full.
 /// After `ended` is set, eight rounds are made at most, each up to a failure of the writer: what is left then is not written.
 pub fn write_books<R: Wait, C: Clock, W: Write>(
     rt: &R,
@@ -105,19 +144,17 @@ pub fn write_books<R: Wait, C: Clock, W: Write>(
     books: &Books,
     writer: &mut W,
     ended: &AtomicBool,
-) {
+)
+    ensures { WritesBooks (W.contents writer.old) (W.contents writer.new) }
+{
     let Ok(book) = books.current(rt) else {
         return;
     };
-    let mut rounds = Rounds {
-        book,
-        next: 0,
-        left: Unwritten::new(Vec::new(alloc)),
-    };
-    for _ in rt.forever() {
+    let mut rounds = Rounds::new(alloc, book);
+    for _round in rt.forever() {
         if ended.load(Ordering::SeqCst) {
             rounds.finish(alloc, writer);
-            break;
+            return;
         }
         rounds.go_on(alloc, writer);
         rounds.renew(rt, alloc, books);

@@ -1,3 +1,4 @@
+pub mod AttendingLemmas
 pub mod CommandLemmas
 pub mod OperatorLemmas
 pub mod ReplayLemmas

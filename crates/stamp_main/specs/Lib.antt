@@ -1,3 +1,4 @@
+pub mod Attending
 pub mod Command
 pub mod Ending
 pub mod Line

@@ -1,12 +1,13 @@
 //! Where the lines of an operator come from, and where their answers go.
+ghost use Rattle.std.specs.Prelude.{◌≡◌, ℕ, List, [], Option};
+ghost use Rattle.stamp_main.specs.Attending.{ReadsLines, all_answered};
 
+use crate::attending::take;
 use crate::line::Line;
-use crate::operator_lines::{Answer, obey};
 use libc::types::pollfd;
 use served_history::Account;
 use served_slots::Operator;
 use std::alloc::Global;
-use std::io;
 use std::io::{ErrorKind, Read, Write};
 use std::sync::Wait;
 use std::sync::atomic::{AtomicBool, Ordering};
@@ -26,6 +27,17 @@ pub(crate) enum Input {
     Ready,
     /// A read may wait for this descriptor.
     Descriptor(i32),
+}
+
+/// The outcome of one read.
+#[derive(Clone, Copy, PartialEq, Eq)]
+pub(crate) enum Came {
+    /// More lines may come.
+    More,
+    /// No more lines come.
+    Ended,
+    /// An answer could not be written.
+    Unanswered,
 }
 
 /// The lines of an operator, and the writer of their answers. A reader of a descriptor is asked only if the descriptor has input, so that the
@@ -65,75 +77,81 @@ impl<L: Read + Drop, O: Write + Drop> Console<L, O> {
         libc::net::poll(&mut looks, LOOK) > 0
     }
 
-    // Writes an answer. The text of an epoch is short, and if memory is lacking for it the answer says only that.
-    fn tell(&mut self, alloc: Global, answer: Answer) -> io::Result<()> {
-        match answer.text(alloc) {
-            Ok(text) => self.answers.write_all(text.as_bytes())?,
-            Err(_) => self.answers.write_all(b"no memory for the answer")?,
-        }
-        self.answers.write_all(b"\n")?;
-        self.answers.flush()
-    }
-
-    // Takes the bytes that came: each whole line is obeyed and answered. A line without a line feed may have only a part of its key, so it is
-    // not obeyed.
-    fn take<A: Account, R: Wait>(
-        &mut self,
-        operator: &mut Operator<'_, A, R>,
-        alloc: Global,
-        line: &mut Line,
-        came: &[u8],
-    ) -> io::Result<()> {
-        for byte in came {
-            if *byte != b'\n' {
-                line.push(*byte);
-            } else {
-                let answer = match line.bytes() {
-                    Some(bytes) => obey(operator, alloc, bytes),
-                    None => Answer::Long,
-                };
-                *line = Line::new();
-                self.tell(alloc, answer)?;
-            }
-        }
-        Ok(())
-    }
-
-    // Reads once. Returns whether more lines may come.
+    // Reads once, and attends the bytes that came.
     fn read_once<A: Account, R: Wait>(
         &mut self,
         operator: &mut Operator<'_, A, R>,
         alloc: Global,
         line: &mut Line,
-    ) -> bool {
+    ) -> Came
+        ensures attended { ReadsLines (L.remaining self.old.lines) (L.remaining self.new.lines) operator.old.account operator.old.known line.old
+            (O.contents self.old.answers) (O.contents self.new.answers) (all_answered result) operator.new.known line.new }
+        ensures account { operator.new.account ≡ operator.old.account }
+    {
         let mut room = [0; ROOM];
         match self.lines.read(&mut room) {
-            Ok(0) => false,
-            Ok(count) => self.take(operator, alloc, line, &room[..count]).is_ok(),
-            Err(error) => matches!(error.kind(), ErrorKind::Interrupted | ErrorKind::WouldBlock),
+            Ok(0) => Came::Ended,
+            Ok(count) => {
+                if take(&mut self.answers, operator, alloc, line, &room[..count]) {
+                    Came::More
+                } else {
+                    Came::Unanswered
+                }
+            }
+            Err(error) => {
+                if matches!(error.kind(), ErrorKind::Interrupted | ErrorKind::WouldBlock) {
+                    Came::More
+                } else {
+                    Came::Ended
+                }
+            }
         }
     }
 
-    /// Obeys the lines that come, until the input ends or fails, an answer cannot be written, or serving is over. The end of the input does
-    /// not end the server.
+    // Reads once if a read would not wait.
+    fn read_ready<A: Account, R: Wait>(
+        &mut self,
+        operator: &mut Operator<'_, A, R>,
+        alloc: Global,
+        line: &mut Line,
+    ) -> Came
+        ensures attended { ReadsLines (L.remaining self.old.lines) (L.remaining self.new.lines) operator.old.account operator.old.known line.old
+            (O.contents self.old.answers) (O.contents self.new.answers) (all_answered result) operator.new.known line.new }
+        ensures account { operator.new.account ≡ operator.old.account }
+    {
+        if self.has_input() {
+            self.read_once(operator, alloc, line)
+        } else {
+            Came::More
+        }
+    }
+
+    /// Obeys the lines that come, until the input ends or fails, an answer cannot be written, or serving is over. Returns whether each answer was
+    /// written. The end of the input does not end the server.
     pub(crate) fn attend<A: Account, R: Wait>(
         &mut self,
         rt: &R,
         operator: &mut Operator<'_, A, R>,
         alloc: Global,
         is_over: &AtomicBool,
-    ) {
+    ) -> bool
+        ensures { (line : Option (List ℕ)) × ReadsLines (L.remaining self.old.lines) (L.remaining self.new.lines) operator.old.account
+            operator.old.known (Some []) (O.contents self.old.answers) (O.contents self.new.answers) result operator.new.known line }
+    {
         if self.input == Input::Unread {
-            return;
+            return true;
         }
         let mut line = Line::new();
-        for _ in rt.forever() {
+        for _turn in rt.forever() {
             if is_over.load(Ordering::SeqCst) {
-                return;
+                return true;
             }
-            if self.has_input() && !self.read_once(operator, alloc, &mut line) {
-                return;
+            match self.read_ready(operator, alloc, &mut line) {
+                Came::More => {}
+                Came::Ended => return true,
+                Came::Unanswered => return false,
             }
         }
+        true
     }
 }

@@ -25,6 +25,7 @@ use std::thread::Threads;
 use std::time::Clock;
 use std::{env, io};
 
+mod attending;
 mod audit;
 mod command;
 mod console;

@@ -97,7 +97,8 @@ pub(crate) fn obey<A: Account, R: Wait>(
     alloc: Global,
     line: &[u8],
 ) -> Answer
-    ensures { Obeys operator.old.known operator.old.account line.now result operator.new.known }
+    ensures obeyed { Obeys operator.old.known operator.old.account line.now result operator.new.known }
+    ensures account { operator.new.account ≡ operator.old.account }
 {
     let Some((which, text)) = rotation_in(line) else {
         return obey_other(operator, alloc, line);

@@ -39,7 +39,7 @@ fn answers_to<A: Account, R: Wait + Abort>(
     lines: &[u8],
 ) -> Vec<u8> {
     let mut console = Console::new(lines, Vec::new(alloc), Input::Ready);
-    console.attend(rt, operator, alloc, &AtomicBool::new(false));
+    assert!(rt; console.attend(rt, operator, alloc, &AtomicBool::new(false)));
     console.into_answers()
 }
 
