@@ -95,10 +95,10 @@ text_begun : (account : List ℕ) (known known' : List Entry) (front text told :
     → length (front ++ text) ≤ 4096 → Attends account known (Some front) text told known' line' → (told ≡ []) × ((known' ≡ known) × (line' ≡ Some (front ++ text)))
 text_begun account known known' front [] told line' ends most (none, (same, begun)) = (none, (same, begun ∙ ap (λ (l : List ℕ). Some l) (sym (append-nil front))))
 text_begun account known known' front (byte ∷ text) told line' ends most (k, l, first, rest, (is, (one, more))) =
-    let other : AttendsByte false account known (Some front) byte first k l = subst (λ (b : Bool). AttendsByte b account known (Some front) byte first k l) (All-head byte text ends) one in
+    let other : AttendsByte false account known (Some front) byte first k l = subst (λ (b : Bool). AttendsByte b account known (Some front) byte first k l) (All-head (λ byte. (byte == 10) ≡ false) byte text ends) one in
     let line : l ≡ Some (front ++ byte ∷ []) = other.1.1 ∙ pushed front byte (has_room front byte text most) in
     let joined : (front ++ byte ∷ []) ++ text ≡ front ++ byte ∷ text = append_assoc front (byte ∷ []) text in
-    let on = text_begun account k known' (front ++ byte ∷ []) text rest line' (All-tail byte text ends)
+    let on = text_begun account k known' (front ++ byte ∷ []) text rest line' (All-tail (λ byte. (byte == 10) ≡ false) byte text ends)
     (subst (λ (t : List ℕ). length t ≤ 4096) (sym joined) most)
     (subst (λ (m : Option (List ℕ)). Attends account k m text rest known' line') line more) in (
       is ∙ ap (λ (t : List ℕ). t ++ rest) other.0 ∙ on.0,
