@@ -1,5 +1,6 @@
 pub mod Admissions
 pub mod Audits
+pub mod Notes
 pub mod Reserves
 pub mod Rotations
 pub mod Slots

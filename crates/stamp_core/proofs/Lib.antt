@@ -1,5 +1,6 @@
 pub mod AuditLemmas
 pub mod FaultLemmas
+pub mod HeardLemmas
 pub mod RangeLemmas
 pub mod RotateLemmas
 pub mod RunLemmas

@@ -7,6 +7,7 @@ mod cores;
 mod open_tickets;
 mod rotating;
 mod serving;
+mod spare_denial;
 mod splitting;
 mod sweeping;
 mod telling;

@@ -26,6 +26,7 @@ use std::time::Clock;
 use std::{env, io};
 
 mod attending;
+mod attending_laws;
 mod audit;
 mod command;
 mod console;

@@ -14,3 +14,4 @@ pub mod Rewriting
 pub mod RowDoubts
 pub mod States
 pub mod Swept
+pub mod UnderWay

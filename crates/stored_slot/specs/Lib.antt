@@ -2,6 +2,7 @@ pub mod Audits
 pub mod Changes
 pub mod Decided
 pub mod Entries
+pub mod Heard
 pub mod Meanings
 pub mod Parts
 pub mod Served

@@ -1,0 +1,15 @@
+use Rattle.std.proofs.Common.{◌∙◌, List, arith, subst, sym}
+use Rattle.served_history.specs.declared.entry.Link.{Link}
+use Rattle.served_history.specs.Histories.{IsHistory}
+use Rattle.served_history.specs.Links.{log_of}
+use Rattle.served_history.proofs.CellLemmas.{opened}
+use Rattle.served_history.proofs.RowLemmas.{history-opened}
+use Rattle.served_history.proofs.new_history.NewHistory.new.Goals as goal
+
+pub open_row-seen-requires : goal.open_row-seen-requires
+open_row-seen-requires c = (opened c.args.pairs.now, (λ names. tt), c.alone.ensures.1)
+
+pub invariant_of-result : goal.invariant_of-result
+invariant_of-result c =
+    let row = c.open_row-seen.ensures in
+    (row.2, omega (arith, row.3, row.4), row.0 ∙ c.alone.ensures.0, subst (λ (l : List Link). IsHistory (log_of l)) (sym row.1) (history-opened c.args.pairs.now))
