@@ -58,7 +58,7 @@ STEPS = {
     "Core::rotate": ("NoAccount", "Last"),
 }
 # The calls whose answer does not show by its type that it may be a refusal: what they answer then.
-OTHERWISE = {"Core::sweep_wasteful": "None", "NewHistory::word": "None"}
+OTHERWISE = {"Core::sweep_wasteful": "None", "SlotHistory::enter": "false", "SlotHistory::split": "None"}
 
 
 class Kind(NamedTuple):

@@ -13,8 +13,8 @@ use Rattle.http_front.specs.Streams.{Item}
 use Rattle.http_front.specs.Streams.Item.{Requested, Refused}
 use Rattle.served_history.specs.declared.entry.Entry.{Entry}
 use Rattle.served_history.specs.declared.entry.Entry.TheVariants.{Opened, Rotated, Served, Split}
-use Rattle.served_history.specs.Histories.{entry_after, served_request, served_requests, timed_at, world_left, IsServed}
-use Rattle.served_history.specs.Connections.{Call, entered, call_at, calls_of, calls_along, IsAmong, ReadsHistory, AddsOneAtMost, IsReadAfter, KeepsKnown, ServesKnown}
+use Rattle.served_history.specs.Histories.{entry_after, served_request, served_requests, timed_at, world_left, IsServed, IsUnchanged}
+use Rattle.served_history.specs.Connections.{Call, entered, call_at, calls_of, calls_along, IsAmong, ReadsHistory, AddsOneAtMost, IsReadAfter}
 use Rattle.served_history.proofs.StayLemmas.{world_left-append}
 
 -- the calls along a front part, and the calls along what comes after it
@@ -48,34 +48,31 @@ served_then known mid known' q t reply calls step rest =
       );
     }
 
-module _ {W : Type 0} (answers : W → Asked → ℕ → Reply → W → Type 0) (known : W → List Entry) (serves : ServesKnown answers known) where
-  -- the replies of a connection are those of the model along one history
-  pub replies_are_along : (world : W) (exchanges : List Exchange) (world' : W) → ServiceReplies answers world exchanges world' → ReadsHistory (known world) (calls_of exchanges) (known world')
-  replies_are_along world [] world' same = record {
-    entries = [];
-    continued = ap known same ∙ sym (append-nil (known world));
-    own = tt;
-  }
-  replies_are_along world (Answered form body moment reply ∷ exchanges) world' given =
-      served_then (known world) (known given.0) (known world') (with_body form body) moment reply (calls_of exchanges)
-      (serves world given.0 (with_body form body) moment reply given.1) (replies_are_along given.0 exchanges world' given.2)
-  replies_are_along world (RefusedAt denial moment ∷ exchanges) world' given =
-      subst (λ (w : W). ReadsHistory (known w) (calls_of exchanges) (known world')) given.1 (replies_are_along given.0 exchanges world' given.2)
+-- the replies of a connection are those of the model along one history
+pub replies_are_along : (known : List Entry) (exchanges : List Exchange) (known' : List Entry) → ServiceReplies IsServed known exchanges known' → ReadsHistory known (calls_of exchanges) known'
+replies_are_along known [] known' same = record {
+  entries = [];
+  continued = same ∙ sym (append-nil known);
+  own = tt;
+}
+replies_are_along known (Answered form body moment reply ∷ exchanges) known' given =
+    served_then known given.0 known' (with_body form body) moment reply (calls_of exchanges) given.1 (replies_are_along given.0 exchanges known' given.2)
+replies_are_along known (RefusedAt denial moment ∷ exchanges) known' given =
+    subst (λ (k : List Entry). ReadsHistory k (calls_of exchanges) known') given.1 (replies_are_along given.0 exchanges known' given.2)
 
-  module _ (starves : W → W → Type 0) (stays : KeepsKnown starves known) where
-    unwritten : (world world' : W) (q : Asked) (t : ℕ) → starves world world' ⊎ ((reply : Reply) × answers world q t reply world') → AddsOneAtMost (known world) (known world')
-    unwritten world world' q t (inl same) = inl (stays world world' same)
-    unwritten world world' q t (inr made) = inr (q, t, made.0, serves world world' q t made.0 made.1)
+unwritten : (known known' : List Entry) (q : Asked) (t : ℕ) → IsUnchanged known known' ⊎ ((reply : Reply) × IsServed known q t reply known') → AddsOneAtMost known known'
+unwritten known known' q t (inl same) = inl same
+unwritten known known' q t (inr made) = inr (q, t, made.0, made.1)
 
-    unanswered : (world world' : W) (item : Item) (t : ℕ) → IsUnansweredAt answers starves world world' item t → AddsOneAtMost (known world) (known world')
-    unanswered world world' (Requested form body) t left = unwritten world world' (with_body form body) t left
-    unanswered world world' (Refused denial) t same = inl (ap known same)
+unanswered : (known known' : List Entry) (item : Item) (t : ℕ) → IsUnansweredAt IsServed IsUnchanged known known' item t → AddsOneAtMost known known'
+unanswered known known' (Requested form body) t left = unwritten known known' (with_body form body) t left
+unanswered known known' (Refused denial) t same = inl same
 
-    -- if memory runs out, at most one request of the connection is entered after those that were answered
-    pub stops_with_one : {C : Type 0} (gives : C → ℕ → C → Type 0) (clock clock' : C) (world world' : W) (bytes written : List ℕ)
-        → StopsBeforeOrAtItem gives answers starves clock clock' world world' bytes written → AddsOneAtMost (known world) (known world')
-    stops_with_one gives clock clock' world world' bytes written (inl before) = inl (ap known before.1)
-    stops_with_one gives clock clock' world world' bytes written (inr at) = unanswered world world' at.item at.moment at.left
+-- if memory runs out, at most one request of the connection is entered after those that were answered
+pub stops_with_one : {C : Type 0} (gives : C → ℕ → C → Type 0) (clock clock' : C) (known known' : List Entry) (bytes written : List ℕ)
+    → StopsBeforeOrAtItem gives IsServed IsUnchanged clock clock' known known' bytes written → AddsOneAtMost known known'
+stops_with_one gives clock clock' known known' bytes written (inl before) = inl before.1
+stops_with_one gives clock clock' known known' bytes written (inr at) = unanswered known known' at.item at.moment at.left
 
 -- ---- a later call comes after an earlier call
 

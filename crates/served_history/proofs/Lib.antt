@@ -1,11 +1,9 @@
 pub mod Adding
 pub mod AfterLemmas
-pub mod CellLemmas
 pub mod ConnectionLemmas
 pub mod FirstLemmas
 pub mod FrontLemmas
 pub mod KeyLemmas
-pub mod LinkLemmas
 pub mod PairLemmas
 pub mod ReplyLemmas
 pub mod RotationLemmas

@@ -11,6 +11,7 @@ use Rattle.stamp_types.specs.declared.reply.Reply.{Reply}
 use Rattle.stamp_types.specs.Requests.{Asked, IsAsk}
 use Rattle.stamp_types.specs.World.{part_at}
 use Rattle.stamp_model.specs.AcceptedRequests.{is_on}
+use Rattle.stamp_model.specs.Responses.{reply}
 use Rattle.stamp_model.specs.Runs.{Timed, reply_to_one}
 use Rattle.stamp_model.specs.SeenContainers.{is_between, is_in_account, is_seen, is_under, routed}
 use Rattle.stamp_model.proofs.SeenContainerLemmas.{reply-seen}

@@ -10,24 +10,14 @@ use Rattle.stamp_model.specs.SeenContainers.{routed}
 use Rattle.slot_state.specs.Pairs.{Pairs, current_at}
 use Rattle.served_history.specs.declared.entry.Entry.{Entry}
 use Rattle.served_history.specs.declared.entry.Entry.TheVariants.{Rotated, Served, Split}
-use Rattle.served_history.specs.declared.entry.Link.{Link}
-use Rattle.served_history.specs.Growth.{IsAdded, IsAhead, IsEntered}
+use Rattle.served_history.specs.Growth.{IsAdded, IsEntered}
 use Rattle.served_history.specs.Histories.{count_of, is_of, GoesOnWithout, IsHistory, IsOwn}
-use Rattle.served_history.specs.Links.{log_of}
 use Rattle.served_history.proofs.ReplyLemmas.{timed_stays}
 use Rattle.served_history.proofs.RowLemmas.{count-append}
 use Rattle.served_history.proofs.StayLemmas.{stays}
 
 pub prefix_through : (xs ys zs : List Entry) → IsPrefix xs ys → IsPrefix ys zs → IsPrefix xs zs
 prefix_through xs ys zs p q = (p.0 ++ q.0, sym (append_assoc xs p.0 q.0) ∙ (ap (λ (l : List Entry). l ++ q.0) p.1 ∙ q.1))
-
--- what a slot knows goes on from what contracts say, if it has just made its entry
-pub is_ahead : (slot : ℕ) (front : List Entry) (links : List Link) → IsHistory front → front ≡ log_of links → IsAhead slot front links
-is_ahead slot front links history same = record {
-  begins = ([], append-nil front ∙ same);
-  counted = ap (count_of slot) (sym same);
-  history = history;
-}
 
 module _ (slot count : ℕ) (front : List Entry) (counts : count ≡ count_of slot front) (first : IsHistory front) where
   -- the slot makes no entry until then
@@ -59,13 +49,13 @@ module _ (slot count : ℕ) (front : List Entry) (counts : count ≡ count_of sl
       let kept = stays slot own.0 front log (goes_on next log begins goes counted history) own.1.0 in
       (own.0, (kept.slot ∙ own.1.0, subst (λ (p : Pairs). IsSome (current_at p account)) (sym kept.pairs) own.1.1))
 
-  module _ (next known next' : List Entry) (e : Entry) (begins : IsPrefix front next) (added : IsAdded slot count next known (e ∷ []) next') where
+  module _ (known next next' : List Entry) (e : Entry) (begins : IsPrefix front next) (knows : IsPrefix known next) (added : IsAdded slot count next e next') where
     pub entered_by : IsEntered slot front known e next'
     entered_by = record {
       log = added.log;
       enters = added.enters;
       slot_knew = goes_on next added.log begins added.begins added.counted added.before;
-      others_knew = added.others;
+      others_knew = prefix_through known next added.log knows added.begins;
     }
 
     -- the slot has one entry more
@@ -74,27 +64,19 @@ module _ (slot count : ℕ) (front : List Entry) (counts : count ≡ count_of sl
         let one : count_of slot (e ∷ []) ≡ 1 = ap (λ (b : Bool). cond b 1 0 + 0) own ∙ omega arith in
         ap (count_of slot) added.enters ∙ (count-append slot added.log (e ∷ []) ∙ omega (arith, added.counted, one))
 
-    -- and what it knows is what contracts say that it knows
-    pub keeps_count : (slot' : ℕ) (front' : List Entry) (links' : List Link) → slot' ≡ slot → front' ≡ next' → log_of links' ≡ next' → is_of slot e ≡ true
-        → (count + 1 ≡ count_of slot' front') × IsAhead slot' front' links'
-    keeps_count slot' front' links' number same links own = (
-      sym (ap (λ (n : ℕ). count_of n front') number ∙ ap (count_of slot) same ∙ one_more own),
-      is_ahead slot' front' links' (subst IsHistory (sym same) added.after) (same ∙ sym links),
-    )
-
 -- the slot of an entry made it
 pub made_it : (slot : ℕ) → nat_eq slot slot ≡ true
 made_it slot = grind (arith, nat_tests)
 
--- a slot that made no entry goes on from a history without one
-pub goes_nowhere : (slot : ℕ) (log front : List Entry) → IsHistory front → front ≡ log → GoesOnWithout slot log front
-goes_nowhere slot log front history same = record {
-  begins = ([], append-nil log ∙ sym same);
-  counted = ap (count_of slot) same;
-  first = subst IsHistory same history;
-  second = history;
-}
+-- the upper slot made no entry until its word was seen
+pub upper_goes : (upper : ℕ) (next seen : List Entry) → IsPrefix next seen → IsHistory next → IsHistory seen → count_of upper seen ≡ 0 → GoesOnWithout upper next seen
+upper_goes upper next seen goes first second none =
+    let some : count_of upper next ≡ 0 = omega (arith, count-append upper next goes.0, ap (count_of upper) goes.1, none) in record {
+      begins = goes;
+      counted = none ∙ sym some;
+      first = first;
+      second = second;
+    }
 
--- a beginning of a history in which the slot made no entry has none
-pub none_before : (slot : ℕ) (front log : List Entry) → IsPrefix front log → count_of slot log ≡ 0 → count_of slot front ≡ 0
-none_before slot front log begins none = omega (arith, count-append slot front begins.0, ap (count_of slot) begins.1, none)
+pub prefix_same : (xs ys : List Entry) → ys ≡ xs → IsPrefix xs ys
+prefix_same xs ys same = ([], append-nil xs ∙ sym same)

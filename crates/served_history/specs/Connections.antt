@@ -10,7 +10,7 @@ use Rattle.http_front.specs.Conversations.{Exchange}
 use Rattle.http_front.specs.Conversations.Exchange.{Answered, RefusedAt}
 use Rattle.served_history.specs.declared.entry.Entry.{Entry}
 use Rattle.served_history.specs.declared.entry.Entry.TheVariants.{Served}
-use Rattle.served_history.specs.Histories.{IsServed, IsUnchanged, served_requests, world_left}
+use Rattle.served_history.specs.Histories.{IsServed, served_requests, world_left}
 
 -- a request, and the moment at which it is answered
 pub record Entered : Type 0 where
@@ -54,14 +54,6 @@ pub record ReadsHistory (known : List Entry) (calls : List Call) (known' : List 
   pub entries : List Entry
   pub continued : known' ≡ known ++ entries
   pub own : IsAmong calls (calls_along (world_left known) (served_requests entries))
-
--- each request that is answered is served after what was known, and is the last entry that is known then
-abbrev pub ServesKnown : {W : Type 0} → (W → Asked → ℕ → Reply → W → Type 0) → (W → List Entry) → Type 0
-ServesKnown {W} answers known = (world world' : W) (q : Asked) (t : ℕ) (reply : Reply) → answers world q t reply world' → IsServed (known world) q t reply (known world')
-
--- what is known stays if memory runs out
-abbrev pub KeepsKnown : {W : Type 0} → (W → W → Type 0) → (W → List Entry) → Type 0
-KeepsKnown {W} starves known = (world world' : W) → starves world world' → IsUnchanged (known world) (known world')
 
 -- the connection knows what it knew, or one request of its own was entered after what it knew
 abbrev pub AddsOneAtMost : List Entry → List Entry → Type 0

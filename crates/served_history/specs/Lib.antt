@@ -2,5 +2,4 @@ pub mod Connections
 pub mod Fronts
 pub mod Growth
 pub mod Histories
-pub mod Links
 pub mod Rotations

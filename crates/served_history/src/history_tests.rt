@@ -3,9 +3,8 @@ ghost use Rattle.std.specs.Prelude.{◌≡◌, ◌∷◌, []};
 ghost use Rattle.served_history.specs.declared.entry.Entry.TheVariants.{Opened};
 
 use crate::entry::TimedCall;
-use crate::history::Account;
+use crate::history::{Account, NewHistory};
 use crate::laws::two_connections_agree;
-use crate::new_history::NewHistory;
 use crate::slot_history::SlotHistory;
 use request_form::read_head;
 use stamp_types::{Body, Key, Moment, Request, Text};
@@ -40,8 +39,7 @@ fn enters_a_request<A: Account>(rt: &impl Abort, alloc: Global, history: NewHist
     let mut history = history;
     let mut known = history.front::<A>(); // a connection knows this
     // The lock of slot 0 keeps this value. The slot has all keys.
-    let word = history.word::<A>(0).expect(rt, "the slot had not begun");
-    let mut slot = SlotHistory::new(word, known.again());
+    let mut slot = SlotHistory::new(history.word::<A>(0), known.again());
     let request = request(rt, alloc); // a Get Blob of /acct/box/a
     // Under the lock the slot serves the request. The account has no key pair, and no slot comes after.
     let call = TimedCall {
@@ -50,7 +48,7 @@ fn enters_a_request<A: Account>(rt: &impl Abort, alloc: Global, history: NewHist
         keys: None,
         bound: None,
     };
-    slot.enter(&mut known, &call);
+    assert!(rt; slot.enter(&mut known, &call)); // otherwise the slot is poisoned
     two_connections_agree(&known, &slot.front()); // a law: both know beginnings of one history
 }
 
@@ -62,10 +60,9 @@ fn split_first<A: Account>(rt: &impl Abort, history: NewHistory, middle: &Key)
 {
     let mut history = history;
     let front = history.front::<A>();
-    let first = history.word::<A>(0).expect(rt, "the slot had not begun");
-    let spare = history.word::<A>(1).expect(rt, "the slot had not begun");
-    let mut lower = SlotHistory::new(first, front);
-    let upper = lower.split(spare, middle);
+    let mut lower = SlotHistory::new(history.word::<A>(0), front);
+    let spare = history.word::<A>(1);
+    let upper = lower.split(spare, middle).expect(rt, "an upper slot");
     two_connections_agree(&lower.front(), &upper.front());
 }
 

@@ -17,11 +17,11 @@ ghost use Rattle.http_front.specs.Conversations.{AnswersInput, BreaksOff, EndsOu
 ghost use Rattle.served_history.specs.declared.entry.Entry.{Entry};
 ghost use Rattle.served_history.specs.Fronts.{front_at};
 ghost use Rattle.served_history.specs.Growth.{IsEntered};
-ghost use Rattle.served_history.specs.Histories.{GoesOnWithout, HasStayed, IsHistory, IsServed, entry_after, owner, served_requests, timed_at, world_left};
-ghost use Rattle.served_history.specs.Connections.{AddsOneAtMost, AreOfOneHistory, Call, IsReadAfter, KeepsKnown, ReadsHistory, ServesKnown, calls_of};
+ghost use Rattle.served_history.specs.Histories.{GoesOnWithout, HasStayed, IsHistory, IsServed, IsUnchanged, entry_after, owner, served_requests, timed_at, world_left};
+ghost use Rattle.served_history.specs.Connections.{AddsOneAtMost, AreOfOneHistory, Call, IsReadAfter, ReadsHistory, calls_of};
 
 use crate::history::{Account, LogFront};
-use http_front::{Clock, Service};
+use http_front::Clock;
 
 /// While a slot makes no entry, its keys stay its own, and their bounds, their key pairs, their containers and the fronts of their containers
 /// stay as they are, whatever entries other slots make. So the reply to a request on one of its keys stays the same too, also to a List Containers.
@@ -64,26 +64,20 @@ pub fn what_is_known_is_a_history<A: Account>(front: &LogFront<A>)
 ///
 /// If memory runs out, the same holds of the requests that were answered in full. After them one more request of the connection was entered
 /// at most, whose reply was made and not written. If a write fails, the same holds of the requests to which the service replied.
-///
-/// The service may be any whose world has what the connection knows (`known`), and which serves each request so that it is the last entry that is
-/// known then (`serves`), or leaves what is known as it is if memory runs out (`stays`).
-pub fn each_connection_reads_one_history<C: Clock, S: Service>()
-    ensures answered { (known : S.World → List Entry) → ServesKnown S.answers known
-        → (clock clock' : C) (world world' : S.World)
+pub fn each_connection_reads_one_history<C: Clock>()
+    ensures answered { (clock clock' : C) (seen seen' : List Entry)
         (from to : ConnectionState) (result : Result End FrontFault) (input : List ℕ)
-        (talk : AnswersInput C.gives S.answers clock clock' world world' from to result input)
-        → ReadsHistory (known world) (calls_of talk.exchanges) (known world') }
-    ensures starved { (known : S.World → List Entry) → ServesKnown S.answers known → KeepsKnown S.starves known
-        → (clock clock' : C) (world world' : S.World)
+        (talk : AnswersInput C.gives IsServed clock clock' seen seen' from to result input)
+        → ReadsHistory seen (calls_of talk.exchanges) seen' }
+    ensures starved { (clock clock' : C) (seen seen' : List Entry)
         (from to : ConnectionState) (last : List ℕ)
-        (talk : EndsOutOfMemory C.gives S.answers S.starves clock clock' world world' from to last)
-        → ReadsHistory (known world) (calls_of talk.exchanges) (known talk.world_then)
-        × AddsOneAtMost (known talk.world_then) (known world') }
-    ensures broken { (known : S.World → List Entry) → ServesKnown S.answers known
-        → (clock clock' : C) (world world' : S.World)
+        (talk : EndsOutOfMemory C.gives IsServed IsUnchanged clock clock' seen seen' from to last)
+        → ReadsHistory seen (calls_of talk.exchanges) talk.world_then
+        × AddsOneAtMost talk.world_then seen' }
+    ensures broken { (clock clock' : C) (seen seen' : List Entry)
         (from to : ConnectionState)
-        (talk : BreaksOff C.gives S.answers clock clock' world world' from to)
-        → ReadsHistory (known world) (calls_of talk.exchanges) (known world') }
+        (talk : BreaksOff C.gives IsServed clock clock' seen seen' from to)
+        → ReadsHistory seen (calls_of talk.exchanges) seen' }
 {}
 
 /// What two connections know, or two slots, are beginnings of one history.

@@ -1,6 +1,6 @@
 -- What the steps under a lock owe.
 use Rattle.std.proofs.Common.{◌≡◌, ◌<◌, ℕ, List, Option, Some, None, Result, Ok, Err, IfOk, sym, ap, ◌∙◌, subst, arith}
-use Rattle.std.specs.Prelude.{true}
+use Rattle.std.specs.Prelude.{IfSome, OnSome, true}
 use Rattle.stamp_values.specs.declared.key.Key.{Key}
 use Rattle.stamp_types.specs.declared.reply.Reply.{Reply}
 use Rattle.stamp_types.specs.Requests.{Asked}
@@ -27,6 +27,10 @@ timed_of q t keys bound = record { request = q; moment = t; keys = keys; bound =
 pub call_is : (s : SlotState) (to : Option Key) (q : Asked) (t : ℕ) (keys : Option Keys) (bound : Option Key) → keys ≡ current_at s.pairs q.ask.key.account → bound ≡ to → timed_of q t keys bound ≡ timed_in s to q t
 call_is s to q t keys bound pairs ends = λ i. record { request = q; moment = t; keys = pairs i; bound = ends i }
 
+-- what a slot knows of the history, if it knows something
+pub own_left : (history : Option SlotFront) (own : SlotFront) (to : Option Key) (s : SlotState) → history ≡ Some own → IfSome history (λ front. IsLeftBy front to s) → IsLeftBy own to s
+own_left history own to s is left = subst (λ (o : Option SlotFront). IfSome o (λ front. IsLeftBy front to s)) is left
+
 -- the reply of a served request, now or by a ticket
 pub told_now : (r : Result Reply Reply) (reply v : Reply) → r ≡ Ok reply → told_reply r ≡ v → reply ≡ v
 told_now r reply v is told = sym (ap told_reply is) ∙ told
@@ -46,13 +50,14 @@ served_asked known known' kept asked at t reply same on served =
     subst (λ (q : Asked). IsServed known q t reply known') same (subst (λ (n : ℕ). IsServed known kept n reply known') on served)
 
 -- a split that was entered
-pub parted_by : (front lower upper : SlotFront) (middle : Key) (number : ℕ) → IsEntered front.slot front.log front.log (Split front.slot middle number) lower.log
-    → GoesOnWithout number lower.log upper.log → (upper.slot ≡ number) × (lower.slot ≡ front.slot) → IsParted front middle lower upper
-parted_by front lower upper middle number entered fresh slots = record {
+pub parted_if : (front lower : SlotFront) (middle : Key) (number : ℕ) (r : Option SlotFront) → OnSome r (IsEntered front.slot front.log front.log (Split front.slot middle number) lower.log)
+    → IfSome r (λ upper. GoesOnWithout number lower.log upper.log) → IfSome r (λ upper. (upper.slot ≡ number) × (lower.slot ≡ front.slot)) → IfSome r (λ upper. IsParted front middle lower upper)
+parted_if front lower middle number (Some upper) entered fresh slots = record {
   entered = subst (λ (n : ℕ). IsEntered front.slot front.log front.log (Split front.slot middle n) lower.log) (sym slots.0) entered;
   fresh = subst (λ (n : ℕ). GoesOnWithout n lower.log upper.log) (sym slots.0) fresh;
   same = slots.1;
 }
+parted_if front lower middle number None entered fresh slots = tt
 
 -- both halves after the split
 module _ (front lower upper : SlotFront) (to : Option Key) (s : SlotState) (middle : Key) (left : IsLeftBy front to s) (inside : is_inside s middle ≡ true) (parted : IsParted front middle lower upper) where

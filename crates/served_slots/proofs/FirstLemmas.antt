@@ -19,7 +19,7 @@ use Rattle.served_history.specs.declared.entry.Entry.{Entry}
 use Rattle.served_history.specs.declared.entry.Entry.TheVariants.{Opened}
 use Rattle.served_history.specs.Fronts.{front_at}
 use Rattle.served_history.specs.Growth.{SlotFront}
-use Rattle.served_history.specs.Histories.{bound_at, owner, pairs_for, world_left}
+use Rattle.served_history.specs.Histories.{bound_at, count_of, owner, pairs_for, world_left}
 use Rattle.served_slots.specs.Slots.{IsLeftBy, past_of}
 
 nothing_at : (pairs : Pairs) (k : Key) → part_at empty k ≡ replayed_at pairs empty k
@@ -51,3 +51,7 @@ first_left own ks pairs slot log are numbered = record {
   histories = λ key inside. ap (λ (l : List Entry). map past_of (front_at l key)) log ∙ none_kept key;
   containers = λ key inside. ap (λ (l : List Entry). part_at (world_left l) key) log ∙ nothing_at pairs key;
 }
+
+-- no slot has made an entry then
+pub none_made : (slot : ℕ) (log : List Entry) (ks : List Keys) → log ≡ Opened ks ∷ [] → count_of slot log ≡ 0
+none_made slot log ks is = ap (count_of slot) is

@@ -2,7 +2,6 @@ pub mod AdmissionLemmas
 pub mod EnterLemmas
 pub mod FirstLemmas
 pub mod KeptLemmas
-pub mod NoteLemmas
 pub mod RotateLemmas
 pub mod ServeLemmas
 pub mod SpanLemmas

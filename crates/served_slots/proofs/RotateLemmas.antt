@@ -1,9 +1,9 @@
 -- A slot whose containers are those that its history leaves, and that replaces a key.
-use Rattle.std.proofs.Common.{◌≡◌, ◌+◌, ◌-◌, ℕ, true, List, [], ◌∷◌, ◌++◌, length, map, Option, Some, None, arith, refl, sym, ap, ◌∙◌, subst}
+use Rattle.std.proofs.Common.{◌≡◌, ◌-◌, ℕ, true, List, [], ◌∷◌, ◌++◌, map, Option, Some, None, refl, sym, ap, ◌∙◌, subst}
 use Rattle.std.specs.Cmp.{eq_by_cmp_equiv}
 use Rattle.std.specs.Ordering.{eq_by_cmp}
 use Rattle.std.specs.Prelude.{is_some}
-use Rattle.std.proofs.lemmas.List.{append_assoc, length-append, map-append}
+use Rattle.std.proofs.lemmas.List.{append_assoc, map-append}
 use mathlib.Core.List.{IsPrefix}
 use Rattle.stamp_values.specs.Order.{name_cmp, names_total}
 use Rattle.stamp_values.specs.declared.key.Key.{Key}
@@ -29,7 +29,7 @@ use Rattle.served_history.proofs.KeyLemmas.{bound-one, by_true, owner-one}
 use Rattle.served_history.proofs.PairLemmas.{current_next, pair_next}
 use Rattle.served_history.proofs.RotationLemmas.{pairs_rotated}
 use Rattle.served_history.proofs.StayLemmas.{world_left-append}
-use Rattle.served_slots.specs.Rotations.{HasLastEpoch, HasRotated, IsToldBy, RotatesAll, rotations_of}
+use Rattle.served_slots.specs.Rotations.{HasLastEpoch, HasRotated, IsToldBy, RotatesSlots, rotations_of}
 use Rattle.served_slots.specs.Slots.{IsLeftBy, past_of}
 use Rattle.served_slots.proofs.KeptLemmas.{front_unserved}
 
@@ -161,42 +161,26 @@ module _ (start mid known' : List Entry) (account : List ℕ) (which : Which) (k
   comes : known' ≡ (mid ++ more) ++ last ∷ []
   comes = entered.enters ∙ ap (λ (l : List Entry). l ++ last ∷ []) (sym entered.others_knew.1)
 
-  abbrev alone : HasRotated mid account which key epoch known'
-  alone = record {
+  pub rotates_one_more : (before : Option ℕ) → RotatesSlots start account which key before mid → HasRotated start account which key epoch known'
+  rotates_one_more None same = record {
     slots = [];
     slot = slot;
     others = more;
-    enters = comes;
+    enters = comes ∙ ap (λ (l : List Entry). (l ++ more) ++ last ∷ []) same;
     own = tt;
     told = told;
   }
-
-  -- one slot
-  pub rotates_first : RotatesAll 1 mid account which key epoch known'
-  rotates_first = record { turn = alone; all = refl }
-
-  module _ (n : ℕ) (before : HasRotated start account which key n mid) where
-    abbrev one : Entry
-    one = Rotated before.slot account which key
-
-    abbrev longer_turn : HasRotated start account which key epoch known'
-    longer_turn = record {
-      slots = before.slots ++ before.slot ∷ [];
-      slot = slot;
-      others = before.others ++ one ∷ more;
-      enters =
-          comes
-          ∙ ap (λ (l : List Entry). (l ++ more) ++ last ∷ []) before.enters
-          ∙ ap (λ (l : List Entry). l ++ last ∷ []) (append_assoc (start ++ before.others) (one ∷ []) more ∙ append_assoc start before.others (one ∷ more));
-      own =
-          subst (λ (l : List Entry). IsAmong l (before.others ++ one ∷ more)) (sym (map-append (λ (i : ℕ). Rotated i account which key) before.slots (before.slot ∷ [])))
-          (among_more (rotations_of before.slots account which key) before.others one more before.own);
-      told = told;
-    }
-
-  -- one slot more
-  pub rotates_one_more : (count n : ℕ) → RotatesAll count start account which key n mid → RotatesAll (count + 1) start account which key epoch known'
-  rotates_one_more count n before = record {
-    turn = longer_turn n before.turn;
-    all = omega (arith, length-append before.turn.slots (before.turn.slot ∷ []), before.all);
-  }
+  rotates_one_more (Some n) before =
+      let one = Rotated before.slot account which key in record {
+        slots = before.slots ++ before.slot ∷ [];
+        slot = slot;
+        others = before.others ++ one ∷ more;
+        enters =
+            comes
+            ∙ ap (λ (l : List Entry). (l ++ more) ++ last ∷ []) before.enters
+            ∙ ap (λ (l : List Entry). l ++ last ∷ []) (append_assoc (start ++ before.others) (one ∷ []) more ∙ append_assoc start before.others (one ∷ more));
+        own =
+            subst (λ (l : List Entry). IsAmong l (before.others ++ one ∷ more)) (sym (map-append (λ (i : ℕ). Rotated i account which key) before.slots (before.slot ∷ [])))
+            (among_more (rotations_of before.slots account which key) before.others one more before.own);
+        told = told;
+      }

@@ -1,6 +1,5 @@
 pub mod Admissions
 pub mod Audits
-pub mod Notes
 pub mod Reserves
 pub mod Rotations
 pub mod Slots

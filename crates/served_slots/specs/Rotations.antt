@@ -1,6 +1,6 @@
 -- What a rotation makes of the key pairs of a slot, and what an operator knows of the history then (Blob service REST reference, 2012-02-12,
 -- Authentication for the Azure Storage Services: an account has two keys). That each slot enters the rotation is the stamp's own.
-use Rattle.std.specs.Prelude.{◌≡◌, ℕ, ◌+◌, List, [], ◌∷◌, ◌++◌, length, map, Some}
+use Rattle.std.specs.Prelude.{◌≡◌, ℕ, Bool, true, List, [], ◌∷◌, ◌++◌, map, Option, Some, None}
 use mathlib.Core.List.{IsPrefix}
 use Rattle.stamp_values.specs.declared.key.Key.{Key}
 use Rattle.access_rules.specs.declared.keys.Keys.{Keys}
@@ -23,9 +23,12 @@ pub record IsToldBy (slot : ℕ) (account : List ℕ) (epoch : ℕ) (log : List 
   pub judges : pair_for log key account ≡ Some pair
   pub told : epoch ≡ pair.epoch
 
--- the slot entered the rotation, as its one entry, after what was known, and knows then what is known
-abbrev pub RotatesSlot : SlotFront → List Entry → List ℕ → Which → List ℕ → List Entry → SlotFront → Type 0
-RotatesSlot front known account which key known' front' = IsEntered front.slot front.log known (Rotated front.slot account which key) known' × HasOneMore front known' front'
+-- A slot that knows the history entered the rotation, as its one entry, after what was known, and knows then what is known. Or it is of no use any
+-- more, and it is told that the history missed an entry. A slot of no use stays so
+abbrev pub RotatesSlot : Option SlotFront → List Entry → List ℕ → Which → List ℕ → List Entry → Bool → Option SlotFront → Type 0
+RotatesSlot (Some front) known account which key known' missed (Some front') = IsEntered front.slot front.log known (Rotated front.slot account which key) known' × HasOneMore front known' front'
+RotatesSlot (Some front) known account which key known' missed None = missed ≡ true
+RotatesSlot None known account which key known' missed after = after ≡ None
 
 -- ---- all slots
 
@@ -43,10 +46,10 @@ pub record HasRotated (known : List Entry) (account : List ℕ) (which : Which) 
   pub own : IsAmong (rotations_of slots account which key) others
   pub told : IsToldBy slot account epoch known'
 
--- so many slots replaced the key, the last of which told this epoch
-pub record RotatesAll (count : ℕ) (known : List Entry) (account : List ℕ) (which : Which) (key : List ℕ) (epoch : ℕ) (known' : List Entry) : Type 0 where
-  pub turn : HasRotated known account which key epoch known'
-  pub all : length turn.slots + 1 ≡ count
+-- some slots replaced the key, the last of which told this epoch; or no slot did
+abbrev pub RotatesSlots : List Entry → List ℕ → Which → List ℕ → Option ℕ → List Entry → Type 0
+RotatesSlots known account which key None known' = known' ≡ known
+RotatesSlots known account which key (Some epoch) known' = HasRotated known account which key epoch known'
 
 -- a beginning of a history, which the known entries begin too, after which the account's pair in force for some key has the last epoch
 pub record HasLastEpoch (known : List Entry) (account : List ℕ) : Type 0 where

@@ -1,8 +1,6 @@
 -- A slot whose containers are those that its history leaves (Calder et al., SOSP 2011, section 5: a partition makes its changes one after the
 -- other). That a history is of all slots is the stamp's own.
-use Rattle.std.specs.Prelude.{◌≡◌, ℕ, true, List, map, Option, None, refl}
-use Rattle.std.specs.Coded.{Coded, code_by, coded_list, coded_option, coded_ℕ, coded×}
-use Rattle.stamp_values.specs.Trees.{key_code}
+use Rattle.std.specs.Prelude.{◌≡◌, ℕ, true, map, Option, None}
 use Rattle.stamp_values.specs.declared.key.Key.{Key}
 use Rattle.stamp_types.specs.declared.past.Past.{Past}
 use Rattle.stamp_types.specs.Requests.{Asked}
@@ -10,9 +8,7 @@ use Rattle.stamp_types.specs.World.{part_at}
 use Rattle.stamp_model.specs.Runs.{Timed}
 use Rattle.slot_state.specs.HistoryMaps.{history_at}
 use Rattle.slot_state.specs.Pairs.{AreNumbered, current_at, epoch_of}
-use Rattle.slot_state.specs.Slots.{SlotState, covers, replayed_at, slot_code}
-use Rattle.served_history.specs.contracts.entry.Entry as entry
-use Rattle.served_history.specs.declared.entry.Entry.{Entry}
+use Rattle.slot_state.specs.Slots.{SlotState, covers, replayed_at}
 use Rattle.served_history.specs.declared.entry.Entry.TheVariants.{Split}
 use Rattle.served_history.specs.Fronts.{front_at}
 use Rattle.served_history.specs.Growth.{IsEntered, SlotFront}
@@ -35,22 +31,6 @@ pub record IsLeftBy (front : SlotFront) (to : Option Key) (s : SlotState) : Type
   pub calm : s.doubt ≡ None
   pub histories : (key : Key) → covers s key ≡ true → map past_of (front_at front.log key) ≡ history_at s.histories key
   pub containers : (key : Key) → covers s key ≡ true → part_at (world_left front.log) key ≡ replayed_at s.pairs s.histories key
-
--- what the lock of a slot has: what the slot knows of the history, the end of its range, and the slot
-pub record HeldSlot : Type 0 where
-  pub own : SlotFront
-  pub to : Option Key
-  pub slot : SlotState
-
--- the code of what a slot knows of the history
-abbrev pub front_code : Coded SlotFront
-front_code = code_by (ℕ × List Entry) (coded× coded_ℕ (coded_list entry.the_row.coded)) (λ f. (f.slot, f.log)) (λ p. record { slot = p.0; log = p.1 }) (λ _. refl)
-
--- the code of what the lock of a slot has
-abbrev pub held_code : Coded HeldSlot
-held_code =
-    code_by (SlotFront × (Option Key × SlotState)) (coded× front_code (coded× (coded_option key_code) slot_code))
-    (λ h. (h.own, (h.to, h.slot))) (λ p. record { own = p.0; to = p.1.0; slot = p.1.1 }) (λ _. refl)
 
 -- the request as a slot serves it: by its account's key pair in force, and up to this bound
 abbrev pub timed_in : SlotState → Option Key → Asked → ℕ → Timed

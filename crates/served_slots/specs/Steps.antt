@@ -10,6 +10,9 @@ use Rattle.tickets.specs.declared.answer.Answer.TheVariants as answer
 use Rattle.served_history.specs.declared.entry.Entry.{Entry}
 use Rattle.served_history.specs.Growth.{SlotFront}
 use Rattle.served_history.specs.Histories.{count_of}
+use Rattle.served_slots.specs.Slots.{IsParted}
+use Rattle.served_slots.specs.declared.entering.Missed.{Missed}
+use Rattle.served_slots.specs.declared.entering.Missed.TheVariants as missed
 use Rattle.served_slots.specs.declared.splitting.SplitFault.{SplitFault}
 use Rattle.served_slots.specs.declared.splitting.SplitFault.TheVariants as split
 
@@ -27,10 +30,38 @@ SaysReply (answer.Later r) (Err e) = ⊥
 SaysReply answer.NoMemory (Ok o) = ⊥
 SaysReply answer.NoMemory (Err e) = ⊤
 
+-- this holds, unless the slot has a change that the history does not have
+abbrev pub UnlessLost : {T : Type 0} → Result T Missed → Type 0 → Type 0
+UnlessLost (Err missed.Lost) holds = ⊤
+UnlessLost other holds = holds
+
+-- this holds if memory ran out
+abbrev pub IfNoMemory : {T : Type 0} → Result T Missed → Type 0 → Type 0
+IfNoMemory (Err missed.NoMemory) holds = holds
+IfNoMemory other holds = ⊤
+
+-- this holds if the slot has a change that the history does not have
+abbrev pub IfLost : {T : Type 0} → Result T Missed → Type 0 → Type 0
+IfLost (Err missed.Lost) holds = holds
+IfLost other holds = ⊤
+
 -- the slot made one entry, and knows then what the connection knows
 pub record HasOneMore (front : SlotFront) (known' : List Entry) (front' : SlotFront) : Type 0 where
   pub log : front' ≡ record front { log = known' }
   pub made : count_of front.slot front'.log ≡ count_of front.slot front.log + 1
+
+-- the same of a slot that knows the history before and after
+abbrev pub MakesOne : Option SlotFront → List Entry → Option SlotFront → Type 0
+MakesOne (Some front) known' (Some front') = HasOneMore front known' front'
+MakesOne (Some front) known' None = ⊥
+MakesOne None known' after = ⊥
+
+-- a slot that knows the history before and after was split at this key, and this is what the upper slot knows
+abbrev pub IsPartedFrom : Option SlotFront → Key → Option SlotFront → Option SlotFront → Type 0
+IsPartedFrom (Some front) middle (Some lower) (Some upper) = IsParted front middle lower upper
+IsPartedFrom (Some front) middle (Some lower) None = ⊥
+IsPartedFrom (Some front) middle None upper = ⊥
+IsPartedFrom None middle lower upper = ⊥
 
 -- why these spans refuse to split the slot that has this key at the key, if they do
 abbrev pub refusal_at : List Key → Key → Option MapFault

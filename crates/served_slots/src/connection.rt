@@ -1,11 +1,10 @@
 //! The service of a connection.
-ghost use Rattle.std.specs.Prelude.{◌≡◌, IfOk, OnErr, is_some};
+ghost use Rattle.std.specs.Prelude.{◌≡◌, IfOk, OnErr};
 ghost use Rattle.served_history.specs.Connections.{AreOfOneHistory};
 ghost use Rattle.served_history.specs.Histories.{IsServed};
-ghost use Rattle.served_slots.specs.Notes.{IsNotedAs};
 
 use crate::admission::is_admissible;
-use crate::posting::{Noted, note};
+use crate::posting::post;
 use crate::reserve::Reserve;
 use crate::slots::Slots;
 use audit_lines::Books;
@@ -24,8 +23,6 @@ pub struct SlotsService<'a, A: Account, R: Wait> {
     known: LogFront<A>,
     // Where the entries of the requests are posted, if entries are made.
     books: Option<&'a Books>,
-    // What became of the entry of the last request.
-    noted: Noted,
     // What is given up if memory runs out.
     reserve: Option<&'a Reserve>,
 }
@@ -45,30 +42,26 @@ impl<'a, A: Account, R: Wait> SlotsService<'a, A, R> {
         known: LogFront<A>,
         books: Option<&'a Books>,
     ) -> Self
-        ensures known { result.known ≡ known }
-        ensures books { result.books ≡ books.entry }
+        ensures { result.known ≡ known }
     {
         Self {
             rt,
             slots,
             known,
             books,
-            noted: Noted::Unneeded,
             reserve: None,
         }
     }
 
     /// The same, with a reserve that it gives up if memory runs out. A connection without a reserve refuses no request for its sake.
     pub fn with_reserve(self, reserve: &'a Reserve) -> Self
-        ensures known { result.known ≡ self.entry.known }
-        ensures books { result.books ≡ self.entry.books }
+        ensures { result.known ≡ self.entry.known }
     {
         Self {
             rt: self.rt,
             slots: self.slots,
             known: self.known,
             books: self.books,
-            noted: self.noted,
             reserve: Some(reserve),
         }
     }
@@ -78,13 +71,6 @@ impl<'a, A: Account, R: Wait> SlotsService<'a, A, R> {
         ensures { result.now ≡ self.now.known }
     {
         &self.known
-    }
-
-    /// What became of the entry of the last request in the audit book.
-    pub fn noted(&self) -> &Noted
-        ensures { result.now ≡ self.now.noted }
-    {
-        &self.noted
     }
 
     /// Ends the connection, and gives what it knows of the history.
@@ -134,9 +120,7 @@ impl<'a, A: Account, R: Wait> SlotsService<'a, A, R> {
         moment: Moment,
     ) -> Result<Reply, AllocError>
         ensures answered { IfOk result (λ reply. IsServed self.old.known request.now moment reply self.new.known) }
-        ensures noted { IfOk result (λ reply. IsNotedAs (is_some self.old.books) self.new.known request.now moment reply self.new.noted) }
-        ensures books { self.new.books ≡ self.old.books }
-        ensures same { OnErr result ((self.new.known ≡ self.old.known) × (self.new.noted ≡ self.old.noted)) }
+        ensures same { OnErr result (self.new.known ≡ self.old.known) }
     {
         let reading = Reading::of(alloc, request)?;
         let is_audited = self.books.is_some();
@@ -150,24 +134,25 @@ impl<'a, A: Account, R: Wait> SlotsService<'a, A, R> {
         let mut known = self.known.again();
         let told = self.slots.serve(self.rt, alloc, &mut known, &ready, reading, self.is_short())?;
         let (reply, entry) = told.fetch()?;
-        self.noted = note(self.rt, self.books, request.ask().op, &reply, entry);
+        post(self.rt, self.books, entry);
         self.known = known;
         Ok(reply)
     }
 }
 
 impl<'a, A: Account, R: Wait> Service for SlotsService<'a, A, R> {
-    ghost use Rattle.std.specs.Prelude.{is_some};
+    ghost use Rattle.std.specs.Prelude.{List};
+    ghost use Rattle.served_history.specs.declared.entry.Entry.{Entry};
+    ghost use Rattle.served_history.specs.Histories.{IsServed, IsUnchanged};
     ghost use Rattle.served_slots.specs.Admissions.{IsAdmissible};
-    ghost use Rattle.served_slots.specs.Notes.{SeenConnection, ServesAndNotes, StaysAsItWas};
 
-    ghost World = { SeenConnection };
+    ghost World = { List Entry };
 
-    ghost world = { λ s. record { known = s.known; has_books = is_some s.books; noted = s.noted } };
+    ghost world = { λ s. s.known };
 
-    ghost answers = { ServesAndNotes };
+    ghost answers = { IsServed };
 
-    ghost starves = { StaysAsItWas };
+    ghost starves = { IsUnchanged };
 
     ghost admits = { IsAdmissible };
 
@@ -175,7 +160,7 @@ impl<'a, A: Account, R: Wait> Service for SlotsService<'a, A, R> {
     /// connection knew, and the request is then the last entry that the connection knows.
     ///
     /// The signature is judged and the body is read before a lock is taken. After the locks are given back, bytes of sealed extents are fetched,
-    /// and the entry of the audit book is posted. What became of the entry is then noted.
+    /// and the entry of the audit book is posted.
     ///
     /// If memory runs out, the reserve is given up, and the request is tried once more. If the reserve was gone before, a request that brings
     /// content is not tried again. If memory runs out again for a request that brings no content, the slots give up their garbage, and it is tried a

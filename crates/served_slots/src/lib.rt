@@ -9,7 +9,6 @@ mod garbage;
 mod laws;
 mod locked;
 mod next_pairs;
-mod note_laws;
 mod operator;
 mod posting;
 #[cfg(test)]
@@ -35,9 +34,7 @@ pub use connection::{SlotsService, two_connections_agree};
 pub use laws::{
     a_slot_has_what_its_requests_leave, both_halves_have_what_is_left, the_first_slot_has_all_keys,
 };
-pub use note_laws::{a_connection_knows_what_it_serves, a_request_that_is_let_in_has_its_entry};
 pub use operator::Operator;
-pub use posting::Noted;
 pub use reserve::Reserve;
 pub use slots::Slots;
 pub use splitting::SplitFault;

@@ -53,8 +53,8 @@ impl<'a, A: Account, R: Wait> Operator<'a, A, R> {
     /// Replaces a key of the account for all slots, and returns the epoch of the new pair. Each slot enters the rotation: requests on its keys that
     /// come after its entry are judged by the new pair. Then the operator knows all these entries. No request is answered meanwhile.
     ///
-    /// `Last` if no epoch comes after that of a slot's pair. `NoMemory` if memory runs out, or if the stamp has no such account, or if a slot has
-    /// made as many entries as it may. Then no key is replaced, and each slot is as it was.
+    /// A slot of no use is passed over. `Last` if no epoch comes after that of a slot's pair. `NoMemory` if memory runs out, or if the stamp has no
+    /// such account, or if a slot has made as many entries as it may, or if no slot is of use. Then no key is replaced.
     pub fn rotate(
         &mut self,
         alloc: Global,

@@ -1,5 +1,5 @@
 //! The slots of a stamp.
-ghost use Rattle.std.specs.Prelude.{◌≡◌, ◌⊎◌, ◌∷◌, [], Err, IfErr, IfOk, IfSome, None, OnErr, OnOk, Some, false};
+ghost use Rattle.std.specs.Prelude.{◌≡◌, ◌⊎◌, ◌∷◌, [], Err, IfErr, IfOk, None, OnErr, OnOk, Some, false};
 ghost use Rattle.std.specs.Arc.{arc_value};
 ghost use Rattle.access_rules.specs.declared.rotation.KeysFault.TheVariants.{Last};
 ghost use Rattle.policy_book.specs.Judgements.{IsOfAsk};
@@ -10,7 +10,7 @@ ghost use Rattle.slot_state.specs.Pairs.{AreNumbered, first_pairs};
 ghost use Rattle.slot_state.specs.declared.pairs_fault.PairsFault.TheVariants.{NoMemory};
 ghost use Rattle.slot_state.specs.Slots.{empty_slot};
 ghost use Rattle.served_history.specs.declared.entry.Entry.TheVariants.{Opened};
-ghost use Rattle.served_history.specs.Histories.{IsServed};
+ghost use Rattle.served_history.specs.Histories.{IsServed, count_of};
 ghost use Rattle.served_slots.specs.Audits.{AuditsLast};
 ghost use Rattle.served_slots.specs.Rotations.{HasLastEpoch, HasRotated};
 ghost use Rattle.served_slots.specs.Slots.{IsLeftBy};
@@ -48,14 +48,14 @@ struct Words<A: Account> {
 }
 
 impl<A: Account> Words<A> {
-    // The word of the next slot; none if all slots have theirs, or if this slot had begun before.
+    // The word of the next slot; none if all slots have theirs.
     fn next(&mut self) -> Option<SlotWord<A>> {
         if self.next >= MOST_SLOTS as u64 {
             return None;
         }
         let word = self.history.word::<A>(self.next);
         self.next += 1;
-        word
+        Some(word)
     }
 }
 
@@ -92,19 +92,18 @@ fn shared_pairs(alloc: Global, pairs: Vec<Keys>) -> Result<Arc<AccountPairs>, Pa
     Ok(shared)
 }
 
-// What the first slot knows of a new history; none if the slot had begun before.
-fn first_own<A: Account>(history: &mut NewHistory, front: &LogFront<A>) -> Option<SlotHistory<A>>
+// What the first slot knows of a new history.
+fn first_own<A: Account>(history: &mut NewHistory, front: &LogFront<A>) -> SlotHistory<A>
     requires book { history.old.book ≡ A.history }
     requires fresh { history.old.next ≡ 0 }
-    ensures slot { IfSome result (λ own. own.slot ≡ 0) }
-    ensures log { IfSome result (λ own. own.log ≡ front.now) }
+    requires none { count_of 0 front.now ≡ 0 }
+    ensures slot { result.slot ≡ 0 }
+    ensures log { result.log ≡ front.now }
     ensures book { history.new.book ≡ history.old.book }
     ensures next { history.new.next ≡ 1 }
 {
-    match history.word::<A>(0) {
-        Some(word) => Some(SlotHistory::new(word, front.again())),
-        None => None,
-    }
+    let word = history.word::<A>(0);
+    SlotHistory::new(word, front.again())
 }
 
 // The table of one slot of all keys.
@@ -148,8 +147,7 @@ impl<A: Account> Slots<A> {
     /// One slot of all keys, without containers, for the accounts of these first key pairs, with which the history begins; and what is known of
     /// this history.
     ///
-    /// `NotFirst` if the epoch of a pair is not 0, `Twice` if two pairs are of one account, and `NoMemory` if memory runs out, or if the first slot of
-    /// the history had begun before. No thread begins it, though no clause says so.
+    /// `NotFirst` if the epoch of a pair is not 0, `Twice` if two pairs are of one account, and `NoMemory` if memory runs out.
     pub fn new(
         alloc: Global,
         pairs: Vec<Keys>,
@@ -164,9 +162,7 @@ impl<A: Account> Slots<A> {
     {
         let mut history = history;
         let front = history.front::<A>();
-        let Some(own) = first_own(&mut history, &front) else {
-            return Err(PairsFault::NoMemory);
-        };
+        let own = first_own(&mut history, &front);
         let spares = spares(
             alloc,
             Words {
@@ -235,7 +231,7 @@ impl<A: Account> Slots<A> {
         let mut locked = table.locked(rt, &ready.first);
         match locked.answer(alloc, known, ready, reading) {
             Ok(told) => Ok(told),
-            Err(AllocError) => Err(AllocError),
+            Err(_missed) => Err(AllocError),
         }
     }
 
@@ -271,7 +267,7 @@ impl<A: Account> Slots<A> {
         }
         match locked.answer(alloc, known, ready, reading) {
             Ok(told) => Ok(told),
-            Err(AllocError) => Err(AllocError),
+            Err(_missed) => Err(AllocError),
         }
     }
 
@@ -311,7 +307,7 @@ impl<A: Account> Slots<A> {
     /// its keys that come after its entry are judged by the new pair. No request is answered meanwhile.
     ///
     /// `Last` if no epoch comes after that of a slot's pair. `NoMemory` if memory runs out, or if the stamp has no such account, or if a slot has made
-    /// as many entries as it may.
+    /// as many entries as it may, or if no slot is of use. A slot of no use is passed over.
     pub(crate) fn rotate<R: Wait>(
         &self,
         rt: &R,
@@ -339,7 +335,7 @@ impl<A: Account> Slots<A> {
     /// Splits the slot that has the key. The key is then the first key of the upper half. No request is answered meanwhile.
     ///
     /// `FirstKey` if a slot begins with the key, or else `Full` if there are 256 slots. `NoMemory` if memory runs out, if no word is left for the upper
-    /// half, or if the slot has made as many entries as it may. After a fault nothing is changed.
+    /// half, or if the slot is of no use any more. After a fault nothing is changed.
     #[tactic(auto, using(crate::proofs::SpanLemmas::said_by))]
     pub fn split<R: Wait>(&self, rt: &R, alloc: Global, middle: &Key) -> Result<(), SplitFault>
         ensures allowed { OnOk result (SpansSay middle.now None) }

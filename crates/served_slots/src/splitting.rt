@@ -8,7 +8,7 @@ pub enum SplitFault {
     FirstKey,
     /// There are 256 slots.
     Full,
-    /// Memory ran out, or no word is left for the upper half, or the slot has made as many entries as it may.
+    /// Memory ran out, or no word is left for the upper half, or the slot is of no use any more.
     NoMemory,
 }
 

@@ -4,12 +4,13 @@ ghost use Rattle.std.specs.Arc.{arc_value};
 ghost use Rattle.access_rules.specs.declared.rotation.KeysFault.TheVariants.{Last};
 ghost use Rattle.partition_map.specs.Spans.{split_refusal, with_point};
 ghost use Rattle.slot_state.specs.Slots.{empty_slot};
-ghost use Rattle.served_slots.specs.Rotations.{HasLastEpoch, RotatesAll};
+ghost use Rattle.served_slots.specs.Rotations.{HasLastEpoch, HasRotated, RotatesSlots};
 ghost use Rattle.served_slots.specs.Slots.{IsLeftBy};
 ghost use Rattle.served_slots.specs.Steps.{refusal_at, split_at, split_cause};
 
+use crate::entering::Missed;
 use crate::locked::LockedSlot;
-use crate::locked::rotating::rotate_from;
+use crate::locked::rotating::{Turn, rotate_from};
 use crate::next_pairs::KeyChange;
 use crate::splitting::SplitFault;
 use access_rules::{Keys, KeysFault, Which};
@@ -26,8 +27,7 @@ use std::sync::{Arc, Mutex, MutexGuard, Wait};
 pub(crate) struct Table<A: Account> {
     spans: Spans,
     slots: Vec<Mutex<LockedSlot<A>>>,
-    // Two threads may not look at one pen at once, so the words are under a lock.
-    spares: Mutex<Vec<SlotWord<A>>>,
+    spares: Vec<SlotWord<A>>,
     ghost one_each: { vec_len slots ≡ length spans + 1 },
 }
 
@@ -37,7 +37,7 @@ fn cut_in<A: Account>(
     alloc: Global,
     middle: &Key,
     spares: &mut Vec<SlotWord<A>>,
-) -> Result<LockedSlot<A>, AllocError> {
+) -> Result<LockedSlot<A>, Missed> {
     lock.get_mut().cut(alloc, middle, spares)
 }
 
@@ -59,7 +59,7 @@ fn halve_reserved<A: Account>(
             Ok(()) => Ok(()),
             Err(_) => unreachable!("there is room for one slot more"),
         },
-        Err(AllocError) => Err(AllocError),
+        Err(_missed) => Err(AllocError),
     }
 }
 
@@ -99,7 +99,7 @@ fn split_span(spans: &mut Spans, slot: usize, middle: &Key) -> Result<(), SplitF
     }
 }
 
-// Replaces a key of the account for all these slots, or for none. Answers the epoch of the new pair of the first slot.
+// Replaces a key of the account for all these slots, or for none.
 fn rotate_slots<A: Account>(
     slots: &mut [Mutex<LockedSlot<A>>],
     alloc: Global,
@@ -108,21 +108,28 @@ fn rotate_slots<A: Account>(
     which: Which,
     key: &SigningKey,
     made: Option<&Arc<Keys>>,
-) -> Result<u64, KeysFault>
-    requires some { 0 < length slots.old }
-    ensures rotated { IfOk result (λ epoch. RotatesAll (length slots.old) known.old account.now which key.now epoch known.new) }
+) -> Result<Option<u64>, KeysFault>
+    ensures rotated { IfOk result (λ told. RotatesSlots known.old account.now which key.now told known.new) }
     ensures refused { OnErr result (known.new ≡ known.old) }
     ensures last { result ≡ Err Last → HasLastEpoch known.old account.now }
 {
     let Some((first, rest)) = slots.split_first_mut() else {
-        unreachable!("a table has a slot");
+        return Ok(None);
     };
     let change = KeyChange {
         account,
         which,
         key,
     };
-    rotate_from(first.get_mut(), rest, alloc, known, &change, made)
+    match rotate_from(first.get_mut(), rest, alloc, known, &change, made) {
+        Ok(
+            Turn {
+                told,
+                missed: _missed,
+            },
+        ) => Ok(told),
+        Err(fault) => Err(fault),
+    }
 }
 
 impl<A: Account> Table<A> {
@@ -143,7 +150,7 @@ impl<A: Account> Table<A> {
         Ok(Self {
             spans: Spans::new(alloc),
             slots,
-            spares: Mutex::new(spares),
+            spares,
         })
     }
 
@@ -171,8 +178,8 @@ impl<A: Account> Table<A> {
 
     /// Splits the span that has the key, and then its slot. If the slot fails, its two spans are joined again.
     ///
-    /// `FirstKey` if a slot begins with the key, or else `Full` if there are 256 slots. Or else `NoMemory` if memory runs out, or if no word is left
-    /// for the upper half. After a fault the spans are as they were.
+    /// `FirstKey` if a slot begins with the key, or else `Full` if there are 256 slots. Or else `NoMemory` if memory runs out, if no word is left
+    /// for the upper half, or if the slot is of no use any more. After a fault the spans are as they were.
     #[tactic(auto, using(crate::proofs::SpanLemmas::refusal_of_found, crate::proofs::SpanLemmas::split_of_found))]
     pub(crate) fn split(&mut self, alloc: Global, middle: &Key) -> Result<(), SplitFault>
         ensures split { OnOk result (self.new.spans ≡ split_at self.old.spans middle.now) }
@@ -182,7 +189,7 @@ impl<A: Account> Table<A> {
     {
         let slot = self.spans.find(middle);
         split_span(&mut self.spans, slot, middle)?;
-        let halved = halve(&mut self.slots, alloc, slot, middle, self.spares.get_mut());
+        let halved = halve(&mut self.slots, alloc, slot, middle, &mut self.spares);
         if halved.is_err() {
             self.spans.join(slot);
             return Err(SplitFault::NoMemory);
@@ -190,10 +197,10 @@ impl<A: Account> Table<A> {
         Ok(())
     }
 
-    /// Replaces a key of the account for all slots, or for none. Answers the epoch of the new pair. As many slots as the table has enter the rotation.
+    /// Replaces a key of the account for all slots, or for none. Answers the epoch of the new pair.
     ///
     /// `Last` if no epoch comes after that of a slot's pair. `NoMemory` if memory runs out, or if the stamp has no such account, or if a slot has made
-    /// as many entries as it may.
+    /// as many entries as it may, or if no slot is of use. A slot of no use is passed over.
     pub(crate) fn rotate(
         &mut self,
         alloc: Global,
@@ -203,12 +210,13 @@ impl<A: Account> Table<A> {
         key: &SigningKey,
         made: Option<&Arc<Keys>>,
     ) -> Result<u64, KeysFault>
-        ensures rotated { IfOk result (λ epoch. RotatesAll (length self.old.spans + 1) known.old account.now which key.now epoch known.new) }
+        ensures rotated { IfOk result (λ epoch. HasRotated known.old account.now which key.now epoch known.new) }
         ensures same { OnErr result (known.new ≡ known.old) }
         ensures last { result ≡ Err Last → HasLastEpoch known.old account.now }
     {
         match rotate_slots(&mut self.slots, alloc, known, account, which, key, made) {
-            Ok(epoch) => Ok(epoch),
+            Ok(Some(epoch)) => Ok(epoch),
+            Ok(None) => Err(KeysFault::NoMemory),
             Err(KeysFault::Last) => Err(KeysFault::Last),
             Err(KeysFault::NoMemory) => Err(KeysFault::NoMemory),
         }

@@ -1,6 +1,5 @@
 pub mod AuditLemmas
 pub mod FaultLemmas
-pub mod HeardLemmas
 pub mod RangeLemmas
 pub mod RotateLemmas
 pub mod RunLemmas

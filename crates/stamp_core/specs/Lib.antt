@@ -1,6 +1,5 @@
 pub mod CoreAudits
 pub mod CoreSteps
-pub mod Heard
 pub mod Ranges
 pub mod Rotations
 pub mod Sweeps

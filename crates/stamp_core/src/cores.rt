@@ -2,7 +2,6 @@
 ghost use Rattle.std.specs.Prelude.{◌≡◌, ◌⊎◌, Bool, IfErr, IfOk, None, OnErr, length};
 ghost use Rattle.std.specs.Arc.{arc_value};
 ghost use Rattle.std.specs.Option.{option_copied};
-ghost use Rattle.extent_node.specs.Faults.{Calls};
 ghost use Rattle.extent_seal.specs.Counting.{Grows, all_faults};
 ghost use Rattle.stamp_types.specs.World.{no_part};
 ghost use Rattle.stamp_values.specs.declared.key.Key.{Key};
@@ -18,7 +17,6 @@ ghost use Rattle.core_run.specs.Cores.{StandsFor, first_core};
 ghost use Rattle.core_run.specs.States.{State, opening};
 ghost use Rattle.core_run.specs.Machine.{IsRun, Takes};
 ghost use Rattle.stamp_core.specs.CoreSteps.{AnswersSteadily, told_answer, has_faults, step_of};
-ghost use Rattle.stamp_core.specs.Heard.{HearsRun, HearsStep};
 ghost use Rattle.stamp_core.specs.Tending.{IsOf, care_answer};
 
 mod audit;
@@ -29,7 +27,6 @@ use crate::care::CoreCare;
 use crate::open_tickets::OpenTickets;
 use crate::rotating::rotate;
 use crate::serving::{Call, answer_one, serve_unread};
-use crate::spare_denial::SpareDenial;
 use crate::splitting::split;
 use crate::telling::{answered, tell};
 use crate::tended::{Tended, Untended};
@@ -57,8 +54,6 @@ pub struct Core<H: Histories> {
     slots: Vec<StoredSlot<H>>,
     spans: Spans,
     tickets: OpenTickets,
-    // The denial of N1, if it was made for an earlier ticket whose content was read.
-    spare: Option<SpareDenial>,
 }
 
 impl<H: Histories> Model for Core<H> {
@@ -107,7 +102,6 @@ fn first<H: Histories>(
         slots,
         spans: Spans::new(alloc),
         tickets: OpenTickets::new(alloc),
-        spare: None,
     })
 }
 
@@ -192,7 +186,6 @@ impl<H: Histories> Core<H> {
         ensures taken { (s : State) → StandsFor self.old s
             → (s' : State) × (Takes s (Serve request.now moment) (has_faults (W.faults wire.old) (W.faults wire.new)) result s' × StandsFor self.new s') }
         ensures grown { Grows (W.faults wire.old) (W.faults wire.new) }
-        ensures heard { HearsStep result (W.calls wire.old) (W.calls wire.new) (W.faults wire.old) (W.faults wire.new) }
     {
         let call = Call {
             request,
@@ -201,7 +194,7 @@ impl<H: Histories> Core<H> {
             is_audited: false,
         };
         let answer = answer_one(&mut self.slots, &self.spans, alloc, &call, reading, wire);
-        tell(&mut self.tickets, &mut self.spare, alloc, answer, wire)
+        tell(&mut self.tickets, alloc, answer, wire)
     }
 
     /// One Serve step whose reply is told at once, without a ticket, on a request whose body was read before: for a service that hands each
@@ -224,7 +217,6 @@ impl<H: Histories> Core<H> {
             → (s' : State) × (Takes s (Serve request.now moment) (has_faults (W.faults wire.old) (W.faults wire.new)) (told_answer result) s' × StandsFor self.new s') }
         ensures steady { all_faults (W.faults wire.new) ≡ all_faults (W.faults wire.old) → AnswersSteadily self.old request.now moment result self.new }
         ensures grown { Grows (W.faults wire.old) (W.faults wire.new) }
-        ensures heard { HearsStep (told_answer result) (W.calls wire.old) (W.calls wire.new) (W.faults wire.old) (W.faults wire.new) }
     {
         let call = Call {
             request,
@@ -245,7 +237,6 @@ impl<H: Histories> Core<H> {
         ensures taken { (s : State) → StandsFor self.old s
             → (s' : State) × (Takes s (Fetch ticket) (has_faults (W.faults wire.old) (W.faults wire.new)) result s' × StandsFor self.new s') }
         ensures grown { Grows (W.faults wire.old) (W.faults wire.new) }
-        ensures heard { HearsStep result (W.calls wire.old) (W.calls wire.new) (W.faults wire.old) (W.faults wire.new) }
     {
         let fetched = self.tickets.fetch(ticket, wire);
         answered(fetched)
@@ -266,7 +257,6 @@ impl<H: Histories> Core<H> {
         ensures taken { (s : State) → StandsFor self.old s
             → (s' : State) × (Takes s (Split slot middle.now) (has_faults (W.faults wire.old) (W.faults wire.new)) result s' × StandsFor self.new s') }
         ensures grown { Grows (W.faults wire.old) (W.faults wire.new) }
-        ensures heard { HearsStep result (W.calls wire.old) (W.calls wire.new) (W.faults wire.old) (W.faults wire.new) }
     {
         split(&mut self.slots, &mut self.spans, alloc, slot, middle, wire)
     }
@@ -290,7 +280,6 @@ impl<H: Histories> Core<H> {
             → (s' : State) × (Takes s (step_of slot care) (has_faults (W.faults wire.old) (W.faults wire.new)) (care_answer result) s' × StandsFor self.new s') }
         ensures given { IfOk result (IsOf care) }
         ensures grown { Grows (W.faults wire.old) (W.faults wire.new) }
-        ensures heard { HearsStep (care_answer result) (W.calls wire.old) (W.calls wire.new) (W.faults wire.old) (W.faults wire.new) }
     {
         tend(&mut self.slots, &self.spans, slot, care, alloc, wire)
     }
@@ -306,7 +295,6 @@ impl<H: Histories> Core<H> {
         ensures taken { (s : State) → StandsFor self.old s
             → (s' : State) × (Takes s (step_of slot care) (has_faults (W.faults wire.old) (W.faults wire.new)) result s' × StandsFor self.new s') }
         ensures grown { Grows (W.faults wire.old) (W.faults wire.new) }
-        ensures heard { HearsStep result (W.calls wire.old) (W.calls wire.new) (W.faults wire.old) (W.faults wire.new) }
     {
         made(self.tend(alloc, slot, care, wire))
     }
@@ -326,7 +314,6 @@ impl<H: Histories> Core<H> {
     ) -> Result<Outcome, StepFault>
         ensures taken { (s : State) (faulted : Bool) → StandsFor self.old s
             → (s' : State) × (Takes s (Rotate account.now which key) faulted result s' × StandsFor self.new s') }
-        ensures heard { (calls failed : Calls) → HearsStep result calls calls failed failed }
     {
         rotate(&mut self.slots, &self.spans, alloc, account, which, key)
     }
@@ -342,10 +329,9 @@ impl<H: Histories> Core<H> {
         ensures taken { (s : State) → StandsFor self.old s
             → (s' : State) × (Takes s (Serve request.now moment) (has_faults (W.faults wire.old) (W.faults wire.new)) result s' × StandsFor self.new s') }
         ensures grown { Grows (W.faults wire.old) (W.faults wire.new) }
-        ensures heard { HearsStep result (W.calls wire.old) (W.calls wire.new) (W.faults wire.old) (W.faults wire.new) }
     {
         let answer = serve_unread(&mut self.slots, &self.spans, alloc, request, moment, wire);
-        tell(&mut self.tickets, &mut self.spare, alloc, answer, wire)
+        tell(&mut self.tickets, alloc, answer, wire)
     }
 
     /// One step: it answers what the machine may answer, and leaves what the machine leaves, from each state that the core stands for. That a
@@ -362,7 +348,6 @@ impl<H: Histories> Core<H> {
         ensures taken { (s : State) → StandsFor self.old s
             → (s' : State) × (Takes s step (has_faults (W.faults wire.old) (W.faults wire.new)) result s' × StandsFor self.new s') }
         ensures grown { Grows (W.faults wire.old) (W.faults wire.new) }
-        ensures heard { HearsStep result (W.calls wire.old) (W.calls wire.new) (W.faults wire.old) (W.faults wire.new) }
     {
         match step {
             Step::Serve { request, moment } => self.serve_now(alloc, &request, moment, wire),
@@ -416,7 +401,6 @@ impl<H: Histories> Core<H> {
         ensures count { IfOk result (λ answers. length answers.items ≡ length steps.items) }
         ensures unchanged { OnErr result ((self.new ≡ self.old) × (W.faults wire.new ≡ W.faults wire.old)) }
         ensures grown { Grows (W.faults wire.old) (W.faults wire.new) }
-        ensures heard { IfOk result (λ answers. HearsRun answers.items (W.calls wire.old) (W.calls wire.new) (W.faults wire.old) (W.faults wire.new)) }
     {
         let mut answers = Vec::with_capacity(alloc, steps.len())?;
         let mut later = steps.into_iter();

@@ -7,7 +7,6 @@ mod cores;
 mod open_tickets;
 mod rotating;
 mod serving;
-mod spare_denial;
 mod splitting;
 mod sweeping;
 mod telling;

@@ -4,8 +4,6 @@ ghost use Rattle.std.specs.BTreeMap.{IsUnchanged, Updates};
 ghost use Rattle.std.specs.Ordering.{nat_cmp};
 ghost use Rattle.extent_seal.specs.Counting.{Grows};
 ghost use Rattle.stored_slot.specs.Served.{Faulted};
-ghost use Rattle.stamp_core.specs.CoreSteps.{fetch_answer};
-ghost use Rattle.stamp_core.specs.Heard.{HearsStep};
 ghost use Rattle.stamp_core.specs.Tickets as tickets;
 ghost use Rattle.stamp_core.specs.Tickets.{IsTicketFetched, at_number, held_reply, left_after};
 
@@ -64,11 +62,9 @@ fn fetch_fault(fault: ReadFault) -> StepFault
 }
 
 // The reply of the ticket in a place, which is then empty. After a fault the ticket is in its place again.
-#[tactic(auto, using(extent_seal::proofs::HeardLemmas::heard_none, crate::proofs::HeardLemmas::fetch_hears))]
 fn fetch_ticket<W: Wire>(place: &mut Option<Ticket>, wire: &mut W) -> Result<Reply, StepFault>
     ensures fetched { IsTicketFetched place.old (Faulted (W.faults wire.old) (W.faults wire.new)) result place.new }
     ensures grown { Grows (W.faults wire.old) (W.faults wire.new) }
-    ensures heard { HearsStep (fetch_answer result) (W.calls wire.old) (W.calls wire.new) (W.faults wire.old) (W.faults wire.new) }
 {
     match place.take() {
         None => Err(StepFault::NoSuchTicket),
@@ -83,7 +79,6 @@ fn fetch_ticket<W: Wire>(place: &mut Option<Ticket>, wire: &mut W) -> Result<Rep
 }
 
 // The reply of the ticket under a number, whose place is then empty.
-#[tactic(auto, using(extent_seal::proofs::HeardLemmas::heard_none))]
 fn fetch_place<W: Wire>(
     tree: &mut BTreeMap<u64, Option<Ticket>>,
     number: u64,
@@ -92,7 +87,6 @@ fn fetch_place<W: Wire>(
     ensures fetched { IsTicketFetched (at_number tree.old number) (Faulted (W.faults wire.old) (W.faults wire.new)) result (at_number tree.new number) }
     ensures others { (n : ℕ) → (n ≡ number → ⊥) → at_number tree.new n ≡ at_number tree.old n }
     ensures grown { Grows (W.faults wire.old) (W.faults wire.new) }
-    ensures heard { HearsStep (fetch_answer result) (W.calls wire.old) (W.calls wire.new) (W.faults wire.old) (W.faults wire.new) }
 {
     match tree.get_mut(&number) {
         Some(place) => fetch_ticket(place, wire),
@@ -133,12 +127,10 @@ impl OpenTickets {
     ///
     /// `NoSuchTicket` if the ticket was not given, or has ended. `Unreachable` if every node with a copy of some extent was asked and answered
     /// no, and `NoMemory` if memory runs out: the ticket then stays.
-    #[tactic(auto, using(extent_seal::proofs::HeardLemmas::heard_none))]
     pub(crate) fn fetch<W: Wire>(&mut self, number: u64, wire: &mut W) -> Result<Reply, StepFault>
         ensures fetched { IsTicketFetched (held_reply self.old number) (Faulted (W.faults wire.old) (W.faults wire.new)) result (held_reply self.new number) }
         ensures left { self.new ≡ left_after result self.old number }
         ensures grown { Grows (W.faults wire.old) (W.faults wire.new) }
-        ensures heard { HearsStep (fetch_answer result) (W.calls wire.old) (W.calls wire.new) (W.faults wire.old) (W.faults wire.new) }
     {
         if number >= self.given {
             return Err(StepFault::NoSuchTicket);

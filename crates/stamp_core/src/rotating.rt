@@ -2,8 +2,6 @@
 ghost use Rattle.std.specs.Prelude.{◌≡◌, ◌+◌, IfErr, IfOk, OnErr, OnOk};
 ghost use Rattle.std.specs.Arc.{arc_value};
 ghost use Rattle.slot_state.specs.NextPairs.{HasNextPair};
-ghost use Rattle.extent_node.specs.Faults.{Calls};
-ghost use Rattle.stamp_core.specs.Heard.{HearsStep};
 ghost use Rattle.stamp_core.specs.Ranges.{HaveSpans};
 ghost use Rattle.stamp_core.specs.Rotations as rotations;
 ghost use Rattle.stamp_core.specs.Rotations.{BeginPairs, HaveCaughtUp, IsRotated, TellsNoNextPair, pairs_of_all};
@@ -90,7 +88,7 @@ fn bring_up<H: Histories>(
 ///
 /// `NoAccount` if the stamp has no such account, `Last` if no epoch comes after the epoch of the pair in force, and `NoMemory` if memory runs
 /// out. The slots are then as they were.
-#[tactic(auto, using(crate::proofs::RotateLemmas::made_then_none, extent_seal::proofs::HeardLemmas::heard_none, crate::proofs::HeardLemmas::no_pair_hears))]
+#[tactic(auto, using(crate::proofs::RotateLemmas::made_then_none))]
 pub(crate) fn rotate<H: Histories>(
     slots: &mut Vec<StoredSlot<H>>,
     spans: &Spans,
@@ -102,7 +100,6 @@ pub(crate) fn rotate<H: Histories>(
     requires before { HaveSpans slots.old.items spans.now }
     ensures after { HaveSpans slots.new.items spans.now }
     ensures rotated { IsRotated slots.old.items account.now which key result slots.new.items }
-    ensures heard { (calls failed : Calls) → HearsStep result calls calls failed failed }
 {
     match longer_pairs(slots, spans, alloc, account, which, &key) {
         Ok(longer) => match bring_up(slots, 0, &longer.pairs) {

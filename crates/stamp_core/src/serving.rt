@@ -8,7 +8,6 @@ ghost use Rattle.partition_map.specs.Spans.{slot_of};
 ghost use Rattle.stamp_model.specs.SeenContainers.{routed};
 ghost use Rattle.slot_state.specs.Slots.{covers};
 ghost use Rattle.stored_slot.specs.Audits.{SlotAudits};
-ghost use Rattle.stored_slot.specs.Heard.{HearsAnswer};
 ghost use Rattle.stored_slot.specs.Served.{Faulted};
 ghost use Rattle.stamp_core.specs.CoreAudits.{IsAuditedBySlot};
 ghost use Rattle.stamp_core.specs.CoreSteps.{IsServedBySlot};
@@ -60,7 +59,6 @@ fn audit_if<H: Histories, W: Wire>(
     requires covered { covers slot.old (routed call.now.request.now) ≡ true }
     ensures served { SlotAudits slot.old call.now.request.now call.now.moment (Faulted (W.faults wire.old) (W.faults wire.new)) result.answer result.entry slot.new }
     ensures grown { Grows (W.faults wire.old) (W.faults wire.new) }
-    ensures heard { HearsAnswer result.answer (W.calls wire.old) (W.calls wire.new) (W.faults wire.old) (W.faults wire.new) }
 {
     let moment = call.moment;
     if call.is_audited {
@@ -90,7 +88,6 @@ fn serve_at<H: Histories, W: Wire>(
     ensures after { HaveSpans slots.new.items spans.now }
     ensures audited { IsAuditedBySlot slots.old.items spans.now call.now.request.now call.now.moment (Faulted (W.faults wire.old) (W.faults wire.new)) result.answer result.entry slots.new.items }
     ensures grown { Grows (W.faults wire.old) (W.faults wire.new) }
-    ensures heard { HearsAnswer result.answer (W.calls wire.old) (W.calls wire.new) (W.faults wire.old) (W.faults wire.new) }
 {
     let _spans = spans;
     audit_if(&mut slots[at], alloc, call, reading, wire)
@@ -99,7 +96,7 @@ fn serve_at<H: Histories, W: Wire>(
 /// The slot whose span has the first key of the request serves it, and makes its entry if one is asked for.
 ///
 /// NoMemory also if memory runs out for the first key of a List Containers. The slots are then as they were.
-#[tactic(auto, using(stored_rows::proofs::CountLemmas::grows_not, crate::proofs::HeardLemmas::starved_hears))]
+#[tactic(auto, using(stored_rows::proofs::CountLemmas::grows_not))]
 pub(crate) fn serve_one<H: Histories, W: Wire>(
     slots: &mut Vec<StoredSlot<H>>,
     spans: &Spans,
@@ -114,7 +111,6 @@ pub(crate) fn serve_one<H: Histories, W: Wire>(
     ensures after { HaveSpans slots.new.items spans.now }
     ensures audited { IsAuditedBySlot slots.old.items spans.now call.now.request.now call.now.moment (Faulted (W.faults wire.old) (W.faults wire.new)) result.answer result.entry slots.new.items }
     ensures grown { Grows (W.faults wire.old) (W.faults wire.new) }
-    ensures heard { HearsAnswer result.answer (W.calls wire.old) (W.calls wire.new) (W.faults wire.old) (W.faults wire.new) }
 {
     match slot_for(spans, alloc, call.request) {
         Ok(at) => serve_at(slots, spans, at, alloc, call, reading, wire),
@@ -143,7 +139,6 @@ pub(crate) fn answer_one<H: Histories, W: Wire>(
     ensures after { HaveSpans slots.new.items spans.now }
     ensures served { IsServedBySlot slots.old.items spans.now call.now.request.now call.now.moment (Faulted (W.faults wire.old) (W.faults wire.new)) result slots.new.items }
     ensures grown { Grows (W.faults wire.old) (W.faults wire.new) }
-    ensures heard { HearsAnswer result (W.calls wire.old) (W.calls wire.new) (W.faults wire.old) (W.faults wire.new) }
 {
     let Audited { answer, entry } = serve_one(slots, spans, alloc, call, reading, wire);
     drop(entry);
@@ -151,7 +146,7 @@ pub(crate) fn answer_one<H: Histories, W: Wire>(
 }
 
 /// The same of a request whose body is not read yet.
-#[tactic(auto, using(stored_rows::proofs::CountLemmas::grows_not, crate::proofs::HeardLemmas::starved_hears))]
+#[tactic(auto, using(stored_rows::proofs::CountLemmas::grows_not))]
 pub(crate) fn serve_unread<H: Histories, W: Wire>(
     slots: &mut Vec<StoredSlot<H>>,
     spans: &Spans,
@@ -164,7 +159,6 @@ pub(crate) fn serve_unread<H: Histories, W: Wire>(
     ensures after { HaveSpans slots.new.items spans.now }
     ensures served { IsServedBySlot slots.old.items spans.now request.now moment (Faulted (W.faults wire.old) (W.faults wire.new)) result slots.new.items }
     ensures grown { Grows (W.faults wire.old) (W.faults wire.new) }
-    ensures heard { HearsAnswer result (W.calls wire.old) (W.calls wire.new) (W.faults wire.old) (W.faults wire.new) }
 {
     let call = Call {
         request,

@@ -3,12 +3,10 @@ ghost use Rattle.std.specs.Prelude.{◌≡◌, ◌<◌, OnErr, OnOk, length, sli
 ghost use Rattle.std.specs.List.{remove};
 ghost use Rattle.extent_seal.specs.Counting.{Grows};
 ghost use Rattle.stored_rows.specs.Counting.{FailsStored};
-ghost use Rattle.stored_rows.specs.Heard.{HearsStored};
 ghost use Rattle.core_run.specs.Cores.{no_slot};
 ghost use Rattle.slot_state.specs.Slots as slots_of;
 ghost use Rattle.stored_slot.specs.Served.{Faulted};
 ghost use Rattle.stamp_core.specs.CoreSteps.{AreHalved, IsSplit};
-ghost use Rattle.stamp_core.specs.Heard.{HearsStep};
 ghost use Rattle.stamp_core.specs.Ranges.{HaveSpans};
 
 use crate::tending::fault_of_slot;
@@ -34,7 +32,6 @@ fn halve_reserved<H: Histories, W: Wire>(
     requires inside { slots_of.is_inside (slice_index_or slots.old.items at no_slot) middle.now ≡ true }
     ensures halved { AreHalved slots.old.items at middle.now result slots.new.items }
     ensures counted { FailsStored result (W.faults wire.old) (W.faults wire.new) }
-    ensures heard { HearsStored result (W.calls wire.old) (W.calls wire.new) (W.faults wire.old) (W.faults wire.new) }
 {
     match slots[at].split(alloc, middle, wire) {
         Ok(upper) => match slots.insert(at + 1, upper) {
@@ -46,7 +43,7 @@ fn halve_reserved<H: Histories, W: Wire>(
 }
 
 // Puts the two halves of a slot in its place. Room for one slot more is made first.
-#[tactic(auto, using(stored_rows::proofs::CountLemmas::grows_not, extent_seal::proofs::HeardLemmas::heard_none))]
+#[tactic(auto, using(stored_rows::proofs::CountLemmas::grows_not))]
 fn halve<H: Histories, W: Wire>(
     slots: &mut Vec<StoredSlot<H>>,
     alloc: Global,
@@ -58,7 +55,6 @@ fn halve<H: Histories, W: Wire>(
     requires inside { slots_of.is_inside (slice_index_or slots.old.items at no_slot) middle.now ≡ true }
     ensures halved { AreHalved slots.old.items at middle.now result slots.new.items }
     ensures counted { FailsStored result (W.faults wire.old) (W.faults wire.new) }
-    ensures heard { HearsStored result (W.calls wire.old) (W.calls wire.new) (W.faults wire.old) (W.faults wire.new) }
 {
     match slots.reserve(1) {
         Ok(()) => halve_reserved(slots, alloc, at, middle, wire),
@@ -82,7 +78,6 @@ fn halve_or_join<H: Histories, W: Wire>(
     ensures same_spans { OnOk result (spans.new ≡ spans.old) }
     ensures joined { OnErr result (spans.new ≡ remove spans.old at) }
     ensures counted { FailsStored result (W.faults wire.old) (W.faults wire.new) }
-    ensures heard { HearsStored result (W.calls wire.old) (W.calls wire.new) (W.faults wire.old) (W.faults wire.new) }
 {
     let halved = halve(slots, alloc, at, middle, wire);
     if halved.is_err() {
@@ -95,7 +90,6 @@ fn halve_or_join<H: Histories, W: Wire>(
 ///
 /// `Map` with the first cause that refuses the split, or if memory runs out for the split point: then nothing is settled. `Busy` if nodes are
 /// out of reach, and `NoMemory` if memory runs out for the halves of the slot.
-#[tactic(auto, using(extent_seal::proofs::HeardLemmas::heard_none, crate::proofs::HeardLemmas::fault_hears))]
 pub(crate) fn split<H: Histories, W: Wire>(
     slots: &mut Vec<StoredSlot<H>>,
     spans: &mut Spans,
@@ -108,7 +102,6 @@ pub(crate) fn split<H: Histories, W: Wire>(
     ensures after { HaveSpans slots.new.items spans.new }
     ensures split { IsSplit slots.old.items spans.old at middle.now (Faulted (W.faults wire.old) (W.faults wire.new)) result slots.new.items spans.new }
     ensures grown { Grows (W.faults wire.old) (W.faults wire.new) }
-    ensures heard { HearsStep result (W.calls wire.old) (W.calls wire.new) (W.faults wire.old) (W.faults wire.new) }
 {
     if let Err(fault) = spans.split(at, middle) {
         return Err(StepFault::Map(fault));

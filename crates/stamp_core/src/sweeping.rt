@@ -2,7 +2,6 @@
 ghost use Rattle.std.specs.Prelude.{◌≡◌};
 ghost use Rattle.extent_seal.specs.Counting.{Grows};
 ghost use Rattle.stored_slot.specs.Served.{Faulted};
-ghost use Rattle.stamp_core.specs.Heard.{HearsSweep};
 ghost use Rattle.stamp_core.specs.Ranges.{HaveSpans};
 ghost use Rattle.stamp_core.specs.Sweeps.{IsSweptSlot, SweepsFirst};
 
@@ -33,7 +32,6 @@ fn sweep_slot<H: Histories, W: Wire>(
 ) -> Option<SweepStep>
     ensures swept { IsSweptSlot result slot.old (Faulted (W.faults wire.old) (W.faults wire.new)) slot.new }
     ensures grown { Grows (W.faults wire.old) (W.faults wire.new) }
-    ensures heard { HearsSweep result (W.calls wire.old) (W.calls wire.new) (W.faults wire.old) (W.faults wire.new) }
 {
     match slot.sweep(alloc, limit, wire) {
         Ok(swept) => Some(swept),
@@ -54,7 +52,6 @@ pub(crate) fn sweep_at<H: Histories, W: Wire>(
     ensures after { HaveSpans slots.new.items spans.now }
     ensures swept { SweepsFirst result slots.old.items (Faulted (W.faults wire.old) (W.faults wire.new)) slots.new.items }
     ensures grown { Grows (W.faults wire.old) (W.faults wire.new) }
-    ensures heard { HearsSweep result (W.calls wire.old) (W.calls wire.new) (W.faults wire.old) (W.faults wire.new) }
 {
     let _spans = spans;
     if at >= slots.len() {

@@ -5,7 +5,6 @@ ghost use Rattle.stored_rows.specs.Repairs.{IsRepairOf, fault_of, unnamed};
 ghost use Rattle.stored_slot.specs.Served.{Faulted};
 ghost use Rattle.stamp_core.specs.CoreSteps as steps;
 ghost use Rattle.stamp_core.specs.CoreSteps.{IsTended, IsTendedAt, repair_answer, slot_answer};
-ghost use Rattle.stamp_core.specs.Heard.{HearsStep};
 ghost use Rattle.stamp_core.specs.declared.care.CoreCare.TheVariants as care;
 ghost use Rattle.stamp_core.specs.Ranges.{HaveSpans};
 ghost use Rattle.stamp_core.specs.Tending.{IsOf, care_answer};
@@ -131,7 +130,7 @@ pub(crate) fn made(tended: Result<Tended, Untended>) -> Result<Outcome, StepFaul
 }
 
 // Takes this care of a slot.
-#[tactic(auto, using(stored_rows::proofs::CountLemmas::grows_not, crate::proofs::HeardLemmas::slot_hears, crate::proofs::HeardLemmas::repair_hears, extent_seal::proofs::HeardLemmas::heard_none))]
+#[tactic(auto, using(stored_rows::proofs::CountLemmas::grows_not))]
 fn tend_slot<H: Histories, W: Wire>(
     slot: &mut StoredSlot<H>,
     care: CoreCare,
@@ -141,7 +140,6 @@ fn tend_slot<H: Histories, W: Wire>(
     ensures tended { IsTended care slot.old (Faulted (W.faults wire.old) (W.faults wire.new)) (care_answer result) slot.new }
     ensures given { IfOk result (IsOf care) }
     ensures grown { Grows (W.faults wire.old) (W.faults wire.new) }
-    ensures heard { HearsStep (care_answer result) (W.calls wire.old) (W.calls wire.new) (W.faults wire.old) (W.faults wire.new) }
 {
     match care {
         CoreCare::Settle => settled(slot.settle(alloc, wire)),
@@ -167,7 +165,7 @@ fn tend_slot<H: Histories, W: Wire>(
 /// Takes this care of the slot with this number.
 ///
 /// `NoSuchSlot` if no slot has the number.
-#[tactic(auto, using(stored_rows::proofs::CountLemmas::grows_not, extent_seal::proofs::HeardLemmas::heard_none))]
+#[tactic(auto, using(stored_rows::proofs::CountLemmas::grows_not))]
 pub(crate) fn tend<H: Histories, W: Wire>(
     slots: &mut Vec<StoredSlot<H>>,
     spans: &Spans,
@@ -181,7 +179,6 @@ pub(crate) fn tend<H: Histories, W: Wire>(
     ensures tended { IsTendedAt slots.old.items at care (Faulted (W.faults wire.old) (W.faults wire.new)) (care_answer result) slots.new.items }
     ensures given { IfOk result (IsOf care) }
     ensures grown { Grows (W.faults wire.old) (W.faults wire.new) }
-    ensures heard { HearsStep (care_answer result) (W.calls wire.old) (W.calls wire.new) (W.faults wire.old) (W.faults wire.new) }
 {
     let _spans = spans;
     if at >= slots.len() {

@@ -40,7 +40,7 @@ writes_after a b c bytes others all wrote (left, ((front, (parts, more)), whole)
 
 -- ---- bytes that are attended
 
-pub attends_joined : (account : List ℕ) (known known1 known2 : List Entry) (line line1 line2 : Option (List ℕ)) (bytes others told told' : List ℕ)
+attends_joined : (account : List ℕ) (known known1 known2 : List Entry) (line line1 line2 : Option (List ℕ)) (bytes others told told' : List ℕ)
     → Attends account known line bytes told known1 line1 → Attends account known1 line1 others told' known2 line2 → Attends account known line (bytes ++ others) (told ++ told') known2 line2
 attends_joined account known known1 known2 line line1 line2 [] others told told' (none, (same, begun)) more =
     subst (λ (l : List ℕ). Attends account known line others (l ++ told') known2 line2) (sym none)

@@ -1,6 +1,5 @@
 pub mod AttendingLemmas
 pub mod CommandLemmas
-pub mod GoingOnLemmas
 pub mod OperatorLemmas
 pub mod ReplayLemmas
 pub mod RunLemmas

@@ -26,7 +26,6 @@ use std::time::Clock;
 use std::{env, io};
 
 mod attending;
-mod attending_laws;
 mod audit;
 mod command;
 mod console;

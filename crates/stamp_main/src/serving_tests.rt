@@ -239,7 +239,7 @@ fn both_ends_of<
     let connections = scene.connections;
     let listener = TcpListener::bind(rt, "127.0.0.1:0")?;
     let address = listener.local_addr()?;
-    let operator = Operator::new(rt, slots, account, first.again());
+    let mut operator = Operator::new(rt, slots, account, first.again());
     let services = SlotServices::new(rt, clock, slots, None, reserve, first, connections);
     let mut console = Console::new(b"".as_slice(), Vec::new(alloc), Input::Ready);
     let intake = Intake {
@@ -252,7 +252,18 @@ fn both_ends_of<
         rt,
         || -> bool
             requires { IsSend A.row }
-        { serve_and_obey(rt, clock, alloc, operator, &services, &intake, &mut console).is_ok() },
+        {
+            serve_and_obey(
+                rt,
+                clock,
+                alloc,
+                &mut operator,
+                &services,
+                &intake,
+                &mut console,
+            )
+            .is_ok()
+        },
         || -> io::Result<Option<usize>> {
             let played = play(rt, address, scene.turns);
             // If the client broke off, the server still waits for connections.

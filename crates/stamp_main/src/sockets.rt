@@ -1,7 +1,6 @@
 //! The connections of `serve`: each gets a clock, and a service over slots that it shares with the others.
-ghost use Rattle.std.specs.Prelude.{◌≡◌, ◌+◌, ◌∷◌, [], IfOk, MatchBool};
+ghost use Rattle.std.specs.Prelude.{◌≡◌, ◌+◌, ◌∷◌, [], MatchBool};
 ghost use Rattle.std.specs.Thread.{IsSend};
-ghost use mathlib.Core.List.{IsPrefix};
 ghost use Rattle.served_history.specs.declared.entry.Entry.TheVariants.{Opened};
 
 use crate::audit::Audit;
@@ -77,8 +76,7 @@ fn error_of(fault: PairsFault) -> io::Error {
 /// have no containers at first. A connection that is beyond the limits ends. With an audit, a line of each request that was let in and names a
 /// container goes to its writer.
 ///
-/// It ends before that if the listener fails for good, and then when the lines are written. It gives what the operator knows then: the history begins
-/// with the first key pairs. The error says why it could not begin.
+/// It ends before that if the listener fails for good, and then when the lines are written. The error says why it could not begin.
 pub(crate) fn serve_on<
     A: Account + Send + Sync,
     R: Net + Threads + Wait + Sync,
@@ -94,11 +92,10 @@ pub(crate) fn serve_on<
     intake: &Intake<'_>,
     console: &mut Console<L, O>,
     audit: &mut Option<Audit<W>>,
-) -> io::Result<LogFront<A>>
+) -> io::Result<()>
     requires book { opening.history.book ≡ A.history }
     requires fresh { opening.history.next ≡ 0 }
     requires log { opening.history.log ≡ Opened opening.pairs.items ∷ [] }
-    ensures begun { IfOk result (λ front. IsPrefix (Opened opening.pairs.items ∷ []) front) }
 {
     let Opening {
         history,
@@ -139,9 +136,7 @@ fn serve_by<
     common: Common<'a, A>,
     intake: &Intake<'_>,
     console: &mut Console<L, O>,
-) -> io::Result<LogFront<A>>
-    ensures { IfOk result (λ front. IsPrefix common.entry.first front) }
-{
+) -> io::Result<()> {
     let Common {
         alloc,
         slots,
@@ -149,10 +144,10 @@ fn serve_by<
         first,
         account,
     } = common;
-    let operator = Operator::new(rt, slots, account, first.again());
+    let mut operator = Operator::new(rt, slots, account, first.again());
     let left = intake.connections;
     let services = SlotServices::new(rt, clock, slots, None, reserve, first, left);
-    serve_and_obey(rt, clock, alloc, operator, &services, intake, console)
+    serve_and_obey(rt, clock, alloc, &mut operator, &services, intake, console)
 }
 
 // The same with books, whose lines go to a writer until serving has ended and they are written.
@@ -175,9 +170,7 @@ fn serve_and_write<
     writer: &mut W,
     intake: &Intake<'_>,
     console: &mut Console<L, O>,
-) -> io::Result<LogFront<A>>
-    ensures { IfOk result (λ front. IsPrefix common.entry.first front) }
-{
+) -> io::Result<()> {
     let Common {
         alloc,
         slots,
@@ -185,18 +178,25 @@ fn serve_and_write<
         first,
         account,
     } = common;
-    let operator = Operator::new(rt, slots, account, first.again());
+    let mut operator = Operator::new(rt, slots, account, first.again());
     let left = intake.connections;
     let services = SlotServices::new(rt, clock, slots, Some(books), reserve, first, left);
     let ended = AtomicBool::new(false);
     let (_, served) = thread::join(
         rt,
         || write_books(rt, clock, alloc, books, writer, &ended),
-        || -> io::Result<LogFront<A>>
+        || -> io::Result<()>
             requires { IsSend A.row × IsSend L.row × IsSend O.row }
-            ensures { IfOk result (λ front. IsPrefix operator.entry.known front) }
         {
-            let served = serve_and_obey(rt, clock, alloc, operator, &services, intake, console);
+            let served = serve_and_obey(
+                rt,
+                clock,
+                alloc,
+                &mut operator,
+                &services,
+                intake,
+                console,
+            );
             ended.store(true, Ordering::SeqCst);
             served
         },
@@ -204,23 +204,7 @@ fn serve_and_write<
     served
 }
 
-// Obeys the lines of a console until serving is over, and gives what the operator knows then. The operator forgets nothing.
-fn attended<A: Account, R: Wait, L: Read + Drop, O: Write + Drop>(
-    rt: &R,
-    alloc: Global,
-    operator: Operator<'_, A, R>,
-    console: &mut Console<L, O>,
-    is_over: &AtomicBool,
-) -> LogFront<A>
-    ensures { IsPrefix operator.entry.known result }
-{
-    let mut operator = operator;
-    let _all = console.attend(rt, &mut operator, alloc, is_over);
-    operator.into_known()
-}
-
-// Serves connections by these services, and lets the operator obey the lines of a console until serving has ended. Rings the bell then, and gives what
-// the operator knows.
+// Serves connections by these services, and lets the operator obey the lines of a console until serving has ended. Rings the bell then.
 fn serve_attended<
     'a,
     A: Account + Send + Sync,
@@ -232,23 +216,19 @@ fn serve_attended<
     rt: &'a R,
     clock: &'a C,
     alloc: Global,
-    operator: Operator<'a, A, R>,
+    operator: &mut Operator<'a, A, R>,
     services: &SlotServices<'a, A, R, C>,
     intake: &Intake<'_>,
     console: &mut Console<L, O>,
     bell: &Bell,
-) -> io::Result<LogFront<A>>
-    ensures { IfOk result (λ front. IsPrefix operator.entry.known front) }
-{
+) -> io::Result<()> {
     let listener = intake.listener;
     let workers = intake.workers;
     let limits = intake.limits;
     let is_over = AtomicBool::new(false);
-    let (front, served) = thread::join(
+    let (_, served) = thread::join(
         rt,
-        || -> LogFront<A>
-            ensures { IsPrefix operator.entry.known result }
-        { attended(rt, alloc, operator, console, &is_over) },
+        || console.attend(rt, operator, alloc, &is_over),
         || {
             let served = serve_listener(rt, clock, alloc, listener, workers, services, limits);
             is_over.store(true, Ordering::SeqCst);
@@ -256,17 +236,11 @@ fn serve_attended<
             served
         },
     );
-    match served {
-        Ok(()) => Ok(front),
-        Err(error) => {
-            drop(front);
-            Err(error)
-        }
-    }
+    served
 }
 
 /// Serves connections by these services, lets the operator obey the lines of a console, and sweeps the slots that are to be swept, until serving has
-/// ended. Gives what the operator knows then. If no thread can be made for the sweeps, only requests that write make steps of sweeps.
+/// ended. If no thread can be made for the sweeps, only requests that write make steps of sweeps.
 pub(crate) fn serve_and_obey<
     'a,
     A: Account + Send + Sync,
@@ -278,22 +252,19 @@ pub(crate) fn serve_and_obey<
     rt: &'a R,
     clock: &'a C,
     alloc: Global,
-    operator: Operator<'a, A, R>,
+    operator: &mut Operator<'a, A, R>,
     services: &SlotServices<'a, A, R, C>,
     intake: &Intake<'_>,
     console: &mut Console<L, O>,
-) -> io::Result<LogFront<A>>
-    ensures { IfOk result (λ front. IsPrefix operator.entry.known front) }
-{
+) -> io::Result<()> {
     let slots = services.slots;
     let reserve = services.reserve;
     let bell = Bell::new();
     let (_, served) = thread::join(
         rt,
         || sweep_until(rt, clock, alloc, slots, reserve, &bell),
-        || -> io::Result<LogFront<A>>
+        || -> io::Result<()>
             requires { IsSend A.row × IsSend L.row × IsSend O.row }
-            ensures { IfOk result (λ front. IsPrefix operator.entry.known front) }
         { serve_attended(rt, clock, alloc, operator, services, intake, console, &bell) },
     );
     served

@@ -1,5 +1,5 @@
 -- Streams of a range that is swept: what each call leaves of it.
-use Rattle.std.proofs.Common.{◌≡◌, ◌≤◌, ◌∙◌, true, Option, Some, None, IfSome, List, [], ◌∷◌, ◌++◌, length, sym, refl, subst, append-nil, arith}
+use Rattle.std.proofs.Common.{◌≡◌, ◌≤◌, ◌+◌, ◌∙◌, true, Option, Some, None, IfSome, List, [], ◌∷◌, ◌++◌, length, sym, refl, subst, append-nil, arith}
 use Rattle.stamp_types.specs.World.{Part}
 use Rattle.stamp_types.specs.declared.piece.Piece.{Piece}
 use Rattle.stream_manager.specs.Places.{GoesOn}

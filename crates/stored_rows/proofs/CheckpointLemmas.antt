@@ -29,7 +29,6 @@ use Rattle.stored_rows.specs.Checkpoints.{IsWrittenAnew, MeansTheRange}
 use Rattle.stored_rows.specs.Fitting.{AllFit, FitInTurn, Fits}
 use Rattle.stored_rows.specs.Loaded.{AreLoaded, AreRowsOf, part_of}
 use Rattle.stored_rows.specs.Ranges.{covers}
-use Rattle.stored_rows.specs.States.{SeenSweep}
 use Rattle.stored_rows.specs.declared.key_range.KeyRange.{KeyRange}
 use Rattle.stored_rows.proofs.FittingLemmas.{acts_on-next}
 use Rattle.stored_rows.proofs.LoadLemmas.{part_of-apart, part_of-covered}
@@ -109,7 +108,7 @@ module _ (s t : ThreeStreams) (range : KeyRange) (w : World (List Piece)) (own :
   same_rows key true covered = sym (means key) ∙ sym (part_of-covered range key (all_changes t) covered)
   same_rows key false apart = own key ∙ part_of-apart range key (all_changes s) apart ∙ sym (part_of-apart range key (all_changes t) apart)
 
-  pub means_range : {before after : Option SeenSweep} (b : Bool) → t.blobs ≡ s.blobs → MeansTheRange (record { streams = s; range = range; is_loaded = b; sweep = before }) (record { streams = t; range = range; is_loaded = b; sweep = after })
+  pub means_range : (b : Bool) → t.blobs ≡ s.blobs → MeansTheRange (record { streams = s; range = range; is_loaded = b }) (record { streams = t; range = range; is_loaded = b })
   means_range b blobs = record {
     bytes = λ key covered. λ i. part_value (content_at (laid (blobs i))) (held_there key covered i);
     pieces = held_there;
@@ -126,7 +125,7 @@ module _ (s t : ThreeStreams) (range : KeyRange) (w : World (List Piece)) (own :
         (sym (ap (λ l. l ++ (logged t).log) rows ∙ ap (λ l. all_records (entries w) ++ l) log ∙ append-nil (all_records (entries w))))
         (rows_fit key (all_records (entries w)) no_part (all_rows (entries w)))
 
-    pub written_anew : {before after : Option SeenSweep} (b : Bool) → IsWrittenAnew (record { streams = s; range = range; is_loaded = b; sweep = before }) (record { streams = t; range = range; is_loaded = b; sweep = after })
+    pub written_anew : (b : Bool) → IsWrittenAnew (record { streams = s; range = range; is_loaded = b }) (record { streams = t; range = range; is_loaded = b })
     written_anew b = record { world = w; own = own; rows = rows; log = log }
 
     -- what is true of all stored rows is true of them after a checkpoint

@@ -1,5 +1,5 @@
 -- A cursor that moves past a row that was written, or past names that no row has.
-use Rattle.std.proofs.Common.{◌≡◌, ◌⊎◌, inl, inr, ◌||◌, Bool, true, false, Option, Some, None, List, ℕ, refl}
+use Rattle.std.proofs.Common.{◌≡◌, ◌∙◌, ◌⊎◌, inl, inr, ◌||◌, Bool, true, false, Option, Some, None, List, ℕ, refl}
 use Rattle.std.specs.FinMap as finite
 use Rattle.stamp_values.specs.declared.key.Key.{Key}
 use Rattle.stamp_types.specs.World.{Part, no_part}

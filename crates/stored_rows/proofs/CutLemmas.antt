@@ -46,7 +46,7 @@ at_most Equal e = cc
 at_most Greater e = cc
 
 -- a ≤ b and b ≤ c give a ≤ c
-pub from_from : (a b c : Key) → is_from a b ≡ true → is_from b c ≡ true → is_from a c ≡ true
+from_from : (a b c : Key) → is_from a b ≡ true → is_from b c ≡ true → is_from a c ≡ true
 from_from a b c e f = first (key_cmp a b) refl e
   where
     then : key_cmp a b ≡ Less → (r : Ordering) → key_cmp b c ≡ r → is_le r ≡ true → is_le (key_cmp a c) ≡ true

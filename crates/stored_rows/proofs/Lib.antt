@@ -3,7 +3,6 @@ pub mod CheckpointLemmas
 pub mod CountLemmas
 pub mod CursorLemmas
 pub mod CursorMoves
-pub mod CursorSteps
 pub mod CutLemmas
 pub mod FittingLemmas
 pub mod HalfSweptLemmas
@@ -29,5 +28,3 @@ pub mod SweepEndLemmas
 pub mod SweptLemmas
 pub mod TakeLemmas
 pub mod TouchLemmas
-pub mod TouchedLemmas
-pub mod UnderWayLemmas

@@ -29,7 +29,7 @@ use Rattle.stored_rows.specs.Loaded.{AreLoaded, AreRowsOf}
 use Rattle.stored_rows.specs.Logging.{IsPutAndLogged, KeepsFound, KeepsLog}
 use Rattle.stored_rows.specs.Noting.{IfKept, IsKeptBeside, IsLoadedBeside, IsSettledBeside, ended_by, loaded_by, sealed_by, taken_by}
 use Rattle.stored_rows.specs.Ranges.{covers}
-use Rattle.stored_rows.specs.States.{IsTaken, MeansTheSame, SeenSweep, SettlesRows, Stored, own_doubt}
+use Rattle.stored_rows.specs.States.{IsTaken, MeansTheSame, SettlesRows, Stored, own_doubt}
 use Rattle.stored_rows.specs.declared.key_range.KeyRange.{KeyRange}
 use Rattle.stored_rows.specs.declared.faults.Ended.{Ended}
 use Rattle.stored_rows.specs.declared.sealed.AllSealed.{AllSealed}
@@ -69,17 +69,17 @@ noted_loaded (Err fault.NoMemory) s t c range covered own h v w d e none old f =
     subst (λ o. AreLoaded t w o range) (sym f.1) (subst (λ o. AreLoaded t o d range) (sym f.0) (sure_loaded s t c range v d old none h))
 
 -- what a take does
-pub noted_taken : (before after : Option SeenSweep) (r : Result KeyedAct Unlogged) (s t : ThreeStreams) (c : Recorded) (range : KeyRange) → AreKept s → IsPutAndLogged r s c t → (v w : Option (World (List Piece))) (d e : Option KeyedAct)
-    → IsKeptBeside r v w d e → IsTaken (taken_by r) (record { streams = s; range = range; is_loaded = is_some v; sweep = before }) c (record { streams = t; range = range; is_loaded = is_some w; sweep = after })
-noted_taken before after (Ok k) s t c range whole h v w d e f = taken_changed s t c k range (is_some v) (is_some w) (not_loaded v w k f.0) whole h
-noted_taken before after (Err (fault.Doubt k)) s t c range whole h v w d e f =
-    subst (λ (o : Option (World (List Piece))). IsTaken (Err take.Doubt) (record { streams = s; range = range; is_loaded = is_some v; sweep = before }) c (record { streams = t; range = range; is_loaded = is_some o; sweep = after }))
+pub noted_taken : (r : Result KeyedAct Unlogged) (s t : ThreeStreams) (c : Recorded) (range : KeyRange) → AreKept s → IsPutAndLogged r s c t → (v w : Option (World (List Piece))) (d e : Option KeyedAct)
+    → IsKeptBeside r v w d e → IsTaken (taken_by r) (record { streams = s; range = range; is_loaded = is_some v }) c (record { streams = t; range = range; is_loaded = is_some w })
+noted_taken (Ok k) s t c range whole h v w d e f = taken_changed s t c k range (is_some v) (is_some w) (not_loaded v w k f.0) whole h
+noted_taken (Err (fault.Doubt k)) s t c range whole h v w d e f =
+    subst (λ (o : Option (World (List Piece))). IsTaken (Err take.Doubt) (record { streams = s; range = range; is_loaded = is_some v }) c (record { streams = t; range = range; is_loaded = is_some o }))
     (sym f.0) (doubt_taken s t c k range (is_some v) whole h)
-noted_taken before after (Err fault.Busy) s t c range whole h v w d e f =
-    subst (λ (o : Option (World (List Piece))). IsTaken (Err take.Busy) (record { streams = s; range = range; is_loaded = is_some v; sweep = before }) c (record { streams = t; range = range; is_loaded = is_some o; sweep = after }))
+noted_taken (Err fault.Busy) s t c range whole h v w d e f =
+    subst (λ (o : Option (World (List Piece))). IsTaken (Err take.Busy) (record { streams = s; range = range; is_loaded = is_some v }) c (record { streams = t; range = range; is_loaded = is_some o }))
     (sym f.0) (sure_same s t range (is_some v) whole h)
-noted_taken before after (Err fault.NoMemory) s t c range whole h v w d e f =
-    subst (λ (o : Option (World (List Piece))). IsTaken (Err take.NoMemory) (record { streams = s; range = range; is_loaded = is_some v; sweep = before }) c (record { streams = t; range = range; is_loaded = is_some o; sweep = after }))
+noted_taken (Err fault.NoMemory) s t c range whole h v w d e f =
+    subst (λ (o : Option (World (List Piece))). IsTaken (Err take.NoMemory) (record { streams = s; range = range; is_loaded = is_some v }) c (record { streams = t; range = range; is_loaded = is_some o }))
     (sym f.0) (sure_same s t range (is_some v) whole h)
 
 -- a take fails as its log did
@@ -92,8 +92,8 @@ noted_fails (Err fault.NoMemory) old new h = h
 -- ---- a settle, a seal and a load
 
 -- what is seen of stored rows
-abbrev pub stored_at : ThreeStreams → KeyRange → Bool → Option SeenSweep → Stored
-stored_at s range b sweep = record { streams = s; range = range; is_loaded = b; sweep = sweep }
+abbrev pub stored_at : ThreeStreams → KeyRange → Bool → Stored
+stored_at s range b = record { streams = s; range = range; is_loaded = b }
 
 -- a change that is kept fits the rows that are loaded
 pub settled_fits : (r : Result Settled StoredFault) (s t : ThreeStreams) (range : KeyRange) (v : Option (World (List Piece))) (d : Option KeyedAct) → AreLoaded s v d range
@@ -116,23 +116,23 @@ settled_loaded (Err x) s t range v w d e old blobs rows h f =
     subst (λ o. AreLoaded t w o range) (sym f.1) (subst (λ o. AreLoaded t o d range) (sym f.0) (clean_loaded s t range v d old blobs rows h.1))
 
 -- rows that are loaded as before
-still_loaded : {before after : Option SeenSweep} (s t : ThreeStreams) (range : KeyRange) (v w : Option (World (List Piece))) → AreKept s → KeepsLog s t → w ≡ v
-    → MeansTheSame (record { streams = s; range = range; is_loaded = is_some v; sweep = before }) (record { streams = t; range = range; is_loaded = is_some w; sweep = after })
-still_loaded {before} {after} s t range v w whole h same =
-    subst (λ (o : Option (World (List Piece))). MeansTheSame (record { streams = s; range = range; is_loaded = is_some v; sweep = before }) (record { streams = t; range = range; is_loaded = is_some o; sweep = after })) (sym same)
+still_loaded : (s t : ThreeStreams) (range : KeyRange) (v w : Option (World (List Piece))) → AreKept s → KeepsLog s t → w ≡ v
+    → MeansTheSame (record { streams = s; range = range; is_loaded = is_some v }) (record { streams = t; range = range; is_loaded = is_some w })
+still_loaded s t range v w whole h same =
+    subst (λ (o : Option (World (List Piece))). MeansTheSame (record { streams = s; range = range; is_loaded = is_some v }) (record { streams = t; range = range; is_loaded = is_some o })) (sym same)
     (means_same s t h range (is_some v) whole)
 
 -- what a settle does
-pub settled_rows : (before after : Option SeenSweep) (r : Result Settled StoredFault) (s t : ThreeStreams) (range : KeyRange) (v w : Option (World (List Piece))) (d e : Option KeyedAct) → AreLoaded s v d range → AreKept s
+pub settled_rows : (r : Result Settled StoredFault) (s t : ThreeStreams) (range : KeyRange) (v w : Option (World (List Piece))) (d e : Option KeyedAct) → AreLoaded s v d range → AreKept s
     → t.blobs ≡ s.blobs → t.rows ≡ s.rows → IsLogSettled r s t → IsSettledBeside r v w d e → own_doubt (logged s).doubt ≡ (logged s).doubt
-    → SettlesRows (ended_by r) (record { streams = s; range = range; is_loaded = is_some v; sweep = before }) (record { streams = t; range = range; is_loaded = is_some w; sweep = after })
-settled_rows before after (Ok settled.Clean) s t range v w d e old whole blobs rows h f own =
+    → SettlesRows (ended_by r) (record { streams = s; range = range; is_loaded = is_some v }) (record { streams = t; range = range; is_loaded = is_some w })
+settled_rows (Ok settled.Clean) s t range v w d e old whole blobs rows h f own =
     (still_loaded s t range v w whole (same_log_keeps s t h.1 blobs rows) f.0, (own ∙ h.0, same_log_doubt s t h.1))
-settled_rows before after (Ok (settled.Kept p)) s t range v w d e old whole blobs rows h f own =
+settled_rows (Ok (settled.Kept p)) s t range v w d e old whole blobs rows h f own =
     (kept_changed s t range v d old blobs rows h.0 w whole h.1.0 h.1.1.0 h.1.1.1 f.0, (subst (λ q. IsSome q) (sym (own ∙ h.1.0)) refl, h.1.1.1))
-settled_rows before after (Ok settled.Dropped) s t range v w d e old whole blobs rows h f own =
+settled_rows (Ok settled.Dropped) s t range v w d e old whole blobs rows h f own =
     (still_loaded s t range v w whole (log_keeps s t h.1.0 blobs rows) f.0, (subst (λ q. IsSome q) (sym own) h.0, h.1.1))
-settled_rows before after (Err x) s t range v w d e old whole blobs rows h f own =
+settled_rows (Err x) s t range v w d e old whole blobs rows h f own =
     (still_loaded s t range v w whole (same_log_keeps s t h.1 blobs rows) f.0, (subst (λ q. IsSome q) (sym own) h.0, same_log_doubt s t h.1))
 
 -- a settle fails as that of its log did
@@ -170,13 +170,13 @@ made_loaded (Ok u) s range v w d old rows f =
 made_loaded (Err x) s range v w d old rows f = subst (λ o. AreLoaded s o d range) (sym f) old
 
 -- rows that were made are loaded
-pub made_rows : (sweep : Option SeenSweep) (r : Result (World (List Piece)) ReadFault) (s : ThreeStreams) (range : KeyRange) (v w : Option (World (List Piece))) → IsLoadedBeside r v w
-    → OnOk (loaded_by r) (stored_at s range (is_some w) sweep ≡ stored_at s range true sweep)
-made_rows sweep (Ok u) s range v w f = ap (λ (o : Option (World (List Piece))). stored_at s range (is_some o) sweep) f
-made_rows sweep (Err x) s range v w f = tt
+pub made_rows : (r : Result (World (List Piece)) ReadFault) (s : ThreeStreams) (range : KeyRange) (v w : Option (World (List Piece))) → IsLoadedBeside r v w
+    → OnOk (loaded_by r) (stored_at s range (is_some w) ≡ stored_at s range true)
+made_rows (Ok u) s range v w f = ap (λ (o : Option (World (List Piece))). stored_at s range (is_some o)) f
+made_rows (Err x) s range v w f = tt
 
 -- rows that were not made are loaded as before
-pub made_no_rows : (sweep : Option SeenSweep) (r : Result (World (List Piece)) ReadFault) (s : ThreeStreams) (range : KeyRange) (v w : Option (World (List Piece))) → IsLoadedBeside r v w
-    → OnErr (loaded_by r) (stored_at s range (is_some w) sweep ≡ stored_at s range (is_some v) sweep)
-made_no_rows sweep (Ok u) s range v w f = tt
-made_no_rows sweep (Err x) s range v w f = ap (λ (o : Option (World (List Piece))). stored_at s range (is_some o) sweep) f
+pub made_no_rows : (r : Result (World (List Piece)) ReadFault) (s : ThreeStreams) (range : KeyRange) (v w : Option (World (List Piece))) → IsLoadedBeside r v w
+    → OnErr (loaded_by r) (stored_at s range (is_some w) ≡ stored_at s range (is_some v))
+made_no_rows (Ok u) s range v w f = tt
+made_no_rows (Err x) s range v w f = ap (λ (o : Option (World (List Piece))). stored_at s range (is_some o)) f

@@ -26,7 +26,7 @@ use Rattle.stored_rows.specs.Repairs.{FailsRepair, HasCopyOn}
 use Rattle.stored_rows.specs.Fitting.{AllFit, FitInTurn, Fits}
 use Rattle.stored_rows.specs.Loaded.{AreLoaded, part_of}
 use Rattle.stored_rows.specs.Ranges.{covers}
-use Rattle.stored_rows.specs.States.{MeansTheSame, SeenSweep}
+use Rattle.stored_rows.specs.States.{MeansTheSame}
 use Rattle.stored_rows.specs.declared.key_range.KeyRange.{KeyRange}
 
 module _ (s t : ThreeStreams) (same : logged t ≡ logged s) where
@@ -40,7 +40,7 @@ module _ (s t : ThreeStreams) (same : logged t ≡ logged s) where
     rows = subst (λ (l : Logged). IfSome o (λ (w : World (List Piece)). (key : Key) → part_at w key ≡ part_of range key (l.rows ++ l.log))) (sym same) old.rows;
   }
 
-  pub repaired_means : {before after : Option SeenSweep} (range : KeyRange) (b : Bool) → MeansTheSame (record { streams = s; range = range; is_loaded = b; sweep = before }) (record { streams = t; range = range; is_loaded = b; sweep = after })
+  pub repaired_means : (range : KeyRange) (b : Bool) → MeansTheSame (record { streams = s; range = range; is_loaded = b }) (record { streams = t; range = range; is_loaded = b })
   repaired_means range b = record {
     rows = ap (λ (l : Logged). l.rows) same;
     log = ap (λ (l : Logged). l.log) same;

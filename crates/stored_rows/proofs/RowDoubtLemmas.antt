@@ -1,5 +1,5 @@
 -- A row that is in doubt: what is kept of it, and how its doubt ends.
-use Rattle.std.proofs.Common.{◌≡◌, ◌∙◌, ◌++◌, ◌∷◌, [], Bool, true, false, cond, List, Option, Some, None, IfSome, IsSome, Result, Ok, Err, ap, refl, sym, subst}
+use Rattle.std.proofs.Common.{◌≡◌, ◌≢◌, ◌∙◌, ◌++◌, ◌∷◌, [], Bool, true, false, cond, List, Option, Some, None, IfSome, IsSome, Result, Ok, Err, ap, refl, sym, subst}
 use Rattle.std.specs.FinMap as finite
 use Rattle.std.specs.Option.{option_map}
 use Rattle.std.specs.Prelude.{OnErr, OnOk, is_some}
@@ -21,6 +21,7 @@ use Rattle.stream_manager.specs.Streams.{laid}
 use Rattle.stream_manager.specs.declared.faults.Settled.{Settled}
 use Rattle.stream_manager.specs.declared.faults.Settled.TheVariants as settled
 use Rattle.stream_manager.specs.declared.faults.StoredFault.{StoredFault}
+use Rattle.stream_manager.specs.declared.faults.StoredFault.TheVariants as stored
 use Rattle.partition_stream.specs.Changes.{Recorded}
 use Rattle.partition_stream.specs.Meanings.{IsOneMore, held_of, meaning}
 use Rattle.partition_stream.specs.Outcomes.{IsLogSettled}

@@ -1,5 +1,5 @@
 -- The row of a container or of a blob that is logged again.
-use Rattle.std.proofs.Common.{◌≡◌, ◌∙◌, ◌++◌, ◌&&◌, true, List, [], ◌∷◌, Option, Some, None, IsSome, IsSomeAnd, IsTrue, Result, Ok, Err, length, inl, inr, ap, refl, subst, sym, unwrap_or}
+use Rattle.std.proofs.Common.{◌≡◌, ◌∙◌, ◌++◌, ◌&&◌, ◌<◌, true, List, [], ◌∷◌, Option, Some, None, IsSome, IsSomeAnd, IsTrue, Result, Ok, Err, length, inl, inr, ap, refl, subst, sym, unwrap_or}
 use Rattle.std.specs.FinMap as finite
 use Rattle.std.specs.Option.{option_and_then}
 use Rattle.extent_node.specs.Faults.{Calls}

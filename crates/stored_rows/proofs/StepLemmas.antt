@@ -1,5 +1,5 @@
 -- Rows that are written again: what is true of stored rows, and of a sweep, is true of them afterwards.
-use Rattle.std.proofs.Common.{◌≡◌, ◌==◌, ◌∙◌, ◌⊎◌, inl, inr, Bool, true, false, cond, Option, Some, None, IfSome, IsSome, Result, Ok, Err, ◌||◌, List, ap, refl, sym, subst}
+use Rattle.std.proofs.Common.{◌≡◌, ◌≤◌, ◌==◌, ◌∙◌, ◌⊎◌, inl, inr, Bool, true, false, cond, Option, Some, None, IfSome, IsSome, Result, Ok, Err, ◌||◌, List, [], ◌∷◌, ap, refl, sym, subst}
 use Rattle.std.proofs.lemmas.Bool.{eqb-true}
 use Rattle.std.specs.FinMap as finite
 use Rattle.std.specs.Prelude.{is_none, length}

@@ -1,5 +1,5 @@
 -- Stored rows after one row of a sweep.
-use Rattle.std.proofs.Common.{◌≡◌, ◌≤◌, ◌==◌, ◌&&◌, ◌||◌, ◌∙◌, inl, inr, ℕ, Bool, true, false, Option, Some, None, IfSome, IsSome, Result, Ok, Err, List, ap, refl, sym, subst, unwrap_or, arith}
+use Rattle.std.proofs.Common.{◌≡◌, ◌≤◌, ◌==◌, ◌&&◌, ◌||◌, ◌∙◌, ◌⊎◌, inl, inr, ℕ, Bool, true, false, Option, Some, None, IfSome, IsSome, Result, Ok, Err, List, ap, refl, sym, subst, unwrap_or, arith}
 use Rattle.std.proofs.lemmas.Bool.{eqb-false, eqb-true}
 use Rattle.std.specs.Cmp.{eq_by_cmp_equiv}
 use Rattle.std.specs.FinMap as finite
@@ -15,6 +15,7 @@ use Rattle.stamp_types.specs.Changes.{KeyedAct}
 use Rattle.stamp_types.specs.World.{Blob, Part, World, blob_in, no_blob, no_part, part_at}
 use Rattle.stamp_types.specs.declared.act.Act.{Act}
 use Rattle.stamp_types.specs.declared.act.Act.TheVariants as act
+use Rattle.stamp_types.specs.declared.act.StoredBlob.{StoredBlob}
 use Rattle.stamp_types.specs.declared.piece.Piece.{Piece}
 use Rattle.block_blobs.specs.StoredRows.{is_left}
 use Rattle.row_trees.specs.RowRecords.{blob_row_of, container_row_of}
@@ -36,7 +37,7 @@ use Rattle.stored_rows.specs.Noting.{taken_by}
 use Rattle.stored_rows.specs.Ranges.{covers}
 use Rattle.stored_rows.specs.Rewriting.{AreOfOneBlob, FailsStep, GoOn, IfLogged, IsRewritten, IsRowLogged, IsStepped, IsSwapped, LeavesRowDoubt, doubt_after}
 use Rattle.stored_rows.specs.RowDoubts.{HasSpare}
-use Rattle.stored_rows.specs.States.{SeenSweep, Stored}
+use Rattle.stored_rows.specs.States.{Stored}
 use Rattle.stored_rows.specs.Swept.{AreSwept, IsBegun, IsNewRow, is_past, is_touched, is_unseen, is_upto, knows_row, with_blob_row, with_container, with_new_change}
 use Rattle.stored_rows.specs.declared.cursor.Cursor.TheVariants as cursor
 use Rattle.stored_rows.specs.declared.key_range.KeyRange.{KeyRange}
@@ -335,8 +336,8 @@ row_touched s range v e old w swept key name b c covered begun is =
 -- ---- stored rows after steps
 
 -- a row of a sweep keeps the range
-pub stepped_keeps : {before after : Option SeenSweep} (range : KeyRange) (s t : ThreeStreams) (v : World (List Piece)) (e : Option KeyedAct) (spare : Option (Blob (List Piece))) (w : Sweep) (a b : Bool) → IsStepped range s t v e spare w
-    → KeepsTheRange (record { streams = s; range = range; is_loaded = a; sweep = before }) (record { streams = t; range = range; is_loaded = b; sweep = after })
+pub stepped_keeps : (range : KeyRange) (s t : ThreeStreams) (v : World (List Piece)) (e : Option KeyedAct) (spare : Option (Blob (List Piece))) (w : Sweep) (a b : Bool) → IsStepped range s t v e spare w
+    → KeepsTheRange (record { streams = s; range = range; is_loaded = a }) (record { streams = t; range = range; is_loaded = b })
 stepped_keeps range s t v e spare w a b is = record { bytes = λ key covered. is.means key; range = refl; limits = is.limits }
 
 -- so does a call that changes nothing
@@ -344,7 +345,7 @@ pub keeps_itself : (s t : Stored) → t ≡ s → KeepsTheRange s t
 keeps_itself s t same = subst (KeepsTheRange s) (sym same) (record { bytes = λ key covered. refl; range = refl; limits = record { log = refl; blobs = refl; rows = refl } })
 
 -- and a call that changes no stream
-pub same_keeps : {before after : Option SeenSweep} (range : KeyRange) (s : ThreeStreams) (a b : Bool) → KeepsTheRange (record { streams = s; range = range; is_loaded = a; sweep = before }) (record { streams = s; range = range; is_loaded = b; sweep = after })
+pub same_keeps : (range : KeyRange) (s : ThreeStreams) (a b : Bool) → KeepsTheRange (record { streams = s; range = range; is_loaded = a }) (record { streams = s; range = range; is_loaded = b })
 same_keeps range s a b = record { bytes = λ key covered. refl; range = refl; limits = record { log = refl; blobs = refl; rows = refl } }
 
 pub range_twice : (s m t : Stored) → KeepsTheRange s m → KeepsTheRange m t → KeepsTheRange s t

@@ -1,5 +1,5 @@
 -- The beginning and the end of a sweep.
-use Rattle.std.proofs.Common.{◌≡◌, ◌∙◌, ◌||◌, ℕ, Bool, true, false, Option, Some, None, IfSome, List, [], drop, ap, sym, refl, subst, arith}
+use Rattle.std.proofs.Common.{◌≡◌, ◌≤◌, ◌∙◌, ◌||◌, ◌++◌, ℕ, Bool, true, false, Option, Some, None, IfSome, List, [], drop, ap, sym, refl, subst, arith}
 use Rattle.std.specs.FinMap as finite
 use Rattle.std.specs.Option.{option_and_then, option_map_or}
 use Rattle.std.specs.Prelude.{is_some}

@@ -29,7 +29,7 @@ use Rattle.stored_rows.specs.Fitting.{Fits, FitsDoubt}
 use Rattle.stored_rows.specs.Loaded.{AreLoaded, AreRowsOf, IsFollowed, doubted, part_of}
 use Rattle.stored_rows.specs.Logging.{AddsChange, Doubts, IsPutAndLogged, KeepsLog}
 use Rattle.stored_rows.specs.Ranges.{covers}
-use Rattle.stored_rows.specs.States.{IsChanged, IsHalf, IsInDoubt, IsKeptAs, IsTaken, MeansTheSame, SeenSweep, Stored}
+use Rattle.stored_rows.specs.States.{IsChanged, IsHalf, IsInDoubt, IsKeptAs, IsTaken, MeansTheSame, Stored}
 use Rattle.stored_rows.specs.declared.key_range.KeyRange.{KeyRange}
 use Rattle.stored_rows.specs.declared.logging.Unlogged.TheVariants as fault
 use Rattle.stored_rows.proofs.CutLemmas.{half_below, half_from}
@@ -57,7 +57,7 @@ module _ (s t : ThreeStreams) (h : KeepsLog s t) where
   pub loaded_same : (range : KeyRange) (rows : Option (World (List Piece))) (d e : Option KeyedAct) → AreLoaded s rows d range → FitsDoubt range t → e ≡ doubted t → AreLoaded t rows e range
   loaded_same range rows d e old doubt tried = record { fit = all_fit_same s t old.fit all_same; doubt = doubt; tried = tried; rows = rows_same range rows old.rows }
 
-  pub means_same : {before after : Option SeenSweep} (range : KeyRange) (b : Bool) → AreKept s → MeansTheSame (record { streams = s; range = range; is_loaded = b; sweep = before }) (record { streams = t; range = range; is_loaded = b; sweep = after })
+  pub means_same : (range : KeyRange) (b : Bool) → AreKept s → MeansTheSame (record { streams = s; range = range; is_loaded = b }) (record { streams = t; range = range; is_loaded = b })
   means_same range b kept = record { rows = h.rows; log = h.log; bytes = meaning_same kept; pieces = held_same; range = refl; loaded = refl }
 
 pub no_doubt : (range : KeyRange) (t : ThreeStreams) → (logged t).doubt ≡ None → FitsDoubt range t
@@ -95,12 +95,12 @@ module _ (s t : ThreeStreams) (c : Recorded) (range : KeyRange) (rows : Option (
   pub sure_loaded : (logged s).doubt ≡ None → KeepsLog s t × ((logged t).doubt ≡ None) → AreLoaded t rows d range
   sure_loaded none h = loaded_same s t h.0 range rows d d old (no_doubt range t h.1) (still_none s t d old.tried none h.1)
 
-pub doubt_taken : {before after : Option SeenSweep} (s t : ThreeStreams) (c : Recorded) (kept : KeyedAct) (range : KeyRange) (b : Bool) → AreKept s → IsPutAndLogged (Err (fault.Doubt kept)) s c t
-    → IsTaken (Err take.Doubt) (record { streams = s; range = range; is_loaded = b; sweep = before }) c (record { streams = t; range = range; is_loaded = b; sweep = after })
+pub doubt_taken : (s t : ThreeStreams) (c : Recorded) (kept : KeyedAct) (range : KeyRange) (b : Bool) → AreKept s → IsPutAndLogged (Err (fault.Doubt kept)) s c t
+    → IsTaken (Err take.Doubt) (record { streams = s; range = range; is_loaded = b }) c (record { streams = t; range = range; is_loaded = b })
 doubt_taken s t c kept range b whole h = (means_same s t h.log range b whole, record { kept = kept; doubt = h.doubt; same = h.same })
 
-pub sure_same : {before after : Option SeenSweep} (s t : ThreeStreams) (range : KeyRange) (b : Bool) → AreKept s → KeepsLog s t × ((logged t).doubt ≡ None)
-    → MeansTheSame (record { streams = s; range = range; is_loaded = b; sweep = before }) (record { streams = t; range = range; is_loaded = b; sweep = after }) × ((logged t).doubt ≡ None)
+pub sure_same : (s t : ThreeStreams) (range : KeyRange) (b : Bool) → AreKept s → KeepsLog s t × ((logged t).doubt ≡ None)
+    → MeansTheSame (record { streams = s; range = range; is_loaded = b }) (record { streams = t; range = range; is_loaded = b }) × ((logged t).doubt ≡ None)
 sure_same s t range b whole h = (means_same s t h.0 range b whole, h.1)
 
 -- ---- a change that was taken
@@ -138,8 +138,8 @@ not_loaded v None d f e = cc
 not_loaded None (Some w) d f e = absurd f
 not_loaded (Some v) (Some w) d f e = refl
 
-pub taken_changed : {before after : Option SeenSweep} (s t : ThreeStreams) (c : Recorded) (d : KeyedAct) (range : KeyRange) (a b : Bool) → (b ≡ true → a ≡ true) → AreKept s → AddsChange s c d t
-    → IsChanged (record { streams = s; range = range; is_loaded = a; sweep = before }) c (record { streams = t; range = range; is_loaded = b; sweep = after })
+pub taken_changed : (s t : ThreeStreams) (c : Recorded) (d : KeyedAct) (range : KeyRange) (a b : Bool) → (b ≡ true → a ≡ true) → AreKept s → AddsChange s c d t
+    → IsChanged (record { streams = s; range = range; is_loaded = a }) c (record { streams = t; range = range; is_loaded = b })
 taken_changed s t c d range a b loaded kept h = record {
   own = subst (λ k. meaning (logged t) k ≡ changed held c.0.act (meaning (logged s) k)) h.same.key
       (meaning-own (logged s) (logged t) (d, c.1) h.more h.places (held_of-stored s d.key kept) ∙ h.same.bytes (meaning (logged s) d.key));
@@ -234,9 +234,9 @@ module _ (s t : ThreeStreams) (range : KeyRange) (o : Option (World (List Piece)
     rows = kept_rows c is log o w old.rows (followed_doubt c w is f);
   }
 
-  pub kept_changed : {before after : Option SeenSweep} (c : Recorded) (w : Option (World (List Piece))) → AreKept s → (logged s).doubt ≡ Some c → (logged t).log ≡ (logged s).log ++ c ∷ [] → (logged t).doubt ≡ None
-      → IfSome d (λ k. IsFollowed o k w) → (x : Recorded) → IsInDoubt x (record { streams = s; range = range; is_loaded = is_some o; sweep = before })
-      → IsChanged (record { streams = s; range = range; is_loaded = is_some o; sweep = before }) x (record { streams = t; range = range; is_loaded = is_some w; sweep = after })
+  pub kept_changed : (c : Recorded) (w : Option (World (List Piece))) → AreKept s → (logged s).doubt ≡ Some c → (logged t).log ≡ (logged s).log ++ c ∷ [] → (logged t).doubt ≡ None
+      → IfSome d (λ k. IsFollowed o k w) → (x : Recorded) → IsInDoubt x (record { streams = s; range = range; is_loaded = is_some o })
+      → IsChanged (record { streams = s; range = range; is_loaded = is_some o }) x (record { streams = t; range = range; is_loaded = is_some w })
   kept_changed c w whole is log none f x doubt =
       let both : Some (doubt.kept, x.1) ≡ Some c = sym doubt.doubt ∙ is in
       let one : (doubt.kept, x.1) ≡ c = cc in
@@ -298,8 +298,8 @@ module _ (s t : ThreeStreams) (o : Option (World (List Piece))) (d : Option Keye
         rows = half_from s t range middle all covered o old.rows;
       }
 
-pub half_means : {before after : Option SeenSweep} (s t : ThreeStreams) (a b : Bool) (range own : KeyRange) → HaveSameBlocks s t → (logged t).doubt ≡ None → b ≡ a
-    → IsHalf own (record { streams = s; range = range; is_loaded = a; sweep = before }) (record { streams = t; range = own; is_loaded = b; sweep = after })
+pub half_means : (s t : ThreeStreams) (a b : Bool) (range own : KeyRange) → HaveSameBlocks s t → (logged t).doubt ≡ None → b ≡ a
+    → IsHalf own (record { streams = s; range = range; is_loaded = a }) (record { streams = t; range = own; is_loaded = b })
 half_means s t a b range own same none loaded = record {
   bytes = λ key. meaning-shared s t key same;
   pieces = λ key. held_of-shared s t key same;

@@ -14,4 +14,3 @@ pub mod Rewriting
 pub mod RowDoubts
 pub mod States
 pub mod Swept
-pub mod UnderWay

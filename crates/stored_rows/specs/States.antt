@@ -1,9 +1,6 @@
 -- Stored rows: what is seen of them, and what calls do to them (SOSP 2011, section 5).
-use Rattle.std.specs.Prelude.{◌≡◌, ◌≢◌, refl, ℕ, Bool, true, cond, Option, Some, None, Result, Ok, Err, List, [], ◌∷◌, IsSome}
-use Rattle.std.specs.Coded.{Coded, code_by, coded_list, coded_ℕ}
-use Rattle.std.specs.FinMap as finite
+use Rattle.std.specs.Prelude.{◌≡◌, ◌≢◌, ℕ, Bool, true, cond, Option, Some, None, Result, Ok, Err, List, [], ◌∷◌, IsSome}
 use Rattle.extent_node.specs.Copies.{Block}
-use Rattle.stamp_values.specs.Trees.{key_code}
 use Rattle.stamp_values.specs.declared.key.Key.{Key}
 use Rattle.stamp_types.specs.ActKinds.{is_row}
 use Rattle.stamp_types.specs.Changes.{KeyedAct}
@@ -20,41 +17,17 @@ use Rattle.partition_stream.specs.Contents.{content_at}
 use Rattle.partition_stream.specs.Meanings.{IsOneMore, held_of, meaning}
 use Rattle.partition_stream.specs.Storing.{IsStoredChange}
 use Rattle.partition_stream.specs.Streams.{ThreeStreams, logged}
-use Rattle.partition_stream.specs.declared.mark.Mark.{Mark}
 use Rattle.partition_stream.specs.declared.faults.TakeFault.{TakeFault}
 use Rattle.partition_stream.specs.declared.faults.TakeFault.TheVariants as fault
-use Rattle.stored_rows.specs.Swept.{Names}
-use Rattle.stored_rows.specs.declared.cursor.Cursor.{Cursor}
 use Rattle.stored_rows.specs.declared.key_range.KeyRange.{KeyRange}
-use Rattle.stored_rows.specs.declared.sweep.Sweep.{Sweep}
 use Rattle.stored_rows.specs.declared.faults.Ended.{Ended}
 use Rattle.stored_rows.specs.declared.faults.Ended.TheVariants as ended
 
--- the code of names by the key of their container
-abbrev pub names_code : Coded Names
-names_code = finite.code key_code (finite.code (coded_list coded_ℕ) (code_by ℕ coded_ℕ (λ w. 0) (λ n. record {}) (λ w. refl)))
-
--- a sweep that is under way: its mark, the rows that its cursor is past, and the rows beyond the cursor that were touched
-pub record SeenSweep : Type 0 where
-  pub mark : Mark
-  pub cursor : Cursor
-  pub touched : Names
-
--- what is seen of a sweep
-abbrev pub seen : Sweep → SeenSweep
-seen w = record { mark = w.mark; cursor = w.cursor; touched = w.touched }
-
--- what is seen of a sweep, if one is under way
-abbrev pub seen_sweep : Option Sweep → Option SeenSweep
-seen_sweep None = None
-seen_sweep (Some w) = Some (seen w)
-
--- rows that are kept in streams: the streams, the range of the keys, whether the rows are in memory, and the sweep that is under way
+-- rows that are kept in streams: the streams, the range of the keys, and whether the rows are in memory
 pub record Stored : Type 0 where
   pub streams : ThreeStreams
   pub range : KeyRange
   pub is_loaded : Bool
-  pub sweep : Option SeenSweep
 
 -- a container in pieces, as the streams mean it
 abbrev pub pieces_of : Stored → Key → Part (List Piece)

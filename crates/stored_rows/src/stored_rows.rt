@@ -50,21 +50,18 @@ pub struct StoredRows {
     waste: Waste,
     // Whether a list is answered by a ticket, whose fetch writes its text. It is not seen in contracts.
     gathers_lists: bool,
-    // The sweep that is under way. Contracts see its mark, its cursor and what it touched.
+    // The sweep that is under way. It is not seen in contracts.
     sweep: Option<Sweep>,
 }
 
 impl Model for StoredRows {
     ghost use Rattle.std.specs.Option.{is_some};
-    ghost use Rattle.std.specs.Coded.{codes};
-    ghost use Rattle.stored_rows.specs.States.{Stored, names_code, seen_sweep};
+    ghost use Rattle.stored_rows.specs.States.{Stored};
     ghost use Rattle.stored_rows.specs.Loaded.{AreLimited};
 
     ghost Value = { Stored };
 
-    ghost coded = { Prim.hlevel (codes, names_code) };
-
-    ghost view = { λ s. record { streams = s.streams; range = s.range; is_loaded = is_some s.rows; sweep = seen_sweep s.sweep } };
+    ghost view = { λ s. record { streams = s.streams; range = s.range; is_loaded = is_some s.rows } };
 
     ghost invariant = { λ s. AreLimited s.extent_bytes s.streams s.rows s.doubt s.range s.sweep s.spare };
 }
@@ -99,7 +96,6 @@ impl StoredRows {
     ghost use Rattle.stored_rows.specs.Loaded.{AreRowsOf};
     ghost use Rattle.stored_rows.specs.Ranges.{covers};
     ghost use Rattle.stored_rows.specs.States.{AreFoundIn, IsHalf, SettlesRows, IsTaken, MeansTheSame, bytes_of, doubt_of, own_doubt_of, pieces_of};
-    ghost use Rattle.stored_rows.specs.UnderWay.{IsSweepOfHalf, sweep_after};
 
     /// The rows of a range without a container, which are loaded. The extents of their streams, and of those that take the place of these
     /// streams later, have at most `extent_bytes` bytes if they have two or more blocks. Takes no memory.
@@ -109,7 +105,6 @@ impl StoredRows {
         ensures loaded { result.is_loaded ≡ true }
         ensures range { result.range ≡ range }
         ensures limits { HaveLimit extent_bytes result.streams }
-        ensures idle { result.sweep ≡ None }
     {
         Self {
             alloc,
@@ -314,7 +309,6 @@ impl StoredRows {
         requires found { IfSome found (AreFoundIn self.old change) }
         requires sure { doubt_of self.old ≡ None }
         ensures taken { IsTaken result self.old (change, epoch) self.new }
-        ensures swept { self.new.sweep ≡ sweep_after self.old change }
         ensures limits { HaveSameLimits self.old.streams self.new.streams }
         ensures counted { FailsTake result (W.faults wire.old) (W.faults wire.new) }
         ensures heard { HearsTake result (W.calls wire.old) (W.calls wire.new) (W.faults wire.old) (W.faults wire.new) }
@@ -357,7 +351,6 @@ impl StoredRows {
         requires found { IfSome found (λ f. AreFoundIn self.old change f.blocks) }
         requires sure { doubt_of self.old ≡ None }
         ensures taken { IsTaken result self.old (change, epoch) self.new }
-        ensures swept { self.new.sweep ≡ sweep_after self.old change }
         ensures limits { HaveSameLimits self.old.streams self.new.streams }
         ensures counted { FailsTake result (W.faults wire.old) (W.faults wire.new) }
         ensures heard { HearsTake result (W.calls wire.old) (W.calls wire.new) (W.faults wire.old) (W.faults wire.new) }
@@ -392,7 +385,6 @@ impl StoredRows {
         requires found { IfSome found (λ f. AreFoundIn self.old change f.blocks) }
         requires sure { doubt_of self.old ≡ None }
         ensures taken { IsTaken result self.old (change, epoch) self.new }
-        ensures swept { self.new.sweep ≡ sweep_after self.old change }
         ensures limits { HaveSameLimits self.old.streams self.new.streams }
         ensures counted { FailsTake result (W.faults wire.old) (W.faults wire.new) }
         ensures heard { HearsTake result (W.calls wire.old) (W.calls wire.new) (W.faults wire.old) (W.faults wire.new) }
@@ -442,7 +434,6 @@ impl StoredRows {
     #[tactic(auto, using(extent_seal::proofs::HeardLemmas::heard_none))]
     pub fn settle<W: Wire>(&mut self, wire: &mut W) -> Result<Ended, StoredFault>
         ensures settled { SettlesRows result self.old self.new }
-        ensures swept { self.new.sweep ≡ self.old.sweep }
         ensures limits { HaveSameLimits self.old.streams self.new.streams }
         ensures data { self.new.streams.blobs ≡ self.old.streams.blobs }
         ensures counted { FailsStored result (W.faults wire.old) (W.faults wire.new) }
@@ -458,7 +449,6 @@ impl StoredRows {
     fn settle_own<W: Wire>(&mut self, wire: &mut W) -> Result<Ended, StoredFault>
         requires { own_doubt_of self.old ≡ doubt_of self.old }
         ensures settled { SettlesRows result self.old self.new }
-        ensures swept { self.new.sweep ≡ self.old.sweep }
         ensures limits { HaveSameLimits self.old.streams self.new.streams }
         ensures data { self.new.streams.blobs ≡ self.old.streams.blobs }
         ensures counted { FailsStored result (W.faults wire.old) (W.faults wire.new) }
@@ -475,7 +465,6 @@ impl StoredRows {
         ensures means { (key : Key) → bytes_of self.new key ≡ bytes_of self.old key }
         ensures range { self.new.range ≡ self.old.range }
         ensures loaded { self.new.is_loaded ≡ self.old.is_loaded }
-        ensures swept { self.new.sweep ≡ self.old.sweep }
         ensures sure { OnOk result (doubt_of self.new ≡ None) }
         ensures own { own_doubt_of self.new ≡ None }
         ensures limits { HaveSameLimits self.old.streams self.new.streams }
@@ -498,7 +487,6 @@ impl StoredRows {
         ensures means { (key : Key) → bytes_of self.new key ≡ bytes_of self.old key }
         ensures range { self.new.range ≡ self.old.range }
         ensures loaded { self.new.is_loaded ≡ self.old.is_loaded }
-        ensures swept { self.new.sweep ≡ self.old.sweep }
         ensures sure { OnOk result (doubt_of self.new ≡ None) }
         ensures own { own_doubt_of self.new ≡ None }
         ensures still { result ≡ Ok false → self.new ≡ self.old }
@@ -524,7 +512,6 @@ impl StoredRows {
         ensures same { MeansTheSame self.old self.new }
         ensures doubt { doubt_of self.new ≡ None }
         ensures sealed { OnOk result (AreSealed self.new.streams) }
-        ensures swept { self.new.sweep ≡ self.old.sweep }
         ensures limits { HaveSameLimits self.old.streams self.new.streams }
         ensures counted { FailsStored result (W.faults wire.old) (W.faults wire.new) }
         ensures heard { HearsStored result (W.calls wire.old) (W.calls wire.new) (W.faults wire.old) (W.faults wire.new) }
@@ -542,8 +529,6 @@ impl StoredRows {
         requires upper { upper ≡ record { from = middle; to = self.old.range.to } }
         ensures lower { OnOk result (IsHalf (record self.old.range { to = Some middle }) self.old self.new) }
         ensures upper { IfOk result (λ half. IsHalf upper self.old half) }
-        ensures swept { self.new.sweep ≡ self.old.sweep }
-        ensures half_swept { IfOk result (λ half. IsSweepOfHalf self.old.sweep half.sweep) }
         ensures limits { HaveSameLimits self.old.streams self.new.streams }
         ensures own_limits { IfOk result (λ half. HaveSameLimits self.old.streams half.streams) }
         ensures refused { OnErr result (MeansTheSame self.old self.new × (doubt_of self.new ≡ None)) }
@@ -588,14 +573,12 @@ impl StoredRows {
     /// ends it by itself, and gives up its own handles of what came before the mark.
     ///
     /// After a fault nothing was cut. Busy: no node answered the seal of a stream. NoMemory: memory ran out.
-    #[tactic(auto, using(extent_seal::proofs::HeardLemmas::heard_none, crate::proofs::HeardLemmas::hears_any, crate::proofs::UnderWayLemmas::half_after))]
+    #[tactic(auto, using(extent_seal::proofs::HeardLemmas::heard_none, crate::proofs::HeardLemmas::hears_any))]
     pub fn cut<W: Wire>(&mut self, middle: &Key, wire: &mut W) -> Result<Self, StoredFault>
         requires sure { doubt_of self.old ≡ None }
         requires covered { covers self.old.range middle.now ≡ true }
         ensures lower { OnOk result (IsHalf (record self.old.range { to = Some middle.now }) self.old self.new) }
         ensures upper { IfOk result (λ upper. IsHalf (record { from = middle.now; to = self.old.range.to }) self.old upper) }
-        ensures swept { self.new.sweep ≡ self.old.sweep }
-        ensures half_swept { IfOk result (λ upper. IsSweepOfHalf self.old.sweep upper.sweep) }
         ensures limits { HaveSameLimits self.old.streams self.new.streams }
         ensures own_limits { IfOk result (λ upper. HaveSameLimits self.old.streams upper.streams) }
         ensures refused { OnErr result (MeansTheSame self.old self.new × (doubt_of self.new ≡ None)) }

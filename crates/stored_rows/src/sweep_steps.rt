@@ -8,9 +8,7 @@ ghost use Rattle.stored_rows.specs.NextRows.{IsNextBlob, IsNextContainer, IsOuts
 ghost use Rattle.stored_rows.specs.Noting.{taken_by};
 ghost use Rattle.stored_rows.specs.Ranges.{covers};
 ghost use Rattle.stored_rows.specs.Rewriting.{FailsStep, IsStepped, LeavesRowDoubt, doubt_after};
-ghost use Rattle.stored_rows.specs.States.{seen};
-ghost use Rattle.stored_rows.specs.Swept.{AreSwept, is_unseen, knows_name, knows_row, may_log, read_by};
-ghost use Rattle.stored_rows.specs.UnderWay.{IsTouchedFor, StepsSweep};
+ghost use Rattle.stored_rows.specs.Swept.{AreSwept, is_unseen, knows_row};
 
 use crate::cursor::Cursor;
 use crate::key_range::KeyRange;
@@ -76,7 +74,6 @@ fn step_container<W: Wire>(
     requires outside { IsOutside sweep.old.cursor }
     requires next { IsNextContainer sweep.old.cursor rows.now key }
     ensures stepped { IsStepped range.now streams.old streams.new rows.now doubt.new spare.now sweep.new }
-    ensures went { StepsSweep result sweep.old rows.now sweep.new }
     ensures doubt { LeavesRowDoubt result streams.new }
     ensures counted { FailsStep result (W.faults wire.old) (W.faults wire.new) }
     ensures heard { HearsTake result (W.calls wire.old) (W.calls wire.new) (W.faults wire.old) (W.faults wire.new) }
@@ -114,7 +111,6 @@ fn step_blob<W: Wire>(
     requires sure { (logged streams.old).doubt ≡ None }
     requires next { IsNextBlob sweep.old.cursor rows.old (key, (name, row)) }
     ensures stepped { IsStepped range.now streams.old streams.new rows.new doubt.new spare.new sweep.new }
-    ensures went { StepsSweep result sweep.old rows.new sweep.new }
     ensures doubt { LeavesRowDoubt result streams.new }
     ensures counted { FailsStep result (W.faults wire.old) (W.faults wire.new) }
     ensures heard { HearsTake result (W.calls wire.old) (W.calls wire.new) (W.faults wire.old) (W.faults wire.new) }
@@ -151,7 +147,6 @@ pub(crate) fn step_row<W: Wire>(
     requires swept { AreSwept sweep.old range.now streams.old }
     requires sure { (logged streams.old).doubt ≡ None }
     ensures stepped { IsStepped range.now streams.old streams.new rows.new doubt.new spare.new sweep.new }
-    ensures went { StepsSweep result sweep.old rows.new sweep.new }
     ensures doubt { LeavesRowDoubt result streams.new }
     ensures counted { FailsStep result (W.faults wire.old) (W.faults wire.new) }
     ensures heard { HearsTake result (W.calls wire.old) (W.calls wire.new) (W.faults wire.old) (W.faults wire.new) }
@@ -180,7 +175,7 @@ pub(crate) fn step_row<W: Wire>(
 }
 
 // Writes the own row of a container again, unless the sweep knows that it was written or the container has none.
-#[tactic(auto, using(extent_seal::proofs::HeardLemmas::heard_none, crate::proofs::TouchedLemmas::touched_none))]
+#[tactic(auto, using(extent_seal::proofs::HeardLemmas::heard_none))]
 fn touch_container<W: Wire>(
     alloc: Global,
     streams: &mut Streams,
@@ -197,7 +192,6 @@ fn touch_container<W: Wire>(
     requires sure { (logged streams.old).doubt ≡ None }
     requires covered { covers range.now key.now ≡ true }
     ensures stepped { IsStepped range.now streams.old streams.new rows.now doubt.new spare.now sweep.new }
-    ensures still { IsTouchedFor key.now None (seen sweep.old) (seen sweep.new) }
     ensures doubt { LeavesRowDoubt result streams.new }
     ensures counted { FailsStep result (W.faults wire.old) (W.faults wire.new) }
     ensures heard { HearsTake result (W.calls wire.old) (W.calls wire.new) (W.faults wire.old) (W.faults wire.new) }
@@ -219,7 +213,7 @@ fn touch_container<W: Wire>(
 }
 
 // Writes the row of a blob again, unless the sweep knows that it was written or nothing is left of a blob of this name.
-#[tactic(auto, using(extent_seal::proofs::HeardLemmas::heard_none, crate::proofs::TouchedLemmas::touched_none))]
+#[tactic(auto, using(extent_seal::proofs::HeardLemmas::heard_none))]
 fn touch_blob<W: Wire>(
     alloc: Global,
     streams: &mut Streams,
@@ -238,9 +232,6 @@ fn touch_blob<W: Wire>(
     requires covered { covers range.now key.now ≡ true }
     requires begun { IsTrue (knows_row sweep.old.cursor sweep.old.touched key.now || is_unseen (part_at rows.old key.now)) }
     ensures stepped { IsStepped range.now streams.old streams.new rows.new doubt.new spare.new sweep.new }
-    ensures still { IsTouchedFor key.now (Some name.now) (seen sweep.old) (seen sweep.new) }
-    ensures kept { IsOk result → IsTrue (knows_row sweep.new.cursor sweep.new.touched key.now || is_unseen (part_at rows.new key.now)) }
-    ensures known { IsOk result → IsTrue (knows_name sweep.new.cursor sweep.new.touched key.now (part_at rows.new key.now) name.now) }
     ensures doubt { LeavesRowDoubt result streams.new }
     ensures counted { FailsStep result (W.faults wire.old) (W.faults wire.new) }
     ensures heard { HearsTake result (W.calls wire.old) (W.calls wire.new) (W.faults wire.old) (W.faults wire.new) }
@@ -265,7 +256,7 @@ fn touch_blob<W: Wire>(
 }
 
 /// Writes the rows again that a change reads and that the sweep does not know to be written.
-#[tactic(auto, using(extent_seal::proofs::HeardLemmas::heard_then, crate::proofs::HeardLemmas::hears_take_later, crate::proofs::TouchedLemmas::touched_then, crate::proofs::TouchedLemmas::touched_own, crate::proofs::UnderWayLemmas::no_read_known, crate::proofs::UnderWayLemmas::read_known, crate::proofs::UnderWayLemmas::both_hold))]
+#[tactic(auto, using(extent_seal::proofs::HeardLemmas::heard_then, crate::proofs::HeardLemmas::hears_take_later))]
 pub(crate) fn touch_rows<W: Wire>(
     alloc: Global,
     streams: &mut Streams,
@@ -282,8 +273,6 @@ pub(crate) fn touch_rows<W: Wire>(
     requires sure { (logged streams.old).doubt ≡ None }
     requires covered { covers range.now change.now.key ≡ true }
     ensures stepped { IsStepped range.now streams.old streams.new rows.new doubt.new spare.new sweep.new }
-    ensures still { IsTouchedFor change.now.key (read_by change.now.act) (seen sweep.old) (seen sweep.new) }
-    ensures known { IsOk result → IsTrue (may_log sweep.new.cursor sweep.new.touched change.now.key (part_at rows.new change.now.key) change.now.act) }
     ensures doubt { LeavesRowDoubt result streams.new }
     ensures counted { FailsStep result (W.faults wire.old) (W.faults wire.new) }
     ensures heard { HearsTake result (W.calls wire.old) (W.calls wire.new) (W.faults wire.old) (W.faults wire.new) }

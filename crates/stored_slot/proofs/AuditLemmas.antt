@@ -1,12 +1,11 @@
 -- The audit entry of a request that a slot serves.
-use Rattle.std.proofs.Common.{◌≡◌, ◌∙◌, inl, inr, ℕ, Bool, true, false, ◌||◌, ◌&&◌, Option, Some, None, List, length, refl, sym, ap, subst}
+use Rattle.std.proofs.Common.{◌≡◌, ◌∙◌, inl, inr, ℕ, Bool, true, false, ◌||◌, ◌&&◌, Option, Some, None, List, length, refl, sym, ap}
 use Rattle.std.specs.Prelude.{IfSome, IsSome, Err, is_some, not}
 use Rattle.extent_node.specs.Faults.{Calls}
 use Rattle.extent_seal.specs.Counting.{Grows}
 use Rattle.stamp_values.specs.Operations.{names_container}
 use Rattle.stamp_values.specs.Trees.{is_from}
 use Rattle.stamp_types.specs.Changes.{KeyedAct}
-use Rattle.stamp_types.specs.declared.past.Past.{Past}
 use Rattle.stamp_types.specs.declared.refusal.Refusal.{Refusal}
 use Rattle.stamp_types.specs.declared.reply.Reply.{Reply}
 use Rattle.stamp_types.specs.declared.rule.Rule.{Rule}
@@ -34,8 +33,8 @@ use Rattle.slot_state.specs.Slots.{SlotState, replayed_at}
 use Rattle.stored_slot.specs.Audits.{Audits, AuditsBy, IsLetIn, SlotAudits, is_let_in}
 use Rattle.stored_slot.specs.Entries.{IsEntryBy, entry_by, seen_at, seen_of}
 use Rattle.stored_slot.specs.Meanings.{AreReplays, NothingRefuses}
-use Rattle.stored_slot.specs.Served.{AnswersUnrefused, Faulted, ServesBy, ServesUnrefused, SlotServes, failed_by, answer_told, unknown}
-use Rattle.stored_slot.specs.Settled.{LeavesSettled, SettlesDoubtBy, SettlesSlot}
+use Rattle.stored_slot.specs.Served.{AnswersUnrefused, Faulted, IsFailed, ServesBy, ServesUnrefused, SlotServes, unknown}
+use Rattle.stored_slot.specs.Settled.{LeavesSettled, SettlesSlot}
 use Rattle.stored_slot.specs.declared.auditing.Seen.{Seen}
 use Rattle.stored_slot.proofs.DecisionLemmas.{covers_same, own_covered}
 use Rattle.stored_slot.proofs.ServeLemmas.{failed_fault, failed_told, later_fault, served_later}
@@ -143,7 +142,7 @@ module _ (s : SlotState) (q : Asked) (t : ℕ) (a : Answer) (m : SlotState) wher
       inl (m, (settled, (served_later m q t (Faulted mid new) (Faulted old new) a s' (later_fault old mid new grown) audits.0, audits.1)))
 
   -- the settle or the load failed
-  pub audits_failed : (old new : Calls) (f : StoredFault) → LeavesSettled {T = Unit {0}} (Err f) s m → FailsStored {T = Unit {0}} (Err f) old new → a ≡ answer_told (failed_by f)
+  pub audits_failed : (old new : Calls) (f : StoredFault) → LeavesSettled {T = Unit {0}} (Err f) s m → FailsStored {T = Unit {0}} (Err f) old new → IsFailed a f
       → SlotAudits s q t (Faulted old new) a None m
   audits_failed old new f (inl settled) counted is = inl (m, (settled, (failed_told m q t (Faulted old new) a m (failed_fault f a old new counted is) refl, tt)))
   audits_failed old new f (inr same) counted is = inr (same.0, (failed_fault f a old new counted is, (same.1, refl)))
@@ -152,11 +151,3 @@ module _ (s : SlotState) (q : Asked) (t : ℕ) (a : Answer) (m : SlotState) wher
 pub audits_serve : (s : SlotState) (q : Asked) (t : ℕ) (F : Type 0) (a : Answer) (o : Option AuditEntry) (s' : SlotState) → SlotAudits s q t F a o s' → SlotServes s q t F a s'
 audits_serve s q t F a o s' (inl audits) = inl (audits.0, (audits.1.0, audits.1.1.0))
 audits_serve s q t F a o s' (inr failed) = inr (failed.0, (failed.1.0, failed.1.1.0))
-
--- memory ran out before anything was done
-by_doubt : (s : SlotState) (q : Asked) (t : ℕ) (F : Type 0) (d : Option Past) → s.doubt ≡ d → SlotAudits s q t F answer.NoMemory None s
-by_doubt s q t F None is = inl (s, (subst (λ (d : Option Past). SettlesDoubtBy d s s) (sym is) refl, (refl, tt)))
-by_doubt s q t F (Some e) is = inr (ap is_some is, (tt, (refl, refl)))
-
-pub audits_nothing : (s : SlotState) (q : Asked) (t : ℕ) (F : Type 0) → SlotAudits s q t F answer.NoMemory None s
-audits_nothing s q t F = by_doubt s q t F s.doubt refl

@@ -2,13 +2,11 @@ pub mod AnswerLemmas
 pub mod AuditLemmas
 pub mod DecisionLemmas
 pub mod HalfLemmas
-pub mod HeardLemmas
 pub mod KeepLemmas
 pub mod LawLemmas
 pub mod MeaningLemmas
 pub mod PairLemmas
 pub mod RepairLemmas
 pub mod ServeLemmas
-pub mod StepLemmas
 pub mod SweepLemmas
 pub mod ViewLemmas

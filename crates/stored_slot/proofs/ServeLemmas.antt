@@ -36,7 +36,7 @@ use Rattle.slot_state.proofs.PairLemmas.{pair_of-current}
 use Rattle.stored_slot.specs.Changes.{slot_taken}
 use Rattle.stored_slot.specs.Meanings.{AreOfStreams, AreReplays, HasDoubt, MakesChange, NothingRefuses, slot_with}
 use Rattle.stored_slot.specs.Parts.{AreOfSlot, AreSettled, slot_of}
-use Rattle.stored_slot.specs.Served.{AnswersUnrefused, FailsAnswer, Faulted, ReadsAnswer, ServesBy, ServesUnrefused, SlotServes, answered_by, busy, failed_by, answer_told, unknown}
+use Rattle.stored_slot.specs.Served.{AnswersUnrefused, FailsAnswer, Faulted, IsFailed, IsTakenAnswer, ReadsAnswer, ServesBy, ServesUnrefused, SlotServes, busy, unknown}
 use Rattle.stored_slot.specs.Settled.{LeavesSettled, SettlesDoubtBy, SettlesSlot}
 use Rattle.stored_slot.specs.declared.parts.SlotParts.{SlotParts}
 
@@ -82,6 +82,12 @@ module _ (pairs : Pairs) (h : Histories) (s : Stored) (e : Past) (c : KeyedAct) 
 -- ---- a request that changes nothing
 
 module _ (s : SlotState) (q : Asked) (t : ℕ) (F : Type 0) where
+  -- nodes were out of reach
+  pub busy_told : (a : Answer) (s' : SlotState) → F → IsAnswer a true busy → s' ≡ s → ServesBy s q t F a s'
+  busy_told (answer.Done r) s' faulted is same = inr (inl (faulted, (is.0, same)))
+  busy_told (answer.Later r) s' faulted is same = absurd (not_later is.1)
+  busy_told answer.NoMemory s' faulted is same = same
+
   stays : (s' : SlotState) → change_now s.pairs s.histories q t ≡ None → s' ≡ s → s' ≡ slot_after s q t
   stays s' none same =
       same ∙ sym (ap (λ (o : Option KeyedAct). record s { histories = cond (is_some o) (with_entry s.histories (entry_of s.pairs q t)) s.histories }) none)
@@ -113,9 +119,13 @@ module _ (s : SlotState) (q : Asked) (t : ℕ) (F : Type 0) where
 pub later_fault : (a b c : Calls) → Grows a b → Faulted b c → Faulted a c
 later_fault a b c grown faulted = omega (arith, grown, faulted)
 
-pub failed_fault : (f : StoredFault) (a : Answer) (old new : Calls) → FailsStored {T = Unit {0}} (Err f) old new → a ≡ answer_told (failed_by f) → FailsAnswer (Faulted old new) a
-failed_fault stored.Busy a old new counted is = subst (λ (a : Answer). FailsAnswer (Faulted old new) a) (sym is) (counted.0, refl)
-failed_fault stored.NoMemory a old new counted is = subst (λ (a : Answer). FailsAnswer (Faulted old new) a) (sym is) tt
+pub failed_fault : (f : StoredFault) (a : Answer) (old new : Calls) → FailsStored {T = Unit {0}} (Err f) old new → IsFailed a f → FailsAnswer (Faulted old new) a
+failed_fault stored.Busy (answer.Done r) old new counted is = (counted.0, is.0)
+failed_fault stored.Busy (answer.Later r) old new counted is = absurd (not_later is.1)
+failed_fault stored.Busy answer.NoMemory old new counted is = tt
+failed_fault stored.NoMemory (answer.Done r) old new counted is = cc
+failed_fault stored.NoMemory (answer.Later r) old new counted is = cc
+failed_fault stored.NoMemory answer.NoMemory old new counted is = tt
 
 -- a request that failed before it was served
 pub failed_told : (s : SlotState) (q : Asked) (t : ℕ) (F : Type 0) (a : Answer) (s' : SlotState) → FailsAnswer F a → s' ≡ s → ServesBy s q t F a s'
@@ -146,7 +156,7 @@ take_grows (Err fault.NoMemory) old new counted = counted
 -- a change that was tried is answered
 pub taken_told : (pairs : Pairs) (h : Histories) (s : Stored) (e : Past) (c : KeyedAct) (old new : Calls) → AreReplays pairs h s → MakesChange pairs h s e c
     → e ≡ entry_of pairs e.request e.moment → (frame : Reply) (a : Answer) (s' : SlotState) (r : Result (Unit {0}) TakeFault)
-    → IsReplyFor pairs h e.request e.moment s.range.to frame → s' ≡ slot_taken r (slot_with pairs h s None) e → FailsTake r old new → a ≡ answer_told (answered_by r frame)
+    → IsReplyFor pairs h e.request e.moment s.range.to frame → s' ≡ slot_taken r (slot_with pairs h s None) e → FailsTake r old new → IsTakenAnswer r frame a
     → ServesBy (slot_with pairs h s None) e.request e.moment (Faulted old new) a s'
 taken_told pairs h s e c old new are makes now frame a s' (Ok u) told same counted is =
     subst (λ (a : Answer). ServesBy (slot_with pairs h s None) e.request e.moment (Faulted old new) a s') (sym is)
@@ -155,7 +165,7 @@ taken_told pairs h s e c old new are makes now frame a s' (Err fault.Doubt) told
     subst (λ (a : Answer). ServesBy (slot_with pairs h s None) e.request e.moment (Faulted old new) a s') (sym is)
     (change_doubted pairs h s e c (Faulted old new) are makes now unknown s' counted.0 refl same)
 taken_told pairs h s e c old new are makes now frame a s' (Err fault.Busy) told same counted is =
-    subst (λ (a : Answer). ServesBy (slot_with pairs h s None) e.request e.moment (Faulted old new) a s') (sym is) (inr (inl (counted.0, (refl, same))))
+    busy_told (slot_with pairs h s None) e.request e.moment (Faulted old new) a s' counted.0 is same
 taken_told pairs h s e c old new are makes now frame a s' (Err fault.NoMemory) told same counted is =
     subst (λ (a : Answer). ServesBy (slot_with pairs h s None) e.request e.moment (Faulted old new) a s') (sym is) same
 
@@ -179,7 +189,7 @@ module _ (s : SlotState) (q : Asked) (t : ℕ) where
 -- a change that was tried on a slot without a doubt is answered
 pub taken_served : (pairs : Pairs) (h : Histories) (s : Stored) (d : Option Past) (e : Past) (c : KeyedAct) (old new : Calls) → d ≡ None → AreReplays pairs h s → MakesChange pairs h s e c
     → e ≡ entry_of pairs e.request e.moment → (frame : Reply) (a : Answer) (s' : SlotState) (r : Result (Unit {0}) TakeFault)
-    → IsReplyFor pairs h e.request e.moment s.range.to frame → s' ≡ slot_taken r (slot_with pairs h s d) e → FailsTake r old new → a ≡ answer_told (answered_by r frame)
+    → IsReplyFor pairs h e.request e.moment s.range.to frame → s' ≡ slot_taken r (slot_with pairs h s d) e → FailsTake r old new → IsTakenAnswer r frame a
     → ServesUnrefused (slot_with pairs h s d) e.request e.moment (Faulted old new) a s'
 taken_served pairs h s d e c old new none are makes now frame a s' r told same counted is = (
   subst (λ (x : Option Past). ServesBy (slot_with pairs h s x) e.request e.moment (Faulted old new) a s') (sym none)
@@ -206,8 +216,10 @@ answer_read F g b reply (answer.Done r) is = inl is.0
 answer_read F g b reply (answer.Later r) is = is.0
 answer_read F g b reply answer.NoMemory is = tt
 
-pub busy_read : (F : Type 0) (reply : Reply) → F → ReadsAnswer F reply (answer.Done busy)
-busy_read F reply faulted = inr (faulted, refl)
+pub busy_read : (F : Type 0) (reply : Reply) (a : Answer) → F → IsAnswer a true busy → ReadsAnswer F reply a
+busy_read F reply (answer.Done r) faulted is = inr (faulted, is.0)
+busy_read F reply (answer.Later r) faulted is = absurd (not_later is.1)
+busy_read F reply answer.NoMemory faulted is = tt
 
 -- ---- rows that are loaded
 
@@ -267,15 +279,7 @@ module _ (s : SlotState) (q : Asked) (t : ℕ) (a : Answer) (m : SlotState) wher
       inl (m, (settled, served_later m q t (Faulted mid new) (Faulted old new) a s' (later_fault old mid new grown) serves.0))
 
   -- the settle or the load failed
-  pub serves_failed : (old new : Calls) (f : StoredFault) → LeavesSettled {T = Unit {0}} (Err f) s m → FailsStored {T = Unit {0}} (Err f) old new → a ≡ answer_told (failed_by f)
+  pub serves_failed : (old new : Calls) (f : StoredFault) → LeavesSettled {T = Unit {0}} (Err f) s m → FailsStored {T = Unit {0}} (Err f) old new → IsFailed a f
       → SlotServes s q t (Faulted old new) a m
   serves_failed old new f (inl settled) counted is = inl (m, (settled, failed_told m q t (Faulted old new) a m (failed_fault f a old new counted is) refl))
   serves_failed old new f (inr same) counted is = inr (same.0, (failed_fault f a old new counted is, same.1))
-
--- memory ran out before anything was done
-by_doubt : (s : SlotState) (q : Asked) (t : ℕ) (F : Type 0) (d : Option Past) → s.doubt ≡ d → SlotServes s q t F answer.NoMemory s
-by_doubt s q t F None is = inl (s, (subst (λ (d : Option Past). SettlesDoubtBy d s s) (sym is) refl, refl))
-by_doubt s q t F (Some e) is = inr (ap is_some is, (tt, refl))
-
-pub serves_nothing : (s : SlotState) (q : Asked) (t : ℕ) (F : Type 0) → SlotServes s q t F answer.NoMemory s
-serves_nothing s q t F = by_doubt s q t F s.doubt refl

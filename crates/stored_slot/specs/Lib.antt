@@ -2,7 +2,6 @@ pub mod Audits
 pub mod Changes
 pub mod Decided
 pub mod Entries
-pub mod Heard
 pub mod Meanings
 pub mod Parts
 pub mod Served

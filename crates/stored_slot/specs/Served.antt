@@ -1,6 +1,6 @@
 -- What a slot over streams answers to a request (Calder et al., SOSP 2011, section 5: what a partition server does with its range and its
 -- streams). The answers for nodes that are out of reach, for a change whose outcome is unknown and for a lack of memory are the stamp's own.
-use Rattle.std.specs.Prelude.{◌≡◌, ◌⊎◌, ◌<◌, ⊤, ℕ, Some, None, IsSome, Result, Ok, Err}
+use Rattle.std.specs.Prelude.{◌≡◌, ◌⊎◌, ◌<◌, ⊤, ℕ, true, Some, None, IsSome, Result, Ok, Err}
 use Rattle.extent_node.specs.Faults.{Calls}
 use Rattle.extent_seal.specs.Counting.{all_faults}
 use Rattle.stamp_types.specs.declared.code.Code.TheVariants as code
@@ -12,13 +12,12 @@ use Rattle.stream_manager.specs.declared.faults.StoredFault.{StoredFault}
 use Rattle.stream_manager.specs.declared.faults.StoredFault.TheVariants as stored
 use Rattle.partition_stream.specs.declared.faults.TakeFault.{TakeFault}
 use Rattle.partition_stream.specs.declared.faults.TakeFault.TheVariants as take
+use Rattle.tickets.specs.Answers.{IsAnswer}
 use Rattle.tickets.specs.declared.answer.Answer.{Answer}
 use Rattle.tickets.specs.declared.answer.Answer.TheVariants as answer
 use Rattle.slot_state.specs.Slots.{IsServed, SlotState, change_now, entry_of}
 use Rattle.stored_slot.specs.Meanings.{NothingRefuses}
 use Rattle.stored_slot.specs.Settled.{SettlesSlot}
-use Rattle.stored_slot.specs.declared.spare_replies.Unserved.{Unserved}
-use Rattle.stored_slot.specs.declared.spare_replies.Unserved.TheVariants as unserved
 
 -- the reply to a request whose slot needs nodes that are out of reach
 abbrev pub busy : Reply
@@ -27,16 +26,6 @@ busy = denied (record { rule = rule.N1; code = code.ServerBusy })
 -- the reply to a change whose outcome is unknown
 abbrev pub unknown : Reply
 unknown = denied (record { rule = rule.N2; code = code.OperationTimedOut })
-
--- the reply to a request that is not served
-abbrev pub reply_unserved : Unserved → Reply
-reply_unserved unserved.Busy = busy
-reply_unserved unserved.Unknown = unknown
-
--- what a request is answered that is served, or not
-abbrev pub answer_told : Result Answer Unserved → Answer
-answer_told (Ok a) = a
-answer_told (Err u) = answer.Done (reply_unserved u)
 
 -- a call of the wire failed
 abbrev pub Faulted : Calls → Calls → Type 0
@@ -52,10 +41,10 @@ FailsAnswer faulted (answer.Done r) = faulted × (r ≡ busy)
 FailsAnswer faulted (answer.Later r) = ⊥
 FailsAnswer faulted answer.NoMemory = ⊤
 
--- a request whose slot could not be settled or loaded
-abbrev pub failed_by : StoredFault → Result Answer Unserved
-failed_by stored.Busy = Err unserved.Busy
-failed_by stored.NoMemory = Ok answer.NoMemory
+-- the answer of a fault: the denial of N1, unless memory runs out
+abbrev pub IsFailed : Answer → StoredFault → Type 0
+IsFailed a stored.Busy = IsAnswer a true busy
+IsFailed a stored.NoMemory = a ≡ answer.NoMemory
 
 -- the answer is this reply, at once or by a ticket; or nodes were out of reach; or memory ran out
 abbrev pub ReadsAnswer : Type 0 → Reply → Answer → Type 0
@@ -63,12 +52,12 @@ ReadsAnswer faulted reply (answer.Done r) = (r ≡ reply) ⊎ (faulted × (r ≡
 ReadsAnswer faulted reply (answer.Later r) = r ≡ reply
 ReadsAnswer faulted reply answer.NoMemory = ⊤
 
--- a request whose change was taken, is in doubt, or is neither
-abbrev pub answered_by : Result (Unit {0}) TakeFault → Reply → Result Answer Unserved
-answered_by (Ok u) frame = Ok (answer.Done frame)
-answered_by (Err take.Doubt) frame = Err unserved.Unknown
-answered_by (Err take.Busy) frame = Err unserved.Busy
-answered_by (Err take.NoMemory) frame = Ok answer.NoMemory
+-- what a request is answered whose change was taken, is in doubt, or is neither
+abbrev pub IsTakenAnswer : Result (Unit {0}) TakeFault → Reply → Answer → Type 0
+IsTakenAnswer (Ok u) frame a = a ≡ answer.Done frame
+IsTakenAnswer (Err take.Doubt) frame a = a ≡ answer.Done unknown
+IsTakenAnswer (Err take.Busy) frame a = IsAnswer a true busy
+IsTakenAnswer (Err take.NoMemory) frame a = a ≡ answer.NoMemory
 
 -- A request to a slot without a doubt is served, and answered at once, or by a ticket if it makes no change; or it fails, and nothing
 -- changes; or a call of the wire failed while the log was written, and the request makes a change: then the outcome of this change is

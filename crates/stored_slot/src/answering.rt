@@ -1,16 +1,14 @@
 //! What a slot answers to a request that changes nothing, or that fails.
-ghost use Rattle.std.specs.Prelude.{◌≡◌, All, IfOk, OnOk, true};
+ghost use Rattle.std.specs.Prelude.{◌≡◌, All, IfOk, true};
 ghost use Rattle.extent_seal.specs.Counting.{Grows};
-ghost use Rattle.extent_seal.specs.Heard.{AsksAreHeard};
 ghost use Rattle.stamp_types.specs.Replies.{denied};
 ghost use Rattle.stream_manager.specs.Streams.{laid};
 ghost use Rattle.partition_stream.specs.Contents.{bytes_at};
 ghost use Rattle.range_partition.specs.Decisions.{CanBeSent, reply_read};
 ghost use Rattle.tickets.specs.Answers.{IsAnswer, IsSpanStored};
 ghost use Rattle.stored_slot.specs.Served as served;
-ghost use Rattle.stored_slot.specs.Served.{Faulted, ReadsAnswer, answer_told};
+ghost use Rattle.stored_slot.specs.Served.{Faulted, IsFailed, ReadsAnswer};
 
-use crate::spare_replies::Unserved;
 use extent_node::Wire;
 use range_rows::FramedAnswer;
 use stamp_types::{Code, Refusal, Reply, Rule};
@@ -28,13 +26,11 @@ pub(crate) fn denial(alloc: Global, refusal: Refusal) -> Answer
     }
 }
 
-/// The reply to a request whose slot needs nodes that are out of reach.
-///
-/// `AllocError` if memory runs out.
-pub(crate) fn busy(alloc: Global) -> Result<Reply, AllocError>
-    ensures { IfOk result (λ reply. reply ≡ served.busy) }
+/// The answer to a request whose slot needs nodes that are out of reach.
+pub(crate) fn busy(alloc: Global) -> Answer
+    ensures { IsAnswer result true served.busy }
 {
-    Reply::denied(
+    denial(
         alloc,
         Refusal {
             rule: Rule::N1,
@@ -58,13 +54,13 @@ pub(crate) fn unknown(alloc: Global) -> Result<Reply, AllocError>
     )
 }
 
-/// What becomes of a request whose slot could not be settled or loaded.
-pub(crate) fn failed(fault: StoredFault) -> Result<Answer, Unserved>
-    ensures { result ≡ served.failed_by fault }
+/// The answer to a request whose slot could not be settled or loaded.
+pub(crate) fn failed(alloc: Global, fault: StoredFault) -> Answer
+    ensures { IsFailed result fault }
 {
     match fault {
-        StoredFault::Busy => Err(Unserved::Busy),
-        StoredFault::NoMemory => Ok(Answer::NoMemory),
+        StoredFault::Busy => busy(alloc),
+        StoredFault::NoMemory => Answer::NoMemory,
     }
 }
 
@@ -76,18 +72,17 @@ pub(crate) fn reading<W: Wire>(
     alloc: Global,
     answer: FramedAnswer,
     wire: &mut W,
-) -> Result<Answer, Unserved>
+) -> Answer
     requires stored { All (IsSpanStored (laid stored.old.streams.blobs)) answer.spans }
     requires sent { CanBeSent answer }
-    ensures read { ReadsAnswer (Faulted (W.faults wire.old) (W.faults wire.new)) (reply_read (bytes_at (laid stored.old.streams.blobs)) answer) (answer_told result) }
+    ensures read { ReadsAnswer (Faulted (W.faults wire.old) (W.faults wire.new)) (reply_read (bytes_at (laid stored.old.streams.blobs)) answer) result }
     ensures same { stored.new ≡ stored.old }
     ensures grown { Grows (W.faults wire.old) (W.faults wire.new) }
-    ensures heard { OnOk result (AsksAreHeard (W.calls wire.old) (W.calls wire.new) (W.faults wire.old) (W.faults wire.new)) }
 {
     let FramedAnswer { frame, spans } = answer;
     let gathers = stored.gathers_lists();
     match stored.answer(frame, spans.as_slice(), gathers, wire) {
-        Ok(answer) => Ok(answer),
-        Err(Unreachable) => Err(Unserved::Busy),
+        Ok(answer) => answer,
+        Err(Unreachable) => busy(alloc),
     }
 }

@@ -1,9 +1,8 @@
 //! Requests that are served with their entries of the audit book.
-ghost use Rattle.std.specs.Prelude.{◌≡◌, IfOk, IfSome, IsSome, OnOk, is_some, true};
+ghost use Rattle.std.specs.Prelude.{◌≡◌, IfOk, IfSome, IsSome, is_some, true};
 ghost use Rattle.std.specs.Arc.{arc_value};
 ghost use Rattle.std.specs.Option.{option_copied, option_map};
 ghost use Rattle.extent_seal.specs.Counting.{Grows};
-ghost use Rattle.extent_seal.specs.Heard.{AsksAreHeard};
 ghost use Rattle.stamp_values.specs.Operations.{names_container};
 ghost use Rattle.access_rules.specs.declared.judgement.Verdict.TheVariants.{Allow};
 ghost use Rattle.access_rules.specs.Rules.{verdict_of, way_of};
@@ -18,13 +17,11 @@ ghost use Rattle.stored_slot.specs.Audits as audits;
 ghost use Rattle.stored_slot.specs.Audits.{AuditsBy, SlotAudits};
 ghost use Rattle.stored_slot.specs.Entries as entries;
 ghost use Rattle.stored_slot.specs.Entries.{IsEntryBy, seen_at, seen_of};
-ghost use Rattle.stored_slot.specs.Heard.{HearsAnswer};
 ghost use Rattle.stored_slot.specs.Parts.{AreOfSlot, AreSettled, slot_of};
-ghost use Rattle.stored_slot.specs.Served.{Faulted, answer_told};
+ghost use Rattle.stored_slot.specs.Served.{Faulted};
 
 use crate::answering::failed;
 use crate::parts::SlotParts;
-use crate::spare_replies::{SpareReplies, Unserved};
 use crate::stored_slot::StoredSlot;
 use access_rules::{Keys, Way};
 use extent_node::Wire;
@@ -208,32 +205,14 @@ fn entry_if(
     }
 }
 
-// What became of a request, and its entry of the audit book.
-#[derive(Drop)]
-struct Booked {
-    served: Result<Answer, Unserved>,
-    entry: Option<Entry>,
-}
-
-// Whether a request that is answered so was let in.
-fn is_answer_let_in(answer: &Answer, has_doubt: bool) -> bool
+// Whether the request was let in. After a request on a slot without a doubt, a doubt is the change of this request.
+fn is_let_in(answer: &Answer, has_doubt: bool) -> bool
     ensures { result ≡ audits.is_let_in answer.now has_doubt }
 {
     match answer {
         Answer::Done(reply) => reply.rule.is_none() || has_doubt,
         Answer::Later(_ticket) => true,
         Answer::NoMemory => false,
-    }
-}
-
-// Whether the request was let in. After a request on a slot without a doubt, a doubt is the change of this request.
-#[tactic(auto, using(crate::proofs::HeardLemmas::unserved_in))]
-fn is_let_in(served: &Result<Answer, Unserved>, has_doubt: bool) -> bool
-    ensures { result ≡ audits.is_let_in (answer_told served.now) has_doubt }
-{
-    match served {
-        Ok(answer) => is_answer_let_in(answer, has_doubt),
-        Err(_unserved) => has_doubt,
     }
 }
 
@@ -269,7 +248,7 @@ impl<H: Histories> SlotParts<H> {
         reading: Reading,
         moment: Moment,
         wire: &mut W,
-    ) -> Booked
+    ) -> Audited
         requires before { AreSettled H.held self.old }
         requires loaded { self.old.stored.is_loaded ≡ true }
         requires covered { slots.covers (slot_of H.held self.old) (routed request.now) ≡ true }
@@ -277,48 +256,14 @@ impl<H: Histories> SlotParts<H> {
         requires read { reading ≡ reading_of request.now }
         ensures after { AreOfSlot H.held self.new }
         ensures served { AuditsBy (slot_of H.held self.old) request.now moment
-            (Faulted (W.faults wire.old) (W.faults wire.new)) (answer_told result.served) result.entry (slot_of H.held self.new) }
+            (Faulted (W.faults wire.old) (W.faults wire.new)) result.answer result.entry (slot_of H.held self.new) }
         ensures grown { Grows (W.faults wire.old) (W.faults wire.new) }
-        ensures heard { OnOk result.served (AsksAreHeard (W.calls wire.old) (W.calls wire.new) (W.faults wire.old) (W.faults wire.new)) }
     {
         let seen = self.see(alloc, request);
-        let served = self.serve_loaded(alloc, request, judged, reading, moment, wire);
-        let let_in = is_let_in(&served, self.has_doubt());
+        let answer = self.serve_loaded(alloc, request, judged, reading, moment, wire);
+        let let_in = is_let_in(&answer, self.has_doubt());
         let entry = entry_if(alloc, let_in, seen, request, judged, moment);
-        Booked { served, entry }
-    }
-
-    // Serves a request with its entry, unless nodes that are needed are out of reach.
-    fn audit_reached<W: Wire>(
-        &mut self,
-        alloc: Global,
-        request: &Request,
-        judged: Option<&Judged<'_>>,
-        reading: Reading,
-        moment: Moment,
-        wire: &mut W,
-    ) -> Booked
-        requires before { AreOfSlot H.held self.old }
-        requires covered { slots.covers (slot_of H.held self.old) (routed request.now) ≡ true }
-        requires judged { IsOfAsk (option_copied judged) request.now.ask }
-        requires read { reading ≡ reading_of request.now }
-        ensures after { AreOfSlot H.held self.new }
-        ensures served { SlotAudits (slot_of H.held self.old) request.now moment
-            (Faulted (W.faults wire.old) (W.faults wire.new)) (answer_told result.served) result.entry (slot_of H.held self.new) }
-        ensures grown { Grows (W.faults wire.old) (W.faults wire.new) }
-        ensures heard { OnOk result.served (AsksAreHeard (W.calls wire.old) (W.calls wire.new) (W.faults wire.old) (W.faults wire.new)) }
-    {
-        match self.load(alloc, wire) {
-            Ok(()) => self.audit_loaded(alloc, request, judged, reading, moment, wire),
-            Err(fault) => {
-                drop(reading);
-                let served = failed(fault);
-                Booked {
-                    served,
-                    entry: None,
-                }
-            }
-        }
+        Audited { answer, entry }
     }
 
     // One step of the model, as `serve` makes it, with the entry of the request.
@@ -339,19 +284,14 @@ impl<H: Histories> SlotParts<H> {
         ensures served { SlotAudits (slot_of H.held self.old) request.now moment
             (Faulted (W.faults wire.old) (W.faults wire.new)) result.answer result.entry (slot_of H.held self.new) }
         ensures grown { Grows (W.faults wire.old) (W.faults wire.new) }
-        ensures heard { HearsAnswer result.answer (W.calls wire.old) (W.calls wire.new) (W.faults wire.old) (W.faults wire.new) }
     {
-        match SpareReplies::take_or_make(&mut self.spare, alloc) {
-            Ok(spare) => {
-                let booked = self.audit_reached(alloc, request, judged, reading, moment, wire);
-                let Booked { served, entry } = booked;
-                let answer = spare.answer(served, &mut self.spare);
-                Audited { answer, entry }
-            }
-            Err(AllocError) => {
+        match self.load(alloc, wire) {
+            Ok(()) => self.audit_loaded(alloc, request, judged, reading, moment, wire),
+            Err(fault) => {
                 drop(reading);
+                let answer = failed(alloc, fault);
                 Audited {
-                    answer: Answer::NoMemory,
+                    answer,
                     entry: None,
                 }
             }
@@ -380,7 +320,6 @@ impl<H: Histories> StoredSlot<H> {
         requires covered { slots.covers self.old (routed request.now) ≡ true }
         ensures served { SlotAudits self.old request.now moment (Faulted (W.faults wire.old) (W.faults wire.new)) result.answer result.entry self.new }
         ensures grown { Grows (W.faults wire.old) (W.faults wire.new) }
-        ensures heard { HearsAnswer result.answer (W.calls wire.old) (W.calls wire.new) (W.faults wire.old) (W.faults wire.new) }
     {
         self.parts
             .audit(alloc, request, judged, reading, moment, wire)

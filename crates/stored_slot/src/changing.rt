@@ -1,15 +1,13 @@
 //! Changes of a slot, each with its entry.
-ghost use Rattle.std.specs.Prelude.{◌≡◌, ◌≢◌, [], IfSome, IsTrue, None, OnErr, OnOk, false, is_some, true};
+ghost use Rattle.std.specs.Prelude.{◌≡◌, ◌≢◌, [], IfSome, IsTrue, None, OnErr, OnOk, false, true};
 ghost use Rattle.stamp_types.specs.ActKinds.{is_row};
 ghost use Rattle.stamp_types.specs.Changes.{content_of};
 ghost use Rattle.stamp_types.specs.Pieces.{is_held, pieces_len};
 ghost use Rattle.stamp_types.specs.World.{part_value};
 ghost use Rattle.row_trees.specs.Fits.{fits};
 ghost use Rattle.stored_rows.specs.Counting.{FailsTake};
-ghost use Rattle.stored_rows.specs.Heard.{HearsTake};
 ghost use Rattle.stored_rows.specs.Ranges.{covers};
 ghost use Rattle.stored_rows.specs.States.{AreFoundIn, IsTaken, doubt_of, pieces_of};
-ghost use Rattle.stored_rows.specs.UnderWay.{sweep_after};
 ghost use Rattle.slot_state.specs.HistoryMaps.{history_at, without_last};
 ghost use Rattle.stored_slot.specs.Changes as changes;
 ghost use Rattle.stored_slot.specs.Changes.{slot_taken};
@@ -49,9 +47,7 @@ fn take_or_take_back<H: Histories, W: Wire>(
     ensures taken { IsTaken result stored.old (change, entry.now.epoch) stored.new }
     ensures stays { OnOk result (H.held histories.new ≡ H.held histories.old) }
     ensures back { OnErr result (H.held histories.new ≡ without_last (H.held histories.old) entry.now.request.ask.key) }
-    ensures swept { stored.new.sweep ≡ sweep_after stored.old change }
     ensures counted { FailsTake result (W.faults wire.old) (W.faults wire.new) }
-    ensures heard { HearsTake result (W.calls wire.old) (W.calls wire.new) (W.faults wire.old) (W.faults wire.new) }
 {
     let taken = stored.take(change, found, entry.epoch, wire);
     if taken.is_err() {
@@ -61,7 +57,7 @@ fn take_or_take_back<H: Histories, W: Wire>(
 }
 
 // Pushes the entry and takes its change: both, or neither. The entry is pushed first, so nothing can fail after the change is logged.
-#[tactic(auto, using(slot_state::proofs::MapLemmas::has_entry, stored_rows::proofs::CountLemmas::grows_not, extent_seal::proofs::HeardLemmas::heard_none))]
+#[tactic(auto, using(slot_state::proofs::MapLemmas::has_entry, stored_rows::proofs::CountLemmas::grows_not))]
 fn take_entry<H: Histories, W: Wire>(
     histories: &mut H,
     stored: &mut StoredRows,
@@ -79,9 +75,7 @@ fn take_entry<H: Histories, W: Wire>(
     requires sure { doubt_of stored.old ≡ None }
     ensures taken { IsTaken result stored.old (change, entry.now.epoch) stored.new }
     ensures entered { H.held histories.new ≡ changes.with_taken result (H.held histories.old) entry.now }
-    ensures swept { OnOk result (stored.new.sweep ≡ sweep_after stored.old change) }
     ensures counted { FailsTake result (W.faults wire.old) (W.faults wire.new) }
-    ensures heard { HearsTake result (W.calls wire.old) (W.calls wire.new) (W.faults wire.old) (W.faults wire.new) }
 {
     match histories.push(alloc, entry) {
         Ok(()) => take_or_take_back(histories, stored, entry, change, found, wire),
@@ -122,9 +116,7 @@ impl<H: Histories> SlotParts<H> {
         requires found { IfSome found (λ f. AreFoundIn self.old.stored change f.blocks) }
         ensures after { AreOfSlot H.held self.new }
         ensures taken { slot_of H.held self.new ≡ slot_taken result (slot_of H.held self.old) entry }
-        ensures swept { OnOk result (self.new.stored.sweep ≡ sweep_after self.old.stored change) }
         ensures counted { FailsTake result (W.faults wire.old) (W.faults wire.new) }
-        ensures heard { HearsTake result (W.calls wire.old) (W.calls wire.new) (W.faults wire.old) (W.faults wire.new) }
     {
         self.stored.kept();
         let taken = take_entry(
@@ -156,9 +148,7 @@ impl<H: Histories> SlotParts<H> {
         requires found { AreFoundIn self.old.stored made.change made.found.blocks }
         ensures after { AreOfSlot H.held self.new }
         ensures taken { slot_of H.held self.new ≡ slot_taken result (slot_of H.held self.old) entry }
-        ensures swept { OnOk result (self.old.stored.is_loaded ≡ true → is_some self.new.stored.sweep ≡ is_some self.old.stored.sweep) }
         ensures counted { FailsTake result (W.faults wire.old) (W.faults wire.new) }
-        ensures heard { HearsTake result (W.calls wire.old) (W.calls wire.new) (W.faults wire.old) (W.faults wire.new) }
     {
         let FoundChange { change, found } = made;
         match make_way(&mut self.stored, &change, found, wire) {

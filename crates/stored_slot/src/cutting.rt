@@ -4,7 +4,6 @@ ghost use Rattle.std.specs.Arc.{arc_value};
 ghost use Rattle.std.specs.FinMap as finite;
 ghost use Rattle.stamp_values.specs.Trees.{is_below, is_from};
 ghost use Rattle.stored_rows.specs.Counting.{FailsStored};
-ghost use Rattle.stored_rows.specs.Heard.{HearsStored};
 ghost use Rattle.stored_rows.specs.Ranges.{covers};
 ghost use Rattle.stored_rows.specs.States.{doubt_of};
 ghost use Rattle.stored_slot.specs.Meanings.{AreOfStreams, AreReplays, slot_with};
@@ -65,7 +64,6 @@ fn cut_with<H: Histories, W: Wire>(
     ensures cut { Cuts result (slot_with (arc_value halves.pairs) (H.held histories.old) stored.old None) middle.now
         (slot_with (arc_value halves.pairs) (H.held histories.new) stored.new None) }
     ensures counted { FailsStored result (W.faults wire.old) (W.faults wire.new) }
-    ensures heard { HearsStored result (W.calls wire.old) (W.calls wire.new) (W.faults wire.old) (W.faults wire.new) }
 {
     match stored.cut(middle, wire) {
         Ok(upper) => {
@@ -80,7 +78,7 @@ fn cut_with<H: Histories, W: Wire>(
                 stored: upper,
                 pairs,
                 doubt: None,
-                spare: None,
+                unknown: None,
             };
             Ok(StoredSlot { parts })
         }
@@ -93,7 +91,6 @@ fn cut_with<H: Histories, W: Wire>(
 
 impl<H: Histories> SlotParts<H> {
     // Cuts a slot without a doubt.
-    #[tactic(auto, using(extent_seal::proofs::HeardLemmas::heard_none))]
     fn cut_settled<W: Wire>(
         &mut self,
         alloc: Global,
@@ -106,7 +103,6 @@ impl<H: Histories> SlotParts<H> {
         ensures after { AreOfSlot H.held self.new }
         ensures cut { Cuts result (slot_of H.held self.old) middle.now (slot_of H.held self.new) }
         ensures counted { FailsStored result (W.faults wire.old) (W.faults wire.new) }
-        ensures heard { HearsStored result (W.calls wire.old) (W.calls wire.new) (W.faults wire.old) (W.faults wire.new) }
     {
         match make_halves(&self.histories, &self.pairs, alloc, middle) {
             Ok(halves) => cut_with(&mut self.histories, &mut self.stored, halves, middle, wire),
@@ -126,7 +122,6 @@ impl<H: Histories> SlotParts<H> {
         ensures after { AreOfSlot H.held self.new }
         ensures cut { CutsSettled result (slot_of H.held self.old) middle.now (slot_of H.held self.new) }
         ensures counted { FailsStored result (W.faults wire.old) (W.faults wire.new) }
-        ensures heard { HearsStored result (W.calls wire.old) (W.calls wire.new) (W.faults wire.old) (W.faults wire.new) }
     {
         match self.clear(alloc, wire) {
             Ok(()) => self.cut_settled(alloc, middle, wire),

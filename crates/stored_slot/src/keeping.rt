@@ -4,9 +4,7 @@ ghost use Rattle.partition_stream.specs.Repairs.{stream_of};
 ghost use Rattle.partition_stream.specs.Streams.{AreSealed, logged};
 ghost use Rattle.stream_manager.specs.declared.faults.RepairFault.TheVariants.{NoSuchExtent};
 ghost use Rattle.stored_rows.specs.Counting.{FailsStored};
-ghost use Rattle.stored_rows.specs.Heard.{HearsStored};
 ghost use Rattle.stored_rows.specs.Repairs.{FailsRepair, HasCopyOn, IsRepairOf, unnamed};
-ghost use Rattle.stored_slot.specs.Heard.{HearsRepair};
 ghost use Rattle.stored_slot.specs.Parts.{AreOfSlot, slot_of};
 ghost use Rattle.stored_slot.specs.Settled.{LeavesRepaired, LeavesSettled, repair_fault_of};
 
@@ -34,9 +32,7 @@ impl<H: Histories> SlotParts<H> {
         ensures after { AreOfSlot H.held self.new }
         ensures left { LeavesSettled result (slot_of H.held self.old) (slot_of H.held self.new) }
         ensures loaded { OnOk result (self.new.stored.is_loaded ≡ true) }
-        ensures swept { self.new.stored.sweep ≡ self.old.stored.sweep }
         ensures counted { FailsStored result (W.faults wire.old) (W.faults wire.new) }
-        ensures heard { HearsStored result (W.calls wire.old) (W.calls wire.new) (W.faults wire.old) (W.faults wire.new) }
     {
         match self.settle(alloc, wire) {
             Ok(()) => self.stored.load(wire),
@@ -55,7 +51,6 @@ impl<H: Histories> SlotParts<H> {
         ensures left { LeavesSettled result (slot_of H.held self.old) (slot_of H.held self.new) }
         ensures sealed { OnOk result (AreSealed self.new.stored.streams) }
         ensures counted { FailsStored result (W.faults wire.old) (W.faults wire.new) }
-        ensures heard { HearsStored result (W.calls wire.old) (W.calls wire.new) (W.faults wire.old) (W.faults wire.new) }
     {
         match self.clear(alloc, wire) {
             Ok(()) => self.stored.seal(wire),
@@ -75,7 +70,6 @@ impl<H: Histories> SlotParts<H> {
         ensures left { LeavesSettled result (slot_of H.held self.old) (slot_of H.held self.new) }
         ensures emptied { OnOk result ((logged self.new.stored.streams).log ≡ []) }
         ensures counted { FailsStored result (W.faults wire.old) (W.faults wire.new) }
-        ensures heard { HearsStored result (W.calls wire.old) (W.calls wire.new) (W.faults wire.old) (W.faults wire.new) }
     {
         match self.load_clear(alloc, wire) {
             Ok(()) => self.stored.checkpoint(wire),
@@ -101,7 +95,6 @@ impl<H: Histories> SlotParts<H> {
         ensures copied { OnOk result (HasCopyOn node extent (stream_of part self.new.stored.streams)) }
         ensures refused { unnamed result ≡ Err NoSuchExtent → length (stream_of part self.new.stored.streams).sealed ≤ extent }
         ensures counted { FailsRepair (unnamed result) (W.faults wire.old) (W.faults wire.new) }
-        ensures heard { HearsRepair (unnamed result) (W.calls wire.old) (W.calls wire.new) (W.faults wire.old) (W.faults wire.new) }
     {
         match self.settle(alloc, wire) {
             Ok(()) => self.stored.repair(part, extent, node, wire),

@@ -13,10 +13,10 @@ mod parts;
 mod rotating;
 mod serving;
 mod settling;
-mod spare_replies;
 mod steady;
 mod stored_slot;
 mod sweeping;
+mod unknown_reply;
 
 pub use auditing::Audited;
 pub use laws::{

@@ -1,6 +1,6 @@
 //! The parts of a slot.
 
-use crate::spare_replies::SpareReplies;
+use crate::unknown_reply::UnknownReply;
 use slot_state::{AccountPairs, Histories};
 use stamp_types::Past;
 use std::sync::Arc;
@@ -15,6 +15,6 @@ pub(crate) struct SlotParts<H: Histories> {
     pub(crate) pairs: Arc<AccountPairs>,
     // The change that is in doubt, with the moment and the epoch at which it was served.
     pub(crate) doubt: Option<Past>,
-    // The replies to the next request that is not served since nodes are out of reach, if they were made for an earlier request.
-    pub(crate) spare: Option<SpareReplies>,
+    // The reply to the next change whose outcome is unknown, if it was made for an earlier change that did not need it.
+    pub(crate) unknown: Option<UnknownReply>,
 }

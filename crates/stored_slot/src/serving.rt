@@ -1,24 +1,22 @@
 //! One request on a slot.
-ghost use Rattle.std.specs.Prelude.{◌≡◌, IfOk, OnOk, true};
+ghost use Rattle.std.specs.Prelude.{◌≡◌, IfOk, true};
 ghost use Rattle.std.specs.Arc.{arc_value};
 ghost use Rattle.std.specs.Option.{option_copied};
 ghost use Rattle.extent_seal.specs.Counting.{Grows};
-ghost use Rattle.extent_seal.specs.Heard.{AsksAreHeard};
 ghost use Rattle.policy_book.specs.Judgements.{IsOfAsk};
 ghost use Rattle.range_rows.specs.Readings.{reading_of};
 ghost use Rattle.stamp_model.specs.SeenContainers.{routed};
 ghost use Rattle.stored_rows.specs.States.{AreFoundIn};
 ghost use Rattle.slot_state.specs.Slots as slots;
 ghost use Rattle.slot_state.specs.Slots.{entry_of};
-ghost use Rattle.stored_slot.specs.Heard.{HearsAnswer};
 ghost use Rattle.stored_slot.specs.Parts.{AreOfSlot, AreSettled, DecidesOn, IsReplyOf, MakesChangeOf, slot_of};
-ghost use Rattle.stored_slot.specs.Served.{Faulted, ServesUnrefused, SlotServes, answered_by, answer_told};
+ghost use Rattle.stored_slot.specs.Served.{Faulted, IsTakenAnswer, ServesUnrefused, SlotServes};
 
-use crate::answering::{denial, failed, reading};
+use crate::answering::{busy, denial, failed, reading};
 use crate::changing::FoundChange;
 use crate::deciding::WeighedDecision;
 use crate::parts::SlotParts;
-use crate::spare_replies::{SpareReplies, Unserved};
+use crate::unknown_reply::UnknownReply;
 use extent_node::Wire;
 use policy_book::Judged;
 use range_partition::FramedDecision;
@@ -29,23 +27,43 @@ use std::alloc::{AllocError, Global};
 use stored_rows::{ChangeWeight, FoundForChange, TakeFault};
 use tickets::Answer;
 
-// What becomes of a request whose change was taken, is in doubt, or is neither.
-fn taken_answer(taken: Result<(), TakeFault>, frame: Reply) -> Result<Answer, Unserved>
-    ensures { result ≡ answered_by taken frame }
+// All that a change needs before anything is put: its entry, and the reply if the outcome is unknown. After the first put, lack of memory would
+// hide a doubt.
+#[derive(Drop)]
+struct Ready {
+    entry: Past,
+    unknown: UnknownReply,
+}
+
+// The answer to a request whose change was taken, is in doubt, or is neither. The slot keeps the reply to an unknown outcome, unless it is
+// the answer.
+fn taken_answer(
+    alloc: Global,
+    taken: Result<(), TakeFault>,
+    frame: Reply,
+    unknown: UnknownReply,
+    kept: &mut Option<UnknownReply>,
+) -> Answer
+    ensures { IsTakenAnswer taken frame result }
 {
     match taken {
-        Ok(()) => Ok(Answer::Done(frame)),
+        Ok(()) => {
+            unknown.keep(kept);
+            Answer::Done(frame)
+        }
         Err(TakeFault::Doubt) => {
             drop(frame);
-            Err(Unserved::Unknown)
+            Answer::Done(unknown.reply())
         }
         Err(TakeFault::Busy) => {
+            unknown.keep(kept);
             drop(frame);
-            Err(Unserved::Busy)
+            busy(alloc)
         }
         Err(TakeFault::NoMemory) => {
+            unknown.keep(kept);
             drop(frame);
-            Ok(Answer::NoMemory)
+            Answer::NoMemory
         }
     }
 }
@@ -63,33 +81,52 @@ fn entry_now(pairs: &AccountPairs, request: &Request, moment: Moment) -> Result<
     })
 }
 
+// All that a change needs before anything is put. The reply to an unknown outcome is the one that the slot keeps, if it keeps one.
+fn make_ready(
+    pairs: &AccountPairs,
+    kept: &mut Option<UnknownReply>,
+    alloc: Global,
+    request: &Request,
+    moment: Moment,
+) -> Result<Ready, AllocError>
+    ensures { IfOk result (λ ready. ready.entry ≡ entry_of pairs.now request.now moment) }
+{
+    let entry = entry_now(pairs, request, moment)?;
+    match UnknownReply::take_or_make(kept, alloc) {
+        Ok(unknown) => Ok(Ready { entry, unknown }),
+        Err(fault) => {
+            drop(entry);
+            Err(fault)
+        }
+    }
+}
+
 impl<H: Histories> SlotParts<H> {
-    // Makes the change of a request that is served now.
+    // Makes the change of a request that is served now, and answers it.
     fn answer_change<W: Wire>(
         &mut self,
         alloc: Global,
-        entry: Past,
+        ready: Ready,
         frame: Reply,
         made: FoundChange,
         wire: &mut W,
-    ) -> Result<Answer, Unserved>
+    ) -> Answer
         requires before { AreSettled H.held self.old }
-        requires makes { MakesChangeOf H.held self.old entry made.change }
+        requires makes { MakesChangeOf H.held self.old ready.entry made.change }
         requires found { AreFoundIn self.old.stored made.change made.found.blocks }
-        requires entry { entry ≡ entry_of (arc_value self.old.pairs) entry.request entry.moment }
-        requires reply { IsReplyOf H.held self.old entry.request entry.moment frame }
+        requires entry { ready.entry ≡ entry_of (arc_value self.old.pairs) ready.entry.request ready.entry.moment }
+        requires reply { IsReplyOf H.held self.old ready.entry.request ready.entry.moment frame }
         ensures after { AreOfSlot H.held self.new }
-        ensures served { ServesUnrefused (slot_of H.held self.old) entry.request entry.moment
-            (Faulted (W.faults wire.old) (W.faults wire.new)) (answer_told result) (slot_of H.held self.new) }
+        ensures served { ServesUnrefused (slot_of H.held self.old) ready.entry.request ready.entry.moment
+            (Faulted (W.faults wire.old) (W.faults wire.new)) result (slot_of H.held self.new) }
         ensures grown { Grows (W.faults wire.old) (W.faults wire.new) }
-        ensures heard { OnOk result (AsksAreHeard (W.calls wire.old) (W.calls wire.new) (W.faults wire.old) (W.faults wire.new)) }
     {
+        let Ready { entry, unknown } = ready;
         let taken = self.change(alloc, entry, made, wire);
-        taken_answer(taken, frame)
+        taken_answer(alloc, taken, frame, unknown, &mut self.unknown)
     }
 
     // Serves a request that makes this change, with this reply.
-    #[tactic(auto, using(extent_seal::proofs::HeardLemmas::heard_none))]
     fn serve_change<W: Wire>(
         &mut self,
         alloc: Global,
@@ -98,29 +135,27 @@ impl<H: Histories> SlotParts<H> {
         frame: Reply,
         made: FoundChange,
         wire: &mut W,
-    ) -> Result<Answer, Unserved>
+    ) -> Answer
         requires before { AreSettled H.held self.old }
         requires makes { MakesChangeOf H.held self.old (entry_of (arc_value self.old.pairs) request.now moment) made.change }
         requires found { AreFoundIn self.old.stored made.change made.found.blocks }
         requires reply { IsReplyOf H.held self.old request.now moment frame }
         ensures after { AreOfSlot H.held self.new }
         ensures served { ServesUnrefused (slot_of H.held self.old) request.now moment
-            (Faulted (W.faults wire.old) (W.faults wire.new)) (answer_told result) (slot_of H.held self.new) }
+            (Faulted (W.faults wire.old) (W.faults wire.new)) result (slot_of H.held self.new) }
         ensures grown { Grows (W.faults wire.old) (W.faults wire.new) }
-        ensures heard { OnOk result (AsksAreHeard (W.calls wire.old) (W.calls wire.new) (W.faults wire.old) (W.faults wire.new)) }
     {
-        match entry_now(&self.pairs, request, moment) {
-            Ok(entry) => self.answer_change(alloc, entry, frame, made, wire),
+        match make_ready(&self.pairs, &mut self.unknown, alloc, request, moment) {
+            Ok(ready) => self.answer_change(alloc, ready, frame, made, wire),
             Err(AllocError) => {
                 drop(made);
                 drop(frame);
-                Ok(Answer::NoMemory)
+                Answer::NoMemory
             }
         }
     }
 
     // Writes the reply of a request that makes this change, and serves the request.
-    #[tactic(auto, using(extent_seal::proofs::HeardLemmas::heard_none))]
     fn serve_written<W: Wire>(
         &mut self,
         alloc: Global,
@@ -129,16 +164,15 @@ impl<H: Histories> SlotParts<H> {
         answer: FramedAnswer,
         made: FoundChange,
         wire: &mut W,
-    ) -> Result<Answer, Unserved>
+    ) -> Answer
         requires before { AreSettled H.held self.old }
         requires makes { MakesChangeOf H.held self.old (entry_of (arc_value self.old.pairs) request.now moment) made.change }
         requires found { AreFoundIn self.old.stored made.change made.found.blocks }
         requires reply { IsReplyOf H.held self.old request.now moment answer.frame }
         ensures after { AreOfSlot H.held self.new }
         ensures served { ServesUnrefused (slot_of H.held self.old) request.now moment
-            (Faulted (W.faults wire.old) (W.faults wire.new)) (answer_told result) (slot_of H.held self.new) }
+            (Faulted (W.faults wire.old) (W.faults wire.new)) result (slot_of H.held self.new) }
         ensures grown { Grows (W.faults wire.old) (W.faults wire.new) }
-        ensures heard { OnOk result (AsksAreHeard (W.calls wire.old) (W.calls wire.new) (W.faults wire.old) (W.faults wire.new)) }
     {
         let FramedAnswer { frame, spans } = answer;
         drop(spans);
@@ -146,13 +180,12 @@ impl<H: Histories> SlotParts<H> {
             Ok(frame) => self.serve_change(alloc, request, moment, frame, made, wire),
             Err(AllocError) => {
                 drop(made);
-                Ok(Answer::NoMemory)
+                Answer::NoMemory
             }
         }
     }
 
     // Serves a request on which this was decided. The weight is that of its change.
-    #[tactic(auto, using(extent_seal::proofs::HeardLemmas::heard_none))]
     fn serve_decided<W: Wire>(
         &mut self,
         alloc: Global,
@@ -161,17 +194,16 @@ impl<H: Histories> SlotParts<H> {
         decision: FramedDecision,
         weight: ChangeWeight,
         wire: &mut W,
-    ) -> Result<Answer, Unserved>
+    ) -> Answer
         requires before { AreSettled H.held self.old }
         requires decided { DecidesOn H.held self.old request.now moment decision }
         ensures after { AreOfSlot H.held self.new }
         ensures served { ServesUnrefused (slot_of H.held self.old) request.now moment
-            (Faulted (W.faults wire.old) (W.faults wire.new)) (answer_told result) (slot_of H.held self.new) }
+            (Faulted (W.faults wire.old) (W.faults wire.new)) result (slot_of H.held self.new) }
         ensures grown { Grows (W.faults wire.old) (W.faults wire.new) }
-        ensures heard { OnOk result (AsksAreHeard (W.calls wire.old) (W.calls wire.new) (W.faults wire.old) (W.faults wire.new)) }
     {
         match decision {
-            FramedDecision::Refused(refusal) => Ok(denial(alloc, refusal)),
+            FramedDecision::Refused(refusal) => denial(alloc, refusal),
             FramedDecision::Allowed(answer, change, blocks) => match change {
                 None => {
                     drop(blocks);
@@ -189,8 +221,7 @@ impl<H: Histories> SlotParts<H> {
     /// Serves a request on a slot without a doubt, whose rows are loaded.
     ///
     /// The reply of a change is made before anything is put. A change that is not counted leaves nothing; a change whose outcome is unknown is
-    /// the slot's doubt. The answer is NoMemory if memory runs out; then no change was made, and nodes that were needed did answer.
-    #[tactic(auto, using(extent_seal::proofs::HeardLemmas::heard_none))]
+    /// the slot's doubt, and its request is answered N2. The answer is NoMemory if memory runs out; then no change was made.
     pub(crate) fn serve_loaded<W: Wire>(
         &mut self,
         alloc: Global,
@@ -199,7 +230,7 @@ impl<H: Histories> SlotParts<H> {
         reading: Reading,
         moment: Moment,
         wire: &mut W,
-    ) -> Result<Answer, Unserved>
+    ) -> Answer
         requires before { AreSettled H.held self.old }
         requires loaded { self.old.stored.is_loaded ≡ true }
         requires covered { slots.covers (slot_of H.held self.old) (routed request.now) ≡ true }
@@ -207,52 +238,19 @@ impl<H: Histories> SlotParts<H> {
         requires read { reading ≡ reading_of request.now }
         ensures after { AreOfSlot H.held self.new }
         ensures served { ServesUnrefused (slot_of H.held self.old) request.now moment
-            (Faulted (W.faults wire.old) (W.faults wire.new)) (answer_told result) (slot_of H.held self.new) }
+            (Faulted (W.faults wire.old) (W.faults wire.new)) result (slot_of H.held self.new) }
         ensures grown { Grows (W.faults wire.old) (W.faults wire.new) }
-        ensures heard { OnOk result (AsksAreHeard (W.calls wire.old) (W.calls wire.new) (W.faults wire.old) (W.faults wire.new)) }
     {
         match self.decide(alloc, request, judged, reading, moment) {
             Ok(WeighedDecision { decision, weight }) => {
                 self.serve_decided(alloc, request, moment, decision, weight, wire)
             }
-            Err(AllocError) => Ok(Answer::NoMemory),
+            Err(AllocError) => Answer::NoMemory,
         }
     }
 
-    // Serves a request, unless nodes that are needed are out of reach. First the slot settles its doubt, if it has one, and loads its rows, if they
-    // are not loaded.
-    fn serve_reached<W: Wire>(
-        &mut self,
-        alloc: Global,
-        request: &Request,
-        judged: Option<&Judged<'_>>,
-        reading: Reading,
-        moment: Moment,
-        wire: &mut W,
-    ) -> Result<Answer, Unserved>
-        requires before { AreOfSlot H.held self.old }
-        requires covered { slots.covers (slot_of H.held self.old) (routed request.now) ≡ true }
-        requires judged { IsOfAsk (option_copied judged) request.now.ask }
-        requires read { reading ≡ reading_of request.now }
-        ensures after { AreOfSlot H.held self.new }
-        ensures served { SlotServes (slot_of H.held self.old) request.now moment
-            (Faulted (W.faults wire.old) (W.faults wire.new)) (answer_told result) (slot_of H.held self.new) }
-        ensures grown { Grows (W.faults wire.old) (W.faults wire.new) }
-        ensures heard { OnOk result (AsksAreHeard (W.calls wire.old) (W.calls wire.new) (W.faults wire.old) (W.faults wire.new)) }
-    {
-        match self.load(alloc, wire) {
-            Ok(()) => self.serve_loaded(alloc, request, judged, reading, moment, wire),
-            Err(fault) => {
-                drop(reading);
-                failed(fault)
-            }
-        }
-    }
-
-    /// One step of the model on a slot that streams keep. If the settle of a doubt or the load of the rows fails, the request fails, and nothing
-    /// of the slot is served.
-    ///
-    /// The replies of N1 and of N2 are there before a node is called. If memory runs out for them, no node is called.
+    /// One step of the model on a slot that streams keep. First the slot settles its doubt, if it has one, and loads its rows, if they are not
+    /// loaded. If the settle or the load fails, the request fails, and nothing of the slot is served.
     pub(crate) fn serve<W: Wire>(
         &mut self,
         alloc: Global,
@@ -270,16 +268,12 @@ impl<H: Histories> SlotParts<H> {
         ensures served { SlotServes (slot_of H.held self.old) request.now moment
             (Faulted (W.faults wire.old) (W.faults wire.new)) result (slot_of H.held self.new) }
         ensures grown { Grows (W.faults wire.old) (W.faults wire.new) }
-        ensures heard { HearsAnswer result (W.calls wire.old) (W.calls wire.new) (W.faults wire.old) (W.faults wire.new) }
     {
-        match SpareReplies::take_or_make(&mut self.spare, alloc) {
-            Ok(spare) => {
-                let served = self.serve_reached(alloc, request, judged, reading, moment, wire);
-                spare.answer(served, &mut self.spare)
-            }
-            Err(AllocError) => {
+        match self.load(alloc, wire) {
+            Ok(()) => self.serve_loaded(alloc, request, judged, reading, moment, wire),
+            Err(fault) => {
                 drop(reading);
-                Answer::NoMemory
+                failed(alloc, fault)
             }
         }
     }

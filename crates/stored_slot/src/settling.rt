@@ -1,7 +1,6 @@
 //! How a change of a slot that is in doubt ends.
 ghost use Rattle.std.specs.Prelude.{◌≡◌, ◌≢◌, [], IsSome};
 ghost use Rattle.stored_rows.specs.Counting.{FailsStored};
-ghost use Rattle.stored_rows.specs.Heard.{HearsStored};
 ghost use Rattle.stored_rows.specs.States.{SettlesRows, own_doubt_of};
 ghost use Rattle.slot_state.specs.HistoryMaps.{history_at};
 ghost use Rattle.stored_slot.specs.Parts.{AreOfSlot, slot_of};
@@ -33,9 +32,7 @@ fn settle_or_take_back<H: Histories, W: Wire>(
     ensures settled { SettlesRows result stored.old stored.new }
     ensures left { H.held histories.new ≡ settled.pushed_left (settled.keeps_change result) (H.held histories.old) entry.now.request.ask.key }
     ensures data { stored.new.streams.blobs ≡ stored.old.streams.blobs }
-    ensures swept { stored.new.sweep ≡ stored.old.sweep }
     ensures counted { FailsStored result (W.faults wire.old) (W.faults wire.new) }
-    ensures heard { HearsStored result (W.calls wire.old) (W.calls wire.new) (W.faults wire.old) (W.faults wire.new) }
 {
     let ended = stored.settle(wire);
     if !is_kept(&ended) {
@@ -46,7 +43,7 @@ fn settle_or_take_back<H: Histories, W: Wire>(
 
 // Settles the change of an entry, which is in doubt. The entry is pushed first, and is taken back unless the change is kept: so memory
 // cannot run out for a change that is kept.
-#[tactic(auto, using(slot_state::proofs::MapLemmas::has_entry, stored_rows::proofs::CountLemmas::grows_not, extent_seal::proofs::HeardLemmas::heard_none))]
+#[tactic(auto, using(slot_state::proofs::MapLemmas::has_entry, stored_rows::proofs::CountLemmas::grows_not))]
 fn settle_entry<H: Histories, W: Wire>(
     histories: &mut H,
     stored: &mut StoredRows,
@@ -58,9 +55,7 @@ fn settle_entry<H: Histories, W: Wire>(
     ensures settled { SettlesRows result stored.old stored.new }
     ensures entries { H.held histories.new ≡ settled.follows result (H.held histories.old) entry.now }
     ensures data { stored.new.streams.blobs ≡ stored.old.streams.blobs }
-    ensures swept { stored.new.sweep ≡ stored.old.sweep }
     ensures counted { FailsStored result (W.faults wire.old) (W.faults wire.new) }
-    ensures heard { HearsStored result (W.calls wire.old) (W.calls wire.new) (W.faults wire.old) (W.faults wire.new) }
 {
     match histories.push(alloc, entry) {
         Ok(()) => settle_or_take_back(histories, stored, entry, wire),
@@ -73,14 +68,11 @@ impl<H: Histories> SlotParts<H> {
     /// is dropped.
     ///
     /// After a fault nothing is changed, and the doubt is as it was. Busy: nodes that were needed did not answer.
-    #[tactic(auto, using(extent_seal::proofs::HeardLemmas::heard_none))]
     pub(crate) fn settle<W: Wire>(&mut self, alloc: Global, wire: &mut W) -> Result<(), StoredFault>
         requires before { AreOfSlot H.held self.old }
         ensures after { AreOfSlot H.held self.new }
         ensures settled { SettlesOrFails result (slot_of H.held self.old) (slot_of H.held self.new) }
-        ensures swept { self.new.stored.sweep ≡ self.old.stored.sweep }
         ensures counted { FailsStored result (W.faults wire.old) (W.faults wire.new) }
-        ensures heard { HearsStored result (W.calls wire.old) (W.calls wire.new) (W.faults wire.old) (W.faults wire.new) }
     {
         match self.doubt.take() {
             None => Ok(()),

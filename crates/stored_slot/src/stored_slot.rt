@@ -10,12 +10,10 @@ ghost use Rattle.stamp_types.specs.World.{no_part};
 ghost use Rattle.stamp_values.specs.declared.key.Key.{Key};
 ghost use Rattle.stamp_model.specs.SeenContainers.{routed};
 ghost use Rattle.stored_rows.specs.Counting.{FailsStored};
-ghost use Rattle.stored_rows.specs.Heard.{HearsStored};
 ghost use Rattle.stored_rows.specs.Repairs.{FailsRepair, IsRepairOf, unnamed};
 ghost use Rattle.stored_rows.specs.States.{doubt_of, pieces_of};
 ghost use Rattle.slot_state.specs.Slots as slots;
 ghost use Rattle.tickets.specs.declared.answer.Answer.TheVariants as answer;
-ghost use Rattle.stored_slot.specs.Heard.{HearsAnswer, HearsRepair};
 ghost use Rattle.stored_slot.specs.Meanings.{slot_with};
 ghost use Rattle.stored_slot.specs.Served.{Faulted, SlotServes};
 ghost use Rattle.stored_slot.specs.Settled.{CutsSettled, LeavesRepaired, LeavesSettled, SettlesOrFails};
@@ -74,7 +72,7 @@ impl<H: Histories> StoredSlot<H> {
             stored: rows,
             pairs,
             doubt: None,
-            spare: None,
+            unknown: None,
         };
         Self { parts }
     }
@@ -116,14 +114,12 @@ impl<H: Histories> StoredSlot<H> {
         requires covered { slots.covers self.old (routed request.now) ≡ true }
         ensures served { SlotServes self.old request.now moment (Faulted (W.faults wire.old) (W.faults wire.new)) result self.new }
         ensures grown { Grows (W.faults wire.old) (W.faults wire.new) }
-        ensures heard { HearsAnswer result (W.calls wire.old) (W.calls wire.new) (W.faults wire.old) (W.faults wire.new) }
     {
         self.parts
             .serve(alloc, request, judged, reading, moment, wire)
     }
 
     /// One step of the model. The answer is NoMemory if memory runs out for the reading of the body.
-    #[tactic(auto, using(extent_seal::proofs::HeardLemmas::heard_none))]
     pub fn serve<W: Wire>(
         &mut self,
         alloc: Global,
@@ -137,7 +133,6 @@ impl<H: Histories> StoredSlot<H> {
         ensures served { SlotServes self.old request.now moment (Faulted (W.faults wire.old) (W.faults wire.new)) result self.new
             ⊎ ((result ≡ answer.NoMemory) × (self.new ≡ self.old)) }
         ensures grown { Grows (W.faults wire.old) (W.faults wire.new) }
-        ensures heard { HearsAnswer result (W.calls wire.old) (W.calls wire.new) (W.faults wire.old) (W.faults wire.new) }
     {
         match Reading::of(alloc, request) {
             Ok(reading) => { self.serve_read(alloc, request, judged, reading, moment, wire) }
@@ -151,7 +146,6 @@ impl<H: Histories> StoredSlot<H> {
     pub fn settle<W: Wire>(&mut self, alloc: Global, wire: &mut W) -> Result<(), StoredFault>
         ensures settled { SettlesOrFails result self.old self.new }
         ensures counted { FailsStored result (W.faults wire.old) (W.faults wire.new) }
-        ensures heard { HearsStored result (W.calls wire.old) (W.calls wire.new) (W.faults wire.old) (W.faults wire.new) }
     {
         self.parts.settle(alloc, wire)
     }
@@ -171,7 +165,6 @@ impl<H: Histories> StoredSlot<H> {
     pub fn load<W: Wire>(&mut self, alloc: Global, wire: &mut W) -> Result<(), StoredFault>
         ensures left { LeavesSettled result self.old self.new }
         ensures counted { FailsStored result (W.faults wire.old) (W.faults wire.new) }
-        ensures heard { HearsStored result (W.calls wire.old) (W.calls wire.new) (W.faults wire.old) (W.faults wire.new) }
     {
         self.parts.load(alloc, wire)
     }
@@ -183,7 +176,6 @@ impl<H: Histories> StoredSlot<H> {
     pub fn seal<W: Wire>(&mut self, alloc: Global, wire: &mut W) -> Result<AllSealed, StoredFault>
         ensures left { LeavesSettled result self.old self.new }
         ensures counted { FailsStored result (W.faults wire.old) (W.faults wire.new) }
-        ensures heard { HearsStored result (W.calls wire.old) (W.calls wire.new) (W.faults wire.old) (W.faults wire.new) }
     {
         self.parts.seal(alloc, wire)
     }
@@ -200,7 +192,6 @@ impl<H: Histories> StoredSlot<H> {
     ) -> Result<Replaced, StoredFault>
         ensures left { LeavesSettled result self.old self.new }
         ensures counted { FailsStored result (W.faults wire.old) (W.faults wire.new) }
-        ensures heard { HearsStored result (W.calls wire.old) (W.calls wire.new) (W.faults wire.old) (W.faults wire.new) }
     {
         self.parts.checkpoint(alloc, wire)
     }
@@ -219,7 +210,6 @@ impl<H: Histories> StoredSlot<H> {
         requires { slots.is_inside self.old middle.now ≡ true }
         ensures cut { CutsSettled result self.old middle.now self.new }
         ensures counted { FailsStored result (W.faults wire.old) (W.faults wire.new) }
-        ensures heard { HearsStored result (W.calls wire.old) (W.calls wire.new) (W.faults wire.old) (W.faults wire.new) }
     {
         self.parts.cut(alloc, middle, wire)
     }
@@ -254,7 +244,6 @@ impl<H: Histories> StoredSlot<H> {
         ensures own { IsRepairOf part extent node result }
         ensures left { LeavesRepaired (unnamed result) self.old self.new }
         ensures counted { FailsRepair (unnamed result) (W.faults wire.old) (W.faults wire.new) }
-        ensures heard { HearsRepair (unnamed result) (W.calls wire.old) (W.calls wire.new) (W.faults wire.old) (W.faults wire.new) }
     {
         self.parts.repair(alloc, part, extent, node, wire)
     }

@@ -1,14 +1,12 @@
 //! Sweeps of a slot: its rows are written again in steps, and then what was there before is given up.
-ghost use Rattle.std.specs.Prelude.{◌≡◌, IfOk, IfSome, IsSome, None, OnOk, true};
+ghost use Rattle.std.specs.Prelude.{◌≡◌, IfOk, IfSome, None, OnOk, true};
 ghost use Rattle.stored_rows.specs.Counting.{FailsStored};
-ghost use Rattle.stored_rows.specs.Heard.{HearsStored};
 ghost use Rattle.stored_rows.specs.Ranges.{covers};
 ghost use Rattle.stored_rows.specs.States.{AreFoundIn, doubt_of, own_doubt_of};
-ghost use Rattle.stored_rows.specs.UnderWay.{is_past_all};
 ghost use Rattle.stored_slot.specs.Parts.{AreClear, AreOfSlot, AreSettled, slot_of};
 ghost use Rattle.stored_slot.specs.Settled.{LeavesSettled};
 ghost use Rattle.stored_slot.specs.Sweeps as sweeps;
-ghost use Rattle.stored_slot.specs.Sweeps.{Ends, IsKnownBySweep, KeepsContainers, MakesStep, StepsFrom};
+ghost use Rattle.stored_slot.specs.Sweeps.{KeepsContainers};
 
 use crate::parts::SlotParts;
 use extent_node::Wire;
@@ -66,9 +64,7 @@ fn touch<W: Wire>(
     ensures beside { KeepsContainers stored.old stored.new }
     ensures sure { OnOk result (doubt_of stored.new ≡ None) }
     ensures anew { IfOk result (λ found. found ≡ None) }
-    ensures known { OnOk result (IsKnownBySweep stored.old change.now stored.new) }
     ensures counted { FailsStored result (W.faults wire.old) (W.faults wire.new) }
-    ensures heard { HearsStored result (W.calls wire.old) (W.calls wire.new) (W.faults wire.old) (W.faults wire.new) }
 {
     match stored.touch(change, wire) {
         Ok(()) => Ok(None),
@@ -80,7 +76,6 @@ fn touch<W: Wire>(
 /// found for the change, unless it is to be found anew.
 ///
 /// Busy: nodes that were needed did not answer. NoMemory: memory ran out.
-#[tactic(auto, using(crate::proofs::StepLemmas::idle_known, crate::proofs::StepLemmas::ended_known))]
 pub(crate) fn make_way<W: Wire>(
     stored: &mut StoredRows,
     change: &Change,
@@ -93,9 +88,7 @@ pub(crate) fn make_way<W: Wire>(
     ensures beside { KeepsContainers stored.old stored.new }
     ensures sure { OnOk result (doubt_of stored.new ≡ None) }
     ensures found { IfOk result (λ o. IfSome o (λ f. AreFoundIn stored.new change.now f.blocks)) }
-    ensures known { OnOk result (IsKnownBySweep stored.old change.now stored.new) }
     ensures counted { FailsStored result (W.faults wire.old) (W.faults wire.new) }
-    ensures heard { HearsStored result (W.calls wire.old) (W.calls wire.new) (W.faults wire.old) (W.faults wire.new) }
 {
     match stored.end_row_doubt(wire) {
         Ok(was_in_doubt) => {
@@ -115,9 +108,7 @@ pub(crate) fn make_way<W: Wire>(
 // Ends a sweep that has written each row.
 fn end(stored: &mut StoredRows) -> SweepStep
     requires sure { doubt_of stored.old ≡ None }
-    requires past { is_past_all stored.old.sweep ≡ true }
     ensures beside { KeepsContainers stored.old stored.new }
-    ensures ended { Ends result stored.old stored.new }
 {
     match stored.sweep_end() {
         Some(away) => SweepStep::Over(away),
@@ -126,19 +117,15 @@ fn end(stored: &mut StoredRows) -> SweepStep
 }
 
 // Writes the next rows of a sweep, and ends it if each row is written.
-#[tactic(auto, using(crate::proofs::SweepLemmas::row_counted, crate::proofs::SweepLemmas::touched_beside, crate::proofs::HeardLemmas::row_heard, crate::proofs::StepLemmas::rows_left, crate::proofs::StepLemmas::stopped, crate::proofs::StepLemmas::step_failed, crate::proofs::StepLemmas::all_past, crate::proofs::StepLemmas::step_over))]
+#[tactic(auto, using(crate::proofs::SweepLemmas::row_counted, crate::proofs::SweepLemmas::touched_beside))]
 fn go_on<W: Wire>(
     stored: &mut StoredRows,
     limit: StepLimit,
     wire: &mut W,
 ) -> Result<SweepStep, StoredFault>
     requires sure { doubt_of stored.old ≡ None }
-    requires loaded { stored.old.is_loaded ≡ true }
-    requires under_way { IsSome stored.old.sweep }
-    ensures moved { StepsFrom stored.old.sweep result limit.rows stored.new }
     ensures beside { KeepsContainers stored.old stored.new }
     ensures counted { FailsStored result (W.faults wire.old) (W.faults wire.new) }
-    ensures heard { HearsStored result (W.calls wire.old) (W.calls wire.new) (W.faults wire.old) (W.faults wire.new) }
 {
     match stored.sweep_step(limit, wire) {
         Ok(Progress::RowsLeft) => Ok(SweepStep::RowsLeft(StepMade(()))),
@@ -155,11 +142,8 @@ fn step<W: Wire>(
     wire: &mut W,
 ) -> Result<SweepStep, StoredFault>
     requires sure { doubt_of stored.old ≡ None }
-    requires loaded { stored.old.is_loaded ≡ true }
-    ensures moved { MakesStep result limit.rows stored.old.sweep stored.new }
     ensures beside { KeepsContainers stored.old stored.new }
     ensures counted { FailsStored result (W.faults wire.old) (W.faults wire.new) }
-    ensures heard { HearsStored result (W.calls wire.old) (W.calls wire.new) (W.faults wire.old) (W.faults wire.new) }
 {
     match stored.sweep_begin(wire) {
         Ok(()) => go_on(stored, limit, wire),
@@ -174,10 +158,8 @@ impl<H: Histories> SlotParts<H> {
         ensures after { AreSettled H.held self.new }
         ensures same { slot_of H.held self.new ≡ slot_of H.held self.old }
         ensures loaded { self.new.stored.is_loaded ≡ self.old.stored.is_loaded }
-        ensures swept { self.new.stored.sweep ≡ self.old.stored.sweep }
         ensures clear { OnOk result (AreClear self.new) }
         ensures counted { FailsStored result (W.faults wire.old) (W.faults wire.new) }
-        ensures heard { HearsStored result (W.calls wire.old) (W.calls wire.new) (W.faults wire.old) (W.faults wire.new) }
     {
         match self.stored.end_row_doubt(wire) {
             Ok(_was_in_doubt) => Ok(()),
@@ -192,7 +174,6 @@ impl<H: Histories> SlotParts<H> {
         ensures left { LeavesSettled result (slot_of H.held self.old) (slot_of H.held self.new) }
         ensures clear { OnOk result (AreClear self.new) }
         ensures counted { FailsStored result (W.faults wire.old) (W.faults wire.new) }
-        ensures heard { HearsStored result (W.calls wire.old) (W.calls wire.new) (W.faults wire.old) (W.faults wire.new) }
     {
         match self.settle(alloc, wire) {
             Ok(()) => self.end_row_doubt(wire),
@@ -210,10 +191,8 @@ impl<H: Histories> SlotParts<H> {
         ensures after { AreOfSlot H.held self.new }
         ensures left { LeavesSettled result (slot_of H.held self.old) (slot_of H.held self.new) }
         ensures loaded { OnOk result (self.new.stored.is_loaded ≡ true) }
-        ensures swept { self.new.stored.sweep ≡ self.old.stored.sweep }
         ensures clear { OnOk result (AreClear self.new) }
         ensures counted { FailsStored result (W.faults wire.old) (W.faults wire.new) }
-        ensures heard { HearsStored result (W.calls wire.old) (W.calls wire.new) (W.faults wire.old) (W.faults wire.new) }
     {
         match self.load(alloc, wire) {
             Ok(()) => self.end_row_doubt(wire),
@@ -231,9 +210,7 @@ impl<H: Histories> SlotParts<H> {
         requires before { AreOfSlot H.held self.old }
         ensures after { AreOfSlot H.held self.new }
         ensures left { LeavesSettled result (slot_of H.held self.old) (slot_of H.held self.new) }
-        ensures moved { MakesStep result limit.rows self.old.stored.sweep self.new.stored }
         ensures counted { FailsStored result (W.faults wire.old) (W.faults wire.new) }
-        ensures heard { HearsStored result (W.calls wire.old) (W.calls wire.new) (W.faults wire.old) (W.faults wire.new) }
     {
         match self.load_clear(alloc, wire) {
             Ok(()) => step(&mut self.stored, limit, wire),

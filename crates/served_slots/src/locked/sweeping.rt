@@ -16,14 +16,17 @@ pub(crate) enum Swept {
     /// The sweep is over, and gave this up, which may be dropped once no lock is held. `None` if there was no memory for the box: then it was dropped
     /// at once.
     Over(Option<Box<SweptAway>>),
-    /// It gave nothing up: memory ran out, or the sweep ended early.
+    /// It gave nothing up: memory ran out, or the sweep ended early, or the slot is of no use any more.
     Failed,
 }
 
 impl<A: Account> LockedSlot<A> {
     /// Whether a sweep is under way or worth its time: the slot has many bytes of content and rows to which nothing refers, or a few if memory is
-    /// short.
+    /// short. A slot of no use is not swept.
     pub(crate) fn is_to_sweep(&self, is_short: bool) -> bool {
+        if self.history.is_none() {
+            return false;
+        }
         self.slot.is_sweeping() || self.slot.is_wasteful() || is_short && self.slot.has_garbage()
     }
 
@@ -31,6 +34,9 @@ impl<A: Account> LockedSlot<A> {
     fn step(&mut self, alloc: Global, limit: StepLimit) -> Option<SweepStep>
         ensures { self.new ≡ self.old }
     {
+        let Some(_own) = &self.history else {
+            return None;
+        };
         sweep_steadily(&mut self.slot, alloc, limit)
     }
 

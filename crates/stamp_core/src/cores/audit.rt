@@ -10,7 +10,6 @@ ghost use Rattle.core_run.specs.Machine.{Takes};
 ghost use Rattle.core_run.specs.States.{State};
 ghost use Rattle.stamp_core.specs.CoreAudits.{CoreAudits};
 ghost use Rattle.stamp_core.specs.CoreSteps.{AnswersSteadily, told_answer, has_faults};
-ghost use Rattle.stamp_core.specs.Heard.{HearsStep};
 
 use super::Core;
 use crate::auditing::{AuditedReply, entry_told};
@@ -40,7 +39,6 @@ impl<H: Histories> Core<H> {
         ensures steady { all_faults (W.faults wire.new) ≡ all_faults (W.faults wire.old) → AnswersSteadily self.old call.now.request.now call.now.moment result.reply self.new }
         ensures audited { CoreAudits self.old call.now.request.now call.now.moment result.reply result.entry }
         ensures grown { Grows (W.faults wire.old) (W.faults wire.new) }
-        ensures heard { HearsStep (told_answer result.reply) (W.calls wire.old) (W.calls wire.new) (W.faults wire.old) (W.faults wire.new) }
     {
         let Audited { answer, entry } = serve_one(
             &mut self.slots,
@@ -50,7 +48,7 @@ impl<H: Histories> Core<H> {
             reading,
             wire,
         );
-        let reply = tell_now(&mut self.spare, alloc, answer, wire);
+        let reply = tell_now(alloc, answer, wire);
         let entry = entry_told(&reply, entry);
         AuditedReply { reply, entry }
     }
@@ -76,7 +74,6 @@ impl<H: Histories> Core<H> {
         ensures steady { all_faults (W.faults wire.new) ≡ all_faults (W.faults wire.old) → AnswersSteadily self.old request.now moment result.reply self.new }
         ensures audited { CoreAudits self.old request.now moment result.reply result.entry }
         ensures grown { Grows (W.faults wire.old) (W.faults wire.new) }
-        ensures heard { HearsStep (told_answer result.reply) (W.calls wire.old) (W.calls wire.new) (W.faults wire.old) (W.faults wire.new) }
     {
         let call = Call {
             request,

@@ -5,7 +5,6 @@ ghost use Rattle.stored_slot.specs.Served.{Faulted};
 ghost use Rattle.core_run.specs.Cores.{StandsFor};
 ghost use Rattle.core_run.specs.States.{State};
 ghost use Rattle.stamp_core.specs.CoreSteps.{IsCalm, has_faults};
-ghost use Rattle.stamp_core.specs.Heard.{HearsSweep};
 ghost use Rattle.stamp_core.specs.Sweeps.{SweepsFirst, TakesCompact};
 
 use super::Core;
@@ -41,7 +40,6 @@ impl<H: Histories> Core<H> {
         ensures taken { (s : State) → StandsFor self.old s
             → (s' : State) × (TakesCompact result s (has_faults (W.faults wire.old) (W.faults wire.new)) s' × StandsFor self.new s') }
         ensures grown { Grows (W.faults wire.old) (W.faults wire.new) }
-        ensures heard { HearsSweep result (W.calls wire.old) (W.calls wire.new) (W.faults wire.old) (W.faults wire.new) }
     {
         let at = first_to_sweep(&self.slots);
         sweep_at(&mut self.slots, &self.spans, at, alloc, limit, wire)

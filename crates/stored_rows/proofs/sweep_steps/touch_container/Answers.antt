@@ -1,14 +1,11 @@
-use Rattle.std.proofs.Common.{◌≡◌, ◌∙◌, ◌||◌, None, Ok, ap, subst, sym, true}
+use Rattle.std.proofs.Common.{◌≡◌, ◌∙◌, ◌||◌, Ok, ap, subst, sym, true}
 use Rattle.stamp_types.specs.World.{part_at}
 use Rattle.stored_rows.specs.Noting.{taken_by}
 use Rattle.stored_rows.specs.Rewriting.{IsStepped}
-use Rattle.stored_rows.specs.States.{seen}
 use Rattle.stored_rows.specs.Swept.{is_unseen, knows_row}
-use Rattle.stored_rows.specs.UnderWay.{IsTouchedFor}
 use Rattle.stored_rows.specs.declared.sweep.Sweep.{Sweep}
 use Rattle.stored_rows.proofs.SteppedLemmas.{held_in_rows, not_unseen, own_not_noted, own_noted}
 use Rattle.stored_rows.proofs.TouchLemmas.{container_known}
-use Rattle.stored_rows.proofs.TouchedLemmas.{container_touched, touched_none}
 use Rattle.stored_rows.specs.declared.step.Rewritten.{Rewritten}
 use Rattle.stored_rows.proofs.HeardLemmas.{hears_not_written, hears_written}
 use Rattle.stored_rows.proofs.sweep_steps.touch_container.Goals as goal
@@ -52,11 +49,3 @@ returns-in-Err-note_container-clause-heard g c = hears_written c.write_container
 
 pub returns-in-Err-clause-heard : goal.returns-in-Err-clause-heard
 returns-in-Err-clause-heard g c = hears_not_written Rewritten c.write_container-logged.result c.note_row.result c.in-Err.fault (g.W.Wire.calls c.args.wire.now) (g.W.Wire.calls c.write_container-logged.new.wire) (g.W.Wire.faults c.args.wire.now) (g.W.Wire.faults c.write_container-logged.new.wire) c.note_row.ensures.answer c.in-Err.is c.write_container-logged.ensures.heard
-
-pub returns-in-Ok-note_container-clause-still : goal.returns-in-Ok-note_container-clause-still
-returns-in-Ok-note_container-clause-still g c =
-    subst (λ (w : Sweep). IsTouchedFor c.args.key.now None (seen c.args.sweep.now) (seen w)) (sym c.in-Ok-note_container.ensures.noted) (container_touched c.args.sweep.now c.args.key.now)
-
-pub returns-in-Err-note_container-clause-still : goal.returns-in-Err-note_container-clause-still
-returns-in-Err-note_container-clause-still g c =
-    subst (λ (w : Sweep). IsTouchedFor c.args.key.now None (seen c.args.sweep.now) (seen w)) (sym c.in-Err-note_container.ensures.refused) (touched_none c.args.key.now None (seen c.args.sweep.now))

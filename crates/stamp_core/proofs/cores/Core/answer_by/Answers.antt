@@ -7,7 +7,6 @@ use Rattle.core_run.specs.Cores.{CoreState}
 use Rattle.stamp_core.specs.CoreSteps.{told_answer, has_faults}
 use Rattle.stamp_core.proofs.AuditLemmas.{core_audits, served_too}
 use Rattle.stamp_core.proofs.FaultLemmas.{never_after, never_before, told_after, told_before}
-use Rattle.stamp_core.proofs.HeardLemmas.{told_now_hears}
 use Rattle.stamp_core.proofs.RangeLemmas.{low_slot}
 use Rattle.stamp_core.proofs.ServeLemmas.{serve_at_core, steady, told_now}
 use Rattle.stamp_core.proofs.cores.Core.answer_by.Goals as goal
@@ -45,9 +44,3 @@ returns-clause-audited g c =
 pub returns-clause-grown : goal.returns-clause-grown
 returns-clause-grown g c =
     grows_twice (g.W.Wire.faults c.args.wire.now) (g.W.Wire.faults c.serve_one-answer.new.wire) (g.W.Wire.faults c.tell_now-reply.new.wire) c.serve_one-answer.ensures.grown c.tell_now-reply.ensures.grown
-
-pub returns-clause-heard : goal.returns-clause-heard
-returns-clause-heard g c =
-    told_now_hears (g.W.Wire.calls c.args.wire.now) (g.W.Wire.calls c.serve_one-answer.new.wire) (g.W.Wire.calls c.tell_now-reply.new.wire)
-    (g.W.Wire.faults c.args.wire.now) (g.W.Wire.faults c.serve_one-answer.new.wire) (g.W.Wire.faults c.tell_now-reply.new.wire) c.serve_one-answer.ensures.grown
-    c.serve_one-answer.result.answer _ c.tell_now-reply.result c.serve_one-answer.ensures.heard c.tell_now-reply.ensures.told c.tell_now-reply.ensures.heard

@@ -5,7 +5,6 @@ use Rattle.extent_seal.specs.Counting.{all_faults}
 use Rattle.stored_rows.proofs.CountLemmas.{grows_not, grows_twice}
 use Rattle.core_run.specs.declared.step.Step.{Step}
 use Rattle.stamp_core.proofs.FaultLemmas.{grown}
-use Rattle.stamp_core.proofs.HeardLemmas.{run_hears_first, run_hears_on}
 use Rattle.stamp_core.proofs.RunLemmas.{HasRun, nothing_left, run_begins, run_ends, run_goes_on}
 use Rattle.stamp_core.proofs.cores.Core.run.Goals as goal
 
@@ -16,7 +15,6 @@ loop-step-init g c = record {
   counted = search rules;
   each = omega (arith, ap length c.in_ok-answers.ensures.items, ap length c.into_iter-later.ensures.rest);
   grown = grows_not (g.W.Wire.faults c.args.wire.now) (g.W.Wire.faults c.args.wire.now) refl;
-  heard = run_hears_first c.in_ok-answers.answers.items (g.W.Wire.calls c.args.wire.now) (g.W.Wire.faults c.args.wire.now) c.in_ok-answers.ensures.items;
 }
 
 pub loop-step-preserved : goal.loop-step-preserved
@@ -34,9 +32,6 @@ loop-step-preserved g c =
       counted = omega (arith, c.loop-step.invariant.counted, ap length c.in-Some.ensures.cases.0, c.in-Some.ensures.cases.1);
       each = omega (arith, c.loop-step.invariant.each, ap length pushed, length-append c.loop-step.answers.items (c.step-answer.result ∷ []), ap length c.in-Some.ensures.cases.0);
       grown = grows_twice first old new c.loop-step.invariant.grown c.step-answer.ensures.grown;
-      heard =
-          run_hears_on c.loop-step.answers.items c.push.new.self.items c.step-answer.result (g.W.Wire.calls c.args.wire.now) (g.W.Wire.calls c.loop-step.wire) (g.W.Wire.calls c.step-answer.new.wire) first old new pushed
-          c.loop-step.invariant.heard c.step-answer.ensures.heard;
     }
 
 pub returns-clause-ran : goal.returns-clause-ran

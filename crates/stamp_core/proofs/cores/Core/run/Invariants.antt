@@ -1,7 +1,6 @@
 use Rattle.std.proofs.Common.{◌≡◌, ◌≤◌, ◌+◌, length, vec_len, vec_capacity}
 use Rattle.std.specs.Vec.Iter.{into_iter_items, into_iter_len}
 use Rattle.extent_seal.specs.Counting.{Grows, all_faults}
-use Rattle.stamp_core.specs.Heard.{HearsRun}
 use Rattle.stamp_core.proofs.RunLemmas.{HasRun}
 use Rattle.stamp_core.proofs.cores.Core.run.Given as goal
 
@@ -13,7 +12,6 @@ invariant-loop-step g l = record {
   counted : into_iter_len l.later ≡ length (into_iter_items l.later);
   each : length l.answers.items + length (into_iter_items l.later) ≡ length l.fn.steps.items;
   grown : Grows (g.W.Wire.faults l.initial.wire) (g.W.Wire.faults l.wire);
-  heard : HearsRun l.answers.items (g.W.Wire.calls l.initial.wire) (g.W.Wire.calls l.wire) (g.W.Wire.faults l.initial.wire) (g.W.Wire.faults l.wire);
 }
 
 abbrev pub decreases-loop-step : goal.decreases-loop-step

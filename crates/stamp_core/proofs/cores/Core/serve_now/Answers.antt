@@ -2,7 +2,6 @@ use Rattle.stored_rows.proofs.CountLemmas.{grows_twice}
 use Rattle.stored_slot.specs.Served.{Faulted}
 use Rattle.stamp_core.specs.CoreSteps.{has_faults}
 use Rattle.stamp_core.proofs.FaultLemmas.{told_after, told_before}
-use Rattle.stamp_core.proofs.HeardLemmas.{told_hears}
 use Rattle.stamp_core.proofs.ServeLemmas.{serve_at_core}
 use Rattle.stamp_core.proofs.cores.Core.serve_now.Goals as goal
 
@@ -18,9 +17,3 @@ returns-clause-taken g c =
 pub returns-clause-grown : goal.returns-clause-grown
 returns-clause-grown g c =
     grows_twice (g.W.Wire.faults c.args.wire.now) (g.W.Wire.faults c.serve_unread-answer.new.wire) (g.W.Wire.faults c.tell.new.wire) c.serve_unread-answer.ensures.grown c.tell.ensures.grown
-
-pub returns-clause-heard : goal.returns-clause-heard
-returns-clause-heard g c =
-    told_hears (g.W.Wire.calls c.args.wire.now) (g.W.Wire.calls c.serve_unread-answer.new.wire) (g.W.Wire.calls c.tell.new.wire)
-    (g.W.Wire.faults c.args.wire.now) (g.W.Wire.faults c.serve_unread-answer.new.wire) (g.W.Wire.faults c.tell.new.wire) c.serve_unread-answer.ensures.grown
-    c.serve_unread-answer.result c.self.inside.tickets c.tell.new.tickets _ c.tell.result c.serve_unread-answer.ensures.heard c.tell.ensures.told c.tell.ensures.heard

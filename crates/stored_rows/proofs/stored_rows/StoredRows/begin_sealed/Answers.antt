@@ -6,12 +6,6 @@ use Rattle.stored_rows.specs.Swept.{AreSwept}
 use Rattle.stored_rows.specs.declared.cursor.Cursor.TheVariants as cursor
 use Rattle.stored_rows.specs.declared.sweep.Sweep.{Sweep}
 use Rattle.stored_rows.proofs.SweepEndLemmas.{begun_with}
-use Rattle.std.proofs.Common.{◌≡◌, ◌∙◌, Some, ap}
-use Rattle.std.specs.Option.{is_some}
-use Rattle.partition_stream.specs.declared.mark.Mark.{Mark}
-use Rattle.stored_rows.specs.States.{SeenSweep, seen, seen_sweep}
-use Rattle.stored_rows.specs.UnderWay.{sweep_at}
-use Rattle.stored_rows.proofs.UnderWayLemmas.{seen_from}
 use Rattle.stored_rows.proofs.stored_rows.StoredRows.begin_sealed.Goals as goal
 
 pub invariant_of-self : goal.invariant_of-self
@@ -26,12 +20,3 @@ invariant_of-self c =
       swept = subst (λ (v : Option Sweep). IfSome v (λ w. AreSwept w c.self.inside.range c.self.inside.streams)) (sym c.replace.ensures.after) own;
       again = c.self.invariant.again;
     }
-
-pub returns-in-Ok-clause-began : goal.returns-in-Ok-clause-began
-returns-in-Ok-clause-began c =
-    let s = c.self.inside.streams in
-    let own : seen_sweep c.replace.new.self ≡ Some (sweep_at s) =
-    ap seen_sweep c.replace.ensures.after ∙ ap (λ (x : Sweep). Some (seen x)) c.begin-began.ensures
-    ∙ ap (λ (m : Mark). Some (record { mark = m; cursor = cursor.Start; touched = finite.empty })) c.mark-mark.ensures in
-    seen_from (λ v x. x ≡ record v { sweep = Some (sweep_at v.streams) }) c.self.view_is
-    (ap (λ (o : Option SeenSweep). record { streams = s; range = c.self.inside.range; is_loaded = is_some c.self.inside.rows; sweep = o }) own)

@@ -9,9 +9,6 @@ use Rattle.stored_rows.specs.declared.sweep.Sweep.{Sweep}
 use Rattle.stored_rows.proofs.CheckpointLemmas.{kept_loaded, means_range, rows_stored, rows_writable, written_anew}
 use Rattle.stored_rows.proofs.LimitLemmas.{checkpoint_limit}
 use Rattle.stored_rows.proofs.RowDoubtLemmas.{no_row}
-use Rattle.std.proofs.Common.{ap}
-use Rattle.stored_rows.specs.States.{seen_sweep}
-use Rattle.stored_rows.proofs.UnderWayLemmas.{seen_from}
 use Rattle.stored_rows.proofs.stored_rows.StoredRows.checkpoint.Goals as goal
 
 pub checkpoint_rows-requires-clause-writable : goal.checkpoint_rows-requires-clause-writable
@@ -40,17 +37,16 @@ invariant_of-self g c =
 
 pub returns-in-Ok-clause-same : goal.returns-in-Ok-clause-same
 returns-in-Ok-clause-same g c =
+    let new : Stored = record { streams = c.checkpoint_rows.new.streams; range = c.self.inside.range; is_loaded = is_some c.self.inside.rows } in
     let own : AreRowsOf c.self.inside.range c.self.inside.streams c.in-Some.rows =
     subst (λ o. IfSome o (AreRowsOf c.self.inside.range c.self.inside.streams)) c.in-Some.is c.self.invariant.loaded.rows in
-    seen_from MeansTheRange c.self.view_is
+    subst (λ (v : Stored). MeansTheRange v new) c.self.view_is
     (means_range c.self.inside.streams c.checkpoint_rows.new.streams c.self.inside.range c.in-Some.rows own c.in-Ok.ensures.meaning (is_some c.self.inside.rows) c.checkpoint_rows.ensures.blobs)
 
 pub returns-in-Ok-clause-written : goal.returns-in-Ok-clause-written
 returns-in-Ok-clause-written g c =
+    let new : Stored = record { streams = c.checkpoint_rows.new.streams; range = c.self.inside.range; is_loaded = is_some c.self.inside.rows } in
     let own : AreRowsOf c.self.inside.range c.self.inside.streams c.in-Some.rows =
     subst (λ o. IfSome o (AreRowsOf c.self.inside.range c.self.inside.streams)) c.in-Some.is c.self.invariant.loaded.rows in
-    seen_from IsWrittenAnew c.self.view_is
+    subst (λ (v : Stored). IsWrittenAnew v new) c.self.view_is
     (written_anew c.self.inside.streams c.checkpoint_rows.new.streams c.self.inside.range c.in-Some.rows own c.in-Ok.ensures.meaning c.in-Ok.ensures.rows c.in-Ok.ensures.log (is_some c.self.inside.rows))
-
-pub returns-in-Ok-clause-ended : goal.returns-in-Ok-clause-ended
-returns-in-Ok-clause-ended g c = ap seen_sweep c.end_sweep.ensures

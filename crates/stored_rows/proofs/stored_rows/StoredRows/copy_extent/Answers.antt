@@ -1,7 +1,7 @@
 use Rattle.std.proofs.Common.{ap, subst}
 use Rattle.std.specs.Option.{is_some}
 use Rattle.partition_stream.specs.Meanings.{held_of}
-use Rattle.stored_rows.specs.States.{MeansTheSame, Stored, seen_sweep}
+use Rattle.stored_rows.specs.States.{MeansTheSame, Stored}
 use Rattle.stored_rows.proofs.LimitLemmas.{limit_kept}
 use Rattle.stored_rows.proofs.RepairLemmas.{repaired_loaded, repaired_means}
 use Rattle.stored_rows.proofs.SweepCallLemmas.{repaired_swept}
@@ -19,5 +19,5 @@ invariant_of-self g c = record {
 
 pub returns-clause-same : goal.returns-clause-same
 returns-clause-same g c =
-    subst (λ (v : Stored). MeansTheSame v (record { streams = c.repair.new.self; range = c.self.inside.range; is_loaded = is_some c.self.inside.rows; sweep = seen_sweep c.self.inside.sweep })) c.self.view_is
+    subst (λ (v : Stored). MeansTheSame v (record { streams = c.repair.new.self; range = c.self.inside.range; is_loaded = is_some c.self.inside.rows })) c.self.view_is
     (repaired_means c.self.inside.streams c.repair.new.self c.repair.ensures.logged c.self.inside.range (is_some c.self.inside.rows))

@@ -5,7 +5,7 @@ use Rattle.stamp_values.specs.Trees.{is_below, is_from}
 use Rattle.partition_stream.specs.Streams.{HaveSameBlocks, ThreeStreams, logged}
 use Rattle.stored_rows.specs.Loaded.{AreLoaded}
 use Rattle.stored_rows.specs.Ranges.{covers}
-use Rattle.stored_rows.specs.States.{IsHalf, MeansTheSame, Stored, doubt_of, seen_sweep}
+use Rattle.stored_rows.specs.States.{IsHalf, MeansTheSame, Stored, doubt_of}
 use Rattle.stored_rows.specs.declared.key_range.KeyRange.{KeyRange}
 use Rattle.stored_rows.specs.Swept.{AreSwept}
 use Rattle.partition_stream.specs.Compactions.{HaveLimit}
@@ -14,8 +14,6 @@ use Rattle.stored_rows.proofs.HalfSweptLemmas.{lower_swept, upper_swept}
 use Rattle.stored_rows.proofs.LimitLemmas.{limit_kept}
 use Rattle.stored_rows.proofs.TakeLemmas.{half_means, lower_loaded, means_itself, same_streams, sealed_sure, still_none, upper_loaded}
 use Rattle.stored_rows.proofs.RowDoubtLemmas.{no_row}
-use Rattle.stored_rows.specs.UnderWay.{IsSweepOfHalf}
-use Rattle.stored_rows.proofs.UnderWayLemmas.{seen_half}
 use Rattle.stored_rows.proofs.stored_rows.StoredRows.halve.Goals as goal
 
 pub invariant_of-result : goal.invariant_of-result
@@ -57,7 +55,7 @@ returns-in-Ok-clause-lower c =
     let s = c.self.inside.streams in
     let t = c.share_upper.new.streams in
     let own : KeyRange = record { from = c.self.inside.range.from; to = Some c.args.middle } in
-    let new : Stored = record { streams = t; range = own; is_loaded = is_some c.share_upper.new.rows; sweep = seen_sweep c.self.inside.sweep } in
+    let new : Stored = record { streams = t; range = own; is_loaded = is_some c.share_upper.new.rows } in
     let none : (logged s).doubt ≡ None = subst (λ (v : Stored). doubt_of v ≡ None) (sym c.self.view_is) c.requires.sure in
     let same : HaveSameBlocks s t = subst (HaveSameBlocks s) (sym c.share_upper.ensures.same) (same_streams s) in
     let sure : (logged t).doubt ≡ None = subst (λ (u : ThreeStreams). (logged u).doubt ≡ None) (sym c.share_upper.ensures.same) none in
@@ -67,7 +65,7 @@ returns-in-Ok-clause-lower c =
 
 pub returns-in-Ok-clause-upper : goal.returns-in-Ok-clause-upper
 returns-in-Ok-clause-upper c =
-    let new : Stored = record { streams = c.in-Ok.field-0.streams; range = c.args.upper; is_loaded = is_some c.in-Ok.field-0.rows; sweep = seen_sweep c.in-Ok.field-0.sweep } in
+    let new : Stored = record { streams = c.in-Ok.field-0.streams; range = c.args.upper; is_loaded = is_some c.in-Ok.field-0.rows } in
     subst (λ (v : Stored). IsHalf c.args.upper v new) c.self.view_is
     (half_means c.self.inside.streams c.in-Ok.field-0.streams (is_some c.self.inside.rows) (is_some c.in-Ok.field-0.rows) c.self.inside.range c.args.upper
     c.in-Ok.ensures.shared (sealed_sure c.in-Ok.field-0.streams c.in-Ok.ensures.whole)
@@ -78,15 +76,10 @@ returns-in-Err-clause-refused c =
     let s = c.self.inside.streams in
     let b = is_some c.self.inside.rows in
     let none : (logged s).doubt ≡ None = subst (λ (v : Stored). doubt_of v ≡ None) (sym c.self.view_is) c.requires.sure in (
-      subst (λ (v : Stored). MeansTheSame v (record { streams = c.share_upper.new.streams; range = c.self.inside.range; is_loaded = is_some c.share_upper.new.rows; sweep = seen_sweep c.self.inside.sweep })) c.self.view_is
-          (subst (λ o. MeansTheSame (record { streams = s; range = c.self.inside.range; is_loaded = b; sweep = seen_sweep c.self.inside.sweep }) (record { streams = c.share_upper.new.streams; range = c.self.inside.range; is_loaded = is_some o; sweep = seen_sweep c.self.inside.sweep }))
+      subst (λ (v : Stored). MeansTheSame v (record { streams = c.share_upper.new.streams; range = c.self.inside.range; is_loaded = is_some c.share_upper.new.rows })) c.self.view_is
+          (subst (λ o. MeansTheSame (record { streams = s; range = c.self.inside.range; is_loaded = b }) (record { streams = c.share_upper.new.streams; range = c.self.inside.range; is_loaded = is_some o }))
           (sym c.in-Err.ensures.refused)
-          (subst (λ (u : ThreeStreams). MeansTheSame (record { streams = s; range = c.self.inside.range; is_loaded = b; sweep = seen_sweep c.self.inside.sweep }) (record { streams = u; range = c.self.inside.range; is_loaded = b; sweep = seen_sweep c.self.inside.sweep }))
-          (sym c.share_upper.ensures.same) (means_itself (record { streams = s; range = c.self.inside.range; is_loaded = b; sweep = seen_sweep c.self.inside.sweep })))),
+          (subst (λ (u : ThreeStreams). MeansTheSame (record { streams = s; range = c.self.inside.range; is_loaded = b }) (record { streams = u; range = c.self.inside.range; is_loaded = b }))
+          (sym c.share_upper.ensures.same) (means_itself (record { streams = s; range = c.self.inside.range; is_loaded = b })))),
       subst (λ (u : ThreeStreams). (logged u).doubt ≡ None) (sym c.share_upper.ensures.same) none,
     )
-
-pub returns-in-Ok-clause-half_swept : goal.returns-in-Ok-clause-half_swept
-returns-in-Ok-clause-half_swept c =
-    subst (λ (v : Stored). IsSweepOfHalf v.sweep (seen_sweep c.in-Ok.field-0.sweep)) c.self.view_is
-    (seen_half c.self.inside.sweep c.in-Ok.field-0.sweep c.in-Ok.field-0.streams c.in-Ok.ensures.sweep)

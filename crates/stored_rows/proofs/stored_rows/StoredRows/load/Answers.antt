@@ -3,7 +3,7 @@ use Rattle.std.specs.Option.{is_some}
 use Rattle.stream_manager.specs.declared.faults.StoredFault.{StoredFault}
 use Rattle.stored_rows.specs.Counting.{FailsStored}
 use Rattle.stored_rows.specs.Heard.{HearsStored}
-use Rattle.stored_rows.specs.States.{Stored, seen_sweep}
+use Rattle.stored_rows.specs.States.{Stored}
 use Rattle.stored_rows.proofs.HeardLemmas.{hears_loaded}
 use Rattle.stored_rows.proofs.NotedLemmas.{made_fails, made_loaded, made_no_rows, made_rows, stored_at}
 use Rattle.stored_rows.proofs.stored_rows.StoredRows.load.Goals as goal
@@ -25,17 +25,17 @@ returns-clause-counted g c =
 
 pub returns-clause-loaded : goal.returns-clause-loaded
 returns-clause-loaded g c =
-    let new : Stored = stored_at c.self.inside.streams c.self.inside.range (is_some c.note_loaded-loaded.new.rows) (seen_sweep c.self.inside.sweep) in
+    let new : Stored = stored_at c.self.inside.streams c.self.inside.range (is_some c.note_loaded-loaded.new.rows) in
     subst (λ (v : Stored). OnOk c.note_loaded-loaded.result (new ≡ record v { is_loaded = true })) c.self.view_is
-    (subst (λ (r : Result (Unit {0}) StoredFault). OnOk r (new ≡ stored_at c.self.inside.streams c.self.inside.range true (seen_sweep c.self.inside.sweep))) (sym c.note_loaded-loaded.ensures.answer)
-    (made_rows (seen_sweep c.self.inside.sweep) c.rows_of-made.result c.self.inside.streams c.self.inside.range c.self.inside.rows c.note_loaded-loaded.new.rows c.note_loaded-loaded.ensures.noted))
+    (subst (λ (r : Result (Unit {0}) StoredFault). OnOk r (new ≡ stored_at c.self.inside.streams c.self.inside.range true)) (sym c.note_loaded-loaded.ensures.answer)
+    (made_rows c.rows_of-made.result c.self.inside.streams c.self.inside.range c.self.inside.rows c.note_loaded-loaded.new.rows c.note_loaded-loaded.ensures.noted))
 
 pub returns-clause-refused : goal.returns-clause-refused
 returns-clause-refused g c =
-    let new : Stored = stored_at c.self.inside.streams c.self.inside.range (is_some c.note_loaded-loaded.new.rows) (seen_sweep c.self.inside.sweep) in
+    let new : Stored = stored_at c.self.inside.streams c.self.inside.range (is_some c.note_loaded-loaded.new.rows) in
     subst (λ (v : Stored). OnErr c.note_loaded-loaded.result (new ≡ v)) c.self.view_is
-    (subst (λ (r : Result (Unit {0}) StoredFault). OnErr r (new ≡ stored_at c.self.inside.streams c.self.inside.range (is_some c.self.inside.rows) (seen_sweep c.self.inside.sweep))) (sym c.note_loaded-loaded.ensures.answer)
-    (made_no_rows (seen_sweep c.self.inside.sweep) c.rows_of-made.result c.self.inside.streams c.self.inside.range c.self.inside.rows c.note_loaded-loaded.new.rows c.note_loaded-loaded.ensures.noted))
+    (subst (λ (r : Result (Unit {0}) StoredFault). OnErr r (new ≡ stored_at c.self.inside.streams c.self.inside.range (is_some c.self.inside.rows))) (sym c.note_loaded-loaded.ensures.answer)
+    (made_no_rows c.rows_of-made.result c.self.inside.streams c.self.inside.range c.self.inside.rows c.note_loaded-loaded.new.rows c.note_loaded-loaded.ensures.noted))
 
 pub returns-clause-heard : goal.returns-clause-heard
 returns-clause-heard g c =

@@ -3,7 +3,7 @@ use Rattle.std.specs.Option.{is_some}
 use Rattle.stream_manager.specs.declared.faults.StoredFault.{StoredFault}
 use Rattle.stored_rows.specs.Counting.{FailsStored}
 use Rattle.stored_rows.specs.Heard.{HearsStored}
-use Rattle.stored_rows.specs.States.{SettlesRows, Stored, doubt_of, own_doubt_of, seen_sweep}
+use Rattle.stored_rows.specs.States.{SettlesRows, Stored, doubt_of, own_doubt_of}
 use Rattle.stored_rows.specs.declared.faults.Ended.{Ended}
 use Rattle.stored_rows.proofs.HeardLemmas.{hears_ended}
 use Rattle.stored_rows.proofs.LimitLemmas.{limit_kept, settled_limits}
@@ -32,11 +32,11 @@ invariant_of-self g c =
 
 pub returns-clause-settled : goal.returns-clause-settled
 returns-clause-settled g c =
-    let new : Stored = record { streams = c.settle-settled.new.self; range = c.self.inside.range; is_loaded = is_some c.note_settled.new.rows; sweep = seen_sweep c.self.inside.sweep } in
+    let new : Stored = record { streams = c.settle-settled.new.self; range = c.self.inside.range; is_loaded = is_some c.note_settled.new.rows } in
     subst (λ (v : Stored). SettlesRows c.note_settled.result v new) c.self.view_is
-    (subst (λ (r : Result Ended StoredFault). SettlesRows r (record { streams = c.self.inside.streams; range = c.self.inside.range; is_loaded = is_some c.self.inside.rows; sweep = seen_sweep c.self.inside.sweep }) new)
+    (subst (λ (r : Result Ended StoredFault). SettlesRows r (record { streams = c.self.inside.streams; range = c.self.inside.range; is_loaded = is_some c.self.inside.rows }) new)
     (sym c.note_settled.ensures.answer)
-    (settled_rows (seen_sweep c.self.inside.sweep) (seen_sweep c.self.inside.sweep) c.settle-settled.result c.self.inside.streams c.settle-settled.new.self c.self.inside.range c.self.inside.rows c.note_settled.new.rows c.self.inside.doubt c.note_settled.new.doubt
+    (settled_rows c.settle-settled.result c.self.inside.streams c.settle-settled.new.self c.self.inside.range c.self.inside.rows c.note_settled.new.rows c.self.inside.doubt c.note_settled.new.doubt
     c.self.invariant.loaded c.kept.ensures c.settle-settled.ensures.blobs c.settle-settled.ensures.rows c.settle-settled.ensures.settled c.note_settled.ensures.noted
     (subst (λ (v : Stored). own_doubt_of v ≡ doubt_of v) (sym c.self.view_is) c.requires)))
 

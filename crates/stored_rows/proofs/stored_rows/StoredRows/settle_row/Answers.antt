@@ -1,7 +1,7 @@
 use Rattle.std.proofs.Common.{◌≡◌, None, Result, subst, sym}
 use Rattle.stamp_values.specs.declared.key.Key.{Key}
 use Rattle.partition_stream.specs.Streams.{logged}
-use Rattle.stored_rows.specs.States.{Stored, bytes_of, own_doubt, own_doubt_of, seen_sweep}
+use Rattle.stored_rows.specs.States.{Stored, bytes_of, own_doubt, own_doubt_of}
 use Rattle.std.specs.Option.{is_some}
 use Rattle.std.specs.Prelude.{OnErr}
 use Rattle.stored_rows.proofs.LimitLemmas.{limit_kept, settled_limits}
@@ -35,7 +35,7 @@ invariant_of-self g c =
 pub returns-clause-means : goal.returns-clause-means
 returns-clause-means g c =
     let own : own_doubt (logged c.self.inside.streams).doubt ≡ None = subst (λ (v : Stored). own_doubt_of v ≡ None) (sym c.self.view_is) c.requires.own in
-    let new : Stored = record { streams = c.settle-settled.new.self; range = c.self.inside.range; is_loaded = is_some c.end_row.new.rows; sweep = seen_sweep c.self.inside.sweep } in
+    let new : Stored = record { streams = c.settle-settled.new.self; range = c.self.inside.range; is_loaded = is_some c.end_row.new.rows } in
     subst (λ (v : Stored). (key : Key) → bytes_of new key ≡ bytes_of v key) c.self.view_is
     (row_ended_means c.self.inside.streams c.settle-settled.new.self c.self.inside.range c.self.inside.rows c.self.inside.doubt c.self.inside.spare c.self.invariant.loaded c.self.invariant.again own c.kept.ensures c.settle-settled.ensures.blobs c.settle-settled.ensures.rows c.settle-settled.result c.settle-settled.ensures.settled)
 

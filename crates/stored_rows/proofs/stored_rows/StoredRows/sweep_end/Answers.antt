@@ -11,17 +11,12 @@ use Rattle.stored_rows.specs.declared.sweep.Sweep.{Sweep}
 use Rattle.stored_rows.proofs.LimitLemmas.{limit_kept}
 use Rattle.stored_rows.proofs.SweepEndLemmas.{given_sure, only_since, over_ends}
 use Rattle.stored_rows.proofs.RowDoubtLemmas.{no_row}
-use Rattle.stored_rows.proofs.SteppedLemmas.{same_keeps}
-use Rattle.stored_rows.specs.UnderWay.{IsMarkOfOver}
-use Rattle.stored_rows.proofs.UnderWayLemmas.{over_seen}
-use Rattle.stored_rows.specs.States.{seen_sweep}
-use Rattle.std.proofs.Common.{ap}
-use Rattle.stored_rows.proofs.UnderWayLemmas.{seen_from}
+use Rattle.stored_rows.proofs.SteppedLemmas.{keeps_itself}
 use Rattle.stored_rows.proofs.stored_rows.StoredRows.sweep_end.Goals as goal
 
 pub returns-in_err-mark-clause-kept : goal.returns-in_err-mark-clause-kept
 returns-in_err-mark-clause-kept c =
-    seen_from KeepsTheRange c.self.view_is (same_keeps c.self.inside.range c.self.inside.streams (is_some c.self.inside.rows) (is_some c.self.inside.rows))
+    keeps_itself c.args.self.now (record { streams = c.self.inside.streams; range = c.self.inside.range; is_loaded = is_some c.self.inside.rows }) c.self.view_is
 
 pub invariant_of-self-2 : goal.invariant_of-self-2
 invariant_of-self-2 c =
@@ -39,7 +34,7 @@ returns-clause-kept c =
     let none : (logged c.self.inside.streams).doubt ≡ None = subst (λ (v : Stored). doubt_of v ≡ None) (sym c.self.view_is) c.requires.sure in
     let ends = over_ends c.self.inside.sweep c.in_ok-mark.field-0 c.self.inside.range c.self.inside.streams c.give_up_before-given.new.self c.self.inside.rows c.self.inside.doubt c.self.invariant.swept
     c.in_ok-mark.ensures.over.0 c.give_up_before-given.ensures.left c.self.invariant.loaded none in
-    seen_from KeepsTheRange c.self.view_is
+    subst (λ (v : Stored). KeepsTheRange v (record { streams = c.give_up_before-given.new.self; range = c.self.inside.range; is_loaded = is_some c.self.inside.rows })) c.self.view_is
     (record { bytes = ends.1; range = refl; limits = c.give_up_before-given.ensures.left.limits })
 
 pub returns-clause-data : goal.returns-clause-data
@@ -51,10 +46,3 @@ pub returns-clause-log : goal.returns-clause-log
 returns-clause-log c =
     subst (λ (v : Stored). blocks_of (laid c.give_up_before-given.new.self.log) ≡ blocks_of (drop c.in_ok-mark.field-0.mark.log (laid v.streams.log))) c.self.view_is
     (only_since c.in_ok-mark.field-0.mark c.self.inside.streams c.give_up_before-given.new.self c.give_up_before-given.ensures.left).1
-
-pub returns-clause-over : goal.returns-clause-over
-returns-clause-over c =
-    subst (λ (v : Stored). IsMarkOfOver v.sweep c.in_ok-mark.field-0.mark) c.self.view_is (over_seen c.self.inside.sweep c.in_ok-mark.field-0 c.in_ok-mark.ensures.over.0)
-
-pub returns-clause-ended : goal.returns-clause-ended
-returns-clause-ended c = ap seen_sweep c.in_ok-mark.ensures.over.1

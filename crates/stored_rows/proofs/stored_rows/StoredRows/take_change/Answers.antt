@@ -10,15 +10,12 @@ use Rattle.stored_rows.specs.Heard.{HearsTake}
 use Rattle.stored_rows.specs.Ranges.{covers}
 use Rattle.stored_rows.specs.Swept.{AreSwept}
 use Rattle.stored_rows.specs.declared.sweep.Sweep.{Sweep}
-use Rattle.stored_rows.specs.States.{AreFoundIn, IsTaken, Stored, doubt_of, pieces_of, seen_sweep}
+use Rattle.stored_rows.specs.States.{AreFoundIn, IsTaken, Stored, doubt_of, pieces_of}
 use Rattle.stored_rows.proofs.HeardLemmas.{hears_taken}
 use Rattle.stored_rows.proofs.LimitLemmas.{limit_kept}
 use Rattle.stored_rows.proofs.NotedLemmas.{logged_fits, logged_found, noted_fails, noted_loaded, noted_taken}
 use Rattle.stored_rows.proofs.SweepCallLemmas.{logged_swept}
 use Rattle.stored_rows.proofs.RowDoubtLemmas.{taken_again}
-use Rattle.std.proofs.Common.{◌∙◌, ap, refl}
-use Rattle.stored_rows.specs.UnderWay.{sweep_after}
-use Rattle.stored_rows.proofs.UnderWayLemmas.{seen_kept}
 use Rattle.stored_rows.proofs.stored_rows.StoredRows.take_change.Goals as goal
 
 pub note-requires-clause-fits : goal.note-requires-clause-fits
@@ -57,11 +54,11 @@ invariant_of-self g c =
 
 pub returns-clause-taken : goal.returns-clause-taken
 returns-clause-taken g c =
-    let new : Stored = record { streams = c.put_and_log-logged.new.streams; range = c.self.inside.range; is_loaded = is_some c.note.new.rows; sweep = seen_sweep c.keep_sweep.new.sweep } in
+    let new : Stored = record { streams = c.put_and_log-logged.new.streams; range = c.self.inside.range; is_loaded = is_some c.note.new.rows } in
     subst (λ (v : Stored). IsTaken c.note.result v (c.args.change, c.args.epoch) new) c.self.view_is
-    (subst (λ (r : Result (Unit {0}) TakeFault). IsTaken r (record { streams = c.self.inside.streams; range = c.self.inside.range; is_loaded = is_some c.self.inside.rows; sweep = seen_sweep c.self.inside.sweep }) (c.args.change, c.args.epoch) new)
+    (subst (λ (r : Result (Unit {0}) TakeFault). IsTaken r (record { streams = c.self.inside.streams; range = c.self.inside.range; is_loaded = is_some c.self.inside.rows }) (c.args.change, c.args.epoch) new)
     (sym c.note.ensures.answer)
-    (noted_taken (seen_sweep c.self.inside.sweep) (seen_sweep c.keep_sweep.new.sweep) c.put_and_log-logged.result c.self.inside.streams c.put_and_log-logged.new.streams (c.args.change, c.args.epoch) c.self.inside.range c.put_and_log-logged.ensures.whole c.put_and_log-logged.ensures.logged
+    (noted_taken c.put_and_log-logged.result c.self.inside.streams c.put_and_log-logged.new.streams (c.args.change, c.args.epoch) c.self.inside.range c.put_and_log-logged.ensures.whole c.put_and_log-logged.ensures.logged
     c.self.inside.rows c.note.new.rows c.self.inside.doubt c.note.new.doubt c.note.ensures.noted))
 
 pub returns-clause-counted : goal.returns-clause-counted
@@ -73,10 +70,3 @@ pub returns-clause-heard : goal.returns-clause-heard
 returns-clause-heard g c =
     subst (λ (r : Result (Unit {0}) TakeFault). HearsTake r (g.W.Wire.calls c.args.wire.now) (g.W.Wire.calls c.put_and_log-logged.new.wire) (g.W.Wire.faults c.args.wire.now) (g.W.Wire.faults c.put_and_log-logged.new.wire)) (sym c.note.ensures.answer)
     (hears_taken c.put_and_log-logged.result (g.W.Wire.calls c.args.wire.now) (g.W.Wire.calls c.put_and_log-logged.new.wire) (g.W.Wire.faults c.args.wire.now) (g.W.Wire.faults c.put_and_log-logged.new.wire) c.put_and_log-logged.ensures.heard)
-
-pub returns-clause-swept : goal.returns-clause-swept
-returns-clause-swept g c =
-    let covered : covers c.self.inside.range c.args.change.key ≡ true = subst (λ (v : Stored). covers v.range c.args.change.key ≡ true) (sym c.self.view_is) c.requires.covered in
-    let old : Stored = record { streams = c.self.inside.streams; range = c.self.inside.range; is_loaded = is_some c.self.inside.rows; sweep = seen_sweep c.self.inside.sweep } in
-    subst (λ (v : Stored). seen_sweep c.keep_sweep.new.sweep ≡ sweep_after v c.args.change) c.self.view_is
-    (ap seen_sweep c.keep_sweep.ensures ∙ seen_kept c.self.inside.rows c.self.inside.sweep old c.args.change refl refl c.self.invariant.loaded.rows covered)

@@ -5,9 +5,6 @@ use Rattle.stored_slot.specs.Changes.{slot_taken}
 use Rattle.stored_slot.specs.Parts.{slot_of}
 use Rattle.stored_slot.proofs.MeaningLemmas.{same_makes, take_covered}
 use Rattle.stored_slot.proofs.SweepLemmas.{before_counted, before_taken, beside_kept, beside_settled, beside_slot, take_later}
-use Rattle.stored_rows.proofs.HeardLemmas.{hears_take_then}
-use Rattle.stored_slot.proofs.HeardLemmas.{before_heard}
-use Rattle.stored_slot.proofs.StepLemmas.{change_swept}
 use Rattle.stored_slot.proofs.parts.SlotParts.change.Goals as goal
 
 pub make_way-requires-clause-covered : goal.make_way-requires-clause-covered
@@ -43,15 +40,3 @@ returns-in-Err-clause-taken g c =
 
 pub returns-in-Err-clause-counted : goal.returns-in-Err-clause-counted
 returns-in-Err-clause-counted g c = before_counted c.in-Err.fault c.fault_before.result _ _ c.fault_before.ensures c.in-Err.ensures.counted
-
-pub returns-in-Ok-clause-heard : goal.returns-in-Ok-clause-heard
-returns-in-Ok-clause-heard g c =
-    hears_take_then c.enter_change.result (g.W.Wire.calls c.args.wire.now) (g.W.Wire.calls c.make_way.new.wire) (g.W.Wire.calls c.enter_change.new.wire)
-    (g.W.Wire.faults c.args.wire.now) (g.W.Wire.faults c.make_way.new.wire) (g.W.Wire.faults c.enter_change.new.wire)
-    c.in-Ok.ensures.heard c.enter_change.ensures.heard
-
-pub returns-in-Err-clause-heard : goal.returns-in-Err-clause-heard
-returns-in-Err-clause-heard g c = before_heard c.in-Err.fault c.fault_before.result (g.W.Wire.calls c.args.wire.now) (g.W.Wire.calls c.make_way.new.wire) (g.W.Wire.faults c.args.wire.now) (g.W.Wire.faults c.make_way.new.wire) c.fault_before.ensures c.in-Err.ensures.heard
-
-pub returns-in-Ok-clause-swept : goal.returns-in-Ok-clause-swept
-returns-in-Ok-clause-swept g c = change_swept c.enter_change.result c.args.self.now.stored c.make_way.new.stored c.enter_change.new.self.stored c.args.made.change c.in-Ok.ensures.known c.enter_change.ensures.swept

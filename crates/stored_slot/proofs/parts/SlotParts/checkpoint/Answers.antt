@@ -1,5 +1,4 @@
 use Rattle.stored_slot.proofs.KeepLemmas.{checkpoint_kept, checkpoint_left, stored_later}
-use Rattle.stored_rows.proofs.HeardLemmas.{hears_stored_then}
 use Rattle.stored_slot.proofs.parts.SlotParts.checkpoint.Goals as goal
 
 pub checkpoint-requires : goal.checkpoint-requires
@@ -22,9 +21,3 @@ returns-in-Ok-clause-left g c =
 
 pub returns-in-Ok-clause-counted : goal.returns-in-Ok-clause-counted
 returns-in-Ok-clause-counted g c = stored_later c.checkpoint.result _ _ _ c.in-Ok.ensures.counted c.checkpoint.ensures.counted
-
-pub returns-in-Ok-clause-heard : goal.returns-in-Ok-clause-heard
-returns-in-Ok-clause-heard g c =
-    hears_stored_then c.checkpoint.result (g.W.Wire.calls c.args.wire.now) (g.W.Wire.calls c.load_clear.new.wire) (g.W.Wire.calls c.checkpoint.new.wire)
-    (g.W.Wire.faults c.args.wire.now) (g.W.Wire.faults c.load_clear.new.wire) (g.W.Wire.faults c.checkpoint.new.wire)
-    c.in-Ok.ensures.heard c.checkpoint.ensures.heard

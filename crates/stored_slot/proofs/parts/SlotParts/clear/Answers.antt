@@ -3,7 +3,6 @@ use Rattle.stored_slot.specs.Parts.{slot_of}
 use Rattle.stored_slot.proofs.KeepLemmas.{stored_later}
 use Rattle.stored_slot.proofs.MeaningLemmas.{left_settled}
 use Rattle.stored_slot.proofs.ServeLemmas.{kept_parts, settled_parts}
-use Rattle.stored_rows.proofs.HeardLemmas.{hears_stored_then}
 use Rattle.stored_slot.proofs.parts.SlotParts.clear.Goals as goal
 
 pub end_row_doubt-requires : goal.end_row_doubt-requires
@@ -22,9 +21,3 @@ returns-in-Ok-clause-counted g c = stored_later c.end_row_doubt.result _ _ _ c.i
 
 pub returns-in-Err-clause-left : goal.returns-in-Err-clause-left
 returns-in-Err-clause-left g c = inr c.in-Err.ensures.settled
-
-pub returns-in-Ok-clause-heard : goal.returns-in-Ok-clause-heard
-returns-in-Ok-clause-heard g c =
-    hears_stored_then c.end_row_doubt.result (g.W.Wire.calls c.args.wire.now) (g.W.Wire.calls c.settle.new.wire) (g.W.Wire.calls c.end_row_doubt.new.wire)
-    (g.W.Wire.faults c.args.wire.now) (g.W.Wire.faults c.settle.new.wire) (g.W.Wire.faults c.end_row_doubt.new.wire)
-    c.in-Ok.ensures.heard c.end_row_doubt.ensures.heard

@@ -4,7 +4,6 @@ use Rattle.stored_slot.specs.Parts.{slot_of}
 use Rattle.stored_slot.proofs.HalfLemmas.{cuts_settled}
 use Rattle.stored_slot.proofs.KeepLemmas.{stored_later}
 use Rattle.stored_slot.proofs.ServeLemmas.{range_after, settled_parts}
-use Rattle.stored_rows.proofs.HeardLemmas.{hears_stored_then}
 use Rattle.stored_slot.proofs.parts.SlotParts.cut.Goals as goal
 
 pub cut_settled-requires-clause-before : goal.cut_settled-requires-clause-before
@@ -24,9 +23,3 @@ returns-in-Ok-clause-counted g c = stored_later c.cut_settled.result _ _ _ c.in-
 
 pub returns-in-Err-clause-cut : goal.returns-in-Err-clause-cut
 returns-in-Err-clause-cut g c = c.in-Err.ensures.left
-
-pub returns-in-Ok-clause-heard : goal.returns-in-Ok-clause-heard
-returns-in-Ok-clause-heard g c =
-    hears_stored_then c.cut_settled.result (g.W.Wire.calls c.args.wire.now) (g.W.Wire.calls c.clear.new.wire) (g.W.Wire.calls c.cut_settled.new.wire)
-    (g.W.Wire.faults c.args.wire.now) (g.W.Wire.faults c.clear.new.wire) (g.W.Wire.faults c.cut_settled.new.wire)
-    c.in-Ok.ensures.heard c.cut_settled.ensures.heard

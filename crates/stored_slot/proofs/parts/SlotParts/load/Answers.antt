@@ -1,6 +1,5 @@
 use Rattle.std.proofs.Common.{inr}
 use Rattle.stored_slot.proofs.KeepLemmas.{load_kept, load_left, load_loads, stored_later}
-use Rattle.stored_rows.proofs.HeardLemmas.{hears_stored_then}
 use Rattle.stored_slot.proofs.parts.SlotParts.load.Goals as goal
 
 pub returns-in-Ok-clause-after : goal.returns-in-Ok-clause-after
@@ -21,9 +20,3 @@ returns-in-Ok-clause-counted g c = stored_later c.load.result _ _ _ c.in-Ok.ensu
 
 pub returns-in-Err-clause-left : goal.returns-in-Err-clause-left
 returns-in-Err-clause-left g c = inr c.in-Err.ensures.settled
-
-pub returns-in-Ok-clause-heard : goal.returns-in-Ok-clause-heard
-returns-in-Ok-clause-heard g c =
-    hears_stored_then c.load.result (g.W.Wire.calls c.args.wire.now) (g.W.Wire.calls c.settle.new.wire) (g.W.Wire.calls c.load.new.wire)
-    (g.W.Wire.faults c.args.wire.now) (g.W.Wire.faults c.settle.new.wire) (g.W.Wire.faults c.load.new.wire)
-    c.in-Ok.ensures.heard c.load.ensures.heard

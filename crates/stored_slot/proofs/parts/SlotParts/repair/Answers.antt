@@ -1,10 +1,5 @@
-use Rattle.std.proofs.Common.{subst, sym}
-use Rattle.extent_seal.specs.Heard.{AsksAreHeard}
-use Rattle.extent_seal.proofs.HeardLemmas.{heard_none}
-use Rattle.partition_stream.specs.Repairs.{stream_of}
 use Rattle.stored_slot.proofs.RepairLemmas.{refused_still, repair_kept, repair_later, repair_left, unrepaired, unrepaired_fails, unrepaired_own, unrepaired_unrefused}
 use Rattle.stored_rows.specs.Repairs.{unnamed}
-use Rattle.stored_slot.proofs.HeardLemmas.{hears_repair_then, repair_heard, unrepaired_heard}
 use Rattle.stored_slot.proofs.parts.SlotParts.repair.Goals as goal
 
 pub returns-in-Ok-clause-after : goal.returns-in-Ok-clause-after
@@ -34,19 +29,3 @@ returns-in-Err-clause-counted g c = unrepaired_fails c.in-Err.fault c.repair_fau
 
 pub returns-in-Err-clause-own : goal.returns-in-Err-clause-own
 returns-in-Err-clause-own g c = unrepaired_own c.in-Err.fault c.repair_fault.result c.args.part c.args.extent c.args.node c.repair_fault.ensures
-
-pub returns-in-Ok-clause-heard : goal.returns-in-Ok-clause-heard
-returns-in-Ok-clause-heard g c =
-    hears_repair_then (unnamed c.repair.result) (g.W.Wire.calls c.args.wire.now) (g.W.Wire.calls c.settle.new.wire) (g.W.Wire.calls c.repair.new.wire)
-    (g.W.Wire.faults c.args.wire.now) (g.W.Wire.faults c.settle.new.wire) (g.W.Wire.faults c.repair.new.wire) c.in-Ok.ensures.heard
-    (repair_heard c.args.node (stream_of c.args.part c.settle.new.self.stored.streams) c.args.extent (unnamed c.repair.result)
-    (g.W.Wire.calls c.settle.new.wire) (g.W.Wire.calls c.repair.new.wire) (g.W.Wire.faults c.settle.new.wire) (g.W.Wire.faults c.repair.new.wire)
-    c.repair.ensures.refused c.repair.ensures.called
-    (λ is. subst (λ w. AsksAreHeard (g.W.Wire.calls c.settle.new.wire) (g.W.Wire.calls w) (g.W.Wire.faults c.settle.new.wire) (g.W.Wire.faults w))
-    (sym (c.repair.ensures.unheard is))
-    (heard_none (g.W.Wire.calls c.settle.new.wire) (g.W.Wire.faults c.settle.new.wire))))
-
-pub returns-in-Err-clause-heard : goal.returns-in-Err-clause-heard
-returns-in-Err-clause-heard g c =
-    unrepaired_heard c.in-Err.fault c.repair_fault.result (g.W.Wire.calls c.args.wire.now) (g.W.Wire.calls c.settle.new.wire)
-    (g.W.Wire.faults c.args.wire.now) (g.W.Wire.faults c.settle.new.wire) c.repair_fault.ensures c.in-Err.ensures.heard

@@ -1,5 +1,4 @@
 use Rattle.stored_slot.proofs.KeepLemmas.{seal_kept, seal_left, stored_later}
-use Rattle.stored_rows.proofs.HeardLemmas.{hears_stored_then}
 use Rattle.stored_slot.proofs.parts.SlotParts.seal.Goals as goal
 
 pub seal-requires : goal.seal-requires
@@ -24,9 +23,3 @@ returns-in-Ok-clause-counted g c = stored_later c.seal.result _ _ _ c.in-Ok.ensu
 
 pub returns-in-Err-clause-left : goal.returns-in-Err-clause-left
 returns-in-Err-clause-left g c = c.in-Err.ensures.left
-
-pub returns-in-Ok-clause-heard : goal.returns-in-Ok-clause-heard
-returns-in-Ok-clause-heard g c =
-    hears_stored_then c.seal.result (g.W.Wire.calls c.args.wire.now) (g.W.Wire.calls c.clear.new.wire) (g.W.Wire.calls c.seal.new.wire)
-    (g.W.Wire.faults c.args.wire.now) (g.W.Wire.faults c.clear.new.wire) (g.W.Wire.faults c.seal.new.wire)
-    c.in-Ok.ensures.heard c.seal.ensures.heard

@@ -1,28 +1,29 @@
-use Rattle.std.proofs.Common.{subst, sym}
-use Rattle.extent_seal.proofs.HeardLemmas.{heard_none}
-use Rattle.tickets.specs.declared.answer.Answer.{Answer}
-use Rattle.stored_slot.specs.Heard.{HearsAnswer}
+use Rattle.stamp_model.specs.SeenContainers.{routed}
 use Rattle.stored_slot.specs.Parts.{slot_of}
-use Rattle.stored_slot.specs.Served.{Faulted, SlotServes}
-use Rattle.stored_slot.proofs.HeardLemmas.{told_heard}
-use Rattle.stored_slot.proofs.ServeLemmas.{serves_nothing}
+use Rattle.stored_slot.proofs.ServeLemmas.{covers_after, grown_twice, serves_failed, serves_settled, settled_parts, stored_grows}
 use Rattle.stored_slot.proofs.parts.SlotParts.serve.Goals as goal
+
+pub serve_loaded-requires-clause-before : goal.serve_loaded-requires-clause-before
+serve_loaded-requires-clause-before g c = settled_parts g.H.Histories.held c.args.self.now c.load.new.self c.in-Ok.ensures.left c.load.ensures.after
+
+pub serve_loaded-requires-clause-covered : goal.serve_loaded-requires-clause-covered
+serve_loaded-requires-clause-covered g c =
+    let held = g.H.Histories.held in
+    covers_after (slot_of held c.args.self.now) (slot_of held c.load.new.self) (routed c.args.request.now) c.in-Ok.ensures.left c.requires.covered
 
 pub returns-in-Ok-clause-served : goal.returns-in-Ok-clause-served
 returns-in-Ok-clause-served g c =
     let held = g.H.Histories.held in
-    subst (λ (a : Answer). SlotServes (slot_of held c.args.self.now) c.args.request.now c.args.moment (Faulted (g.W.Wire.faults c.args.wire.now) (g.W.Wire.faults c.serve_reached-served.new.wire)) a
-    (slot_of held c.serve_reached-served.new.self)) (sym c.answer.ensures) c.serve_reached-served.ensures.served
+    serves_settled (slot_of held c.args.self.now) c.args.request.now c.args.moment c.serve_loaded.result (slot_of held c.load.new.self) (slot_of held c.serve_loaded.new.self) _ _ _ c.in-Ok.ensures.left c.in-Ok.ensures.counted
+    c.serve_loaded.ensures.served
 
-pub returns-in-Ok-clause-heard : goal.returns-in-Ok-clause-heard
-returns-in-Ok-clause-heard g c =
-    subst (λ (a : Answer). HearsAnswer a (g.W.Wire.calls c.args.wire.now) (g.W.Wire.calls c.serve_reached-served.new.wire)
-    (g.W.Wire.faults c.args.wire.now) (g.W.Wire.faults c.serve_reached-served.new.wire)) (sym c.answer.ensures)
-    (told_heard c.serve_reached-served.result (g.W.Wire.calls c.args.wire.now) (g.W.Wire.calls c.serve_reached-served.new.wire)
-    (g.W.Wire.faults c.args.wire.now) (g.W.Wire.faults c.serve_reached-served.new.wire) c.serve_reached-served.ensures.heard)
+pub returns-in-Ok-clause-grown : goal.returns-in-Ok-clause-grown
+returns-in-Ok-clause-grown g c = grown_twice _ _ _ c.in-Ok.ensures.counted c.serve_loaded.ensures.grown
 
 pub returns-in-Err-clause-served : goal.returns-in-Err-clause-served
-returns-in-Err-clause-served g c = serves_nothing (slot_of g.H.Histories.held c.args.self.now) c.args.request.now c.args.moment (Faulted (g.W.Wire.faults c.args.wire.now) (g.W.Wire.faults c.args.wire.now))
+returns-in-Err-clause-served g c =
+    let held = g.H.Histories.held in
+    serves_failed (slot_of held c.args.self.now) c.args.request.now c.args.moment c.failed.result (slot_of held c.load.new.self) _ _ c.in-Err.fault c.in-Err.ensures.left c.in-Err.ensures.counted c.failed.ensures
 
-pub returns-in-Err-clause-heard : goal.returns-in-Err-clause-heard
-returns-in-Err-clause-heard g c = λ busy unknown. heard_none (g.W.Wire.calls c.args.wire.now) (g.W.Wire.faults c.args.wire.now)
+pub returns-in-Err-clause-grown : goal.returns-in-Err-clause-grown
+returns-in-Err-clause-grown g c = stored_grows c.load.result _ _ c.load.ensures.counted

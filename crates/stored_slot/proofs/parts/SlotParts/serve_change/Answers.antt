@@ -4,7 +4,6 @@ use Rattle.stamp_types.specs.declared.past.Past.{Past}
 use Rattle.slot_state.specs.Pairs.{Pairs}
 use Rattle.slot_state.specs.Slots.{entry_of}
 use Rattle.stored_slot.specs.Parts.{IsReplyOf, MakesChangeOf}
-use Rattle.stored_slot.specs.Served.{answer_told}
 use Rattle.stored_slot.proofs.ServeLemmas.{kept_parts}
 use Rattle.stored_slot.proofs.ViewLemmas.{entry_told}
 use Rattle.stored_slot.proofs.parts.SlotParts.serve_change.Goals as goal
@@ -30,7 +29,7 @@ answer_change-requires-clause-reply g c =
 pub returns-in-Ok-clause-served : goal.returns-in-Ok-clause-served
 returns-in-Ok-clause-served g c =
     let made = c.in-Ok.ensures ∙ ap (λ (p : Pairs). entry_of p c.args.request.now c.args.moment) c.deref.ensures in
-    entry_told _ _ c.in-Ok.entry (entry_of (arc_value c.args.self.now.pairs) c.args.request.now c.args.moment) _ (answer_told c.answer_change.result) made c.answer_change.ensures.served
+    entry_told _ _ c.in-Ok.ready.entry (entry_of (arc_value c.args.self.now.pairs) c.args.request.now c.args.moment) _ c.answer_change.result made c.answer_change.ensures.served
 
 pub returns-in-Err-clause-after : goal.returns-in-Err-clause-after
 returns-in-Err-clause-after g c = kept_parts g.H.Histories.held c.args.self.now c.requires.before

@@ -8,7 +8,6 @@ use Rattle.range_partition.specs.declared.framed.FramedDecision.TheVariants as f
 use Rattle.stored_rows.specs.States.{Stored}
 use Rattle.stored_slot.specs.Meanings.{slot_with}
 use Rattle.stored_slot.specs.Parts.{DecidesOn, slot_of}
-use Rattle.stored_slot.specs.Served.{answer_told}
 use Rattle.stored_slot.proofs.ServeLemmas.{answers_free, denial_refuses, denial_told, kept_parts, none_same, read_told}
 use Rattle.stored_slot.proofs.parts.SlotParts.serve_decided.Goals as goal
 
@@ -45,9 +44,9 @@ returns-in-None-clause-served g c =
     let p = c.args.self.now in
     let is = c.in-Allowed.is ∙ ap (λ o. framed.Allowed c.in-Allowed.answer o c.in-Allowed.blocks) c.in-None.is in
     let a = subst (λ (d : FramedDecision). DecidesOn held p c.args.request.now c.args.moment d) is c.requires.decided in (
-      read_told (slot_of held p) c.args.request.now c.args.moment _ (answer_told c.reading.result) (reply_read (bytes_at (laid p.stored.streams.blobs)) c.in-Allowed.answer) _ c.reading.ensures.read a.reply a.unchanged
+      read_told (slot_of held p) c.args.request.now c.args.moment _ c.reading.result (reply_read (bytes_at (laid p.stored.streams.blobs)) c.in-Allowed.answer) _ c.reading.ensures.read a.reply a.unchanged
           (ap (λ (s : Stored). slot_with (arc_value p.pairs) (held p.histories) s p.doubt) c.reading.ensures.same),
-      answers_free (slot_of held p) c.args.request.now c.args.moment a.free (answer_told c.reading.result),
+      answers_free (slot_of held p) c.args.request.now c.args.moment a.free c.reading.result,
     )
 
 pub serve_written-requires-clause-makes : goal.serve_written-requires-clause-makes
